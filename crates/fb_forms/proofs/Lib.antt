@@ -1,0 +1,4 @@
+pub mod Forms
+pub mod Loops
+pub mod Repeating
+pub mod Shapes

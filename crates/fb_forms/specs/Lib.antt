@@ -1,0 +1,6 @@
+pub mod Form
+pub mod Reading
+pub mod Fault
+pub mod Words
+pub mod Repetition
+pub mod Gives

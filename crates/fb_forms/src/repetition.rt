@@ -1,0 +1,105 @@
+//! Values that come one after the other.
+
+ghost use Rattle.fb_forms.specs.Gives.{Gives};
+ghost use Rattle.fb_forms.specs.Reading.{Outcome, read_each};
+ghost use Rattle.fb_forms.specs.Repetition.{read_further, read_list, with_front};
+ghost use Rattle.fb_lexemes.specs.declared.lexeme.Lexeme.{Lexeme};
+ghost use Rattle.std.specs.Prelude.{◌≡◌, List, length, map};
+
+use crate::naming::{is_next, key};
+use crate::stop::Stop;
+use fb_lexemes::{Kind, Lexeme};
+use std::alloc::Global;
+
+/// What reads a value of a form, so that the form can be read again and again.
+pub trait Reader {
+    type Item: Drop;
+
+    ghost Tree: { Type 0 };
+
+    ghost view: { Self.Item → Tree };
+
+    ghost reads: { Self → List Lexeme → Outcome Tree };
+
+    /// Reads one value.
+    fn read<'a>(
+        &self,
+        alloc: Global,
+        tokens: &'a [Lexeme],
+    ) -> Result<(Self::Item, &'a [Lexeme]), Stop<'a>>
+        ensures { Gives (λ x. (view x.0, x.1.now)) result (reads self.now tokens.now) };
+}
+
+/// A comma, and a value behind it.
+#[derive(Drop)]
+struct Further<'r, R>(&'r R);
+
+impl<R: Reader> Reader for Further<'_, R> {
+    type Item = R::Item;
+
+    ghost Tree = { R.Tree };
+
+    ghost view = { R.view };
+
+    ghost reads = { λ further. read_further (R.reads further.0.now) };
+
+    fn read<'a>(
+        &self,
+        alloc: Global,
+        tokens: &'a [Lexeme],
+    ) -> Result<(R::Item, &'a [Lexeme]), Stop<'a>> {
+        let (_, rest) = key(tokens, Kind::Comma)?;
+        self.0.read(alloc, rest)
+    }
+}
+
+/// Appends values as long as the next token is of one of these kinds. Each takes a token, so there are no more than tokens.
+fn append_each<'a, R: Reader>(
+    reader: &R,
+    alloc: Global,
+    kinds: &[Kind],
+    mut items: Vec<R::Item>,
+    tokens: &'a [Lexeme],
+) -> Result<(Vec<R::Item>, &'a [Lexeme]), Stop<'a>>
+    ensures { Gives (λ x. (map R.view x.0.items, x.1.now)) result
+        (with_front (map R.view items.items) (read_each (R.reads reader.now) kinds.now (length tokens.now) tokens.now)) }
+{
+    let mut rest = tokens;
+    for _ in 0..tokens.len() {
+        if !is_next(rest, kinds) {
+            break;
+        }
+        let (item, behind) = reader.read(alloc, rest)?;
+        items.push(item)?;
+        rest = behind;
+    }
+    Ok((items, rest))
+}
+
+/// Values as long as the next token is of one of these kinds, which begin a value.
+#[tactic(auto, using(crate::proofs::Repeating::none_in_front))]
+pub fn several<'a, R: Reader>(
+    reader: &R,
+    alloc: Global,
+    kinds: &[Kind],
+    tokens: &'a [Lexeme],
+) -> Result<(Vec<R::Item>, &'a [Lexeme]), Stop<'a>>
+    ensures { Gives (λ x. (map R.view x.0.items, x.1.now)) result
+        (read_each (R.reads reader.now) kinds.now (length tokens.now) tokens.now) }
+{
+    append_each(reader, alloc, kinds, Vec::new(alloc), tokens)
+}
+
+/// One value or more, with commas between them.
+pub fn listed<'a, R: Reader>(
+    reader: &R,
+    alloc: Global,
+    tokens: &'a [Lexeme],
+) -> Result<(Vec<R::Item>, &'a [Lexeme]), Stop<'a>>
+    ensures { Gives (λ x. (map R.view x.0.items, x.1.now)) result (read_list (R.reads reader.now) tokens.now) }
+{
+    let (first, rest) = reader.read(alloc, tokens)?;
+    let mut items = Vec::new(alloc);
+    items.push(first)?;
+    append_each(&Further(reader), alloc, &[Kind::Comma], items, rest)
+}

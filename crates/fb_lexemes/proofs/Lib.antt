@@ -1,0 +1,4 @@
+pub mod Numbering
+pub mod Lookups
+pub mod NameWords
+pub mod Lexing

@@ -1,0 +1,4 @@
+pub mod Kind
+pub mod ReservedWords
+pub mod ByLength
+pub mod Lexemes

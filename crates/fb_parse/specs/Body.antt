@@ -1,0 +1,54 @@
+-- The body of a text: the tree that its tokens spell, or the place where they spell none.
+use Rattle.std.specs.Prelude.{◌≡◌, ℕ, List, [], ◌∷◌, length, Result, Ok, Err}
+use Rattle.fb_text.specs.declared.token.Span.{Span}
+use Rattle.fb_tree.specs.Tree.{DeclTree, decl_tree}
+use Rattle.fb_lexemes.specs.declared.lexeme.Lexeme.{Lexeme}
+use Rattle.fb_parse.specs.declared.body.Body.{Body}
+use Rattle.fb_parse.specs.declared.body.Body.TheVariants.{Tree as IsTree, Broken}
+use Rattle.fb_forms.specs.Form.{Spells}
+use Rattle.fb_forms.specs.Fault.{IsFault}
+use Rattle.fb_parse.specs.Grammar.{unit}
+use Rattle.fb_lexemes.specs.Lexemes.{lexemes_of}
+use Rattle.fb_forms.specs.Reading.{Outcome, read}
+
+-- a body without where it lies in memory
+pub data BodyTree : Type 0 where
+  Whole : DeclTree → BodyTree
+  BrokenAt : Span → BodyTree
+
+abbrev pub body_tree : Body → BodyTree
+body_tree (IsTree decl) = Whole (decl_tree decl)
+body_tree (Broken span) = BrokenAt span
+
+-- the span of the first token, or the empty span at the end
+abbrev pub place : ℕ → List Lexeme → Span
+place end [] = record { start = end; end = end }
+place end (lexeme ∷ lexemes) = lexeme.span
+
+-- By the tokens of a text of so many bytes. The tree that they spell; where they spell none, the place of the first token such
+-- that the tokens up to it are no front of a unit, or the end. Where there is a comment that is never closed, its span.
+abbrev pub IsBodyIn : ℕ → Result (List Lexeme) Span → BodyTree → Type 0
+IsBodyIn end (Err bad) body = body ≡ BrokenAt bad
+IsBodyIn end (Ok lexemes) (Whole tree) = Spells unit lexemes tree
+IsBodyIn end (Ok lexemes) (BrokenAt span) = ((tree : DeclTree) → Spells unit lexemes tree → ⊥) × (rest : List Lexeme) × IsFault unit lexemes rest × (span ≡ place end rest)
+
+-- the body of the text
+abbrev pub IsBody : List ℕ → BodyTree → Type 0
+IsBody text body = IsBodyIn (length text) (lexemes_of text) body
+
+-- the tree, unless tokens are left
+abbrev pub whole_or_broken : ℕ → DeclTree → List Lexeme → BodyTree
+whole_or_broken end tree [] = Whole tree
+whole_or_broken end tree (lexeme ∷ lexemes) = BrokenAt lexeme.span
+
+abbrev pub body_read : ℕ → Outcome DeclTree → BodyTree
+body_read end (Ok found) = whole_or_broken end found.0 found.1
+body_read end (Err rest) = BrokenAt (place end rest)
+
+abbrev pub body_in : ℕ → Result (List Lexeme) Span → BodyTree
+body_in end (Err bad) = BrokenAt bad
+body_in end (Ok lexemes) = body_read end (read unit lexemes)
+
+-- the same, computed
+unfoldable pub body_of : List ℕ → BodyTree
+body_of text = body_in (length text) (lexemes_of text)

@@ -1,0 +1,72 @@
+//! The body of a text.
+
+ghost use Rattle.fb_forms.specs.Form.{Spells};
+ghost use Rattle.fb_lexemes.specs.declared.lexeme.Lexeme.{Lexeme};
+ghost use Rattle.fb_parse.specs.Body.{BodyTree, IsBody, body_of};
+ghost use Rattle.fb_parse.specs.Grammar.{unit};
+ghost use Rattle.fb_tree.specs.Tree.{DeclTree};
+ghost use Rattle.std.specs.Prelude.{◌≡◌, ℕ, IfOk, List};
+
+use crate::block::unit;
+use fb_forms::Stop;
+use fb_lexemes::{Lexeme, lexemes};
+use fb_text::{Span, TokenFault};
+use fb_tree::Decl;
+use std::alloc::{AllocError, Global};
+
+/// The declaration that a text spells, or the place where it stops to spell one.
+#[derive(Drop)]
+pub enum Body {
+    Tree(Decl),
+    Broken(Span),
+}
+
+impl Body {
+    ghost use Rattle.fb_forms.specs.Reading.{read};
+    ghost use Rattle.fb_parse.specs.Body.{body_read, body_tree, place};
+
+    /// The body of a text.
+    #[tactic(auto, unfolding(crate::specs::Body::body_of))]
+    pub fn of_text(alloc: Global, text: &str) -> Result<Body, AllocError>
+        ensures { IfOk result (λ body. body_tree body ≡ body_of text.now) }
+    {
+        match lexemes(alloc, text) {
+            Ok(lexemes) => Self::of_lexemes(alloc, &lexemes, text.len()),
+            Err(TokenFault::BadToken(span)) => Ok(Body::Broken(span)),
+            Err(TokenFault::Memory) => Err(AllocError),
+        }
+    }
+
+    /// The body of a text of so many bytes with these tokens.
+    fn of_lexemes(alloc: Global, lexemes: &[Lexeme], end: usize) -> Result<Body, AllocError>
+        ensures { IfOk result (λ body. body_tree body ≡ body_read end (read unit lexemes.now)) }
+    {
+        match unit(alloc, lexemes) {
+            Ok((decl, [])) => Ok(Body::Tree(decl)),
+            Ok((_, rest)) => Ok(Body::Broken(Self::place(rest, end))),
+            Err(Stop::Broken(rest)) => Ok(Body::Broken(Self::place(rest, end))),
+            Err(Stop::Memory) => Err(AllocError),
+        }
+    }
+
+    /// Where the tokens begin, or the end of the text.
+    fn place(lexemes: &[Lexeme], end: usize) -> Span
+        ensures { result ≡ place end lexemes.now }
+    {
+        match lexemes {
+            [lexeme, ..] => lexeme.span,
+            [] => Span { start: end, end },
+        }
+    }
+}
+
+/// Tokens spell one declaration at most.
+pub fn one_tree()
+    ensures { (lexemes : List Lexeme) (a b : DeclTree) → Spells unit lexemes a → Spells unit lexemes b → a ≡ b }
+{}
+
+/// Each text has one body, that which is computed.
+pub fn one_body()
+    ensures computed { (text : List ℕ) → IsBody text (body_of text) }
+    ensures one { (text : List ℕ) (body : BodyTree) → IsBody text body → body ≡ body_of text }
+{}

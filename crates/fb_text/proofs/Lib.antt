@@ -1,0 +1,10 @@
+pub mod NameLemmas
+pub mod ScanLemmas
+pub mod Longest
+pub mod LongestForms
+pub mod LongestToken
+pub mod Boundaries
+pub mod OpenLines
+pub mod Reading
+pub mod Relation
+pub mod OrderLemmas

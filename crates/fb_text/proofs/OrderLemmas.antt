@@ -1,0 +1,142 @@
+-- Two lists with the same items are the same in order.
+use Rattle.std.proofs.Common.{◌↔◌, length, nat_eq, arith, ◌≡◌, ℕ, Bool, true, false, cond, ◌||◌, List, [], ◌∷◌, ◌++◌, map, is_some, Some, None, refl, sym, true≢false, ap, ◌∙◌}
+use Rattle.std.specs.declared.cmp.Ordering.{Ordering}
+use Rattle.std.specs.declared.cmp.Ordering.TheVariants.{Less, Equal, Greater}
+use Rattle.std.specs.List.{list_any}
+use Rattle.std.specs.Ordering.{eq_by_cmp, is_eq, match_ordering, ordering_reverse}
+use Rattle.std.specs.List.{AllByRecursion, Contains}
+use Rattle.std.specs.List.Sorted.{IsStrictlySortedBy}
+use Rattle.std.specs.BTreeMap.{is_at}
+use Rattle.std.specs.Cmp.Lexicographic.{pointwise, texts_ties}
+use Rattle.std.proofs.lemmas.Cmp.{eq_by_cmp_equiv}
+use Rattle.std.proofs.lemmas.List.Elements.{All-from_recursion, recursion_from_All}
+use Rattle.std.proofs.lemmas.Map.Views.{All-insert_key, Contains-from_any, list_any-from_Contains}
+use Rattle.std.specs.Cmp.{IsTotalOrder}
+use Rattle.std.specs.FinMap.{IsAntisymmetric, from_entries, entries, entries-insert, get-from_entries, contains_key-keys, same_map, len-entries, len-empty}
+use Rattle.std.specs.FinMap.Entries.{find, put, by_order}
+use Rattle.std.specs.BTreeSet.{insert_key}
+use Rattle.fb_text.specs.Order.{in_order, name_cmp}
+
+-- two names are equal where their order finds them so
+pub same_name : (a b : List ℕ) → pointwise nat_eq a b ≡ is_at (name_cmp a) b
+same_name a b = texts_ties a b
+
+-- each item as a key
+abbrev pairs : {K : Type 0} → List K → List (K × Unit {0})
+pairs xs = map (λ x. (x, tt)) xs
+
+no_items : {A : Type 0} (xs : List A) → length xs ≡ 0 → xs ≡ []
+no_items [] e = refl
+no_items (x ∷ xs) e = absurd (omega arith)
+
+or_swap : (a b c : Bool) → (a || (b || c)) ≡ (b || (a || c))
+or_swap true true c = refl
+or_swap true false c = refl
+or_swap false b c = refl
+
+is_some-cond : (b : Bool) → is_some {T = Unit {0}} (cond b (Some tt) None) ≡ b
+is_some-cond true = refl
+is_some-cond false = refl
+
+module _ {K : Type 0} (R : K → K → Ordering) where
+  -- whether the list has an item that compares equal
+  abbrev pub has : List K → K → Bool
+  has xs q = list_any (eq_by_cmp R q) xs
+
+  pub has-append : (xs ys : List K) (q : K) → has (xs ++ ys) q ≡ (has xs q || has ys q)
+  has-append [] ys q = refl
+  has-append (x ∷ xs) ys q = ap (λ b. eq_by_cmp R q x || b) (has-append xs ys q) ∙ or_assoc (eq_by_cmp R q x) (has xs q) (has ys q)
+    where
+      or_assoc : (a b c : Bool) → (a || (b || c)) ≡ ((a || b) || c)
+      or_assoc true b c = refl
+      or_assoc false b c = refl
+
+  has-push : (xs : List K) (x q : K) → has (xs ++ x ∷ []) q ≡ has (x ∷ xs) q
+  has-push [] x q = refl
+  has-push (y ∷ xs) x q = ap (λ b. eq_by_cmp R q y || b) (has-push xs x q) ∙ or_swap (eq_by_cmp R q y) (eq_by_cmp R q x) (has xs q)
+
+  keys-put : (k : K) (es : List (K × Unit {0})) → map (λ e. e.0) (put R k tt es) ≡ insert_key R (map (λ e. e.0) es) k
+  keys-put k [] = refl
+  keys-put k (e ∷ es) = by (keys-put k es) (R k e.0)
+    where
+      by : map (λ x. x.0) (put R k tt es) ≡ insert_key R (map (λ x. x.0) es) k → (r : Ordering) → map (λ x. x.0) (by_order r ((k, tt) ∷ e ∷ es) ((e.0, tt) ∷ es) (e ∷ put R k tt es)) ≡ match_ordering r (k ∷ e.0 ∷ map (λ x. x.0) es) (e.0 ∷ map (λ x. x.0) es) (e.0 ∷ insert_key R (map (λ x. x.0) es) k)
+      by h Less = refl
+      by h Equal = refl
+      by h Greater = ap (λ l. e.0 ∷ l) h
+
+  find-pairs : (xs : List K) (q : K) → find R q (pairs xs) ≡ cond (has xs q) (Some tt) None
+  find-pairs [] q = refl
+  find-pairs (x ∷ xs) q = by (find-pairs xs q) (eq_by_cmp R q x)
+    where
+      by : find R q (pairs xs) ≡ cond (has xs q) (Some tt) None → (b : Bool) → cond b (Some tt) (find R q (pairs xs)) ≡ cond (b || has xs q) (Some tt) None
+      by h true = refl
+      by h false = h
+
+  module _ (o : IsTotalOrder R) where
+    -- the items in order are the keys of a finite map
+    in_order-is : (xs : List K) → in_order R xs ≡ map (λ e. e.0) (entries (from_entries {R = R} (pairs xs)))
+    in_order-is [] = sym (ap (map (λ e. e.0)) (no_items _ (sym (len-entries _) ∙ len-empty R (Unit {0}))))
+    in_order-is (x ∷ xs) =
+        ap (λ l. insert_key R l x) (in_order-is xs)
+        ∙ sym (keys-put x _)
+        ∙ ap (map (λ e. e.0)) (sym (entries-insert o _ x tt))
+
+    pub has-in_order : (xs : List K) (q : K) → has (in_order R xs) q ≡ has xs q
+    has-in_order xs q =
+        ap (λ l. has l q) (in_order-is xs)
+        ∙ sym (contains_key-keys (from_entries {R = R} (pairs xs)) q)
+        ∙ ap is_some (get-from_entries o (pairs xs) q ∙ find-pairs xs q)
+        ∙ is_some-cond (has xs q)
+
+    pub in_order-same : IsAntisymmetric R → (xs ys : List K) → ((q : K) → has xs q ≡ has ys q) → in_order R xs ≡ in_order R ys
+    in_order-same same xs ys is =
+        let maps = same_map o same (from_entries {R = R} (pairs xs)) (from_entries {R = R} (pairs ys)) (λ q. get-from_entries o (pairs xs) q ∙ find-pairs xs q ∙ ap (λ b. cond b (Some tt) None) (is q) ∙ sym (get-from_entries o (pairs ys) q ∙ find-pairs ys q)) in
+        in_order-is xs ∙ ap (λ m. map (λ e. e.0) (entries m)) maps ∙ sym (in_order-is ys)
+
+    pub in_order-push : IsAntisymmetric R → (xs : List K) (x : K) → in_order R (xs ++ x ∷ []) ≡ insert_key R (in_order R xs) x
+    in_order-push same xs x = in_order-same same (xs ++ x ∷ []) (x ∷ xs) (has-push xs x)
+
+    -- to order parts first changes nothing
+    pub in_order-append : IsAntisymmetric R → (xs ys : List K) → in_order R (in_order R xs ++ in_order R ys) ≡ in_order R (xs ++ ys)
+    in_order-append same xs ys =
+        in_order-same same _ _ (λ q. has-append (in_order R xs) (in_order R ys) q ∙ (λ i. has-in_order xs q i || has-in_order ys q i) ∙ sym (has-append xs ys q))
+
+    -- a key put into its place leaves the keys sorted
+    less_after : (k x : K) (xs : List K) → R k x ≡ Less → AllByRecursion (λ y. R x y ≡ Less) xs → AllByRecursion (λ y. R k y ≡ Less) xs
+    less_after k x [] e a = tt
+    less_after k x (y ∷ ys) e a = (o.trans k x y e a.0, less_after k x ys e a.1)
+
+    greater_is_less : (k x : K) → R k x ≡ Greater → R x k ≡ Less
+    greater_is_less k x e = o.antisymm x k ∙ ap ordering_reverse e
+
+    insert-sorted : (ks : List K) (k : K) → IsStrictlySortedBy R ks → IsStrictlySortedBy R (insert_key R ks k)
+    unfolding IsStrictlySortedBy
+    insert-sorted [] k s = (tt, tt)
+    insert-sorted (x ∷ xs) k s = by (R k x) refl (insert-sorted xs k s.1)
+      where
+        by : (r : Ordering) → R k x ≡ r → IsStrictlySortedBy R (insert_key R xs k) → IsStrictlySortedBy R (match_ordering r (k ∷ x ∷ xs) (x ∷ xs) (x ∷ insert_key R xs k))
+        by Less e h = ((e, less_after k x xs e s.0), s)
+        by Equal e h = s
+        by Greater e h = (recursion_from_All (λ y. R x y ≡ Less) _ (All-insert_key R k (λ y. R x y ≡ Less) xs (All-from_recursion (λ y. R x y ≡ Less) xs s.0) (greater_is_less k x e)), h)
+
+    pub in_order-sorted : (xs : List K) → IsStrictlySortedBy R (in_order R xs)
+    unfolding IsStrictlySortedBy
+    in_order-sorted [] = tt
+    in_order-sorted (x ∷ xs) = insert-sorted (in_order R xs) x (in_order-sorted xs)
+
+    pub in_order-members : IsAntisymmetric R → (xs : List K) (q : K) → Contains (in_order R xs) q ↔ Contains xs q
+    in_order-members same xs q = (
+      λ h. member xs (sym (has-in_order xs q) ∙ listed (in_order R xs) h),
+      λ h. member (in_order R xs) (has-in_order xs q ∙ listed xs h),
+    )
+      where
+        is_equal : (r : Ordering) → is_eq r ≡ true → r ≡ Equal
+        is_equal Less e = absurd (true≢false (sym e))
+        is_equal Equal e = refl
+        is_equal Greater e = absurd (true≢false (sym e))
+
+        member : (ys : List K) → has ys q ≡ true → Contains ys q
+        member ys h = Contains-from_any (λ x y e. same x y (is_equal (R x y) e)) q ys h
+
+        listed : (ys : List K) → Contains ys q → has ys q ≡ true
+        listed ys h = list_any-from_Contains (eq_by_cmp_equiv o) q ys h

@@ -1,0 +1,11 @@
+pub mod Bytes
+pub mod Words
+pub mod Spelling
+pub mod Name
+pub mod Stored
+pub mod Forms
+pub mod Scan
+pub mod Tokens
+pub mod Reads
+pub mod Order
+pub mod Elementary

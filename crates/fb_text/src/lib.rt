@@ -1,0 +1,21 @@
+//! Names, places and tokens of the texts of IEC 61499 declarations.
+#![tactic(auto)]
+
+mod bytes;
+mod elementary;
+mod lexer;
+mod name;
+mod order;
+mod quotes;
+mod scan;
+mod token;
+
+pub use elementary::{TypeClass, type_class};
+pub use lexer::{longest_token, one_reading, tokens};
+pub use name::{Name, NameFault, NameUse};
+pub use order::{names_once_and_in_order, once_and_in_order, same_name, sorted_names, sorted_once};
+pub use scan::same_word;
+pub use token::{Span, Token, TokenFault, TokenKind};
+
+#[cfg(test)]
+mod tests;

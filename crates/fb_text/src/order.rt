@@ -1,0 +1,58 @@
+//! Lists in order, each item once.
+ghost use Rattle.std.specs.Prelude.{◌≡◌, ◌↔◌, ℕ, List, IfOk};
+ghost use Rattle.std.specs.List.{Contains};
+ghost use Rattle.std.specs.List.Sorted.{IsStrictlySortedBy};
+ghost use Rattle.std.specs.BTreeMap.{is_at};
+ghost use Rattle.std.specs.FinMap.{IsAntisymmetric};
+ghost use Rattle.fb_text.specs.Order.{in_order, name_cmp, names_in_order};
+
+use crate::name::Name;
+use std::alloc::{AllocError, Global};
+use std::collections::BTreeSet;
+
+/// Whether two names are equal.
+#[tactic(auto, using(crate::proofs::OrderLemmas::same_name))]
+pub fn same_name(a: &Name, b: &Name) -> bool
+    ensures { result ≡ is_at (name_cmp a.now) b.now }
+{
+    *a == *b
+}
+
+/// The items in order, each once.
+pub fn sorted_once<T: Ord + Copy>(alloc: Global, items: &[T]) -> Result<Vec<T>, AllocError>
+    requires { IsAntisymmetric T.cmp }
+    ensures { IfOk result (λ sorted. sorted.items ≡ in_order T.cmp items.now) }
+{
+    let mut seen = BTreeSet::new(alloc);
+    for item in items {
+        seen.insert(*item)?;
+    }
+    items_of(alloc, &seen)
+}
+
+/// The names in order, each once.
+pub fn sorted_names(alloc: Global, names: &[Name]) -> Result<Vec<Name>, AllocError>
+    ensures { IfOk result (λ sorted. sorted.items ≡ names_in_order names.now) }
+{
+    sorted_once(alloc, names)
+}
+
+/// The items of a set.
+fn items_of<T: Ord + Copy>(alloc: Global, set: &BTreeSet<T>) -> Result<Vec<T>, AllocError>
+    ensures { IfOk result (λ items. items.items ≡ set.now.keys) }
+{
+    set.iter().copied().collect(alloc)
+}
+
+/// `in_order` gives the members of a list, each once, and each below those after it.
+pub fn once_and_in_order<T: Ord>()
+    requires { IsAntisymmetric T.cmp }
+    ensures sorted { (items : List T) → IsStrictlySortedBy T.cmp (in_order T.cmp items) }
+    ensures same { (items : List T) (item : T) → Contains (in_order T.cmp items) item ↔ Contains items item }
+{}
+
+/// The same of names.
+pub fn names_once_and_in_order()
+    ensures sorted { (names : List (List ℕ)) → IsStrictlySortedBy name_cmp (names_in_order names) }
+    ensures same { (names : List (List ℕ)) (name : List ℕ) → Contains (names_in_order names) name ↔ Contains names name }
+{}

@@ -1,0 +1,48 @@
+-- Expressions without where they lie in memory.
+use Rattle.std.specs.Prelude.{List, [], ◌∷◌, Option, box_value}
+use Rattle.fb_text.specs.declared.token.Span.{Span}
+use Rattle.fb_text.specs.declared.name.NameUse.{NameUse}
+use Rattle.fb_tree.specs.declared.constant.Literal.{Literal as LiteralUse}
+use Rattle.fb_tree.specs.declared.expression.BinaryUse.{BinaryUse}
+use Rattle.fb_tree.specs.declared.expression.UnaryUse.{UnaryUse}
+use Rattle.fb_tree.specs.declared.expression.Reference.{Reference as ReferenceUse}
+use Rattle.fb_tree.specs.declared.expression.Expr.{Expr}
+use Rattle.fb_tree.specs.declared.expression.Expr.TheOpen.{Expr-F, Literal, Reference, Unary, Row, Parentheses}
+use Rattle.fb_tree.specs.declared.expression.Expr.TheFolds.{fold-Expr}
+
+mutual
+  pub data Expression : Type 0 where
+    literal_expression : LiteralUse → Expression
+    -- a variable with its subscripts
+    reference_expression : ReferenceUse → Expressions → Expression
+    unary_expression : UnaryUse → Expression → Expression
+    -- an operand, and operators of one strength, each with the operand behind it
+    row_expression : Expression → Operands → Expression
+    parentheses : Expression → Span → Expression
+
+  pub data Expressions : Type 0 where
+    no_expressions : Expressions
+    expression_then : Expression → Expressions → Expressions
+
+  pub data Operands : Type 0 where
+    no_operands : Operands
+    operand_then : BinaryUse → Expression → Operands → Operands
+
+abbrev pub expressions_of : List Expression → Expressions
+expressions_of [] = no_expressions
+expressions_of (e ∷ es) = expression_then e (expressions_of es)
+
+abbrev pub operands_of : List (BinaryUse × Expression) → Operands
+operands_of [] = no_operands
+operands_of (o ∷ os) = operand_then o.0 o.1 (operands_of os)
+
+-- one level, with the expression of each part in its place
+abbrev pub expression_step : Expr-F Expression → Expression
+expression_step (Literal l) = literal_expression l
+expression_step (Reference r subscripts) = reference_expression r (expressions_of subscripts.items)
+expression_step (Unary operator e) = unary_expression operator (box_value e)
+expression_step (Row e operands) = row_expression (box_value e) (operands_of operands.items)
+expression_step (Parentheses e span) = parentheses (box_value e) span
+
+abbrev pub expression_tree : Expr → Expression
+expression_tree = fold-Expr Expression expression_step

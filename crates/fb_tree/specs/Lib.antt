@@ -1,0 +1,5 @@
+-- What the contracts of this crate cite.
+pub mod Expression
+pub mod Statement
+pub mod Tree
+pub mod Mentions

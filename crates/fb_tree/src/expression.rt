@@ -1,0 +1,68 @@
+//! Expressions of Structured Text.
+
+use crate::constant::Literal;
+use fb_text::{NameUse, Span};
+
+/// What stands before an operand.
+#[derive(Clone, Copy, Debug, PartialEq, Eq)]
+pub enum UnaryOperator {
+    Plus,
+    Minus,
+    Not,
+}
+
+/// What stands between two operands. `&` is `And`.
+#[derive(Clone, Copy, Debug, PartialEq, Eq)]
+pub enum BinaryOperator {
+    Or,
+    Xor,
+    And,
+    Equal,
+    NotEqual,
+    Less,
+    Greater,
+    LessOrEqual,
+    GreaterOrEqual,
+    Add,
+    Subtract,
+    Multiply,
+    Divide,
+    Modulo,
+    Power,
+}
+
+/// An operator where it stands.
+#[derive(Clone, Copy, Debug)]
+pub struct UnaryUse {
+    pub operator: UnaryOperator,
+    pub span: Span,
+}
+
+/// An operator where it stands.
+#[derive(Clone, Copy, Debug)]
+pub struct BinaryUse {
+    pub operator: BinaryOperator,
+    pub span: Span,
+}
+
+/// A variable, or a variable of a plug or socket. Its subscripts stand beside it.
+#[derive(Clone, Copy, Debug)]
+pub struct Reference {
+    pub name: NameUse,
+    pub member: Option<NameUse>,
+    /// From the name to the closing bracket of the subscripts.
+    pub span: Span,
+}
+
+/// An expression.
+#[derive(Drop)]
+pub enum Expr {
+    Literal(Literal),
+    /// A variable with its subscripts.
+    Reference(Reference, Vec<Expr>),
+    Unary(UnaryUse, Box<Expr>),
+    /// An operand, and the operators of one strength that follow it, each with its operand.
+    Row(Box<Expr>, Vec<(BinaryUse, Expr)>),
+    /// In parentheses, which the span takes in.
+    Parentheses(Box<Expr>, Span),
+}

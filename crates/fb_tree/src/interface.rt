@@ -1,0 +1,61 @@
+//! Events and variables (IEC 61499-1, 5.2: interfaces of function block types).
+
+use crate::constant::Constant;
+use fb_text::{NameUse, Span};
+
+/// Whether an event comes in or goes out.
+#[derive(Clone, Copy, Debug, PartialEq, Eq)]
+pub enum Side {
+    Input,
+    Output,
+}
+
+/// An event with its type, where one is written, and the names behind `WITH`.
+#[derive(Debug, Drop)]
+pub struct Event {
+    pub side: Side,
+    pub name: NameUse,
+    pub type_name: Option<NameUse>,
+    pub with: Vec<NameUse>,
+}
+
+/// The section in which a variable stands.
+#[derive(Clone, Copy, Debug, PartialEq, Eq)]
+pub enum Section {
+    Input,
+    Output,
+    Internal,
+}
+
+/// How a type is written: `INT`, `STRING[80]` or `ARRAY [0..9] OF INT`.
+#[derive(Clone, Copy, Debug, PartialEq, Eq)]
+pub enum TypeForm {
+    Plain,
+    Sized,
+    Array,
+}
+
+/// A type where it is used. The name is that of the elements where it is an array.
+#[derive(Clone, Copy, Debug)]
+pub struct TypeUse {
+    pub name: NameUse,
+    pub form: TypeForm,
+    pub span: Span,
+}
+
+/// Variables that are declared together.
+#[derive(Debug, Drop)]
+pub struct Variables {
+    pub section: Section,
+    pub names: Vec<NameUse>,
+    pub type_use: TypeUse,
+    pub initial: Option<Constant>,
+}
+
+/// The events and the variables of a type, internal variables among them. Plugs and sockets stand in its network, with the instances,
+/// whose name space they share.
+#[derive(Debug, Drop)]
+pub struct Interface {
+    pub events: Vec<Event>,
+    pub variables: Vec<Variables>,
+}

@@ -1,0 +1,27 @@
+//! Trees of declarations: what the text of a unit declares, with the place of each name, operator and condition.
+//!
+//! Items stand in the order of the text, and those of one name space stand in one list. A contract sees a tree without where it lies
+//! in memory, as `specs/Tree.antt` has it.
+#![tactic(auto)]
+
+mod chart;
+mod constant;
+mod declaration;
+mod expression;
+mod interface;
+mod kinds;
+mod mention;
+mod network;
+mod statement;
+mod system;
+
+pub use chart::{Action, Algorithm, Chart, Condition, State, Transition};
+pub use constant::{Constant, Literal, LiteralForm, Simple};
+pub use declaration::{Decl, TypeDeclaration};
+pub use expression::{BinaryOperator, BinaryUse, Expr, Reference, UnaryOperator, UnaryUse};
+pub use interface::{Event, Interface, Section, Side, TypeForm, TypeUse, Variables};
+pub use kinds::{UnitKind, kind};
+pub use mention::mentions;
+pub use network::{Connection, End, Instance, Network, Parameter, Role, Sort};
+pub use statement::Stmt;
+pub use system::{Application, Device, Mapping, Resource, System};
