@@ -7,13 +7,9 @@ use Rattle.fb_forms.specs.declared.stop.Stop.{Stop}
 use Rattle.fb_forms.specs.declared.stop.Stop.TheVariants.{Memory, Broken}
 use Rattle.fb_forms.specs.Form.{Form, many, Spells, Front}
 use Rattle.fb_forms.specs.Reading.{Outcome, ◌>>=◌, is_nullable, first, is_next, read_each, read}
-use Rattle.fb_forms.specs.Words.{further, list}
+use Rattle.fb_forms.specs.Repetition.{with_front}
 use Rattle.fb_forms.specs.Gives.{Fails}
 use Rattle.fb_forms.proofs.Forms.{Right, right_read, length_of_spelling}
-
--- what was read before, and what is still read
-abbrev pub with_front : {A : Type 0} → List A → Outcome (List A) → Outcome (List A)
-with_front front outcome = outcome >>= λ x. Ok (front ++ x.0, x.1)
 
 -- reading takes a token at least
 pub shorter : {A : Type 0} (x : Form A) (ts : List Lexeme) (v : A) (mid : List Lexeme) → is_nullable x ≡ false → read x ts ≡ Ok (v, mid) → length mid < length ts
@@ -71,10 +67,6 @@ many_none x (t ∷ ts) next = rw next refl
 pub loop_done : {A : Type 0} (x : Form A) (front : List A) (ts : List Lexeme) (total : Outcome (List A)) → is_next (first x) ts ≡ false → with_front front (read (many x) ts) ≡ total → total ≡ Ok (front, ts)
 loop_done x front ts total next so_far = sym so_far ∙ ap (with_front front) (many_none x ts next) ∙ ap (λ z. Ok (z, ts)) (append-nil front)
 
-pub loop_start : {A : Type 0} (r : Outcome (List A)) → with_front [] r ≡ r
-loop_start (Ok b) = refl
-loop_start (Err rest) = refl
-
 -- what a loop over a form needs to know of it
 pub record Begins {A : Type 0} (x : Form A) (kinds : List Kind) : Type 0 where
   pub filled : is_nullable x ≡ false
@@ -95,17 +87,3 @@ push_fails x kinds front ts stop total b next e so_far = loop_fails x front ts s
 
 pub push_done : {A : Type 0} (x : Form A) (kinds : List Kind) (front : List A) (ts : List Lexeme) (total : Outcome (List A)) → Begins x kinds → is_next kinds ts ≡ false → with_front front (read (many x) ts) ≡ total → total ≡ Ok (front, ts)
 push_done x kinds front ts total b next so_far = loop_done x front ts total (begins_next x kinds ts false b next) so_far
-
-pub push_start : {X A : Type 0} (view : X → A) (items : List X) (r : Outcome (List A)) → items ≡ [] → with_front (map view items) r ≡ r
-push_start {X} view items r e = ap (λ (z : List X). with_front (map view z) r) e ∙ loop_start r
-
-abbrev paired : {A B : Type 0} → A → Outcome B → Outcome (A × B)
-paired v r = r >>= λ b. Ok ((v, b.0), b.1)
-
-list_first : {A : Type 0} (v : A) (r : Outcome (List A)) → with_front (v ∷ []) r ≡ (paired v r >>= λ p. Ok (p.0.0 ∷ p.0.1, p.1))
-list_first v (Ok b) = refl
-list_first v (Err rest) = refl
-
--- a list begins with its first value
-pub list_start : {A : Type 0} (x : Form A) (ts : List Lexeme) (v : A) (mid : List Lexeme) → read x ts ≡ Ok (v, mid) → with_front (v ∷ []) (read (many (further x)) mid) ≡ read (list x) ts
-list_start x ts v mid e = rw e (list_first v (read (many (further x)) mid))

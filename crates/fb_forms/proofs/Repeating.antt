@@ -1,14 +1,13 @@
 -- Reading values one after the other, as a loop does.
-use Rattle.std.proofs.Common.{◌≡◌, ℕ, zero, suc, ◌-◌, ◌<◌, true, false, List, [], ◌∷◌, ◌++◌, length, map, Ok, Err, refl, sym, ap, ◌∙◌, append_assoc, arith}
+use Rattle.std.proofs.Common.{◌≡◌, ℕ, zero, suc, true, false, List, [], ◌∷◌, ◌++◌, map, Ok, Err, refl, sym, ap, ◌∙◌, append_assoc}
 use Rattle.std.proofs.lemmas.List.{append-nil, map_push, map-id}
 use Rattle.fb_lexemes.specs.declared.kind.Kind.{Kind}
-use Rattle.fb_lexemes.specs.declared.kind.Kind.TheVariants.{Comma}
 use Rattle.fb_lexemes.specs.declared.lexeme.Lexeme.{Lexeme}
 use Rattle.fb_forms.specs.declared.stop.Stop.{Stop}
 use Rattle.fb_forms.specs.declared.stop.Stop.TheVariants.{Memory, Broken}
 use Rattle.fb_forms.specs.Reading.{Outcome, ◌>>=◌, is_next, read_each}
-use Rattle.fb_forms.specs.Repetition.{with_front, read_further, read_list}
-use Rattle.fb_forms.specs.Gives.{Gives, Fails}
+use Rattle.fb_forms.specs.Repetition.{with_front}
+use Rattle.fb_forms.specs.Gives.{Fails}
 
 -- values that are seen as they are
 pub as_they_are : {A : Type 0} (xs : List A) → map (λ x. x) xs ≡ xs

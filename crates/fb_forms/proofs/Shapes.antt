@@ -37,16 +37,17 @@ same_code k = eq-eqb (code_of k) (code_of k) refl
 pub among_append : (a b : List Kind) (k : Kind) → is_among (a ++ b) k ≡ true → (is_among a k ≡ true) ⊎ (is_among b k ≡ true)
 among_append [] b k h = inr h
 among_append (x ∷ a) b k h = elim (or_cases (same_kind x k) (is_among (a ++ b) k) h) [
-    inl p ↦ inl (or_left (same_kind x k) (is_among a k) p)
-  | inr p ↦ elim (among_append a b k p) [ inl q ↦ inl (or_right (same_kind x k) (is_among a k) q) | inr q ↦ inr q ] ]
+  | inl p ↦ inl (or_left (same_kind x k) (is_among a k) p)
+  | inr p ↦ elim (among_append a b k p) [ inl q ↦ inl (or_right (same_kind x k) (is_among a k) q) | inr q ↦ inr q ]
+]
 
 -- what is within a list is apart from what that is apart from
 pub apart_within : (a b others : List Kind) → IsWithin a b → are_apart b others ≡ true → are_apart a others ≡ true
 apart_within [] b others h p = refl
 apart_within (x ∷ a) b others h p =
     and_both (not (is_among others x)) (are_apart a others)
-      (not_false (is_among others x) (apart_among b others x p (h x (or_left (same_kind x x) (is_among a x) (same_code x)))))
-      (apart_within a b others (λ k q. h k (or_right (same_kind x k) (is_among a k) q)) p)
+    (not_false (is_among others x) (apart_among b others x p (h x (or_left (same_kind x x) (is_among a x) (same_code x)))))
+    (apart_within a b others (λ k q. h k (or_right (same_kind x k) (is_among a k) q)) p)
 
 -- one of two closed forms that begin apart
 pub closed_either : {A : Type 0} (x y : Form A) (firsts others : List Kind) → Closed x firsts → Closed y others → are_apart firsts others ≡ true → Closed (either x y) (firsts ++ others)

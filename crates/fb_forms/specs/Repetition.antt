@@ -1,6 +1,6 @@
 -- Reading values one after the other, by what reads one of them.
-use Rattle.std.specs.Prelude.{List, [], ◌∷◌, ◌++◌, length, Ok, Err}
-use Rattle.fb_lexemes.specs.declared.kind.Kind.TheVariants.{Comma}
+use Rattle.std.specs.Prelude.{List, [], ◌∷◌, ◌++◌, length, Ok}
+use Rattle.fb_lexemes.specs.declared.kind.Kind.{Kind}
 use Rattle.fb_lexemes.specs.declared.lexeme.Lexeme.{Lexeme}
 use Rattle.fb_forms.specs.Reading.{Outcome, ◌>>=◌, read_one, read_each}
 use Rattle.fb_forms.specs.Words.{cons}
@@ -16,10 +16,10 @@ read_both reads then_reads tokens = reads tokens >>= λ a. then_reads a.1 >>= λ
 abbrev pub read_as : {A B : Type 0} → (A → B) → (List Lexeme → Outcome A) → List Lexeme → Outcome B
 read_as f reads tokens = reads tokens >>= λ a. Ok (f a.0, a.1)
 
--- ',' x, as reading by `further x` gives it
-abbrev pub read_further : {A : Type 0} → (List Lexeme → Outcome A) → List Lexeme → Outcome A
-read_further reads tokens = read_as (λ v. v.1) (read_both (read_one (Comma ∷ [])) reads) tokens
+-- a token and x, as reading by `behind (key kind) x` gives it
+abbrev pub read_behind : {A : Type 0} → Kind → (List Lexeme → Outcome A) → List Lexeme → Outcome A
+read_behind kind reads tokens = read_as (λ v. v.1) (read_both (read_one (kind ∷ [])) reads) tokens
 
--- x {',' x}, as reading by `list x` gives it
-abbrev pub read_list : {A : Type 0} → (List Lexeme → Outcome A) → List Lexeme → Outcome (List A)
-read_list reads tokens = read_as cons (read_both reads (λ rest. read_each (read_further reads) (Comma ∷ []) (length rest) rest)) tokens
+-- x {KIND x}, as reading by `separated kind x` gives it
+abbrev pub read_separated : {A : Type 0} → Kind → (List Lexeme → Outcome A) → List Lexeme → Outcome (List A)
+read_separated kind reads tokens = read_as cons (read_both reads (λ rest. read_each (read_behind kind reads) (kind ∷ []) (length rest) rest)) tokens

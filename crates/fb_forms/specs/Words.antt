@@ -35,13 +35,17 @@ optional_list x = as_value or_none (option x)
 abbrev pub cons : {A : Type 0} → A × List A → List A
 cons v = v.0 ∷ v.1
 
+-- x {KIND x}
+abbrev pub separated : {A : Type 0} → Kind → Form A → Form (List A)
+separated kind x = as_value cons (both x (many (behind (key kind) x)))
+
 -- ',' x
 abbrev pub further : {A : Type 0} → Form A → Form A
 further x = behind (key Comma) x
 
 -- x {',' x}
 abbrev pub list : {A : Type 0} → Form A → Form (List A)
-list x = as_value cons (both x (many (further x)))
+list x = separated Comma x
 
 unfoldable pub name : Form NameUse
 name = as_value name_use (one name_kinds)

@@ -1,10 +1,15 @@
 //! Forms that a grammar is written in, what spells them, and reading by them.
 #![tactic(auto)]
 
+mod literals;
 mod naming;
 mod repetition;
 mod stop;
 
-pub use naming::{NAMES, is_next, key, name, names, one_of};
-pub use repetition::{Reader, listed, several};
+pub use literals::{NUMBERS, across, literal_form, literal_use};
+pub use naming::{NAMES, NameReader, is_next, key, name, names, one_of};
+pub use repetition::{Reader, listed, separated, several};
 pub use stop::Stop;
+
+#[cfg(test)]
+mod tests;

@@ -8,10 +8,9 @@ ghost use Rattle.fb_lexemes.specs.Lexemes.{name_use};
 ghost use Rattle.fb_text.specs.declared.name.NameUse.{NameUse};
 ghost use Rattle.std.specs.Prelude.{◌≡◌};
 
-use fb_lexemes::Kind;
-use fb_lexemes::Lexeme;
 use crate::repetition::{Reader, listed};
 use crate::stop::Stop;
+use fb_lexemes::{Kind, Lexeme};
 use fb_text::NameUse;
 use std::alloc::Global;
 
@@ -26,7 +25,10 @@ pub fn is_next(tokens: &[Lexeme], kinds: &[Kind]) -> bool
 }
 
 /// A token of one of these kinds.
-pub fn one_of<'a>(tokens: &'a [Lexeme], kinds: &[Kind]) -> Result<(&'a Lexeme, &'a [Lexeme]), Stop<'a>>
+pub fn one_of<'a>(
+    tokens: &'a [Lexeme],
+    kinds: &[Kind],
+) -> Result<(&'a Lexeme, &'a [Lexeme]), Stop<'a>>
     ensures { Gives (λ x. (x.0.now, x.1.now)) result (read (one kinds.now) tokens.now) }
 {
     match tokens {
@@ -45,8 +47,8 @@ pub fn key(tokens: &[Lexeme], kind: Kind) -> Result<(&Lexeme, &[Lexeme]), Stop<'
 /// The kinds of names.
 pub const NAMES: [Kind; 4] = [Kind::Name, Kind::NameIn, Kind::NameOn, Kind::NameSt];
 
-#[tactic(auto, unfolding(crate::specs::Words::name))]
 /// A name. It comes as its token, since `?` takes no copied name beside a reference.
+#[tactic(auto, unfolding(crate::specs::Words::name))]
 pub fn name(tokens: &[Lexeme]) -> Result<(&Lexeme, &[Lexeme]), Stop<'_>>
     ensures { Gives (λ x. (name_use x.0.now, x.1.now)) result (read name tokens.now) }
 {
@@ -55,7 +57,7 @@ pub fn name(tokens: &[Lexeme]) -> Result<(&Lexeme, &[Lexeme]), Stop<'_>>
 
 /// Reads names.
 #[derive(Drop)]
-struct NameReader;
+pub struct NameReader;
 
 impl Reader for NameReader {
     type Item = NameUse;
@@ -76,8 +78,8 @@ impl Reader for NameReader {
     }
 }
 
-#[tactic(auto, unfolding(crate::specs::Words::names), using(crate::proofs::Repeating::as_they_are))]
 /// One name or more, with commas between them.
+#[tactic(auto, unfolding(crate::specs::Words::names), using(crate::proofs::Repeating::as_they_are))]
 pub fn names(alloc: Global, tokens: &[Lexeme]) -> Result<(Vec<NameUse>, &[Lexeme]), Stop<'_>>
     ensures { Gives (λ x. (x.0.items, x.1.now)) result (read names tokens.now) }
 {

@@ -2,7 +2,8 @@
 
 ghost use Rattle.fb_forms.specs.Gives.{Gives};
 ghost use Rattle.fb_forms.specs.Reading.{Outcome, read_each};
-ghost use Rattle.fb_forms.specs.Repetition.{read_further, read_list, with_front};
+ghost use Rattle.fb_forms.specs.Repetition.{read_behind, read_separated, with_front};
+ghost use Rattle.fb_lexemes.specs.declared.kind.Kind.TheVariants.{Comma};
 ghost use Rattle.fb_lexemes.specs.declared.lexeme.Lexeme.{Lexeme};
 ghost use Rattle.std.specs.Prelude.{◌≡◌, List, length, map};
 
@@ -15,10 +16,12 @@ use std::alloc::Global;
 pub trait Reader {
     type Item: Drop;
 
+    // what a value stands for in the grammar
     ghost Tree: { Type 0 };
 
     ghost view: { Self.Item → Tree };
 
+    // what reading by the form gives
     ghost reads: { Self → List Lexeme → Outcome Tree };
 
     /// Reads one value.
@@ -30,26 +33,29 @@ pub trait Reader {
         ensures { Gives (λ x. (view x.0, x.1.now)) result (reads self.now tokens.now) };
 }
 
-/// A comma, and a value behind it.
+/// A token of a kind, and a value behind it.
 #[derive(Drop)]
-struct Further<'r, R>(&'r R);
+struct Behind<'r, R> {
+    kind: Kind,
+    reader: &'r R,
+}
 
-impl<R: Reader> Reader for Further<'_, R> {
+impl<R: Reader> Reader for Behind<'_, R> {
     type Item = R::Item;
 
     ghost Tree = { R.Tree };
 
     ghost view = { R.view };
 
-    ghost reads = { λ further. read_further (R.reads further.0.now) };
+    ghost reads = { λ behind. read_behind behind.kind (R.reads behind.reader.now) };
 
     fn read<'a>(
         &self,
         alloc: Global,
         tokens: &'a [Lexeme],
     ) -> Result<(R::Item, &'a [Lexeme]), Stop<'a>> {
-        let (_, rest) = key(tokens, Kind::Comma)?;
-        self.0.read(alloc, rest)
+        let (_, rest) = key(tokens, self.kind)?;
+        self.reader.read(alloc, rest)
     }
 }
 
@@ -90,16 +96,28 @@ pub fn several<'a, R: Reader>(
     append_each(reader, alloc, kinds, Vec::new(alloc), tokens)
 }
 
+/// One value or more, with a token of this kind between them.
+pub fn separated<'a, R: Reader>(
+    reader: &R,
+    kind: Kind,
+    alloc: Global,
+    tokens: &'a [Lexeme],
+) -> Result<(Vec<R::Item>, &'a [Lexeme]), Stop<'a>>
+    ensures { Gives (λ x. (map R.view x.0.items, x.1.now)) result (read_separated kind (R.reads reader.now) tokens.now) }
+{
+    let (first, rest) = reader.read(alloc, tokens)?;
+    let mut items = Vec::new(alloc);
+    items.push(first)?;
+    append_each(&Behind { kind, reader }, alloc, &[kind], items, rest)
+}
+
 /// One value or more, with commas between them.
 pub fn listed<'a, R: Reader>(
     reader: &R,
     alloc: Global,
     tokens: &'a [Lexeme],
 ) -> Result<(Vec<R::Item>, &'a [Lexeme]), Stop<'a>>
-    ensures { Gives (λ x. (map R.view x.0.items, x.1.now)) result (read_list (R.reads reader.now) tokens.now) }
+    ensures { Gives (λ x. (map R.view x.0.items, x.1.now)) result (read_separated Comma (R.reads reader.now) tokens.now) }
 {
-    let (first, rest) = reader.read(alloc, tokens)?;
-    let mut items = Vec::new(alloc);
-    items.push(first)?;
-    append_each(&Further(reader), alloc, &[Kind::Comma], items, rest)
+    separated(reader, Kind::Comma, alloc, tokens)
 }

@@ -2,6 +2,7 @@
 use Rattle.std.specs.Prelude.{ℕ, not, nat_lt, nat_eq, ◌==◌, if◌then◌else◌, List, length, map, take, codes, slice_range, Option, Some, None, Result, Ok, Err}
 use Rattle.std.specs.List.{list_any, prefix_len}
 use Rattle.std.specs.Cmp.Lexicographic.{pointwise}
+use Rattle.fb_text.specs.Bytes.{hash, point}
 use Rattle.fb_text.specs.Elementary.{type_class_of}
 use Rattle.fb_text.specs.Forms.{same_word}
 use Rattle.fb_text.specs.Name.{name_of}
@@ -40,12 +41,12 @@ unfoldable pub number_kind : List ℕ → Kind
 number_kind number =
     if pointwise nat_eq number (codes "0") then Zero
     else if pointwise nat_eq number (codes "1") then One
-    else if list_any (λ b. b == 46) number then RealNumber
+    else if list_any (λ b. b == point) number then RealNumber
     else Number
 
 -- what stands before the first `#`
 abbrev pub type_name : List ℕ → List ℕ
-type_name bytes = take (prefix_len (λ b. not (b == 35)) bytes) bytes
+type_name bytes = take (prefix_len (λ b. not (b == hash)) bytes) bytes
 
 abbrev pub literal_kind : TypeClass → Kind
 literal_kind class.Truth = TypedTruth

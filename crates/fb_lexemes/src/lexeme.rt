@@ -1,6 +1,7 @@
 //! Tokens with what the grammar asks of them.
 ghost use Rattle.std.specs.Prelude.{◌≡◌, ◌≤◌, ◌↔◌, ℕ, true, not, ◌==◌, List, length, map, All, IfOk, None};
 ghost use Rattle.std.specs.List.{prefix_len};
+ghost use Rattle.fb_text.specs.Bytes.{hash};
 ghost use Rattle.fb_text.specs.Tokens.{Gives, LiesIn, SpansRise};
 ghost use Rattle.fb_text.specs.declared.token.TokenKind.{TokenKind};
 ghost use Rattle.fb_text.specs.declared.token.TokenKind.TheVariants.{Word};
@@ -81,7 +82,7 @@ fn number_kind(number: &[u8]) -> Kind
 
 /// How many bytes stand before the first `#`.
 fn type_len(literal: &[u8]) -> usize
-    ensures value { result ≡ prefix_len (λ b. not (b == 35)) literal.now }
+    ensures value { result ≡ prefix_len (λ b. not (b == hash)) literal.now }
     ensures within { result ≤ length literal.now }
 {
     literal.iter().take_while(|b| **b != b'#').count()

@@ -9,7 +9,7 @@ use Rattle.fb_forms.specs.Form.{Form, Front}
 use Rattle.fb_parse.specs.Grammar.{unit}
 use Rattle.fb_lexemes.specs.Lexemes.{lexemes_of}
 use Rattle.fb_forms.specs.Reading.{Outcome, read}
-use Rattle.fb_parse.proofs.Firsts.{predictive-unit}
+use Rattle.fb_parse.proofs.Predictive.{predictive_unit}
 use Rattle.fb_forms.proofs.Forms.{spelled_of_ok, ok_of_spelled, none_spelled_of_rest, none_spelled_of_err, fault_of_rest, fault_of_err}
 
 -- Two faults of the same tokens begin at the same place
@@ -55,11 +55,11 @@ one_rest x ls a b p q =
 told_ok : (end : ℕ) (ls : List Lexeme) (tree : DeclTree) (rest : List Lexeme) → read unit ls ≡ Ok (tree, rest) → IsBodyIn end (Ok ls) (whole_or_broken end tree rest)
 told_ok end ls tree [] e = spelled_of_ok unit ls tree e
 told_ok end ls tree (l ∷ rest) e =
-    (none_spelled_of_rest unit predictive-unit ls tree (l ∷ rest) e (omega arith), l ∷ rest, fault_of_rest unit predictive-unit ls tree (l ∷ rest) e, refl)
+    (none_spelled_of_rest unit predictive_unit ls tree (l ∷ rest) e (omega arith), l ∷ rest, fault_of_rest unit predictive_unit ls tree (l ∷ rest) e, refl)
 
 told_outcome : (end : ℕ) (ls : List Lexeme) (outcome : Outcome DeclTree) → read unit ls ≡ outcome → IsBodyIn end (Ok ls) (body_read end outcome)
 told_outcome end ls (Ok found) e = told_ok end ls found.0 found.1 e
-told_outcome end ls (Err rest) e = (none_spelled_of_err unit predictive-unit ls rest e, rest, fault_of_err unit predictive-unit ls rest e, refl)
+told_outcome end ls (Err rest) e = (none_spelled_of_err unit predictive_unit ls rest e, rest, fault_of_err unit predictive_unit ls rest e, refl)
 
 told_in : (end : ℕ) (r : Result (List Lexeme) Span) → IsBodyIn end r (body_in end r)
 told_in end (Ok ls) = told_outcome end ls (read unit ls) refl
@@ -74,15 +74,15 @@ told text = told_in (length text) (lexemes_of text)
 one_ok : (end : ℕ) (ls : List Lexeme) (span : Span) (tree : DeclTree) (rest : List Lexeme) → IsBodyIn end (Ok ls) (BrokenAt span) → read unit ls ≡ Ok (tree, rest) → BrokenAt span ≡ whole_or_broken end tree rest
 one_ok end ls span tree [] h e = absurd (h.0 tree (spelled_of_ok unit ls tree e))
 one_ok end ls span tree (l ∷ rest) h e =
-    ap BrokenAt (h.3 ∙ ap (place end) (one_rest unit ls h.1 (l ∷ rest) h.2 (fault_of_rest unit predictive-unit ls tree (l ∷ rest) e)))
+    ap BrokenAt (h.3 ∙ ap (place end) (one_rest unit ls h.1 (l ∷ rest) h.2 (fault_of_rest unit predictive_unit ls tree (l ∷ rest) e)))
 
 one_outcome : (end : ℕ) (ls : List Lexeme) (span : Span) (outcome : Outcome DeclTree) → IsBodyIn end (Ok ls) (BrokenAt span) → read unit ls ≡ outcome → BrokenAt span ≡ body_read end outcome
 one_outcome end ls span (Ok found) h e = one_ok end ls span found.0 found.1 h e
-one_outcome end ls span (Err rest) h e = ap BrokenAt (h.3 ∙ ap (place end) (one_rest unit ls h.1 rest h.2 (fault_of_err unit predictive-unit ls rest e)))
+one_outcome end ls span (Err rest) h e = ap BrokenAt (h.3 ∙ ap (place end) (one_rest unit ls h.1 rest h.2 (fault_of_err unit predictive_unit ls rest e)))
 
 one_in : (end : ℕ) (r : Result (List Lexeme) Span) (body : BodyTree) → IsBodyIn end r body → body ≡ body_in end r
 one_in end (Err bad) body h = h
-one_in end (Ok ls) (Whole tree) h = sym (ap (body_read end) (ok_of_spelled unit predictive-unit ls tree h))
+one_in end (Ok ls) (Whole tree) h = sym (ap (body_read end) (ok_of_spelled unit predictive_unit ls tree h))
 one_in end (Ok ls) (BrokenAt span) h = one_outcome end ls span (read unit ls) h refl
 
 pub one : (text : List ℕ) (body : BodyTree) → IsBody text body → body ≡ body_of text

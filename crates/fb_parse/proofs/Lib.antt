@@ -1,3 +1,3 @@
-pub mod Firsts
-pub mod SectionLemmas
+pub mod Joining
+pub mod Predictive
 pub mod Bodies

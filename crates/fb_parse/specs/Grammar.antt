@@ -1,94 +1,105 @@
--- The grammar of block types with events and data.
-use Rattle.std.specs.Prelude.{List, [], ◌++◌, false, Option, Some, None}
-use Rattle.std.specs.List.{flat_map}
+-- The grammar of the texts of units.
+use Rattle.std.specs.Prelude.{List}
 use Rattle.fb_text.specs.declared.name.NameUse.{NameUse}
 use Rattle.fb_lexemes.specs.declared.kind.Kind.{Kind}
-use Rattle.fb_lexemes.specs.declared.kind.Kind.TheVariants.{FunctionBlock, EndFunctionBlock, EventInput, EventOutput, EndEvent, VarInput, VarOutput, EndVar, With, Colon, Semicolon}
-use Rattle.fb_forms.specs.Form.{Form, both, either, option, many, as_value}
-use Rattle.fb_forms.specs.Words.{key, before, behind, name, names}
-use Rattle.fb_tree.specs.declared.interface.Side.{Side}
-use Rattle.fb_tree.specs.declared.interface.Side.TheVariants as side
-use Rattle.fb_tree.specs.declared.interface.Section.{Section}
-use Rattle.fb_tree.specs.declared.interface.Section.TheVariants as of
-use Rattle.fb_tree.specs.declared.interface.TypeUse.{TypeUse}
-use Rattle.fb_tree.specs.declared.interface.TypeForm.TheVariants.{Plain}
-use Rattle.fb_tree.specs.Tree.{EventTree, VariablesTree, InterfaceTree, NetworkTree, ChartTree, TypeTree, DeclTree, block_type}
+use Rattle.fb_lexemes.specs.declared.kind.Kind.TheVariants.{FunctionBlock, EndFunctionBlock, Adapter, EndAdapter, Subapplication, EndSubapplication, Application, EndApplication, System, EndSystem}
+use Rattle.fb_forms.specs.Form.{Form, both, either, many, as_value}
+use Rattle.fb_forms.specs.Words.{key, before, behind, name}
+use Rattle.fb_sections.specs.Chart.{states}
+use Rattle.fb_sections.specs.Interface.{events, data_variables, internal_variables}
+use Rattle.fb_sections.specs.Network.{plugs, sockets, blocks, subapplications, connections}
+use Rattle.fb_sections.specs.Skipped.{service}
+use Rattle.fb_sections.specs.SystemParts.{device, mappings}
+use Rattle.fb_tree.specs.Tree.{TypeTree, ApplicationTree, SystemTree, DeclTree, block_type, adapter_type, subapplication_type, system_configuration}
+use Rattle.fb_parse.specs.Chart.{transitions, algorithm}
+use Rattle.fb_parse.specs.Contents.{ContentsTree, nothing, of_events, of_variables, of_adapters, of_instances, of_connections, of_states, of_transitions, of_algorithm, joined}
+use Rattle.fb_parse.specs.SystemContents.{SystemContentsTree, of_application, of_device, of_mappings, system_joined}
 
--- ':' name
-unfoldable pub type_name : Form NameUse
-type_name = behind (key Colon) name
+-- Sections
 
-abbrev pub names_or_none : Option (List NameUse) → List NameUse
-names_or_none None = []
-names_or_none (Some ns) = ns
+unfoldable pub data_section : Form ContentsTree
+data_section = either (as_value of_events events) (as_value of_variables data_variables)
 
--- ['WITH' name {',' name}]
-unfoldable pub with_names : Form (List NameUse)
-with_names = as_value names_or_none (option (behind (key With) names))
+unfoldable pub service_section : Form ContentsTree
+service_section = as_value (λ _. nothing) service
 
-abbrev pub event_of : Side → NameUse × (Option NameUse × List NameUse) → EventTree
-event_of side v = record { side = side; name = v.0; type_name = v.1.0; with = v.1.1 }
+-- events | data | plugs | sockets
+unfoldable pub interface_section : Form ContentsTree
+interface_section = either data_section (either (as_value of_adapters plugs) (as_value of_adapters sockets))
 
--- name [':' name] ['WITH' name {',' name}] ';'
-unfoldable pub event : Side → Form EventTree
-event side = as_value (event_of side) (both name (both (option type_name) (before with_names (key Semicolon))))
+-- fbs | conns
+unfoldable pub network_section : Form ContentsTree
+network_section = either (as_value of_instances blocks) (as_value of_connections connections)
 
--- a type that is a name alone
-abbrev pub plain_type : NameUse → TypeUse
-plain_type name = record { name = name; form = Plain; span = name.span }
+-- states | trans | algorithm
+unfoldable pub chart_section : Form ContentsTree
+chart_section = either (as_value of_states states) (either (as_value of_transitions transitions) (as_value of_algorithm algorithm))
 
-abbrev pub variables_of : Section → List NameUse × NameUse → VariablesTree
-variables_of section v = record { section = section; names = v.0; type_use = plain_type v.1; initial = None }
+-- iface | var | fbs | conns | states | trans | algorithm | service
+unfoldable pub block_section : Form ContentsTree
+block_section =
+    either interface_section
+    (either (as_value of_variables internal_variables)
+    (either network_section
+    (either chart_section service_section)))
 
--- name {',' name} ':' name ';'
-unfoldable pub variables : Section → Form VariablesTree
-variables section = as_value (variables_of section) (both names (before type_name (key Semicolon)))
+-- events | data | service
+unfoldable pub adapter_section : Form ContentsTree
+adapter_section = either data_section service_section
 
--- 'EVENT_INPUT' {event} 'END_EVENT'
-unfoldable pub events : Kind → Side → Form (List EventTree)
-events start side = behind (key start) (before (many (event side)) (key EndEvent))
+-- fbs | subapps | conns
+unfoldable pub application_section : Form ContentsTree
+application_section = either network_section (as_value of_instances subapplications)
 
--- 'VAR_INPUT' {vardecl} 'END_VAR'
-unfoldable pub data_section : Kind → Section → Form (List VariablesTree)
-data_section start section = behind (key start) (before (many (variables section)) (key EndVar))
+-- iface | fbs | subapps | conns | service
+unfoldable pub subapplication_section : Form ContentsTree
+subapplication_section = either interface_section (either application_section service_section)
 
-abbrev pub of_events : List EventTree → InterfaceTree
-of_events events = record { events = events; variables = [] }
+-- Units
 
-abbrev pub of_variables : List VariablesTree → InterfaceTree
-of_variables variables = record { events = []; variables = variables }
+-- a word, name {section} and another word
+abbrev pub framed : Kind → Form ContentsTree → Kind → Form (NameUse × ContentsTree)
+framed start section end = behind (key start) (both name (before (as_value joined (many section)) (key end)))
 
--- events | data
-unfoldable pub section : Form InterfaceTree
-section =
-    either (as_value of_events (events EventInput side.Input))
-    (either (as_value of_events (events EventOutput side.Output))
-    (either (as_value of_variables (data_section VarInput of.Input))
-    (as_value of_variables (data_section VarOutput of.Output))))
+abbrev pub type_of : NameUse × ContentsTree → TypeTree
+type_of v = record { name = v.0; interface = v.1.interface; network = v.1.network; chart = v.1.chart }
 
--- the items of one section, and then those of another
-abbrev pub merged : InterfaceTree → InterfaceTree → InterfaceTree
-merged a b = record { events = a.events ++ b.events; variables = a.variables ++ b.variables }
-
--- the items of all sections, in the order of the text
-abbrev pub joined : List InterfaceTree → InterfaceTree
-joined sections = record { events = flat_map (λ s. s.events) sections; variables = flat_map (λ s. s.variables) sections }
-
-unfoldable pub sections : Form InterfaceTree
-sections = as_value joined (many section)
-
-abbrev pub no_network : NetworkTree
-no_network = record { instances = []; connections = []; is_written = false }
-
-abbrev pub no_chart : ChartTree
-no_chart = record { states = []; transitions = []; algorithms = []; is_written = false }
-
-abbrev pub block_of : NameUse × InterfaceTree → TypeTree
-block_of v = record { name = v.0; interface = v.1; network = no_network; chart = no_chart }
-
--- 'FUNCTION_BLOCK' name {events | data} 'END_FUNCTION_BLOCK'
+-- 'FUNCTION_BLOCK' name {section} 'END_FUNCTION_BLOCK'
 unfoldable pub block : Form TypeTree
-block = as_value block_of (behind (key FunctionBlock) (both name (before sections (key EndFunctionBlock))))
+block = as_value type_of (framed FunctionBlock block_section EndFunctionBlock)
 
+-- 'ADAPTER' name {section} 'END_ADAPTER'
+unfoldable pub adapter : Form TypeTree
+adapter = as_value type_of (framed Adapter adapter_section EndAdapter)
+
+-- 'SUBAPPLICATION' name {section} 'END_SUBAPPLICATION'
+unfoldable pub subapplication : Form TypeTree
+subapplication = as_value type_of (framed Subapplication subapplication_section EndSubapplication)
+
+abbrev pub application_of : NameUse × ContentsTree → ApplicationTree
+application_of v = record { name = v.0; network = v.1.network }
+
+-- 'APPLICATION' name {fbs | subapps | conns} 'END_APPLICATION'
+unfoldable pub application : Form ApplicationTree
+application = as_value application_of (framed Application application_section EndApplication)
+
+-- application | device | mappings
+unfoldable pub system_section : Form SystemContentsTree
+system_section =
+    either (as_value of_application application)
+    (either (as_value of_device device) (as_value of_mappings mappings))
+
+abbrev pub system_of : NameUse × SystemContentsTree → SystemTree
+system_of v = record { name = v.0; applications = v.1.applications; devices = v.1.devices; mappings = v.1.mappings }
+
+-- 'SYSTEM' name {application | device | mappings} 'END_SYSTEM'
+unfoldable pub system : Form SystemTree
+system = as_value system_of (behind (key System) (both name (before (as_value system_joined (many system_section)) (key EndSystem))))
+
+-- block | adapter | subapp | system
 unfoldable pub unit : Form DeclTree
-unit = as_value block_type block
+unit =
+    either (as_value block_type block)
+    (either (as_value adapter_type adapter)
+    (either (as_value subapplication_type subapplication)
+    (as_value system_configuration system)))

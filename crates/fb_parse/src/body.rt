@@ -7,7 +7,7 @@ ghost use Rattle.fb_parse.specs.Grammar.{unit};
 ghost use Rattle.fb_tree.specs.Tree.{DeclTree};
 ghost use Rattle.std.specs.Prelude.{◌≡◌, ℕ, IfOk, List};
 
-use crate::block::unit;
+use crate::units::unit;
 use fb_forms::Stop;
 use fb_lexemes::{Lexeme, lexemes};
 use fb_text::{Span, TokenFault};
@@ -23,7 +23,8 @@ pub enum Body {
 
 impl Body {
     ghost use Rattle.fb_forms.specs.Reading.{read};
-    ghost use Rattle.fb_parse.specs.Body.{body_read, body_tree, place};
+    ghost use Rattle.fb_parse.specs.Body.{body_read, body_tree, place, whole_or_broken};
+    ghost use Rattle.fb_tree.specs.Tree.{decl_tree};
 
     /// The body of a text.
     #[tactic(auto, unfolding(crate::specs::Body::body_of))]
@@ -42,10 +43,19 @@ impl Body {
         ensures { IfOk result (λ body. body_tree body ≡ body_read end (read unit lexemes.now)) }
     {
         match unit(alloc, lexemes) {
-            Ok((decl, [])) => Ok(Body::Tree(decl)),
-            Ok((_, rest)) => Ok(Body::Broken(Self::place(rest, end))),
+            Ok((decl, rest)) => Ok(Self::whole_or_broken(decl, rest, end)),
             Err(Stop::Broken(rest)) => Ok(Body::Broken(Self::place(rest, end))),
             Err(Stop::Memory) => Err(AllocError),
+        }
+    }
+
+    /// The declaration, unless tokens are left behind it.
+    fn whole_or_broken(decl: Decl, rest: &[Lexeme], end: usize) -> Body
+        ensures { body_tree result ≡ whole_or_broken end (decl_tree decl) rest.now }
+    {
+        match rest {
+            [] => Body::Tree(decl),
+            [lexeme, ..] => Body::Broken(lexeme.span),
         }
     }
 

@@ -1,5 +1,5 @@
 -- The relation of reading and the function that reads are one.
-use Rattle.std.proofs.Common.{◌≡◌, ◌≢◌, ℕ, zero, suc, ◌+◌, ◌<◌, ◌≤◌, Bool, true, false, not, cond, List, [], ◌∷◌, ◌++◌, length, take, drop, codes, nat_eq, sym, refl, ap, subst, ◌∙◌, arith, length-drop, length-append, length-take-le, take-append-drop, Option, Some, None, Result, Ok, Err, true≢false, ⊎_elim}
+use Rattle.std.proofs.Common.{◌≡◌, ◌≢◌, ℕ, zero, suc, ◌+◌, ◌<◌, ◌≤◌, Bool, true, false, not, List, [], ◌∷◌, ◌++◌, length, take, drop, codes, nat_eq, sym, refl, ap, subst, ◌∙◌, arith, length-drop, length-append, length-take-le, take-append-drop, Option, Some, None, Result, Ok, Err, true≢false, ⊎_elim}
 use Rattle.std.specs.Prelude.{◌==◌, All, option_map}
 use Rattle.std.specs.List.{prefix_len, starts_with}
 use Rattle.std.proofs.Math.Seq.{drop-append-add}
@@ -18,7 +18,7 @@ use Rattle.fb_text.specs.declared.token.Token.{Token}
 use Rattle.fb_text.specs.declared.token.TokenKind.{TokenKind}
 use Rattle.fb_text.specs.declared.token.TokenKind.TheVariants.{Other}
 use Rattle.fb_text.specs.declared.scan.Piece.{Piece}
-use Rattle.fb_text.specs.declared.scan.Piece.TheVariants.{Gap, Unclosed, Found}
+use Rattle.fb_text.specs.declared.scan.Piece.TheVariants.{Gap, Unclosed}
 use Rattle.fb_text.proofs.Boundaries.{longest-is}
 use Rattle.fb_text.proofs.Longest.{by_test}
 use Rattle.fb_text.proofs.LongestToken.{found, longest-none}
@@ -37,12 +37,12 @@ not-starting needle text h = by_test (starts_with nat_eq text needle) (λ t. abs
 -- the first `*)`
 close-by : (front back : List ℕ) → (n : ℕ) × (before_close (front ++ (codes "*)" ++ back)) ≡ Some n) × (n ≤ length front)
 unfolding before_close
-close-by [] back = (0, cond-true (starts_with nat_eq (codes "*)" ++ back) (codes "*)")) _ _ (starting (codes "*)") (codes "*)" ++ back) back refl), omega arith)
+close-by [] back = (0, cond-true (starts_with nat_eq (codes "*)" ++ back) (codes "*)")) (Some 0) (option_map suc (before_close (drop 1 (codes "*)" ++ back)))) (starting (codes "*)") (codes "*)" ++ back) back refl), omega arith)
 close-by (b ∷ front) back =
     let later = close-by front back in
     by_test (starts_with nat_eq (b ∷ (front ++ (codes "*)" ++ back))) (codes "*)"))
-      (λ t. (0, cond-true _ _ _ t, omega arith))
-      (λ f. (suc later.0, cond-false _ _ _ f ∙ ap (option_map suc) later.1, omega (arith, later.2)))
+    (λ t. (0, cond-true _ (Some 0) (option_map suc (before_close (front ++ (codes "*)" ++ back)))) t, omega arith))
+    (λ f. (suc later.0, cond-false _ (Some 0) (option_map suc (before_close (front ++ (codes "*)" ++ back)))) f ∙ ap (option_map suc) later.1, omega (arith, later.2)))
 
 record ClosesAt (text : List ℕ) (n : ℕ) : Type 0 where
   pub parts : text ≡ take n text ++ (codes "*)" ++ drop (suc (suc n)) text)
@@ -59,8 +59,8 @@ unfolding before_close
 closes-at [] n e = cc
 closes-at (b ∷ bs) n e =
     by_test (starts_with nat_eq (b ∷ bs) (codes "*)"))
-      (λ t. subst (ClosesAt (b ∷ bs)) (same_Some 0 n (sym (cond-true _ _ _ t) ∙ e)) (record { parts = starts (codes "*)") (b ∷ bs) t; within = omega arith }))
-      (λ f. closes-later b bs n (before_close bs) refl (sym (cond-false _ _ _ f) ∙ e) (closes-at bs))
+    (λ t. subst (ClosesAt (b ∷ bs)) (same_Some 0 n (sym (cond-true _ _ _ t) ∙ e)) (record { parts = starts (codes "*)") (b ∷ bs) t; within = omega arith }))
+    (λ f. closes-later b bs n (before_close bs) refl (sym (cond-false _ _ _ f) ∙ e) (closes-at bs))
 
 never : (text : List ℕ) → before_close text ≡ None → NeverCloses text
 never text e front back is =
@@ -115,15 +115,15 @@ line-all : (xs : List ℕ) → All (λ b. b ≢ 10) (take (prefix_len in_line xs
 line-all [] = All-nil (λ b. b ≢ 10)
 line-all (b ∷ bs) =
     by_test (in_line b)
-      (λ t. subst (λ n. All (λ c. c ≢ 10) (take n (b ∷ bs))) (sym (one-more b bs t)) (All-cons (λ c. c ≢ 10) b (take (prefix_len in_line bs) bs) (line-passes b t) (line-all bs)))
-      (λ f. subst (λ n. All (λ c. c ≢ 10) (take n (b ∷ bs))) (sym (cond-false (in_line b) (1 + prefix_len in_line bs) 0 f)) (All-nil (λ c. c ≢ 10)))
+    (λ t. subst (λ n. All (λ c. c ≢ 10) (take n (b ∷ bs))) (sym (one-more b bs t)) (All-cons (λ c. c ≢ 10) b (take (prefix_len in_line bs) bs) (line-passes b t) (line-all bs)))
+    (λ f. subst (λ n. All (λ c. c ≢ 10) (take n (b ∷ bs))) (sym (cond-false (in_line b) (1 + prefix_len in_line bs) 0 f)) (All-nil (λ c. c ≢ 10)))
 
 line-ends : (xs : List ℕ) → EndsLine (drop (prefix_len in_line xs) xs)
 line-ends [] = tt
 line-ends (b ∷ bs) =
     by_test (in_line b)
-      (λ t. subst (λ n. EndsLine (drop n (b ∷ bs))) (sym (one-more b bs t)) (line-ends bs))
-      (λ f. subst (λ n. EndsLine (drop n (b ∷ bs))) (sym (cond-false (in_line b) (1 + prefix_len in_line bs) 0 f)) (line-stops b f))
+    (λ t. subst (λ n. EndsLine (drop n (b ∷ bs))) (sym (one-more b bs t)) (line-ends bs))
+    (λ f. subst (λ n. EndsLine (drop n (b ∷ bs))) (sym (cond-false (in_line b) (1 + prefix_len in_line bs) 0 f)) (line-stops b f))
 
 -- what stands at the front
 blank-piece : (text : List ℕ) → is_blank (first text) ≡ true → piece_at text ≡ Gap 1
@@ -202,9 +202,9 @@ line-step : (place : ℕ) (text line rest : List ℕ) → text ≡ codes "//" ++
 line-step place text line rest e all ends =
     gap-step place text (length line + 2) (omega (arith, ap length e)) (omega arith) (line-piece text (line ++ rest) e ∙ ap (λ n. Gap (n + 2)) (line-len line rest all ends))
     ∙ ap (tokens_from 0 (place + (length line + 2)))
-      (ap (drop (length line + 2)) e
-      ∙ ap (λ n. drop n (codes "//" ++ (line ++ rest))) (let s : length line + 2 ≡ suc (suc (length line + 0)) = omega arith in s)
-      ∙ drop-append-add line rest 0)
+    (ap (drop (length line + 2)) e
+    ∙ ap (λ n. drop n (codes "//" ++ (line ++ rest))) (let s : length line + 2 ≡ suc (suc (length line + 0)) = omega arith in s)
+    ∙ drop-append-add line rest 0)
 
 token-step : (place : ℕ) (text : List ℕ) (kind : TokenKind) (n : ℕ) → BeginsToken text → IsLongest text kind n → tokens_from 0 place text ≡ with_token (token_of kind place n) (tokens_from 0 (place + n) (drop n text))
 token-step place text kind zero begins is = absurd (none-some kind (sym form-nil ∙ is.form))
@@ -286,21 +286,21 @@ not-both b f t = true≢false (sym t ∙ f)
 step-reads : (m place : ℕ) (text : List ℕ) → 0 < length text → length text ≤ suc m → Later m → Reads place text (tokens_from 0 place text)
 step-reads m place text some l more =
     by_test (is_blank (first text))
-      (λ t.
-        let whole = head-tail text some in
-        AtBlank (first text) (drop 1 text) whole t (subst (Reads (place + 1) (drop 1 text)) (sym (blank-step place text (first text) (drop 1 text) whole t)) (more (place + 1) (drop 1 text) (omega (arith, l, length-drop 1 text)))))
-      (λ plain. by_test (starts_with nat_eq text (codes "(*"))
-        (λ t. comment-reads m place text (drop 2 text) (before_close (drop 2 text)) l (starts (codes "(*") text t) refl more)
-        (λ no_comment. by_test (starts_with nat_eq text (codes "//"))
-          (λ t. line-reads m place text (drop 2 text) l (starts (codes "//") text t) more)
-          (λ no_line. token-reads m place text (longest (length text) text) l
-            (record {
-              some = λ e. absurd (omega (arith, some, ap length e));
-              no_blank = plain;
-              no_comment = λ rest e. not-both _ no_comment (starting (codes "(*") text rest e);
-              no_line_comment = λ rest e. not-both _ no_line (starting (codes "//") text rest e);
-            })
-            refl more)))
+    (λ t.
+    let whole = head-tail text some in
+    AtBlank (first text) (drop 1 text) whole t (subst (Reads (place + 1) (drop 1 text)) (sym (blank-step place text (first text) (drop 1 text) whole t)) (more (place + 1) (drop 1 text) (omega (arith, l, length-drop 1 text)))))
+    (λ plain. by_test (starts_with nat_eq text (codes "(*"))
+    (λ t. comment-reads m place text (drop 2 text) (before_close (drop 2 text)) l (starts (codes "(*") text t) refl more)
+    (λ no_comment. by_test (starts_with nat_eq text (codes "//"))
+    (λ t. line-reads m place text (drop 2 text) l (starts (codes "//") text t) more)
+    (λ no_line. token-reads m place text (longest (length text) text) l
+    (record {
+      some = λ e. absurd (omega (arith, some, ap length e));
+      no_blank = plain;
+      no_comment = λ rest e. not-both _ no_comment (starting (codes "(*") text rest e);
+      no_line_comment = λ rest e. not-both _ no_line (starting (codes "//") text rest e);
+    })
+    refl more)))
 
 reads-within : (m place : ℕ) (text : List ℕ) → length text ≤ m → Reads place text (tokens_from 0 place text)
 reads-within m place [] l = AtEnd refl (end-step place)

@@ -1,5 +1,5 @@
 -- What the tokens of a text are: blanks and comments are passed over, and elsewhere the longest form is the next token.
-use Rattle.std.specs.Prelude.{◌≡◌, ◌≢◌, ℕ, ◌+◌, ◌<◌, ◌≤◌, true, false, List, [], ◌∷◌, ◌++◌, length, take, drop, codes, All, None, Result, Ok, Err}
+use Rattle.std.specs.Prelude.{◌≡◌, ◌≢◌, ℕ, ◌+◌, ◌≤◌, true, false, List, [], ◌∷◌, ◌++◌, length, take, drop, codes, All, None, Result, Ok, Err}
 use Rattle.fb_text.specs.Bytes.{is_blank, first}
 use Rattle.fb_text.specs.Forms.{form_of}
 use Rattle.fb_text.specs.Tokens.{IsLongest, char_len, with_token}
@@ -43,20 +43,20 @@ pub data Reads : ℕ → List ℕ → Result (List Token) Span → Type 0 where
   AtEnd : {place : ℕ} {text : List ℕ} {reading : Result (List Token) Span} → text ≡ [] → reading ≡ Ok [] → Reads place text reading
   -- a blank is passed over
   AtBlank : {place : ℕ} {text : List ℕ} {reading : Result (List Token) Span} (b : ℕ) (rest : List ℕ)
-    → text ≡ b ∷ rest → is_blank b ≡ true → Reads (place + 1) rest reading → Reads place text reading
+      → text ≡ b ∷ rest → is_blank b ≡ true → Reads (place + 1) rest reading → Reads place text reading
   -- a comment is passed over through the first `*)` after its `(*`
   AtComment : {place : ℕ} {text : List ℕ} {reading : Result (List Token) Span} (after inside rest : List ℕ)
-    → text ≡ codes "(*" ++ after → IsFirstClose after inside rest → Reads (place + (length inside + 4)) rest reading → Reads place text reading
+      → text ≡ codes "(*" ++ after → IsFirstClose after inside rest → Reads (place + (length inside + 4)) rest reading → Reads place text reading
   -- a comment that is never closed
   AtOpenComment : {place : ℕ} {text : List ℕ} {reading : Result (List Token) Span} (after : List ℕ)
-    → text ≡ codes "(*" ++ after → NeverCloses after → reading ≡ Err (record { start = place; end = place + length text }) → Reads place text reading
+      → text ≡ codes "(*" ++ after → NeverCloses after → reading ≡ Err (record { start = place; end = place + length text }) → Reads place text reading
   -- a line comment is passed over up to the line's end
   AtLineComment : {place : ℕ} {text : List ℕ} {reading : Result (List Token) Span} (line rest : List ℕ)
-    → text ≡ codes "//" ++ (line ++ rest) → All (λ b. b ≢ 10) line → EndsLine rest → Reads (place + (length line + 2)) rest reading → Reads place text reading
+      → text ≡ codes "//" ++ (line ++ rest) → All (λ b. b ≢ 10) line → EndsLine rest → Reads (place + (length line + 2)) rest reading → Reads place text reading
   -- elsewhere the longest front that has a form is the next token
   AtToken : {place : ℕ} {text : List ℕ} {reading : Result (List Token) Span} (kind : TokenKind) (n : ℕ) (following : Result (List Token) Span)
-    → BeginsToken text → IsLongest text kind n → Reads (place + n) (drop n text) following → reading ≡ with_token (token_of kind place n) following → Reads place text reading
+      → BeginsToken text → IsLongest text kind n → Reads (place + n) (drop n text) following → reading ≡ with_token (token_of kind place n) following → Reads place text reading
   -- and one character, where no front has a form
   AtOther : {place : ℕ} {text : List ℕ} {reading : Result (List Token) Span} (following : Result (List Token) Span)
-    → BeginsToken text → HasNoForm text → Reads (place + char_len text) (drop (char_len text) text) following → reading ≡ with_token (token_of Other place (char_len text)) following
-    → Reads place text reading
+      → BeginsToken text → HasNoForm text → Reads (place + char_len text) (drop (char_len text) text) following → reading ≡ with_token (token_of Other place (char_len text)) following
+      → Reads place text reading

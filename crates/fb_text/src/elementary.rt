@@ -64,6 +64,5 @@ fn is_bit_type(word: &[u8]) -> bool
 fn is_generic_type(word: &[u8]) -> bool
     ensures { result ≡ is_generic_type word.now }
 {
-    same_word(word, b"ANY")
-        || (word.len() <= 64 && same_word(&word[..word.len().min(4)], b"ANY_"))
+    same_word(word, b"ANY") || (word.len() <= 64 && same_word(&word[..word.len().min(4)], b"ANY_"))
 }

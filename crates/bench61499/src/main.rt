@@ -1,0 +1,56 @@
+//! The program `bench61499`: a workbench for IEC 61499 units that answers requests, one on each line.
+#![tactic(auto)]
+
+mod arguments;
+mod asked;
+mod fault;
+#[cfg(test)]
+mod library_tests;
+mod program;
+#[cfg(test)]
+mod tests;
+
+use fb_wire::{FromRead, IntoWrite};
+use std::alloc::{AllocError, Global};
+use std::env;
+use std::process::ExitCode;
+
+/// How many reads a run may make.
+const TURNS: u64 = 1_000_000_000;
+
+fn texts<'a>(alloc: Global, words: &'a [String]) -> Result<Vec<&'a str>, AllocError> {
+    let mut texts = Vec::new(alloc);
+    for word in words {
+        texts.push(word.as_str())?;
+    }
+    Ok(texts)
+}
+
+fn run(rt: &HostRuntime, words: &[String]) -> ExitCode {
+    let Ok(texts) = texts(rt.alloc(), words) else {
+        return ExitCode::FAILURE;
+    };
+    let mut reader = FromRead::new(rt.stdin());
+    let mut writer = IntoWrite::new(rt.stdout());
+    let mut errors = rt.stderr();
+    let status = program::run(
+        rt.alloc(),
+        &texts,
+        &mut reader,
+        &mut writer,
+        &mut errors,
+        TURNS,
+    );
+    ExitCode::from(status)
+}
+
+fn main(rt: HostRuntime) -> ExitCode {
+    let Ok(args) = env::args(&rt) else {
+        return ExitCode::FAILURE;
+    };
+    let words: Result<Vec<String>, AllocError> = args.collect(rt.alloc());
+    match words {
+        Ok(words) => run(&rt, &words),
+        Err(_) => ExitCode::FAILURE,
+    }
+}

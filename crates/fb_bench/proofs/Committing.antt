@@ -1,0 +1,140 @@
+-- A commit's answer, and what it leaves.
+use Rattle.std.proofs.Common.{◌≡◌, ℕ, ◌+◌, ◌<◌, ◌≤◌, true, false, List, [], ◌∷◌, map, length, refl, sym, ap, ◌∙◌, subst, Option, Some, None, cond, nat_lt, ◌==◌, arith}
+use Rattle.std.proofs.lemmas.Bool.Decides.{nat_tests}
+use Rattle.std.specs.BTreeMap as tree
+use Rattle.std.specs.BTreeSet as set
+use Rattle.fb_library.specs.Texts.{Texts, Held, held, Edit, Puts, Removes, unit_of, all_edited, names_of}
+use Rattle.fb_jobs.specs.declared.key.Key.{Key}
+use Rattle.fb_jobs.specs.KeyOrder.{key_cmp}
+use Rattle.fb_bench.specs.declared.entry.Entry.{Entry}
+use Rattle.fb_bench.specs.declared.answers.Committed.{Committed}
+use Rattle.fb_bench.specs.declared.answers.Committed.TheVariants.{Done, NoChange, TooManyChanges, SameUnitTwice, StaleBase, NoSuchUnit, TooManyUnits}
+use Rattle.fb_bench.specs.declared.answers.Delivered.{Delivered}
+use Rattle.fb_bench.specs.declared.answers.Delivered.TheVariants.{Accepted, NoSuchKey, NotPending, Stale}
+use Rattle.fb_bench.specs.declared.answers.GivenBack.{GivenBack}
+use Rattle.fb_bench.specs.declared.answers.GivenBack.TheVariants.{Returned, NothingOut}
+use Rattle.fb_bench.specs.Machine.{after_give_back, give_back_answer, State, Call, ToCommit, ToTake, ToDeliver, ToGiveBack, ToAsk, OfCommit, reply, after, commit_answer, after_commit, after_take, after_deliver, deliver_answer, next, after_done, refusal, or_else, or_some, repeated_refusal, repeated_after, first_misfit, misfit, misfit_at, count_answer, all_keys}
+use Rattle.fb_bench.specs.Story.{Story, start, replay, calls_of, state_of}
+use Rattle.fb_bench.specs.Kept.{Agrees, EntryFits}
+use Rattle.fb_bench.specs.Renew.{RenewedSoFar, IsRebuilt}
+use Rattle.fb_bench.proofs.Steps.{reply_commit, after_commit_is}
+use Rattle.fb_bench.proofs.Renewing.{agrees_done}
+
+-- ---- a refusal leaves the state
+
+abbrev Stays : Option Committed → Type 0
+Stays None = Unit {0}
+Stays (Some answer) = (edits : List Edit) (s : State) → after_commit answer edits s ≡ s
+
+stays_misfit : (h : Option Held) (e : Edit) → Stays (misfit_at h e)
+stays_misfit None (Puts u base text) = elim (base == 0) as (λ b. Stays (cond b None (Some (StaleBase u 0)))) [ true ↦ tt | false ↦ λ es s. refl ]
+stays_misfit (Some it) (Puts u base text) = elim (base == it.revision) as (λ b. Stays (cond b None (Some (StaleBase u it.revision)))) [ true ↦ tt | false ↦ λ es s. refl ]
+stays_misfit None (Removes u base) = λ es s. refl
+stays_misfit (Some it) (Removes u base) = elim (base == it.revision) as (λ b. Stays (cond b None (Some (StaleBase u it.revision)))) [ true ↦ tt | false ↦ λ es s. refl ]
+
+stays_or : (o p : Option Committed) → Stays o → Stays p → Stays (or_some o p)
+stays_or None p one two = two
+stays_or (Some r) p one two = one
+
+first_or : (T : Texts) (e : Edit) (es : List Edit) (o : Option Committed) → misfit T e ≡ o → first_misfit T (e ∷ es) ≡ or_some o (first_misfit T es)
+first_or T e es None is = ap (λ m. elim m as (λ _. Option Committed) [ None ↦ first_misfit T es | Some answer ↦ Some answer ]) is
+first_or T e es (Some r) is = ap (λ m. elim m as (λ _. Option Committed) [ None ↦ first_misfit T es | Some answer ↦ Some answer ]) is
+
+stays_first : (T : Texts) (es : List Edit) → Stays (first_misfit T es)
+stays_first T [] = tt
+stays_first T (e ∷ es) = subst Stays (sym (first_or T e es (misfit T e) refl)) (stays_or (misfit T e) (first_misfit T es) (stays_misfit (held T (unit_of e)) e) (stays_first T es))
+
+stays_repeats : (o : Option (List ℕ)) → Stays (repeated_refusal o)
+stays_repeats None = tt
+stays_repeats (Some u) = λ es s. refl
+
+stays_refusal : (T : Texts) (edits : List Edit) → Stays (refusal T edits)
+stays_refusal T edits =
+    elim (length edits == 0) as (λ b. Stays (cond b (Some NoChange) (cond (nat_lt 16 (length edits)) (Some TooManyChanges) (or_some (repeated_refusal (repeated_after [] (map unit_of edits))) (first_misfit T edits))))) [
+      | true ↦ λ es s. refl
+      | false ↦ elim (nat_lt 16 (length edits)) as (λ b. Stays (cond b (Some TooManyChanges) (or_some (repeated_refusal (repeated_after [] (map unit_of edits))) (first_misfit T edits)))) [
+        | true ↦ λ es s. refl
+        | false ↦ stays_or (repeated_refusal (repeated_after [] (map unit_of edits))) (first_misfit T edits) (stays_repeats (repeated_after [] (map unit_of edits))) (stays_first T edits)
+      ]
+    ]
+
+pub refused_stays : (T : Texts) (edits : List Edit) (r : Committed) (s : State) → Some r ≡ refusal T edits → after_commit r edits s ≡ s
+refused_stays T edits r s e = let stays : Stays (Some r) = subst Stays (sym e) (stays_refusal T edits) in stays edits s
+
+-- ---- the limit of units is that of the start
+
+done_most : (r : Committed) (edits : List Edit) (s : State) → (after_commit r edits s).most_units ≡ s.most_units
+done_most (Done n) edits s = refl
+done_most NoChange edits s = refl
+done_most TooManyChanges edits s = refl
+done_most (SameUnitTwice u) edits s = refl
+done_most (StaleBase u n) edits s = refl
+done_most (NoSuchUnit u) edits s = refl
+done_most TooManyUnits edits s = refl
+
+take_most : (o : Option Key) (s : State) → (after_take o s).most_units ≡ s.most_units
+take_most None s = refl
+take_most (Some k) s = refl
+
+deliver_most : (d : Delivered) (k : Key) (s : State) → (after_deliver d k s).most_units ≡ s.most_units
+deliver_most Accepted k s = refl
+deliver_most NoSuchKey k s = refl
+deliver_most NotPending k s = refl
+deliver_most (Stale n) k s = refl
+
+give_back_most : (a : GivenBack) (k : Key) (s : State) → (after_give_back a k s).most_units ≡ s.most_units
+give_back_most Returned k s = refl
+give_back_most NothingOut k s = refl
+
+after_most : (s : State) (call : Call) → (after s call).most_units ≡ s.most_units
+unfolding after
+after_most s (ToCommit edits) = done_most (commit_answer s edits) edits s
+after_most s ToTake = take_most (next s) s
+after_most s (ToDeliver order) = deliver_most (deliver_answer s order) order.key s
+after_most s (ToGiveBack k) = give_back_most (give_back_answer s k) k s
+after_most s (ToAsk k) = refl
+
+replay_most : (s : State) (calls : List Call) → (replay s calls).most_units ≡ s.most_units
+unfolding replay
+replay_most s [] = refl
+replay_most s (c ∷ cs) = replay_most (after s c) cs ∙ after_most s c
+
+pub most_units_of : (story : Story) → (state_of story).most_units ≡ story.most_units
+most_units_of story = replay_most (start story.most_units) (calls_of story.log)
+
+-- ---- the answer
+
+pub refused_answer : (s : State) (T : Texts) (edits : List Edit) (r : Committed) → T ≡ s.units → Some r ≡ refusal T edits → r ≡ commit_answer s edits
+refused_answer s T edits r same e = (λ i. or_else (e i) (count_answer s edits)) ∙ ap (λ us. or_else (refusal us edits) (count_answer s edits)) same
+
+less_true : (a b : ℕ) → a < b → nat_lt a b ≡ true
+less_true a b h = grind (arith, nat_tests)
+
+less_false : (a b : ℕ) → b ≤ a → nat_lt a b ≡ false
+less_false a b h = grind (arith, nat_tests)
+
+fitting : (s : State) (T : Texts) (edits : List Edit) → T ≡ s.units → None ≡ refusal T edits → count_answer s edits ≡ commit_answer s edits
+fitting s T edits same e = (λ i. or_else (e i) (count_answer s edits)) ∙ ap (λ us. or_else (refusal us edits) (count_answer s edits)) same
+
+pub too_many_answer : (s : State) (T U : Texts) (n : ℕ) (edits : List Edit) → T ≡ s.units → None ≡ refusal T edits → n ≡ s.commits → U ≡ all_edited (n + 1) edits T → s.most_units < length U → TooManyUnits ≡ commit_answer s edits
+too_many_answer s T U n edits same none number is many =
+    let units : U ≡ all_edited (s.commits + 1) edits s.units = is ∙ (λ i. all_edited (number i + 1) edits (same i)) in
+    let test : nat_lt s.most_units (length (all_edited (s.commits + 1) edits s.units)) ≡ true = ap (λ us. nat_lt s.most_units (length us)) (sym units) ∙ less_true s.most_units (length U) many in
+    sym (ap (λ b. cond b TooManyUnits (Done (s.commits + 1))) test) ∙ fitting s T edits same none
+
+pub done_answer : (s : State) (T U : Texts) (n : ℕ) (edits : List Edit) → T ≡ s.units → None ≡ refusal T edits → n ≡ s.commits → U ≡ all_edited (n + 1) edits T → length U ≤ s.most_units → Done (n + 1) ≡ commit_answer s edits
+done_answer s T U n edits same none number is few =
+    let units : U ≡ all_edited (s.commits + 1) edits s.units = is ∙ (λ i. all_edited (number i + 1) edits (same i)) in
+    let test : nat_lt s.most_units (length (all_edited (s.commits + 1) edits s.units)) ≡ false = ap (λ us. nat_lt s.most_units (length us)) (sym units) ∙ less_false s.most_units (length U) few in
+    ap (λ m. Done (m + 1)) number ∙ sym (ap (λ b. cond b TooManyUnits (Done (s.commits + 1))) test) ∙ fitting s T edits same none
+
+pub commits_is : (s : State) (made edits : List Edit) (answer : Committed) → made ≡ edits → answer ≡ commit_answer s edits → OfCommit answer ≡ reply s (ToCommit made)
+commits_is s made edits answer same is = ap OfCommit (is ∙ ap (λ es. commit_answer s es) (sym same)) ∙ sym (reply_commit s made)
+
+pub committed_is : (s : State) (made edits : List Edit) (answer : Committed) → made ≡ edits → answer ≡ commit_answer s edits → after s (ToCommit made) ≡ after_commit answer edits s
+committed_is s made edits answer same is = after_commit_is s made ∙ (λ i. after_commit (commit_answer s (same i)) (same i) s) ∙ ap (λ a. after_commit a edits s) (sym is)
+
+pub agrees_rebuilt : (n : ℕ) (edits : List Edit) (T U : Texts) (old es : tree.BTreeMap Key Entry) (rs : set.BTreeSet Key) (s : State) → U ≡ all_edited (n + 1) edits T → T ≡ s.units → ((key : Key) → EntryFits s key (tree.get key_cmp old key)) → IsRebuilt U edits old (all_keys (names_of U)) es rs → Agrees U (n + 1) es rs (after_done (n + 1) edits s)
+agrees_rebuilt n edits T U old es rs s is same fits built =
+    let units : U ≡ all_edited (n + 1) edits s.units = is ∙ ap (λ us. all_edited (n + 1) edits us) same in
+    agrees_done (n + 1) edits U es rs s units (subst (λ us. RenewedSoFar (all_keys (names_of us)) es rs (after_done (n + 1) edits s)) units (built s (n + 1) units fits))

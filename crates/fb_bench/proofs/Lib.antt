@@ -1,0 +1,12 @@
+pub mod Steps
+pub mod Empty
+pub mod Order
+pub mod Least
+pub mod Marks
+pub mod Renewing
+pub mod Committing
+pub mod Dues
+pub mod Writes
+pub mod Numbers
+pub mod Sorted
+pub mod AfterCalls

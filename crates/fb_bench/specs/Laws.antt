@@ -1,0 +1,58 @@
+-- What holds of a workbench after any calls.
+use Rattle.std.specs.Prelude.{◌≡◌, ℕ, Bool, true, false, not, List, if◌then◌else◌}
+use Rattle.fb_library.specs.Texts.{Texts, text_at}
+use Rattle.fb_jobs.specs.declared.key.Key.{Key}
+use Rattle.fb_jobs.specs.Keys.{has_key, scratch}
+use Rattle.fb_jobs.specs.Reads.{is_among}
+use Rattle.fb_bench.specs.declared.answers.Committed.{Committed}
+use Rattle.fb_bench.specs.declared.answers.Committed.TheVariants.{Done, NoChange, TooManyChanges, SameUnitTwice, StaleBase, NoSuchUnit, TooManyUnits}
+use Rattle.fb_bench.specs.declared.answers.Delivered.{Delivered}
+use Rattle.fb_bench.specs.declared.answers.Delivered.TheVariants.{Accepted, NoSuchKey, NotPending, Stale}
+use Rattle.fb_bench.specs.declared.answers.GivenBack.{GivenBack}
+use Rattle.fb_bench.specs.declared.answers.GivenBack.TheVariants.{Returned, NothingOut}
+use Rattle.fb_bench.specs.Machine.{Call, Reply, OfCommit, OfTake, OfDeliver, OfGiveBack, OfAsk, Shown, Finds, Waits, Unknown, shown}
+use Rattle.fb_bench.specs.Story.{start, replay}
+use Rattle.fb_bench.specs.Due.{due}
+
+abbrev pub refuses_commit : Committed → Bool
+refuses_commit (Done commit) = false
+refuses_commit NoChange = true
+refuses_commit TooManyChanges = true
+refuses_commit (SameUnitTwice unit) = true
+refuses_commit (StaleBase unit current) = true
+refuses_commit (NoSuchUnit unit) = true
+refuses_commit TooManyUnits = true
+
+abbrev pub refuses_result : Delivered → Bool
+refuses_result Accepted = false
+refuses_result NoSuchKey = true
+refuses_result NotPending = true
+refuses_result (Stale name) = true
+
+abbrev pub refuses_return : GivenBack → Bool
+refuses_return Returned = false
+refuses_return NothingOut = true
+
+abbrev pub refuses_question : Shown → Bool
+refuses_question Unknown = true
+refuses_question Waits = false
+refuses_question (Finds finding) = false
+
+-- whether a reply refuses its call. That there is nothing to do is no refusal
+abbrev pub is_refusal : Reply → Bool
+is_refusal (OfCommit answer) = refuses_commit answer
+is_refusal (OfTake order) = false
+is_refusal (OfDeliver answer) = refuses_result answer
+is_refusal (OfGiveBack answer) = refuses_return answer
+is_refusal (OfAsk shown) = refuses_question shown
+
+-- What is known of a key after some calls: nothing where the present texts don't have it; that it is pending while no current
+-- result has come since the last commit that made or reached it; otherwise the value of the present texts, from scratch.
+abbrev pub entry_after : ℕ → List Call → Key → Shown
+entry_after most_units calls key =
+    let texts = (replay (start most_units) calls).units in
+    if not (has_key texts key) then Unknown else (if due (start most_units) calls key then Waits else Finds (scratch texts key))
+
+-- the texts are the same but for the changed names
+abbrev pub AgreeApartFrom : List (List ℕ) → Texts → Texts → Type 0
+AgreeApartFrom changed texts others = (name : List ℕ) → is_among name changed ≡ false → text_at texts name ≡ text_at others name

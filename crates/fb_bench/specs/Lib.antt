@@ -1,0 +1,14 @@
+pub mod Machine
+pub mod Story
+pub mod Records
+pub mod Logs
+pub mod Kept
+pub mod Renew
+pub mod Due
+pub mod Peeks
+pub mod Requests
+pub mod Calls
+pub mod Solo
+pub mod Refusals
+pub mod Limits
+pub mod Laws

@@ -1,0 +1,59 @@
+-- Records of the program as what they say.
+use Rattle.std.specs.Prelude.{List, map, take, Option, Some, None}
+use Rattle.fb_library.specs.Texts.{Edit}
+use Rattle.fb_library.specs.declared.change.Change.{Change}
+use Rattle.fb_library.specs.Changes.{edits_of}
+use Rattle.fb_jobs.specs.Reads.{Order}
+use Rattle.fb_jobs.specs.Values.{all_seen, finding_of}
+use Rattle.fb_bench.specs.Machine as machine
+use Rattle.fb_bench.specs.Machine.{ToCommit, ToTake, ToDeliver, ToGiveBack, ToAsk, Shown, Finds, Waits, Unknown, OfCommit, OfTake, OfDeliver, OfGiveBack, OfAsk}
+use Rattle.fb_bench.specs.Story.{Record}
+use Rattle.fb_bench.specs.declared.answers.Asked.{Asked}
+use Rattle.fb_bench.specs.declared.answers.Asked.TheVariants.{Value, Pending, NoSuchKey}
+use Rattle.fb_bench.specs.declared.answers.Taken.{Taken}
+use Rattle.fb_bench.specs.declared.answers.Taken.TheVariants.{Job, Nothing}
+use Rattle.fb_bench.specs.declared.record.Wanted.{Wanted}
+use Rattle.fb_bench.specs.declared.record.Call.{Call}
+use Rattle.fb_bench.specs.declared.record.Call.TheVariants.{Commit, Take, Deliver, GiveBack, Ask}
+use Rattle.fb_bench.specs.declared.record.Reply.{Reply}
+use Rattle.fb_bench.specs.declared.record.Reply.TheVariants.{Committing, Taking, Delivering, GivingBack, Asking}
+use Rattle.std.specs.declared.sync.Arc.{Arc}
+use Rattle.std.specs.declared.alloc.Global.{Global}
+
+abbrev pub order_of : Wanted → Order
+order_of it = record { key = it.key; reads = all_seen it.reads.items }
+
+abbrev pub order_in : Option Wanted → Option Order
+order_in None = None
+order_in (Some it) = Some (order_of it)
+
+abbrev pub call_of : Call → machine.Call
+call_of (Commit changes) = ToCommit (edits_of changes.items)
+call_of Take = ToTake
+call_of (Deliver it) = ToDeliver (order_of it)
+call_of (GiveBack key) = ToGiveBack key
+call_of (Ask key) = ToAsk key
+
+abbrev pub shown_in : Asked → Shown
+shown_in (Value value) = Finds (finding_of value.value)
+shown_in Pending = Waits
+shown_in NoSuchKey = Unknown
+
+abbrev pub reply_of : Reply → machine.Reply
+reply_of (Committing answer) = OfCommit answer
+reply_of (Taking order) = OfTake (order_in order)
+reply_of (Delivering answer) = OfDeliver answer
+reply_of (GivingBack answer) = OfGiveBack answer
+reply_of (Asking answer) = OfAsk (shown_in answer)
+
+abbrev pub records_in : List (Arc Record Global) → List Record
+records_in records = map (λ (it : Arc Record Global). it.value) records
+
+-- the job that is handed out
+abbrev pub job_in : Taken → Option Order
+job_in (Job job) = Some job
+job_in Nothing = None
+
+-- the changes of a commit that are recorded
+abbrev pub listed : List Change → List Edit
+listed changes = edits_of (take 17 changes)

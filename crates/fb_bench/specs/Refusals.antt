@@ -1,0 +1,11 @@
+-- Why a workbench does not record a call, as a desk says it.
+use Rattle.std.specs.Prelude.{Result, Ok, Err}
+use Rattle.fb_bench.specs.declared.answers.Refused.{Refused}
+use Rattle.fb_bench.specs.declared.answers.Refused.TheVariants as bench
+use Rattle.fb_bench.specs.declared.desk.DeskRefused.{DeskRefused}
+use Rattle.fb_bench.specs.declared.desk.DeskRefused.TheVariants.{HistoryFull, Memory}
+
+abbrev pub as_desk : {R : Type 0} → Result R Refused → Result R DeskRefused
+as_desk (Ok answer) = Ok answer
+as_desk (Err bench.HistoryFull) = Err HistoryFull
+as_desk (Err bench.Memory) = Err Memory

@@ -1,0 +1,519 @@
+ghost use Rattle.std.specs.Prelude.{◌≡◌};
+ghost use Rattle.fb_jobs.specs.Reads.{stale, is_current};
+ghost use Rattle.fb_jobs.specs.Values.{all_seen, seen_of};
+ghost use Rattle.fb_bench.specs.Records.{job_in};
+
+use crate::answers::{Asked, Committed, Delivered, GivenBack, Refused, Taken};
+use crate::commit::{first_changes, refusal};
+use crate::entry::{Entry, join, keep, leave, mark_out};
+use crate::keys::present_keys;
+use crate::limits::Limits;
+use crate::log::History;
+use crate::peek::Shown;
+use crate::rebuild::rebuilt;
+use crate::record::{Call, Record, Reply, Request, Wanted};
+use fb_jobs::{Finished, Job, Key, Read, Value, current_reads};
+use fb_library::{Change, Library};
+use fb_text::Name;
+use std::alloc::{AllocError, Global};
+use std::collections::{BTreeMap, BTreeSet};
+use std::marker::Model;
+use std::sync::Arc;
+
+/// The workbench of one thread. All that it is follows from its limits and its history.
+#[derive(Drop)]
+pub struct Bench {
+    alloc: Global,
+    most_units: u64,
+    history: History,
+    library: Library,
+    commits: u64,
+    // the keys of the library, in order
+    keys: Vec<Key>,
+    entries: BTreeMap<Key, Entry>,
+    // the keys that are pending and not handed out
+    ready: BTreeSet<Key>,
+}
+
+impl Model for Bench {
+    ghost use Rattle.fb_bench.specs.Story.{Story};
+
+    ghost Value = { Story };
+
+    ghost use Rattle.fb_bench.specs.Kept.{IsKept};
+
+    ghost view = { λ it. record { most_units = it.most_units; log = it.history } };
+
+    ghost invariant = { λ it. IsKept it.library it.commits it.keys.items it.entries it.ready (record { most_units = it.most_units; log = it.history }) };
+}
+
+impl Bench {
+    ghost use Rattle.std.specs.Prelude.{◌≡◌, ◌≤◌, ◌↔◌, [], IfOk, OnErr, Err, length, slice_get, count_by};
+    ghost use Rattle.std.specs.Option.{option_map};
+    ghost use Rattle.std.specs.List.Sorted.{IsStrictlySortedBy};
+    ghost use Rattle.fb_jobs.specs.KeyOrder.{key_cmp};
+    ghost use Rattle.fb_bench.specs.Machine.{Call, ToCommit, ToTake, ToDeliver, ToGiveBack, ToAsk, OfCommit, OfTake, OfDeliver, OfGiveBack, OfAsk, reply, shown, next, deliver_answer, keys_of};
+    ghost use Rattle.fb_jobs.specs.Values.{all_seen};
+    ghost use Rattle.fb_bench.specs.Story.{Story, Log, state_of, recorded, record_of, record_at, calls_of, IsReplay, AreTurns};
+    ghost use Rattle.fb_bench.specs.Records.{shown_in, job_in, listed};
+    ghost use Rattle.fb_bench.specs.Requests.{call_for, job_of};
+    ghost use Rattle.fb_bench.specs.Peeks.{shown_by, is_pending};
+    ghost use Rattle.fb_bench.specs.Due.{is_due};
+    ghost use Rattle.fb_bench.specs.Laws.{entry_after};
+    ghost use Rattle.fb_library.specs.Texts.{held, revision_of};
+
+    /// An empty workbench. It keeps the allocator for all its calls.
+    pub fn new(alloc: Global, limits: Limits) -> Bench
+        ensures { result ≡ record { most_units = limits.units; log = record { limit = limits.history; records = [] } } }
+    {
+        Bench {
+            alloc,
+            most_units: limits.units(),
+            history: History::new(alloc, limits.history()),
+            library: Library::new(alloc),
+            commits: 0,
+            entries: BTreeMap::new(alloc),
+            ready: BTreeSet::new(alloc),
+            keys: Vec::new(alloc),
+        }
+    }
+
+    /// How many calls are recorded. Each stored answer is the one that the machine gives there.
+    pub fn len(&self) -> usize
+        ensures len { result ≡ length self.now.log.records }
+        ensures replayed { IsReplay self.now }
+        ensures turns { AreTurns self.now.log.records }
+    {
+        self.history.len()
+    }
+
+    /// The record of this number, counted from 1: None at 0 and past the end.
+    pub fn record(&self, number: u64) -> Option<&Record>
+        ensures { option_map (λ it. it.now) result ≡ record_at self.now.log.records number }
+    {
+        self.history.record(number)
+    }
+
+    /// How many keys the present texts have.
+    pub fn key_count(&self) -> usize
+        ensures { result ≡ length (keys_of (state_of self.now).units) }
+    {
+        self.keys.len()
+    }
+
+    /// The key at a place, counted from 0, by kind and then by name.
+    #[tactic(auto, using(crate::proofs::Sorted::keys_rise))]
+    pub fn key_at(&self, place: usize) -> Option<Key>
+        ensures key { result ≡ slice_get (keys_of (state_of self.now).units) place }
+        ensures ordered { IsStrictlySortedBy key_cmp (keys_of (state_of self.now).units) }
+    {
+        self.keys.get(place).copied()
+    }
+
+    /// How many keys are pending.
+    pub fn pending_count(&self) -> usize
+        ensures { result ≡ count_by (state_of self.now).pending (keys_of (state_of self.now).units) }
+    {
+        self.keys.iter().filter(|key| self.waits(*key)).count()
+    }
+
+    // what is known of a key
+    fn shown(&self, key: &Key) -> Result<Asked, AllocError>
+        ensures { IfOk result (λ asked. shown_in asked ≡ shown (state_of self.now) key.now) }
+    {
+        match self.entries.get(key) {
+            None => Ok(Asked::NoSuchKey),
+            Some(entry) => match &entry.value {
+                None => Ok(Asked::Pending),
+                Some(value) => Ok(Asked::Value(value.clone()?)),
+            },
+        }
+    }
+
+    /// What is known of a key.
+    pub fn ask(&mut self, caller: u32, key: Key) -> Result<Asked, Refused>
+        ensures step { IfOk result (λ _. self.new ≡ recorded self.old caller (ToAsk key)) }
+        ensures answer { IfOk result (λ asked. OfAsk (shown_in asked) ≡ reply (state_of self.old) (ToAsk key)) }
+        ensures full { (result ≡ Err Refused.HistoryFull) ↔ (self.old.log.limit ≤ length self.old.log.records) }
+        ensures err { OnErr result (self.new ≡ self.old) }
+    {
+        let (answer, _share) = self.ask_recorded(caller, key)?;
+        Ok(answer)
+    }
+
+    // as `ask`, with a share of the record
+    fn ask_recorded(&mut self, caller: u32, key: Key) -> Result<(Asked, Arc<Record>), Refused>
+        ensures step { IfOk result (λ _. self.new ≡ recorded self.old caller (ToAsk key)) }
+        ensures answer { IfOk result (λ made. OfAsk (shown_in made.0) ≡ reply (state_of self.old) (ToAsk key)) }
+        ensures share { IfOk result (λ made. made.1.value ≡ record_of self.old caller (ToAsk key)) }
+        ensures full { (result ≡ Err Refused.HistoryFull) ↔ (self.old.log.limit ≤ length self.old.log.records) }
+        ensures err { OnErr result (self.new ≡ self.old) }
+    {
+        if self.history.is_full() {
+            return Err(Refused::HistoryFull);
+        }
+        let stored = self.shown(&key)?;
+        let answer = self.shown(&key)?;
+        let share = self
+            .history
+            .push(caller, Call::Ask(key), Reply::Asking(stored))?;
+        Ok((answer, share))
+    }
+
+    /// What is known of a key, lent and not recorded. It is pending exactly while no current result
+    /// has come since the last commit that made or reached the key, and else it is the value that the
+    /// present texts give from scratch.
+    pub fn peek(&self, key: &Key) -> Shown<'_>
+        ensures shown { shown_by result ≡ shown (state_of self.now) key.now }
+        ensures due { is_pending result ≡ is_due self.now key.now }
+        ensures entry { shown_by result ≡ entry_after self.now.most_units (calls_of self.now.log) key.now }
+    {
+        self.lent(key)
+    }
+
+    fn lent(&self, key: &Key) -> Shown<'_>
+        ensures { shown_by result ≡ shown (state_of self.now) key.now }
+    {
+        match self.entries.get(key) {
+            None => Shown::NoSuchKey,
+            Some(entry) => match &entry.value {
+                None => Shown::Pending,
+                Some(value) => Shown::Value(value),
+            },
+        }
+    }
+
+    /// The revision of a unit, or 0 where it is absent.
+    pub fn revision(&self, unit: &Name) -> u64
+        ensures { result ≡ revision_of (held (state_of self.now).units unit.now) }
+    {
+        self.library.revision(unit)
+    }
+
+    // the least key that is pending and not handed out
+    fn next(&self) -> Option<Key>
+        ensures { result ≡ next (state_of self.now) }
+    {
+        match self.ready.first() {
+            Some(key) => Some(*key),
+            None => None,
+        }
+    }
+
+    /// Hands out a job for the least key that is pending and not handed out.
+    pub fn take(&mut self, caller: u32) -> Result<Taken, Refused>
+        ensures step { IfOk result (λ _. self.new ≡ recorded self.old caller ToTake) }
+        ensures answer { IfOk result (λ taken. OfTake (job_in taken) ≡ reply (state_of self.old) ToTake) }
+        ensures full { (result ≡ Err Refused.HistoryFull) ↔ (self.old.log.limit ≤ length self.old.log.records) }
+        ensures err { OnErr result (self.new ≡ self.old) }
+    {
+        let (answer, _share) = self.take_recorded(caller)?;
+        Ok(answer)
+    }
+
+    // as `take`, with a share of the record
+    fn take_recorded(&mut self, caller: u32) -> Result<(Taken, Arc<Record>), Refused>
+        ensures step { IfOk result (λ _. self.new ≡ recorded self.old caller ToTake) }
+        ensures answer { IfOk result (λ made. OfTake (job_in made.0) ≡ reply (state_of self.old) ToTake) }
+        ensures share { IfOk result (λ made. made.1.value ≡ record_of self.old caller (ToTake)) }
+        ensures full { (result ≡ Err Refused.HistoryFull) ↔ (self.old.log.limit ≤ length self.old.log.records) }
+        ensures err { OnErr result (self.new ≡ self.old) }
+    {
+        if self.history.is_full() {
+            return Err(Refused::HistoryFull);
+        }
+        match self.next() {
+            None => {
+                let share = self.history.push(caller, Call::Take, Reply::Taking(None))?;
+                Ok((Taken::Nothing, share))
+            }
+            Some(key) => {
+                let wanted = key;
+                let job = Job::make(self.alloc, &self.library, wanted)?;
+                let reads = Read::copies(self.alloc, job.reads())?;
+                let wanted = Wanted {
+                    key: job.key(),
+                    reads,
+                };
+                let stored = Reply::Taking(Some(wanted));
+                let share = self.history.push(caller, Call::Take, stored)?;
+                mark_out(&mut self.entries, &key, true);
+                leave(&mut self.ready, &key);
+                Ok((Taken::Job(job), share))
+            }
+        }
+    }
+
+    /// Changes the texts, or says what is first against it. More than sixteen changes are too many,
+    /// and only the first seventeen are recorded then.
+    pub fn commit(&mut self, caller: u32, changes: &[Change]) -> Result<Committed, Refused>
+        ensures step { IfOk result (λ _. self.new ≡ recorded self.old caller (ToCommit (listed changes.now))) }
+        ensures answer { IfOk result (λ answer. OfCommit answer ≡ reply (state_of self.old) (ToCommit (listed changes.now))) }
+        ensures full { (result ≡ Err Refused.HistoryFull) ↔ (self.old.log.limit ≤ length self.old.log.records) }
+        ensures err { OnErr result (self.new ≡ self.old) }
+    {
+        let (answer, _share) = self.commit_recorded(caller, changes)?;
+        Ok(answer)
+    }
+
+    // as `commit`, with a share of the record
+    fn commit_recorded(
+        &mut self,
+        caller: u32,
+        changes: &[Change],
+    ) -> Result<(Committed, Arc<Record>), Refused>
+        ensures step { IfOk result (λ _. self.new ≡ recorded self.old caller (ToCommit (listed changes.now))) }
+        ensures answer { IfOk result (λ made. OfCommit made.0 ≡ reply (state_of self.old) (ToCommit (listed changes.now))) }
+        ensures share { IfOk result (λ made. made.1.value ≡ record_of self.old caller (ToCommit (listed changes.now))) }
+        ensures full { (result ≡ Err Refused.HistoryFull) ↔ (self.old.log.limit ≤ length self.old.log.records) }
+        ensures err { OnErr result (self.new ≡ self.old) }
+    {
+        if self.history.is_full() {
+            return Err(Refused::HistoryFull);
+        }
+        let changes = first_changes(changes);
+        let call = Call::Commit(Change::copies(self.alloc, changes)?);
+        match refusal(&self.library, changes) {
+            Some(refused) => {
+                let stored = refused;
+                let share = self.history.push(caller, call, Reply::Committing(stored))?;
+                Ok((refused, share))
+            }
+            None => {
+                let number = self.commits + 1;
+                let library = self.library.edited(number, changes)?;
+                if self.most_units < library.len() as u64 {
+                    let stored = Reply::Committing(Committed::TooManyUnits);
+                    let share = self.history.push(caller, call, stored)?;
+                    return Ok((Committed::TooManyUnits, share));
+                }
+                let (entries, ready) = rebuilt(self.alloc, &library, changes, &self.entries)?;
+                let keys = present_keys(self.alloc, &library)?;
+                let stored = Reply::Committing(Committed::Done(number));
+                let share = self.history.push(caller, call, stored)?;
+                self.library = library;
+                self.commits = number;
+                self.keys = keys;
+                self.entries = entries;
+                self.ready = ready;
+                Ok((Committed::Done(number), share))
+            }
+        }
+    }
+
+    /// Takes a result in, if its key waits for one and all that it has read is as it was.
+    pub fn deliver(&mut self, caller: u32, finished: &Finished) -> Result<Delivered, Refused>
+        ensures step { IfOk result (λ _. self.new ≡ recorded self.old caller (ToDeliver finished.now)) }
+        ensures answer { IfOk result (λ answer. OfDeliver answer ≡ reply (state_of self.old) (ToDeliver finished.now)) }
+        ensures full { (result ≡ Err Refused.HistoryFull) ↔ (self.old.log.limit ≤ length self.old.log.records) }
+        ensures err { OnErr result (self.new ≡ self.old) }
+    {
+        let (answer, _share) = self.deliver_recorded(caller, finished)?;
+        Ok(answer)
+    }
+
+    // as `deliver`, with a share of the record
+    fn deliver_recorded(
+        &mut self,
+        caller: u32,
+        finished: &Finished,
+    ) -> Result<(Delivered, Arc<Record>), Refused>
+        ensures step { IfOk result (λ _. self.new ≡ recorded self.old caller (ToDeliver finished.now)) }
+        ensures answer { IfOk result (λ made. OfDeliver made.0 ≡ reply (state_of self.old) (ToDeliver finished.now)) }
+        ensures share { IfOk result (λ made. made.1.value ≡ record_of self.old caller (ToDeliver finished.now)) }
+        ensures full { (result ≡ Err Refused.HistoryFull) ↔ (self.old.log.limit ≤ length self.old.log.records) }
+        ensures err { OnErr result (self.new ≡ self.old) }
+    {
+        if self.history.is_full() {
+            return Err(Refused::HistoryFull);
+        }
+        let answer = self.judged(finished.key(), finished.reads());
+        let reads = Read::copies(self.alloc, finished.reads())?;
+        let call = Call::Deliver(Wanted {
+            key: finished.key(),
+            reads,
+        });
+        match answer {
+            Delivered::Accepted => {
+                let value = finished.value().clone()?;
+                let share = self
+                    .history
+                    .push(caller, call, Reply::Delivering(Delivered::Accepted))?;
+                let key = finished.key();
+                keep(&mut self.entries, &key, value);
+                leave(&mut self.ready, &key);
+                current_reads();
+                Ok((Delivered::Accepted, share))
+            }
+            refused => {
+                let stored = refused;
+                let share = self.history.push(caller, call, Reply::Delivering(stored))?;
+                Ok((refused, share))
+            }
+        }
+    }
+
+    /// Whether the key is handed out.
+    pub fn is_out(&self, key: &Key) -> bool
+        ensures { result ≡ (state_of self.now).out key.now }
+    {
+        match self.entries.get(key) {
+            None => false,
+            Some(entry) => entry.out,
+        }
+    }
+
+    // whether the key waits for a result
+    fn waits(&self, key: &Key) -> bool
+        ensures { result ≡ (state_of self.now).pending key.now }
+    {
+        match self.entries.get(key) {
+            None => false,
+            Some(entry) => entry.value.is_none(),
+        }
+    }
+
+    /// Ends that a key is handed out.
+    pub fn give_back(&mut self, caller: u32, key: Key) -> Result<GivenBack, Refused>
+        ensures step { IfOk result (λ _. self.new ≡ recorded self.old caller (ToGiveBack key)) }
+        ensures answer { IfOk result (λ answer. OfGiveBack answer ≡ reply (state_of self.old) (ToGiveBack key)) }
+        ensures full { (result ≡ Err Refused.HistoryFull) ↔ (self.old.log.limit ≤ length self.old.log.records) }
+        ensures err { OnErr result (self.new ≡ self.old) }
+    {
+        let (answer, _share) = self.give_back_recorded(caller, key)?;
+        Ok(answer)
+    }
+
+    // as `give_back`, with a share of the record
+    fn give_back_recorded(
+        &mut self,
+        caller: u32,
+        key: Key,
+    ) -> Result<(GivenBack, Arc<Record>), Refused>
+        ensures step { IfOk result (λ _. self.new ≡ recorded self.old caller (ToGiveBack key)) }
+        ensures answer { IfOk result (λ made. OfGiveBack made.0 ≡ reply (state_of self.old) (ToGiveBack key)) }
+        ensures share { IfOk result (λ made. made.1.value ≡ record_of self.old caller (ToGiveBack key)) }
+        ensures full { (result ≡ Err Refused.HistoryFull) ↔ (self.old.log.limit ≤ length self.old.log.records) }
+        ensures err { OnErr result (self.new ≡ self.old) }
+    {
+        if self.history.is_full() {
+            return Err(Refused::HistoryFull);
+        }
+        let call = Call::GiveBack(key);
+        if !self.is_out(&key) {
+            let share = self
+                .history
+                .push(caller, call, Reply::GivingBack(GivenBack::NothingOut))?;
+            return Ok((GivenBack::NothingOut, share));
+        }
+        if !self.waits(&key) {
+            let share = self
+                .history
+                .push(caller, call, Reply::GivingBack(GivenBack::Returned))?;
+            mark_out(&mut self.entries, &key, false);
+            return Ok((GivenBack::Returned, share));
+        }
+        join(&mut self.ready, &key)?;
+        match self
+            .history
+            .push(caller, call, Reply::GivingBack(GivenBack::Returned))
+        {
+            Ok(share) => {
+                mark_out(&mut self.entries, &key, false);
+                Ok((GivenBack::Returned, share))
+            }
+            Err(_) => {
+                leave(&mut self.ready, &key);
+                Err(Refused::Memory)
+            }
+        }
+    }
+
+    /// Makes any call. It gives a share of the record, and the job that is then handed out.
+    pub fn perform(
+        &mut self,
+        caller: u32,
+        request: &Request<'_>,
+    ) -> Result<(Arc<Record>, Option<Job>), Refused>
+        ensures step { IfOk result (λ _. self.new ≡ recorded self.old caller (call_for request.now)) }
+        ensures share { IfOk result (λ made. made.0.value ≡ record_of self.old caller (call_for request.now)) }
+        ensures job { IfOk result (λ made. made.1 ≡ job_of (reply (state_of self.old) (call_for request.now))) }
+        ensures full { (result ≡ Err Refused.HistoryFull) ↔ (self.old.log.limit ≤ length self.old.log.records) }
+        ensures err { OnErr result (self.new ≡ self.old) }
+    {
+        match request {
+            Request::Commit(changes) => {
+                let (_, share) = self.commit_recorded(caller, *changes)?;
+                Ok((share, None))
+            }
+            Request::Take => {
+                let (taken, share) = self.take_recorded(caller)?;
+                Ok((share, job_from(taken)))
+            }
+            Request::Deliver(finished) => {
+                let (_, share) = self.deliver_recorded(caller, *finished)?;
+                Ok((share, None))
+            }
+            Request::GiveBack(key) => {
+                let (_, share) = self.give_back_recorded(caller, *key)?;
+                Ok((share, None))
+            }
+            Request::Ask(key) => {
+                let (_, share) = self.ask_recorded(caller, *key)?;
+                Ok((share, None))
+            }
+        }
+    }
+
+    // whether a result is taken in, by what the library has now
+    fn judged(&self, key: Key, reads: &[Read]) -> Delivered
+        ensures { result ≡ deliver_answer (state_of self.now) (record { key = key; reads = all_seen reads.now }) }
+    {
+        match self.entries.get(&key) {
+            None => Delivered::NoSuchKey,
+            Some(entry) => {
+                if entry.value.is_some() {
+                    return Delivered::NotPending;
+                }
+                match first_stale(&self.library, reads) {
+                    Some(name) => Delivered::Stale(name),
+                    None => Delivered::Accepted,
+                }
+            }
+        }
+    }
+}
+
+// the job that is handed out
+fn job_from(taken: Taken) -> Option<Job>
+    ensures { result ≡ job_in taken }
+{
+    match taken {
+        Taken::Job(job) => Some(job),
+        Taken::Nothing => None,
+    }
+}
+
+// the first read that is not as the library has it
+fn first_stale(library: &Library, reads: &[Read]) -> Option<Name>
+    ensures { result ≡ stale library.now (all_seen reads.now) }
+{
+    for read in reads {
+        if !is_current(library, read) {
+            return Some(read.name);
+        }
+    }
+    None
+}
+
+// absent now as then, or present with the same revision and the same text
+fn is_current(library: &Library, read: &Read) -> bool
+    ensures { result ≡ is_current library.now (seen_of read.now) }
+{
+    match (library.source(&read.name), &read.source) {
+        (None, None) => true,
+        (Some(now), Some(then)) => library.revision(&read.name) == read.revision
+            && now.text() == then.text(),
+        _ => false,
+    }
+}

@@ -1,0 +1,102 @@
+ghost use Rattle.std.specs.Prelude.{◌≡◌};
+ghost use Rattle.fb_bench.specs.Refusals.{as_desk};
+
+use crate::answers::{Asked, Committed, Delivered, GivenBack, Refused, Taken};
+use crate::bench::Bench;
+use fb_jobs::{Finished, Key};
+use fb_library::Change;
+
+/// Why a desk does not record a call.
+#[derive(Clone, Copy, PartialEq, Eq, Debug)]
+pub enum DeskRefused {
+    /// As many calls are recorded as the limits allow.
+    HistoryFull,
+    /// The history is shorter than what this desk has already seen of it.
+    Behind,
+    /// Memory was refused, and nothing has changed.
+    Memory,
+}
+
+/// The five recorded calls, as one session makes them.
+pub trait Desk {
+    ghost use Rattle.fb_bench.specs.Machine.{Call, ToCommit, ToTake, ToDeliver, ToGiveBack, ToAsk, OfCommit, OfDeliver, OfGiveBack};
+    ghost use Rattle.fb_bench.specs.Records.{listed};
+    ghost use Rattle.fb_bench.specs.Calls.{Answer, Serves, take_reply, ask_reply};
+
+    /// From the first desk the call may be answered so, and leave the second.
+    ghost step: { Self → Call → Answer → Self → Type 0 };
+
+    /// Changes the texts, or says what is first against it.
+    fn commit(&mut self, changes: &[Change]) -> Result<Committed, DeskRefused>
+        ensures { Serves step self.old (ToCommit (listed changes.now)) OfCommit result self.new };
+
+    /// Hands out a job for the least key that is pending and not handed out.
+    fn take(&mut self) -> Result<Taken, DeskRefused>
+        ensures { Serves step self.old ToTake take_reply result self.new };
+
+    /// Takes a result in, if its key waits for one and all that it has read is as it was.
+    fn deliver(&mut self, finished: &Finished) -> Result<Delivered, DeskRefused>
+        ensures { Serves step self.old (ToDeliver finished.now) OfDeliver result self.new };
+
+    /// Ends that a key is handed out.
+    fn give_back(&mut self, key: Key) -> Result<GivenBack, DeskRefused>
+        ensures { Serves step self.old (ToGiveBack key) OfGiveBack result self.new };
+
+    /// What is known of a key.
+    fn ask(&mut self, key: Key) -> Result<Asked, DeskRefused>
+        ensures { Serves step self.old (ToAsk key) ask_reply result self.new };
+}
+
+/// A workbench as the desk of one caller. It is never behind.
+#[derive(Drop)]
+pub struct Solo<'a> {
+    pub bench: &'a mut Bench,
+    pub caller: u32,
+}
+
+impl<'a> Solo<'a> {
+    /// The desk of this caller, which records in the workbench.
+    pub fn new(bench: &'a mut Bench, caller: u32) -> Solo<'a>
+        ensures same_reference { result.bench.ghost_name ≡ bench.entry.ghost_name }
+        ensures bench { result.bench.now ≡ bench.old }
+        ensures caller { result.caller ≡ caller }
+    {
+        Solo { bench, caller }
+    }
+}
+
+fn as_desk<T>(answer: Result<T, Refused>) -> Result<T, DeskRefused>
+    ensures { result ≡ as_desk answer }
+{
+    match answer {
+        Ok(answer) => Ok(answer),
+        Err(Refused::HistoryFull) => Err(DeskRefused::HistoryFull),
+        Err(Refused::Memory) => Err(DeskRefused::Memory),
+    }
+}
+
+impl Desk for Solo<'_> {
+    ghost use Rattle.fb_bench.specs.Solo.{SoloStep};
+
+    ghost step = { SoloStep };
+
+    fn commit(&mut self, changes: &[Change]) -> Result<Committed, DeskRefused> {
+        as_desk(self.bench.commit(self.caller, changes))
+    }
+
+    fn take(&mut self) -> Result<Taken, DeskRefused> {
+        as_desk(self.bench.take(self.caller))
+    }
+
+    fn deliver(&mut self, finished: &Finished) -> Result<Delivered, DeskRefused> {
+        as_desk(self.bench.deliver(self.caller, finished))
+    }
+
+    fn give_back(&mut self, key: Key) -> Result<GivenBack, DeskRefused> {
+        as_desk(self.bench.give_back(self.caller, key))
+    }
+
+    fn ask(&mut self, key: Key) -> Result<Asked, DeskRefused> {
+        as_desk(self.bench.ask(self.caller, key))
+    }
+}

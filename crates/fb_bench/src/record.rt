@@ -1,0 +1,91 @@
+use crate::answers::{Asked, Committed, Delivered, GivenBack};
+use fb_jobs::{Finished, Key, Read};
+use fb_library::Change;
+use std::marker::Model;
+
+/// A key with what a job for it has read.
+#[derive(Drop)]
+pub struct Wanted {
+    pub key: Key,
+    pub reads: Vec<Read>,
+}
+
+/// A recorded call.
+#[derive(Drop)]
+pub enum Call {
+    Commit(Vec<Change>),
+    Take,
+    Deliver(Wanted),
+    GiveBack(Key),
+    Ask(Key),
+}
+
+/// The answer to a recorded call.
+#[derive(Drop)]
+pub enum Reply {
+    Committing(Committed),
+    Taking(Option<Wanted>),
+    Delivering(Delivered),
+    GivingBack(GivenBack),
+    Asking(Asked),
+}
+
+/// One call of the history. `turn` counts its caller's recorded calls up to this one.
+#[derive(Drop)]
+pub struct Record {
+    pub(crate) caller: u32,
+    pub(crate) turn: u64,
+    pub(crate) call: Call,
+    pub(crate) reply: Reply,
+}
+
+impl Model for Record {
+    ghost use Rattle.fb_bench.specs.Story as story;
+
+    ghost Value = { story.Record };
+
+    ghost use Rattle.fb_bench.specs.Records.{call_of, reply_of};
+
+    ghost view = { λ it. record { caller = it.caller; turn = it.turn; call = call_of it.call; reply = reply_of it.reply } };
+}
+
+impl Record {
+    ghost use Rattle.std.specs.Prelude.{◌≡◌};
+    ghost use Rattle.fb_bench.specs.Records.{call_of, reply_of};
+
+    /// Who made the call.
+    pub fn caller(&self) -> u32
+        ensures { result ≡ self.now.caller }
+    {
+        self.caller
+    }
+
+    /// How many recorded calls its caller had made then, this one included.
+    pub fn turn(&self) -> u64
+        ensures { result ≡ self.now.turn }
+    {
+        self.turn
+    }
+
+    pub fn call(&self) -> &Call
+        ensures { call_of result.now ≡ self.now.call }
+    {
+        &self.call
+    }
+
+    pub fn reply(&self) -> &Reply
+        ensures { reply_of result.now ≡ self.now.reply }
+    {
+        &self.reply
+    }
+}
+
+/// A call to be made.
+#[derive(Clone, Copy)]
+pub enum Request<'a> {
+    Commit(&'a [Change]),
+    Take,
+    Deliver(&'a Finished),
+    GiveBack(Key),
+    Ask(Key),
+}

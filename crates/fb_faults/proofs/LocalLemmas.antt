@@ -1,0 +1,62 @@
+-- The faults of a unit depend on the texts of the unit and of its mentions alone.
+use Rattle.std.proofs.Common.{◌≡◌, ℕ, List, [], ◌∷◌, ◌++◌, Option, Some, None, refl, ap, ◌∙◌, subst, arith}
+use Rattle.std.specs.FinMap.{get, slice_cmp-IsAntisymmetric, nat_cmp-IsAntisymmetric}
+use Rattle.std.specs.Cmp.Lexicographic.{nat_list_cmp_total}
+use Rattle.std.specs.List.{Contains, flat_map}
+use Rattle.std.specs.Option.{option_and_then}
+use Rattle.std.proofs.lemmas.List.{map-append}
+use Rattle.std.proofs.lemmas.List.Elements.{Contains-append_left, Contains-append_right}
+use Rattle.fb_text.specs.Order.{name_cmp, names_in_order}
+use Rattle.fb_text.proofs.OrderLemmas.{in_order-members}
+use Rattle.fb_tree.specs.Mentions.{mentioned_in, types_in}
+use Rattle.fb_tree.specs.Tree.{ApplicationTree, DeclTree, InstanceTree, block_type, adapter_type, subapplication_type, system_configuration}
+use Rattle.fb_library.specs.View.{Sources, mentions_at, mentions_in, near_of, tree_at, tree_of}
+use Rattle.fb_library.proofs.LocalLemmas.{near_unit}
+use Rattle.fb_iface.specs.Declarations.{declaration_faults, duplicate_faults, literal_faults_of, mixed_faults, name_faults, with_faults_of}
+use Rattle.fb_iface.specs.Fault.{faults_in_order}
+use Rattle.fb_iface.specs.Types.{instance_faults, instances_of, type_fault, type_faults}
+use Rattle.fb_faults.specs.Faults.{FaultsAreLocal, text_faults}
+
+first_contained : {A : Type 0} (x : A) (xs : List A) → Contains (x ∷ xs) x
+first_contained x xs = (0, omega arith, refl)
+
+-- a list in order has its members
+in_order_has : (names : List (List ℕ)) (name : List ℕ) → Contains names name → Contains (names_in_order names) name
+in_order_has names name h = (in_order-members name_cmp nat_list_cmp_total (slice_cmp-IsAntisymmetric nat_cmp-IsAntisymmetric) names name).1 h
+
+near_mention : (sources : Sources) (unit name : List ℕ) → Contains (mentions_at sources unit) name → Contains (near_of sources unit) name
+near_mention sources unit name h =
+    in_order_has (mentions_at sources unit ++ unit ∷ []) name (Contains-append_left (mentions_at sources unit) (unit ∷ []) name h)
+
+types_in-applications : (applications : List ApplicationTree) → types_in (flat_map (λ a. a.network.instances) applications) ≡ flat_map (λ a. types_in a.network.instances) applications
+types_in-applications [] = refl
+types_in-applications (a ∷ others) =
+    map-append (λ (i : InstanceTree). i.type_name.name) a.network.instances (flat_map (λ a. a.network.instances) others)
+    ∙ ap (λ l. types_in a.network.instances ++ l) (types_in-applications others)
+
+-- the mentions are the types of the instances
+types_mentioned : (decl : DeclTree) → types_in (instances_of decl) ≡ mentioned_in decl
+types_mentioned (block_type d) = refl
+types_mentioned (adapter_type d) = refl
+types_mentioned (subapplication_type d) = refl
+types_mentioned (system_configuration s) = types_in-applications s.applications
+
+module _ (a b : Sources) where
+  types_local : (instances : List InstanceTree) → ((name : List ℕ) → Contains (types_in instances) name → get a name ≡ get b name) → flat_map (instance_faults a) instances ≡ flat_map (instance_faults b) instances
+  types_local [] agree = refl
+  types_local (x ∷ xs) agree =
+      let own = agree x.type_name.name (first_contained x.type_name.name (types_in xs)) in
+      let others = types_local xs (λ name h. agree name (Contains-append_right (x.type_name.name ∷ []) (types_in xs) name h)) in
+      λ i. type_fault x.role x.type_name (option_and_then tree_of (own i)) ++ others i
+
+  declared_local : (unit : List ℕ) (tree : Option DeclTree) → ((name : List ℕ) → Contains (mentions_in tree) name → get a name ≡ get b name) → declaration_faults a unit tree ≡ declaration_faults b unit tree
+  declared_local unit None agree = refl
+  declared_local unit (Some decl) agree =
+      let types : type_faults a decl ≡ type_faults b decl = types_local (instances_of decl) (λ name h. agree name (in_order_has (mentioned_in decl) name (subst (λ l. Contains l name) (types_mentioned decl) h))) in
+      λ i. name_faults unit decl ++ duplicate_faults decl ++ mixed_faults decl ++ types i ++ with_faults_of decl ++ literal_faults_of decl
+
+pub faults_local : FaultsAreLocal
+faults_local a b unit agree =
+    let own = agree unit (near_unit a unit) in
+    let declared = declared_local a b unit (tree_at a unit) (λ name h. agree name (near_mention a unit name h)) ∙ ap (λ o. declaration_faults b unit (option_and_then tree_of o)) own in
+    λ i. faults_in_order (text_faults (own i) ++ declared i)

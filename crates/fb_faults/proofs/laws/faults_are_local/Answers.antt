@@ -1,0 +1,5 @@
+use Rattle.fb_faults.proofs.LocalLemmas.{faults_local}
+use Rattle.fb_faults.proofs.laws.faults_are_local.Goals as goal
+
+pub returns : goal.returns
+returns c = faults_local

@@ -1,0 +1,11 @@
+//! All faults of a unit.
+#![tactic(auto)]
+
+mod all;
+mod laws;
+
+pub use all::faults;
+pub use laws::faults_are_local;
+
+#[cfg(test)]
+mod tests;

@@ -1,0 +1,38 @@
+-- Literals by the kinds of their tokens.
+use Rattle.std.specs.Prelude.{List, [], ◌∷◌}
+use Rattle.fb_text.specs.declared.token.Span.{Span}
+use Rattle.fb_text.specs.declared.elementary.TypeClass.TheVariants as class
+use Rattle.fb_lexemes.specs.declared.kind.Kind.{Kind}
+use Rattle.fb_lexemes.specs.declared.kind.Kind.TheVariants.{Zero, One, Number, RealNumber, TypedTruth, TypedInteger, TypedBits, TypedFree, TypedOther, Text}
+use Rattle.fb_lexemes.specs.declared.lexeme.Lexeme.{Lexeme}
+use Rattle.fb_tree.specs.declared.constant.Literal.{Literal}
+use Rattle.fb_tree.specs.declared.constant.LiteralForm.{LiteralForm}
+use Rattle.fb_tree.specs.declared.constant.LiteralForm.TheVariants as form
+
+-- NUMBER
+abbrev pub number_kinds : List Kind
+number_kinds = Zero ∷ One ∷ Number ∷ RealNumber ∷ []
+
+-- TYPED
+abbrev pub typed_kinds : List Kind
+typed_kinds = TypedTruth ∷ TypedInteger ∷ TypedBits ∷ TypedFree ∷ TypedOther ∷ []
+
+abbrev pub literal_form : Kind → LiteralForm
+literal_form Zero = form.Bit
+literal_form One = form.Bit
+literal_form Number = form.Whole
+literal_form RealNumber = form.Real
+literal_form TypedTruth = form.Typed class.Truth
+literal_form TypedInteger = form.Typed class.Integer
+literal_form TypedBits = form.Typed class.Bits
+literal_form TypedFree = form.Typed class.Free
+literal_form TypedOther = form.Typed class.Other
+literal_form Text = form.Text
+literal_form _ = form.Truth
+
+abbrev pub literal_use : Lexeme → Literal
+literal_use token = record { form = literal_form token.kind; span = token.span }
+
+-- from the start of one to the end of the other
+abbrev pub across : Span → Span → Span
+across a b = record { start = a.start; end = b.end }

@@ -1,0 +1,54 @@
+-- One more name in a name space.
+use Rattle.std.proofs.Common.{◌≡◌, ℕ, ◌+◌, ◌<◌, Bool, true, false, cond, ◌||◌, List, [], ◌∷◌, ◌++◌, length, get_or, take, refl, sym, ap, ◌∙◌, append-nil}
+use Rattle.std.specs.BTreeMap.{is_at}
+use Rattle.std.specs.BTreeSet.{BTreeSet, contains, Updates}
+use Rattle.std.proofs.lemmas.List.{map-append}
+use Rattle.fb_text.specs.Order.{name_cmp}
+use Rattle.fb_text.specs.declared.name.NameUse.{NameUse}
+use Rattle.fb_iface.specs.declared.code.Code.{Code}
+use Rattle.fb_iface.specs.Fault.{fault_at, faults_at}
+use Rattle.fb_iface.proofs.PlaceLemmas.{passing, passing-all, passing-more}
+use Rattle.fb_iface.specs.Names.{has_name, is_repeated, is_same, repeated}
+
+or_assoc : (a b c : Bool) → (a || (b || c)) ≡ ((a || b) || c)
+or_assoc true b c = refl
+or_assoc false b c = refl
+
+or_false : (a : Bool) → (a || false) ≡ a
+or_false true = refl
+or_false false = refl
+
+has_name-push : (xs : List NameUse) (x : NameUse) (q : List ℕ) → has_name (xs ++ x ∷ []) q ≡ (has_name xs q || is_same x.name q)
+has_name-push [] x q = or_false (is_same x.name q)
+has_name-push (y ∷ xs) x q = ap (λ b. is_same y.name q || b) (has_name-push xs x q) ∙ or_assoc (is_same y.name q) (has_name xs q) (is_same x.name q)
+
+true_or : (b c : Bool) → cond b true c ≡ (c || b)
+true_or true true = refl
+true_or true false = refl
+true_or false true = refl
+true_or false false = refl
+
+-- a set that holds the names so far holds them with one more
+pub noted-push : (xs : List NameUse) (x : NameUse) (old new : BTreeSet (List ℕ)) → ((q : List ℕ) → contains name_cmp old q ≡ has_name xs q) → Updates name_cmp old new x.name true → (q : List ℕ) → contains name_cmp new q ≡ has_name (xs ++ x ∷ []) q
+noted-push xs x old new noted updates q =
+    updates.0 q
+    ∙ (λ i. cond (is_at (name_cmp x.name) q) true (noted q i))
+    ∙ true_or (is_at (name_cmp x.name) q) (has_name xs q)
+    ∙ sym (has_name-push xs x q)
+
+-- second and later declarations among the first n of the names
+abbrev pub repeated_among : ℕ → List NameUse → List NameUse
+repeated_among n names = passing (is_repeated names) n names
+
+pub repeated_all : (names : List NameUse) → repeated_among (length names) names ≡ repeated names
+repeated_all names = passing-all (is_repeated names) names
+
+-- a name that stands before is reported
+pub reported-again : (code : Code) (names : List NameUse) (n : ℕ) (x : NameUse) → n < length names → x ≡ get_or names n x → has_name (take n names) x.name ≡ true → faults_at code (repeated_among (n + 1) names) ≡ faults_at code (repeated_among n names) ++ fault_at code x ∷ []
+reported-again code names n x within here e =
+    ap (faults_at code) (passing-more (is_repeated names) names n x true within here e) ∙ map-append (fault_at code) (repeated_among n names) (x ∷ [])
+
+-- and no other
+pub reported-first : (code : Code) (names : List NameUse) (n : ℕ) (x : NameUse) → n < length names → x ≡ get_or names n x → has_name (take n names) x.name ≡ false → faults_at code (repeated_among (n + 1) names) ≡ faults_at code (repeated_among n names)
+reported-first code names n x within here e =
+    ap (faults_at code) (passing-more (is_repeated names) names n x false within here e ∙ append-nil (repeated_among n names))

@@ -1,0 +1,75 @@
+-- One more declaration in a table of first declarations.
+use Rattle.std.proofs.Common.{◌≡◌, ℕ, Bool, true, false, cond, not, nat_eq, ◌+◌, ◌<◌, length, get_or, take, is_none, List, [], ◌∷◌, ◌++◌, refl, sym, ap, ◌∙◌, Option, Some, None, is_some}
+use Rattle.std.specs.Option.{option_or}
+use Rattle.std.specs.Cmp.Lexicographic.{pointwise, nat_list_eq_equiv, same_text}
+use Rattle.std.specs.Map.{lookup}
+use Rattle.fb_text.proofs.OrderLemmas.{same_name}
+use Rattle.fb_iface.proofs.PlaceLemmas.{passing, passing-all, passing-more}
+use Rattle.fb_iface.specs.Names.{first_ones, is_same, stands_for}
+
+is_it : (x q : List ℕ) → is_same x q ≡ true → q ≡ x
+is_it x q e = sym (same_text x q (sym (same_name x q ∙ e)))
+
+module _ {D : Type 0} where
+  -- what an appended declaration changes
+  stands_for-push : (xs : List (List ℕ × D)) (x : List ℕ × D) (q : List ℕ) → stands_for (xs ++ x ∷ []) q ≡ option_or (stands_for xs q) (cond (is_same x.0 q) (Some x.1) None)
+  stands_for-push [] x q = refl
+  stands_for-push (y ∷ xs) x q = by (is_same y.0 q) (stands_for-push xs x q)
+    where
+      by : (b : Bool) → stands_for (xs ++ x ∷ []) q ≡ option_or (stands_for xs q) (cond (is_same x.0 q) (Some x.1) None) → cond b (Some y.1) (stands_for (xs ++ x ∷ []) q) ≡ option_or (cond b (Some y.1) (stands_for xs q)) (cond (is_same x.0 q) (Some x.1) None)
+      by true e = refl
+      by false e = e
+
+  the_new : (b : Bool) (v : D) (o : Option D) → (b ≡ true → o ≡ None) → cond b (Some v) o ≡ option_or o (cond b (Some v) None)
+  the_new true v o absent = ap (λ a. option_or a (Some v)) (sym (absent refl))
+  the_new false v None absent = refl
+  the_new false v (Some w) absent = refl
+
+  the_old : (b : Bool) (v : D) (o : Option D) → (b ≡ true → is_some o ≡ true) → o ≡ option_or o (cond b (Some v) None)
+  the_old b v (Some w) there = refl
+  the_old true v None there = absurd (let e : false ≡ true = there refl in let no : ⊥ = cc in no)
+  the_old false v None there = refl
+
+  pub none : (o : Option D) → is_some o ≡ false → o ≡ None
+  none None e = refl
+  none (Some v) e = absurd (let no : ⊥ = cc in no)
+
+  -- a name that is new stands for its declaration from then on
+  pub known-new : (xs : List (List ℕ × D)) (x : List ℕ × D) (old new : List ℕ → Option D) → ((q : List ℕ) → old q ≡ stands_for xs q) → is_some (old x.0) ≡ false → ((q : List ℕ) → new q ≡ cond (pointwise nat_eq x.0 q) (Some x.1) (old q)) → (q : List ℕ) → new q ≡ stands_for (xs ++ x ∷ []) q
+  known-new xs x old new known absent updates q =
+      updates q
+      ∙ (λ i. cond (same_name x.0 q i) (Some x.1) (known q i))
+      ∙ the_new (is_same x.0 q) x.1 (stands_for xs q) (λ e. ap (stands_for xs) (is_it x.0 q e) ∙ sym (known x.0) ∙ none (old x.0) absent)
+      ∙ sym (stands_for-push xs x q)
+
+  -- a name that is known stands for what it stood for
+  pub known-old : (xs : List (List ℕ × D)) (x : List ℕ × D) (old : List ℕ → Option D) → ((q : List ℕ) → old q ≡ stands_for xs q) → is_some (old x.0) ≡ true → (q : List ℕ) → old q ≡ stands_for (xs ++ x ∷ []) q
+  known-old xs x old known there q =
+      known q
+      ∙ the_old (is_same x.0 q) x.1 (stands_for xs q) (λ e. ap (λ n. is_some (stands_for xs n)) (is_it x.0 q e) ∙ ap is_some (sym (known x.0)) ∙ there)
+      ∙ sym (stands_for-push xs x q)
+
+  -- the first declarations among the first n
+  abbrev pub first_among : ℕ → List (List ℕ × D) → List (List ℕ × D)
+  first_among n declarations = passing (λ placed. is_none (stands_for (take placed.0 declarations) placed.1.0)) n declarations
+
+  pub first_all : (declarations : List (List ℕ × D)) → first_among (length declarations) declarations ≡ first_ones declarations
+  first_all declarations = passing-all (λ placed. is_none (stands_for (take placed.0 declarations) placed.1.0)) declarations
+
+  none_or_some : (o : Option D) → is_none o ≡ not (is_some o)
+  none_or_some None = refl
+  none_or_some (Some v) = refl
+
+  pub first-more : (declarations : List (List ℕ × D)) (n : ℕ) (x : List ℕ × D) (b : Bool) → n < length declarations → x ≡ get_or declarations n x → is_some (stands_for (take n declarations) x.0) ≡ not b → first_among (n + 1) declarations ≡ first_among n declarations ++ cond b (x ∷ []) []
+  first-more declarations n x b within here e =
+      passing-more (λ placed. is_none (stands_for (take placed.0 declarations) placed.1.0)) declarations n x b within here (none_or_some (stands_for (take n declarations) x.0) ∙ ap not e ∙ twice b)
+    where
+      twice : (b : Bool) → not (not b) ≡ b
+      twice true = refl
+      twice false = refl
+
+  -- a table of first declarations finds what a name stands for
+  pub found_by_name : (entries : List (List ℕ × D)) (name : List ℕ) → lookup (pointwise nat_eq name) entries ≡ stands_for entries name
+  found_by_name entries name =
+      let tests = λ (q : List ℕ). nat_list_eq_equiv.symm name q ∙ same_name q name in
+      λ i. lookup (λ q. tests q i) entries

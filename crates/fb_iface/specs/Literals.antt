@@ -1,0 +1,51 @@
+-- Constants that don't fit their type.
+use Rattle.std.specs.Prelude.{Bool, List, [], ◌∷◌, not, map, filter, if◌then◌else◌}
+use Rattle.std.specs.List.{flat_map}
+use Rattle.std.specs.Option.{option_map_or}
+use Rattle.fb_text.specs.declared.token.Span.{Span}
+use Rattle.fb_tree.specs.Tree.{ConstantTree, one_value, value_list, VariablesTree, InterfaceTree}
+use Rattle.fb_tree.specs.declared.constant.Simple.{Simple}
+use Rattle.fb_tree.specs.declared.constant.Simple.TheVariants as constants
+use Rattle.fb_tree.specs.declared.interface.TypeForm.{TypeForm}
+use Rattle.fb_tree.specs.declared.interface.TypeForm.TheVariants as forms
+use Rattle.fb_tree.specs.declared.interface.TypeUse.{TypeUse}
+use Rattle.fb_iface.specs.declared.classes.Class.{Class}
+use Rattle.fb_iface.specs.declared.code.Code.TheVariants.{Literal}
+use Rattle.fb_iface.specs.declared.fault.Fault.{Fault}
+use Rattle.fb_iface.specs.Class.{class_of_name, class_of_simple, class_of_type, is_free, takes}
+
+abbrev pub simple_span : Simple → Span
+simple_span (constants.Literal literal) = literal.span
+simple_span (constants.Name name) = name.span
+
+abbrev pub literal_fault : Span → Fault
+literal_fault span = record { code = Literal; span = span }
+
+-- the constants that a type of this class doesn't take
+abbrev pub misfits : Class → List Simple → List Fault
+misfits class values = map (λ v. literal_fault (simple_span v)) (filter (λ v. not (takes class (class_of_simple v))) values)
+
+-- an array takes no constant that stands alone, but one that is not judged
+abbrev pub fits_alone : TypeForm → Class → Class → Bool
+fits_alone forms.Plain class constant = takes class constant
+fits_alone forms.Sized class constant = takes class constant
+fits_alone forms.Array class constant = is_free constant
+
+-- a list fits an array, element by element, and a type that is not judged
+abbrev pub list_faults : TypeForm → TypeUse → List Simple → Span → List Fault
+list_faults forms.Array used values span = misfits (class_of_name used.name.name) values
+list_faults forms.Plain used values span = if is_free (class_of_type used) then [] else literal_fault span ∷ []
+list_faults forms.Sized used values span = if is_free (class_of_type used) then [] else literal_fault span ∷ []
+
+-- a constant that doesn't fit the type, or the elements of a list that don't
+abbrev pub constant_faults : TypeUse → ConstantTree → List Fault
+constant_faults used (one_value value) =
+    if fits_alone used.form (class_of_type used) (class_of_simple value) then [] else literal_fault (simple_span value) ∷ []
+constant_faults used (value_list values span) = list_faults used.form used values span
+
+-- the initial value of variables
+abbrev pub initial_faults : VariablesTree → List Fault
+initial_faults v = option_map_or (constant_faults v.type_use) v.initial []
+
+abbrev pub literal_faults : InterfaceTree → List Fault
+literal_faults i = flat_map initial_faults i.variables

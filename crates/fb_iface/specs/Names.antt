@@ -1,0 +1,32 @@
+-- What a name stands for in a name space, where it may be declared more than once.
+use Rattle.std.specs.Prelude.{ℕ, Bool, List, take, map, filter, Option, is_none}
+use Rattle.std.specs.List.{list_any, enumerate_from}
+use Rattle.std.specs.Map.{lookup}
+use Rattle.std.specs.BTreeMap.{is_at}
+use Rattle.fb_text.specs.Order.{name_cmp}
+use Rattle.fb_text.specs.declared.name.NameUse.{NameUse}
+
+-- whether two names are the same
+abbrev pub is_same : List ℕ → List ℕ → Bool
+is_same a b = is_at (name_cmp a) b
+
+-- what a name stands for: its first declaration
+abbrev pub stands_for : {D : Type 0} → List (List ℕ × D) → List ℕ → Option D
+stands_for declarations name = lookup (λ declared. is_same declared name) declarations
+
+-- whether one of these is the name
+abbrev pub has_name : List NameUse → List ℕ → Bool
+has_name names name = list_any (λ n. is_same n.name name) names
+
+-- whether a name stands before its place too
+abbrev pub is_repeated : List NameUse → ℕ × NameUse → Bool
+is_repeated names placed = has_name (take placed.0 names) placed.1.name
+
+-- second and later declarations of a name
+abbrev pub repeated : List NameUse → List NameUse
+repeated names = map (λ placed. placed.1) (filter (is_repeated names) (enumerate_from 0 names))
+
+-- the first declaration of each name, in the order of the text: where the name stands for nothing before its place
+abbrev pub first_ones : {D : Type 0} → List (List ℕ × D) → List (List ℕ × D)
+first_ones declarations =
+    map (λ placed. placed.1) (filter (λ placed. is_none (stands_for (take placed.0 declarations) placed.1.0)) (enumerate_from 0 declarations))

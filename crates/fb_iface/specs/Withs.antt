@@ -1,0 +1,25 @@
+-- Names behind WITH.
+use Rattle.std.specs.Prelude.{ℕ, Bool, false, not, List, filter, Option, Some, None}
+use Rattle.std.specs.List.{flat_map}
+use Rattle.fb_tree.specs.Tree.{EventTree, InterfaceTree}
+use Rattle.fb_tree.specs.declared.interface.Side.{Side}
+use Rattle.fb_iface.specs.declared.code.Code.TheVariants.{WithUnknown}
+use Rattle.fb_iface.specs.declared.ports.DeclaredVariable.{DeclaredVariable}
+use Rattle.fb_iface.specs.declared.fault.Fault.{Fault}
+use Rattle.fb_iface.specs.Ports.{variables_in}
+use Rattle.fb_iface.specs.Fault.{faults_at}
+use Rattle.fb_iface.specs.Names.{stands_for}
+use Rattle.fb_iface.specs.Sides.{goes_with}
+
+-- whether an event of this side may carry what a name stands for
+abbrev pub carries : Side → Option DeclaredVariable → Bool
+carries side None = false
+carries side (Some variable) = goes_with side variable.section
+
+-- the names behind WITH that the event can't carry, by the variables that names stand for
+abbrev pub event_withs : (List ℕ → Option DeclaredVariable) → EventTree → List Fault
+event_withs variable event =
+    faults_at WithUnknown (filter (λ w. not (carries event.side (variable w.name))) event.with)
+
+abbrev pub with_faults : InterfaceTree → List Fault
+with_faults i = flat_map (event_withs (stands_for (variables_in i))) i.events

@@ -1,0 +1,130 @@
+//! Constants that do not fit their type.
+ghost use Rattle.std.specs.Prelude.{◌≡◌, ◌++◌, OnOk};
+ghost use Rattle.fb_tree.specs.Tree.{one_value, constant_tree, decl_tree, interface_tree, variables_tree};
+ghost use Rattle.fb_iface.specs.Declarations.{literal_faults_of};
+ghost use Rattle.fb_iface.specs.Literals.{constant_faults, fits_alone, initial_faults, list_faults, literal_fault, literal_faults, misfits, simple_span};
+
+use crate::classes::{Class, class_by_name, class_of, class_of_constant, is_taken};
+use crate::code::Code;
+use crate::fault::Fault;
+use fb_text::Span;
+use fb_tree::{Constant, Decl, Interface, Simple, TypeForm, TypeUse, Variables};
+use std::alloc::AllocError;
+
+/// Reports the initial values that do not fit their type.
+pub fn report_literals(decl: &Decl, found: &mut Vec<Fault>) -> Result<(), AllocError>
+    ensures { OnOk result (found.new.items ≡ found.old.items ++ literal_faults_of (decl_tree decl.now)) }
+{
+    match decl {
+        Decl::Block(declared) | Decl::Adapter(declared) | Decl::Subapplication(declared) => {
+            report_in_interface(&declared.interface, found)
+        }
+        Decl::System(_) => Ok(()),
+    }
+}
+
+fn report_in_interface(interface: &Interface, found: &mut Vec<Fault>) -> Result<(), AllocError>
+    ensures { OnOk result (found.new.items ≡ found.old.items ++ literal_faults (interface_tree interface.now)) }
+{
+    for group in &interface.variables {
+        report_initial(group, found)?;
+    }
+    Ok(())
+}
+
+fn report_initial(group: &Variables, found: &mut Vec<Fault>) -> Result<(), AllocError>
+    ensures { OnOk result (found.new.items ≡ found.old.items ++ initial_faults (variables_tree group.now)) }
+{
+    match &group.initial {
+        Some(constant) => report_constant(&group.type_use, constant, found),
+        None => Ok(()),
+    }
+}
+
+/// Reports a constant that does not fit the type, or the elements of a list that do not.
+pub fn report_constant(
+    used: &TypeUse,
+    constant: &Constant,
+    found: &mut Vec<Fault>,
+) -> Result<(), AllocError>
+    ensures { OnOk result (found.new.items ≡ found.old.items ++ constant_faults used.now (constant_tree constant.now)) }
+{
+    match constant {
+        Constant::One(value) => report_alone(used, value, found),
+        Constant::List(values, span) => report_list(used, values.as_slice(), *span, found),
+    }
+}
+
+/// Reports a constant that stands alone.
+fn report_alone(used: &TypeUse, value: &Simple, found: &mut Vec<Fault>) -> Result<(), AllocError>
+    ensures { OnOk result (found.new.items ≡ found.old.items ++ constant_faults used.now (one_value value.now)) }
+{
+    if !is_fit(used.form, class_of(used), class_of_constant(value)) {
+        found.push(misfit(span_of(value)))?;
+    }
+    Ok(())
+}
+
+/// Whether a constant of the second class fits a type of the first alone.
+fn is_fit(form: TypeForm, class: Class, constant: Class) -> bool
+    ensures { result ≡ fits_alone form class constant }
+{
+    match form {
+        TypeForm::Plain | TypeForm::Sized => is_taken(class, constant),
+        TypeForm::Array => constant.is_free(),
+    }
+}
+
+fn report_list(
+    used: &TypeUse,
+    values: &[Simple],
+    span: Span,
+    found: &mut Vec<Fault>,
+) -> Result<(), AllocError>
+    ensures { OnOk result (found.new.items ≡ found.old.items ++ list_faults used.now.form used.now values.now span) }
+{
+    match used.form {
+        TypeForm::Array => report_elements(class_by_name(&used.name.name), values, found),
+        TypeForm::Plain | TypeForm::Sized => {
+            if !class_of(used).is_free() {
+                found.push(misfit(span))?;
+            }
+            Ok(())
+        }
+    }
+}
+
+/// Reports the elements that a type of this class does not take.
+fn report_elements(
+    class: Class,
+    values: &[Simple],
+    found: &mut Vec<Fault>,
+) -> Result<(), AllocError>
+    ensures { OnOk result (found.new.items ≡ found.old.items ++ misfits class values.now) }
+{
+    for value in values {
+        if !is_taken(class, class_of_constant(value)) {
+            found.push(misfit(span_of(value)))?;
+        }
+    }
+    Ok(())
+}
+
+fn misfit(span: Span) -> Fault
+    ensures { result ≡ literal_fault span }
+{
+    Fault {
+        code: Code::Literal,
+        span,
+    }
+}
+
+/// Where a constant stands.
+fn span_of(constant: &Simple) -> Span
+    ensures { result ≡ simple_span constant.now }
+{
+    match constant {
+        Simple::Literal(literal) => literal.span,
+        Simple::Name(name) => name.span,
+    }
+}

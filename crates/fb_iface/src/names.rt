@@ -1,0 +1,28 @@
+//! Declarations by name, where a name may be declared more than once.
+ghost use Rattle.std.specs.Prelude.{◌≡◌, ℕ, IfOk, List, nat_eq};
+ghost use Rattle.std.specs.Cmp.Lexicographic.{pointwise};
+ghost use Rattle.indexmap.specs.IndexMap.{get};
+ghost use Rattle.fb_iface.specs.Names.{first_ones, stands_for};
+
+use fb_text::Name;
+use indexmap::IndexMap;
+use std::alloc::{AllocError, Global};
+
+/// What each name stands for, in the order of the text: its first declaration.
+pub fn first_declared<D: Copy>(
+    alloc: Global,
+    declarations: &[(Name, D)],
+) -> Result<IndexMap<Name, D>, AllocError>
+    ensures names { IfOk result
+        (λ table. (name : List ℕ) → get (pointwise nat_eq) table name ≡ stands_for declarations.now name) }
+    ensures entries { IfOk result (λ table. table.entries ≡ first_ones declarations.now) }
+{
+    let mut table = IndexMap::new(alloc);
+    for declaration in declarations {
+        let (name, declared) = *declaration;
+        if !table.contains_key(&name) {
+            table.insert(name, declared)?;
+        }
+    }
+    Ok(table)
+}

@@ -1,0 +1,288 @@
+//! The ports of a unit (IEC 61499-1, 5.2: interfaces of function block types; 5.5: adapters).
+ghost use Rattle.std.specs.Prelude.{◌≡◌, ◌++◌, IfOk, OnOk};
+ghost use Rattle.fb_tree.specs.Tree.{interface_tree, network_tree, variables_tree};
+ghost use Rattle.fb_iface.specs.Ports.{events_in, instances_in, same_role, same_side, variables_in, variables_together};
+ghost use Rattle.fb_iface.specs.Sides.{goes_with};
+
+use crate::names::first_declared;
+use fb_text::{Name, NameUse};
+use fb_tree::{
+    Event, Instance, Interface, Network, Role, Section, Side, TypeDeclaration, TypeUse, Variables,
+};
+use indexmap::IndexMap;
+use std::alloc::{AllocError, Global};
+use std::marker::Model;
+
+/// An event of an interface, with its type where one is written.
+#[derive(Clone, Copy, Debug)]
+pub struct DeclaredEvent {
+    pub side: Side,
+    pub type_name: Option<NameUse>,
+}
+
+/// A variable of an interface.
+#[derive(Clone, Copy, Debug)]
+pub struct DeclaredVariable {
+    pub section: Section,
+    pub type_use: TypeUse,
+}
+
+/// An instance, a plug or a socket.
+#[derive(Clone, Copy, Debug)]
+pub struct DeclaredInstance {
+    pub role: Role,
+    pub type_name: NameUse,
+}
+
+/// What the events, variables and instances of a unit are, by their names, in the order of the text. A name that is declared more than once
+/// stands for its first declaration: an internal variable or an instance may hide a port of that name.
+#[derive(Drop)]
+pub struct Ports {
+    events: IndexMap<Name, DeclaredEvent>,
+    variables: IndexMap<Name, DeclaredVariable>,
+    instances: IndexMap<Name, DeclaredInstance>,
+}
+
+impl Model for Ports {
+    ghost use Rattle.fb_iface.specs.Ports.{Meanings};
+
+    ghost Value = { Meanings };
+
+    ghost view = { λ p. record { events = p.events.entries; variables = p.variables.entries; instances = p.instances.entries } };
+}
+
+impl Ports {
+    ghost use Rattle.std.specs.Prelude.{[]};
+    ghost use Rattle.std.specs.Option.{option_copied};
+    ghost use Rattle.fb_tree.specs.Tree.{type_tree};
+    ghost use Rattle.fb_tree.specs.declared.interface.Side.TheVariants as sides;
+    ghost use Rattle.fb_tree.specs.declared.network.Role.TheVariants as roles;
+    ghost use Rattle.fb_iface.specs.Names.{stands_for};
+    ghost use Rattle.fb_iface.specs.Ports.{data_on, events_on, instances_as, meanings_in_type};
+
+    /// No ports.
+    pub fn new(alloc: Global) -> Ports
+        ensures { result ≡ record { events = []; variables = []; instances = [] } }
+    {
+        Ports {
+            events: IndexMap::new(alloc),
+            variables: IndexMap::new(alloc),
+            instances: IndexMap::new(alloc),
+        }
+    }
+
+    /// The ports of a type.
+    pub fn of_type(alloc: Global, declared: &TypeDeclaration) -> Result<Ports, AllocError>
+        ensures { IfOk result (λ ports. ports ≡ meanings_in_type (type_tree declared.now)) }
+    {
+        let events = declared_events(alloc, &declared.interface)?;
+        let variables = declared_variables(alloc, &declared.interface)?;
+        let instances = declared_instances(alloc, &declared.network)?;
+        Ok(Ports {
+            events: first_declared(alloc, events.as_slice())?,
+            variables: first_declared(alloc, variables.as_slice())?,
+            instances: first_declared(alloc, instances.as_slice())?,
+        })
+    }
+
+    /// The event that the name stands for.
+    pub fn event(&self, name: &Name) -> Option<&DeclaredEvent>
+        ensures { option_copied result ≡ stands_for self.now.events name.now }
+    {
+        self.events.get(name)
+    }
+
+    /// The variable that the name stands for, an internal one too.
+    pub fn variable(&self, name: &Name) -> Option<&DeclaredVariable>
+        ensures { option_copied result ≡ stands_for self.now.variables name.now }
+    {
+        self.variables.get(name)
+    }
+
+    /// The instance, plug or socket that the name stands for.
+    pub fn instance(&self, name: &Name) -> Option<&DeclaredInstance>
+        ensures { option_copied result ≡ stands_for self.now.instances name.now }
+    {
+        self.instances.get(name)
+    }
+
+    /// The event inputs, each with its type where one is written.
+    pub fn event_inputs(&self, alloc: Global) -> Result<Vec<(Name, Option<NameUse>)>, AllocError>
+        ensures { IfOk result (λ ports. ports.items ≡ events_on sides.Input self.now) }
+    {
+        self.events_on(alloc, Side::Input)
+    }
+
+    /// The event outputs, each with its type where one is written.
+    pub fn event_outputs(&self, alloc: Global) -> Result<Vec<(Name, Option<NameUse>)>, AllocError>
+        ensures { IfOk result (λ ports. ports.items ≡ events_on sides.Output self.now) }
+    {
+        self.events_on(alloc, Side::Output)
+    }
+
+    /// The data inputs with their types.
+    pub fn data_inputs(&self, alloc: Global) -> Result<Vec<(Name, TypeUse)>, AllocError>
+        ensures { IfOk result (λ ports. ports.items ≡ data_on sides.Input self.now) }
+    {
+        self.data_on(alloc, Side::Input)
+    }
+
+    /// The data outputs with their types.
+    pub fn data_outputs(&self, alloc: Global) -> Result<Vec<(Name, TypeUse)>, AllocError>
+        ensures { IfOk result (λ ports. ports.items ≡ data_on sides.Output self.now) }
+    {
+        self.data_on(alloc, Side::Output)
+    }
+
+    /// The plugs with their types.
+    pub fn plugs(&self, alloc: Global) -> Result<Vec<(Name, NameUse)>, AllocError>
+        ensures { IfOk result (λ ports. ports.items ≡ instances_as roles.Plug self.now) }
+    {
+        self.instances_as(alloc, Role::Plug)
+    }
+
+    /// The sockets with their types.
+    pub fn sockets(&self, alloc: Global) -> Result<Vec<(Name, NameUse)>, AllocError>
+        ensures { IfOk result (λ ports. ports.items ≡ instances_as roles.Socket self.now) }
+    {
+        self.instances_as(alloc, Role::Socket)
+    }
+
+    fn events_on(
+        &self,
+        alloc: Global,
+        side: Side,
+    ) -> Result<Vec<(Name, Option<NameUse>)>, AllocError>
+        ensures { IfOk result (λ ports. ports.items ≡ events_on side self.now) }
+    {
+        let mut ports = Vec::new(alloc);
+        for (name, event) in self.events.iter() {
+            if is_same_side(event.side, side) {
+                ports.push((*name, event.type_name))?;
+            }
+        }
+        Ok(ports)
+    }
+
+    fn data_on(&self, alloc: Global, side: Side) -> Result<Vec<(Name, TypeUse)>, AllocError>
+        ensures { IfOk result (λ ports. ports.items ≡ data_on side self.now) }
+    {
+        let mut ports = Vec::new(alloc);
+        for (name, variable) in self.variables.iter() {
+            if is_beside(side, variable.section) {
+                ports.push((*name, variable.type_use))?;
+            }
+        }
+        Ok(ports)
+    }
+
+    fn instances_as(&self, alloc: Global, role: Role) -> Result<Vec<(Name, NameUse)>, AllocError>
+        ensures { IfOk result (λ ports. ports.items ≡ instances_as role self.now) }
+    {
+        let mut ports = Vec::new(alloc);
+        for (name, instance) in self.instances.iter() {
+            if is_same_role(instance.role, role) {
+                ports.push((*name, instance.type_name))?;
+            }
+        }
+        Ok(ports)
+    }
+}
+
+fn is_same_side(a: Side, b: Side) -> bool
+    ensures { result ≡ same_side a b }
+{
+    match (a, b) {
+        (Side::Input, Side::Input) | (Side::Output, Side::Output) => true,
+        _ => false,
+    }
+}
+
+fn is_same_role(a: Role, b: Role) -> bool
+    ensures { result ≡ same_role a b }
+{
+    match (a, b) {
+        (Role::Plug, Role::Plug) => true,
+        (Role::Socket, Role::Socket) => true,
+        (Role::Block, Role::Block) => true,
+        (Role::Subapplication, Role::Subapplication) => true,
+        _ => false,
+    }
+}
+
+/// Whether data of this section go with events of this side.
+pub fn is_beside(side: Side, section: Section) -> bool
+    ensures { result ≡ goes_with side section }
+{
+    match (side, section) {
+        (Side::Input, Section::Input) | (Side::Output, Section::Output) => true,
+        _ => false,
+    }
+}
+
+/// The events of an interface, in the order of the text.
+fn declared_events(
+    alloc: Global,
+    interface: &Interface,
+) -> Result<Vec<(Name, DeclaredEvent)>, AllocError>
+    ensures { IfOk result (λ declared. declared.items ≡ events_in (interface_tree interface.now)) }
+{
+    let mut declared = Vec::new(alloc);
+    for event in &interface.events {
+        let meaning = DeclaredEvent {
+            side: event.side,
+            type_name: event.type_name,
+        };
+        declared.push((event.name.name, meaning))?;
+    }
+    Ok(declared)
+}
+
+/// The variables of an interface, in the order of the text.
+pub fn declared_variables(
+    alloc: Global,
+    interface: &Interface,
+) -> Result<Vec<(Name, DeclaredVariable)>, AllocError>
+    ensures { IfOk result (λ declared. declared.items ≡ variables_in (interface_tree interface.now)) }
+{
+    let mut declared = Vec::new(alloc);
+    for group in &interface.variables {
+        declare_together(group, &mut declared)?;
+    }
+    Ok(declared)
+}
+
+/// Adds the variables that are declared together.
+fn declare_together(
+    group: &Variables,
+    declared: &mut Vec<(Name, DeclaredVariable)>,
+) -> Result<(), AllocError>
+    ensures { OnOk result (declared.new.items ≡ declared.old.items ++ variables_together (variables_tree group.now)) }
+{
+    for name in &group.names {
+        let meaning = DeclaredVariable {
+            section: group.section,
+            type_use: group.type_use,
+        };
+        declared.push((name.name, meaning))?;
+    }
+    Ok(())
+}
+
+/// The instances of a network, in the order of the text.
+fn declared_instances(
+    alloc: Global,
+    network: &Network,
+) -> Result<Vec<(Name, DeclaredInstance)>, AllocError>
+    ensures { IfOk result (λ declared. declared.items ≡ instances_in (network_tree network.now)) }
+{
+    let mut declared = Vec::new(alloc);
+    for instance in &network.instances {
+        let meaning = DeclaredInstance {
+            role: instance.role,
+            type_name: instance.type_name,
+        };
+        declared.push((instance.name.name, meaning))?;
+    }
+    Ok(declared)
+}

@@ -1,0 +1,42 @@
+-- Keys that compare equal are one.
+use Rattle.std.proofs.Common.{◌≡◌, refl, true, arith}
+use Rattle.std.specs.declared.cmp.Ordering.{Ordering}
+use Rattle.std.specs.declared.cmp.Ordering.TheVariants.{Less, Equal, Greater}
+use Rattle.std.specs.Ordering.{ordering_then, nat_cmp, is_eq}
+use Rattle.std.specs.FinMap.{nat_cmp-IsAntisymmetric}
+use Rattle.fb_library.proofs.Names.{exact_name}
+use Rattle.fb_jobs.specs.declared.key.Kind.{Kind}
+use Rattle.fb_jobs.specs.declared.key.Kind.TheVariants.{Faults, Net, Deploy}
+use Rattle.fb_jobs.specs.declared.key.Key.{Key}
+use Rattle.fb_jobs.specs.KeyOrder.{kind_number, key_cmp, same_key}
+
+exact_kind : (a b : Kind) → kind_number a ≡ kind_number b → a ≡ b
+exact_kind Faults Faults e = refl
+exact_kind Faults Net e = absurd (omega arith)
+exact_kind Faults Deploy e = absurd (omega arith)
+exact_kind Net Faults e = absurd (omega arith)
+exact_kind Net Net e = refl
+exact_kind Net Deploy e = absurd (omega arith)
+exact_kind Deploy Faults e = absurd (omega arith)
+exact_kind Deploy Net e = absurd (omega arith)
+exact_kind Deploy Deploy e = refl
+
+both_equal : (r s : Ordering) → ordering_then r s ≡ Equal → (r ≡ Equal) × (s ≡ Equal)
+both_equal Less s e = absurd (let no : ⊥ = cc in no)
+both_equal Equal s e = (refl, e)
+both_equal Greater s e = absurd (let no : ⊥ = cc in no)
+
+pub exact_key : (a b : Key) → key_cmp a b ≡ Equal → a ≡ b
+exact_key a b e =
+    let parts = both_equal (nat_cmp (kind_number a.kind) (kind_number b.kind)) _ e in
+    let kinds = exact_kind a.kind b.kind (nat_cmp-IsAntisymmetric (kind_number a.kind) (kind_number b.kind) parts.0) in
+    let units = exact_name a.unit b.unit parts.1 in
+    λ i. record { kind = kinds i; unit = units i }
+
+is_equal : (o : Ordering) → is_eq o ≡ true → o ≡ Equal
+is_equal Less e = cc
+is_equal Equal e = refl
+is_equal Greater e = cc
+
+pub same_is : (a b : Key) → same_key a b ≡ true → a ≡ b
+same_is a b e = exact_key a b (is_equal (key_cmp a b) e)

@@ -1,0 +1,4 @@
+pub mod Currents
+pub mod KeyLemmas
+pub mod SameNeeds
+pub mod Sources

@@ -1,0 +1,85 @@
+-- Texts that agree on what a key needs have the same needs and the same value for it.
+use Rattle.std.proofs.Common.{◌≡◌, ℕ, true, List, [], ◌∷◌, ◌++◌, refl, sym, ap, ◌∙◌}
+use Rattle.std.specs.List.Sorted.{IsStrictlySortedBy}
+use Rattle.std.specs.BTreeMap.{is_at}
+use Rattle.std.specs.FinMap.{get}
+use Rattle.std.specs.Ordering.{is_eq}
+use Rattle.std.specs.declared.cmp.Ordering.{Ordering}
+use Rattle.std.specs.declared.cmp.Ordering.TheVariants.{Less, Equal, Greater}
+use Rattle.std.proofs.lemmas.Cmp.{tied_itself}
+use Rattle.fb_text.specs.Order.{name_cmp}
+use Rattle.fb_text.proofs.OrderLemmas.{in_order-sorted}
+use Rattle.fb_library.specs.Texts.{Texts, sources_of}
+use Rattle.fb_library.specs.View.{Sources, near_of, mentions_at}
+use Rattle.fb_library.specs.Local as local
+use Rattle.fb_library.proofs.Names.{name_total, exact_name}
+use Rattle.fb_library.proofs.Sources.{get_source}
+use Rattle.fb_library.proofs.WalkLemmas.{has-Contains}
+use Rattle.fb_library.proofs.LocalLemmas.{near_unit, near_local}
+use Rattle.fb_faults.proofs.LocalLemmas.{faults_local}
+use Rattle.fb_jobs.specs.declared.key.Kind.{Kind}
+use Rattle.fb_jobs.specs.declared.key.Kind.TheVariants.{Faults, Net, Deploy}
+use Rattle.fb_jobs.specs.declared.key.Key.{Key}
+use Rattle.fb_jobs.specs.Keys.{needs, needs_of, has_key, has_kind_at, scratch, scratch_of, FaultsFound}
+use Rattle.fb_jobs.specs.Reads.{is_among, Agree}
+
+pub at_itself : (n : List ℕ) → is_at (name_cmp n) n ≡ true
+at_itself n = ap is_eq (tied_itself name_total n)
+
+is_equal : (o : Ordering) → is_eq o ≡ true → o ≡ Equal
+is_equal Less e = cc
+is_equal Equal e = refl
+is_equal Greater e = cc
+
+pub same_at : (n m : List ℕ) → is_at (name_cmp n) m ≡ true → n ≡ m
+same_at n m e = exact_name n m (is_equal (name_cmp n m) e)
+
+-- texts that agree on some names have the same sources under them
+same_sources : (T T' : Texts) (names : List (List ℕ)) → Agree T T' names → local.Agree names (sources_of T) (sources_of T')
+same_sources T T' names agree n among = get_source T n ∙ agree n (has-Contains n names among) ∙ sym (get_source T' n)
+
+unit_of_kind : (T : Texts) (kind : Kind) (u : List ℕ) → is_among u (needs_of kind (sources_of T) u) ≡ true
+unit_of_kind T kind u = has-Contains u (near_of (sources_of T) u) (near_unit (sources_of T) u)
+
+-- a key needs its own unit
+pub unit_needed : (T : Texts) (k : Key) → is_among k.unit (needs T k) ≡ true
+unfolding needs
+unit_needed T k = unit_of_kind T k.kind k.unit
+
+same_near : (T T' : Texts) (kind : Kind) (u : List ℕ) → Agree T T' (needs_of kind (sources_of T) u) → needs_of kind (sources_of T') u ≡ needs_of kind (sources_of T) u
+same_near T T' kind u agree = sym (near_local (sources_of T) (sources_of T') u (same_sources T T' (near_of (sources_of T) u) agree))
+
+pub needs_local : (T T' : Texts) (k : Key) → Agree T T' (needs T k) → needs T' k ≡ needs T k
+unfolding needs
+needs_local T T' k agree = same_near T T' k.kind k.unit agree
+
+pub has_key_local : (T T' : Texts) (k : Key) → Agree T T' (needs T k) → has_key T' k ≡ has_key T k
+unfolding has_key
+has_key_local T T' k agree = ap (λ o. has_kind_at k.kind o) (sym (agree k.unit (unit_needed T k)))
+
+same_scratch : (T T' : Texts) (kind : Kind) (u : List ℕ) → Agree T T' (needs_of kind (sources_of T) u) → scratch_of kind (sources_of T') u ≡ scratch_of kind (sources_of T) u
+same_scratch T T' Faults u agree =
+    ap FaultsFound (sym (faults_local (sources_of T) (sources_of T') u (same_sources T T' (near_of (sources_of T) u) agree)))
+same_scratch T T' Net u agree = refl
+same_scratch T T' Deploy u agree = refl
+
+pub scratch_local : (T T' : Texts) (k : Key) → Agree T T' (needs T k) → scratch T' k ≡ scratch T k
+unfolding needs scratch
+scratch_local T T' k agree = same_scratch T T' k.kind k.unit agree
+
+needs_of_rise : (kind : Kind) (sources : Sources) (u : List ℕ) → IsStrictlySortedBy name_cmp (needs_of kind sources u)
+needs_of_rise kind sources u = in_order-sorted name_cmp name_total (mentions_at sources u ++ u ∷ [])
+
+-- what a key needs stands in order
+pub needs_rise : (T : Texts) (k : Key) → IsStrictlySortedBy name_cmp (needs T k)
+unfolding needs
+needs_rise T k = needs_of_rise k.kind (sources_of T) k.unit
+
+-- a key that is there has a kind that the text of its unit has
+pub kind_there : (T : Texts) (k : Key) → has_key T k ≡ true → has_kind_at k.kind (get (sources_of T) k.unit) ≡ true
+unfolding has_key
+kind_there T k has = ap (has_kind_at k.kind) (get_source T k.unit) ∙ has
+
+pub scratch_is : (T : Texts) (k : Key) → scratch T k ≡ scratch_of k.kind (sources_of T) k.unit
+unfolding scratch
+scratch_is T k = refl

@@ -1,0 +1,29 @@
+-- Reads and values of the program as what they say.
+use Rattle.std.specs.Prelude.{◌≡◌, ℕ, List, map, Option, Some, None}
+use Rattle.std.specs.Option.{MatchOption}
+use Rattle.std.specs.declared.sync.Arc.{Arc}
+use Rattle.std.specs.declared.alloc.Global.{Global}
+use Rattle.fb_library.specs.Texts.{Held}
+use Rattle.fb_parse.specs.Source.{Written}
+use Rattle.fb_jobs.specs.Keys.{Finding, FaultsFound}
+use Rattle.fb_jobs.specs.Reads.{Seen}
+use Rattle.fb_jobs.specs.declared.read.Read.{Read}
+use Rattle.fb_jobs.specs.declared.value.Value.{Value}
+use Rattle.fb_jobs.specs.declared.value.Value.TheVariants.{Faults}
+
+abbrev pub found_in : ℕ → Option (Arc Written Global) → Option Held
+found_in revision None = None
+found_in revision (Some source) = Some (record { revision = revision; text = source.value.text })
+
+abbrev pub seen_of : Read → Seen
+seen_of it = record { name = it.name; found = found_in it.revision it.source }
+
+abbrev pub all_seen : List Read → List Seen
+all_seen reads = map seen_of reads
+
+-- a source of that name, or nothing with revision 0
+abbrev pub IsOwn : Read → Type 0
+IsOwn it = MatchOption it.source (it.revision ≡ 0) (λ source. source.value.unit ≡ it.name)
+
+abbrev pub finding_of : Value → Finding
+finding_of (Faults faults) = FaultsFound faults.items

@@ -1,0 +1,31 @@
+//! Laws of keys and reads.
+ghost use Rattle.std.specs.Prelude.{◌≡◌, ℕ, List, None, Some};
+ghost use Rattle.std.specs.List.Sorted.{IsStrictlySortedBy};
+ghost use Rattle.fb_text.specs.Order.{name_cmp};
+ghost use Rattle.fb_library.specs.Texts.{Texts};
+ghost use Rattle.fb_jobs.specs.declared.key.Key.{Key};
+ghost use Rattle.fb_jobs.specs.Keys.{has_key, needs, scratch};
+ghost use Rattle.fb_jobs.specs.Reads.{Agree, Order, IsLeastStale, IsRight, read_names, read_texts, stale};
+
+/// Texts that agree on what a key needs have the same needs and the same value for it, whatever their revisions.
+pub fn locality()
+    ensures needs { (texts others : Texts) (key : Key) → Agree texts others (needs texts key) → needs others key ≡ needs texts key }
+    ensures has { (texts others : Texts) (key : Key) → Agree texts others (needs texts key) → has_key others key ≡ has_key texts key }
+    ensures value { (texts others : Texts) (key : Key) → Agree texts others (needs texts key) → scratch others key ≡ scratch texts key }
+{}
+
+/// Reads that are right in themselves and current have the value of the present texts.
+pub fn current_reads()
+    ensures { (texts : Texts) (it : Order) → IsRight it → stale texts it.reads ≡ None → scratch texts it.key ≡ scratch (read_texts it.reads) it.key }
+{}
+
+/// What a key needs, and so what is read for it, stands in order, each name once.
+pub fn needs_in_order()
+    ensures needs { (texts : Texts) (key : Key) → IsStrictlySortedBy name_cmp (needs texts key) }
+    ensures reads { (it : Order) → IsRight it → IsStrictlySortedBy name_cmp (read_names it.reads) }
+{}
+
+/// Of reads that are right in themselves the first that is not current is the least.
+pub fn least_stale()
+    ensures { (texts : Texts) (it : Order) (name : List ℕ) → IsRight it → stale texts it.reads ≡ Some name → IsLeastStale texts it.reads name }
+{}

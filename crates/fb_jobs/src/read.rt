@@ -1,0 +1,68 @@
+//! What is read for a key.
+ghost use Rattle.std.specs.Prelude.{◌≡◌, IfOk, All};
+ghost use Rattle.fb_jobs.specs.Keys.{needs, has_key};
+
+use crate::key::{Key, Kind};
+use fb_library::{Library, near};
+use fb_parse::Source;
+use fb_text::Name;
+use std::alloc::{AllocError, Global};
+use std::sync::Arc;
+
+/// What was read under a name: a source with its revision, or nothing, with revision 0.
+#[derive(Drop)]
+pub struct Read {
+    pub name: Name,
+    pub revision: u64,
+    pub source: Option<Arc<Source>>,
+}
+
+/// The names whose texts decide the key's value, in order.
+#[tactic(auto, unfolding(crate::specs::Keys::needs))]
+pub fn needed(alloc: Global, library: &Library, key: Key) -> Result<Vec<Name>, AllocError>
+    ensures { IfOk result (λ names. names.items ≡ needs library.now key) }
+{
+    near(alloc, library, key.unit)
+}
+
+/// Whether the library has the key. So far units have keys of the kind `Faults` alone.
+#[tactic(auto, unfolding(crate::specs::Keys::has_key))]
+pub fn has_key(library: &Library, key: Key) -> bool
+    ensures { result ≡ has_key library.now key }
+{
+    match key.kind {
+        Kind::Faults => library.source(&key.unit).is_some(),
+        Kind::Net | Kind::Deploy => false,
+    }
+}
+
+impl Read {
+    ghost use Rattle.fb_jobs.specs.Values.{seen_of, all_seen, IsOwn};
+
+    fn copy(&self) -> Result<Read, AllocError>
+        ensures same { IfOk result (λ copy. seen_of copy ≡ seen_of self.now) }
+        ensures own { IsOwn self.now → IfOk result IsOwn }
+    {
+        let source = match &self.source {
+            Some(source) => Some(source.clone()?),
+            None => None,
+        };
+        Ok(Read {
+            name: self.name,
+            revision: self.revision,
+            source,
+        })
+    }
+
+    /// The same reads, sharing their sources.
+    pub fn copies(alloc: Global, reads: &[Read]) -> Result<Vec<Read>, AllocError>
+        ensures same { IfOk result (λ copies. all_seen copies.items ≡ all_seen reads.now) }
+        ensures own { All IsOwn reads.now → IfOk result (λ copies. All IsOwn copies.items) }
+    {
+        let mut copies = Vec::new(alloc);
+        for read in reads {
+            copies.push(read.copy()?)?;
+        }
+        Ok(copies)
+    }
+}

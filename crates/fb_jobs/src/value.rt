@@ -1,0 +1,28 @@
+//! The values of entries.
+ghost use Rattle.std.specs.Prelude.{◌≡◌, true, IfOk};
+ghost use Rattle.std.specs.FinMap as map;
+ghost use Rattle.fb_jobs.specs.Keys.{has_kind_at, scratch_of};
+ghost use Rattle.fb_jobs.specs.Values.{finding_of};
+
+use crate::key::{Key, Kind};
+use fb_faults::faults;
+use fb_iface::Fault;
+use fb_library::View;
+use std::alloc::{AllocError, Global};
+
+/// What an entry holds once it is not pending.
+#[derive(Drop)]
+pub enum Value {
+    Faults(Vec<Fault>),
+}
+
+/// The key's value, computed afresh.
+pub(crate) fn value_of<V: View>(alloc: Global, view: &V, key: Key) -> Result<Value, AllocError>
+    requires { has_kind_at key.kind (map.get (V.sources view.now) key.unit) ≡ true }
+    ensures { IfOk result (λ value. finding_of value ≡ scratch_of key.kind (V.sources view.now) key.unit) }
+{
+    match key.kind {
+        Kind::Faults => Ok(Value::Faults(faults(alloc, view, &key.unit)?)),
+        Kind::Net | Kind::Deploy => unreachable!(),
+    }
+}

@@ -1,0 +1,6 @@
+pub mod LocalLemmas
+pub mod Names
+pub mod Places
+pub mod Shelves
+pub mod Sources
+pub mod WalkLemmas

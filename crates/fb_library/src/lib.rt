@@ -1,0 +1,19 @@
+//! Units by name, and what they rest on.
+#![tactic(auto)]
+
+mod change;
+mod laws;
+mod library;
+mod look_up;
+mod reads;
+mod walk;
+
+pub use change::Change;
+pub use laws::{far_is_local, near_is_local};
+pub use library::Library;
+pub use look_up::{View, declaration_by_name, tree_by_name};
+pub use reads::{mentions_by_name, near};
+pub use walk::far;
+
+#[cfg(test)]
+mod tests;

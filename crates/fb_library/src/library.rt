@@ -1,0 +1,217 @@
+//! The library of units.
+ghost use Rattle.std.specs.Prelude.{◌≡◌, [], IfOk, IfErr, IfSome, OnOk, OnErr, length, slice_get, map};
+ghost use Rattle.std.specs.Option.{option_map};
+ghost use Rattle.std.specs.List.Sorted.{IsStrictlySortedBy};
+ghost use Rattle.std.specs.Map.{remove_entry};
+ghost use Rattle.std.specs.BTreeMap.{insert_entry, is_at};
+ghost use Rattle.fb_text.specs.Order.{name_cmp};
+ghost use Rattle.fb_library.specs.Texts.{held, text_at, revision_of, names_of, sources_of, edited, all_edited};
+ghost use Rattle.fb_library.specs.Changes.{edit_of, edits_of};
+ghost use Rattle.fb_library.specs.Place.{IsAt, IsGapFor};
+ghost use Rattle.fb_library.specs.Shelf.{held_of};
+
+use crate::change::Change;
+use crate::look_up::View;
+use fb_parse::Source;
+use fb_text::Name;
+use std::alloc::{AllocError, Global};
+use std::marker::Model;
+use std::sync::Arc;
+
+/// A unit as it is kept.
+#[derive(Clone, Drop)]
+pub(crate) struct Filed {
+    unit: Name,
+    revision: u64,
+    source: Arc<Source>,
+}
+
+/// The texts of a workbench by name.
+#[derive(Drop)]
+pub struct Library {
+    units: Vec<Filed>,
+}
+
+impl Model for Library {
+    ghost use Rattle.fb_library.specs.Texts.{Texts};
+
+    ghost Value = { Texts };
+
+    ghost use Rattle.fb_library.specs.Shelf.{texts_of, IsShelf};
+
+    ghost view = { λ it. texts_of it.units.items };
+
+    ghost invariant = { λ it. IsShelf it.units.items };
+}
+
+impl Library {
+    /// An empty library.
+    pub fn new(alloc: Global) -> Library
+        ensures { result ≡ [] }
+    {
+        Library {
+            units: Vec::new(alloc),
+        }
+    }
+
+    /// How many units there are.
+    pub fn len(&self) -> usize
+        ensures { result ≡ length self.now }
+    {
+        self.units.len()
+    }
+
+    /// The unit at an index, in the order of their names.
+    pub fn name_at(&self, index: usize) -> Option<Name>
+        ensures name { result ≡ slice_get (names_of self.now) index }
+        ensures sorted { IsStrictlySortedBy name_cmp (names_of self.now) }
+    {
+        match self.units.get(index) {
+            Some(filed) => Some(filed.unit),
+            None => None,
+        }
+    }
+
+    /// The names of the units, in order.
+    #[tactic(auto, using(crate::proofs::Shelves::names_in_shelf))]
+    pub fn names(&self, alloc: Global) -> Result<Vec<Name>, AllocError>
+        ensures names { IfOk result (λ names. names.items ≡ names_of self.now) }
+        ensures sorted { IsStrictlySortedBy name_cmp (names_of self.now) }
+    {
+        units_of(alloc, self.units.as_slice())
+    }
+
+    /// Where the unit is, or where it would go.
+    fn place(&self, unit: &Name) -> Result<usize, usize>
+        ensures found { IfOk result (IsAt (names_of self.now) unit.now) }
+        ensures absent { IfErr result (IsGapFor (names_of self.now) unit.now) }
+    {
+        self.units.binary_search_by_key(unit, |filed| filed.unit)
+    }
+
+    /// What is filed under a unit.
+    fn find(&self, unit: &Name) -> Option<&Filed>
+        ensures held { option_map (λ it. held_of it.now) result ≡ held self.now unit.now }
+        ensures own { IfSome result (λ it. it.now.source.value.unit ≡ unit.now) }
+    {
+        match self.place(unit) {
+            Ok(at) => Some(&self.units[at]),
+            Err(_) => None,
+        }
+    }
+
+    /// The source of a unit, to be shared.
+    pub fn source(&self, unit: &Name) -> Option<&Arc<Source>>
+        ensures text { option_map (λ it. it.now.value.text) result ≡ text_at self.now unit.now }
+        ensures own { IfSome result (λ it. it.now.value.unit ≡ unit.now) }
+    {
+        match self.find(unit) {
+            Some(filed) => Some(&filed.source),
+            None => None,
+        }
+    }
+
+    /// The number of the commit that put the unit, 0 where it is absent.
+    pub fn revision(&self, unit: &Name) -> u64
+        ensures { result ≡ revision_of (held self.now unit.now) }
+    {
+        match self.find(unit) {
+            Some(filed) => filed.revision,
+            None => 0,
+        }
+    }
+
+    /// A library that reads as this one, sharing its sources.
+    pub fn copy(&self) -> Result<Library, AllocError>
+        ensures { IfOk result (λ copy. copy ≡ self.now) }
+    {
+        let units = self.units.clone()?;
+        Ok(Library { units })
+    }
+
+    fn put(&mut self, revision: u64, source: Arc<Source>) -> Result<(), AllocError>
+        ensures { OnOk result (self.new ≡ insert_entry name_cmp self.old source.value.unit (record { revision = revision; text = source.value.text })) }
+    {
+        let unit = source.unit();
+        let filed = Filed {
+            unit,
+            revision,
+            source,
+        };
+        match self.place(&unit) {
+            Ok(at) => {
+                self.units[at] = filed;
+                Ok(())
+            }
+            Err(at) => Ok(self.units.insert(at, filed)?),
+        }
+    }
+
+    fn remove(&mut self, unit: &Name)
+        ensures { self.new ≡ remove_entry (is_at (name_cmp unit.now)) self.old }
+    {
+        if let Ok(at) = self.place(unit) {
+            let _ = self.units.remove(at);
+        }
+    }
+
+    fn edit(&mut self, commit: u64, change: &Change) -> Result<(), AllocError>
+        ensures { OnOk result (self.new ≡ edited commit (edit_of change.now) self.old) }
+    {
+        match change {
+            Change::Put { base: _, source } => {
+                let source = source.clone()?;
+                self.put(commit, source)
+            }
+            Change::Remove { unit, base: _ } => {
+                self.remove(unit);
+                Ok(())
+            }
+        }
+    }
+
+    /// The library after a commit's changes. This one stays as it is.
+    pub fn edited(&self, commit: u64, changes: &[Change]) -> Result<Library, AllocError>
+        ensures { IfOk result (λ after. after ≡ all_edited commit (edits_of changes.now) self.now) }
+    {
+        let mut after = self.copy()?;
+        for change in changes {
+            after.edit(commit, change)?;
+        }
+        Ok(after)
+    }
+
+    /// Makes a commit's changes, in order. Where there was no memory the library stays as it was.
+    pub fn apply(&mut self, commit: u64, changes: &[Change]) -> Result<(), AllocError>
+        ensures ok { OnOk result (self.new ≡ all_edited commit (edits_of changes.now) self.old) }
+        ensures err { OnErr result (self.new ≡ self.old) }
+    {
+        *self = self.edited(commit, changes)?;
+        Ok(())
+    }
+}
+
+/// The names of the units.
+fn units_of(alloc: Global, units: &[Filed]) -> Result<Vec<Name>, AllocError>
+    ensures { IfOk result (λ names. names.items ≡ map (λ it. it.unit) units.now) }
+{
+    let mut names = Vec::new(alloc);
+    for filed in units {
+        names.push(filed.unit)?;
+    }
+    Ok(names)
+}
+
+impl View for Library {
+    ghost use Rattle.fb_library.specs.Texts.{sources_of};
+
+    ghost sources = { λ library. sources_of library };
+
+    #[tactic(auto, using(crate::proofs::Sources::get_source))]
+    fn get(&self, unit: &Name) -> Option<&Source> {
+        match self.source(unit) {
+            Some(source) => Some(source),
+            None => None,
+        }
+    }
+}

@@ -1,0 +1,147 @@
+//! System configurations.
+
+ghost use Rattle.fb_forms.specs.Form.{as_value, many};
+ghost use Rattle.fb_forms.specs.Gives.{Gives};
+ghost use Rattle.fb_forms.specs.Reading.{read};
+ghost use Rattle.fb_parse.specs.Grammar.{system, system_section};
+ghost use Rattle.fb_parse.specs.SystemContents.{SystemContentsTree, of_application, of_device, of_mappings, system_contents_tree, system_joined, systems_merged};
+ghost use Rattle.fb_tree.specs.Tree.{application_tree, device_tree, mapping_tree, system_tree};
+ghost use Rattle.std.specs.Prelude.{◌≡◌, IfOk, map};
+
+use crate::units::application;
+use fb_forms::{Reader, Stop, is_next, key, name, several};
+use fb_lexemes::{Kind, Lexeme};
+use fb_sections::{device, mappings};
+use fb_tree::{Application, Device, Mapping, System};
+use std::alloc::{AllocError, Global};
+
+/// What the sections of a system hold, in the order of the text.
+#[derive(Drop)]
+pub struct SystemContents {
+    pub applications: Vec<Application>,
+    pub devices: Vec<Device>,
+    pub mappings: Vec<Mapping>,
+}
+
+impl SystemContents {
+    fn of_application(alloc: Global, application: Application) -> Result<SystemContents, AllocError>
+        ensures { IfOk result (λ contents. system_contents_tree contents ≡ of_application (application_tree application)) }
+    {
+        let mut applications = Vec::new(alloc);
+        applications.push(application)?;
+        Ok(SystemContents {
+            applications,
+            devices: Vec::new(alloc),
+            mappings: Vec::new(alloc),
+        })
+    }
+
+    fn of_device(alloc: Global, device: Device) -> Result<SystemContents, AllocError>
+        ensures { IfOk result (λ contents. system_contents_tree contents ≡ of_device (device_tree device)) }
+    {
+        let mut devices = Vec::new(alloc);
+        devices.push(device)?;
+        Ok(SystemContents {
+            applications: Vec::new(alloc),
+            devices,
+            mappings: Vec::new(alloc),
+        })
+    }
+
+    fn of_mappings(alloc: Global, mappings: Vec<Mapping>) -> SystemContents
+        ensures { system_contents_tree result ≡ of_mappings (map mapping_tree mappings.items) }
+    {
+        SystemContents {
+            applications: Vec::new(alloc),
+            devices: Vec::new(alloc),
+            mappings,
+        }
+    }
+
+    /// Appends what another section holds.
+    fn append(&mut self, mut other: SystemContents) -> Result<(), AllocError>
+        ensures { IfOk result (λ _. system_contents_tree self.new ≡ systems_merged (system_contents_tree self.old) (system_contents_tree other)) }
+    {
+        self.applications.append(&mut other.applications)?;
+        self.devices.append(&mut other.devices)?;
+        self.mappings.append(&mut other.mappings)
+    }
+}
+
+/// What all sections hold.
+#[tactic(auto, using(crate::proofs::Joining::system_joined_of_push))]
+fn joined(alloc: Global, sections: Vec<SystemContents>) -> Result<SystemContents, AllocError>
+    ensures { IfOk result (λ contents. system_contents_tree contents ≡ system_joined (map system_contents_tree sections.items)) }
+{
+    let mut contents = SystemContents::of_mappings(alloc, Vec::new(alloc));
+    for section in sections {
+        contents.append(section)?;
+    }
+    Ok(contents)
+}
+
+/// An application, a device or mappings.
+#[tactic(auto, unfolding(crate::specs::Grammar::system_section, crate::specs::Grammar::application, fb_sections::specs::SystemParts::device))]
+fn system_section(alloc: Global, tokens: &[Lexeme]) -> Result<(SystemContents, &[Lexeme]), Stop<'_>>
+    ensures { Gives (λ x. (system_contents_tree x.0, x.1.now)) result (read system_section tokens.now) }
+{
+    if is_next(tokens, &[Kind::Application]) {
+        let (application, rest) = application(alloc, tokens)?;
+        Ok((SystemContents::of_application(alloc, application)?, rest))
+    } else if is_next(tokens, &[Kind::Device]) {
+        let (device, rest) = device(alloc, tokens)?;
+        Ok((SystemContents::of_device(alloc, device)?, rest))
+    } else {
+        let (mappings, rest) = mappings(alloc, tokens)?;
+        Ok((SystemContents::of_mappings(alloc, mappings), rest))
+    }
+}
+
+/// Reads the sections of a system.
+#[derive(Drop)]
+struct SystemReader;
+
+impl Reader for SystemReader {
+    type Item = SystemContents;
+
+    ghost Tree = { SystemContentsTree };
+
+    ghost view = { system_contents_tree };
+
+    ghost reads = { λ _. read system_section };
+
+    fn read<'a>(
+        &self,
+        alloc: Global,
+        tokens: &'a [Lexeme],
+    ) -> Result<(SystemContents, &'a [Lexeme]), Stop<'a>> {
+        system_section(alloc, tokens)
+    }
+}
+
+/// Sections of a system, as long as they come.
+#[tactic(auto, unfolding(crate::specs::Grammar::system_section, crate::specs::Grammar::application, fb_sections::specs::SystemParts::device, fb_sections::specs::SystemParts::mappings))]
+fn sections(alloc: Global, tokens: &[Lexeme]) -> Result<(SystemContents, &[Lexeme]), Stop<'_>>
+    ensures { Gives (λ x. (system_contents_tree x.0, x.1.now)) result (read (as_value system_joined (many system_section)) tokens.now) }
+{
+    let firsts = [Kind::Application, Kind::Device, Kind::Mappings];
+    let (sections, rest) = several(&SystemReader, alloc, &firsts, tokens)?;
+    Ok((joined(alloc, sections)?, rest))
+}
+
+#[tactic(auto, unfolding(crate::specs::Grammar::system))]
+pub fn system(alloc: Global, tokens: &[Lexeme]) -> Result<(System, &[Lexeme]), Stop<'_>>
+    ensures { Gives (λ x. (system_tree x.0, x.1.now)) result (read system tokens.now) }
+{
+    let (_, rest) = key(tokens, Kind::System)?;
+    let (name, rest) = name(rest)?;
+    let (contents, rest) = sections(alloc, rest)?;
+    let (_, rest) = key(rest, Kind::EndSystem)?;
+    let system = System {
+        name: name.name_use(),
+        applications: contents.applications,
+        devices: contents.devices,
+        mappings: contents.mappings,
+    };
+    Ok((system, rest))
+}

@@ -1,0 +1,167 @@
+//! The declarations of units.
+
+ghost use Rattle.fb_forms.specs.Gives.{Gives};
+ghost use Rattle.fb_forms.specs.Reading.{read};
+ghost use Rattle.fb_parse.specs.Contents.{contents_tree};
+ghost use Rattle.fb_parse.specs.Grammar.{adapter, application, block, subapplication, type_of, unit};
+ghost use Rattle.fb_tree.specs.Tree.{application_tree, decl_tree, type_tree};
+ghost use Rattle.std.specs.Prelude.{◌≡◌};
+
+use crate::frame::{Frame, Named, framed};
+use crate::system::system;
+use fb_forms::{Stop, is_next};
+use fb_lexemes::{Kind, Lexeme};
+use fb_tree::{Application, Decl, TypeDeclaration};
+use std::alloc::Global;
+
+/// What begins a section of a block type.
+const BLOCK: [Kind; 15] = [
+    Kind::EventInput,
+    Kind::EventOutput,
+    Kind::VarInput,
+    Kind::VarOutput,
+    Kind::Plugs,
+    Kind::Sockets,
+    Kind::Var,
+    Kind::Fbs,
+    Kind::EventConnections,
+    Kind::DataConnections,
+    Kind::AdapterConnections,
+    Kind::EcStates,
+    Kind::EcTransitions,
+    Kind::Algorithm,
+    Kind::Service,
+];
+
+/// What begins a section of an adapter type.
+const ADAPTER: [Kind; 5] = [
+    Kind::EventInput,
+    Kind::EventOutput,
+    Kind::VarInput,
+    Kind::VarOutput,
+    Kind::Service,
+];
+
+/// What begins a section of a subapplication type.
+const SUBAPPLICATION: [Kind; 12] = [
+    Kind::EventInput,
+    Kind::EventOutput,
+    Kind::VarInput,
+    Kind::VarOutput,
+    Kind::Plugs,
+    Kind::Sockets,
+    Kind::Fbs,
+    Kind::EventConnections,
+    Kind::DataConnections,
+    Kind::AdapterConnections,
+    Kind::Subapps,
+    Kind::Service,
+];
+
+/// What begins a section of an application.
+const APPLICATION: [Kind; 5] = [
+    Kind::Fbs,
+    Kind::EventConnections,
+    Kind::DataConnections,
+    Kind::AdapterConnections,
+    Kind::Subapps,
+];
+
+fn type_of(named: Named) -> TypeDeclaration
+    ensures { type_tree result ≡ type_of (named.name, contents_tree named.contents) }
+{
+    TypeDeclaration {
+        name: named.name,
+        interface: named.contents.interface,
+        network: named.contents.network,
+        chart: named.contents.chart,
+    }
+}
+
+#[tactic(auto, unfolding(crate::specs::Grammar::block), using(crate::proofs::Predictive::block_sections_begin))]
+fn block(alloc: Global, tokens: &[Lexeme]) -> Result<(TypeDeclaration, &[Lexeme]), Stop<'_>>
+    ensures { Gives (λ x. (type_tree x.0, x.1.now)) result (read block tokens.now) }
+{
+    let (named, rest) = framed(
+        alloc,
+        Kind::FunctionBlock,
+        Frame::Block,
+        &BLOCK,
+        Kind::EndFunctionBlock,
+        tokens,
+    )?;
+    Ok((type_of(named), rest))
+}
+
+#[tactic(auto, unfolding(crate::specs::Grammar::adapter), using(crate::proofs::Predictive::adapter_sections_begin))]
+fn adapter(alloc: Global, tokens: &[Lexeme]) -> Result<(TypeDeclaration, &[Lexeme]), Stop<'_>>
+    ensures { Gives (λ x. (type_tree x.0, x.1.now)) result (read adapter tokens.now) }
+{
+    let (named, rest) = framed(
+        alloc,
+        Kind::Adapter,
+        Frame::Adapter,
+        &ADAPTER,
+        Kind::EndAdapter,
+        tokens,
+    )?;
+    Ok((type_of(named), rest))
+}
+
+#[tactic(auto, unfolding(crate::specs::Grammar::subapplication), using(crate::proofs::Predictive::subapplication_sections_begin))]
+fn subapplication(
+    alloc: Global,
+    tokens: &[Lexeme],
+) -> Result<(TypeDeclaration, &[Lexeme]), Stop<'_>>
+    ensures { Gives (λ x. (type_tree x.0, x.1.now)) result (read subapplication tokens.now) }
+{
+    let (named, rest) = framed(
+        alloc,
+        Kind::Subapplication,
+        Frame::Subapplication,
+        &SUBAPPLICATION,
+        Kind::EndSubapplication,
+        tokens,
+    )?;
+    Ok((type_of(named), rest))
+}
+
+/// An application of a system.
+#[tactic(auto, unfolding(crate::specs::Grammar::application), using(crate::proofs::Predictive::application_sections_begin))]
+pub fn application(alloc: Global, tokens: &[Lexeme]) -> Result<(Application, &[Lexeme]), Stop<'_>>
+    ensures { Gives (λ x. (application_tree x.0, x.1.now)) result (read application tokens.now) }
+{
+    let (named, rest) = framed(
+        alloc,
+        Kind::Application,
+        Frame::Application,
+        &APPLICATION,
+        Kind::EndApplication,
+        tokens,
+    )?;
+    let application = Application {
+        name: named.name,
+        network: named.contents.network,
+    };
+    Ok((application, rest))
+}
+
+/// A unit at the front of the tokens.
+#[tactic(auto, unfolding(crate::specs::Grammar::unit, crate::specs::Grammar::block, crate::specs::Grammar::adapter, crate::specs::Grammar::subapplication))]
+pub fn unit(alloc: Global, tokens: &[Lexeme]) -> Result<(Decl, &[Lexeme]), Stop<'_>>
+    ensures { Gives (λ x. (decl_tree x.0, x.1.now)) result (read unit tokens.now) }
+{
+    if is_next(tokens, &[Kind::FunctionBlock]) {
+        let (block, rest) = block(alloc, tokens)?;
+        Ok((Decl::Block(block), rest))
+    } else if is_next(tokens, &[Kind::Adapter]) {
+        let (adapter, rest) = adapter(alloc, tokens)?;
+        Ok((Decl::Adapter(adapter), rest))
+    } else if is_next(tokens, &[Kind::Subapplication]) {
+        let (subapplication, rest) = subapplication(alloc, tokens)?;
+        Ok((Decl::Subapplication(subapplication), rest))
+    } else {
+        let (system, rest) = system(alloc, tokens)?;
+        Ok((Decl::System(system), rest))
+    }
+}

@@ -1,0 +1,113 @@
+//! Connections and their ends.
+
+ghost use Rattle.fb_forms.specs.Gives.{Gives};
+ghost use Rattle.fb_forms.specs.Reading.{read};
+ghost use Rattle.fb_sections.specs.Network.{connection, connections, end, end_in};
+ghost use Rattle.fb_tree.specs.declared.network.Connection.{Connection};
+ghost use Rattle.std.specs.Prelude.{◌≡◌};
+
+use crate::frame::{name_in, optional_name, section};
+use fb_forms::{Reader, Stop, is_next, key, name};
+use fb_lexemes::{Kind, Lexeme};
+use fb_tree::{Connection, End, Sort};
+use std::alloc::Global;
+
+/// The tokens of an end. An end itself, with its copied names, is nothing that `?` takes beside a reference.
+#[derive(Clone, Copy)]
+pub struct EndTokens<'a> {
+    pub name: &'a Lexeme,
+    pub port: Option<&'a Lexeme>,
+}
+
+impl EndTokens<'_> {
+    /// The end that they spell.
+    pub fn end(self) -> End
+        ensures { result ≡ end_in self.entry }
+    {
+        End {
+            name: self.name.name_use(),
+            port: name_in(self.port),
+        }
+    }
+}
+
+/// An end of a connection, by its tokens.
+#[tactic(auto, unfolding(crate::specs::Network::end))]
+pub fn end(tokens: &[Lexeme]) -> Result<(EndTokens<'_>, &[Lexeme]), Stop<'_>>
+    ensures { Gives (λ x. (end_in x.0, x.1.now)) result (read end tokens.now) }
+{
+    let (name, rest) = name(tokens)?;
+    let (port, rest) = optional_name(rest, Kind::Point)?;
+    Ok((EndTokens { name, port }, rest))
+}
+
+/// Reads connections of a sort.
+#[derive(Drop)]
+struct ConnectionReader {
+    sort: Sort,
+}
+
+impl Reader for ConnectionReader {
+    type Item = Connection;
+
+    ghost Tree = { Connection };
+
+    ghost view = { λ connection. connection };
+
+    ghost reads = { λ reader. read (connection reader.sort) };
+
+    #[tactic(auto, unfolding(crate::specs::Network::connection))]
+    fn read<'a>(
+        &self,
+        _alloc: Global,
+        tokens: &'a [Lexeme],
+    ) -> Result<(Connection, &'a [Lexeme]), Stop<'a>> {
+        let (source, rest) = end(tokens)?;
+        let (_, rest) = key(rest, Kind::To)?;
+        let (destination, rest) = end(rest)?;
+        let (_, rest) = key(rest, Kind::Semicolon)?;
+        let connection = Connection {
+            sort: self.sort,
+            source: source.end(),
+            destination: destination.end(),
+        };
+        Ok((connection, rest))
+    }
+}
+
+/// A section of connections.
+#[tactic(auto, unfolding(crate::specs::Network::connections, crate::specs::Network::connection, crate::specs::Network::end, fb_forms::specs::Words::name), using(fb_forms::proofs::Repeating::as_they_are))]
+pub fn connections(
+    alloc: Global,
+    tokens: &[Lexeme],
+) -> Result<(Vec<Connection>, &[Lexeme]), Stop<'_>>
+    ensures { Gives (λ x. (x.0.items, x.1.now)) result (read connections tokens.now) }
+{
+    if is_next(tokens, &[Kind::EventConnections]) {
+        section(
+            Kind::EventConnections,
+            &ConnectionReader { sort: Sort::Event },
+            Kind::EndConnections,
+            alloc,
+            tokens,
+        )
+    } else if is_next(tokens, &[Kind::DataConnections]) {
+        section(
+            Kind::DataConnections,
+            &ConnectionReader { sort: Sort::Data },
+            Kind::EndConnections,
+            alloc,
+            tokens,
+        )
+    } else {
+        section(
+            Kind::AdapterConnections,
+            &ConnectionReader {
+                sort: Sort::Adapter,
+            },
+            Kind::EndConnections,
+            alloc,
+            tokens,
+        )
+    }
+}

@@ -1,0 +1,54 @@
+//! What sections have in common.
+
+ghost use Rattle.fb_forms.specs.Gives.{Gives};
+ghost use Rattle.fb_forms.specs.Reading.{read};
+ghost use Rattle.fb_lexemes.specs.Lexemes.{name_use};
+ghost use Rattle.fb_sections.specs.Sections.{optional_name, read_section};
+ghost use Rattle.std.specs.Prelude.{◌≡◌, map, option_map};
+
+use fb_forms::{NAMES, Reader, Stop, is_next, key, name, several};
+use fb_lexemes::{Kind, Lexeme};
+use fb_text::NameUse;
+use std::alloc::Global;
+
+/// A token of this kind and a name, where the token is there.
+#[tactic(auto, unfolding(crate::specs::Sections::optional_name))]
+pub fn optional_name(
+    tokens: &[Lexeme],
+    kind: Kind,
+) -> Result<(Option<&Lexeme>, &[Lexeme]), Stop<'_>>
+    ensures { Gives (λ x. (option_map (λ l. name_use l.now) x.0, x.1.now)) result (read (optional_name kind) tokens.now) }
+{
+    if !is_next(tokens, &[kind]) {
+        return Ok((None, tokens));
+    }
+    let (_, rest) = key(tokens, kind)?;
+    let (found, rest) = name(rest)?;
+    Ok((Some(found), rest))
+}
+
+/// The name of a token, where there is one.
+pub fn name_in(token: Option<&Lexeme>) -> Option<NameUse>
+    ensures { result ≡ option_map (λ l. name_use l.now) token.entry }
+{
+    match token {
+        Some(token) => Some(token.name_use()),
+        None => None,
+    }
+}
+
+/// A word, items that begin with names, and another word.
+pub fn section<'a, R: Reader>(
+    start: Kind,
+    reader: &R,
+    end: Kind,
+    alloc: Global,
+    tokens: &'a [Lexeme],
+) -> Result<(Vec<R::Item>, &'a [Lexeme]), Stop<'a>>
+    ensures { Gives (λ x. (map R.view x.0.items, x.1.now)) result (read_section start (R.reads reader.now) end tokens.now) }
+{
+    let (_, rest) = key(tokens, start)?;
+    let (items, rest) = several(reader, alloc, &NAMES, rest)?;
+    let (_, rest) = key(rest, end)?;
+    Ok((items, rest))
+}

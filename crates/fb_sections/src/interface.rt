@@ -1,0 +1,188 @@
+//! Events and variables.
+
+ghost use Rattle.fb_forms.specs.Gives.{Gives};
+ghost use Rattle.fb_forms.specs.Reading.{read};
+ghost use Rattle.fb_sections.specs.Interface.{data_variables, event, events, initial, internal_variables, variables, with_names};
+ghost use Rattle.fb_tree.specs.Tree.{EventTree, VariablesTree, constant_tree, event_tree, variables_tree};
+ghost use Rattle.std.specs.Prelude.{◌≡◌, map, option_map};
+
+use crate::constants::{constant, type_use};
+use crate::frame::{name_in, optional_name, section};
+use fb_forms::{Reader, Stop, is_next, key, name, names};
+use fb_lexemes::{Kind, Lexeme};
+use fb_text::NameUse;
+use fb_tree::{Constant, Event, Section, Side, Variables};
+use std::alloc::Global;
+
+/// The names behind WITH, where it is written.
+#[tactic(auto, unfolding(crate::specs::Interface::with_names))]
+fn with_names(alloc: Global, tokens: &[Lexeme]) -> Result<(Vec<NameUse>, &[Lexeme]), Stop<'_>>
+    ensures { Gives (λ x. (x.0.items, x.1.now)) result (read with_names tokens.now) }
+{
+    if !is_next(tokens, &[Kind::With]) {
+        return Ok((Vec::new(alloc), tokens));
+    }
+    let (_, rest) = key(tokens, Kind::With)?;
+    names(alloc, rest)
+}
+
+/// Reads events of a side.
+#[derive(Drop)]
+struct EventReader {
+    side: Side,
+}
+
+impl Reader for EventReader {
+    type Item = Event;
+
+    ghost Tree = { EventTree };
+
+    ghost view = { event_tree };
+
+    ghost reads = { λ reader. read (event reader.side) };
+
+    #[tactic(auto, unfolding(crate::specs::Interface::event))]
+    fn read<'a>(
+        &self,
+        alloc: Global,
+        tokens: &'a [Lexeme],
+    ) -> Result<(Event, &'a [Lexeme]), Stop<'a>> {
+        let (name, rest) = name(tokens)?;
+        let (type_name, rest) = optional_name(rest, Kind::Colon)?;
+        let (with, rest) = with_names(alloc, rest)?;
+        let (_, rest) = key(rest, Kind::Semicolon)?;
+        let event = Event {
+            side: self.side,
+            name: name.name_use(),
+            type_name: name_in(type_name),
+            with,
+        };
+        Ok((event, rest))
+    }
+}
+
+/// A section of events.
+#[tactic(auto, unfolding(crate::specs::Interface::events, crate::specs::Interface::event, fb_forms::specs::Words::name))]
+pub fn events(alloc: Global, tokens: &[Lexeme]) -> Result<(Vec<Event>, &[Lexeme]), Stop<'_>>
+    ensures { Gives (λ x. (map event_tree x.0.items, x.1.now)) result (read events tokens.now) }
+{
+    if is_next(tokens, &[Kind::EventInput]) {
+        section(
+            Kind::EventInput,
+            &EventReader { side: Side::Input },
+            Kind::EndEvent,
+            alloc,
+            tokens,
+        )
+    } else {
+        section(
+            Kind::EventOutput,
+            &EventReader { side: Side::Output },
+            Kind::EndEvent,
+            alloc,
+            tokens,
+        )
+    }
+}
+
+/// The initial value, where one is written.
+#[tactic(auto, unfolding(crate::specs::Interface::initial))]
+fn initial(alloc: Global, tokens: &[Lexeme]) -> Result<(Option<Constant>, &[Lexeme]), Stop<'_>>
+    ensures { Gives (λ x. (option_map constant_tree x.0, x.1.now)) result (read initial tokens.now) }
+{
+    if !is_next(tokens, &[Kind::Assign]) {
+        return Ok((None, tokens));
+    }
+    let (_, rest) = key(tokens, Kind::Assign)?;
+    let (value, rest) = constant(alloc, rest)?;
+    Ok((Some(value), rest))
+}
+
+/// Reads variables of a section.
+#[derive(Drop)]
+struct VariablesReader {
+    section: Section,
+}
+
+impl Reader for VariablesReader {
+    type Item = Variables;
+
+    ghost Tree = { VariablesTree };
+
+    ghost view = { variables_tree };
+
+    ghost reads = { λ reader. read (variables reader.section) };
+
+    #[tactic(auto, unfolding(crate::specs::Interface::variables))]
+    fn read<'a>(
+        &self,
+        alloc: Global,
+        tokens: &'a [Lexeme],
+    ) -> Result<(Variables, &'a [Lexeme]), Stop<'a>> {
+        let (names, rest) = names(alloc, tokens)?;
+        let (_, rest) = key(rest, Kind::Colon)?;
+        let (type_use, rest) = match type_use(alloc, rest) {
+            Ok(found) => found,
+            Err(stop) => return Err(stop),
+        };
+        let (initial, rest) = initial(alloc, rest)?;
+        let (_, rest) = key(rest, Kind::Semicolon)?;
+        let variables = Variables {
+            section: self.section,
+            names,
+            type_use,
+            initial,
+        };
+        Ok((variables, rest))
+    }
+}
+
+/// A section of data inputs or outputs.
+#[tactic(auto, unfolding(crate::specs::Interface::data_variables, crate::specs::Interface::variables, fb_forms::specs::Words::names, fb_forms::specs::Words::name))]
+pub fn data_variables(
+    alloc: Global,
+    tokens: &[Lexeme],
+) -> Result<(Vec<Variables>, &[Lexeme]), Stop<'_>>
+    ensures { Gives (λ x. (map variables_tree x.0.items, x.1.now)) result (read data_variables tokens.now) }
+{
+    if is_next(tokens, &[Kind::VarInput]) {
+        section(
+            Kind::VarInput,
+            &VariablesReader {
+                section: Section::Input,
+            },
+            Kind::EndVar,
+            alloc,
+            tokens,
+        )
+    } else {
+        section(
+            Kind::VarOutput,
+            &VariablesReader {
+                section: Section::Output,
+            },
+            Kind::EndVar,
+            alloc,
+            tokens,
+        )
+    }
+}
+
+/// A section of internal variables.
+#[tactic(auto, unfolding(crate::specs::Interface::internal_variables, crate::specs::Interface::variables, fb_forms::specs::Words::names, fb_forms::specs::Words::name))]
+pub fn internal_variables(
+    alloc: Global,
+    tokens: &[Lexeme],
+) -> Result<(Vec<Variables>, &[Lexeme]), Stop<'_>>
+    ensures { Gives (λ x. (map variables_tree x.0.items, x.1.now)) result (read internal_variables tokens.now) }
+{
+    section(
+        Kind::Var,
+        &VariablesReader {
+            section: Section::Internal,
+        },
+        Kind::EndVar,
+        alloc,
+        tokens,
+    )
+}

@@ -1,0 +1,25 @@
+//! Reading the sections of declarations (IEC 61499-1, annex B): events, variables, instances, connections, states, and the parts of systems.
+//!
+//! Each function reads one section from the front of the tokens, and gives it with the tokens behind it, or the tokens from the
+//! first one that does not go on.
+#![tactic(auto)]
+
+mod chart;
+mod connecting;
+mod constants;
+mod frame;
+mod instances;
+mod interface;
+mod skipped;
+mod system_parts;
+
+pub use chart::states;
+pub use connecting::{EndTokens, connections, end};
+pub use frame::section;
+pub use instances::{blocks, plugs, sockets, subapplications};
+pub use interface::{data_variables, events, internal_variables};
+pub use skipped::{service, skip};
+pub use system_parts::{device, mappings};
+
+#[cfg(test)]
+mod tests;

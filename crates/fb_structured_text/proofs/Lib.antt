@@ -1,0 +1,4 @@
+pub mod Rows
+pub mod ExpressionLevels
+pub mod StatementLevels
+pub mod Bodies

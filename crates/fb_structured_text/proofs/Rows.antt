@@ -1,0 +1,121 @@
+-- Reading rows of operands.
+use Rattle.std.proofs.Common.{◌≡◌, ℕ, zero, suc, ◌+◌, ◌<◌, Bool, true, false, List, [], ◌∷◌, length, drop, Ok, Err, refl, ap, ◌∙◌, add-one}
+use Rattle.std.proofs.Math.Seq.{drop-cons}
+use Rattle.fb_lexemes.specs.declared.kind.Kind.{Kind}
+use Rattle.fb_lexemes.specs.declared.lexeme.Lexeme.{Lexeme}
+use Rattle.fb_forms.specs.declared.stop.Stop.{Stop}
+use Rattle.fb_forms.specs.declared.stop.Stop.TheVariants.{Memory, Broken}
+use Rattle.fb_forms.specs.Form.{Form, many, as_value}
+use Rattle.fb_forms.specs.Gives.{Fails}
+use Rattle.fb_lexemes.specs.Kind.{name_kinds}
+use Rattle.fb_forms.specs.Words.{name}
+use Rattle.fb_forms.specs.Reading.{Outcome, ◌>>=◌, is_next, first, read_each, read}
+use Rattle.fb_forms.proofs.Loops.{many_none, Begins}
+use Rattle.fb_tree.specs.declared.expression.BinaryUse.{BinaryUse}
+use Rattle.fb_tree.specs.Expression.{Expression, row_expression, operands_of}
+use Rattle.fb_structured_text.specs.Operators.{operators, strengths}
+use Rattle.fb_structured_text.specs.Expression.{expression, rows, unary, primary, row, operand, row_of, literal, reference_value, deep_reference, deep_primary, member_name, parenthesized}
+
+pub begins-operand : (kinds : List Kind) (x : Form Expression) → Begins (operand kinds x) kinds
+unfolding operand
+begins-operand kinds x = record { filled = refl; first = refl }
+
+-- what a row stands for
+abbrev finish : Expression → Outcome (List (BinaryUse × Expression)) → Outcome Expression
+finish e r = r >>= λ b. Ok (row_of e b.0, b.1)
+
+abbrev paired : Expression → Outcome (List (BinaryUse × Expression)) → Outcome (Expression × List (BinaryUse × Expression))
+paired e r = r >>= λ b. Ok ((e, b.0), b.1)
+
+finish-paired : (e : Expression) (r : Outcome (List (BinaryUse × Expression))) → (paired e r >>= λ p. Ok (row_of p.0.0 p.0.1, p.1)) ≡ finish e r
+finish-paired e (Ok b) = refl
+finish-paired e (Err rest) = refl
+
+read-row : (kinds : List Kind) (x : Form Expression) (ts : List Lexeme) (e : Expression) (mid : List Lexeme) → read x ts ≡ Ok (e, mid) → read (row kinds x) ts ≡ finish e (read (many (operand kinds x)) mid)
+unfolding row
+read-row kinds x ts e mid h = rw h (finish-paired e (read (many (operand kinds x)) mid))
+
+next-operand : (kinds : List Kind) (x : Form Expression) (ts : List Lexeme) (t : Bool) → is_next kinds ts ≡ t → is_next (first (operand kinds x)) ts ≡ t
+next-operand kinds x ts t h = ap (λ (k : List Kind). is_next k ts) (begins-operand kinds x).first ∙ h
+
+-- no operator comes
+pub row_one : (kinds : List Kind) (x : Form Expression) (ts : List Lexeme) (e : Expression) (mid : List Lexeme) → read x ts ≡ Ok (e, mid) → is_next kinds mid ≡ false → read (row kinds x) ts ≡ Ok (e, mid)
+row_one kinds x ts e mid h next = read-row kinds x ts e mid h ∙ ap (finish e) (many_none (operand kinds x) mid (next-operand kinds x mid false next))
+
+nil_cons : {A : Type 0} (v : A) (vs : List A) → [] ≡ v ∷ vs → ⊥
+nil_cons v vs h = cc
+
+list_part : {A : Type 0} (r : Outcome (List A)) (a b : List A × List Lexeme) → r ≡ Ok a → r ≡ Ok b → a.0 ≡ b.0
+list_part {A} r a b e f = let same : a ≡ b = cc in ap (λ (z : List A × List Lexeme). z.0) same
+
+not_none_here : {A : Type 0} (v : A) (r : Outcome (List A)) (rest : List Lexeme) → (r >>= λ vs. Ok (v ∷ vs.0, vs.1)) ≡ Ok ([], rest) → ⊥
+not_none_here {A} v (Ok vs) rest h =
+    let whole : Outcome (List A) = Ok (v ∷ vs.0, vs.1) in
+    nil_cons v vs.0 (list_part whole ([], rest) (v ∷ vs.0, vs.1) h refl)
+not_none_here v (Err d) rest h = cc h
+
+not_none : {A : Type 0} (r : Outcome A) (f : A × List Lexeme → Outcome (List A)) (rest : List Lexeme) → (r >>= λ v. f v >>= λ vs. Ok (v.0 ∷ vs.0, vs.1)) ≡ Ok ([], rest) → ⊥
+not_none (Ok v) f rest h = not_none_here v.0 (f v) rest h
+not_none (Err d) f rest h = cc h
+
+several_read : {A : Type 0} (x : Form A) (ts rest : List Lexeme) → is_next (first x) ts ≡ true → read (many x) ts ≡ Ok ([], rest) → ⊥
+several_read x [] rest next h = cc next
+several_read x (t ∷ ts) rest next h = not_none (read x (t ∷ ts)) (λ v. read_each (read x) (first x) (length ts) v.1) rest (rw next at h)
+
+row-of-some : (e : Expression) (os : List (BinaryUse × Expression)) → (os ≡ [] → ⊥) → row_of e os ≡ row_expression e (operands_of os)
+row-of-some e [] some = absurd (some refl)
+row-of-some e (o ∷ os) some = refl
+
+-- operators and operands come
+pub row_done : (kinds : List Kind) (x : Form Expression) (ts : List Lexeme) (e : Expression) (mid : List Lexeme) (os : List (BinaryUse × Expression)) (rest : List Lexeme)
+    → read x ts ≡ Ok (e, mid) → is_next kinds mid ≡ true → read (many (operand kinds x)) mid ≡ Ok (os, rest)
+    → read (row kinds x) ts ≡ Ok (row_expression e (operands_of os), rest)
+row_done kinds x ts e mid os rest h next more =
+    let some : os ≡ [] → ⊥ = λ none. several_read (operand kinds x) mid rest (next-operand kinds x mid true next) (more ∙ ap (λ (z : List (BinaryUse × Expression)). Ok (z, rest)) none) in
+    read-row kinds x ts e mid h ∙ ap (finish e) more ∙ ap (λ (z : Expression). Ok (z, rest)) (row-of-some e os some)
+
+pub row_fails : (kinds : List Kind) (x : Form Expression) (ts : List Lexeme) (e : Expression) (mid : List Lexeme) (stop : Stop)
+    → read x ts ≡ Ok (e, mid) → Fails stop (read (many (operand kinds x)) mid) → Fails stop (read (row kinds x) ts)
+row_fails kinds x ts e mid Memory h fails = tt
+row_fails kinds x ts e mid (Broken place) h fails = read-row kinds x ts e mid h ∙ ap (finish e) fails
+
+-- a row fails where its first operand does
+pub row_first_fails : (kinds : List Kind) (x : Form Expression) (ts : List Lexeme) (stop : Stop) → Fails stop (read x ts) → Fails stop (read (row kinds x) ts)
+unfolding row
+row_first_fails kinds x ts Memory h = tt
+row_first_fails kinds x ts (Broken place) h = rw h refl
+
+rows_cons : (kinds : List Kind) (stronger : List (List Kind)) (x : Form Expression) → rows (kinds ∷ stronger) x ≡ row kinds (rows stronger x)
+unfolding rows
+rows_cons kinds stronger x = refl
+
+-- the operators of a strength stand between rows of the stronger ones
+pub rows_step : (s : ℕ) (x : Form Expression) → s < 8 → rows (drop s strengths) x ≡ row (operators s) (rows (drop (s + 1) strengths) x)
+rows_step s x h =
+    let parts : drop s strengths ≡ operators s ∷ drop (s + 1) strengths = rw add-one (drop-cons strengths s [] h) in
+    ap (λ (k : List (List Kind)). rows k x) parts ∙ rows_cons (operators s) (drop (s + 1) strengths) x
+
+pub rows_none : (x : Form Expression) → rows [] x ≡ x
+unfolding rows
+rows_none x = refl
+
+pub expression_is : (n : ℕ) → expression n ≡ rows strengths (unary (primary n))
+unfolding expression
+expression_is zero = refl
+expression_is (suc n) = refl
+
+first-reference : (inner : Form Expression) → first (as_value reference_value (deep_reference inner)) ≡ name_kinds
+unfolding deep_reference member_name name
+first-reference inner = refl
+
+pub primary_reference : (inner : Form Expression) (ts : List Lexeme) → is_next (first literal) ts ≡ false → is_next name_kinds ts ≡ true → read (deep_primary inner) ts ≡ read (as_value reference_value (deep_reference inner)) ts
+unfolding deep_primary
+primary_reference inner ts h g =
+    let next : is_next (first (as_value reference_value (deep_reference inner))) ts ≡ true = ap (λ (k : List Kind). is_next k ts) (first-reference inner) ∙ g in
+    rw (h, next) refl
+
+pub primary_parentheses : (inner : Form Expression) (ts : List Lexeme) → is_next (first literal) ts ≡ false → is_next name_kinds ts ≡ false → read (deep_primary inner) ts ≡ read (parenthesized inner) ts
+unfolding deep_primary
+primary_parentheses inner ts h g =
+    let next : is_next (first (as_value reference_value (deep_reference inner))) ts ≡ false = ap (λ (k : List Kind). is_next k ts) (first-reference inner) ∙ g in
+    rw (h, next) refl

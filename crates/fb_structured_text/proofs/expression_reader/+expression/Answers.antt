@@ -1,0 +1,106 @@
+use Rattle.std.proofs.Common.{◌≡◌, ◌<◌, ◌+◌, ◌∷◌, [], true, false, Ok, List, map, drop, ap, sym, refl, ◌∙◌, arith}
+use Rattle.std.proofs.lemmas.Result.{err_from_is_err_and}
+use Rattle.fb_lexemes.specs.declared.kind.Kind.{Kind}
+use Rattle.fb_lexemes.specs.declared.kind.Kind.TheVariants.{Comma}
+use Rattle.fb_tree.specs.declared.expression.BinaryUse.{BinaryUse}
+use Rattle.fb_tree.specs.declared.expression.Expr.{Expr}
+use Rattle.fb_tree.specs.declared.expression.Expr.TheOpen.{Row as RowF}
+use denote.Hole.Carrier.{roll}
+use Rattle.fb_tree.specs.declared.expression.Expr.TheViews.{roll-Expr}
+use Rattle.fb_tree.specs.declared.expression.Expr.TheFolds.{fold-roll-Expr}
+use Rattle.fb_tree.specs.Expression.{Expression, row_expression, operands_of, expression_step, expression_tree}
+use Rattle.fb_structured_text.specs.Expression.{expression, expressions, operand, primary, rows, unary}
+use Rattle.fb_structured_text.specs.Operators.{operators, strengths}
+use Rattle.fb_structured_text.proofs.Rows.{begins-operand, row_one, row_done, row_fails, row_first_fails, rows_step, rows_none, expression_is, primary_reference, primary_parentheses}
+use Rattle.fb_forms.specs.Form.{many}
+use Rattle.fb_forms.specs.Reading.{is_next, read}
+use Rattle.fb_forms.specs.Words.{further}
+use Rattle.fb_forms.proofs.Loops.{shorter, push_more, push_fails, push_done}
+use Rattle.fb_structured_text.proofs.expression_reader.+expression.Goals as goal
+
+pub deep_primary-returns-then-is_next : goal.deep_primary-returns-then-is_next
+deep_primary-returns-then-is_next t c =
+    rw (primary_reference (expression c.args.below) c.args.tokens.now (sym c.is_literal.ensures ∙ c.if-is_literal.false) (sym c.is_next.ensures ∙ c.if-is_next.true)) c.variable_operand.ensures
+
+pub deep_primary-returns-else-is_next : goal.deep_primary-returns-else-is_next
+deep_primary-returns-else-is_next t c =
+    rw (primary_parentheses (expression c.args.below) c.args.tokens.now (sym c.is_literal.ensures ∙ c.if-is_literal.false) (sym c.is_next.ensures ∙ c.if-is_next.false)) c.parenthesized.ensures
+
+pub expression-returns : goal.expression-returns
+expression-returns t c = rw (expression_is c.args.left) c.row.ensures
+
+pub expressions-loop-alloc-smaller : goal.expressions-loop-alloc-smaller
+expressions-loop-alloc-smaller t c = shorter (further (expression c.args.below)) c.loop-alloc.rest.now (expression_tree c.in_ok-next.next) c.in_ok-next.behind.now refl c.in_ok-next.ensures
+
+pub expressions-loop-alloc-preserved : goal.expressions-loop-alloc-preserved
+expressions-loop-alloc-preserved t c =
+    push_more expression_tree (further (expression c.args.below)) (Comma ∷ []) c.loop-alloc.expressions.items c.push-in-loop-alloc.new.self.items c.in_ok-next.next c.loop-alloc.rest.now c.in_ok-next.behind.now (read (expressions (expression c.args.below)) c.args.tokens.now)
+    (record { filled = refl; first = refl }) (sym c.is_next.ensures ∙ c.loop-alloc-test.true) c.in_ok-next.ensures c.in_ok-push-2.ensures.items c.loop-alloc.invariant
+
+abbrev pair_tree : BinaryUse × Expr → BinaryUse × Expression
+pair_tree o = (o.0, expression_tree o.1)
+
+pub operands-loop-alloc-smaller : goal.operands-loop-alloc-smaller
+operands-loop-alloc-smaller t c =
+    let kinds = operators c.args.strength in
+    let x = rows (drop (c.args.strength + 1) strengths) (unary (primary c.args.left)) in
+    shorter (operand kinds x) c.loop-alloc.rest.now (pair_tree c.in_ok-next.next) c.in_ok-next.behind.now (begins-operand kinds x).filled c.in_ok-next.ensures
+
+pub operands-loop-alloc-preserved : goal.operands-loop-alloc-preserved
+operands-loop-alloc-preserved t c =
+    let kinds = operators c.args.strength in
+    let x = rows (drop (c.args.strength + 1) strengths) (unary (primary c.args.left)) in
+    let next : is_next kinds c.loop-alloc.rest.now ≡ true = ap (λ (k : List Kind). is_next k c.loop-alloc.rest.now) (sym c.operators.ensures) ∙ sym c.is_next.ensures ∙ c.loop-alloc-test.true in
+    push_more pair_tree (operand kinds x) kinds c.loop-alloc.operands.items c.push.new.self.items c.in_ok-next.next c.loop-alloc.rest.now c.in_ok-next.behind.now (read (many (operand kinds x)) c.args.tokens.now)
+    (begins-operand kinds x) next c.in_ok-next.ensures c.in_ok-push.ensures.items c.loop-alloc.invariant
+
+pub operands-returns-in_err-next : goal.operands-returns-in_err-next
+operands-returns-in_err-next t c =
+    let p = err_from_is_err_and c.from_residual.result c.from_residual.ensures.1 in
+    let kinds = operators c.args.strength in
+    let x = rows (drop (c.args.strength + 1) strengths) (unary (primary c.args.left)) in
+    let next : is_next kinds c.loop-alloc.rest.now ≡ true = ap (λ (k : List Kind). is_next k c.loop-alloc.rest.now) (sym c.operators.ensures) ∙ sym c.is_next.ensures ∙ c.loop-alloc-test.true in
+    rw (p.1, p.2) (push_fails (operand kinds x) kinds (map pair_tree c.loop-alloc.operands.items) c.loop-alloc.rest.now c.in_err-next.field-0.0 (read (many (operand kinds x)) c.args.tokens.now)
+    (begins-operand kinds x) next c.in_err-next.ensures c.loop-alloc.invariant)
+
+pub operands-returns : goal.operands-returns
+operands-returns t c =
+    let kinds = operators c.args.strength in
+    let x = rows (drop (c.args.strength + 1) strengths) (unary (primary c.args.left)) in
+    let next : is_next kinds c.loop-alloc.rest.now ≡ false = ap (λ (k : List Kind). is_next k c.loop-alloc.rest.now) (sym c.operators.ensures) ∙ sym c.is_next.ensures ∙ c.loop-alloc-test.false in
+    push_done (operand kinds x) kinds (map pair_tree c.loop-alloc.operands.items) c.loop-alloc.rest.now (read (many (operand kinds x)) c.args.tokens.now) (begins-operand kinds x) next c.loop-alloc.invariant
+
+pub row-returns-then-strength-eq8 : goal.row-returns-then-strength-eq8
+row-returns-then-strength-eq8 t c = rw (c.if-strength-eq8.true, rows_none (unary (primary c.args.left))) c.unary.ensures
+
+pub row-returns-in_err-first : goal.row-returns-in_err-first
+row-returns-in_err-first t c =
+    let p = err_from_is_err_and c.from_residual.result c.from_residual.ensures.1 in
+    let within : c.args.strength < 8 = omega arith in
+    rw (p.1, p.2, rows_step c.args.strength (unary (primary c.args.left)) within)
+    (row_first_fails (operators c.args.strength) (rows (drop (c.args.strength + 1) strengths) (unary (primary c.args.left))) c.args.tokens.now c.in_err-first.field-0.0 c.in_err-first.ensures)
+
+pub row-returns-then-not-is_next : goal.row-returns-then-not-is_next
+row-returns-then-not-is_next t c =
+    let within : c.args.strength < 8 = omega arith in
+    let over : is_next (operators c.args.strength) c.in_ok-first.rest.now ≡ false = ap (λ (k : List Kind). is_next k c.in_ok-first.rest.now) (sym c.operators.ensures) ∙ sym c.is_next.ensures ∙ c.if-not-is_next.true in
+    rw (rows_step c.args.strength (unary (primary c.args.left)) within)
+    (row_one (operators c.args.strength) (rows (drop (c.args.strength + 1) strengths) (unary (primary c.args.left))) c.args.tokens.now (expression_tree c.in_ok-first.first) c.in_ok-first.rest.now c.in_ok-first.ensures over)
+
+pub row-returns-in_err-operands : goal.row-returns-in_err-operands
+row-returns-in_err-operands t c =
+    let p = err_from_is_err_and c.from_residual-in_err-operands.result c.from_residual-in_err-operands.ensures.1 in
+    let within : c.args.strength < 8 = omega arith in
+    rw (p.1, p.2, rows_step c.args.strength (unary (primary c.args.left)) within)
+    (row_fails (operators c.args.strength) (rows (drop (c.args.strength + 1) strengths) (unary (primary c.args.left))) c.args.tokens.now (expression_tree c.in_ok-first.first) c.in_ok-first.rest.now c.in_err-operands.field-0.0 c.in_ok-first.ensures c.in_err-operands.ensures)
+
+pub row-returns : goal.row-returns
+unfolding roll-Expr roll
+row-returns t c =
+    let within : c.args.strength < 8 = omega arith in
+    let next : is_next (operators c.args.strength) c.in_ok-first.rest.now ≡ true = ap (λ (k : List Kind). is_next k c.in_ok-first.rest.now) (sym c.operators.ensures) ∙ sym c.is_next.ensures ∙ c.if-not-is_next.false in
+    rw (rows_step c.args.strength (unary (primary c.args.left)) within)
+    (row_done (operators c.args.strength) (rows (drop (c.args.strength + 1) strengths) (unary (primary c.args.left))) c.args.tokens.now (expression_tree c.in_ok-first.first) c.in_ok-first.rest.now (map pair_tree c.in_ok-operands.operands.items) c.in_ok-operands.rest.now
+    c.in_ok-first.ensures next c.in_ok-operands.ensures
+    ∙ ap (λ (z : Expr). Ok (row_expression (expression_tree z) (operands_of (map pair_tree c.in_ok-operands.operands.items)), c.in_ok-operands.rest.now)) (sym c.in_ok-new.ensures.ok)
+    ∙ ap (λ (z : Expression). Ok (z, c.in_ok-operands.rest.now)) (sym (fold-roll-Expr Expression expression_step (RowF c.in_ok-new.field-0 c.in_ok-operands.operands))))

@@ -1,0 +1,63 @@
+use Rattle.std.proofs.Common.{◌≡◌, ◌+◌, ◌-◌, ◌*◌, length, map, drop}
+use Rattle.fb_tree.specs.Expression.{expression_tree}
+use Rattle.fb_structured_text.specs.Expression.{expression, expressions, operand, primary, rows, unary}
+use Rattle.fb_structured_text.specs.Operators.{operators, strengths}
+use Rattle.fb_forms.specs.Form.{many}
+use Rattle.fb_forms.specs.Reading.{read}
+use Rattle.fb_forms.specs.Words.{further}
+use Rattle.fb_forms.specs.Repetition.{with_front}
+use Rattle.fb_structured_text.proofs.expression_reader.+expression.Given as goal
+
+-- A level is left behind in parentheses and in brackets; within one, the way leads from weaker operators to stronger ones.
+abbrev pub decreases-expression : goal.decreases-expression
+decreases-expression l = l.left * 64 + 40
+
+abbrev pub decreases-row : goal.decreases-row
+decreases-row l = l.left * 64 + (39 - 3 * l.strength)
+
+abbrev pub decreases-operands : goal.decreases-operands
+decreases-operands l = l.left * 64 + (38 - 3 * l.strength)
+
+abbrev pub decreases-operand : goal.decreases-operand
+decreases-operand l = l.left * 64 + (37 - 3 * l.strength)
+
+abbrev pub decreases-unary : goal.decreases-unary
+decreases-unary l = l.left * 64 + 14
+
+abbrev pub decreases-primary : goal.decreases-primary
+decreases-primary l = l.left * 64 + 13
+
+abbrev pub decreases-deep_primary : goal.decreases-deep_primary
+decreases-deep_primary l = l.below * 64 + 76
+
+abbrev pub decreases-variable_operand : goal.decreases-variable_operand
+decreases-variable_operand l = l.below * 64 + 75
+
+abbrev pub decreases-deep_reference : goal.decreases-deep_reference
+decreases-deep_reference l = l.below * 64 + 74
+
+abbrev pub decreases-parenthesized : goal.decreases-parenthesized
+decreases-parenthesized l = l.below * 64 + 75
+
+abbrev pub decreases-subscripts : goal.decreases-subscripts
+decreases-subscripts l = l.below * 64 + 73
+
+abbrev pub decreases-expressions : goal.decreases-expressions
+decreases-expressions l = l.below * 64 + 72
+
+abbrev pub decreases-further_expression : goal.decreases-further_expression
+decreases-further_expression l = l.below * 64 + 71
+
+abbrev pub invariant-expressions-loop-alloc : goal.invariant-expressions-loop-alloc
+invariant-expressions-loop-alloc l = with_front (map expression_tree l.expressions.items) (read (many (further (expression l.below))) l.rest) ≡ read (expressions (expression l.below)) l.tokens
+
+abbrev pub decreases-expressions-loop-alloc : goal.decreases-expressions-loop-alloc
+decreases-expressions-loop-alloc l = length l.rest
+
+abbrev pub invariant-operands-loop-alloc : goal.invariant-operands-loop-alloc
+invariant-operands-loop-alloc l =
+    let several = many (operand (operators l.strength) (rows (drop (l.strength + 1) strengths) (unary (primary l.left)))) in
+    with_front (map (λ o. (o.0, expression_tree o.1)) l.operands.items) (read several l.rest) ≡ read several l.tokens
+
+abbrev pub decreases-operands-loop-alloc : goal.decreases-operands-loop-alloc
+decreases-operands-loop-alloc l = length l.rest

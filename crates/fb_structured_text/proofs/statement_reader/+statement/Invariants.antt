@@ -1,0 +1,77 @@
+use Rattle.std.proofs.Common.{◌≡◌, ◌+◌, ◌-◌, ◌*◌, length, map}
+use Rattle.fb_lexemes.specs.declared.kind.Kind.TheVariants.{Elsif}
+use Rattle.fb_forms.specs.Form.{many}
+use Rattle.fb_forms.specs.Reading.{read}
+use Rattle.fb_forms.specs.Repetition.{with_front}
+use Rattle.fb_tree.specs.Expression.{expression_tree}
+use Rattle.fb_tree.specs.Statement.{statement_tree}
+use Rattle.fb_structured_text.specs.Expression.{expression}
+use Rattle.fb_structured_text.specs.Statement.{arm, arms, case, cases, statement}
+use Rattle.fb_structured_text.proofs.Bodies.{flat}
+use Rattle.fb_structured_text.proofs.statement_reader.+statement.Given as goal
+
+-- A level is left behind between the words of a nested statement.
+abbrev pub decreases-statements_at : goal.decreases-statements_at
+decreases-statements_at l = l.left * 32 + 20
+
+abbrev pub decreases-statement : goal.decreases-statement
+decreases-statement l = l.left * 32 + 19
+
+abbrev pub decreases-nested_statement : goal.decreases-nested_statement
+decreases-nested_statement l = l.left * 32 + 18
+
+abbrev pub decreases-if_statement : goal.decreases-if_statement
+decreases-if_statement l = l.left * 32 + 17
+
+abbrev pub decreases-case_statement : goal.decreases-case_statement
+decreases-case_statement l = l.left * 32 + 17
+
+abbrev pub decreases-for_statement : goal.decreases-for_statement
+decreases-for_statement l = l.left * 32 + 17
+
+abbrev pub decreases-while_statement : goal.decreases-while_statement
+decreases-while_statement l = l.left * 32 + 17
+
+abbrev pub decreases-repeat_statement : goal.decreases-repeat_statement
+decreases-repeat_statement l = l.left * 32 + 17
+
+abbrev pub decreases-arms : goal.decreases-arms
+decreases-arms l = l.left * 32 + 16
+
+abbrev pub decreases-arm : goal.decreases-arm
+decreases-arm l = l.left * 32 + 15
+
+abbrev pub decreases-cases : goal.decreases-cases
+decreases-cases l = l.below * 32 + 22
+
+abbrev pub decreases-case : goal.decreases-case
+decreases-case l = l.below * 32 + 21
+
+abbrev pub decreases-otherwise : goal.decreases-otherwise
+decreases-otherwise l = l.below * 32 + 21
+
+abbrev pub decreases-enclosed : goal.decreases-enclosed
+decreases-enclosed l = l.below * 32 + 21
+
+abbrev pub invariant-statements_at-loop-alloc : goal.invariant-statements_at-loop-alloc
+invariant-statements_at-loop-alloc l = with_front (map statement_tree l.statements.items) (read (many (statement l.left)) l.rest) ≡ read (many (statement l.left)) l.tokens
+
+abbrev pub decreases-statements_at-loop-alloc : goal.decreases-statements_at-loop-alloc
+decreases-statements_at-loop-alloc l = length l.rest
+
+abbrev pub invariant-arms-loop-alloc : goal.invariant-arms-loop-alloc
+invariant-arms-loop-alloc l =
+    let e = expression l.left in
+    let inner = statement (l.left - 1) in
+    with_front (map (λ a. (expression_tree a.0, map statement_tree a.1.items)) l.arms.items) (read (many (arm Elsif e inner)) l.rest) ≡ read (arms e inner) l.tokens
+
+abbrev pub decreases-arms-loop-alloc : goal.decreases-arms-loop-alloc
+decreases-arms-loop-alloc l = length l.rest
+
+abbrev pub invariant-cases-loop-alloc : goal.invariant-cases-loop-alloc
+invariant-cases-loop-alloc l =
+    let inner = statement l.below in
+    with_front (map statement_tree l.statements.items) (flat (read (many (case inner)) l.rest)) ≡ read (cases inner) l.tokens
+
+abbrev pub decreases-cases-loop-alloc : goal.decreases-cases-loop-alloc
+decreases-cases-loop-alloc l = length l.rest

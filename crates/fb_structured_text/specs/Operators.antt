@@ -1,0 +1,65 @@
+-- Operators, by the kinds of their tokens, and the kinds of literals.
+use Rattle.std.specs.Prelude.{ℕ, List, [], ◌∷◌, ◌++◌, slice_index_or}
+use Rattle.fb_lexemes.specs.declared.kind.Kind.{Kind}
+use Rattle.fb_lexemes.specs.declared.kind.Kind.TheVariants.{Or, Xor, Ampersand, And, Equal, NotEqual, Less, Greater, LessEqual, GreaterEqual, Plus, Minus, Times, Divide, Mod, Power, Not, Text, True, False}
+use Rattle.fb_lexemes.specs.declared.lexeme.Lexeme.{Lexeme}
+use Rattle.fb_forms.specs.Literals.{number_kinds, typed_kinds}
+use Rattle.fb_tree.specs.declared.expression.BinaryOperator.{BinaryOperator}
+use Rattle.fb_tree.specs.declared.expression.BinaryOperator.TheVariants as between
+use Rattle.fb_tree.specs.declared.expression.BinaryUse.{BinaryUse}
+use Rattle.fb_tree.specs.declared.expression.UnaryOperator.{UnaryOperator}
+use Rattle.fb_tree.specs.declared.expression.UnaryOperator.TheVariants as before
+use Rattle.fb_tree.specs.declared.expression.UnaryUse.{UnaryUse}
+
+-- the operators before an operand
+abbrev pub signs : List Kind
+signs = Plus ∷ Minus ∷ Not ∷ []
+
+-- the operators between operands, the weakest first; those of one strength stand in one list
+abbrev pub strengths : List (List Kind)
+strengths =
+    (Or ∷ []) ∷
+    (Xor ∷ []) ∷
+    (Ampersand ∷ And ∷ []) ∷
+    (Equal ∷ NotEqual ∷ []) ∷
+    (Less ∷ Greater ∷ LessEqual ∷ GreaterEqual ∷ []) ∷
+    (Plus ∷ Minus ∷ []) ∷
+    (Times ∷ Divide ∷ Mod ∷ []) ∷
+    (Power ∷ []) ∷ []
+
+-- the operators of a strength
+abbrev pub operators : ℕ → List Kind
+operators strength = slice_index_or strengths strength []
+
+abbrev pub unary_operator : Kind → UnaryOperator
+unary_operator Plus = before.Plus
+unary_operator Minus = before.Minus
+unary_operator _ = before.Not
+
+abbrev pub binary_operator : Kind → BinaryOperator
+binary_operator Or = between.Or
+binary_operator Xor = between.Xor
+binary_operator Ampersand = between.And
+binary_operator And = between.And
+binary_operator Equal = between.Equal
+binary_operator NotEqual = between.NotEqual
+binary_operator Less = between.Less
+binary_operator Greater = between.Greater
+binary_operator LessEqual = between.LessOrEqual
+binary_operator GreaterEqual = between.GreaterOrEqual
+binary_operator Plus = between.Add
+binary_operator Minus = between.Subtract
+binary_operator Times = between.Multiply
+binary_operator Divide = between.Divide
+binary_operator Mod = between.Modulo
+binary_operator _ = between.Power
+
+abbrev pub unary_use : Lexeme → UnaryUse
+unary_use token = record { operator = unary_operator token.kind; span = token.span }
+
+abbrev pub binary_use : Lexeme → BinaryUse
+binary_use token = record { operator = binary_operator token.kind; span = token.span }
+
+-- NUMBER | TYPED | STRING | 'TRUE' | 'FALSE'
+abbrev pub literal_kinds : List Kind
+literal_kinds = number_kinds ++ (typed_kinds ++ (Text ∷ True ∷ False ∷ []))

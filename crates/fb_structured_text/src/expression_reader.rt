@@ -1,0 +1,267 @@
+//! Reading expressions.
+ghost use Rattle.fb_forms.specs.Form.{as_value, many};
+ghost use Rattle.fb_forms.specs.Gives.{Gives};
+ghost use Rattle.fb_forms.specs.Reading.{read};
+ghost use Rattle.fb_forms.specs.Words.{further};
+ghost use Rattle.fb_structured_text.specs.Expression.{
+  deep_primary,
+  deep_reference,
+  expression,
+  expressions,
+  flat_primary,
+  operand,
+  parenthesized,
+  primary,
+  reference,
+  reference_value,
+  rows,
+  subscripts,
+  unary,
+};
+ghost use Rattle.fb_structured_text.specs.Operators.{operators, strengths};
+ghost use Rattle.fb_tree.specs.Expression.{expression_tree, expressions_of};
+ghost use Rattle.std.specs.Prelude.{◌≡◌, ◌≤◌, ◌<◌, ◌+◌, drop, map};
+
+use crate::operators::{SIGNS, is_literal, literal, operator, operators, sign};
+use crate::references::{flat_reference, member_name, variable};
+use fb_forms::{NAMES, Stop, across, is_next, key};
+use fb_lexemes::{Kind, Lexeme};
+use fb_tree::{BinaryUse, Expr, Reference};
+use std::alloc::Global;
+
+/// How many levels there are below the outermost expressions and statements.
+pub const LEVELS: u8 = 64;
+
+/// An operand at the last level: a literal, or a variable without subscripts.
+#[tactic(auto, unfolding(crate::specs::Expression::flat_primary, crate::specs::Expression::literal))]
+fn flat_primary(alloc: Global, tokens: &[Lexeme]) -> Result<(Expr, &[Lexeme]), Stop<'_>>
+    ensures { Gives (λ x. (expression_tree x.0, x.1.now)) result (read flat_primary tokens.now) }
+{
+    if is_literal(tokens) {
+        return literal(tokens);
+    }
+    let ((variable, subscripts), rest) = flat_reference(alloc, tokens)?;
+    Ok((Expr::Reference(variable, subscripts), rest))
+}
+
+/// An expression in parentheses, with so many levels below it.
+#[cycle(expression)]
+#[tactic(auto, unfolding(crate::specs::Expression::parenthesized))]
+fn parenthesized(alloc: Global, below: u8, tokens: &[Lexeme]) -> Result<(Expr, &[Lexeme]), Stop<'_>>
+    ensures { Gives (λ x. (expression_tree x.0, x.1.now)) result (read (parenthesized (expression below)) tokens.now) }
+{
+    let (open, rest) = key(tokens, Kind::OpenParenthesis)?;
+    let (inner, rest) = expression(alloc, below, rest)?;
+    let (close, rest) = key(rest, Kind::CloseParenthesis)?;
+    let span = across(open.span, close.span);
+    Ok((Expr::Parentheses(Box::new(alloc, inner)?, span), rest))
+}
+
+/// An operand, with so many levels below it.
+#[cycle(expression)]
+fn primary(alloc: Global, left: u8, tokens: &[Lexeme]) -> Result<(Expr, &[Lexeme]), Stop<'_>>
+    ensures { Gives (λ x. (expression_tree x.0, x.1.now)) result (read (primary left) tokens.now) }
+{
+    if left == 0 {
+        flat_primary(alloc, tokens)
+    } else {
+        deep_primary(alloc, left - 1, tokens)
+    }
+}
+
+/// An operand whose parts have so many levels below them.
+#[cycle(expression)]
+#[tactic(auto, unfolding(crate::specs::Expression::deep_primary))]
+fn deep_primary(alloc: Global, below: u8, tokens: &[Lexeme]) -> Result<(Expr, &[Lexeme]), Stop<'_>>
+    ensures { Gives (λ x. (expression_tree x.0, x.1.now)) result (read (deep_primary (expression below)) tokens.now) }
+{
+    if is_literal(tokens) {
+        literal(tokens)
+    } else if is_next(tokens, &NAMES) {
+        variable_operand(alloc, below, tokens)
+    } else {
+        parenthesized(alloc, below, tokens)
+    }
+}
+
+/// A variable as an operand.
+#[cycle(expression)]
+fn variable_operand(
+    alloc: Global,
+    below: u8,
+    tokens: &[Lexeme],
+) -> Result<(Expr, &[Lexeme]), Stop<'_>>
+    ensures { Gives (λ x. (expression_tree x.0, x.1.now)) result (read (as_value reference_value (deep_reference (expression below))) tokens.now) }
+{
+    let ((variable, subscripts), rest) = deep_reference(alloc, below, tokens)?;
+    Ok((Expr::Reference(variable, subscripts), rest))
+}
+
+/// A variable, perhaps with subscripts that have so many levels below them.
+#[cycle(expression)]
+#[tactic(auto, unfolding(crate::specs::Expression::deep_reference, crate::specs::Expression::subscripts))]
+fn deep_reference(
+    alloc: Global,
+    below: u8,
+    tokens: &[Lexeme],
+) -> Result<((Reference, Vec<Expr>), &[Lexeme]), Stop<'_>>
+    ensures { Gives (λ x. ((x.0.0, expressions_of (map expression_tree x.0.1.items)), x.1.now)) result (read (deep_reference (expression below)) tokens.now) }
+{
+    let ((name, member), rest) = member_name(tokens)?;
+    let mut variable = variable(name, member);
+    if !is_next(rest, &[Kind::OpenBracket]) {
+        return Ok(((variable, Vec::new(alloc)), rest));
+    }
+    let ((subscripts, close), rest) = subscripts(alloc, below, rest)?;
+    variable.span.end = close.span.end;
+    Ok(((variable, subscripts), rest))
+}
+
+/// Subscripts in brackets, with the bracket that closes them.
+#[cycle(expression)]
+#[tactic(auto, unfolding(crate::specs::Expression::subscripts))]
+fn subscripts(
+    alloc: Global,
+    below: u8,
+    tokens: &[Lexeme],
+) -> Result<((Vec<Expr>, &Lexeme), &[Lexeme]), Stop<'_>>
+    ensures { Gives (λ x. ((map expression_tree x.0.0.items, x.0.1.now), x.1.now)) result (read (subscripts (expression below)) tokens.now) }
+{
+    let (_, rest) = key(tokens, Kind::OpenBracket)?;
+    let (subscripts, rest) = expressions(alloc, below, rest)?;
+    let (close, rest) = key(rest, Kind::CloseBracket)?;
+    Ok(((subscripts, close), rest))
+}
+
+/// Expressions with commas between them.
+#[cycle(expression)]
+#[tactic(auto, unfolding(crate::specs::Expression::expressions))]
+fn expressions(
+    alloc: Global,
+    below: u8,
+    tokens: &[Lexeme],
+) -> Result<(Vec<Expr>, &[Lexeme]), Stop<'_>>
+    ensures { Gives (λ x. (map expression_tree x.0.items, x.1.now)) result (read (expressions (expression below)) tokens.now) }
+{
+    let (first, mut rest) = expression(alloc, below, tokens)?;
+    let mut expressions = Vec::new(alloc);
+    expressions.push(first)?;
+    while is_next(rest, &[Kind::Comma]) {
+        let (next, behind) = further_expression(alloc, below, rest)?;
+        expressions.push(next)?;
+        rest = behind;
+    }
+    Ok((expressions, rest))
+}
+
+/// A comma and an expression.
+#[cycle(expression)]
+fn further_expression(
+    alloc: Global,
+    below: u8,
+    tokens: &[Lexeme],
+) -> Result<(Expr, &[Lexeme]), Stop<'_>>
+    ensures { Gives (λ x. (expression_tree x.0, x.1.now)) result (read (further (expression below)) tokens.now) }
+{
+    let (_, rest) = key(tokens, Kind::Comma)?;
+    expression(alloc, below, rest)
+}
+
+/// An operand with a sign before it, where one is written.
+#[cycle(expression)]
+#[tactic(auto, unfolding(crate::specs::Expression::unary))]
+fn unary(alloc: Global, left: u8, tokens: &[Lexeme]) -> Result<(Expr, &[Lexeme]), Stop<'_>>
+    ensures { Gives (λ x. (expression_tree x.0, x.1.now)) result (read (unary (primary left)) tokens.now) }
+{
+    if !is_next(tokens, &SIGNS) {
+        return primary(alloc, left, tokens);
+    }
+    let (sign, rest) = sign(tokens)?;
+    let (value, rest) = primary(alloc, left, rest)?;
+    Ok((Expr::Unary(sign, Box::new(alloc, value)?), rest))
+}
+
+/// An expression with the operators of a strength and of the stronger ones.
+#[cycle(expression)]
+fn row(
+    alloc: Global,
+    strength: u8,
+    left: u8,
+    tokens: &[Lexeme],
+) -> Result<(Expr, &[Lexeme]), Stop<'_>>
+    requires { strength ≤ 8 }
+    ensures { Gives (λ x. (expression_tree x.0, x.1.now)) result (read (rows (drop strength strengths) (unary (primary left))) tokens.now) }
+{
+    if strength == 8 {
+        return unary(alloc, left, tokens);
+    }
+    let (first, rest) = row(alloc, strength + 1, left, tokens)?;
+    if !is_next(rest, operators(strength)) {
+        return Ok((first, rest));
+    }
+    let (operands, rest) = operands(alloc, strength, left, rest)?;
+    Ok((Expr::Row(Box::new(alloc, first)?, operands), rest))
+}
+
+/// Operators of a strength, each with its operand.
+#[cycle(expression)]
+fn operands(
+    alloc: Global,
+    strength: u8,
+    left: u8,
+    tokens: &[Lexeme],
+) -> Result<(Vec<(BinaryUse, Expr)>, &[Lexeme]), Stop<'_>>
+    requires { strength < 8 }
+    ensures { Gives (λ x. (map (λ o. (o.0, expression_tree o.1)) x.0.items, x.1.now)) result (read (many (operand (operators strength) (rows (drop (strength + 1) strengths) (unary (primary left))))) tokens.now) }
+{
+    let mut operands = Vec::new(alloc);
+    let mut rest = tokens;
+    while is_next(rest, operators(strength)) {
+        let (next, behind) = operand(alloc, strength, left, rest)?;
+        operands.push(next)?;
+        rest = behind;
+    }
+    Ok((operands, rest))
+}
+
+/// An operator of a strength and its operand.
+#[cycle(expression)]
+#[tactic(auto, unfolding(crate::specs::Expression::operand))]
+fn operand(
+    alloc: Global,
+    strength: u8,
+    left: u8,
+    tokens: &[Lexeme],
+) -> Result<((BinaryUse, Expr), &[Lexeme]), Stop<'_>>
+    requires { strength < 8 }
+    ensures { Gives (λ x. ((x.0.0, expression_tree x.0.1), x.1.now)) result (read (operand (operators strength) (rows (drop (strength + 1) strengths) (unary (primary left)))) tokens.now) }
+{
+    let (operator, rest) = operator(tokens, operators(strength))?;
+    let (value, rest) = row(alloc, strength + 1, left, rest)?;
+    Ok(((operator, value), rest))
+}
+
+/// An expression with so many levels below it, at most [`LEVELS`], and the tokens behind it. On a fault the tokens from the first one
+/// that does not go on.
+#[cycle(expression)]
+pub fn expression(alloc: Global, left: u8, tokens: &[Lexeme]) -> Result<(Expr, &[Lexeme]), Stop<'_>>
+    ensures { Gives (λ x. (expression_tree x.0, x.1.now)) result (read (expression left) tokens.now) }
+{
+    row(alloc, 0, left, tokens)
+}
+
+/// A variable with its subscripts, in an expression or statement with so many levels below it.
+#[tactic(auto, unfolding(crate::specs::Expression::reference))]
+pub fn reference(
+    alloc: Global,
+    left: u8,
+    tokens: &[Lexeme],
+) -> Result<((Reference, Vec<Expr>), &[Lexeme]), Stop<'_>>
+    ensures { Gives (λ x. ((x.0.0, expressions_of (map expression_tree x.0.1.items)), x.1.now)) result (read (reference left) tokens.now) }
+{
+    if left == 0 {
+        flat_reference(alloc, tokens)
+    } else {
+        deep_reference(alloc, left - 1, tokens)
+    }
+}

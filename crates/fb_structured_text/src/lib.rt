@@ -1,0 +1,16 @@
+//! Reading the expressions and statements of Structured Text (IEC 61131-3) in algorithms and guards.
+#![tactic(auto)]
+
+mod expression_reader;
+mod labels;
+mod laws;
+mod operators;
+mod references;
+mod statement_reader;
+
+pub use expression_reader::{LEVELS, expression};
+pub use laws::{one_expression, one_statement};
+pub use statement_reader::statements;
+
+#[cfg(test)]
+mod tests;

@@ -1,0 +1,131 @@
+//! Operators and literals, by their tokens.
+ghost use Rattle.fb_forms.specs.Form.{as_value, one};
+ghost use Rattle.fb_forms.specs.Gives.{Gives};
+ghost use Rattle.fb_forms.specs.Reading.{first, is_next, read};
+ghost use Rattle.fb_structured_text.specs.Expression.{literal};
+ghost use Rattle.fb_structured_text.specs.Operators.{binary_operator, binary_use, operators, signs, unary_operator, unary_use};
+ghost use Rattle.fb_tree.specs.Expression.{expression_tree};
+ghost use Rattle.std.specs.Prelude.{◌≡◌, ◌<◌};
+
+use fb_forms::{Stop, is_next, literal_use, one_of};
+use fb_lexemes::{Kind, Lexeme};
+use fb_tree::{BinaryOperator, BinaryUse, Expr, UnaryOperator, UnaryUse};
+
+/// The operators before an operand.
+pub const SIGNS: [Kind; 3] = [Kind::Plus, Kind::Minus, Kind::Not];
+
+/// The operators between operands, the weakest first.
+const STRENGTHS: [&[Kind]; 8] = [
+    &[Kind::Or],
+    &[Kind::Xor],
+    &[Kind::Ampersand, Kind::And],
+    &[Kind::Equal, Kind::NotEqual],
+    &[
+        Kind::Less,
+        Kind::Greater,
+        Kind::LessEqual,
+        Kind::GreaterEqual,
+    ],
+    &[Kind::Plus, Kind::Minus],
+    &[Kind::Times, Kind::Divide, Kind::Mod],
+    &[Kind::Power],
+];
+
+/// The operators of a strength, of which 0 is the weakest.
+pub fn operators(strength: u8) -> &'static [Kind]
+    requires { strength < 8 }
+    ensures { result.now ≡ operators strength }
+{
+    STRENGTHS[strength as usize]
+}
+
+fn unary_operator(kind: Kind) -> UnaryOperator
+    ensures { result ≡ unary_operator kind }
+{
+    match kind {
+        Kind::Plus => UnaryOperator::Plus,
+        Kind::Minus => UnaryOperator::Minus,
+        _ => UnaryOperator::Not,
+    }
+}
+
+fn binary_operator(kind: Kind) -> BinaryOperator
+    ensures { result ≡ binary_operator kind }
+{
+    match kind {
+        Kind::Or => BinaryOperator::Or,
+        Kind::Xor => BinaryOperator::Xor,
+        Kind::Ampersand | Kind::And => BinaryOperator::And,
+        Kind::Equal => BinaryOperator::Equal,
+        Kind::NotEqual => BinaryOperator::NotEqual,
+        Kind::Less => BinaryOperator::Less,
+        Kind::Greater => BinaryOperator::Greater,
+        Kind::LessEqual => BinaryOperator::LessOrEqual,
+        Kind::GreaterEqual => BinaryOperator::GreaterOrEqual,
+        Kind::Plus => BinaryOperator::Add,
+        Kind::Minus => BinaryOperator::Subtract,
+        Kind::Times => BinaryOperator::Multiply,
+        Kind::Divide => BinaryOperator::Divide,
+        Kind::Mod => BinaryOperator::Modulo,
+        _ => BinaryOperator::Power,
+    }
+}
+
+/// An operator before an operand.
+pub fn sign(tokens: &[Lexeme]) -> Result<(UnaryUse, &[Lexeme]), Stop<'_>>
+    ensures { Gives (λ x. (x.0, x.1.now)) result (read (as_value unary_use (one signs)) tokens.now) }
+{
+    let (token, rest) = one_of(tokens, &SIGNS)?;
+    let sign = UnaryUse {
+        operator: unary_operator(token.kind),
+        span: token.span,
+    };
+    Ok((sign, rest))
+}
+
+/// An operator of these kinds between operands.
+pub fn operator<'a>(
+    tokens: &'a [Lexeme],
+    kinds: &[Kind],
+) -> Result<(BinaryUse, &'a [Lexeme]), Stop<'a>>
+    ensures { Gives (λ x. (x.0, x.1.now)) result (read (as_value binary_use (one kinds.now)) tokens.now) }
+{
+    let (token, rest) = one_of(tokens, kinds)?;
+    let operator = BinaryUse {
+        operator: binary_operator(token.kind),
+        span: token.span,
+    };
+    Ok((operator, rest))
+}
+
+const LITERALS: [Kind; 12] = [
+    Kind::Zero,
+    Kind::One,
+    Kind::Number,
+    Kind::RealNumber,
+    Kind::TypedTruth,
+    Kind::TypedInteger,
+    Kind::TypedBits,
+    Kind::TypedFree,
+    Kind::TypedOther,
+    Kind::Text,
+    Kind::True,
+    Kind::False,
+];
+
+/// Whether the next token is a literal.
+#[tactic(auto, unfolding(crate::specs::Expression::literal))]
+pub fn is_literal(tokens: &[Lexeme]) -> bool
+    ensures { result ≡ is_next (first literal) tokens.now }
+{
+    is_next(tokens, &LITERALS)
+}
+
+/// A literal.
+#[tactic(auto, unfolding(crate::specs::Expression::literal))]
+pub fn literal(tokens: &[Lexeme]) -> Result<(Expr, &[Lexeme]), Stop<'_>>
+    ensures { Gives (λ x. (expression_tree x.0, x.1.now)) result (read literal tokens.now) }
+{
+    let (token, rest) = one_of(tokens, &LITERALS)?;
+    Ok((Expr::Literal(literal_use(token)), rest))
+}

@@ -1,0 +1,56 @@
+//! Variables without subscripts.
+ghost use Rattle.fb_forms.specs.Gives.{Gives};
+ghost use Rattle.fb_forms.specs.Reading.{read};
+ghost use Rattle.fb_lexemes.specs.Lexemes.{name_use};
+ghost use Rattle.fb_structured_text.specs.Expression.{flat_reference, member_name, variable_of};
+ghost use Rattle.fb_tree.specs.Expression.{expression_tree, expressions_of};
+ghost use Rattle.std.specs.Prelude.{◌≡◌, map, option_map};
+
+use fb_forms::{Stop, across, is_next, key, name};
+use fb_lexemes::{Kind, Lexeme};
+use fb_tree::{Expr, Reference};
+use std::alloc::Global;
+
+/// A name, and the name behind a point where one is written.
+#[tactic(auto, unfolding(crate::specs::Expression::member_name))]
+pub fn member_name(tokens: &[Lexeme]) -> Result<((&Lexeme, Option<&Lexeme>), &[Lexeme]), Stop<'_>>
+    ensures { Gives (λ x. ((name_use x.0.0.now, option_map (λ m. name_use m.now) x.0.1), x.1.now)) result (read member_name tokens.now) }
+{
+    let (first, rest) = name(tokens)?;
+    if !is_next(rest, &[Kind::Point]) {
+        return Ok(((first, None), rest));
+    }
+    let (_, rest) = key(rest, Kind::Point)?;
+    let (member, rest) = name(rest)?;
+    Ok(((first, Some(member)), rest))
+}
+
+/// The variable of these names.
+pub fn variable(name: &Lexeme, member: Option<&Lexeme>) -> Reference
+    ensures { result ≡ variable_of (name_use name.now) (option_map (λ m. name_use m.now) member.entry) }
+{
+    match member {
+        Some(member) => Reference {
+            name: name.name_use(),
+            member: Some(member.name_use()),
+            span: across(name.span, member.span),
+        },
+        None => Reference {
+            name: name.name_use(),
+            member: None,
+            span: name.span,
+        },
+    }
+}
+
+/// A variable without subscripts.
+#[tactic(auto, unfolding(crate::specs::Expression::flat_reference))]
+pub fn flat_reference(
+    alloc: Global,
+    tokens: &[Lexeme],
+) -> Result<((Reference, Vec<Expr>), &[Lexeme]), Stop<'_>>
+    ensures { Gives (λ x. ((x.0.0, expressions_of (map expression_tree x.0.1.items)), x.1.now)) result (read flat_reference tokens.now) }
+{
+    let ((name, member), rest) = member_name(tokens)?;
+    Ok(((variable(name, member), Vec::new(alloc)), rest))
+}

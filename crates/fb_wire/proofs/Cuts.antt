@@ -1,0 +1,92 @@
+-- The lines of bytes that come in pieces.
+use Rattle.std.proofs.Common.{◌≡◌, ◌≢◌, ◌<◌, ◌+◌, ℕ, List, [], ◌∷◌, ◌++◌, Bool, true, false, cond, ◌==◌, length, take, refl, ap, ◌∙◌, get_or, arith}
+use Rattle.std.proofs.lemmas.Bool.Decides.{nat_tests}
+use Rattle.std.proofs.lemmas.List.{take_more}
+use Rattle.fb_wire.specs.Lines.{lines_of, onto_first, IsLine}
+
+-- the last of the first lines and the first of the others are one line
+abbrev pub joined : List (List ℕ) → List (List ℕ) → List (List ℕ)
+joined [] ms = ms
+joined (l ∷ []) [] = l ∷ []
+joined (l ∷ []) (m ∷ ms) = (l ++ m) ∷ ms
+joined (l ∷ k ∷ ls) ms = l ∷ joined (k ∷ ls) ms
+
+some_line-onto_first : (b : ℕ) (ls : List (List ℕ)) → onto_first b ls ≢ []
+some_line-onto_first b [] e = cc
+some_line-onto_first b (l ∷ ls) e = cc
+
+some_line : (bs : List ℕ) → lines_of bs ≢ []
+some_line [] e = cc
+some_line (b ∷ bs) e = some_line_by b (b == 10) (lines_of bs) e
+  where
+    some_line_by : (b : ℕ) (t : Bool) (ls : List (List ℕ)) → cond t ([] ∷ ls) (onto_first b ls) ≢ []
+    some_line_by b true ls e = cc
+    some_line_by b false ls e = some_line-onto_first b ls e
+
+onto_first-joined : (b : ℕ) (ls ms : List (List ℕ)) → onto_first b (joined ls ms) ≡ joined (onto_first b ls) ms
+onto_first-joined b [] [] = refl
+onto_first-joined b [] (m ∷ ms) = refl
+onto_first-joined b (l ∷ []) [] = refl
+onto_first-joined b (l ∷ []) (m ∷ ms) = refl
+onto_first-joined b (l ∷ k ∷ ls) ms = refl
+
+empty-joined : (ls ms : List (List ℕ)) → ls ≢ [] → [] ∷ joined ls ms ≡ joined ([] ∷ ls) ms
+empty-joined [] ms some = absurd (some refl)
+empty-joined (l ∷ ls) ms some = refl
+
+joined-by : (b : ℕ) (t : Bool) (ls ms : List (List ℕ)) → ls ≢ [] → cond t ([] ∷ joined ls ms) (onto_first b (joined ls ms)) ≡ joined (cond t ([] ∷ ls) (onto_first b ls)) ms
+joined-by b true ls ms some = empty-joined ls ms some
+joined-by b false ls ms some = onto_first-joined b ls ms
+
+joined-empty : (ms : List (List ℕ)) → ms ≢ [] → ms ≡ joined ([] ∷ []) ms
+joined-empty [] some = absurd (some refl)
+joined-empty (m ∷ ms) some = refl
+
+pub lines_of-append : (xs ys : List ℕ) → lines_of (xs ++ ys) ≡ joined (lines_of xs) (lines_of ys)
+lines_of-append [] ys = joined-empty (lines_of ys) (some_line ys)
+lines_of-append (x ∷ xs) ys = rw (lines_of-append xs ys) (joined-by x (x == 10) (lines_of xs) (lines_of ys) (some_line xs))
+
+joined-last : (ls : List (List ℕ)) (r m : List ℕ) (ms : List (List ℕ)) → joined (ls ++ r ∷ []) (m ∷ ms) ≡ ls ++ (r ++ m) ∷ ms
+joined-last [] r m ms = refl
+joined-last (l ∷ []) r m ms = refl
+joined-last (l ∷ k ∷ ls) r m ms = ap (λ xs. l ∷ xs) (joined-last (k ∷ ls) r m ms)
+
+pub lines_of-line : (line rest : List ℕ) → IsLine line → lines_of (line ++ 10 ∷ rest) ≡ line ∷ lines_of rest
+lines_of-line [] rest h = refl
+lines_of-line (b ∷ bs) rest h = rw (h.0, lines_of-line bs rest h.1) refl
+
+pub lines_of-part : (part : List ℕ) → IsLine part → lines_of part ≡ part ∷ []
+lines_of-part [] h = refl
+lines_of-part (b ∷ bs) h = rw (h.0, lines_of-part bs h.1) refl
+
+-- more of the last line, and its line feed
+pub after_line : (given partial front rest : List ℕ) (lines : List (List ℕ)) → lines_of given ≡ lines ++ partial ∷ [] → IsLine front
+    → lines_of (given ++ (front ++ 10 ∷ rest)) ≡ lines ++ (partial ++ front) ∷ lines_of rest
+after_line given partial front rest lines is line =
+    lines_of-append given (front ++ 10 ∷ rest) ∙ rw (is, lines_of-line front rest line) (joined-last lines partial front (lines_of rest))
+
+pub after_part : (given partial front : List ℕ) (lines : List (List ℕ)) → lines_of given ≡ lines ++ partial ∷ [] → IsLine front
+    → lines_of (given ++ front) ≡ lines ++ (partial ++ front) ∷ []
+after_part given partial front lines is line =
+    lines_of-append given front ∙ rw (is, lines_of-part front line) (joined-last lines partial front [])
+
+-- whatever comes behind, the last line goes on
+pub after_any : (given partial rest : List ℕ) (lines : List (List ℕ)) → lines_of given ≡ lines ++ partial ∷ []
+    → (more : List ℕ) × (others : List (List ℕ)) × (lines_of (given ++ rest) ≡ lines ++ (partial ++ more) ∷ others)
+after_any given partial rest lines is = by_lines (lines_of rest) refl
+  where
+    by_lines : (ms : List (List ℕ)) → lines_of rest ≡ ms → (more : List ℕ) × (others : List (List ℕ)) × (lines_of (given ++ rest) ≡ lines ++ (partial ++ more) ∷ others)
+    by_lines [] none = absurd (some_line rest none)
+    by_lines (m ∷ ms) these = (m, ms, lines_of-append given rest ∙ rw (is, these) (joined-last lines partial m ms))
+
+IsLine-append : (xs ys : List ℕ) → IsLine xs → IsLine ys → IsLine (xs ++ ys)
+IsLine-append [] ys h k = k
+IsLine-append (x ∷ xs) ys h k = (h.0, IsLine-append xs ys h.1 k)
+
+pub is_line_more : (bs : List ℕ) (i : ℕ) → i < length bs → IsLine (take i bs) → (get_or bs i 0 ≡ 10 → ⊥) → IsLine (take (i + 1) bs)
+is_line_more bs i within line other =
+    let here : (get_or bs i 0 == 10) ≡ false = grind (arith, nat_tests) in
+    rw (take_more bs i 0 within) (IsLine-append (take i bs) (get_or bs i 0 ∷ []) line (here, tt))
+
+pub take_feed : (bs : List ℕ) (i : ℕ) → i < length bs → get_or bs i 0 ≡ 10 → take (i + 1) bs ≡ take i bs ++ 10 ∷ []
+take_feed bs i within is = take_more bs i 0 within ∙ ap (λ b. take i bs ++ b ∷ []) is

@@ -1,0 +1,11 @@
+pub mod Changes
+pub mod Cuts
+pub mod Jobs
+pub mod OneTalk
+pub mod Pieces
+pub mod ReplyTexts
+pub mod RequestReads
+pub mod Takings
+pub mod Talks
+pub mod TapeSteps
+pub mod Tapes

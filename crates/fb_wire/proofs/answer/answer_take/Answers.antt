@@ -1,0 +1,10 @@
+use Rattle.std.proofs.Common.{◌≡◌, nat_le, length, false, arith}
+use Rattle.std.proofs.lemmas.Bool.Decides.{nat_tests}
+use Rattle.std.proofs.lemmas.Grind.{common_steps}
+use Rattle.fb_wire.proofs.Talks.{take_served}
+use Rattle.fb_wire.proofs.answer.answer_take.Goals as goal
+
+pub returns : goal.returns
+returns g c =
+    let room : nat_le 64 (length c.args.held.now.items) ≡ false = grind (arith, common_steps, nat_tests) in
+    take_served g.D.Desk.step _ _ c.take-taken.result _ _ _ room c.take-taken.ensures c.keep_taken.ensures

@@ -1,0 +1,47 @@
+-- How a run ends, and what it has said and done by then.
+use Rattle.std.specs.Prelude.{◌≡◌, ◌<◌, ℕ, List, [], ◌∷◌, ◌++◌, length, take}
+use Rattle.serde_json.specs.Data.{Data}
+use Rattle.fb_wire.specs.Lines.{lines_of}
+use Rattle.fb_wire.specs.Replies.{reply_line}
+use Rattle.fb_wire.specs.Requests.{request_of}
+use Rattle.fb_wire.specs.Talk.{Jobs, Pair, Plan, says, Leads, plan_of, Talk}
+use Rattle.fb_wire.specs.declared.end.RunEnd.{RunEnd}
+use Rattle.fb_wire.specs.declared.end.RunEnd.TheVariants.{End, LineTooLong, ReadFailed, WriteFailed, TurnsOver, Memory}
+
+-- every line was answered, the last one too
+abbrev pub AnsweredAll : List ℕ → List Pair → List ℕ → Type 0
+AnsweredAll bytes pairs out = (after : Jobs) × Talk (lines_of bytes) [] pairs out after
+
+-- every line that has its line feed was answered
+abbrev pub AnsweredEnded : List ℕ → List Pair → List ℕ → Type 0
+AnsweredEnded bytes pairs out =
+    (lines : List (List ℕ)) × (rest : List ℕ) × (after : Jobs) × (lines_of bytes ≡ lines ++ rest ∷ []) × Talk lines [] pairs out after
+
+-- every line before one that is too long was answered
+abbrev pub AnsweredBefore : List ℕ → List Pair → List ℕ → Type 0
+AnsweredBefore bytes pairs out =
+    (lines more : List (List ℕ)) × (long : List ℕ) × (after : Jobs)
+    × (lines_of bytes ≡ lines ++ long ∷ more) × (1048576 < length long) × Talk lines [] pairs out after
+
+-- Some lines were answered whole. Of the next one some calls were made, and `part` was written.
+abbrev pub AnsweredPart : (Plan → List ℕ → Type 0) → List ℕ → List Pair → List ℕ → Type 0
+AnsweredPart IsPart bytes pairs out =
+    (lines more : List (List ℕ)) × (line : List ℕ) × (first begun : List Pair) × (said part : List ℕ) × (held : Jobs) × (rest : Plan)
+    × (lines_of bytes ≡ lines ++ line ∷ more) × (pairs ≡ first ++ begun) × (out ≡ said ++ part)
+    × Talk lines [] first said held × Leads (plan_of held (request_of line)) begun rest × IsPart rest part
+
+-- a front of the reply's line
+abbrev pub IsFrontOfReply : Plan → List ℕ → Type 0
+IsFrontOfReply rest part = (reply : Data) × (held : Jobs) × (n : ℕ) × (rest ≡ says reply held) × (part ≡ take n (reply_line reply))
+
+abbrev pub IsNothing : Plan → List ℕ → Type 0
+IsNothing rest part = part ≡ []
+
+-- what stands at each end, by the bytes that were read, the calls with their answers, and what was written
+abbrev pub Stands : RunEnd → List ℕ → List Pair → List ℕ → Type 0
+Stands End bytes pairs out = AnsweredAll bytes pairs out
+Stands ReadFailed bytes pairs out = AnsweredEnded bytes pairs out
+Stands TurnsOver bytes pairs out = AnsweredEnded bytes pairs out
+Stands LineTooLong bytes pairs out = AnsweredBefore bytes pairs out
+Stands WriteFailed bytes pairs out = AnsweredPart IsFrontOfReply bytes pairs out
+Stands Memory bytes pairs out = AnsweredPart IsNothing bytes pairs out

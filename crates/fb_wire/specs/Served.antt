@@ -1,0 +1,134 @@
+-- For private clauses: how far a plan has come on a desk.
+use Rattle.std.specs.Prelude.{◌<◌, [], ◌∷◌, ◌++◌, true, false, ⊤, Vec, MatchResult, ◌≡◌, ℕ, ◌+◌, List, length, option_map, Option, Some, None, Result, Ok, Err}
+use Rattle.std.specs.declared.alloc.AllocError.{AllocError}
+use Rattle.serde_json.specs.Data.{Data}
+use Rattle.fb_bench.specs.Machine.{Call, ToTake, OfTake, Reply as MachineReply}
+use Rattle.fb_bench.specs.Calls.{Answer, Replied, FullHistory, BehindHistory}
+use Rattle.fb_bench.specs.declared.desk.DeskRefused.{DeskRefused}
+use Rattle.fb_bench.specs.declared.desk.DeskRefused.TheVariants.{HistoryFull, Behind, Memory}
+use Rattle.std.specs.declared.alloc.Global.{Global}
+use Rattle.fb_library.specs.Texts.{Edit}
+use Rattle.fb_library.specs.Changes.{edit_of, edits_of}
+use Rattle.fb_library.specs.declared.change.Change.{Change}
+use Rattle.fb_wire.specs.declared.change.ChangeFault.{ChangeFault}
+use Rattle.fb_wire.specs.declared.change.ChangeFault.TheVariants as fault
+use Rattle.fb_wire.specs.Lines.{lines_of, is_blank}
+use Rattle.fb_wire.specs.Requests.{request_of}
+use Rattle.fb_wire.specs.Ends.{IsFrontOfReply, IsNothing, Stands}
+use Rattle.fb_wire.specs.declared.end.RunEnd.{RunEnd}
+use Rattle.fb_wire.specs.declared.end.RunEnd.TheVariants as end
+use Rattle.fb_wire.specs.Talk.{plan_of, LineTalk, Talk, Jobs, Pair, Plan, says, asks, Leads, Runs, after_take, held_after}
+use Rattle.fb_wire.specs.Replies.{work_done, work_refused, said_to, reply_line}
+use Rattle.fb_wire.specs.ReplyView.{data_of, refusal_text}
+use Rattle.fb_wire.specs.declared.answer.Turn.{Turn}
+use Rattle.fb_wire.specs.declared.answer.Turn.TheVariants as turns
+use Rattle.fb_wire.specs.declared.reply.Reply.{Reply}
+use Rattle.fb_wire.specs.declared.answer.Taking.{Taking}
+use Rattle.fb_wire.specs.declared.answer.Taking.TheVariants.{Job, Ended}
+
+-- some calls of the plan lead the desk from old to new, and this is left of it
+abbrev pub Reaches : {S : Type 0} → (S → Call → Answer → S → Type 0) → Plan → S → Plan → S → Type 0
+Reaches Step plan old rest new = (pairs : List Pair) × Leads plan pairs rest × Runs Step old pairs new
+
+-- the plan came to its reply, or memory ran out on the way
+abbrev pub Served : {S : Type 0} → (S → Call → Answer → S → Type 0) → Plan → S → Result Reply AllocError → Jobs → S → Type 0
+Served Step plan old (Ok reply) held new = Reaches Step plan old (says (data_of reply) held) new
+Served Step plan old (Err e) held new = (rest : Plan) × Reaches Step plan old rest new
+
+-- the answer that a call's result is, or none for want of memory
+abbrev pub answer_in : {R : Type 0} → (R → MachineReply) → Result R DeskRefused → Option Answer
+answer_in reply_of (Ok r) = Some (Replied (reply_of r))
+answer_in reply_of (Err HistoryFull) = Some FullHistory
+answer_in reply_of (Err Behind) = Some BehindHistory
+answer_in reply_of (Err Memory) = None
+
+-- the reply that was made, as JSON
+abbrev pub reply_in : Result Reply AllocError → Option Data
+reply_in (Ok reply) = Some (data_of reply)
+reply_in (Err e) = None
+
+-- what is left of a work's plan after one turn, where `more` goes on with a count
+abbrev pub left_after : Jobs → ℕ → (ℕ → Plan) → Turn → Plan
+left_after held count more turns.Accepted = more (count + 1)
+left_after held count more turns.Refused = more count
+left_after held count more turns.Nothing = says (work_done count) held
+left_after held count more (turns.Stopped refusal) = says (work_refused count (refusal_text refusal)) held
+
+abbrev pub TurnServed : {S : Type 0} → (S → Call → Answer → S → Type 0) → Jobs → ℕ → (ℕ → Plan) → S → Result Turn AllocError → S → Type 0
+TurnServed Step held count more old (Ok turn) new = Reaches Step (asks ToTake (after_take held count more)) old (left_after held count more turn) new
+TurnServed Step held count more old (Err e) new = (rest : Plan) × Reaches Step (asks ToTake (after_take held count more)) old rest new
+
+-- the job is the one that was taken, or the turn says how the answer ends the work
+abbrev pub Takes : Option Answer → Result Taking AllocError → Type 0
+Takes answered (Ok (Job found)) = answered ≡ Some (Replied (OfTake (Some found)))
+Takes answered (Ok (Ended turn)) = (held : Jobs) (count : ℕ) (more : ℕ → Plan) → option_map (after_take held count more) answered ≡ Some (left_after held count more turn)
+Takes answered (Err e) = answered ≡ None
+
+-- the reply to a take, and the jobs that are held after it
+abbrev pub KeepsTaken : Jobs → Option Answer → Option Data → Jobs → Type 0
+KeepsTaken old answered None new = Unit {0}
+KeepsTaken old None (Some reply) new = ⊥
+KeepsTaken old (Some answer) (Some reply) new = (reply ≡ said_to (length old + 1) answer) × (new ≡ held_after old answer)
+
+-- ---- lines
+
+-- what was said to a line: nothing to a blank one
+abbrev pub LineServed : {S : Type 0} → (S → Call → Answer → S → Type 0) → List ℕ → Jobs → S → Result (Option (Vec ℕ Global)) AllocError → Jobs → S → Type 0
+LineServed Step line old_jobs old (Ok None) jobs new = (is_blank line ≡ true) × (jobs ≡ old_jobs) × (new ≡ old)
+LineServed Step line old_jobs old (Ok (Some out)) jobs new =
+    (is_blank line ≡ false) × (reply : Data) × Reaches Step (plan_of old_jobs (request_of line)) old (says reply jobs) new × (out.items ≡ reply_line reply)
+LineServed Step line old_jobs old (Err e) jobs new = (rest : Plan) × Reaches Step (plan_of old_jobs (request_of line)) old rest new
+
+-- what of a reply's line was written where the run stops
+abbrev pub IsPartAt : RunEnd → Plan → List ℕ → Type 0
+IsPartAt end.WriteFailed rest part = IsFrontOfReply rest part
+IsPartAt end.Memory rest part = IsNothing rest part
+IsPartAt _ rest part = ⊥
+
+abbrev pub LineSaid : {S : Type 0} → (S → Call → Answer → S → Type 0) → List ℕ → Jobs → S → List ℕ → Result ⊤ RunEnd → Jobs → S → List ℕ → Type 0
+LineSaid Step line old_jobs old old_held (Ok u) jobs new held =
+    (pairs : List Pair) × (out : List ℕ) × LineTalk line old_jobs pairs out jobs × Runs Step old pairs new × (held ≡ old_held ++ out)
+LineSaid Step line old_jobs old old_held (Err stop) jobs new held =
+    (pairs : List Pair) × (part : List ℕ) × (rest : Plan) × Leads (plan_of old_jobs (request_of line)) pairs rest × Runs Step old pairs new × (held ≡ old_held ++ part) × IsPartAt stop rest part
+
+-- ---- bytes
+
+-- all lines that have their line feed were answered, and this has come of the next one
+abbrev pub Standing : {S : Type 0} → (S → Call → Answer → S → Type 0) → S → List ℕ → List ℕ → Jobs → List ℕ → S → Type 0
+Standing Step start given partial jobs out new =
+    (lines : List (List ℕ)) × (pairs : List Pair) × (lines_of given ≡ lines ++ partial ∷ []) × Talk lines [] pairs out jobs × Runs Step start pairs new
+
+-- A piece of the bytes was taken, whatever came before it; or the run stops in it, whatever comes behind it.
+abbrev pub PieceTaken : {S : Type 0} → (S → Call → Answer → S → Type 0) → S → List ℕ → Jobs → List ℕ → List ℕ → Result ⊤ RunEnd → S → List ℕ → Jobs → List ℕ → Type 0
+PieceTaken {S} Step old old_line old_jobs old_held piece result new line jobs held =
+    (start : S) (given out : List ℕ) → Standing Step start given old_line old_jobs out old →
+    MatchResult result
+    (λ _. (more : List ℕ) × (held ≡ old_held ++ more) × Standing Step start (given ++ piece) line jobs (out ++ more) new)
+    (λ stop. (rest : List ℕ) → (more : List ℕ) × (pairs : List Pair) × (held ≡ old_held ++ more) × Runs Step start pairs new × Stands stop (given ++ (piece ++ rest)) pairs (out ++ more))
+
+-- the line has the bytes at its end, unless it is too long then or memory ran out
+abbrev pub Extends : List ℕ → List ℕ → Result ⊤ RunEnd → List ℕ → Type 0
+Extends old bytes (Ok u) new = (new ≡ old ++ bytes)
+Extends old bytes (Err end.LineTooLong) new = 1048576 < length (old ++ bytes)
+Extends old bytes (Err end.Memory) new = Unit {0}
+Extends old bytes (Err _) new = ⊥
+
+-- the ends that may come inside the bytes
+abbrev pub StopsInside : RunEnd → Type 0
+StopsInside end.LineTooLong = Unit {0}
+StopsInside end.WriteFailed = Unit {0}
+StopsInside end.Memory = Unit {0}
+StopsInside _ = ⊥
+
+-- ---- the changes of a commit
+
+-- the change is the edit that was asked for, or the refusal is its; or memory ran out
+abbrev pub ChangeMade : Result Edit (List ℕ) → Result Change ChangeFault → Type 0
+ChangeMade asked (Ok change) = asked ≡ Ok (edit_of change)
+ChangeMade asked (Err (fault.Refused refusal)) = asked ≡ Err (refusal_text refusal)
+ChangeMade asked (Err fault.Memory) = Unit {0}
+
+abbrev pub ChangesMade : Result (List Edit) (List ℕ) → Result (Vec Change Global) ChangeFault → Type 0
+ChangesMade asked (Ok changes) = asked ≡ Ok (edits_of changes.items)
+ChangesMade asked (Err (fault.Refused refusal)) = asked ≡ Err (refusal_text refusal)
+ChangesMade asked (Err fault.Memory) = Unit {0}

@@ -1,0 +1,147 @@
+-- What is said to each line, and which calls it makes.
+use Rattle.std.specs.Prelude.{◌≡◌, ℕ, zero, suc, ◌+◌, List, [], ◌∷◌, ◌++◌, length, take, map, codes, MatchBool, nat_le, Option, Some, None, Result, Ok, Err, if◌then◌else◌, slice_get}
+use Rattle.serde_json.specs.Data.{Data}
+use Rattle.fb_text.specs.Name.{name_of}
+use Rattle.fb_text.specs.declared.name.NameFault.{NameFault}
+use Rattle.fb_library.specs.Texts.{Edit, Puts, Removes}
+use Rattle.fb_jobs.specs.Reads.{Order}
+use Rattle.fb_bench.specs.Machine.{Call, ToCommit, ToTake, ToDeliver, ToGiveBack, ToAsk, OfTake, OfDeliver}
+use Rattle.fb_bench.specs.Calls.{Answer, Replied, FullHistory, BehindHistory}
+use Rattle.fb_bench.specs.declared.answers.Delivered.TheVariants.{Accepted}
+use Rattle.fb_wire.specs.Lines.{is_blank}
+use Rattle.fb_wire.specs.Replies.{refused, said_to, work_done, work_refused, reply_line}
+use Rattle.fb_wire.specs.Requests as asked
+use Rattle.fb_wire.specs.Requests.{Request, Change, puts, removes, request_of}
+
+-- the jobs that a run holds, by their keys and what they read
+abbrev pub Jobs : Type 0
+Jobs = List Order
+
+-- a call and its answer
+abbrev pub Pair : Type 0
+Pair = Call × Answer
+
+abbrev pub answers_of : List Pair → List Answer
+answers_of pairs = map (λ (p : Pair). p.1) pairs
+
+-- Calls, each after the answer to the one before, and at the end a reply and the jobs that are held then.
+pub data Plan : Type 0 where
+  says : Data → Jobs → Plan
+  asks : Call → (Answer → Plan) → Plan
+
+-- These calls with these answers are the plan's first ones, and this is what is left of it.
+abbrev pub Leads : Plan → List Pair → Plan → Type 0
+Leads plan [] rest = rest ≡ plan
+Leads (says reply jobs) (p ∷ ps) rest = ⊥
+Leads (asks call next) (p ∷ ps) rest = (p.0 ≡ call) × Leads (next p.1) ps rest
+
+-- ---- the plan of each request
+
+-- one call, whose answer is the reply
+abbrev pub call_once : Jobs → Call → Plan
+call_once held call = asks call (λ answer. says (said_to 0 answer) held)
+
+abbrev pub with_name : Jobs → Result (List ℕ) NameFault → (List ℕ → Plan) → Plan
+with_name held (Err fault) next = says (refused (codes "BadName")) held
+with_name held (Ok unit) next = next unit
+
+-- a change as an edit of texts, or why it is refused
+abbrev pub edit_named : Change → Result (List ℕ) NameFault → Result Edit (List ℕ)
+edit_named change (Err fault) = Err (codes "BadName")
+edit_named (puts name base text) (Ok unit) = if nat_le (length text) 65536 then Ok (Puts unit base text) else Err (codes "TextTooLong")
+edit_named (removes name base) (Ok unit) = Ok (Removes unit base)
+
+abbrev pub name_in : Change → List ℕ
+name_in (puts name base text) = name
+name_in (removes name base) = name
+
+abbrev pub edit_in : Change → Result Edit (List ℕ)
+edit_in change = edit_named change (name_of (name_in change))
+
+abbrev pub edit_before : Edit → Result (List Edit) (List ℕ) → Result (List Edit) (List ℕ)
+edit_before edit (Ok edits) = Ok (edit ∷ edits)
+edit_before edit (Err reason) = Err reason
+
+abbrev pub edits_from : Result Edit (List ℕ) → Result (List Edit) (List ℕ) → Result (List Edit) (List ℕ)
+edits_from (Ok edit) edits = edit_before edit edits
+edits_from (Err reason) edits = Err reason
+
+-- all changes as edits, or the first refusal
+abbrev pub edits_in : List Change → Result (List Edit) (List ℕ)
+edits_in [] = Ok []
+edits_in (change ∷ changes) = edits_from (edit_in change) (edits_in changes)
+
+-- more than 17 changes are asked as their first 17, which are too many as well
+abbrev pub commit_plan : Jobs → Result (List Edit) (List ℕ) → Plan
+commit_plan held (Ok edits) = call_once held (ToCommit (take 17 edits))
+commit_plan held (Err reason) = says (refused reason) held
+
+-- what a taken job adds to those that are held
+abbrev pub held_after : Jobs → Answer → Jobs
+held_after held (Replied (OfTake (Some order))) = held ++ order ∷ []
+held_after held _ = held
+
+abbrev pub take_plan : Jobs → Plan
+take_plan held =
+    if nat_le 64 (length held) then says (refused (codes "TooManyJobs")) held
+    else asks ToTake (λ answer. says (said_to (length held + 1) answer) (held_after held answer))
+
+abbrev pub deliver_held : Jobs → Option Order → Plan
+deliver_held held None = says (refused (codes "NoSuchJob")) held
+deliver_held held (Some order) = call_once held (ToDeliver order)
+
+-- jobs are numbered from 1
+abbrev pub job_at : Jobs → ℕ → Option Order
+job_at held zero = None
+job_at held (suc place) = slice_get held place
+
+abbrev pub deliver_plan : Jobs → ℕ → Plan
+deliver_plan held number = deliver_held held (job_at held number)
+
+-- after an answer to a delivery: the count of accepted results goes on, or the work is refused
+abbrev pub after_deliver : Jobs → ℕ → (ℕ → Plan) → Answer → Plan
+after_deliver held count more (Replied (OfDeliver Accepted)) = more (count + 1)
+after_deliver held count more (Replied _) = more count
+after_deliver held count more FullHistory = says (work_refused count (codes "HistoryFull")) held
+after_deliver held count more BehindHistory = says (work_refused count (codes "Behind")) held
+
+-- after an answer to a take: the job is delivered, or the work is done or refused
+abbrev pub after_take : Jobs → ℕ → (ℕ → Plan) → Answer → Plan
+after_take held count more (Replied (OfTake (Some order))) = asks (ToDeliver order) (after_deliver held count more)
+after_take held count more (Replied _) = says (work_done count) held
+after_take held count more FullHistory = says (work_refused count (codes "HistoryFull")) held
+after_take held count more BehindHistory = says (work_refused count (codes "Behind")) held
+
+-- take, run and deliver, at most so many times; this many results were accepted before
+unfoldable pub work_plan : Jobs → ℕ → ℕ → Plan
+work_plan held zero count = says (work_done count) held
+work_plan held (suc turns) count = asks ToTake (after_take held count (work_plan held turns))
+
+abbrev pub plan_of : Jobs → Option Request → Plan
+plan_of held None = says (refused (codes "BadRequest")) held
+plan_of held (Some (asked.commit changes)) = commit_plan held (edits_in changes)
+plan_of held (Some (asked.ask kind unit)) = with_name held (name_of unit) (λ name. call_once held (ToAsk (record { kind = kind; unit = name })))
+plan_of held (Some (asked.work turns)) = work_plan held turns 0
+plan_of held (Some asked.take) = take_plan held
+plan_of held (Some (asked.deliver number)) = deliver_plan held number
+plan_of held (Some (asked.give_back kind unit)) = with_name held (name_of unit) (λ name. call_once held (ToGiveBack (record { kind = kind; unit = name })))
+
+-- ---- lines
+
+-- what one line asks and is told, with the jobs that are held before it and after it
+abbrev pub LineTalk : List ℕ → Jobs → List Pair → List ℕ → Jobs → Type 0
+LineTalk line held pairs out after =
+    MatchBool (is_blank line) ((pairs ≡ []) × (out ≡ []) × (after ≡ held))
+    ((reply : Data) × Leads (plan_of held (request_of line)) pairs (says reply after) × (out ≡ reply_line reply))
+
+-- the lines, one after another
+abbrev pub Talk : List (List ℕ) → Jobs → List Pair → List ℕ → Jobs → Type 0
+Talk [] held pairs out after = (pairs ≡ []) × (out ≡ []) × (after ≡ held)
+Talk (line ∷ lines) held pairs out after =
+    (first rest : List Pair) × (said more : List ℕ) × (mid : Jobs) × (pairs ≡ first ++ rest) × (out ≡ said ++ more)
+    × LineTalk line held first said mid × Talk lines mid rest more after
+
+-- from the first state to the second by these calls with these answers
+abbrev pub Runs : {S : Type 0} → (S → Call → Answer → S → Type 0) → S → List Pair → S → Type 0
+Runs Step old [] new = new ≡ old
+Runs {S} Step old (p ∷ ps) new = (mid : S) × Step old p.0 p.1 mid × Runs Step mid ps new

@@ -1,0 +1,21 @@
+// What is decided of a conversation.
+ghost use Rattle.std.specs.Prelude.{◌≡◌, ℕ, List};
+ghost use Rattle.fb_bench.specs.Solo.{IsStep};
+ghost use Rattle.fb_bench.specs.Story.{Story};
+ghost use Rattle.fb_wire.specs.Ends.{AnsweredAll};
+ghost use Rattle.fb_wire.specs.Talk.{Pair, Runs, answers_of};
+
+/// The bytes and the answers decide which calls are made and what is written.
+pub fn one_talk()
+    ensures { (bytes : List ℕ) (pairs others : List Pair) (out written : List ℕ)
+        → AnsweredAll bytes pairs out → AnsweredAll bytes others written
+        → answers_of pairs ≡ answers_of others → (pairs ≡ others) × (out ≡ written) }
+{}
+
+/// The bytes and the workbench decide which calls are made, what is written and how the workbench is then.
+pub fn one_script()
+    ensures { (caller : ℕ) (bytes : List ℕ) (pairs others : List Pair) (out written : List ℕ) (start left right : Story)
+        → AnsweredAll bytes pairs out → Runs (IsStep caller) start pairs left
+        → AnsweredAll bytes others written → Runs (IsStep caller) start others right
+        → (pairs ≡ others) × (out ≡ written) × (left ≡ right) }
+{}

@@ -1,0 +1,118 @@
+// What is said to one line.
+ghost use Rattle.std.specs.Prelude.{◌≡◌, ◌↔◌, IsTrue, true, false, is_err};
+ghost use Rattle.fb_wire.specs.Lines.{is_blank};
+ghost use Rattle.serde_json.specs.View.{view};
+ghost use Rattle.fb_wire.specs.Requests.{request_in, request_of};
+ghost use Rattle.fb_wire.specs.Served.{Served, LineServed, LineSaid};
+ghost use Rattle.fb_wire.specs.Streams.{WritesAll};
+ghost use Rattle.fb_wire.specs.Talk.{plan_of};
+
+use crate::answer::answer;
+use crate::end::RunEnd;
+use crate::feed::{Failed, Sink};
+use crate::reply::Reply;
+use crate::request::request_in;
+use fb_bench::Desk;
+use fb_jobs::Job;
+use serde_json::Value;
+use std::alloc::{AllocError, Global};
+
+fn is_blank(line: &[u8]) -> bool
+    ensures { result ≡ is_blank line.now }
+{
+    line.iter()
+        .all(|b| *b == b' ' || (*b == b'\t' || *b == b'\r'))
+}
+
+fn answer_value<D: Desk>(
+    alloc: Global,
+    desk: &mut D,
+    held: &mut Vec<Job>,
+    value: &Value,
+) -> Result<Reply, AllocError>
+    ensures { Served D.step (plan_of held.old.items (request_in (view value.now))) desk.old result held.new.items desk.new }
+{
+    match request_in(alloc, value) {
+        Ok(request) => answer(alloc, desk, held, &request),
+        Err(e) => Err(e),
+    }
+}
+
+fn answer_bytes<D: Desk>(
+    alloc: Global,
+    desk: &mut D,
+    held: &mut Vec<Job>,
+    line: &[u8],
+) -> Result<Reply, AllocError>
+    ensures { Served D.step (plan_of held.old.items (request_of line.now)) desk.old result held.new.items desk.new }
+{
+    match Value::from_slice(alloc, line) {
+        Ok(value) => answer_value(alloc, desk, held, &value),
+        Err(e) => {
+            if e.is_memory() {
+                Err(AllocError)
+            } else {
+                answer(alloc, desk, held, &None)
+            }
+        }
+    }
+}
+
+// The line of the reply, or none for a blank line.
+fn answer_line<D: Desk>(
+    alloc: Global,
+    desk: &mut D,
+    held: &mut Vec<Job>,
+    line: &[u8],
+) -> Result<Option<Vec<u8>>, AllocError>
+    ensures { LineServed D.step line.now held.old.items desk.old result held.new.items desk.new }
+{
+    if is_blank(line) {
+        return Ok(None);
+    }
+    match answer_bytes(alloc, desk, held, line) {
+        Ok(reply) => match reply.line(alloc) {
+            Ok(text) => Ok(Some(text)),
+            Err(e) => Err(e),
+        },
+        Err(e) => Err(e),
+    }
+}
+
+// Writes all the bytes, and flushes.
+fn write_all<S: Sink>(writer: &mut S, bytes: &[u8]) -> Result<(), Failed>
+    requires { S.has_failed writer.old ≡ false }
+    ensures held { WritesAll (S.held writer.old) bytes.now result (S.held writer.new) }
+    ensures failed { S.has_failed writer.new ≡ is_err result }
+{
+    let mut at = 0;
+    while at < bytes.len() {
+        match writer.write(&bytes[at..]) {
+            Ok(count) => at += count,
+            Err(e) => return Err(e),
+        }
+    }
+    writer.flush()
+}
+
+/// Answers a line, and writes its reply.
+pub(crate) fn say_line<D: Desk, S: Sink>(
+    alloc: Global,
+    desk: &mut D,
+    held: &mut Vec<Job>,
+    writer: &mut S,
+    line: &[u8],
+) -> Result<(), RunEnd>
+    requires { S.has_failed writer.old ≡ false }
+    ensures said { LineSaid D.step line.now held.old.items desk.old (S.held writer.old) result held.new.items desk.new (S.held writer.new) }
+    ensures failed { IsTrue (S.has_failed writer.new) ↔ (result ≡ Err RunEnd.WriteFailed) }
+{
+    match answer_line(alloc, desk, held, line) {
+        Ok(None) => Ok(()),
+        Ok(Some(text)) => match write_all(writer, &text) {
+            Ok(()) => Ok(()),
+            Err(_) => Err(RunEnd::WriteFailed),
+        },
+        Err(_) => Err(RunEnd::Memory),
+    }
+}

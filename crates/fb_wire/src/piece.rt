@@ -1,0 +1,99 @@
+// Bytes as they come, and the lines in them.
+ghost use Rattle.std.specs.Prelude.{◌≡◌, ◌↔◌, ◌≤◌, ◌<◌, ◌+◌, ◌==◌, ◌∷◌, [], ◌++◌, length, take, IsTrue, false, MatchOption, MatchResult, IfErr};
+ghost use Rattle.fb_wire.specs.Lines.{IsLine};
+ghost use Rattle.fb_wire.specs.Served.{PieceTaken, Extends, StopsInside};
+
+use crate::end::RunEnd;
+use crate::feed::Sink;
+use crate::line::say_line;
+use fb_bench::Desk;
+use fb_jobs::Job;
+use std::alloc::Global;
+
+/// How long a line may be.
+const MAX_LINE: usize = 1_048_576;
+
+// How many bytes stand before the first line feed.
+#[tactic(auto, using(crate::proofs::Cuts::is_line_more, crate::proofs::Cuts::take_feed))]
+fn line_len(bytes: &[u8]) -> usize
+    ensures within { result ≤ length bytes.now }
+    ensures line { IsLine (take result bytes.now) }
+    ensures end { result < length bytes.now → take (result + 1) bytes.now ≡ take result bytes.now ++ 10 ∷ [] }
+{
+    for (i, b) in bytes.iter().enumerate() {
+        if *b == b'\n' {
+            return i;
+        }
+    }
+    bytes.len()
+}
+
+// Adds bytes to a line that is not too long.
+fn extend_line(line: &mut Vec<u8>, bytes: &[u8]) -> Result<(), RunEnd>
+    ensures { Extends line.old.items bytes.now result line.new.items }
+{
+    if bytes.len() > MAX_LINE || line.len() > MAX_LINE - bytes.len() {
+        return Err(RunEnd::LineTooLong);
+    }
+    match line.extend_from_slice(bytes) {
+        Ok(()) => Ok(()),
+        Err(_) => Err(RunEnd::Memory),
+    }
+}
+
+// Takes the rest of a line and its line feed, and answers the line.
+fn end_line<D: Desk, S: Sink>(
+    alloc: Global,
+    desk: &mut D,
+    held: &mut Vec<Job>,
+    writer: &mut S,
+    line: &mut Vec<u8>,
+    front: &[u8],
+) -> Result<(), RunEnd>
+    requires open { S.has_failed writer.old ≡ false }
+    requires line { IsLine front.now }
+    ensures taken { PieceTaken D.step desk.old line.old.items held.old.items (S.held writer.old) (front.now ++ 10 ∷ []) result desk.new line.new.items held.new.items (S.held writer.new) }
+    ensures failed { IsTrue (S.has_failed writer.new) ↔ (result ≡ Err RunEnd.WriteFailed) }
+    ensures inside { IfErr result StopsInside }
+{
+    match extend_line(line, front) {
+        Ok(()) => {}
+        Err(end) => return Err(end),
+    }
+    match say_line(alloc, desk, held, writer, line) {
+        Ok(()) => {
+            line.clear();
+            Ok(())
+        }
+        Err(end) => Err(end),
+    }
+}
+
+/// Takes the next bytes, and answers each line that has its line feed now.
+pub(crate) fn take_piece<D: Desk, S: Sink>(
+    alloc: Global,
+    desk: &mut D,
+    held: &mut Vec<Job>,
+    writer: &mut S,
+    line: &mut Vec<u8>,
+    piece: &[u8],
+) -> Result<(), RunEnd>
+    requires { S.has_failed writer.old ≡ false }
+    ensures taken { PieceTaken D.step desk.old line.old.items held.old.items (S.held writer.old) piece.now result desk.new line.new.items held.new.items (S.held writer.new) }
+    ensures failed { IsTrue (S.has_failed writer.new) ↔ (result ≡ Err RunEnd.WriteFailed) }
+    ensures inside { IfErr result StopsInside }
+{
+    let mut at = 0;
+    while at < piece.len() {
+        let rest = &piece[at..];
+        let len = line_len(rest);
+        if len == rest.len() {
+            return extend_line(line, rest);
+        }
+        match end_line(alloc, desk, held, writer, line, &rest[..len]) {
+            Ok(()) => at += len + 1,
+            Err(end) => return Err(end),
+        }
+    }
+    Ok(())
+}

@@ -1,0 +1,190 @@
+// From a line to the request that it is.
+ghost use Rattle.std.specs.Prelude.{◌≡◌, map, codes, option_map, option_and_then, IfOk};
+ghost use Rattle.serde_json.specs.View.{view, items_view};
+ghost use Rattle.fb_wire.specs.Requests.{text_at, number_at, kind_of, kind_at, put_in, remove_in, change_in, changes_of, request_in, request_by, commit_in, ask_in, give_back_in, work_of, deliver};
+ghost use Rattle.fb_wire.specs.RequestView.{change_view, request_view};
+
+use fb_jobs::Kind;
+use serde_json::Value;
+use std::alloc::{AllocError, Global};
+
+/// A change of a commit, before its name is read.
+#[derive(Clone, Copy)]
+pub(crate) enum AskedChange<'a> {
+    Put {
+        unit: &'a str,
+        base: u64,
+        text: &'a str,
+    },
+    Remove {
+        unit: &'a str,
+        base: u64,
+    },
+}
+
+/// A request, before its names are read.
+#[derive(Drop)]
+pub(crate) enum Request<'a> {
+    Commit(Vec<AskedChange<'a>>),
+    Ask { kind: Kind, unit: &'a str },
+    Work(u64),
+    Take,
+    Deliver(u64),
+    GiveBack { kind: Kind, unit: &'a str },
+}
+
+fn text_at<'a>(value: &'a Value, name: &str) -> Option<&'a str>
+    ensures { option_map (λ s. s.now) result ≡ text_at name.now (view value.now) }
+{
+    value.get(name).and_then(Value::as_str)
+}
+
+fn number_at(value: &Value, name: &str) -> Option<u64>
+    ensures { result ≡ number_at name.now (view value.now) }
+{
+    value.get(name).and_then(Value::as_u64)
+}
+
+fn kind_of(text: &str) -> Option<Kind>
+    ensures { result ≡ kind_of text.now }
+{
+    if text == "faults" {
+        Some(Kind::Faults)
+    } else if text == "net" {
+        Some(Kind::Net)
+    } else if text == "deploy" {
+        Some(Kind::Deploy)
+    } else {
+        None
+    }
+}
+
+fn kind_at(value: &Value, name: &str) -> Option<Kind>
+    ensures { result ≡ kind_at name.now (view value.now) }
+{
+    kind_of(text_at(value, name)?)
+}
+
+fn put_in(value: &Value) -> Option<AskedChange<'_>>
+    ensures { option_map change_view result ≡ put_in (view value.now) }
+{
+    let unit = text_at(value, "put")?;
+    let base = number_at(value, "base")?;
+    let text = text_at(value, "text")?;
+    Some(AskedChange::Put { unit, base, text })
+}
+
+fn remove_in(value: &Value) -> Option<AskedChange<'_>>
+    ensures { option_map change_view result ≡ remove_in (view value.now) }
+{
+    let unit = text_at(value, "remove")?;
+    let base = number_at(value, "base")?;
+    Some(AskedChange::Remove { unit, base })
+}
+
+// A change has one of `put` and `remove`.
+fn change_in(value: &Value) -> Option<AskedChange<'_>>
+    ensures { option_map change_view result ≡ change_in (view value.now) }
+{
+    match (value.get("put"), value.get("remove")) {
+        (Some(_), None) => put_in(value),
+        (None, Some(_)) => remove_in(value),
+        _ => None,
+    }
+}
+
+fn changes_of<'a>(
+    alloc: Global,
+    values: &'a [Value],
+) -> Result<Option<Vec<AskedChange<'a>>>, AllocError>
+    ensures { IfOk result (λ found. option_map (λ changes. map change_view changes.items) found ≡ changes_of (items_view values.now)) }
+{
+    let mut changes = Vec::new(alloc);
+    for value in values {
+        match change_in(value) {
+            Some(change) => changes.push(change)?,
+            None => return Ok(None),
+        }
+    }
+    Ok(Some(changes))
+}
+
+fn commit_in(alloc: Global, value: &Value) -> Result<Option<Request<'_>>, AllocError>
+    ensures { IfOk result (λ found. option_map request_view found ≡ commit_in (view value.now)) }
+{
+    match value.get("changes").and_then(Value::as_array) {
+        None => Ok(None),
+        Some(values) => match changes_of(alloc, values)? {
+            None => Ok(None),
+            Some(changes) => Ok(Some(Request::Commit(changes))),
+        },
+    }
+}
+
+fn ask_in(value: &Value) -> Option<Request<'_>>
+    ensures { option_map request_view result ≡ ask_in (view value.now) }
+{
+    let kind = kind_at(value, "kind")?;
+    let unit = text_at(value, "unit")?;
+    Some(Request::Ask { kind, unit })
+}
+
+fn give_back_in(value: &Value) -> Option<Request<'_>>
+    ensures { option_map request_view result ≡ give_back_in (view value.now) }
+{
+    let kind = kind_at(value, "kind")?;
+    let unit = text_at(value, "unit")?;
+    Some(Request::GiveBack { kind, unit })
+}
+
+fn work_in(value: &Value) -> Option<Request<'_>>
+    ensures { option_map request_view result ≡ option_and_then work_of (number_at (codes "turns") (view value.now)) }
+{
+    let turns = number_at(value, "turns")?;
+    if 1 <= turns && turns <= 1000 {
+        Some(Request::Work(turns))
+    } else {
+        None
+    }
+}
+
+fn deliver_in(value: &Value) -> Option<Request<'_>>
+    ensures { option_map request_view result ≡ option_map deliver (number_at (codes "job") (view value.now)) }
+{
+    Some(Request::Deliver(number_at(value, "job")?))
+}
+
+fn request_by<'a>(
+    alloc: Global,
+    op: &str,
+    value: &'a Value,
+) -> Result<Option<Request<'a>>, AllocError>
+    ensures { IfOk result (λ found. option_map request_view found ≡ request_by op.now (view value.now)) }
+{
+    if op == "commit" {
+        commit_in(alloc, value)
+    } else if op == "ask" {
+        Ok(ask_in(value))
+    } else if op == "work" {
+        Ok(work_in(value))
+    } else if op == "take" {
+        Ok(Some(Request::Take))
+    } else if op == "deliver" {
+        Ok(deliver_in(value))
+    } else if op == "give_back" {
+        Ok(give_back_in(value))
+    } else {
+        Ok(None)
+    }
+}
+
+/// The request that a value is.
+#[tactic(auto, unfolding(crate::specs::Requests::request_in))]
+pub(crate) fn request_in(alloc: Global, value: &Value) -> Result<Option<Request<'_>>, AllocError>
+    ensures { IfOk result (λ found. option_map request_view found ≡ request_in (view value.now)) }
+{
+    match text_at(value, "op") {
+        None => Ok(None),
+        Some(op) => request_by(alloc, op, value),
+    }
+}

@@ -1,0 +1,116 @@
+// The whole conversation.
+ghost use Rattle.std.specs.Prelude.{◌≡◌, ◌↔◌, ◌≤◌, ◌+◌, ℕ, List, [], ◌++◌, IsTrue, false};
+ghost use Rattle.std.specs.Io.KnownBytes.{Consumes, IsAtEnd};
+ghost use Rattle.fb_bench.specs.Solo.{IsStep};
+ghost use Rattle.fb_wire.specs.Ends.{Stands};
+ghost use Rattle.fb_wire.specs.Talk.{Pair, Runs};
+
+use crate::end::RunEnd;
+use crate::feed::{Feed, Sink};
+use crate::line::say_line;
+use crate::piece::take_piece;
+use fb_bench::{Bench, Desk, Solo};
+use std::alloc::Global;
+
+// How many bytes one read may give.
+const READ_SIZE: usize = 8_192;
+
+/// Answers the lines of the reader, in order, by the calls of the desk, and writes the replies. A turn is one
+/// read.
+pub fn run_lines<F: Feed, S: Sink, D: Desk>(
+    alloc: Global,
+    reader: &mut F,
+    writer: &mut S,
+    desk: &mut D,
+    turns: u64,
+) -> RunEnd
+    requires reader { F.has_failed reader.old ≡ false }
+    requires writer { S.has_failed writer.old ≡ false }
+    // What was read, asked and written is what stands at this end.
+    ensures talk { (bytes : List ℕ) × (pairs : List Pair) × (out : List ℕ)
+        × (F.given reader.new ≡ F.given reader.old ++ bytes)
+        × Consumes (F.left reader.old) (F.left reader.new) bytes
+        × Runs D.step desk.old pairs desk.new
+        × (S.held writer.new ≡ S.held writer.old ++ out)
+        × Stands result bytes pairs out }
+    ensures whole { result ≡ RunEnd.End → IsAtEnd (F.left reader.new) }
+    ensures turns { F.reads reader.new ≤ F.reads reader.old + turns }
+    ensures all_turns { result ≡ RunEnd.TurnsOver → F.reads reader.new ≡ F.reads reader.old + turns }
+    ensures read_failed { IsTrue (F.has_failed reader.new) ↔ (result ≡ RunEnd.ReadFailed) }
+    ensures write_failed { IsTrue (S.has_failed writer.new) ↔ (result ≡ RunEnd.WriteFailed) }
+{
+    let mut held = Vec::new(alloc);
+    let mut line = Vec::new(alloc);
+    let mut buffer = [0; READ_SIZE];
+    for _turn in 0..turns {
+        let count = match reader.read(&mut buffer) {
+            Ok(count) => count,
+            Err(_) => return RunEnd::ReadFailed,
+        };
+        if count == 0 {
+            match say_line(alloc, desk, &mut held, writer, &line) {
+                Ok(()) => return RunEnd::End,
+                Err(end) => return end,
+            }
+        }
+        let piece = &buffer[..count];
+        match take_piece(alloc, desk, &mut held, writer, &mut line, piece) {
+            Ok(()) => {}
+            Err(end) => return end,
+        }
+    }
+    RunEnd::TurnsOver
+}
+
+fn run_solo<F: Feed, S: Sink>(
+    alloc: Global,
+    reader: &mut F,
+    writer: &mut S,
+    solo: &mut Solo<'_>,
+    turns: u64,
+) -> RunEnd
+    requires reader { F.has_failed reader.old ≡ false }
+    requires writer { S.has_failed writer.old ≡ false }
+    ensures script { (bytes : List ℕ) × (pairs : List Pair) × (out : List ℕ)
+        × (F.given reader.new ≡ F.given reader.old ++ bytes)
+        × Consumes (F.left reader.old) (F.left reader.new) bytes
+        × Runs (IsStep solo.old.caller) solo.old.bench.now pairs solo.new.bench.now
+        × (S.held writer.new ≡ S.held writer.old ++ out)
+        × Stands result bytes pairs out }
+    ensures same_reference { solo.new.bench.ghost_name ≡ solo.old.bench.ghost_name }
+    ensures whole { result ≡ RunEnd.End → IsAtEnd (F.left reader.new) }
+    ensures turns { F.reads reader.new ≤ F.reads reader.old + turns }
+    ensures all_turns { result ≡ RunEnd.TurnsOver → F.reads reader.new ≡ F.reads reader.old + turns }
+    ensures read_failed { IsTrue (F.has_failed reader.new) ↔ (result ≡ RunEnd.ReadFailed) }
+    ensures write_failed { IsTrue (S.has_failed writer.new) ↔ (result ≡ RunEnd.WriteFailed) }
+{
+    run_lines(alloc, reader, writer, solo, turns)
+}
+
+/// Runs the conversation on a workbench, as this caller.
+pub fn run_script<F: Feed, S: Sink>(
+    alloc: Global,
+    reader: &mut F,
+    writer: &mut S,
+    bench: &mut Bench,
+    caller: u32,
+    turns: u64,
+) -> RunEnd
+    requires reader { F.has_failed reader.old ≡ false }
+    requires writer { S.has_failed writer.old ≡ false }
+    // Each answer is the machine's, from the state before on.
+    ensures script { (bytes : List ℕ) × (pairs : List Pair) × (out : List ℕ)
+        × (F.given reader.new ≡ F.given reader.old ++ bytes)
+        × Consumes (F.left reader.old) (F.left reader.new) bytes
+        × Runs (IsStep caller) bench.old pairs bench.new
+        × (S.held writer.new ≡ S.held writer.old ++ out)
+        × Stands result bytes pairs out }
+    ensures whole { result ≡ RunEnd.End → IsAtEnd (F.left reader.new) }
+    ensures turns { F.reads reader.new ≤ F.reads reader.old + turns }
+    ensures all_turns { result ≡ RunEnd.TurnsOver → F.reads reader.new ≡ F.reads reader.old + turns }
+    ensures read_failed { IsTrue (F.has_failed reader.new) ↔ (result ≡ RunEnd.ReadFailed) }
+    ensures write_failed { IsTrue (S.has_failed writer.new) ↔ (result ≡ RunEnd.WriteFailed) }
+{
+    let mut solo = Solo::new(bench, caller);
+    run_solo(alloc, reader, writer, &mut solo, turns)
+}
