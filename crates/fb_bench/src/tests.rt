@@ -1,6 +1,6 @@
 use crate::{
     Asked, Bench, Call, Committed, Delivered, Desk, DeskRefused, GivenBack, Limits, Refused, Reply,
-    Request, Shown, Solo, Taken,
+    Shown, Solo, Taken,
 };
 use fb_jobs::{Finished, Key, Kind};
 use fb_library::Change;
@@ -121,11 +121,6 @@ fn is_answer(bench: &Bench, number: u64, turn: u64) -> Result<bool, Fail> {
     Ok(record.caller() == 2 && record.turn() == turn && is_ask && is_value)
 }
 
-fn performs(bench: &mut Bench, change: Change) -> Result<bool, Fail> {
-    let (record, job) = bench.perform(1, &Request::Commit(&[change]))?;
-    Ok(job.is_none() && record.turn() == 1)
-}
-
 // whether this is the only key, pending and handed out
 fn waits_handed_out(bench: &Bench, key: Key) -> bool {
     let is_alone = bench.key_count() == 1 && bench.pending_count() == 1;
@@ -200,7 +195,7 @@ fn a_key_that_is_given_back_is_taken_again(rt: HostRuntime) -> Result<(), Fail> 
     let alloc = rt.alloc();
     let key = faults_of("A")?;
     let mut bench = new_bench(alloc, 4, 100)?;
-    assert!(rt; performs(&mut bench, put(alloc, "A", 0, A)?)?);
+    assert!(rt; puts(alloc, &mut bench, "A", 0, A, Committed::Done(1))?);
     let first = run_one(alloc, &mut bench)?;
     assert!(rt; has_nothing_to_do(&mut bench)?);
     assert!(rt; waits_handed_out(&bench, key));

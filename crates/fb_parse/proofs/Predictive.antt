@@ -1,24 +1,23 @@
 -- One token tells how to go on in the grammar of units.
 use Rattle.std.proofs.Common.{◌≡◌, true, List, [], ◌∷◌, ◌++◌, refl, inl, inr}
-use Rattle.fb_lexemes.specs.Kind.{is_among, name_kinds}
+use Rattle.fb_lexemes.specs.Kind.{name_kinds}
 use Rattle.fb_lexemes.specs.declared.kind.Kind.{Kind}
 use Rattle.fb_lexemes.specs.declared.kind.Kind.TheVariants.{One, Point, OpenBracket, CloseBracket, Semicolon, Ampersand, And, FunctionBlock, EndFunctionBlock, Adapter, EndAdapter, Subapplication, EndSubapplication, System, EndSystem, Application, EndApplication, Device, Mappings, EventInput, EventOutput, VarInput, VarOutput, Var, Plugs, Sockets, Fbs, Subapps, EventConnections, DataConnections, AdapterConnections, EcStates, EcTransitions, Algorithm, Service}
 use Rattle.fb_text.specs.declared.name.NameUse.{NameUse}
-use Rattle.fb_forms.specs.Form.{Form, both, either, many, as_value}
+use Rattle.fb_forms.specs.Form.{Form, both, many, as_value}
 use Rattle.fb_forms.specs.Reading.{is_predictive, first, after, are_apart}
 use Rattle.fb_forms.specs.Words.{key, before, behind, name}
 use Rattle.fb_forms.proofs.Forms.{among_left, among_right}
-use Rattle.fb_forms.proofs.Shapes.{Closed, Shape, IsWithin, among_append, apart_within, closed_either}
+use Rattle.fb_forms.proofs.Shapes.{Closed, Shape, among_append, apart_within, closed_either}
 use Rattle.fb_sections.specs.Skipped.{all_kinds, others, skipped}
 use Rattle.fb_sections.specs.Network.{end}
 use Rattle.fb_sections.specs.Sections.{optional_name}
 use Rattle.fb_sections.proofs.Predictive.{closed_events, closed_data_variables, closed_internal_variables, closed_plugs, closed_sockets, closed_blocks, closed_subapplications, closed_connections, closed_states, closed_service, closed_mappings, closed_device}
 use Rattle.fb_structured_text.specs.Expression.{levels, expression}
-use Rattle.fb_structured_text.specs.Statement.{statement}
 use Rattle.fb_structured_text.proofs.ExpressionLevels.{expression_afters, shape-expression}
 use Rattle.fb_structured_text.proofs.StatementLevels.{closed-statement}
 use Rattle.fb_parse.specs.Chart.{bracketed, joined_test, optional_test, event_condition, condition, transition, transitions, optional_colon, structured_text, other_language, algorithm_body, algorithm}
-use Rattle.fb_parse.specs.Grammar.{data_section, service_section, interface_section, network_section, chart_section, block_section, adapter_section, application_section, subapplication_section, framed, block, adapter, subapplication, application, system_section, system, unit}
+use Rattle.fb_parse.specs.Grammar.{data_section, service_section, interface_section, network_section, chart_section, block_section, adapter_section, application_section, subapplication_section, block, adapter, subapplication, application, system_section, system, unit}
 
 -- Transitions and algorithms
 

@@ -1,5 +1,4 @@
 -- The grammar of the texts of units.
-use Rattle.std.specs.Prelude.{List}
 use Rattle.fb_text.specs.declared.name.NameUse.{NameUse}
 use Rattle.fb_lexemes.specs.declared.kind.Kind.{Kind}
 use Rattle.fb_lexemes.specs.declared.kind.Kind.TheVariants.{FunctionBlock, EndFunctionBlock, Adapter, EndAdapter, Subapplication, EndSubapplication, Application, EndApplication, System, EndSystem}
@@ -17,25 +16,27 @@ use Rattle.fb_parse.specs.SystemContents.{SystemContentsTree, of_application, of
 
 -- Sections
 
+-- events, or data inputs or outputs
 unfoldable pub data_section : Form ContentsTree
 data_section = either (as_value of_events events) (as_value of_variables data_variables)
 
+-- a section of services, of which nothing is kept
 unfoldable pub service_section : Form ContentsTree
 service_section = as_value (λ _. nothing) service
 
--- events | data | plugs | sockets
+-- a section of an interface: events, data, plugs or sockets
 unfoldable pub interface_section : Form ContentsTree
 interface_section = either data_section (either (as_value of_adapters plugs) (as_value of_adapters sockets))
 
--- fbs | conns
+-- block instances or connections
 unfoldable pub network_section : Form ContentsTree
 network_section = either (as_value of_instances blocks) (as_value of_connections connections)
 
--- states | trans | algorithm
+-- states, transitions or an algorithm
 unfoldable pub chart_section : Form ContentsTree
 chart_section = either (as_value of_states states) (either (as_value of_transitions transitions) (as_value of_algorithm algorithm))
 
--- iface | var | fbs | conns | states | trans | algorithm | service
+-- a section of a block type
 unfoldable pub block_section : Form ContentsTree
 block_section =
     either interface_section
@@ -43,15 +44,15 @@ block_section =
     (either network_section
     (either chart_section service_section)))
 
--- events | data | service
+-- a section of an adapter type
 unfoldable pub adapter_section : Form ContentsTree
 adapter_section = either data_section service_section
 
--- fbs | subapps | conns
+-- a section of an application
 unfoldable pub application_section : Form ContentsTree
 application_section = either network_section (as_value of_instances subapplications)
 
--- iface | fbs | subapps | conns | service
+-- a section of a subapplication type
 unfoldable pub subapplication_section : Form ContentsTree
 subapplication_section = either interface_section (either application_section service_section)
 
@@ -79,11 +80,11 @@ subapplication = as_value type_of (framed Subapplication subapplication_section 
 abbrev pub application_of : NameUse × ContentsTree → ApplicationTree
 application_of v = record { name = v.0; network = v.1.network }
 
--- 'APPLICATION' name {fbs | subapps | conns} 'END_APPLICATION'
+-- 'APPLICATION' name {section} 'END_APPLICATION'
 unfoldable pub application : Form ApplicationTree
 application = as_value application_of (framed Application application_section EndApplication)
 
--- application | device | mappings
+-- a section of a system: an application, a device or mappings
 unfoldable pub system_section : Form SystemContentsTree
 system_section =
     either (as_value of_application application)
@@ -92,11 +93,11 @@ system_section =
 abbrev pub system_of : NameUse × SystemContentsTree → SystemTree
 system_of v = record { name = v.0; applications = v.1.applications; devices = v.1.devices; mappings = v.1.mappings }
 
--- 'SYSTEM' name {application | device | mappings} 'END_SYSTEM'
+-- 'SYSTEM' name {section} 'END_SYSTEM'
 unfoldable pub system : Form SystemTree
 system = as_value system_of (behind (key System) (both name (before (as_value system_joined (many system_section)) (key EndSystem))))
 
--- block | adapter | subapp | system
+-- the text of a unit
 unfoldable pub unit : Form DeclTree
 unit =
     either (as_value block_type block)

@@ -14,4 +14,6 @@ pub use body::{Body, one_body, one_tree};
 pub use source::{ReadFault, Source};
 
 #[cfg(test)]
+mod places_tests;
+#[cfg(test)]
 mod tests;
