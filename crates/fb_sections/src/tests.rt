@@ -22,7 +22,7 @@ fn events_of_a_side(rt: HostRuntime) -> Result<(), Fail> {
 }
 
 #[test]
-fn variables_of_a_section(rt: HostRuntime) -> Result<(), Fail> {
+fn a_signed_number_for_a_string(rt: HostRuntime) -> Result<(), Fail> {
     let text = "VAR_INPUT X,Y:STRING[80]:=-1; END_VAR";
     let tokens = lexemes(rt.alloc(), text)?;
     let (data, _) = data_variables(rt.alloc(), tokens.as_slice())?;
@@ -38,6 +38,11 @@ fn variables_of_a_section(rt: HostRuntime) -> Result<(), Fail> {
         }
         _ => assert!(rt; false, "the initial value is a number"),
     }
+    Ok(())
+}
+
+#[test]
+fn a_list_for_an_array(rt: HostRuntime) -> Result<(), Fail> {
     let text = "VAR A: ARRAY[0..9,1..2] OF INT := [1, T#250ms, X]; END_VAR";
     let tokens = lexemes(rt.alloc(), text)?;
     let (internal, _) = internal_variables(rt.alloc(), tokens.as_slice())?;
