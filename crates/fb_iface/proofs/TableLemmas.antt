@@ -7,7 +7,7 @@ use Rattle.fb_text.proofs.OrderLemmas.{same_name}
 use Rattle.fb_iface.proofs.PlaceLemmas.{passing, passing-all, passing-more}
 use Rattle.fb_iface.specs.Names.{first_ones, is_same, stands_for}
 
-is_it : (x q : List ℕ) → is_same x q ≡ true → q ≡ x
+pub is_it : (x q : List ℕ) → is_same x q ≡ true → q ≡ x
 is_it x q e = sym (same_text x q (sym (same_name x q ∙ e)))
 
 module _ {D : Type 0} where

@@ -9,4 +9,6 @@ pub mod Withs
 pub mod Class
 pub mod Literals
 pub mod Types
+pub mod Scope
+pub mod Kept
 pub mod Declarations

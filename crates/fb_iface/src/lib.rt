@@ -12,6 +12,7 @@ mod named;
 mod names;
 mod ports;
 mod repeats;
+mod scope;
 mod withs;
 
 pub use classes::{Class, class_by_form, class_by_name, class_of, class_of_constant, is_taken};
@@ -23,6 +24,7 @@ pub use interfaces::{interface, ports_of};
 pub use literals::report_constant;
 pub use names::first_declared;
 pub use ports::{DeclaredEvent, DeclaredInstance, DeclaredVariable, Ports, is_beside};
+pub use scope::Scope;
 
 #[cfg(test)]
 mod tests;

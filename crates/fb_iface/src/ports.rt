@@ -57,7 +57,7 @@ impl Ports {
     ghost use Rattle.fb_tree.specs.Tree.{type_tree};
     ghost use Rattle.fb_tree.specs.declared.interface.Side.TheVariants as sides;
     ghost use Rattle.fb_tree.specs.declared.network.Role.TheVariants as roles;
-    ghost use Rattle.fb_iface.specs.Names.{stands_for};
+    ghost use Rattle.fb_iface.specs.Names.{first_ones, stands_for};
     ghost use Rattle.fb_iface.specs.Ports.{data_on, events_on, instances_as, meanings_in_type};
 
     /// No ports.
@@ -81,6 +81,18 @@ impl Ports {
         Ok(Ports {
             events: first_declared(alloc, events.as_slice())?,
             variables: first_declared(alloc, variables.as_slice())?,
+            instances: first_declared(alloc, instances.as_slice())?,
+        })
+    }
+
+    /// The instances of a network, which has no events and variables of its own.
+    pub fn of_network(alloc: Global, network: &Network) -> Result<Ports, AllocError>
+        ensures { IfOk result (λ ports. ports ≡ record { events = []; variables = []; instances = first_ones (instances_in (network_tree network.now)) }) }
+    {
+        let instances = declared_instances(alloc, network)?;
+        Ok(Ports {
+            events: IndexMap::new(alloc),
+            variables: IndexMap::new(alloc),
             instances: first_declared(alloc, instances.as_slice())?,
         })
     }

@@ -1,0 +1,30 @@
+-- The types that a scope keeps.
+use Rattle.std.specs.Prelude.{ℕ, List, Option, Some, None, cond, if◌then◌else◌, nat_eq, option_map}
+use Rattle.std.specs.Option.{option_or}
+use Rattle.std.specs.Cmp.Lexicographic.{pointwise}
+use Rattle.fb_tree.specs.Tree.{DeclTree}
+use Rattle.fb_tree.specs.Mentions.{kind_of}
+use Rattle.fb_tree.specs.declared.network.Role.{Role}
+use Rattle.fb_iface.specs.Ports.{Meanings, meanings_in}
+use Rattle.fb_iface.specs.Types.{suits}
+use Rattle.indexmap.specs.IndexMap.{get}
+use Rattle.fb_iface.specs.Scope.{Scope}
+use Rattle.fb_iface.specs.declared.scope.KeptType.{KeptType}
+use Rattle.fb_iface.specs.declared.scope.Scope as kept
+
+-- what is kept of a type
+abbrev pub kept_of : DeclTree → KeptType
+kept_of decl = record { kind = kind_of decl; ports = meanings_in decl }
+
+-- the ports of a type that is kept, where the role wants its kind
+abbrev pub kept_ports : Role → Option KeptType → Option Meanings
+kept_ports role None = None
+kept_ports role (Some kept) = if suits role kept.kind then Some kept.ports else None
+
+-- what names stand for by what is kept
+abbrev pub scope_in : kept.Scope → Scope
+scope_in s = record { own = s.own; type_ports = λ role name. kept_ports role (get (pointwise nat_eq) s.types name) }
+
+-- a table with one more type, where this isn't there yet
+abbrev pub with_type : List ℕ → Option DeclTree → (List ℕ → Option KeptType) → List ℕ → Option KeptType
+with_type name decl kept q = cond (pointwise nat_eq name q) (option_or (kept q) (option_map kept_of decl)) (kept q)

@@ -1,0 +1,46 @@
+-- What names stand for in a network: the unit's own names, and the ports of the types of its instances.
+use Rattle.std.specs.Prelude.{ℕ, [], List, map, Option, Some, None, if◌then◌else◌}
+use Rattle.std.specs.Option.{option_and_then}
+use Rattle.fb_tree.specs.Tree.{DeclTree, InstanceTree, NetworkTree, TypeTree}
+use Rattle.fb_tree.specs.Mentions.{kind_of}
+use Rattle.fb_tree.specs.declared.network.Role.{Role}
+use Rattle.fb_library.specs.View.{Sources, tree_at}
+use Rattle.fb_iface.specs.Names.{first_ones, has_name, stands_for}
+use Rattle.fb_iface.specs.Ports.{Meanings, instances_in, meanings_in, meanings_in_type}
+use Rattle.fb_iface.specs.Types.{suits}
+use Rattle.fb_iface.specs.declared.ports.DeclaredInstance.{DeclaredInstance}
+
+-- the ports of a type, where it is usable in this role: present, not broken, and of the kind that the section wants
+abbrev pub usable : Role → Option DeclTree → Option Meanings
+usable role None = None
+usable role (Some decl) = if suits role (kind_of decl) then Some (meanings_in decl) else None
+
+-- the declaration of a type that one of these instances has
+abbrev pub mentioned_type : Sources → List InstanceTree → List ℕ → Option DeclTree
+mentioned_type sources instances name = if has_name (map (λ i. i.type_name) instances) name then tree_at sources name else None
+
+-- the unit's own names, and for each role the ports of each type that an instance has, where it is usable in this role
+pub record Scope : Type 0 where
+  pub own : Meanings
+  pub type_ports : Role → List ℕ → Option Meanings
+
+abbrev pub type_ports_of : Sources → NetworkTree → Role → List ℕ → Option Meanings
+type_ports_of sources network role name = usable role (mentioned_type sources network.instances name)
+
+abbrev pub scope_of_type : Sources → TypeTree → Scope
+scope_of_type sources d = record { own = meanings_in_type d; type_ports = type_ports_of sources d.network }
+
+-- an application has instances alone
+abbrev pub scope_of_network : Sources → NetworkTree → Scope
+scope_of_network sources network = record {
+  own = record { events = []; variables = []; instances = first_ones (instances_in network) };
+  type_ports = type_ports_of sources network;
+}
+
+-- the ports of an instance, plug or socket, where its type is usable
+abbrev pub instance_ports : Scope → DeclaredInstance → Option Meanings
+instance_ports scope instance = scope.type_ports instance.role instance.type_name.name
+
+-- the ports of what a name stands for among the instances, plugs and sockets
+abbrev pub ports_of : Scope → List ℕ → Option Meanings
+ports_of scope name = option_and_then (instance_ports scope) (stands_for scope.own.instances name)

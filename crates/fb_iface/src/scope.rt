@@ -1,0 +1,136 @@
+//! What names stand for in a network: the unit's own names, and the ports of the types of its instances.
+ghost use Rattle.std.specs.Prelude.{◌≡◌, IfOk, List, map, ℕ, nat_eq, OnOk};
+ghost use Rattle.std.specs.Cmp.Lexicographic.{pointwise};
+ghost use Rattle.std.specs.Option.{option_map};
+ghost use Rattle.fb_tree.specs.Tree.{instance_tree, network_tree, type_tree};
+ghost use Rattle.fb_library.specs.View.{tree_at};
+ghost use Rattle.fb_iface.specs.Scope.{instance_ports, mentioned_type, ports_of, scope_of_network, scope_of_type};
+ghost use Rattle.fb_iface.specs.Kept.{kept_of, scope_in, with_type};
+ghost use Rattle.indexmap.specs.IndexMap.{get};
+
+use crate::instances::is_suited;
+use crate::interfaces;
+use crate::ports::{DeclaredInstance, Ports};
+use fb_library::{View, tree_by_name};
+use fb_text::Name;
+use fb_tree::{Instance, Network, Role, TypeDeclaration, UnitKind, kind};
+use indexmap::IndexMap;
+use std::alloc::{AllocError, Global};
+
+/// A type that is present and not broken, with its ports.
+#[derive(Drop)]
+struct KeptType {
+    kind: UnitKind,
+    ports: Ports,
+}
+
+/// What names stand for in a network. The ports of each type are read once, however many instances have it.
+#[derive(Drop)]
+pub struct Scope {
+    own: Ports,
+    types: IndexMap<Name, KeptType>,
+}
+
+impl Scope {
+    /// What names stand for in a type.
+    pub fn of_type<V: View>(
+        alloc: Global,
+        view: &V,
+        declared: &TypeDeclaration,
+    ) -> Result<Scope, AllocError>
+        ensures { IfOk result (λ scope. scope_in scope ≡ scope_of_type (V.sources view.now) (type_tree declared.now)) }
+    {
+        Ok(Scope {
+            own: Ports::of_type(alloc, declared)?,
+            types: types_of(alloc, view, declared.network.instances.as_slice())?,
+        })
+    }
+
+    /// What names stand for in the network of an application.
+    pub fn of_network<V: View>(
+        alloc: Global,
+        view: &V,
+        network: &Network,
+    ) -> Result<Scope, AllocError>
+        ensures { IfOk result (λ scope. scope_in scope ≡ scope_of_network (V.sources view.now) (network_tree network.now)) }
+    {
+        Ok(Scope {
+            own: Ports::of_network(alloc, network)?,
+            types: types_of(alloc, view, network.instances.as_slice())?,
+        })
+    }
+
+    /// The unit's own names.
+    pub fn own(&self) -> &Ports
+        ensures { result.now ≡ (scope_in self.now).own }
+    {
+        &self.own
+    }
+
+    /// The ports of a type that an instance of the network has, where it is usable in this role: present, not broken and of the
+    /// kind that the section of the instance wants.
+    pub fn type_ports(&self, role: Role, type_name: &Name) -> Option<&Ports>
+        ensures { option_map (λ p. p.now) result ≡ (scope_in self.now).type_ports role type_name.now }
+    {
+        match self.types.get(type_name) {
+            Some(kept) if is_suited(role, kept.kind) => Some(&kept.ports),
+            _ => None,
+        }
+    }
+
+    /// The ports of an instance, a plug or a socket, where its type is usable.
+    pub fn instance_ports(&self, instance: &DeclaredInstance) -> Option<&Ports>
+        ensures { option_map (λ p. p.now) result ≡ instance_ports (scope_in self.now) instance.now }
+    {
+        self.type_ports(instance.role, &instance.type_name.name)
+    }
+
+    /// The ports of what the name stands for among the instances, plugs and sockets.
+    pub fn ports_of(&self, name: &Name) -> Option<&Ports>
+        ensures { option_map (λ p. p.now) result ≡ ports_of (scope_in self.now) name.now }
+    {
+        match self.own.instance(name) {
+            Some(instance) => self.instance_ports(instance),
+            None => None,
+        }
+    }
+}
+
+/// The types of instances, each once.
+fn types_of<V: View>(
+    alloc: Global,
+    view: &V,
+    instances: &[Instance],
+) -> Result<IndexMap<Name, KeptType>, AllocError>
+    ensures { IfOk result (λ types. (name : List ℕ) → get (pointwise nat_eq) types name
+        ≡ option_map kept_of (mentioned_type (V.sources view.now) (map instance_tree instances.now) name)) }
+{
+    let mut types = IndexMap::new(alloc);
+    for instance in instances {
+        add_type(alloc, view, &instance.type_name.name, &mut types)?;
+    }
+    Ok(types)
+}
+
+/// Adds a type, where it is present and not broken and isn't there yet.
+fn add_type<V: View>(
+    alloc: Global,
+    view: &V,
+    name: &Name,
+    types: &mut IndexMap<Name, KeptType>,
+) -> Result<(), AllocError>
+    ensures { OnOk result ((q : List ℕ) → get (pointwise nat_eq) types.new q
+        ≡ with_type name.now (tree_at (V.sources view.now) name.now) (get (pointwise nat_eq) types.old) q) }
+{
+    if types.contains_key(name) {
+        return Ok(());
+    }
+    if let Some(decl) = tree_by_name(view, name) {
+        let kept = KeptType {
+            kind: kind(decl),
+            ports: interfaces::ports_of(alloc, decl)?,
+        };
+        types.insert(*name, kept)?;
+    }
+    Ok(())
+}
