@@ -1,0 +1,3 @@
+pub mod LocalLemmas
+pub mod ReferenceLemmas
+pub mod TreeLemmas

@@ -1,0 +1,51 @@
+-- One level of an expression or a statement, in its mirror.
+use Rattle.std.proofs.Common.{◌≡◌, Box, List, Option, Vec, map, option_map, ap, ◌∙◌}
+use Rattle.std.proofs.lemmas.Simd.{map-map}
+use Rattle.std.specs.declared.alloc.Global.{Global}
+use Rattle.fb_text.specs.declared.name.NameUse.{NameUse}
+use Rattle.fb_tree.specs.Expression.{Expression, expression_step, expression_tree, operands_of, row_expression}
+use Rattle.fb_tree.specs.Statement.{Statement, arms_of, choice, count, repeat_loop, selection, statement_step, statement_tree, statements_of, while_loop}
+use Rattle.fb_tree.specs.declared.expression.BinaryUse.{BinaryUse}
+use Rattle.fb_tree.specs.declared.expression.Expr.{Expr}
+use Rattle.fb_tree.specs.declared.expression.Expr as Expr
+use Rattle.fb_tree.specs.declared.expression.Expr.TheFolds.{fold-roll-Expr}
+use Rattle.fb_tree.specs.declared.expression.Expr.TheOpen.{Row as RowF}
+use Rattle.fb_tree.specs.declared.expression.Expr.TheViews.{roll-Expr}
+use Rattle.fb_tree.specs.declared.statement.Stmt.{Stmt}
+use Rattle.fb_tree.specs.declared.statement.Stmt as Stmt
+use Rattle.fb_tree.specs.declared.statement.Stmt.TheFolds.{fold-roll-Stmt}
+use Rattle.fb_tree.specs.declared.statement.Stmt.TheOpen.{Case as CaseF, For as ForF, If as IfF, Repeat as RepeatF, While as WhileF}
+use Rattle.fb_tree.specs.declared.statement.Stmt.TheViews.{roll-Stmt}
+use denote.Hole.Carrier.{roll}
+
+abbrev pub operand_tree : BinaryUse × Expr → BinaryUse × Expression
+operand_tree o = (o.0, expression_tree o.1)
+
+abbrev pub arm_tree : Expr × Vec Stmt Global → Expression × List Statement
+arm_tree a = (expression_tree a.0, map statement_tree a.1.items)
+
+pub tree-Row : (first : Box Expr Global) (operands : Vec (BinaryUse × Expr) Global) → expression_tree (Expr.Row first operands) ≡ row_expression (expression_tree first.value) (operands_of (map operand_tree operands.items))
+unfolding roll-Expr roll
+tree-Row first operands = fold-roll-Expr Expression expression_step (RowF first operands)
+
+pub tree-If : (arms : Vec (Expr × Vec Stmt Global) Global) (otherwise : Vec Stmt Global) → statement_tree (Stmt.If arms otherwise) ≡ choice (arms_of (map arm_tree arms.items)) (statements_of (map statement_tree otherwise.items))
+unfolding roll-Stmt roll
+tree-If arms otherwise =
+    fold-roll-Stmt Statement statement_step (IfF arms otherwise)
+    ∙ ap (λ l. choice (arms_of l) (statements_of (map statement_tree otherwise.items))) (map-map _ _ arms.items)
+
+pub tree-Case : (selector : Expr) (cases otherwise : Vec Stmt Global) → statement_tree (Stmt.Case selector cases otherwise) ≡ selection (expression_tree selector) (statements_of (map statement_tree cases.items)) (statements_of (map statement_tree otherwise.items))
+unfolding roll-Stmt roll
+tree-Case selector cases otherwise = fold-roll-Stmt Statement statement_step (CaseF selector cases otherwise)
+
+pub tree-For : (name : NameUse) (from to : Expr) (by : Option Expr) (body : Vec Stmt Global) → statement_tree (Stmt.For name from to by body) ≡ count name (expression_tree from) (expression_tree to) (option_map expression_tree by) (statements_of (map statement_tree body.items))
+unfolding roll-Stmt roll
+tree-For name from to by body = fold-roll-Stmt Statement statement_step (ForF name from to by body)
+
+pub tree-While : (condition : Expr) (body : Vec Stmt Global) → statement_tree (Stmt.While condition body) ≡ while_loop (expression_tree condition) (statements_of (map statement_tree body.items))
+unfolding roll-Stmt roll
+tree-While condition body = fold-roll-Stmt Statement statement_step (WhileF condition body)
+
+pub tree-Repeat : (body : Vec Stmt Global) (condition : Expr) → statement_tree (Stmt.Repeat body condition) ≡ repeat_loop (statements_of (map statement_tree body.items)) (expression_tree condition)
+unfolding roll-Stmt roll
+tree-Repeat body condition = fold-roll-Stmt Statement statement_step (RepeatF body condition)

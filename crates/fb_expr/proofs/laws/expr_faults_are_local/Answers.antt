@@ -1,0 +1,5 @@
+use Rattle.fb_expr.proofs.LocalLemmas.{expr_faults_local}
+use Rattle.fb_expr.proofs.laws.expr_faults_are_local.Goals as goal
+
+pub returns : goal.returns
+returns c = expr_faults_local

@@ -1,0 +1,26 @@
+-- The classes that each place of an algorithm asks for; one that is not judged meets every rule.
+use Rattle.std.specs.Prelude.{Bool, true, false, List, [], ◌∷◌, if◌then◌else◌}
+use Rattle.fb_text.specs.declared.token.Span.{Span}
+use Rattle.fb_iface.specs.declared.classes.Class.{Class as ValueClass}
+use Rattle.fb_iface.specs.declared.classes.Class.TheVariants.{B, I, W, O, Free, Num, Any}
+use Rattle.fb_iface.specs.declared.code.Code.TheVariants.{Class}
+use Rattle.fb_iface.specs.declared.fault.Fault.{Fault}
+use Rattle.fb_expr.specs.declared.rules.Place.{Place}
+use Rattle.fb_expr.specs.declared.rules.Place.TheVariants.{Condition, Count, Counter, Selector}
+
+-- a condition is a truth value, a count and a subscript a whole number, and a CASE selects by anything but a truth value
+abbrev pub allows : Place → ValueClass → Bool
+allows place Free = true
+allows Condition B = true
+allows Condition Any = true
+allows Count I = true
+allows Count Num = true
+allows Count Any = true
+allows Counter I = true
+allows Selector B = false
+allows Selector class = true
+allows place class = false
+
+-- a fault where a rule of classes is not met
+abbrev pub class_faults : Bool → Span → List Fault
+class_faults is_met span = if is_met then [] else record { code = Class; span = span } ∷ []

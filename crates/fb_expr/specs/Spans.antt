@@ -1,0 +1,27 @@
+-- Where references and expressions stand.
+use Rattle.fb_text.specs.declared.token.Span.{Span}
+use Rattle.std.specs.Option.{option_map_or}
+use Rattle.fb_tree.specs.declared.expression.Reference.{Reference}
+use Rattle.fb_tree.specs.Expression.{Expression, literal_expression, reference_expression, unary_expression, row_expression, parentheses, Operands, no_operands, operand_then}
+
+-- from the start of one to the end of the other
+abbrev pub across : Span → Span → Span
+across first last = record { start = first.start; end = last.end }
+
+-- the names of a reference, without its subscripts
+abbrev pub names_span : Reference → Span
+names_span r = option_map_or (λ m. across r.name.span m.span) r.member r.name.span
+
+abbrev mutual
+  -- an expression, with the parentheses and the subscripts that belong to it
+  pub span_of : Expression → Span
+  span_of (literal_expression l) = l.span
+  span_of (reference_expression r subscripts) = r.span
+  span_of (unary_expression operator e) = across operator.span (span_of e)
+  span_of (row_expression e operands) = span_through (span_of e) operands
+  span_of (parentheses e span) = span
+
+  -- from there through the last of these operands
+  pub span_through : Span → Operands → Span
+  span_through span no_operands = span
+  span_through span (operand_then operator e operands) = span_through (across span (span_of e)) operands

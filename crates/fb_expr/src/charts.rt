@@ -1,0 +1,105 @@
+//! The check of the expressions and statements of a unit (IEC 61499-1, 5.2.1 and 5.2.2: execution control charts and algorithms).
+ghost use Rattle.std.specs.Prelude.{◌≡◌, ◌++◌, IfOk, OnOk};
+ghost use Rattle.std.specs.List.{flat_map};
+ghost use Rattle.fb_tree.specs.Tree.{algorithm_tree, chart_tree, condition_tree, decl_tree, transition_tree, type_tree};
+ghost use Rattle.fb_library.specs.View.{tree_at};
+ghost use Rattle.fb_iface.specs.Fault.{faults_in_order};
+ghost use Rattle.fb_iface.specs.Scope.{scope_of_type};
+ghost use Rattle.fb_iface.specs.Kept.{scope_in};
+ghost use Rattle.fb_expr.specs.Charts.{algorithm_faults, chart_faults, expr_faults_of, guard_faults, transition_faults};
+
+use crate::expressions::judge_at;
+use crate::rules::Place;
+use crate::statements::report_statements;
+use fb_iface::{Fault, Scope, sorted_faults};
+use fb_library::{View, tree_by_name};
+use fb_text::Name;
+use fb_tree::{Algorithm, Chart, Condition, Decl, Transition, TypeDeclaration};
+use std::alloc::{AllocError, Global};
+
+/// The faults of the expressions and statements of a unit, in order, each once: names that are no variables, and values that do not suit
+/// what is done with them.
+pub fn expr_faults<V: View>(alloc: Global, view: &V, unit: &Name) -> Result<Vec<Fault>, AllocError>
+    ensures { IfOk result
+        (λ faults. faults.items ≡ faults_in_order (expr_faults_of (V.sources view.now) unit.now)) }
+{
+    let found = reported(alloc, view, unit)?;
+    sorted_faults(alloc, found.as_slice())
+}
+
+/// The faults as they are found.
+fn reported<V: View>(alloc: Global, view: &V, unit: &Name) -> Result<Vec<Fault>, AllocError>
+    ensures { IfOk result (λ faults. faults.items ≡ expr_faults_of (V.sources view.now) unit.now) }
+{
+    match tree_by_name(view, unit) {
+        Some(Decl::Block(declared)) => reported_in_type(alloc, view, declared),
+        _ => Ok(Vec::new(alloc)),
+    }
+}
+
+/// Those of a block type.
+fn reported_in_type<V: View>(
+    alloc: Global,
+    view: &V,
+    declared: &TypeDeclaration,
+) -> Result<Vec<Fault>, AllocError>
+    ensures { IfOk result (λ faults. faults.items
+        ≡ chart_faults (scope_of_type (V.sources view.now) (type_tree declared.now)) (chart_tree declared.now.chart)) }
+{
+    let scope = Scope::of_type(alloc, view, declared)?;
+    let mut found = Vec::new(alloc);
+    report_chart(&scope, &declared.chart, &mut found)?;
+    Ok(found)
+}
+
+/// Reports the faults of the guards and of the algorithms.
+fn report_chart(scope: &Scope, chart: &Chart, found: &mut Vec<Fault>) -> Result<(), AllocError>
+    ensures { OnOk result (found.new.items ≡ found.old.items ++ chart_faults (scope_in scope.now) (chart_tree chart.now)) }
+{
+    report_transitions(scope, chart.transitions.as_slice(), found)?;
+    report_algorithms(scope, chart.algorithms.as_slice(), found)
+}
+
+fn report_transitions(
+    scope: &Scope,
+    transitions: &[Transition],
+    found: &mut Vec<Fault>,
+) -> Result<(), AllocError>
+    ensures { OnOk result (found.new.items ≡ found.old.items
+        ++ flat_map (λ t. transition_faults (scope_in scope.now) (transition_tree t)) transitions.now) }
+{
+    for transition in transitions {
+        report_guard(scope, &transition.condition, found)?;
+    }
+    Ok(())
+}
+
+/// Reports the faults of a guard, where there is one.
+fn report_guard(
+    scope: &Scope,
+    condition: &Condition,
+    found: &mut Vec<Fault>,
+) -> Result<(), AllocError>
+    ensures { OnOk result (found.new.items ≡ found.old.items ++ guard_faults (scope_in scope.now) (condition_tree condition.now)) }
+{
+    match condition {
+        Condition::Always(_) | Condition::Event(_) => Ok(()),
+        Condition::Guarded(_, test) | Condition::Guard(test) => {
+            judge_at(Place::Condition, scope, test, found)
+        }
+    }
+}
+
+fn report_algorithms(
+    scope: &Scope,
+    algorithms: &[Algorithm],
+    found: &mut Vec<Fault>,
+) -> Result<(), AllocError>
+    ensures { OnOk result (found.new.items ≡ found.old.items
+        ++ flat_map (λ a. algorithm_faults (scope_in scope.now) (algorithm_tree a)) algorithms.now) }
+{
+    for algorithm in algorithms {
+        report_statements(scope, algorithm.statements.as_slice(), found)?;
+    }
+    Ok(())
+}

@@ -1,0 +1,17 @@
+//! The faults of the expressions and statements of a unit.
+#![tactic(auto)]
+
+mod charts;
+mod classes;
+mod expressions;
+mod laws;
+mod references;
+mod rules;
+mod spans;
+mod statements;
+
+pub use charts::expr_faults;
+pub use laws::expr_faults_are_local;
+
+#[cfg(test)]
+mod tests;

@@ -1,0 +1,46 @@
+//! Where references and expressions stand.
+ghost use Rattle.std.specs.Prelude.{◌≡◌};
+ghost use Rattle.fb_tree.specs.Expression.{expression_tree};
+ghost use Rattle.fb_expr.specs.Spans.{across, names_span, span_of};
+
+use fb_text::Span;
+use fb_tree::{Expr, Reference};
+
+/// From the start of one to the end of the other.
+fn across(first: Span, last: Span) -> Span
+    ensures { result ≡ across first last }
+{
+    Span {
+        start: first.start,
+        end: last.end,
+    }
+}
+
+/// Where the names of a reference stand, without its subscripts.
+pub fn span_of_names(reference: &Reference) -> Span
+    ensures { result ≡ names_span reference.now }
+{
+    match reference.member {
+        Some(member) => across(reference.name.span, member.span),
+        None => reference.name.span,
+    }
+}
+
+/// Where an expression stands, with the parentheses and the subscripts that belong to it.
+pub fn span_of(expr: &Expr) -> Span
+    ensures { result ≡ span_of (expression_tree expr.now) }
+{
+    match expr {
+        Expr::Literal(literal) => literal.span,
+        Expr::Reference(reference, _) => reference.span,
+        Expr::Unary(operator, operand) => across(operator.span, span_of(operand)),
+        Expr::Row(first, operands) => {
+            let mut span = span_of(first);
+            for (_, operand) in operands {
+                span = across(span, span_of(operand));
+            }
+            span
+        }
+        Expr::Parentheses(_, span) => *span,
+    }
+}

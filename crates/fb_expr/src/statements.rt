@@ -1,0 +1,118 @@
+//! The check of statements.
+ghost use Rattle.std.specs.Prelude.{◌≡◌, ◌++◌, OnOk, map, option_map};
+ghost use Rattle.fb_tree.specs.Expression.{expression_tree, expressions_of, reference_expression};
+ghost use Rattle.fb_tree.specs.Statement.{statement_tree, statements_of};
+ghost use Rattle.fb_iface.specs.Kept.{scope_in};
+ghost use Rattle.fb_expr.specs.Statements.{assignment_faults, counter_faults, range_faults, statement_faults, statements_faults};
+
+use crate::classes::joined;
+use crate::expressions::{judge, judge_at, judge_reference};
+use crate::references::{referred_variable, report_unknown};
+use crate::rules::{Place, report_class};
+use fb_iface::{Fault, Scope};
+use fb_text::{NameUse, Span};
+use fb_tree::{Expr, Reference, Stmt};
+use std::alloc::AllocError;
+
+/// Reports the faults of statements.
+#[cycle(statements)]
+pub fn report_statements(
+    scope: &Scope,
+    statements: &[Stmt],
+    found: &mut Vec<Fault>,
+) -> Result<(), AllocError>
+    ensures { OnOk result (found.new.items ≡ found.old.items
+        ++ statements_faults (scope_in scope.now) (statements_of (map statement_tree statements.now))) }
+{
+    for statement in statements {
+        report_statement(scope, statement, found)?;
+    }
+    Ok(())
+}
+
+/// Reports the faults of a statement.
+#[cycle(statements)]
+fn report_statement(
+    scope: &Scope,
+    statement: &Stmt,
+    found: &mut Vec<Fault>,
+) -> Result<(), AllocError>
+    ensures { OnOk result (found.new.items ≡ found.old.items ++ statement_faults (scope_in scope.now) (statement_tree statement.now)) }
+{
+    match statement {
+        Stmt::Empty | Stmt::Exit | Stmt::Return => Ok(()),
+        Stmt::Assign(variable, subscripts, place, value) => {
+            report_assignment(scope, variable, subscripts.as_slice(), *place, value, found)
+        }
+        Stmt::If(arms, otherwise) => {
+            for (condition, body) in arms {
+                judge_at(Place::Condition, scope, condition, found)?;
+                report_statements(scope, body.as_slice(), found)?;
+            }
+            report_statements(scope, otherwise.as_slice(), found)
+        }
+        Stmt::Case(selector, cases, otherwise) => {
+            judge_at(Place::Selector, scope, selector, found)?;
+            report_statements(scope, cases.as_slice(), found)?;
+            report_statements(scope, otherwise.as_slice(), found)
+        }
+        Stmt::For(name, from, to, by, body) => {
+            report_counter(scope, name, found)?;
+            report_range(scope, from, to, by, found)?;
+            report_statements(scope, body.as_slice(), found)
+        }
+        Stmt::While(condition, body) => {
+            judge_at(Place::Condition, scope, condition, found)?;
+            report_statements(scope, body.as_slice(), found)
+        }
+        Stmt::Repeat(body, condition) => {
+            report_statements(scope, body.as_slice(), found)?;
+            judge_at(Place::Condition, scope, condition, found)
+        }
+    }
+}
+
+/// Reports the faults of an assignment. `place` is that of `:=`.
+fn report_assignment(
+    scope: &Scope,
+    variable: &Reference,
+    subscripts: &[Expr],
+    place: Span,
+    value: &Expr,
+    found: &mut Vec<Fault>,
+) -> Result<(), AllocError>
+    ensures { OnOk result (found.new.items ≡ found.old.items
+        ++ assignment_faults (scope_in scope.now) (reference_expression variable.now (expressions_of (map expression_tree subscripts.now))) place (expression_tree value.now)) }
+{
+    let target = judge_reference(scope, variable, subscripts, found)?;
+    let value = judge(scope, value, found)?;
+    report_class(joined(target, value).is_some(), place, found)
+}
+
+/// Reports a variable of a `FOR` that is none, or no whole number.
+fn report_counter(scope: &Scope, name: &NameUse, found: &mut Vec<Fault>) -> Result<(), AllocError>
+    ensures { OnOk result (found.new.items ≡ found.old.items ++ counter_faults (scope_in scope.now) name.now) }
+{
+    let referent = referred_variable(scope, &name.name);
+    report_unknown(&referent, name.span, found)?;
+    report_class(Place::Counter.is_for(referent.class(&[])), name.span, found)
+}
+
+/// Reports the faults of where a `FOR` begins, where it ends, and its step.
+fn report_range(
+    scope: &Scope,
+    from: &Expr,
+    to: &Expr,
+    by: &Option<Expr>,
+    found: &mut Vec<Fault>,
+) -> Result<(), AllocError>
+    ensures { OnOk result (found.new.items ≡ found.old.items
+        ++ range_faults (scope_in scope.now) (expression_tree from.now) (expression_tree to.now) (option_map expression_tree by.now)) }
+{
+    judge_at(Place::Count, scope, from, found)?;
+    judge_at(Place::Count, scope, to, found)?;
+    match by {
+        Some(by) => judge_at(Place::Count, scope, by, found),
+        None => Ok(()),
+    }
+}
