@@ -1,7 +1,11 @@
 pub mod CodeLemmas
+pub mod EarlierLemmas
 pub mod FaultLemmas
+pub mod Members
+pub mod NameLemmas
 pub mod PlaceLemmas
 pub mod RepeatLemmas
+pub mod RowLemmas
 pub mod ScopeLemmas
 pub mod ScopeLocal
 pub mod TableLemmas

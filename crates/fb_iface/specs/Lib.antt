@@ -12,3 +12,4 @@ pub mod Types
 pub mod Scope
 pub mod Kept
 pub mod Declarations
+pub mod Rows

@@ -7,6 +7,7 @@ mod declarations;
 mod fault;
 mod instances;
 mod interfaces;
+mod laws;
 mod literals;
 mod named;
 mod names;
@@ -21,9 +22,16 @@ pub use declarations::iface_faults;
 pub use fault::{Fault, sorted_faults};
 pub use instances::is_suited;
 pub use interfaces::{interface, ports_of};
+pub use laws::{
+    duplicates_are_reported, misfits_are_reported, mixed_kinds_are_reported,
+    other_names_are_reported, unknown_types_are_reported, unknown_withs_are_reported,
+    wrong_kinds_are_reported,
+};
 pub use literals::report_constant;
 pub use names::first_declared;
-pub use ports::{DeclaredEvent, DeclaredInstance, DeclaredVariable, Ports, is_beside};
+pub use ports::{
+    DeclaredEvent, DeclaredInstance, DeclaredVariable, Ports, is_beside, is_same_side,
+};
 pub use scope::Scope;
 
 #[cfg(test)]

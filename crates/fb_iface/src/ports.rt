@@ -201,7 +201,8 @@ impl Ports {
     }
 }
 
-fn is_same_side(a: Side, b: Side) -> bool
+/// Whether two sides are the same.
+pub fn is_same_side(a: Side, b: Side) -> bool
     ensures { result ≡ same_side a b }
 {
     match (a, b) {

@@ -40,3 +40,14 @@ fn a_broken_text_has_no_interface(rt: HostRuntime) -> Result<(), Fail> {
     assert!(rt; interface(rt.alloc(), &source)?.is_none());
     Ok(())
 }
+
+#[test]
+fn each_code_is_reported_where_it_belongs(_rt: HostRuntime) {
+    other_names_are_reported();
+    duplicates_are_reported();
+    mixed_kinds_are_reported();
+    unknown_types_are_reported();
+    wrong_kinds_are_reported();
+    unknown_withs_are_reported();
+    misfits_are_reported();
+}

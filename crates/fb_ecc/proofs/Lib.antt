@@ -1,0 +1,3 @@
+pub mod LocalLemmas
+pub mod RowLemmas
+pub mod TreeLemmas

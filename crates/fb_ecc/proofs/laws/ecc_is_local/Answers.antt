@@ -1,0 +1,5 @@
+use Rattle.fb_ecc.proofs.LocalLemmas.{ecc_local}
+use Rattle.fb_ecc.proofs.laws.ecc_is_local.Goals as goal
+
+pub returns : goal.returns
+returns c = ecc_local

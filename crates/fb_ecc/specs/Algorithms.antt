@@ -1,0 +1,26 @@
+-- Algorithms of actions (IEC 61499-1, 5.2.1: execution control charts).
+use Rattle.std.specs.Prelude.{ℕ, Bool, List, [], ◌∷◌, map, if◌then◌else◌}
+use Rattle.std.specs.List.{flat_map}
+use Rattle.std.specs.Option.{option_map_or}
+use Rattle.fb_text.specs.declared.name.NameUse.{NameUse}
+use Rattle.fb_tree.specs.Tree.{ChartTree}
+use Rattle.fb_tree.specs.declared.chart.Action.{Action}
+use Rattle.fb_iface.specs.declared.code.Code.TheVariants.{AlgorithmUnknown}
+use Rattle.fb_iface.specs.declared.fault.Fault.{Fault}
+use Rattle.fb_iface.specs.Fault.{fault_at}
+use Rattle.fb_iface.specs.Names.{has_name}
+
+-- the names of the algorithms
+abbrev pub algorithm_names : ChartTree → List NameUse
+algorithm_names chart = map (λ a. a.name) chart.algorithms
+
+-- an algorithm that is not declared, by which names are
+abbrev pub algorithm_fault : (List ℕ → Bool) → NameUse → List Fault
+algorithm_fault declared name = if declared name.name then [] else fault_at AlgorithmUnknown name ∷ []
+
+-- an action runs an algorithm that is declared, or none
+abbrev pub run_faults : (List ℕ → Bool) → Action → List Fault
+run_faults declared a = option_map_or (algorithm_fault declared) a.algorithm []
+
+abbrev pub algorithm_faults : ChartTree → List Fault
+algorithm_faults chart = flat_map (λ s. flat_map (run_faults (has_name (algorithm_names chart))) s.actions) chart.states

@@ -1,0 +1,7 @@
+-- What the contracts of this crate cite.
+pub mod States
+pub mod Events
+pub mod Algorithms
+pub mod Charts
+pub mod Local
+pub mod Rows

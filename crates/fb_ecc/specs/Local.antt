@@ -1,0 +1,9 @@
+-- What the faults of a chart depend on.
+use Rattle.std.specs.Prelude.{◌≡◌, ℕ, List}
+use Rattle.fb_library.specs.Local.{Agree}
+use Rattle.fb_library.specs.View.{Sources, near_of}
+use Rattle.fb_ecc.specs.Charts.{ecc_faults_of}
+
+-- the faults of a unit's chart depend on the texts of the unit and of its mentions alone
+abbrev pub EccIsLocal : Type 0
+EccIsLocal = (a b : Sources) (unit : List ℕ) → Agree (near_of a unit) a b → ecc_faults_of a unit ≡ ecc_faults_of b unit

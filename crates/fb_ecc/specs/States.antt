@@ -1,0 +1,24 @@
+-- States of transitions (IEC 61499-1, 5.2.1: execution control charts).
+use Rattle.std.specs.Prelude.{ℕ, Bool, List, [], ◌∷◌, ◌++◌, map, if◌then◌else◌}
+use Rattle.std.specs.List.{flat_map}
+use Rattle.fb_text.specs.declared.name.NameUse.{NameUse}
+use Rattle.fb_tree.specs.Tree.{ChartTree, TransitionTree}
+use Rattle.fb_iface.specs.declared.code.Code.TheVariants.{StateUnknown}
+use Rattle.fb_iface.specs.declared.fault.Fault.{Fault}
+use Rattle.fb_iface.specs.Fault.{fault_at}
+use Rattle.fb_iface.specs.Names.{has_name}
+
+-- the names of the states
+abbrev pub state_names : ChartTree → List NameUse
+state_names chart = map (λ s. s.name) chart.states
+
+-- a state that is not listed, by which names are
+abbrev pub state_fault : (List ℕ → Bool) → NameUse → List Fault
+state_fault listed name = if listed name.name then [] else fault_at StateUnknown name ∷ []
+
+-- a transition goes from a state that is listed to such a state
+abbrev pub end_faults : (List ℕ → Bool) → TransitionTree → List Fault
+end_faults listed t = state_fault listed t.source ++ state_fault listed t.destination
+
+abbrev pub state_faults : ChartTree → List Fault
+state_faults chart = flat_map (end_faults (has_name (state_names chart))) chart.transitions

@@ -1,0 +1,50 @@
+//! The check of execution control charts (IEC 61499-1, 5.2.1).
+ghost use Rattle.std.specs.Prelude.{◌≡◌, ◌++◌, IfOk, OnOk};
+ghost use Rattle.fb_tree.specs.Tree.{chart_tree};
+ghost use Rattle.fb_iface.specs.Fault.{faults_in_order};
+ghost use Rattle.fb_iface.specs.Kept.{scope_in};
+ghost use Rattle.fb_ecc.specs.Charts.{chart_faults, ecc_faults_of};
+
+use crate::algorithms::report_algorithms;
+use crate::events::report_events;
+use crate::states::report_states;
+use fb_iface::{Fault, Scope, sorted_faults};
+use fb_library::{View, tree_by_name};
+use fb_text::Name;
+use fb_tree::{Chart, Decl};
+use std::alloc::{AllocError, Global};
+
+/// The faults of a unit's execution control chart, in order, each once.
+pub fn ecc_faults<V: View>(alloc: Global, view: &V, unit: &Name) -> Result<Vec<Fault>, AllocError>
+    ensures { IfOk result
+        (λ faults. faults.items ≡ faults_in_order (ecc_faults_of (V.sources view.now) unit.now)) }
+{
+    let found = reported(alloc, view, unit)?;
+    sorted_faults(alloc, found.as_slice())
+}
+
+/// The faults as they are found.
+fn reported<V: View>(alloc: Global, view: &V, unit: &Name) -> Result<Vec<Fault>, AllocError>
+    ensures { IfOk result (λ faults. faults.items ≡ ecc_faults_of (V.sources view.now) unit.now) }
+{
+    let mut found = Vec::new(alloc);
+    if let Some(Decl::Block(declared)) = tree_by_name(view, unit) {
+        let scope = Scope::of_type(alloc, view, declared)?;
+        report_chart(alloc, &scope, &declared.chart, &mut found)?;
+    }
+    Ok(found)
+}
+
+/// Reports the faults of a chart.
+fn report_chart(
+    alloc: Global,
+    scope: &Scope,
+    chart: &Chart,
+    found: &mut Vec<Fault>,
+) -> Result<(), AllocError>
+    ensures { OnOk result (found.new.items ≡ found.old.items ++ chart_faults (scope_in scope.now) (chart_tree chart.now)) }
+{
+    report_states(alloc, chart, found)?;
+    report_events(scope, chart, found)?;
+    report_algorithms(alloc, chart, found)
+}

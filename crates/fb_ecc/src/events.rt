@@ -1,0 +1,169 @@
+//! Events of transitions and of actions.
+ghost use Rattle.std.specs.Prelude.{◌≡◌, ◌++◌, OnOk};
+ghost use Rattle.std.specs.List.{flat_map};
+ghost use Rattle.std.specs.Option.{option_copied, option_map};
+ghost use Rattle.fb_tree.specs.Tree.{chart_tree, condition_tree, state_tree, transition_tree};
+ghost use Rattle.fb_tree.specs.declared.interface.Side.TheVariants as sides;
+ghost use Rattle.fb_iface.specs.Kept.{scope_in};
+ghost use Rattle.fb_ecc.specs.Events.{adapter_has, event_fault, event_faults, event_in, has_behind, has_event, is_event, opposite, sent_faults, side_through, span_from, trigger_faults, written_fault};
+
+use fb_iface::{Code, DeclaredInstance, Fault, Ports, Scope, is_same_side};
+use fb_text::{Name, NameUse, Span};
+use fb_tree::{Action, Chart, Condition, End, Role, Side, State, Transition};
+use std::alloc::AllocError;
+
+/// Reports the events of transitions that do not come in, and those of actions that do not go out.
+pub fn report_events(scope: &Scope, chart: &Chart, found: &mut Vec<Fault>) -> Result<(), AllocError>
+    ensures { OnOk result (found.new.items ≡ found.old.items ++ event_faults (scope_in scope.now) (chart_tree chart.now)) }
+{
+    report_triggers(scope, chart.transitions.as_slice(), found)?;
+    report_sent(scope, chart.states.as_slice(), found)
+}
+
+/// Reports the events of transitions that do not come in.
+fn report_triggers(
+    scope: &Scope,
+    transitions: &[Transition],
+    found: &mut Vec<Fault>,
+) -> Result<(), AllocError>
+    ensures { OnOk result (found.new.items ≡ found.old.items
+        ++ flat_map (λ t. trigger_faults (scope_in scope.now) (transition_tree t)) transitions.now) }
+{
+    for transition in transitions {
+        report_written(scope, Side::Input, event_of(&transition.condition), found)?;
+    }
+    Ok(())
+}
+
+/// The event of a condition.
+fn event_of(condition: &Condition) -> Option<&End>
+    ensures { option_copied result ≡ event_in (condition_tree condition.now) }
+{
+    match condition {
+        Condition::Event(event) | Condition::Guarded(event, _) => Some(event),
+        Condition::Always(_) | Condition::Guard(_) => None,
+    }
+}
+
+/// Reports the events of actions that do not go out.
+fn report_sent(scope: &Scope, states: &[State], found: &mut Vec<Fault>) -> Result<(), AllocError>
+    ensures { OnOk result (found.new.items ≡ found.old.items
+        ++ flat_map (λ s. flat_map (sent_faults (scope_in scope.now)) (state_tree s).actions) states.now) }
+{
+    for state in states {
+        report_sent_by(scope, state.actions.as_slice(), found)?;
+    }
+    Ok(())
+}
+
+/// Reports those of each action.
+fn report_sent_by(
+    scope: &Scope,
+    actions: &[Action],
+    found: &mut Vec<Fault>,
+) -> Result<(), AllocError>
+    ensures { OnOk result (found.new.items ≡ found.old.items ++ flat_map (sent_faults (scope_in scope.now)) actions.now) }
+{
+    for action in actions {
+        report_written(scope, Side::Output, action.event.as_ref(), found)?;
+    }
+    Ok(())
+}
+
+/// Reports an event that is written and does not come in, or go out.
+fn report_written(
+    scope: &Scope,
+    side: Side,
+    event: Option<&End>,
+    found: &mut Vec<Fault>,
+) -> Result<(), AllocError>
+    ensures { OnOk result (found.new.items
+        ≡ found.old.items ++ written_fault (scope_in scope.now) side (option_copied event.entry)) }
+{
+    if let Some(event) = event {
+        if !is_known(scope, side, event) {
+            found.push(Fault {
+                code: Code::EventUnknown,
+                span: span_of(event),
+            })?;
+        }
+    }
+    Ok(())
+}
+
+/// From the first name of a reference to the end of its last.
+fn span_of(event: &End) -> Span
+    ensures { result ≡ span_from event.now.name.span event.now.port }
+{
+    match &event.port {
+        Some(port) => Span {
+            start: event.name.span.start,
+            end: port.span.end,
+        },
+        None => event.name.span,
+    }
+}
+
+/// Whether a reference is an event that comes in, or goes out.
+fn is_known(scope: &Scope, side: Side, event: &End) -> bool
+    ensures { result ≡ is_event (scope_in scope.now) side event.now.name event.now.port }
+{
+    let name = &event.name.name;
+    match &event.port {
+        Some(port) => is_behind(scope, scope.own().instance(name), side, &port.name),
+        None => is_listed(scope.own(), side, name),
+    }
+}
+
+/// Whether the name stands for an event of this side.
+fn is_listed(ports: &Ports, side: Side, name: &Name) -> bool
+    ensures { result ≡ has_event side ports.now name.now }
+{
+    match ports.event(name) {
+        Some(event) => is_same_side(event.side, side),
+        None => false,
+    }
+}
+
+/// Whether a plug or socket has an event that comes in, or goes out. One whose type is not usable is not judged.
+fn is_behind(scope: &Scope, instance: Option<&DeclaredInstance>, side: Side, name: &Name) -> bool
+    ensures { result ≡ has_behind (scope_in scope.now) side (option_copied instance.entry) name.now }
+{
+    match instance {
+        Some(instance) => match through(instance.role, side) {
+            Some(side) => is_in_adapter(scope.instance_ports(instance), side, name),
+            None => false,
+        },
+        None => false,
+    }
+}
+
+/// Whether an adapter has an event of this side.
+fn is_in_adapter(ports: Option<&Ports>, side: Side, name: &Name) -> bool
+    ensures { result ≡ adapter_has (option_map (λ p. p.now) ports.entry) name.now side }
+{
+    match ports {
+        Some(ports) => is_listed(ports, side, name),
+        None => true,
+    }
+}
+
+/// The side of an adapter's events that come in, or go out, through a plug or socket.
+fn through(role: Role, side: Side) -> Option<Side>
+    ensures { result ≡ side_through role side }
+{
+    match role {
+        Role::Plug => Some(side),
+        Role::Socket => Some(other(side)),
+        Role::Block | Role::Subapplication => None,
+    }
+}
+
+fn other(side: Side) -> Side
+    ensures { result ≡ opposite side }
+{
+    match side {
+        Side::Input => Side::Output,
+        Side::Output => Side::Input,
+    }
+}

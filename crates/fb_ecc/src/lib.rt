@@ -1,0 +1,14 @@
+//! The check of execution control charts.
+#![tactic(auto)]
+
+mod algorithms;
+mod charts;
+mod events;
+mod laws;
+mod states;
+
+pub use charts::ecc_faults;
+pub use laws::{algorithms_are_declared, ecc_is_local, events_are_known, states_are_listed};
+
+#[cfg(test)]
+mod tests;
