@@ -1,0 +1,41 @@
+-- The faults of networks.
+use Rattle.std.specs.Prelude.{ℕ, List, [], ◌++◌, Option, Some, None}
+use Rattle.std.specs.List.{flat_map}
+use Rattle.fb_tree.specs.Tree.{ApplicationTree, DeclTree, NetworkTree, TypeTree, block_type, adapter_type, subapplication_type, system_configuration}
+use Rattle.fb_tree.specs.declared.kinds.UnitKind.{UnitKind}
+use Rattle.fb_tree.specs.declared.kinds.UnitKind.TheVariants.{Block, Subapplication, System}
+use Rattle.fb_library.specs.View.{Sources, tree_at}
+use Rattle.fb_iface.specs.declared.fault.Fault.{Fault}
+use Rattle.fb_iface.specs.Scope.{scope_of_network, scope_of_type}
+use Rattle.fb_netcheck.specs.Settings.{Place}
+use Rattle.fb_netcheck.specs.Connections.{connection_faults}
+use Rattle.fb_netcheck.specs.Parameters.{all_parameters}
+use Rattle.fb_netcheck.specs.Repeats.{second_adapters, second_sources}
+
+-- the faults of a network
+abbrev pub network_faults : Sources → Place → NetworkTree → List Fault
+network_faults sources here n =
+    flat_map (connection_faults sources here) n.connections ++ second_sources n.connections ++ second_adapters n.connections ++ all_parameters here.scope n.instances
+
+-- the network of a type
+abbrev pub type_network : Sources → List ℕ → UnitKind → TypeTree → List Fault
+type_network sources unit kind d = network_faults sources (record { unit = unit; kind = kind; scope = scope_of_type sources d }) d.network
+
+-- the network of an application of a system
+abbrev pub application_network : Sources → List ℕ → ApplicationTree → List Fault
+application_network sources unit a = network_faults sources (record { unit = unit; kind = System; scope = scope_of_network sources a.network }) a.network
+
+-- an adapter type has no network
+abbrev pub declared_faults : Sources → List ℕ → DeclTree → List Fault
+declared_faults sources unit (block_type d) = type_network sources unit Block d
+declared_faults sources unit (adapter_type d) = []
+declared_faults sources unit (subapplication_type d) = type_network sources unit Subapplication d
+declared_faults sources unit (system_configuration s) = flat_map (application_network sources unit) s.applications
+
+abbrev pub tree_faults : Sources → List ℕ → Option DeclTree → List Fault
+tree_faults sources unit None = []
+tree_faults sources unit (Some decl) = declared_faults sources unit decl
+
+-- the faults of the networks of a unit; one that is absent or broken has none
+abbrev pub net_faults_of : Sources → List ℕ → List Fault
+net_faults_of sources unit = tree_faults sources unit (tree_at sources unit)

@@ -1,0 +1,44 @@
+-- Parameters of block instances.
+use Rattle.std.specs.Prelude.{List, [], ◌∷◌, Option, Some, None}
+use Rattle.std.specs.List.{flat_map}
+use Rattle.fb_tree.specs.Tree.{InstanceTree, ParameterTree}
+use Rattle.fb_tree.specs.declared.interface.Section.{Section}
+use Rattle.fb_tree.specs.declared.interface.Section.TheVariants.{Input, Output, Internal}
+use Rattle.fb_tree.specs.declared.interface.TypeUse.{TypeUse}
+use Rattle.fb_tree.specs.declared.network.Role.{Role}
+use Rattle.fb_tree.specs.declared.network.Role.TheVariants as roles
+use Rattle.fb_iface.specs.declared.code.Code.TheVariants.{ParameterUnknown}
+use Rattle.fb_iface.specs.declared.fault.Fault.{Fault}
+use Rattle.fb_iface.specs.declared.ports.DeclaredVariable.{DeclaredVariable}
+use Rattle.fb_iface.specs.Fault.{fault_at}
+use Rattle.fb_iface.specs.Literals.{constant_faults}
+use Rattle.fb_iface.specs.Names.{stands_for}
+use Rattle.fb_iface.specs.Ports.{Meanings}
+use Rattle.fb_iface.specs.Scope.{Scope}
+
+-- a value fits the type of its data input
+abbrev pub value_faults : Section → TypeUse → ParameterTree → List Fault
+value_faults Input used p = constant_faults used p.value
+value_faults Output used p = fault_at ParameterUnknown p.name ∷ []
+value_faults Internal used p = fault_at ParameterUnknown p.name ∷ []
+
+-- a parameter is a data input
+abbrev pub parameter_faults : Option DeclaredVariable → ParameterTree → List Fault
+parameter_faults None p = fault_at ParameterUnknown p.name ∷ []
+parameter_faults (Some v) p = value_faults v.section v.type_use p
+
+-- the parameters of an instance of a type with these ports; what rests on a type that is not usable is not judged
+abbrev pub typed_parameters : Option Meanings → List ParameterTree → List Fault
+typed_parameters None parameters = []
+typed_parameters (Some m) parameters = flat_map (λ p. parameter_faults (stands_for m.variables p.name.name) p) parameters
+
+-- those of plugs, sockets and subapplication instances are not judged
+abbrev pub judged_parameters : Scope → Role → InstanceTree → List Fault
+judged_parameters scope roles.Block i = typed_parameters (scope.type_ports roles.Block i.type_name.name) i.parameters
+judged_parameters scope role i = []
+
+abbrev pub instance_parameters : Scope → InstanceTree → List Fault
+instance_parameters scope i = judged_parameters scope i.role i
+
+abbrev pub all_parameters : Scope → List InstanceTree → List Fault
+all_parameters scope instances = flat_map (instance_parameters scope) instances

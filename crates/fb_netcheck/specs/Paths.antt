@@ -1,0 +1,42 @@
+-- Paths that stand twice.
+use Rattle.std.specs.Prelude.{ℕ, Bool, List, take, map, filter}
+use Rattle.std.specs.BTreeMap.{is_at}
+use Rattle.std.specs.Cmp.Lexicographic.{slice_cmp}
+use Rattle.std.specs.List.{list_any, enumerate_from}
+use Rattle.fb_text.specs.declared.token.Span.{Span}
+use Rattle.fb_text.specs.Order.{name_cmp}
+use Rattle.fb_iface.specs.declared.code.Code.{Code}
+use Rattle.fb_iface.specs.declared.fault.Fault.{Fault}
+
+-- names with points between
+abbrev pub Path : Type 0
+Path = List (List ℕ)
+
+-- a path where it stands
+pub record PathUse : Type 0 where
+  pub names : Path
+  pub span : Span
+
+-- whether two paths are the same, name by name
+abbrev pub same_path : Path → Path → Bool
+same_path a b = is_at (slice_cmp name_cmp a) b
+
+-- whether one of these is the path
+abbrev pub has_path : List PathUse → Path → Bool
+has_path paths path = list_any (λ p. same_path p.names path) paths
+
+-- whether a path stands before its place too
+abbrev pub is_repeated : List PathUse → ℕ × PathUse → Bool
+is_repeated paths placed = has_path (take placed.0 paths) placed.1.names
+
+-- second and later uses of a path
+abbrev pub repeated : List PathUse → List PathUse
+repeated paths = map (λ placed. placed.1) (filter (is_repeated paths) (enumerate_from 0 paths))
+
+-- a fault at a path
+abbrev pub fault_at_path : Code → PathUse → Fault
+fault_at_path code path = record { code = code; span = path.span }
+
+-- a fault at each path that stands before its place too
+abbrev pub repeated_faults : Code → List PathUse → List Fault
+repeated_faults code paths = map (fault_at_path code) (repeated paths)

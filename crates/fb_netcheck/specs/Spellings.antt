@@ -1,0 +1,54 @@
+-- How types are spelled.
+use Rattle.std.specs.Prelude.{ℕ, Bool, false, ◌&&◌, ◌||◌, List, [], ◌∷◌, ◌++◌, length, Result, Ok, Err, nat_eq, nat_lt, nat_le, slice_index, slice_range, unwrap_or, if◌then◌else◌}
+use Rattle.std.specs.Cmp.Lexicographic.{pointwise}
+use Rattle.std.specs.List.{flat_map}
+use Rattle.std.specs.FinMap.{get}
+use Rattle.std.specs.Str.{str_to_ascii_uppercase}
+use Rattle.fb_text.specs.Tokens.{tokens_of}
+use Rattle.fb_text.specs.declared.token.Span.{Span}
+use Rattle.fb_text.specs.declared.token.Token.{Token}
+use Rattle.fb_tree.specs.declared.interface.TypeForm.{TypeForm}
+use Rattle.fb_tree.specs.declared.interface.TypeForm.TheVariants.{Plain, Sized, Array}
+use Rattle.fb_tree.specs.declared.interface.TypeUse.{TypeUse}
+use Rattle.fb_library.specs.View.{Sources}
+use Rattle.fb_iface.specs.Names.{is_same}
+
+-- whether a place in a text is between two characters, at its start or at its end
+abbrev pub is_boundary : List ℕ → ℕ → Bool
+is_boundary text i = nat_le i (length text) && (nat_le (length text) i || nat_lt (slice_index text i) 128 || nat_le 192 (slice_index text i))
+
+-- the part of a text, empty where the span is none of it
+abbrev pub part : List ℕ → Span → List ℕ
+part text span = if nat_le span.start span.end && is_boundary text span.start && is_boundary text span.end then slice_range text span.start span.end else []
+
+-- a token in upper case, with a blank behind it
+abbrev pub word : List ℕ → Token → List ℕ
+word text t = str_to_ascii_uppercase (slice_range text t.span.start t.span.end) ++ 32 ∷ []
+
+abbrev pub words_of : List ℕ → Result (List Token) Span → List ℕ
+words_of text (Ok tokens) = flat_map (word text) tokens
+words_of text (Err bad) = []
+
+-- the tokens of a text in upper case, each with a blank behind it
+abbrev pub words : List ℕ → List ℕ
+words text = words_of text (tokens_of text)
+
+-- the text of a unit, empty where it is absent
+abbrev pub text_at : Sources → List ℕ → List ℕ
+text_at sources unit = unwrap_or (get sources unit) []
+
+-- types with a length and arrays are the same where their tokens are
+abbrev pub same_words : List ℕ → Span → List ℕ → Span → Bool
+same_words text a other b = pointwise nat_eq (words (part text a)) (words (part other b))
+
+-- plain types are the same where their names are
+abbrev pub same_by_form : TypeForm → TypeForm → Bool → Bool → Bool
+same_by_form Plain Plain names tokens = names
+same_by_form Sized Sized names tokens = tokens
+same_by_form Array Array names tokens = tokens
+same_by_form a b names tokens = false
+
+-- whether two types are spelled alike, each in the text of a unit
+abbrev pub same_type : Sources → List ℕ → TypeUse → List ℕ → TypeUse → Bool
+same_type sources unit a other b =
+    same_by_form a.form b.form (is_same a.name.name b.name.name) (same_words (text_at sources unit) a.span (text_at sources other) b.span)

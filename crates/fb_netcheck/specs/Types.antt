@@ -1,0 +1,48 @@
+-- The types of what connections join.
+use Rattle.std.specs.Prelude.{ℕ, Bool, true, ◌&&◌, ◌||◌, not, List, [], ◌∷◌, Option, Some, None, if◌then◌else◌}
+use Rattle.std.specs.Option.{option_map_or}
+use Rattle.fb_text.specs.declared.name.NameUse.{NameUse}
+use Rattle.fb_tree.specs.declared.interface.TypeUse.{TypeUse}
+use Rattle.fb_tree.specs.declared.network.Connection.{Connection}
+use Rattle.fb_tree.specs.declared.network.End.{End}
+use Rattle.fb_library.specs.View.{Sources}
+use Rattle.fb_iface.specs.Class.{class_of_type, is_free}
+use Rattle.fb_iface.specs.Names.{is_same, stands_for}
+use Rattle.fb_iface.specs.declared.code.Code.TheVariants.{DataType}
+use Rattle.fb_iface.specs.declared.fault.Fault.{Fault}
+use Rattle.fb_netcheck.specs.declared.ends.Flow.{Flow}
+use Rattle.fb_netcheck.specs.declared.ends.Flow.TheVariants.{Data, Adapter}
+use Rattle.fb_netcheck.specs.declared.ends.Position.TheVariants.{Source, Destination}
+use Rattle.fb_netcheck.specs.declared.ends.Target.{Target}
+use Rattle.fb_netcheck.specs.declared.ends.Target.TheVariants.{Found}
+use Rattle.fb_netcheck.specs.Settings.{Place}
+use Rattle.fb_netcheck.specs.Sides.{fault_of}
+use Rattle.fb_netcheck.specs.Ends.{is_right}
+use Rattle.fb_netcheck.specs.Spellings.{same_type}
+
+-- the unit in whose text the port `name` or `name.port` is declared: the own unit, or the type of the instance
+abbrev pub home_of : Place → NameUse → Option NameUse → List ℕ
+home_of here name None = here.unit
+home_of here name (Some port) = option_map_or (λ i. i.type_name.name) (stands_for here.scope.own.instances name.name) here.unit
+
+abbrev pub home : Place → End → List ℕ
+home here end = home_of here end.name end.port
+
+-- whether what flows is of one type, where two types are compared by the test; a type that is not judged goes with each
+abbrev pub flows_agree : (TypeUse → TypeUse → Bool) → Flow → Flow → Bool
+flows_agree same (Data a) (Data b) = is_free (class_of_type a) || is_free (class_of_type b) || same a b
+flows_agree same (Adapter a) (Adapter b) = is_same a.name b.name
+flows_agree same a b = true
+
+abbrev pub targets_agree : (TypeUse → TypeUse → Bool) → Target → Target → Bool
+targets_agree same (Found holder port) (Found other_holder other) = flows_agree same port.flow other.flow
+targets_agree same a b = true
+
+-- the ports at both ends are of one type, where they are of the right sides
+abbrev pub type_faults : (TypeUse → TypeUse → Bool) → Connection → Target → Target → List Fault
+type_faults same c source destination =
+    if is_right Source source && is_right Destination destination && not (targets_agree same source destination) then fault_of DataType c.destination ∷ [] else []
+
+-- whether two types are spelled alike, one at the source of a connection and the other at its destination
+abbrev pub same_at_ends : Sources → Place → Connection → TypeUse → TypeUse → Bool
+same_at_ends sources here c a b = same_type sources (home here c.source) a (home here c.destination) b

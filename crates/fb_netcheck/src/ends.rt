@@ -1,0 +1,251 @@
+//! What the ends of connections name (IEC 61499-1, 5.3: composite types; 5.4: subapplication types; 5.5: adapters).
+ghost use Rattle.std.specs.Prelude.{◌≡◌};
+ghost use Rattle.std.specs.Option.{option_and_then, option_copied, option_map};
+ghost use Rattle.fb_iface.specs.Names.{stands_for};
+ghost use Rattle.fb_iface.specs.Ports.{same_side};
+ghost use Rattle.fb_netcheck.specs.Settings.{place_in};
+ghost use Rattle.fb_netcheck.specs.Ends.{adapter_port, data_port, end_span, event_port, holder_of, is_right, last_name, port_in, port_in_role, port_in_section, right_side, target, target_held, target_in, target_of, target_of_instance};
+
+use crate::setting::Setting;
+use fb_iface::{DeclaredEvent, DeclaredInstance, DeclaredVariable, Ports};
+use fb_text::{Name, NameUse, Span};
+use fb_tree::{End, Role, Section, Side, Sort, TypeUse, UnitKind};
+
+/// Where an end stands in its connection.
+#[derive(Clone, Copy, Debug, PartialEq, Eq)]
+pub enum Position {
+    Source,
+    Destination,
+}
+
+/// Whose port an end names.
+#[derive(Clone, Copy, Debug, PartialEq, Eq)]
+pub enum Holder {
+    Own,
+    OfInstance,
+    OfPlug,
+    OfSocket,
+}
+
+/// What flows through a port.
+#[derive(Clone, Copy, Debug)]
+pub enum Flow {
+    Event,
+    Data(TypeUse),
+    Adapter(NameUse),
+}
+
+/// A port. Among adapters a socket is an input and a plug an output.
+#[derive(Clone, Copy, Debug)]
+pub struct Port {
+    pub side: Side,
+    pub flow: Flow,
+}
+
+/// What an end names.
+#[derive(Clone, Copy, Debug)]
+pub enum Target {
+    /// No port of the connection's sort.
+    Unknown,
+    /// A port of a type that is absent, broken or of the wrong kind.
+    NotJudged,
+    Found(Holder, Port),
+}
+
+/// The side of the port at an end, by whose port it is.
+fn side_at(position: Position, holder: Holder) -> Side
+    ensures { result ≡ right_side position holder }
+{
+    match (position, holder) {
+        (Position::Source, Holder::Own | Holder::OfPlug) => Side::Input,
+        (Position::Source, Holder::OfInstance | Holder::OfSocket) => Side::Output,
+        (Position::Destination, Holder::Own | Holder::OfPlug) => Side::Output,
+        (Position::Destination, Holder::OfInstance | Holder::OfSocket) => Side::Input,
+    }
+}
+
+/// Whether it is a port of the right side.
+pub fn is_right_target(position: Position, target: &Target) -> bool
+    ensures { result ≡ is_right position target.now }
+{
+    match target {
+        Target::Unknown | Target::NotJudged => false,
+        Target::Found(holder, port) => is_same(port.side, side_at(position, *holder)),
+    }
+}
+
+fn is_same(a: Side, b: Side) -> bool
+    ensures { result ≡ same_side a b }
+{
+    match (a, b) {
+        (Side::Input, Side::Input) | (Side::Output, Side::Output) => true,
+        _ => false,
+    }
+}
+
+/// Where an end stands.
+pub fn span_of(end: &End) -> Span
+    ensures { result ≡ end_span end.now }
+{
+    Span {
+        start: end.name.span.start,
+        end: last(end.name, end.port).span.end,
+    }
+}
+
+fn last(name: NameUse, port: Option<NameUse>) -> NameUse
+    ensures { result ≡ last_name name port }
+{
+    match port {
+        Some(port) => port,
+        None => name,
+    }
+}
+
+/// What an end of a connection names.
+pub fn target_at(here: &Setting, sort: Sort, end: &End) -> Target
+    ensures { result ≡ target (place_in here.now) sort end.now }
+{
+    let name = &end.name.name;
+    let own = here.scope.own();
+    match &end.port {
+        None => found(Holder::Own, port_by_name(sort, own, name)),
+        Some(port) => {
+            let ports = here.scope.ports_of(name);
+            target_at_instance(here.kind, sort, own.instance(name), ports, &port.name)
+        }
+    }
+}
+
+/// A port of an instance, plug or socket, by the ports of its type.
+fn target_at_instance(
+    kind: UnitKind,
+    sort: Sort,
+    instance: Option<&DeclaredInstance>,
+    ports: Option<&Ports>,
+    name: &Name,
+) -> Target
+    ensures { result ≡ target_of_instance kind sort (option_copied instance.entry) (option_map (λ p. p.now) ports.entry) name.now }
+{
+    match instance {
+        None => Target::Unknown,
+        Some(instance) => match held_by(kind, sort, instance.role) {
+            None => Target::Unknown,
+            Some(holder) => target_at_type(holder, sort, ports, name),
+        },
+    }
+}
+
+/// Whose port it is.
+fn held_by(kind: UnitKind, sort: Sort, role: Role) -> Option<Holder>
+    ensures { result ≡ holder_of kind sort role }
+{
+    match (kind, sort, role) {
+        (_, _, Role::Block | Role::Subapplication) => Some(Holder::OfInstance),
+        (UnitKind::Block, Sort::Event | Sort::Data, Role::Plug) => Some(Holder::OfPlug),
+        (UnitKind::Block, Sort::Event | Sort::Data, Role::Socket) => Some(Holder::OfSocket),
+        _ => None,
+    }
+}
+
+/// A port of a type, where this is usable.
+fn target_at_type(holder: Holder, sort: Sort, ports: Option<&Ports>, name: &Name) -> Target
+    ensures { result ≡ target_in holder sort (option_map (λ p. p.now) ports.entry) name.now }
+{
+    match ports {
+        None => Target::NotJudged,
+        Some(ports) => found(holder, port_by_name(sort, ports, name)),
+    }
+}
+
+fn found(holder: Holder, port: Option<Port>) -> Target
+    ensures { result ≡ target_of holder port }
+{
+    match port {
+        None => Target::Unknown,
+        Some(port) => Target::Found(holder, port),
+    }
+}
+
+/// The port of this sort that a name stands for.
+fn port_by_name(sort: Sort, ports: &Ports, name: &Name) -> Option<Port>
+    ensures { result ≡ port_in sort ports.now name.now }
+{
+    match sort {
+        Sort::Event => event_by_name(ports, name),
+        Sort::Data => data_by_name(ports, name),
+        Sort::Adapter => adapter_by_name(ports, name),
+    }
+}
+
+fn event_by_name(ports: &Ports, name: &Name) -> Option<Port>
+    ensures { result ≡ option_map event_port (stands_for ports.now.events name.now) }
+{
+    match ports.event(name) {
+        Some(event) => Some(port_of_event(event)),
+        None => None,
+    }
+}
+
+fn port_of_event(event: &DeclaredEvent) -> Port
+    ensures { result ≡ event_port event.now }
+{
+    Port {
+        side: event.side,
+        flow: Flow::Event,
+    }
+}
+
+fn data_by_name(ports: &Ports, name: &Name) -> Option<Port>
+    ensures { result ≡ option_and_then data_port (stands_for ports.now.variables name.now) }
+{
+    match ports.variable(name) {
+        Some(variable) => port_of_variable(variable),
+        None => None,
+    }
+}
+
+/// Internal variables are no ports.
+fn port_of_variable(variable: &DeclaredVariable) -> Option<Port>
+    ensures { result ≡ data_port variable.now }
+{
+    let flow = Flow::Data(variable.type_use);
+    match variable.section {
+        Section::Input => Some(Port {
+            side: Side::Input,
+            flow,
+        }),
+        Section::Output => Some(Port {
+            side: Side::Output,
+            flow,
+        }),
+        Section::Internal => None,
+    }
+}
+
+fn adapter_by_name(ports: &Ports, name: &Name) -> Option<Port>
+    ensures { result ≡ option_and_then adapter_port (stands_for ports.now.instances name.now) }
+{
+    match ports.instance(name) {
+        Some(instance) => port_of_instance(instance),
+        None => None,
+    }
+}
+
+/// Instances are no ports.
+fn port_of_instance(instance: &DeclaredInstance) -> Option<Port>
+    ensures { result ≡ adapter_port instance.now }
+{
+    let flow = Flow::Adapter(instance.type_name);
+    match instance.role {
+        Role::Socket => Some(Port {
+            side: Side::Input,
+            flow,
+        }),
+        Role::Plug => Some(Port {
+            side: Side::Output,
+            flow,
+        }),
+        Role::Block | Role::Subapplication => None,
+    }
+}

@@ -1,0 +1,19 @@
+//! The check of networks: connections and parameters.
+#![tactic(auto)]
+
+mod connections;
+mod ends;
+mod networks;
+mod parameters;
+mod paths;
+mod repeats;
+mod setting;
+mod sides;
+mod spellings;
+mod types;
+
+pub use networks::net_faults;
+pub use paths::{Placed, report_repeated};
+
+#[cfg(test)]
+mod tests;

@@ -1,0 +1,42 @@
+//! Paths that stand twice.
+ghost use Rattle.std.specs.Prelude.{◌≡◌, ◌++◌, IfOk, OnOk, map};
+ghost use Rattle.fb_netcheck.specs.Paths.{PathUse, repeated_faults};
+
+use fb_iface::{Code, Fault};
+use fb_text::{Name, Span};
+use std::alloc::{AllocError, Global};
+use std::collections::BTreeSet;
+
+/// What has a path, names with points between, where it stands.
+pub trait Placed {
+    ghost path_of: { Self → PathUse };
+
+    /// The names of the path.
+    fn path(&self, alloc: Global) -> Result<Vec<Name>, AllocError>
+        ensures { IfOk result (λ path. path.items ≡ (path_of self.now).names) };
+
+    /// Where it stands.
+    fn place(&self) -> Span
+        ensures { result ≡ (path_of self.now).span };
+}
+
+/// Reports each path that stands before its place too.
+pub fn report_repeated<T: Placed>(
+    alloc: Global,
+    code: Code,
+    items: &[T],
+    found: &mut Vec<Fault>,
+) -> Result<(), AllocError>
+    ensures { OnOk result
+        (found.new.items ≡ found.old.items ++ repeated_faults code (map T.path_of items.now)) }
+{
+    let mut seen = BTreeSet::new(alloc);
+    for item in items {
+        let path = item.path(alloc)?;
+        if !seen.insert(path)? {
+            let span = item.place();
+            found.push(Fault { code, span })?;
+        }
+    }
+    Ok(())
+}

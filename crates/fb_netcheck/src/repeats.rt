@@ -1,0 +1,92 @@
+//! Ends of connections that are ends of an earlier one.
+ghost use Rattle.std.specs.Prelude.{◌≡◌, ◌++◌, IfOk, OnOk};
+ghost use Rattle.fb_netcheck.specs.Repeats.{all_adapter_ends, data_destinations, path_named, second_adapters, second_sources};
+
+use crate::ends::span_of;
+use crate::paths::{Placed, report_repeated};
+use fb_iface::{Code, Fault};
+use fb_text::{Name, NameUse, Span};
+use fb_tree::{Connection, End, Sort};
+use std::alloc::{AllocError, Global};
+
+impl Placed for End {
+    ghost use Rattle.fb_netcheck.specs.Repeats.{end_path};
+
+    ghost path_of = { end_path };
+
+    fn path(&self, alloc: Global) -> Result<Vec<Name>, AllocError> {
+        path_by_names(alloc, self.name, self.port)
+    }
+
+    fn place(&self) -> Span {
+        span_of(self)
+    }
+}
+
+fn path_by_names(
+    alloc: Global,
+    name: NameUse,
+    port: Option<NameUse>,
+) -> Result<Vec<Name>, AllocError>
+    ensures { IfOk result (λ path. path.items ≡ path_named name port) }
+{
+    let mut path = Vec::new(alloc);
+    path.push(name.name)?;
+    if let Some(port) = port {
+        path.push(port.name)?;
+    }
+    Ok(path)
+}
+
+/// Reports the destinations of data connections that an earlier one has.
+pub fn report_second_sources(
+    alloc: Global,
+    connections: &[Connection],
+    found: &mut Vec<Fault>,
+) -> Result<(), AllocError>
+    ensures { OnOk result (found.new.items ≡ found.old.items ++ second_sources connections.now) }
+{
+    let ends = destinations_of_data(alloc, connections)?;
+    report_repeated(alloc, Code::SecondSource, ends.as_slice(), found)
+}
+
+fn destinations_of_data(alloc: Global, connections: &[Connection]) -> Result<Vec<End>, AllocError>
+    ensures { IfOk result (λ ends. ends.items ≡ data_destinations connections.now) }
+{
+    let mut ends = Vec::new(alloc);
+    for connection in connections {
+        match connection.sort {
+            Sort::Data => ends.push(connection.destination)?,
+            Sort::Event | Sort::Adapter => {}
+        }
+    }
+    Ok(ends)
+}
+
+/// Reports the ends of adapter connections that are connected already.
+pub fn report_second_adapters(
+    alloc: Global,
+    connections: &[Connection],
+    found: &mut Vec<Fault>,
+) -> Result<(), AllocError>
+    ensures { OnOk result (found.new.items ≡ found.old.items ++ second_adapters connections.now) }
+{
+    let ends = ends_of_adapters(alloc, connections)?;
+    report_repeated(alloc, Code::SecondAdapter, ends.as_slice(), found)
+}
+
+fn ends_of_adapters(alloc: Global, connections: &[Connection]) -> Result<Vec<End>, AllocError>
+    ensures { IfOk result (λ ends. ends.items ≡ all_adapter_ends connections.now) }
+{
+    let mut ends = Vec::new(alloc);
+    for connection in connections {
+        match connection.sort {
+            Sort::Adapter => {
+                ends.push(connection.source)?;
+                ends.push(connection.destination)?;
+            }
+            Sort::Event | Sort::Data => {}
+        }
+    }
+    Ok(ends)
+}

@@ -1,0 +1,98 @@
+//! The types of what connections join.
+ghost use Rattle.std.specs.Prelude.{◌≡◌, ◌++◌, IfOk, OnOk};
+ghost use Rattle.fb_iface.specs.Class.{class_of_type, is_free};
+ghost use Rattle.fb_netcheck.specs.Spellings.{same_type};
+ghost use Rattle.fb_netcheck.specs.Settings.{place_in};
+ghost use Rattle.fb_netcheck.specs.Types.{flows_agree, home, home_of, same_at_ends, targets_agree, type_faults};
+
+use crate::ends::{Flow, Position, Target, is_right_target};
+use crate::setting::Setting;
+use crate::sides::fault_at;
+use crate::spellings::is_same_type;
+use fb_iface::{Code, Fault, class_of};
+use fb_library::View;
+use fb_text::{Name, NameUse, same_name};
+use fb_tree::{Connection, End, TypeUse};
+use std::alloc::{AllocError, Global};
+
+/// Reports a connection whose ends are of the right sides and of two types.
+pub fn report_types<V: View>(
+    alloc: Global,
+    view: &V,
+    here: &Setting,
+    connection: &Connection,
+    source: &Target,
+    destination: &Target,
+    found: &mut Vec<Fault>,
+) -> Result<(), AllocError>
+    ensures { OnOk result (found.new.items ≡ found.old.items
+        ++ type_faults (same_at_ends (V.sources view.now) (place_in here.now) connection.now) connection.now source.now destination.now) }
+{
+    if is_right_target(Position::Source, source)
+        && is_right_target(Position::Destination, destination)
+    {
+        let first = home_at(here, &connection.source);
+        let second = home_at(here, &connection.destination);
+        if !are_agreed(alloc, view, &first, source, &second, destination)? {
+            found.push(fault_at(Code::DataType, &connection.destination))?;
+        }
+    }
+    Ok(())
+}
+
+/// The unit in whose text the port at an end is declared.
+fn home_at(here: &Setting, end: &End) -> Name
+    ensures { result ≡ home (place_in here.now) end.now }
+{
+    match &end.port {
+        None => here.unit,
+        Some(_) => match here.scope.own().instance(&end.name.name) {
+            Some(instance) => instance.type_name.name,
+            None => here.unit,
+        },
+    }
+}
+
+/// Whether ports, each declared in a unit, are of one type.
+fn are_agreed<V: View>(
+    alloc: Global,
+    view: &V,
+    unit: &Name,
+    target: &Target,
+    other_unit: &Name,
+    other: &Target,
+) -> Result<bool, AllocError>
+    ensures { IfOk result (λ agreed. agreed
+        ≡ targets_agree (λ a b. same_type (V.sources view.now) unit.now a other_unit.now b) target.now other.now) }
+{
+    match (target, other) {
+        (Target::Found(_, port), Target::Found(_, other)) => {
+            is_flow_agreed(alloc, view, unit, &port.flow, other_unit, &other.flow)
+        }
+        _ => Ok(true),
+    }
+}
+
+fn is_flow_agreed<V: View>(
+    alloc: Global,
+    view: &V,
+    unit: &Name,
+    flow: &Flow,
+    other_unit: &Name,
+    other: &Flow,
+) -> Result<bool, AllocError>
+    ensures { IfOk result (λ agreed. agreed
+        ≡ flows_agree (λ a b. same_type (V.sources view.now) unit.now a other_unit.now b) flow.now other.now) }
+{
+    match (flow, other) {
+        (Flow::Data(used), Flow::Data(other)) => {
+            if class_of(used).is_free() || class_of(other).is_free() {
+                Ok(true)
+            } else {
+                is_same_type(alloc, view, unit, used, other_unit, other)
+            }
+        }
+        (Flow::Adapter(used), Flow::Adapter(other)) => Ok(same_name(&used.name, &other.name)),
+        _ => Ok(true),
+    }
+}
