@@ -12,21 +12,19 @@ use Rattle.fb_tree.specs.Mentions.{mentioned_in, types_in}
 use Rattle.fb_tree.specs.Tree.{ApplicationTree, DeclTree, InstanceTree, block_type, adapter_type, subapplication_type, system_configuration}
 use Rattle.fb_library.specs.View.{Sources, mentions_at, mentions_in, near_of, tree_at, tree_of}
 use Rattle.fb_library.proofs.LocalLemmas.{near_unit}
-use Rattle.fb_iface.specs.Declarations.{declaration_faults, duplicate_faults, literal_faults_of, mixed_faults, name_faults, with_faults_of}
+use Rattle.fb_iface.proofs.ScopeLocal.{in_order_has, near_mention}
+use Rattle.fb_iface.specs.Declarations.{iface_faults_of, declaration_faults, duplicate_faults, literal_faults_of, mixed_faults, name_faults, with_faults_of}
 use Rattle.fb_iface.specs.Fault.{faults_in_order}
 use Rattle.fb_iface.specs.Types.{instance_faults, instances_of, type_fault, type_faults}
+use Rattle.fb_expr.proofs.LocalLemmas.{expr_faults_local}
+use Rattle.fb_ecc.proofs.LocalLemmas.{ecc_local}
+use Rattle.fb_netcheck.proofs.LocalLemmas.{net_faults_local}
+use Rattle.fb_faults.specs.Mappings.{declared_mapping_faults}
+use Rattle.fb_library.specs.Local.{Agree}
 use Rattle.fb_faults.specs.Faults.{FaultsAreLocal, text_faults}
 
 first_contained : {A : Type 0} (x : A) (xs : List A) → Contains (x ∷ xs) x
 first_contained x xs = (0, omega arith, refl)
-
--- a list in order has its members
-in_order_has : (names : List (List ℕ)) (name : List ℕ) → Contains names name → Contains (names_in_order names) name
-in_order_has names name h = (in_order-members name_cmp nat_list_cmp_total (slice_cmp-IsAntisymmetric nat_cmp-IsAntisymmetric) names name).1 h
-
-near_mention : (sources : Sources) (unit name : List ℕ) → Contains (mentions_at sources unit) name → Contains (near_of sources unit) name
-near_mention sources unit name h =
-    in_order_has (mentions_at sources unit ++ unit ∷ []) name (Contains-append_left (mentions_at sources unit) (unit ∷ []) name h)
 
 types_in-applications : (applications : List ApplicationTree) → types_in (flat_map (λ a. a.network.instances) applications) ≡ flat_map (λ a. types_in a.network.instances) applications
 types_in-applications [] = refl
@@ -55,8 +53,17 @@ module _ (a b : Sources) where
       let types : type_faults a decl ≡ type_faults b decl = types_local (instances_of decl) (λ name h. agree name (in_order_has (mentioned_in decl) name (subst (λ l. Contains l name) (types_mentioned decl) h))) in
       λ i. name_faults unit decl ++ duplicate_faults decl ++ mixed_faults decl ++ types i ++ with_faults_of decl ++ literal_faults_of decl
 
+-- what a unit declares
+iface_local : (a b : Sources) (unit : List ℕ) → Agree (near_of a unit) a b → iface_faults_of a unit ≡ iface_faults_of b unit
+iface_local a b unit agree =
+    declared_local a b unit (tree_at a unit) (λ name h. agree name (near_mention a unit name h))
+    ∙ ap (λ o. declaration_faults b unit (option_and_then tree_of o)) (agree unit (near_unit a unit))
+
 pub faults_local : FaultsAreLocal
 faults_local a b unit agree =
     let own = agree unit (near_unit a unit) in
-    let declared = declared_local a b unit (tree_at a unit) (λ name h. agree name (near_mention a unit name h)) ∙ ap (λ o. declaration_faults b unit (option_and_then tree_of o)) own in
-    λ i. faults_in_order (text_faults (own i) ++ declared i)
+    let declared = iface_local a b unit agree in
+    let expressions = expr_faults_local a b unit agree in
+    let charts = ecc_local a b unit agree in
+    let networks = net_faults_local a b unit agree in
+    λ i. faults_in_order (text_faults (own i) ++ declared i ++ expressions i ++ charts i ++ networks i ++ declared_mapping_faults (option_and_then tree_of (own i)))
