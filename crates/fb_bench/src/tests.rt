@@ -1,6 +1,7 @@
+//! Everyday orders of calls, as tables of steps. One helper makes one call and says whether its answer is the one wanted.
 use crate::{
     Asked, Bench, Call, Committed, Delivered, Desk, DeskRefused, GivenBack, Limits, Refused, Reply,
-    Shown, Solo, Taken,
+    Request, Shown, Solo, Taken,
 };
 use fb_jobs::{Finished, Key, Kind};
 use fb_library::Change;
@@ -9,9 +10,48 @@ use fb_text::Name;
 use std::alloc::Global;
 use std::test::Fail;
 
-const A: &str = "FUNCTION_BLOCK A END_FUNCTION_BLOCK";
+const PLAIN: &str = "FUNCTION_BLOCK A END_FUNCTION_BLOCK";
 
-const A_WITH_B: &str = "FUNCTION_BLOCK A FBS X:B; END_FBS END_FUNCTION_BLOCK";
+// rests on B
+const USER: &str = "FUNCTION_BLOCK A FBS X:B; END_FBS END_FUNCTION_BLOCK";
+
+#[derive(Clone, Copy)]
+enum Edit {
+    Put(&'static str, u64, &'static str),
+    Remove(&'static str, u64),
+}
+
+// what a commit is to come to
+#[derive(Clone, Copy)]
+enum Want {
+    Done(u64),
+    NoChange,
+    TooManyChanges,
+    Twice(&'static str),
+    StaleBase(&'static str, u64),
+    NoUnit(&'static str),
+    TooManyUnits,
+}
+
+// a call with the answer that it is to have; a result counts by its place among the results
+#[derive(Clone, Copy)]
+enum Step<'a> {
+    Commit(&'a [Edit], Want),
+    // the job of this unit is taken and run
+    Run(&'static str),
+    NothingToTake,
+    Accepted(usize),
+    Stale(usize, &'static str),
+    NotPending(usize),
+    NoKeyFor(usize),
+    Returned(&'static str),
+    NothingOut(&'static str),
+    Value(&'static str),
+    Pending(&'static str),
+    NoKey(&'static str),
+    // it is the only key, pending and handed out
+    IsOut(&'static str),
+}
 
 fn name(text: &str) -> Result<Name, Fail> {
     Ok(Name::read(text).ok().ok_or("a name")?)
@@ -30,87 +70,186 @@ fn new_bench(alloc: Global, units: u64, history: u64) -> Result<Bench, Fail> {
     Ok(Bench::new(alloc, limits))
 }
 
-fn put(alloc: Global, unit: &str, base: u64, text: &str) -> Result<Change, Fail> {
-    let source = Source::read(alloc, name(unit)?, text)?;
-    Ok(Change::Put { base, source })
-}
-
-fn commits(bench: &mut Bench, changes: &[Change], want: Committed) -> Result<bool, Fail> {
-    Ok(bench.commit(1, changes)? == want)
-}
-
-// a commit that puts one unit
-fn puts(
-    alloc: Global,
-    bench: &mut Bench,
-    unit: &str,
-    base: u64,
-    text: &str,
-    want: Committed,
-) -> Result<bool, Fail> {
-    let change = put(alloc, unit, base, text)?;
-    commits(bench, &[change], want)
-}
-
-// a commit that removes one unit and puts another
-fn replaces(
-    alloc: Global,
-    bench: &mut Bench,
-    old: &str,
-    base: u64,
-    new: &str,
-) -> Result<bool, Fail> {
-    let unit = name(old)?;
-    let change = put(alloc, new, 0, A)?;
-    commits(
-        bench,
-        &[change, Change::Remove { unit, base }],
-        Committed::Done(2),
-    )
-}
-
-// the result of the next job
-fn run_next<D: Desk>(alloc: Global, desk: &mut D) -> Result<Finished, Fail> {
-    match desk.take() {
-        Ok(Taken::Job(job)) => Ok(job.run(alloc)?),
-        Ok(Taken::Nothing) => Err(Fail::from("a job")),
-        Err(_) => Err(Fail::from("an answer")),
+fn change_of(alloc: Global, edit: Edit) -> Result<Change, Fail> {
+    match edit {
+        Edit::Put(unit, base, text) => {
+            let source = Source::read(alloc, name(unit)?, text)?;
+            Ok(Change::Put { base, source })
+        }
+        Edit::Remove(unit, base) => Ok(Change::Remove {
+            unit: name(unit)?,
+            base,
+        }),
     }
 }
 
-fn run_one(alloc: Global, bench: &mut Bench) -> Result<Finished, Fail> {
-    run_next(alloc, &mut Solo::new(bench, 1))
+fn changes_of(alloc: Global, edits: &[Edit]) -> Result<Vec<Change>, Fail> {
+    let mut changes = Vec::new(alloc);
+    for edit in edits {
+        changes.push(change_of(alloc, *edit)?)?;
+    }
+    Ok(changes)
 }
 
-fn delivers(bench: &mut Bench, finished: &Finished, want: Delivered) -> Result<bool, Fail> {
-    Ok(bench.deliver(1, finished)? == want)
+fn answer_of(want: Want) -> Result<Committed, Fail> {
+    Ok(match want {
+        Want::Done(number) => Committed::Done(number),
+        Want::NoChange => Committed::NoChange,
+        Want::TooManyChanges => Committed::TooManyChanges,
+        Want::Twice(unit) => Committed::SameUnitTwice(name(unit)?),
+        Want::StaleBase(unit, current) => Committed::StaleBase {
+            unit: name(unit)?,
+            current,
+        },
+        Want::NoUnit(unit) => Committed::NoSuchUnit(name(unit)?),
+        Want::TooManyUnits => Committed::TooManyUnits,
+    })
 }
 
-fn gives_back(bench: &mut Bench, key: Key, want: GivenBack) -> Result<bool, Fail> {
-    Ok(bench.give_back(2, key)? == want)
+fn commits(alloc: Global, bench: &mut Bench, edits: &[Edit], want: Want) -> Result<bool, Fail> {
+    let wanted = answer_of(want)?;
+    let changes = changes_of(alloc, edits)?;
+    Ok(Solo::new(bench, 1).commit(&changes)? == wanted)
 }
 
-fn finds_a_value(bench: &mut Bench, key: Key) -> Result<bool, Fail> {
-    let shown = bench.peek(&key);
-    let peeked = matches!(&shown, Shown::Value(_));
-    let asked = bench.ask(2, key)?;
-    Ok(peeked && matches!(&asked, Asked::Value(_)))
+// runs the job of the unit, which is to be the next one
+fn runs(
+    alloc: Global,
+    bench: &mut Bench,
+    results: &mut Vec<Finished>,
+    unit: &str,
+) -> Result<bool, Fail> {
+    let key = faults_of(unit)?;
+    match Solo::new(bench, 1).take()? {
+        Taken::Nothing => Ok(false),
+        Taken::Job(job) => {
+            results.push(job.run(alloc)?)?;
+            Ok(job.key() == key)
+        }
+    }
 }
 
-fn has_no_key(bench: &mut Bench, key: Key) -> Result<bool, Fail> {
-    let asked = bench.ask(1, key)?;
-    Ok(matches!(&asked, Asked::NoSuchKey))
-}
-
-fn has_nothing_to_do(bench: &mut Bench) -> Result<bool, Fail> {
+fn has_nothing_to_take(bench: &mut Bench) -> Result<bool, Fail> {
     let taken = bench.take(2)?;
     Ok(matches!(&taken, Taken::Nothing))
 }
 
-fn is_full(bench: &mut Bench, key: Key) -> bool {
+fn delivers(
+    bench: &mut Bench,
+    results: &[Finished],
+    place: usize,
+    want: Delivered,
+) -> Result<bool, Fail> {
+    let finished = results.get(place).ok_or("a result")?;
+    Ok(Solo::new(bench, 1).deliver(finished)? == want)
+}
+
+fn is_stale(
+    bench: &mut Bench,
+    results: &[Finished],
+    place: usize,
+    unit: &str,
+) -> Result<bool, Fail> {
+    let unit = name(unit)?;
+    delivers(bench, results, place, Delivered::Stale(unit))
+}
+
+fn gives_back(bench: &mut Bench, unit: &str, want: GivenBack) -> Result<bool, Fail> {
+    let key = faults_of(unit)?;
+    Ok(Solo::new(bench, 2).give_back(key)? == want)
+}
+
+fn peeks_a_value(bench: &Bench, key: Key) -> bool {
+    let shown = bench.peek(&key);
+    matches!(&shown, Shown::Value(_))
+}
+
+fn peeks_pending(bench: &Bench, key: Key) -> bool {
+    let shown = bench.peek(&key);
+    matches!(&shown, Shown::Pending)
+}
+
+fn asks(bench: &mut Bench, key: Key) -> Result<Asked, Fail> {
+    Ok(Solo::new(bench, 2).ask(key)?)
+}
+
+fn finds_a_value(bench: &mut Bench, unit: &str) -> Result<bool, Fail> {
+    let key = faults_of(unit)?;
+    let asked = asks(bench, key)?;
+    Ok(matches!(&asked, Asked::Value(_)) && peeks_a_value(bench, key))
+}
+
+fn finds_it_pending(bench: &mut Bench, unit: &str) -> Result<bool, Fail> {
+    let key = faults_of(unit)?;
+    let asked = asks(bench, key)?;
+    Ok(matches!(&asked, Asked::Pending) && peeks_pending(bench, key))
+}
+
+fn has_no_key(bench: &mut Bench, unit: &str) -> Result<bool, Fail> {
+    let key = faults_of(unit)?;
+    let asked = asks(bench, key)?;
+    Ok(matches!(&asked, Asked::NoSuchKey))
+}
+
+// whether this is the only key, pending and handed out
+fn waits_handed_out(bench: &Bench, unit: &str) -> Result<bool, Fail> {
+    let key = faults_of(unit)?;
+    let is_alone = bench.key_count() == 1 && bench.pending_count() == 1;
+    Ok(is_alone && bench.key_at(0) == Some(key) && bench.is_out(&key))
+}
+
+fn performs(
+    alloc: Global,
+    bench: &mut Bench,
+    results: &mut Vec<Finished>,
+    step: Step<'_>,
+) -> Result<bool, Fail> {
+    match step {
+        Step::Commit(edits, want) => commits(alloc, bench, edits, want),
+        Step::Run(unit) => runs(alloc, bench, results, unit),
+        Step::NothingToTake => has_nothing_to_take(bench),
+        Step::Accepted(place) => delivers(bench, results, place, Delivered::Accepted),
+        Step::Stale(place, unit) => is_stale(bench, results, place, unit),
+        Step::NotPending(place) => delivers(bench, results, place, Delivered::NotPending),
+        Step::NoKeyFor(place) => delivers(bench, results, place, Delivered::NoSuchKey),
+        Step::Returned(unit) => gives_back(bench, unit, GivenBack::Returned),
+        Step::NothingOut(unit) => gives_back(bench, unit, GivenBack::NothingOut),
+        Step::Value(unit) => finds_a_value(bench, unit),
+        Step::Pending(unit) => finds_it_pending(bench, unit),
+        Step::NoKey(unit) => has_no_key(bench, unit),
+        Step::IsOut(unit) => waits_handed_out(bench, unit),
+    }
+}
+
+// how many steps have the answers wanted, up to the first that has another
+fn plays(
+    alloc: Global,
+    bench: &mut Bench,
+    results: &mut Vec<Finished>,
+    steps: &[Step<'_>],
+) -> Result<usize, Fail> {
+    for place in 0..steps.len() {
+        if !performs(alloc, bench, results, steps[place])? {
+            return Ok(place);
+        }
+    }
+    Ok(steps.len())
+}
+
+// the same on a workbench of its own
+fn plays_alone(bench: &mut Bench, alloc: Global, steps: &[Step<'_>]) -> Result<usize, Fail> {
+    let mut results = Vec::new(alloc);
+    plays(alloc, bench, &mut results, steps)
+}
+
+fn is_full(bench: &mut Bench, unit: &str) -> Result<bool, Fail> {
+    let key = faults_of(unit)?;
     let asked = bench.ask(1, key);
     let taken = Solo::new(bench, 1).take();
-    matches!(&asked, Err(Refused::HistoryFull)) && matches!(&taken, Err(DeskRefused::HistoryFull))
+    Ok(
+        matches!(&asked, Err(Refused::HistoryFull))
+            && matches!(&taken, Err(DeskRefused::HistoryFull)),
+    )
 }
 
 // whether the record is of this turn of caller 2, and is that a value was asked for
@@ -121,24 +260,22 @@ fn is_answer(bench: &Bench, number: u64, turn: u64) -> Result<bool, Fail> {
     Ok(record.caller() == 2 && record.turn() == turn && is_ask && is_value)
 }
 
-// whether this is the only key, pending and handed out
-fn waits_handed_out(bench: &Bench, key: Key) -> bool {
-    let is_alone = bench.key_count() == 1 && bench.pending_count() == 1;
-    is_alone && bench.key_at(0) == Some(key) && bench.is_out(&key)
+fn has_revision(bench: &Bench, unit: &str, revision: u64) -> Result<bool, Fail> {
+    Ok(bench.revision(&name(unit)?) == revision)
 }
 
 #[test]
 fn a_commit_on_an_old_base_is_refused(rt: HostRuntime) -> Result<(), Fail> {
-    let alloc = rt.alloc();
-    let unit = name("A")?;
-    let mut bench = new_bench(alloc, 4, 100)?;
-    assert!(rt; puts(alloc, &mut bench, "A", 0, A, Committed::Done(1))?);
-    assert!(rt; puts(alloc, &mut bench, "A", 1, A, Committed::Done(2))?);
-    let finished = run_one(alloc, &mut bench)?;
-    assert!(rt; delivers(&mut bench, &finished, Delivered::Accepted)?);
-    let stale = Committed::StaleBase { unit, current: 2 };
-    assert!(rt; puts(alloc, &mut bench, "A", 1, A_WITH_B, stale)?);
-    assert!(rt; finds_a_value(&mut bench, faults_of("A")?)?);
+    let mut bench = new_bench(rt.alloc(), 4, 100)?;
+    let steps = [
+        Step::Commit(&[Edit::Put("A", 0, PLAIN)], Want::Done(1)),
+        Step::Commit(&[Edit::Put("A", 1, PLAIN)], Want::Done(2)),
+        Step::Run("A"),
+        Step::Accepted(0),
+        Step::Commit(&[Edit::Put("A", 1, USER)], Want::StaleBase("A", 2)),
+        Step::Value("A"),
+    ];
+    assert_eq!(rt; plays_alone(&mut bench, rt.alloc(), &steps)?, 6);
     assert!(rt; is_answer(&bench, 6, 1)?);
     assert!(rt; bench.record(0).is_none() && bench.record(7).is_none());
     Ok(())
@@ -153,75 +290,202 @@ fn limits_have_ranges() {
 #[test]
 fn no_call_is_recorded_past_the_limit(rt: HostRuntime) -> Result<(), Fail> {
     let mut bench = new_bench(rt.alloc(), 1, 3)?;
-    let key = faults_of("A")?;
-    for _ in 0..3 {
-        assert!(rt; has_no_key(&mut bench, key)?);
-    }
-    assert!(rt; is_full(&mut bench, key));
+    let steps = [Step::NoKey("A"), Step::NoKey("A"), Step::NoKey("A")];
+    assert_eq!(rt; plays_alone(&mut bench, rt.alloc(), &steps)?, 3);
+    assert!(rt; is_full(&mut bench, "A")?);
     assert!(rt; bench.len() == 3);
     Ok(())
 }
 
 #[test]
 fn a_unit_too_many_is_refused(rt: HostRuntime) -> Result<(), Fail> {
-    let alloc = rt.alloc();
-    let mut bench = new_bench(alloc, 1, 100)?;
-    assert!(rt; puts(alloc, &mut bench, "A", 0, A, Committed::Done(1))?);
-    assert!(rt; puts(alloc, &mut bench, "B", 0, A, Committed::TooManyUnits)?);
-    assert!(rt; replaces(alloc, &mut bench, "A", 1, "B")?);
-    assert!(rt; bench.revision(&name("A")?) == 0);
-    assert!(rt; bench.revision(&name("B")?) == 2);
+    let mut bench = new_bench(rt.alloc(), 1, 100)?;
+    let steps = [
+        Step::Commit(&[Edit::Put("A", 0, PLAIN)], Want::Done(1)),
+        Step::Commit(&[Edit::Put("B", 0, PLAIN)], Want::TooManyUnits),
+        Step::Commit(
+            &[Edit::Put("B", 0, PLAIN), Edit::Remove("A", 1)],
+            Want::Done(2),
+        ),
+    ];
+    assert_eq!(rt; plays_alone(&mut bench, rt.alloc(), &steps)?, 3);
+    assert!(rt; has_revision(&bench, "A", 0)?);
+    assert!(rt; has_revision(&bench, "B", 2)?);
     Ok(())
+}
+
+// a result of another workbench, which holds another text at the same revision
+fn plays_a_foreign_result(
+    alloc: Global,
+    first: &mut Bench,
+    second: &mut Bench,
+) -> Result<bool, Fail> {
+    let other = [
+        Step::Commit(&[Edit::Put("A", 0, USER)], Want::Done(1)),
+        Step::Run("A"),
+    ];
+    let own = [
+        Step::Commit(&[Edit::Put("A", 0, PLAIN)], Want::Done(1)),
+        Step::Stale(0, "A"),
+        Step::Run("A"),
+        Step::Accepted(1),
+        Step::NotPending(1),
+        Step::Value("A"),
+    ];
+    let mut results = Vec::new(alloc);
+    let is_made = plays(alloc, second, &mut results, &other)? == 2;
+    Ok(is_made && plays(alloc, first, &mut results, &own)? == 6)
 }
 
 #[test]
 fn a_result_of_another_text_is_stale(rt: HostRuntime) -> Result<(), Fail> {
-    let alloc = rt.alloc();
-    let unit = name("A")?;
-    let mut first = new_bench(alloc, 4, 100)?;
-    let mut second = new_bench(alloc, 4, 100)?;
-    assert!(rt; puts(alloc, &mut first, "A", 0, A, Committed::Done(1))?);
-    assert!(rt; puts(alloc, &mut second, "A", 0, A_WITH_B, Committed::Done(1))?);
-    let own = run_one(alloc, &mut first)?;
-    let foreign = run_one(alloc, &mut second)?;
-    assert!(rt; delivers(&mut first, &foreign, Delivered::Stale(unit))?);
-    assert!(rt; delivers(&mut first, &own, Delivered::Accepted)?);
-    assert!(rt; delivers(&mut first, &own, Delivered::NotPending)?);
+    let mut first = new_bench(rt.alloc(), 4, 100)?;
+    let mut second = new_bench(rt.alloc(), 4, 100)?;
+    assert!(rt; plays_a_foreign_result(rt.alloc(), &mut first, &mut second)?);
     Ok(())
 }
 
 #[test]
 fn a_key_that_is_given_back_is_taken_again(rt: HostRuntime) -> Result<(), Fail> {
-    let alloc = rt.alloc();
-    let key = faults_of("A")?;
-    let mut bench = new_bench(alloc, 4, 100)?;
-    assert!(rt; puts(alloc, &mut bench, "A", 0, A, Committed::Done(1))?);
-    let first = run_one(alloc, &mut bench)?;
-    assert!(rt; has_nothing_to_do(&mut bench)?);
-    assert!(rt; waits_handed_out(&bench, key));
-    assert!(rt; gives_back(&mut bench, key, GivenBack::Returned)?);
-    let second = run_one(alloc, &mut bench)?;
-    assert!(rt; delivers(&mut bench, &second, Delivered::Accepted)?);
-    assert!(rt; delivers(&mut bench, &first, Delivered::NotPending)?);
-    assert!(rt; gives_back(&mut bench, key, GivenBack::NothingOut)?);
+    let mut bench = new_bench(rt.alloc(), 4, 100)?;
+    let steps = [
+        Step::Commit(&[Edit::Put("A", 0, PLAIN)], Want::Done(1)),
+        Step::Run("A"),
+        Step::NothingToTake,
+        Step::IsOut("A"),
+        Step::Pending("A"),
+        Step::Returned("A"),
+        Step::Run("A"),
+        Step::Accepted(1),
+        Step::NotPending(0),
+        Step::NothingOut("A"),
+    ];
+    assert_eq!(rt; plays_alone(&mut bench, rt.alloc(), &steps)?, 10);
+    Ok(())
+}
+
+#[test]
+fn a_type_is_added_changed_and_removed_meanwhile(rt: HostRuntime) -> Result<(), Fail> {
+    let mut bench = new_bench(rt.alloc(), 4, 100)?;
+    let steps = [
+        Step::Commit(&[Edit::Put("A", 0, USER)], Want::Done(1)),
+        Step::Run("A"),
+        Step::Commit(&[Edit::Put("B", 0, PLAIN)], Want::Done(2)),
+        Step::Stale(0, "B"),
+        Step::Run("A"),
+        Step::Run("B"),
+        Step::Accepted(2),
+        Step::Accepted(1),
+        Step::NotPending(1),
+        Step::Value("A"),
+        Step::Value("B"),
+        Step::Commit(&[Edit::Put("B", 2, PLAIN)], Want::Done(3)),
+        Step::Pending("A"),
+    ];
+    assert_eq!(rt; plays_alone(&mut bench, rt.alloc(), &steps)?, 13);
+    let steps = [
+        Step::Run("A"),
+        Step::Run("B"),
+        Step::Commit(&[Edit::Remove("B", 3)], Want::Done(4)),
+        Step::Stale(0, "B"),
+        Step::NoKeyFor(1),
+        Step::Run("A"),
+        Step::Accepted(2),
+        Step::Value("A"),
+        Step::NoKey("B"),
+        Step::NothingToTake,
+    ];
+    assert_eq!(rt; plays_alone(&mut bench, rt.alloc(), &steps)?, 10);
+    Ok(())
+}
+
+#[test]
+fn a_text_that_is_put_again_is_another_revision(rt: HostRuntime) -> Result<(), Fail> {
+    let mut bench = new_bench(rt.alloc(), 4, 100)?;
+    let steps = [
+        Step::Commit(&[Edit::Put("A", 0, PLAIN)], Want::Done(1)),
+        Step::Run("A"),
+        Step::Commit(&[Edit::Put("A", 1, USER)], Want::Done(2)),
+        Step::Commit(&[Edit::Put("A", 2, PLAIN)], Want::Done(3)),
+        Step::Stale(0, "A"),
+        Step::Pending("A"),
+    ];
+    assert_eq!(rt; plays_alone(&mut bench, rt.alloc(), &steps)?, 6);
     Ok(())
 }
 
 #[test]
 fn refused_commits_are_recorded(rt: HostRuntime) -> Result<(), Fail> {
-    let alloc = rt.alloc();
-    let unit = name("A")?;
-    let mut bench = new_bench(alloc, 4, 100)?;
-    let mut changes = Vec::new(alloc);
-    assert!(rt; commits(&mut bench, &changes, Committed::NoChange)?);
-    changes.push(Change::Remove { unit, base: 1 })?;
-    assert!(rt; commits(&mut bench, &changes, Committed::NoSuchUnit(unit))?);
-    changes.push(put(alloc, "A", 0, A)?)?;
-    assert!(rt; commits(&mut bench, &changes, Committed::SameUnitTwice(unit))?);
-    for _ in 0..15 {
-        changes.push(put(alloc, "A", 0, A)?)?;
-    }
-    assert!(rt; commits(&mut bench, &changes, Committed::TooManyChanges)?);
+    let mut bench = new_bench(rt.alloc(), 4, 100)?;
+    let many = [Edit::Put("A", 0, PLAIN); 17];
+    let steps = [
+        Step::Commit(&[], Want::NoChange),
+        Step::Commit(&[Edit::Remove("A", 1)], Want::NoUnit("A")),
+        Step::Commit(
+            &[Edit::Remove("A", 1), Edit::Put("A", 0, PLAIN)],
+            Want::Twice("A"),
+        ),
+        Step::Commit(&many, Want::TooManyChanges),
+    ];
+    assert_eq!(rt; plays_alone(&mut bench, rt.alloc(), &steps)?, 4);
     assert!(rt; bench.len() == 4);
+    Ok(())
+}
+
+// makes any call for caller 3, and says whether it has this turn and hands out a job
+fn requests(
+    bench: &mut Bench,
+    request: &Request<'_>,
+    turn: u64,
+    has_job: bool,
+) -> Result<bool, Fail> {
+    let (record, job) = bench.perform(3, request)?;
+    Ok(record.turn() == turn && job.is_some() == has_job)
+}
+
+fn requests_changes(
+    bench: &mut Bench,
+    changes: &[Change],
+    finished: &Finished,
+) -> Result<bool, Fail> {
+    let is_done = requests(bench, &Request::Commit(changes), 1, false)?;
+    let is_taken = requests(bench, &Request::Take, 2, true)?;
+    let is_delivered = requests(bench, &Request::Deliver(finished), 3, false)?;
+    Ok(is_done && is_taken && is_delivered)
+}
+
+fn requests_about(
+    bench: &mut Bench,
+    unit: &str,
+    changes: &[Change],
+    finished: &Finished,
+) -> Result<bool, Fail> {
+    let is_done = requests_changes(bench, changes, finished)?;
+    let is_out = requests(bench, &Request::GiveBack(faults_of(unit)?), 4, false)?;
+    let is_asked = requests(bench, &Request::Ask(faults_of(unit)?), 5, false)?;
+    Ok(is_done && is_out && is_asked)
+}
+
+// with the result of another workbench that holds the same text at the same revision
+fn requests_with_a_result(
+    alloc: Global,
+    bench: &mut Bench,
+    other: &mut Bench,
+) -> Result<bool, Fail> {
+    let edits = [Edit::Put("A", 0, PLAIN)];
+    let changes = changes_of(alloc, &edits)?;
+    let mut results = Vec::new(alloc);
+    let steps = [Step::Commit(&edits, Want::Done(1)), Step::Run("A")];
+    let is_made = plays(alloc, other, &mut results, &steps)? == 2;
+    let finished = results.get(0).ok_or("a result")?;
+    Ok(is_made && requests_about(bench, "A", &changes, finished)?)
+}
+
+#[test]
+fn any_call_is_made_as_a_request(rt: HostRuntime) -> Result<(), Fail> {
+    let mut bench = new_bench(rt.alloc(), 4, 100)?;
+    let mut other = new_bench(rt.alloc(), 4, 100)?;
+    assert!(rt; requests_with_a_result(rt.alloc(), &mut bench, &mut other)?);
+    assert!(rt; finds_a_value(&mut bench, "A")?);
     Ok(())
 }
