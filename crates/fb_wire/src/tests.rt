@@ -1,4 +1,6 @@
 // Runs over good and failing streams.
+ghost use Rattle.std.specs.Prelude.{◌≡◌, false};
+
 use crate::{Feed, FromRead, IntoWrite, MemoryFeed, MemorySink, RunEnd, Sink, run_script};
 use fb_bench::{Bench, Limits};
 use std::alloc::Global;
