@@ -70,15 +70,6 @@ pub after_part : (given partial front : List ℕ) (lines : List (List ℕ)) → 
 after_part given partial front lines is line =
     lines_of-append given front ∙ rw (is, lines_of-part front line) (joined-last lines partial front [])
 
--- whatever comes behind, the last line goes on
-pub after_any : (given partial rest : List ℕ) (lines : List (List ℕ)) → lines_of given ≡ lines ++ partial ∷ []
-    → (more : List ℕ) × (others : List (List ℕ)) × (lines_of (given ++ rest) ≡ lines ++ (partial ++ more) ∷ others)
-after_any given partial rest lines is = by_lines (lines_of rest) refl
-  where
-    by_lines : (ms : List (List ℕ)) → lines_of rest ≡ ms → (more : List ℕ) × (others : List (List ℕ)) × (lines_of (given ++ rest) ≡ lines ++ (partial ++ more) ∷ others)
-    by_lines [] none = absurd (some_line rest none)
-    by_lines (m ∷ ms) these = (m, ms, lines_of-append given rest ∙ rw (is, these) (joined-last lines partial m ms))
-
 IsLine-append : (xs ys : List ℕ) → IsLine xs → IsLine ys → IsLine (xs ++ ys)
 IsLine-append [] ys h k = k
 IsLine-append (x ∷ xs) ys h k = (h.0, IsLine-append xs ys h.1 k)

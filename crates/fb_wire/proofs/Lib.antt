@@ -5,6 +5,7 @@ pub mod OneTalk
 pub mod Pieces
 pub mod ReplyTexts
 pub mod RequestReads
+pub mod Scripts
 pub mod Takings
 pub mod Talks
 pub mod TapeSteps

@@ -5,11 +5,13 @@ use Rattle.fb_bench.specs.Machine.{Call}
 use Rattle.fb_bench.specs.Calls.{Answer, Replied, FullHistory, BehindHistory}
 use Rattle.fb_bench.specs.Solo.{IsStep}
 use Rattle.fb_bench.specs.Story.{Story}
-use Rattle.fb_wire.specs.Lines.{is_blank, lines_of}
+use Rattle.fb_wire.specs.Lines.{Fits, IsTooLong, is_blank, lines_of}
 use Rattle.fb_wire.specs.Requests.{request_of}
 use Rattle.fb_wire.specs.Replies.{reply_line}
-use Rattle.fb_wire.specs.Ends.{AnsweredAll}
+use Rattle.fb_wire.specs.Ends.{AnsweredAll, AnsweredEnded, IsBetweenLines, Stands}
 use Rattle.fb_wire.specs.Talk.{Jobs, Pair, Plan, says, asks, Leads, Talk, Runs, answers_of, plan_of}
+use Rattle.fb_wire.specs.declared.end.RunEnd.{RunEnd}
+use Rattle.fb_wire.specs.declared.end.RunEnd.TheVariants as end
 
 -- calls and answers that agree agree on the answer to one call, and behind it
 module _ (Agrees : List Pair → List Pair → Type 0)
@@ -47,9 +49,9 @@ module _ (Agrees : List Pair → List Pair → Type 0)
   same_talk (line ∷ lines) held ps qs out written after last t u e =
       let P : List Pair → Type 0 = λ xs. Agrees xs qs in
       let Q : List Pair → Type 0 = λ xs. Agrees (t.0 ++ t.1) xs in
-      let line_same = same_line_by (is_blank line) (plan_of held (request_of line)) held t.0 u.0 t.1 u.1 t.2 u.2 t.4 u.4 t.7 u.7 (subst Q u.5 (subst P t.5 e)) in
+      let line_same = same_line_by (is_blank line) (plan_of held (request_of line)) held t.0 u.0 t.1 u.1 t.2 u.2 t.4 u.4 t.8 u.8 (subst Q u.5 (subst P t.5 e)) in
       let R : Jobs → Type 0 = λ jobs. Talk lines jobs u.1 u.3 last in
-      let rest = same_talk lines t.4 t.1 u.1 t.3 u.3 after last t.8 (subst R (sym line_same.2) u.8) line_same.3 in
+      let rest = same_talk lines t.4 t.1 u.1 t.3 u.3 after last t.9 (subst R (sym line_same.2) u.9) line_same.3 in
       (t.5 ∙ ap₂ (λ xs ys. xs ++ ys) line_same.0 rest.0 ∙ sym u.5, t.6 ∙ ap₂ (λ xs ys. xs ++ ys) line_same.1 rest.1 ∙ sym u.6, rest.2)
 
 -- ---- by the answers
@@ -61,12 +63,71 @@ first_answers : (p q : Pair) (ps qs : List Pair) → p.0 ≡ q.0 → AnswersAgre
 unfolding AnswersAgree
 first_answers p q ps qs calls e = let both : p.1 ∷ answers_of ps ≡ q.1 ∷ answers_of qs = e in (cc, cc)
 
-pub one_by_answers : (bytes : List ℕ) (pairs others : List Pair) (out written : List ℕ) → AnsweredAll bytes pairs out → AnsweredAll bytes others written
+one_by_lines : (lines : List (List ℕ)) (pairs others : List Pair) (out written : List ℕ) (after last : Jobs) → Talk lines [] pairs out after → Talk lines [] others written last
     → answers_of pairs ≡ answers_of others → (pairs ≡ others) × (out ≡ written)
 unfolding AnswersAgree
-one_by_answers bytes pairs others out written t u e =
-    let same = same_talk AnswersAgree first_answers (lines_of bytes) [] pairs others out written t.0 u.0 t.1 u.1 e in
+one_by_lines lines pairs others out written after last t u e =
+    let same = same_talk AnswersAgree first_answers lines [] pairs others out written after last t u e in
     (same.0, same.1)
+
+none_behind : (ys : List (List ℕ)) (b : List ℕ) → [] ≡ ys ++ b ∷ [] → ⊥
+none_behind [] b e = cc
+none_behind (y ∷ ys) b e = cc
+
+-- the lines before the last one
+lines_before : (xs ys : List (List ℕ)) (a b : List ℕ) → xs ++ a ∷ [] ≡ ys ++ b ∷ [] → xs ≡ ys
+lines_before [] [] a b e = refl
+lines_before [] (y ∷ ys) a b e = let tail : [] ≡ ys ++ b ∷ [] = cc in absurd (none_behind ys b tail)
+lines_before (x ∷ xs) [] a b e = let tail : xs ++ a ∷ [] ≡ [] = cc in absurd (none_behind xs a (sym tail))
+lines_before (x ∷ xs) (y ∷ ys) a b e =
+    let head : x ≡ y = cc in
+    let tail : xs ++ a ∷ [] ≡ ys ++ b ∷ [] = cc in
+    ap₂ (λ h t. h ∷ t) head (lines_before xs ys a b tail)
+
+AllFit : List (List ℕ) → Type 0
+AllFit [] = Unit {0}
+AllFit (line ∷ lines) = Fits line × AllFit lines
+
+all_fit : (lines : List (List ℕ)) (held after : Jobs) (pairs : List Pair) (out : List ℕ) → Talk lines held pairs out after → AllFit lines
+unfolding AllFit
+all_fit [] held after pairs out t = tt
+all_fit (line ∷ lines) held after pairs out t = (t.7, all_fit lines t.4 after t.1 t.3 t.9)
+
+-- the lines before the first one that is too long
+lines_before_long : (xs ys ps qs : List (List ℕ)) (a b : List ℕ) → AllFit xs → AllFit ys → IsTooLong a → IsTooLong b → xs ++ a ∷ ps ≡ ys ++ b ∷ qs → xs ≡ ys
+unfolding AllFit
+lines_before_long [] [] ps qs a b f g h k e = refl
+lines_before_long [] (y ∷ ys) ps qs a b f g h k e =
+    let head : a ≡ y = cc in
+    let long : IsTooLong y = subst IsTooLong head h in
+    absurd (omega (arith, long, g.0))
+lines_before_long (x ∷ xs) [] ps qs a b f g h k e =
+    let head : b ≡ x = cc in
+    let long : IsTooLong x = subst IsTooLong head k in
+    absurd (omega (arith, long, f.0))
+lines_before_long (x ∷ xs) (y ∷ ys) ps qs a b f g h k e =
+    let head : x ≡ y = cc in
+    let tail : xs ++ a ∷ ps ≡ ys ++ b ∷ qs = cc in
+    ap₂ (λ h t. h ∷ t) head (lines_before_long xs ys ps qs a b f.1 g.1 h k tail)
+
+ended_is_one : (bytes : List ℕ) (pairs others : List Pair) (out written : List ℕ) → AnsweredEnded bytes pairs out → AnsweredEnded bytes others written
+    → answers_of pairs ≡ answers_of others → (pairs ≡ others) × (out ≡ written)
+ended_is_one bytes pairs others out written t u e =
+    let P : List (List ℕ) → Type 0 = λ ls. Talk ls [] pairs out t.2 in
+    let same = lines_before t.0 u.0 t.1 u.1 (sym t.3 ∙ u.3) in
+    one_by_lines u.0 pairs others out written t.2 u.2 (subst P same t.5) u.5 e
+
+pub one_by_answers : (stop : RunEnd) (bytes : List ℕ) (pairs others : List Pair) (out written : List ℕ) → IsBetweenLines stop → Stands stop bytes pairs out → Stands stop bytes others written
+    → answers_of pairs ≡ answers_of others → (pairs ≡ others) × (out ≡ written)
+one_by_answers end.End bytes pairs others out written between t u e = one_by_lines (lines_of bytes) pairs others out written t.0 u.0 t.1 u.1 e
+one_by_answers end.ReadFailed bytes pairs others out written between t u e = ended_is_one bytes pairs others out written t u e
+one_by_answers end.TurnsOver bytes pairs others out written between t u e = ended_is_one bytes pairs others out written t u e
+one_by_answers end.LineTooLong bytes pairs others out written between t u e =
+    let P : List (List ℕ) → Type 0 = λ ls. Talk ls [] pairs out t.3 in
+    let same = lines_before_long t.0 u.0 t.1 u.1 t.2 u.2 (all_fit t.0 [] t.3 pairs out t.6) (all_fit u.0 [] u.3 others written u.6) t.5 u.5 (sym t.4 ∙ u.4) in
+    one_by_lines u.0 pairs others out written t.3 u.3 (subst P same t.6) u.6 e
+one_by_answers end.WriteFailed bytes pairs others out written between t u e = absurd between
+one_by_answers end.Memory bytes pairs others out written between t u e = absurd between
 
 -- ---- by a workbench
 

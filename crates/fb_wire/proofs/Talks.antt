@@ -1,5 +1,5 @@
 -- Plans, runs and talks, one after another.
-use Rattle.std.proofs.Common.{ap₂, suc, ◌-◌, arith, Bool, cond, nat_le, length, ◌+◌, ◌≤◌, ◌<◌, ◌≡◌, ℕ, List, [], ◌∷◌, ◌++◌, Option, Some, None, Result, Ok, Err, true, false, MatchBool, option_map, refl, sym, ap, ◌∙◌, subst, append_assoc, append-nil}
+use Rattle.std.proofs.Common.{ap₂, suc, ◌-◌, arith, nat_le, length, ◌+◌, ◌<◌, ◌≡◌, ℕ, List, [], ◌∷◌, ◌++◌, Some, None, Result, Ok, Err, true, false, option_map, refl, sym, ap, ◌∙◌, subst, append-nil}
 use Rattle.std.specs.declared.alloc.AllocError.{AllocError}
 use Rattle.fb_bench.specs.Machine.{Call, ToTake, ToDeliver, OfTake, OfDeliver, Reply as MachineReply}
 use Rattle.fb_bench.specs.Solo.{IsStep, SoloStep}
@@ -12,15 +12,12 @@ use Rattle.fb_bench.specs.declared.answers.Delivered.{Delivered}
 use Rattle.fb_wire.specs.declared.answer.Turn.{Turn}
 use Rattle.fb_bench.specs.declared.desk.DeskRefused.{DeskRefused}
 use Rattle.fb_bench.specs.declared.desk.DeskRefused.TheVariants.{HistoryFull, Behind, Memory}
-use Rattle.std.proofs.Common as list
 use Rattle.serde_json.specs.Data.{Data}
 use Rattle.fb_wire.specs.Lines.{is_blank}
-use Rattle.fb_wire.specs.Requests.{request_of}
-use Rattle.fb_wire.specs.declared.end.RunEnd.TheVariants as end
-use Rattle.fb_wire.specs.Replies.{said_to, reply_line, work_done}
+use Rattle.fb_wire.specs.Replies.{said_to, work_done}
 use Rattle.fb_wire.specs.ReplyView.{data_of}
 use Rattle.fb_wire.specs.Served.{Reaches, LineSaid, Served, TurnServed, KeepsTaken, left_after, answer_in, reply_in}
-use Rattle.fb_wire.specs.Talk.{Jobs, Pair, Plan, says, asks, Leads, Runs, call_once, take_plan, held_after, after_take, after_deliver, work_plan, plan_of}
+use Rattle.fb_wire.specs.Talk.{Jobs, Pair, Plan, says, asks, Leads, Runs, call_once, take_plan, held_after, after_take, after_deliver, work_plan}
 use Rattle.fb_wire.specs.declared.reply.Reply.{Reply}
 
 pub Leads-append : (plan mid rest : Plan) (ps qs : List Pair) → Leads plan ps mid → Leads mid qs rest → Leads plan (ps ++ qs) rest
@@ -87,10 +84,6 @@ module _ {S : Type 0} (Step : S → Call → Answer → S → Type 0) where
   -- memory ran out before any call
   pub none_served : (plan : Plan) (old : S) (e : AllocError) (held : Jobs) → Served Step plan old (Err e) held old
   none_served plan old e held = (plan, reaches_itself plan old)
-
-  -- memory ran out after some calls
-  pub part_served : (plan rest : Plan) (old new : S) (e : AllocError) (held : Jobs) → Reaches Step plan old rest new → Served Step plan old (Err e) held new
-  part_served plan rest old new e held far = (rest, far)
 
   by_plan : (old new : S) (call : Call) (next : Answer → Plan) (answer : Answer) (rest : Plan) → Step old call answer new → Some (next answer) ≡ Some rest → Reaches Step (asks call next) old rest new
   by_plan old new call next answer rest step is =
@@ -175,20 +168,6 @@ module _ {S : Type 0} (Step : S → Call → Answer → S → Type 0) where
 
   pub blank_said : (line : List ℕ) (old_jobs jobs : Jobs) (old new : S) (held : List ℕ) → is_blank line ≡ true → jobs ≡ old_jobs → new ≡ old → LineSaid Step line old_jobs old held (Ok tt) jobs new held
   blank_said line old_jobs jobs old new held blank same is = ([], [], rw blank (refl, refl, same), is, sym (append-nil held))
-
-  pub reply_said : (line : List ℕ) (old_jobs jobs : Jobs) (old new : S) (old_held held text : List ℕ) (reply : Data) → is_blank line ≡ false
-      → Reaches Step (plan_of old_jobs (request_of line)) old (says reply jobs) new → text ≡ reply_line reply → held ≡ old_held ++ text → LineSaid Step line old_jobs old old_held (Ok tt) jobs new held
-  reply_said line old_jobs jobs old new old_held held text reply full far is written =
-      (far.0, text, rw full (reply, far.1, is), far.2, written)
-
-  pub reply_cut : (line : List ℕ) (old_jobs jobs : Jobs) (old new : S) (old_held held text : List ℕ) (reply : Data) (n : ℕ)
-      → Reaches Step (plan_of old_jobs (request_of line)) old (says reply jobs) new → text ≡ reply_line reply → held ≡ old_held ++ list.take n text → LineSaid Step line old_jobs old old_held (Err end.WriteFailed) jobs new held
-  reply_cut line old_jobs jobs old new old_held held text reply n far is written =
-      (far.0, list.take n text, says reply jobs, far.1, far.2, written, (reply, jobs, n, refl, ap (list.take n) is))
-
-  pub memory_said : (line : List ℕ) (old_jobs jobs : Jobs) (old new : S) (held : List ℕ) (rest : Plan)
-      → Reaches Step (plan_of old_jobs (request_of line)) old rest new → LineSaid Step line old_jobs old held (Err end.Memory) jobs new held
-  memory_said line old_jobs jobs old new held rest far = (far.0, [], rest, far.1, far.2, sym (append-nil held), refl)
 
 -- a run on a lent workbench
 pub Runs-solo : (old new : Solo) (pairs : List Pair) → Runs SoloStep old pairs new → Runs (IsStep old.caller) old.bench.now pairs new.bench.now × (new.bench.ghost_name ≡ old.bench.ghost_name)

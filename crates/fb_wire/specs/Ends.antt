@@ -1,34 +1,33 @@
 -- How a run ends, and what it has said and done by then.
-use Rattle.std.specs.Prelude.{◌≡◌, ◌<◌, ℕ, List, [], ◌∷◌, ◌++◌, length, take}
+use Rattle.std.specs.Prelude.{◌≡◌, ℕ, List, [], ◌∷◌, ◌++◌, take}
 use Rattle.serde_json.specs.Data.{Data}
-use Rattle.fb_wire.specs.Lines.{lines_of}
+use Rattle.fb_wire.specs.Lines.{Fits, IsTooLong, lines_of}
 use Rattle.fb_wire.specs.Replies.{reply_line}
-use Rattle.fb_wire.specs.Requests.{request_of}
-use Rattle.fb_wire.specs.Talk.{Jobs, Pair, Plan, says, Leads, plan_of, Talk}
+use Rattle.fb_wire.specs.Talk.{Jobs, LinePart, Pair, Plan, says, Talk}
 use Rattle.fb_wire.specs.declared.end.RunEnd.{RunEnd}
 use Rattle.fb_wire.specs.declared.end.RunEnd.TheVariants.{End, LineTooLong, ReadFailed, WriteFailed, TurnsOver, Memory}
 
--- every line was answered, the last one too
+-- every line was answered, the last one too; so none is too long
 abbrev pub AnsweredAll : List ℕ → List Pair → List ℕ → Type 0
 AnsweredAll bytes pairs out = (after : Jobs) × Talk (lines_of bytes) [] pairs out after
 
--- every line that has its line feed was answered
+-- every line that has its line feed was answered, and what has come of the next one is not too long
 abbrev pub AnsweredEnded : List ℕ → List Pair → List ℕ → Type 0
 AnsweredEnded bytes pairs out =
-    (lines : List (List ℕ)) × (rest : List ℕ) × (after : Jobs) × (lines_of bytes ≡ lines ++ rest ∷ []) × Talk lines [] pairs out after
+    (lines : List (List ℕ)) × (rest : List ℕ) × (after : Jobs) × (lines_of bytes ≡ lines ++ rest ∷ []) × Fits rest × Talk lines [] pairs out after
 
--- every line before one that is too long was answered
+-- every line before the first one that is too long was answered
 abbrev pub AnsweredBefore : List ℕ → List Pair → List ℕ → Type 0
 AnsweredBefore bytes pairs out =
     (lines more : List (List ℕ)) × (long : List ℕ) × (after : Jobs)
-    × (lines_of bytes ≡ lines ++ long ∷ more) × (1048576 < length long) × Talk lines [] pairs out after
+    × (lines_of bytes ≡ lines ++ long ∷ more) × IsTooLong long × Talk lines [] pairs out after
 
--- Some lines were answered whole. Of the next one some calls were made, and `part` was written.
+-- Some lines were answered whole. Of the next one, which is not too long, some calls were made, and `part` was written.
 abbrev pub AnsweredPart : (Plan → List ℕ → Type 0) → List ℕ → List Pair → List ℕ → Type 0
 AnsweredPart IsPart bytes pairs out =
-    (lines more : List (List ℕ)) × (line : List ℕ) × (first begun : List Pair) × (said part : List ℕ) × (held : Jobs) × (rest : Plan)
-    × (lines_of bytes ≡ lines ++ line ∷ more) × (pairs ≡ first ++ begun) × (out ≡ said ++ part)
-    × Talk lines [] first said held × Leads (plan_of held (request_of line)) begun rest × IsPart rest part
+    (lines more : List (List ℕ)) × (line : List ℕ) × (first begun : List Pair) × (said part : List ℕ) × (held : Jobs)
+    × (lines_of bytes ≡ lines ++ line ∷ more) × Fits line × (pairs ≡ first ++ begun) × (out ≡ said ++ part)
+    × Talk lines [] first said held × LinePart IsPart line held begun part
 
 -- a front of the reply's line
 abbrev pub IsFrontOfReply : Plan → List ℕ → Type 0
@@ -45,3 +44,9 @@ Stands TurnsOver bytes pairs out = AnsweredEnded bytes pairs out
 Stands LineTooLong bytes pairs out = AnsweredBefore bytes pairs out
 Stands WriteFailed bytes pairs out = AnsweredPart IsFrontOfReply bytes pairs out
 Stands Memory bytes pairs out = AnsweredPart IsNothing bytes pairs out
+
+-- the ends that come between two lines: each line that was begun was answered whole
+abbrev pub IsBetweenLines : RunEnd → Type 0
+IsBetweenLines WriteFailed = ⊥
+IsBetweenLines Memory = ⊥
+IsBetweenLines _ = Unit {0}

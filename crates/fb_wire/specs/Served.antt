@@ -1,5 +1,5 @@
 -- For private clauses: how far a plan has come on a desk.
-use Rattle.std.specs.Prelude.{◌<◌, [], ◌∷◌, ◌++◌, true, false, ⊤, Vec, MatchResult, ◌≡◌, ℕ, ◌+◌, List, length, option_map, Option, Some, None, Result, Ok, Err}
+use Rattle.std.specs.Prelude.{[], ◌∷◌, ◌++◌, true, false, ⊤, Vec, MatchResult, ◌≡◌, ℕ, ◌+◌, List, length, option_map, Option, Some, None, Result, Ok, Err}
 use Rattle.std.specs.declared.alloc.AllocError.{AllocError}
 use Rattle.serde_json.specs.Data.{Data}
 use Rattle.fb_bench.specs.Machine.{Call, ToTake, OfTake, Reply as MachineReply}
@@ -12,7 +12,7 @@ use Rattle.fb_library.specs.Changes.{edit_of, edits_of}
 use Rattle.fb_library.specs.declared.change.Change.{Change}
 use Rattle.fb_wire.specs.declared.change.ChangeFault.{ChangeFault}
 use Rattle.fb_wire.specs.declared.change.ChangeFault.TheVariants as fault
-use Rattle.fb_wire.specs.Lines.{lines_of, is_blank}
+use Rattle.fb_wire.specs.Lines.{Fits, IsTooLong, lines_of, is_blank}
 use Rattle.fb_wire.specs.Requests.{request_of}
 use Rattle.fb_wire.specs.Ends.{IsFrontOfReply, IsNothing, Stands}
 use Rattle.fb_wire.specs.declared.end.RunEnd.{RunEnd}
@@ -77,7 +77,8 @@ abbrev pub LineServed : {S : Type 0} → (S → Call → Answer → S → Type 0
 LineServed Step line old_jobs old (Ok None) jobs new = (is_blank line ≡ true) × (jobs ≡ old_jobs) × (new ≡ old)
 LineServed Step line old_jobs old (Ok (Some out)) jobs new =
     (is_blank line ≡ false) × (reply : Data) × Reaches Step (plan_of old_jobs (request_of line)) old (says reply jobs) new × (out.items ≡ reply_line reply)
-LineServed Step line old_jobs old (Err e) jobs new = (rest : Plan) × Reaches Step (plan_of old_jobs (request_of line)) old rest new
+LineServed Step line old_jobs old (Err e) jobs new =
+    (is_blank line ≡ false) × (rest : Plan) × Reaches Step (plan_of old_jobs (request_of line)) old rest new
 
 -- what of a reply's line was written where the run stops
 abbrev pub IsPartAt : RunEnd → Plan → List ℕ → Type 0
@@ -89,28 +90,29 @@ abbrev pub LineSaid : {S : Type 0} → (S → Call → Answer → S → Type 0) 
 LineSaid Step line old_jobs old old_held (Ok u) jobs new held =
     (pairs : List Pair) × (out : List ℕ) × LineTalk line old_jobs pairs out jobs × Runs Step old pairs new × (held ≡ old_held ++ out)
 LineSaid Step line old_jobs old old_held (Err stop) jobs new held =
-    (pairs : List Pair) × (part : List ℕ) × (rest : Plan) × Leads (plan_of old_jobs (request_of line)) pairs rest × Runs Step old pairs new × (held ≡ old_held ++ part) × IsPartAt stop rest part
+    (pairs : List Pair) × (part : List ℕ) × (rest : Plan) × (is_blank line ≡ false) × Leads (plan_of old_jobs (request_of line)) pairs rest
+    × Runs Step old pairs new × (held ≡ old_held ++ part) × IsPartAt stop rest part
 
 -- ---- bytes
 
 -- all lines that have their line feed were answered, and this has come of the next one
 abbrev pub Standing : {S : Type 0} → (S → Call → Answer → S → Type 0) → S → List ℕ → List ℕ → Jobs → List ℕ → S → Type 0
 Standing Step start given partial jobs out new =
-    (lines : List (List ℕ)) × (pairs : List Pair) × (lines_of given ≡ lines ++ partial ∷ []) × Talk lines [] pairs out jobs × Runs Step start pairs new
+    (lines : List (List ℕ)) × (pairs : List Pair) × (lines_of given ≡ lines ++ partial ∷ []) × Fits partial × Talk lines [] pairs out jobs × Runs Step start pairs new
 
--- A piece of the bytes was taken, whatever came before it; or the run stops in it, whatever comes behind it.
-abbrev pub PieceTaken : {S : Type 0} → (S → Call → Answer → S → Type 0) → S → List ℕ → Jobs → List ℕ → List ℕ → Result ⊤ RunEnd → S → List ℕ → Jobs → List ℕ → Type 0
-PieceTaken {S} Step old old_line old_jobs old_held piece result new line jobs held =
+-- A piece of the bytes was taken, whatever came before it; or the run stops in it, with these bytes behind it.
+abbrev pub PieceTaken : {S : Type 0} → (S → Call → Answer → S → Type 0) → S → List ℕ → Jobs → List ℕ → List ℕ → List ℕ → Result ⊤ RunEnd → S → List ℕ → Jobs → List ℕ → Type 0
+PieceTaken {S} Step old old_line old_jobs old_held piece behind result new line jobs held =
     (start : S) (given out : List ℕ) → Standing Step start given old_line old_jobs out old →
     MatchResult result
     (λ _. (more : List ℕ) × (held ≡ old_held ++ more) × Standing Step start (given ++ piece) line jobs (out ++ more) new)
-    (λ stop. (rest : List ℕ) → (more : List ℕ) × (pairs : List Pair) × (held ≡ old_held ++ more) × Runs Step start pairs new × Stands stop (given ++ (piece ++ rest)) pairs (out ++ more))
+    (λ stop. (more : List ℕ) × (pairs : List Pair) × (held ≡ old_held ++ more) × Runs Step start pairs new × Stands stop (given ++ (piece ++ behind)) pairs (out ++ more))
 
--- the line has the bytes at its end, unless it is too long then or memory ran out
+-- the line has the bytes at its end, unless it would be too long or memory ran out
 abbrev pub Extends : List ℕ → List ℕ → Result ⊤ RunEnd → List ℕ → Type 0
-Extends old bytes (Ok u) new = (new ≡ old ++ bytes)
-Extends old bytes (Err end.LineTooLong) new = 1048576 < length (old ++ bytes)
-Extends old bytes (Err end.Memory) new = Unit {0}
+Extends old bytes (Ok u) new = (new ≡ old ++ bytes) × Fits new
+Extends old bytes (Err end.LineTooLong) new = IsTooLong (old ++ bytes)
+Extends old bytes (Err end.Memory) new = Fits (old ++ bytes)
 Extends old bytes (Err _) new = ⊥
 
 -- the ends that may come inside the bytes

@@ -8,7 +8,7 @@ use Rattle.fb_jobs.specs.Reads.{Order}
 use Rattle.fb_bench.specs.Machine.{Call, ToCommit, ToTake, ToDeliver, ToGiveBack, ToAsk, OfTake, OfDeliver}
 use Rattle.fb_bench.specs.Calls.{Answer, Replied, FullHistory, BehindHistory}
 use Rattle.fb_bench.specs.declared.answers.Delivered.TheVariants.{Accepted}
-use Rattle.fb_wire.specs.Lines.{is_blank}
+use Rattle.fb_wire.specs.Lines.{Fits, is_blank}
 use Rattle.fb_wire.specs.Replies.{refused, said_to, work_done, work_refused, reply_line}
 use Rattle.fb_wire.specs.Requests as asked
 use Rattle.fb_wire.specs.Requests.{Request, Change, puts, removes, request_of}
@@ -134,12 +134,18 @@ LineTalk line held pairs out after =
     MatchBool (is_blank line) ((pairs ≡ []) × (out ≡ []) × (after ≡ held))
     ((reply : Data) × Leads (plan_of held (request_of line)) pairs (says reply after) × (out ≡ reply_line reply))
 
--- the lines, one after another
+-- some of the calls that one line asks, and the part of its reply that was written; a blank line asks and is told nothing
+abbrev pub LinePart : (Plan → List ℕ → Type 0) → List ℕ → Jobs → List Pair → List ℕ → Type 0
+LinePart IsPart line held begun part =
+    MatchBool (is_blank line) ((begun ≡ []) × (part ≡ []))
+    ((rest : Plan) × Leads (plan_of held (request_of line)) begun rest × IsPart rest part)
+
+-- the lines, one after another; none of them is too long
 abbrev pub Talk : List (List ℕ) → Jobs → List Pair → List ℕ → Jobs → Type 0
 Talk [] held pairs out after = (pairs ≡ []) × (out ≡ []) × (after ≡ held)
 Talk (line ∷ lines) held pairs out after =
     (first rest : List Pair) × (said more : List ℕ) × (mid : Jobs) × (pairs ≡ first ++ rest) × (out ≡ said ++ more)
-    × LineTalk line held first said mid × Talk lines mid rest more after
+    × Fits line × LineTalk line held first said mid × Talk lines mid rest more after
 
 -- from the first state to the second by these calls with these answers
 abbrev pub Runs : {S : Type 0} → (S → Call → Answer → S → Type 0) → S → List Pair → S → Type 0

@@ -2,13 +2,14 @@
 ghost use Rattle.std.specs.Prelude.{◌≡◌, ℕ, List};
 ghost use Rattle.fb_bench.specs.Solo.{IsStep};
 ghost use Rattle.fb_bench.specs.Story.{Story};
-ghost use Rattle.fb_wire.specs.Ends.{AnsweredAll};
+ghost use Rattle.fb_wire.specs.Ends.{AnsweredAll, IsBetweenLines, Stands};
 ghost use Rattle.fb_wire.specs.Talk.{Pair, Runs, answers_of};
+ghost use Rattle.fb_wire.specs.declared.end.RunEnd.{RunEnd};
 
-/// The bytes and the answers decide which calls are made and what is written.
+/// The bytes and the answers decide which calls are made and what is written, at each end that comes between two lines.
 pub fn one_talk()
-    ensures { (bytes : List ℕ) (pairs others : List Pair) (out written : List ℕ)
-        → AnsweredAll bytes pairs out → AnsweredAll bytes others written
+    ensures { (stop : RunEnd) (bytes : List ℕ) (pairs others : List Pair) (out written : List ℕ)
+        → IsBetweenLines stop → Stands stop bytes pairs out → Stands stop bytes others written
         → answers_of pairs ≡ answers_of others → (pairs ≡ others) × (out ≡ written) }
 {}
 

@@ -1,5 +1,5 @@
 // Bytes as they come, and the lines in them.
-ghost use Rattle.std.specs.Prelude.{◌≡◌, ◌↔◌, ◌≤◌, ◌<◌, ◌+◌, ◌==◌, ◌∷◌, [], ◌++◌, length, take, IsTrue, false, MatchOption, MatchResult, IfErr};
+ghost use Rattle.std.specs.Prelude.{◌≡◌, ◌↔◌, ◌≤◌, ◌<◌, ◌+◌, ◌==◌, ℕ, List, ◌∷◌, [], ◌++◌, length, take, IsTrue, false, MatchOption, MatchResult, IfErr};
 ghost use Rattle.fb_wire.specs.Lines.{IsLine};
 ghost use Rattle.fb_wire.specs.Served.{PieceTaken, Extends, StopsInside};
 
@@ -52,7 +52,8 @@ fn end_line<D: Desk, S: Sink>(
 ) -> Result<(), RunEnd>
     requires open { S.has_failed writer.old ≡ false }
     requires line { IsLine front.now }
-    ensures taken { PieceTaken D.step desk.old line.old.items held.old.items (S.held writer.old) (front.now ++ 10 ∷ []) result desk.new line.new.items held.new.items (S.held writer.new) }
+    // whatever comes behind them
+    ensures taken { (behind : List ℕ) → PieceTaken D.step desk.old line.old.items held.old.items (S.held writer.old) (front.now ++ 10 ∷ []) behind result desk.new line.new.items held.new.items (S.held writer.new) }
     ensures failed { IsTrue (S.has_failed writer.new) ↔ (result ≡ Err RunEnd.WriteFailed) }
     ensures inside { IfErr result StopsInside }
 {
@@ -79,7 +80,7 @@ pub(crate) fn take_piece<D: Desk, S: Sink>(
     piece: &[u8],
 ) -> Result<(), RunEnd>
     requires { S.has_failed writer.old ≡ false }
-    ensures taken { PieceTaken D.step desk.old line.old.items held.old.items (S.held writer.old) piece.now result desk.new line.new.items held.new.items (S.held writer.new) }
+    ensures taken { PieceTaken D.step desk.old line.old.items held.old.items (S.held writer.old) piece.now [] result desk.new line.new.items held.new.items (S.held writer.new) }
     ensures failed { IsTrue (S.has_failed writer.new) ↔ (result ≡ Err RunEnd.WriteFailed) }
     ensures inside { IfErr result StopsInside }
 {

@@ -3,6 +3,7 @@ ghost use Rattle.std.specs.Prelude.{◌≡◌, ◌↔◌, ◌≤◌, ◌+◌, �
 ghost use Rattle.std.specs.Io.KnownBytes.{Consumes, IsAtEnd};
 ghost use Rattle.fb_bench.specs.Solo.{IsStep};
 ghost use Rattle.fb_wire.specs.Ends.{Stands};
+ghost use Rattle.fb_wire.specs.Script.{SaysBy};
 ghost use Rattle.fb_wire.specs.Talk.{Pair, Runs};
 
 use crate::end::RunEnd;
@@ -76,7 +77,8 @@ fn run_solo<F: Feed, S: Sink>(
         × Consumes (F.left reader.old) (F.left reader.new) bytes
         × Runs (IsStep solo.old.caller) solo.old.bench.now pairs solo.new.bench.now
         × (S.held writer.new ≡ S.held writer.old ++ out)
-        × Stands result bytes pairs out }
+        × Stands result bytes pairs out
+        × SaysBy result solo.old.caller solo.old.bench.now bytes out solo.new.bench.now }
     ensures same_reference { solo.new.bench.ghost_name ≡ solo.old.bench.ghost_name }
     ensures whole { result ≡ RunEnd.End → IsAtEnd (F.left reader.new) }
     ensures turns { F.reads reader.new ≤ F.reads reader.old + turns }
@@ -98,13 +100,14 @@ pub fn run_script<F: Feed, S: Sink>(
 ) -> RunEnd
     requires reader { F.has_failed reader.old ≡ false }
     requires writer { S.has_failed writer.old ≡ false }
-    // Each answer is the machine's, from the state before on.
+    // Each answer is the machine's, from the state before on: what is written is the script's output, or a front of it.
     ensures script { (bytes : List ℕ) × (pairs : List Pair) × (out : List ℕ)
         × (F.given reader.new ≡ F.given reader.old ++ bytes)
         × Consumes (F.left reader.old) (F.left reader.new) bytes
         × Runs (IsStep caller) bench.old pairs bench.new
         × (S.held writer.new ≡ S.held writer.old ++ out)
-        × Stands result bytes pairs out }
+        × Stands result bytes pairs out
+        × SaysBy result caller bench.old bytes out bench.new }
     ensures whole { result ≡ RunEnd.End → IsAtEnd (F.left reader.new) }
     ensures turns { F.reads reader.new ≤ F.reads reader.old + turns }
     ensures all_turns { result ≡ RunEnd.TurnsOver → F.reads reader.new ≡ F.reads reader.old + turns }

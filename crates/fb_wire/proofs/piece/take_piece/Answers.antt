@@ -10,15 +10,15 @@ returns-then-len-rest-clause-taken g c =
     let whole = rw (c.if-len-rest.true, take-length) at c.line_len-len.ensures.line in
     let part = part_extends g.D.Desk.step c.loop-at.desk c.loop-at.line.items c.extend_line.new.line.items (take (length c.args.piece.now - c.loop-at.at) (drop c.loop-at.at c.args.piece.now)) c.loop-at.held.items (g.S.Sink.held c.loop-at.writer) c.extend_line.result whole c.extend_line.ensures in
     let both = pieces_come g.D.Desk.step c.args.desk.now c.loop-at.desk c.loop-at.desk c.args.line.now.items c.loop-at.line.items c.extend_line.new.line.items c.args.held.now.items c.loop-at.held.items c.loop-at.held.items
-    (g.S.Sink.held c.args.writer.now) (g.S.Sink.held c.loop-at.writer) (g.S.Sink.held c.loop-at.writer) (take c.loop-at.at c.args.piece.now) (take (length c.args.piece.now - c.loop-at.at) (drop c.loop-at.at c.args.piece.now)) c.extend_line.result c.loop-at.invariant.2 part in
+    (g.S.Sink.held c.args.writer.now) (g.S.Sink.held c.loop-at.writer) (g.S.Sink.held c.loop-at.writer) (take c.loop-at.at c.args.piece.now) (take (length c.args.piece.now - c.loop-at.at) (drop c.loop-at.at c.args.piece.now)) [] c.extend_line.result c.loop-at.invariant.2 part in
     rw (taken_all c.args.piece.now c.loop-at.at) at both
 
 pub loop-at-preserved : goal.loop-at-preserved
 loop-at-preserved g c =
     let short : c.line_len-len.result < length (take (length c.args.piece.now - c.loop-at.at) (drop c.loop-at.at c.args.piece.now)) = omega (arith, c.line_len-len.ensures.within, c.if-len-rest.false) in
-    let next = rw c.in-Ok.is at c.end_line.ensures.taken in
+    let next = rw c.in-Ok.is at (c.end_line.ensures.taken []) in
     let both = pieces_come g.D.Desk.step c.args.desk.now c.loop-at.desk c.end_line.new.desk c.args.line.now.items c.loop-at.line.items c.end_line.new.line.items c.args.held.now.items c.loop-at.held.items c.end_line.new.held.items
-    (g.S.Sink.held c.args.writer.now) (g.S.Sink.held c.loop-at.writer) (g.S.Sink.held c.end_line.new.writer) (take c.loop-at.at c.args.piece.now) (take c.line_len-len.result (take (length c.args.piece.now - c.loop-at.at) (drop c.loop-at.at c.args.piece.now)) ++ 10 ∷ []) (Ok tt) c.loop-at.invariant.2 next in (
+    (g.S.Sink.held c.args.writer.now) (g.S.Sink.held c.loop-at.writer) (g.S.Sink.held c.end_line.new.writer) (take c.loop-at.at c.args.piece.now) (take c.line_len-len.result (take (length c.args.piece.now - c.loop-at.at) (drop c.loop-at.at c.args.piece.now)) ++ 10 ∷ []) [] (Ok tt) c.loop-at.invariant.2 next in (
       grind (arith, common_steps, c.line_len-len.ensures.within, c.if-len-rest.false),
       not_failed _ c.end_line.result c.end_line.ensures.failed c.in-Ok.is,
       rw (taken_on c.args.piece.now c.loop-at.at c.line_len-len.result (c.line_len-len.ensures.end short)) at both,
@@ -27,12 +27,13 @@ loop-at-preserved g c =
 pub returns-in-Err-clause-taken : goal.returns-in-Err-clause-taken
 returns-in-Err-clause-taken g c =
     let short : c.line_len-len.result < length (take (length c.args.piece.now - c.loop-at.at) (drop c.loop-at.at c.args.piece.now)) = omega (arith, c.line_len-len.ensures.within, c.if-len-rest.false) in
-    let next = rw c.in-Err.is at c.end_line.ensures.taken in
+    let behind = drop (c.loop-at.at + (c.line_len-len.result + 1)) c.args.piece.now in
+    let next = rw c.in-Err.is at (c.end_line.ensures.taken behind) in
     let both = pieces_come g.D.Desk.step c.args.desk.now c.loop-at.desk c.end_line.new.desk c.args.line.now.items c.loop-at.line.items c.end_line.new.line.items c.args.held.now.items c.loop-at.held.items c.end_line.new.held.items
-    (g.S.Sink.held c.args.writer.now) (g.S.Sink.held c.loop-at.writer) (g.S.Sink.held c.end_line.new.writer) (take c.loop-at.at c.args.piece.now) (take c.line_len-len.result (take (length c.args.piece.now - c.loop-at.at) (drop c.loop-at.at c.args.piece.now)) ++ 10 ∷ []) (Err c.in-Err.end) c.loop-at.invariant.2 next in
+    (g.S.Sink.held c.args.writer.now) (g.S.Sink.held c.loop-at.writer) (g.S.Sink.held c.end_line.new.writer) (take c.loop-at.at c.args.piece.now) (take c.line_len-len.result (take (length c.args.piece.now - c.loop-at.at) (drop c.loop-at.at c.args.piece.now)) ++ 10 ∷ []) behind (Err c.in-Err.end) c.loop-at.invariant.2 next in
     let front = rw (taken_on c.args.piece.now c.loop-at.at c.line_len-len.result (c.line_len-len.ensures.end short)) at both in
     let all = stops_sooner g.D.Desk.step c.args.desk.now c.end_line.new.desk c.args.line.now.items c.end_line.new.line.items c.args.held.now.items c.end_line.new.held.items (g.S.Sink.held c.args.writer.now) (g.S.Sink.held c.end_line.new.writer)
-    (take (c.loop-at.at + (c.line_len-len.result + 1)) c.args.piece.now) (drop (c.loop-at.at + (c.line_len-len.result + 1)) c.args.piece.now) c.in-Err.end front in
+    (take (c.loop-at.at + (c.line_len-len.result + 1)) c.args.piece.now) behind c.in-Err.end front in
     rw (take-append-drop (c.loop-at.at + (c.line_len-len.result + 1)) c.args.piece.now) at all
 
 pub returns-clause-taken : goal.returns-clause-taken

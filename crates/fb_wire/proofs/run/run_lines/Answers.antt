@@ -43,7 +43,7 @@ returns-in-Err-take_piece-clause-talk g c =
     let piece = take c.in-Ok.count c.read.new.buffer in
     let next = rw c.in-Err-take_piece.is at c.take_piece.ensures.taken in
     let both = pieces_come g.D.Desk.step c.args.desk.now c.loop-turn.desk c.take_piece.new.desk [] c.loop-turn.line.items c.take_piece.new.line.items [] c.loop-turn.held.items c.take_piece.new.held.items
-    (g.S.Sink.held c.args.writer.now) (g.S.Sink.held c.loop-turn.writer) (g.S.Sink.held c.take_piece.new.writer) inv.3 piece (Err c.in-Err-take_piece.end) inv.6 next in
+    (g.S.Sink.held c.args.writer.now) (g.S.Sink.held c.loop-turn.writer) (g.S.Sink.held c.take_piece.new.writer) inv.3 piece [] (Err c.in-Err-take_piece.end) inv.6 next in
     let ran = run_stops g.D.Desk.step c.args.desk.now c.take_piece.new.desk c.take_piece.new.line.items c.take_piece.new.held.items (g.S.Sink.held c.args.writer.now) (g.S.Sink.held c.take_piece.new.writer) (inv.3 ++ piece) c.in-Err-take_piece.end both in
     let left = Consumes-append (g.F.Feed.left c.args.reader.now) (g.F.Feed.left c.loop-turn.reader) (g.F.Feed.left c.read.new.self) inv.3 piece inv.5 c.in-Ok.ensures.left in
     (inv.3 ++ piece, ran.0, ran.1, c.in-Ok.ensures.given ∙ ap (λ xs. xs ++ piece) inv.4 ∙ append_assoc _ inv.3 piece, left, ran.2, ran.3, ran.4)
@@ -54,7 +54,7 @@ loop-turn-preserved g c =
     let piece = take c.in-Ok.count c.read.new.buffer in
     let next = rw c.in-Ok-take_piece.is at c.take_piece.ensures.taken in
     let both = pieces_come g.D.Desk.step c.args.desk.now c.loop-turn.desk c.take_piece.new.desk [] c.loop-turn.line.items c.take_piece.new.line.items [] c.loop-turn.held.items c.take_piece.new.held.items
-    (g.S.Sink.held c.args.writer.now) (g.S.Sink.held c.loop-turn.writer) (g.S.Sink.held c.take_piece.new.writer) inv.3 piece (Ok tt) inv.6 next in
+    (g.S.Sink.held c.args.writer.now) (g.S.Sink.held c.loop-turn.writer) (g.S.Sink.held c.take_piece.new.writer) inv.3 piece [] (Ok tt) inv.6 next in
     let left = Consumes-append (g.F.Feed.left c.args.reader.now) (g.F.Feed.left c.loop-turn.reader) (g.F.Feed.left c.read.new.self) inv.3 piece inv.5 c.in-Ok.ensures.left in (
       c.in-Ok.ensures.failed,
       not_failed _ c.take_piece.result c.take_piece.ensures.failed c.in-Ok-take_piece.is,

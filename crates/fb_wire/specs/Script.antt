@@ -1,0 +1,60 @@
+-- What a workbench says to the bytes of a script: a function of the two.
+use Rattle.std.specs.Prelude.{◌≡◌, ℕ, List, [], ◌∷◌, ◌++◌, length, nat_lt, if◌then◌else◌}
+use Rattle.serde_json.specs.Data.{Data}
+use Rattle.fb_bench.specs.Machine.{Call, reply}
+use Rattle.fb_bench.specs.Story.{Story, state_of, recorded}
+use Rattle.fb_bench.specs.Calls.{Answer, Replied, FullHistory}
+use Rattle.fb_wire.specs.Lines.{is_blank, lines_of}
+use Rattle.fb_wire.specs.Replies.{reply_line}
+use Rattle.fb_wire.specs.Requests.{request_of}
+use Rattle.fb_wire.specs.Talk.{Jobs, Plan, says, asks, plan_of}
+use Rattle.fb_wire.specs.declared.end.RunEnd.{RunEnd}
+use Rattle.fb_wire.specs.declared.end.RunEnd.TheVariants.{End}
+
+-- the answer to a call: the machine's, where the history has room
+abbrev pub answer_from : Story → Call → Answer
+answer_from story call = if nat_lt (length story.log.records) story.log.limit then Replied (reply (state_of story) call) else FullHistory
+
+-- the workbench after it: the call is recorded, or nothing has changed
+abbrev pub story_after : ℕ → Story → Call → Story
+story_after caller story call = if nat_lt (length story.log.records) story.log.limit then recorded story caller call else story
+
+-- what a line has come to: its reply, the jobs that are held and the workbench
+pub record Told : Type 0 where
+  pub reply : Data
+  pub held : Jobs
+  pub story : Story
+
+-- the calls of a plan, each answered by the workbench
+unfoldable pub told : ℕ → Plan → Story → Told
+told caller (says reply held) story = record { reply = reply; held = held; story = story }
+told caller (asks call next) story = told caller (next (answer_from story call)) (story_after caller story call)
+
+-- what is written, and the workbench then
+pub record Script : Type 0 where
+  pub out : List ℕ
+  pub story : Story
+
+-- a reply, and what is said to the lines behind its line
+abbrev pub reply_before : Told → (Jobs → Story → Script) → Script
+reply_before told more = let rest = more told.held told.story in record { out = reply_line told.reply ++ rest.out; story = rest.story }
+
+-- a reply to each line that is not blank, in order
+abbrev pub script_from : ℕ → List (List ℕ) → Jobs → Story → Script
+script_from caller [] held story = record { out = []; story = story }
+script_from caller (line ∷ lines) held story =
+    if is_blank line then script_from caller lines held story
+    else reply_before (told caller (plan_of held (request_of line)) story) (script_from caller lines)
+
+-- all that is said to the bytes, and the workbench then
+unfoldable pub script : ℕ → Story → List ℕ → Script
+script caller story bytes = script_from caller (lines_of bytes) [] story
+
+abbrev pub IsFrontOf : List ℕ → List ℕ → Type 0
+IsFrontOf front all = (rest : List ℕ) × (all ≡ front ++ rest)
+
+-- A front of what the script says was said; at the end of the input all of it, and the workbench is as after it.
+abbrev pub SaysBy : RunEnd → ℕ → Story → List ℕ → List ℕ → Story → Type 0
+SaysBy stop caller story bytes out new =
+    IsFrontOf out (script caller story bytes).out
+    × (stop ≡ End → (out ≡ (script caller story bytes).out) × (new ≡ (script caller story bytes).story))

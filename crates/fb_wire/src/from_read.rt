@@ -1,0 +1,61 @@
+// Std's readers as feeds.
+ghost use Rattle.std.specs.Prelude.{◌≡◌, [], length, false};
+ghost use Rattle.std.specs.List.{concat};
+
+use crate::feed::{Failed, Feed};
+use crate::tape::{Piece, Tape};
+use std::io::Read;
+
+/// A reader as a feed. Every error of a read is a failure.
+#[derive(Drop)]
+pub struct FromRead<R> {
+    inner: R,
+    has_failed: bool,
+    tape: Tape,
+}
+
+impl<R: Read> FromRead<R> {
+    /// The feed of this reader, of which nothing was read yet.
+    pub fn new(inner: R) -> FromRead<R>
+        ensures failed { ⟦<FromRead<R> as Feed>⟧.has_failed result ≡ false }
+        ensures given { ⟦<FromRead<R> as Feed>⟧.given result ≡ [] }
+        ensures left { ⟦<FromRead<R> as Feed>⟧.left result ≡ R.remaining inner }
+        ensures reads { ⟦<FromRead<R> as Feed>⟧.reads result ≡ 0 }
+    {
+        FromRead {
+            inner,
+            has_failed: false,
+            tape: Tape::new(),
+        }
+    }
+}
+
+impl<R: Read> Feed for FromRead<R> {
+    ghost given = { λ f. concat f.tape.pieces };
+
+    ghost left = { λ f. R.remaining f.inner };
+
+    ghost reads = { λ f. length f.tape.pieces };
+
+    ghost has_failed = { λ f. f.has_failed };
+
+    #[tactic(auto, using(crate::proofs::Tapes::tapes))]
+    fn read(&mut self, buffer: &mut [u8]) -> Result<usize, Failed> {
+        match self.inner.read(buffer) {
+            Ok(count) => {
+                let bytes = &buffer[..count];
+                self.tape = self.tape.then(&Piece { bytes });
+                Ok(count)
+            }
+            Err(_) => {
+                self.tape = self.tape.then(&Piece { bytes: &[] });
+                self.has_failed = true;
+                Err(Failed)
+            }
+        }
+    }
+
+    fn failed(&self) -> bool {
+        self.has_failed
+    }
+}

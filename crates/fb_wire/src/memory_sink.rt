@@ -1,0 +1,65 @@
+// A sink in memory, which fails when it is told to.
+ghost use Rattle.std.specs.Prelude.{◌≡◌, ◌≤◌, ◌<◌, [], false};
+
+use crate::feed::{Failed, Sink};
+use std::alloc::Global;
+
+/// What was written, in memory. A write takes at most `piece` bytes, and the one after `good_writes` fails.
+#[derive(Drop)]
+pub struct MemorySink {
+    held: Vec<u8>,
+    piece: usize,
+    good_writes: u64,
+    made: u64,
+    failed: bool,
+    ghost some: { 0 < piece },
+    ghost counted: { made ≤ good_writes },
+}
+
+impl MemorySink {
+    /// A sink that holds nothing yet.
+    pub fn new(alloc: Global, piece: usize, good_writes: u64) -> MemorySink
+        requires { 0 < piece }
+        ensures held { ⟦<MemorySink as Sink>⟧.held result ≡ [] }
+        ensures failed { ⟦<MemorySink as Sink>⟧.has_failed result ≡ false }
+    {
+        MemorySink {
+            held: Vec::new(alloc),
+            piece,
+            good_writes,
+            made: 0,
+            failed: false,
+        }
+    }
+
+    /// What was written.
+    pub fn as_slice(&self) -> &[u8]
+        ensures { result.now ≡ ⟦<MemorySink as Sink>⟧.held self.now }
+    {
+        &self.held
+    }
+}
+
+impl Sink for MemorySink {
+    ghost held = { λ s. s.held.items };
+
+    ghost has_failed = { λ s. s.failed };
+
+    fn write(&mut self, bytes: &[u8]) -> Result<usize, Failed> {
+        let count = self.piece.min(bytes.len());
+        if self.made == self.good_writes || self.held.extend_from_slice(&bytes[..count]).is_err() {
+            self.failed = true;
+            return Err(Failed);
+        }
+        self.made += 1;
+        Ok(count)
+    }
+
+    fn flush(&mut self) -> Result<(), Failed> {
+        Ok(())
+    }
+
+    fn failed(&self) -> bool {
+        self.failed
+    }
+}
