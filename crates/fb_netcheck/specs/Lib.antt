@@ -9,3 +9,4 @@ pub mod Types
 pub mod Connections
 pub mod Parameters
 pub mod Networks
+pub mod Local

@@ -1,8 +1,10 @@
 -- Paths that stand twice.
-use Rattle.std.specs.Prelude.{ℕ, Bool, List, take, map, filter}
+use Rattle.std.specs.Prelude.{ℕ, ◌-◌, Bool, List, length, slice_get, take, map, filter}
 use Rattle.std.specs.BTreeMap.{is_at}
 use Rattle.std.specs.Cmp.Lexicographic.{slice_cmp}
 use Rattle.std.specs.List.{list_any, enumerate_from}
+use Rattle.std.specs.Option.{option_map_or}
+use Rattle.fb_text.specs.declared.name.NameUse.{NameUse}
 use Rattle.fb_text.specs.declared.token.Span.{Span}
 use Rattle.fb_text.specs.Order.{name_cmp}
 use Rattle.fb_iface.specs.declared.code.Code.{Code}
@@ -16,6 +18,16 @@ Path = List (List ℕ)
 pub record PathUse : Type 0 where
   pub names : Path
   pub span : Span
+
+-- the path of these names, from the first through the last
+abbrev pub path_of_names : List NameUse → PathUse
+path_of_names names = record {
+  names = map (λ n. n.name) names;
+  span = record {
+    start = option_map_or (λ n. n.span.start) (slice_get names 0) 0;
+    end = option_map_or (λ n. n.span.end) (slice_get names (length names - 1)) 0;
+  };
+}
 
 -- whether two paths are the same, name by name
 abbrev pub same_path : Path → Path → Bool

@@ -4,7 +4,7 @@ ghost use Rattle.std.specs.Option.{option_and_then, option_copied, option_map};
 ghost use Rattle.fb_iface.specs.Names.{stands_for};
 ghost use Rattle.fb_iface.specs.Ports.{same_side};
 ghost use Rattle.fb_netcheck.specs.Settings.{place_in};
-ghost use Rattle.fb_netcheck.specs.Ends.{adapter_port, data_port, end_span, event_port, holder_of, is_right, last_name, port_in, port_in_role, port_in_section, right_side, target, target_held, target_in, target_of, target_of_instance};
+ghost use Rattle.fb_netcheck.specs.Ends.{adapter_port, data_port, end_span, event_port, holder_of, is_right, last_name, port_in, right_side, target, target_in, target_of, target_of_instance};
 
 use crate::setting::Setting;
 use fb_iface::{DeclaredEvent, DeclaredInstance, DeclaredVariable, Ports};

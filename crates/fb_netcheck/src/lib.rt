@@ -3,6 +3,8 @@
 
 mod connections;
 mod ends;
+mod laws;
+mod mappings;
 mod networks;
 mod parameters;
 mod paths;
@@ -12,6 +14,7 @@ mod sides;
 mod spellings;
 mod types;
 
+pub use laws::net_faults_are_local;
 pub use networks::net_faults;
 pub use paths::{Placed, report_repeated};
 

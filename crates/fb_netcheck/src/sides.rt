@@ -1,5 +1,5 @@
 //! Faults of the ends of connections.
-ghost use Rattle.std.specs.Prelude.{◌≡◌, [], ◌∷◌, ◌++◌, OnOk};
+ghost use Rattle.std.specs.Prelude.{◌≡◌, ◌++◌, OnOk};
 ghost use Rattle.fb_netcheck.specs.Sides.{connection_span, end_faults, fault_of, is_own, is_own_port, pass_through_faults};
 
 use crate::ends::{Holder, Position, Target, is_right_target, span_of};

@@ -1,9 +1,8 @@
 //! The types of what connections join.
 ghost use Rattle.std.specs.Prelude.{◌≡◌, ◌++◌, IfOk, OnOk};
-ghost use Rattle.fb_iface.specs.Class.{class_of_type, is_free};
 ghost use Rattle.fb_netcheck.specs.Spellings.{same_type};
 ghost use Rattle.fb_netcheck.specs.Settings.{place_in};
-ghost use Rattle.fb_netcheck.specs.Types.{flows_agree, home, home_of, same_at_ends, targets_agree, type_faults};
+ghost use Rattle.fb_netcheck.specs.Types.{flows_agree, home, same_at_ends, targets_agree, type_faults};
 
 use crate::ends::{Flow, Position, Target, is_right_target};
 use crate::setting::Setting;
@@ -11,8 +10,8 @@ use crate::sides::fault_at;
 use crate::spellings::is_same_type;
 use fb_iface::{Code, Fault, class_of};
 use fb_library::View;
-use fb_text::{Name, NameUse, same_name};
-use fb_tree::{Connection, End, TypeUse};
+use fb_text::{Name, same_name};
+use fb_tree::{Connection, End};
 use std::alloc::{AllocError, Global};
 
 /// Reports a connection whose ends are of the right sides and of two types.
