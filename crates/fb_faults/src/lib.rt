@@ -9,3 +9,5 @@ pub use laws::faults_are_local;
 
 #[cfg(test)]
 mod tests;
+#[cfg(test)]
+mod texts;
