@@ -1,3 +1,4 @@
+pub mod DemandLemmas
 pub mod LocalLemmas
 pub mod ReferenceLemmas
 pub mod TreeLemmas

@@ -1,5 +1,5 @@
 -- How classes join, and what operators make of them.
-use Rattle.std.specs.Prelude.{Bool, true, false, Option, Some, None, if◌then◌else◌, unwrap_or}
+use Rattle.std.specs.Prelude.{Option, Some, None, unwrap_or}
 use Rattle.std.specs.Option.{option_and_then}
 use Rattle.fb_tree.specs.declared.expression.BinaryOperator.{BinaryOperator}
 use Rattle.fb_tree.specs.declared.expression.BinaryOperator.TheVariants.{Or, Xor, And, Equal, NotEqual, Less, Greater, LessOrEqual, GreaterOrEqual, Add, Subtract, Multiply, Divide, Modulo, Power}

@@ -6,3 +6,4 @@ pub mod References
 pub mod Expressions
 pub mod Statements
 pub mod Charts
+pub mod Demands

@@ -2,7 +2,7 @@
 use Rattle.std.specs.Prelude.{Bool, true, false, List, [], ◌∷◌, if◌then◌else◌}
 use Rattle.fb_text.specs.declared.token.Span.{Span}
 use Rattle.fb_iface.specs.declared.classes.Class.{Class as ValueClass}
-use Rattle.fb_iface.specs.declared.classes.Class.TheVariants.{B, I, W, O, Free, Num, Any}
+use Rattle.fb_iface.specs.declared.classes.Class.TheVariants.{B, I, Free, Num, Any}
 use Rattle.fb_iface.specs.declared.code.Code.TheVariants.{Class}
 use Rattle.fb_iface.specs.declared.fault.Fault.{Fault}
 use Rattle.fb_expr.specs.declared.rules.Place.{Place}

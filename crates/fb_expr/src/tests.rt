@@ -56,7 +56,7 @@ const ADAPTER: &str =
     "ADAPTER AD VAR_INPUT U:BOOL; END_VAR VAR_OUTPUT V:INT; L:ARRAY[0..3] OF WORD; END_VAR EVENT_INPUT E; END_EVENT END_ADAPTER";
 
 const BLOCK: &str =
-    "FUNCTION_BLOCK T VAR_INPUT XI:INT; END_VAR VAR_OUTPUT XO:INT; END_VAR VAR X:INT; B:BOOL; W:WORD; R:REAL; F:ANY; S:STRING[5]; A:ARRAY[0..9] OF INT; C:ARRAY[0..9] OF BOOL; B:INT; END_VAR PLUGS P:AD; N:NONE; K:BAD; M:T2; END_PLUGS SOCKETS Q:AD; Z:T2; END_SOCKETS FBS I:T2; Q:T2; END_FBS EVENT_INPUT EI; END_EVENT";
+    "FUNCTION_BLOCK T VAR_INPUT XI:INT; END_VAR VAR_OUTPUT XO:INT; END_VAR VAR X:INT; B:BOOL; W:WORD; R:REAL; F:ANY; S:STRING[5]; A:ARRAY[0..9] OF INT; C:ARRAY[0..9] OF BOOL; B:INT; END_VAR PLUGS P:AD; N:NONE; K:BAD; M:T2; END_PLUGS SOCKETS Q:AD; Z:T2; END_SOCKETS FBS I:T2; Q:T2; J:T2; END_FBS PLUGS J:AD; END_PLUGS EVENT_INPUT EI; END_EVENT";
 
 static CLASSES: [Class; 7] = [
     Class::B,
@@ -171,8 +171,8 @@ static REFERENCES: [(&str, &str); 24] = [
     ),
     // an instance of a block, and a name that stands for none
     (
-        "X := I.V; Y.V := 1;",
-        "VARIABLE_UNKNOWN I.V; VARIABLE_UNKNOWN Y.V; ",
+        "X := I.V; Y.V := 1; J.V := 1;",
+        "VARIABLE_UNKNOWN I.V; VARIABLE_UNKNOWN Y.V; VARIABLE_UNKNOWN J.V; ",
     ),
     // a variable has no members
     ("X := X.V;", "VARIABLE_UNKNOWN X.V; "),
@@ -311,6 +311,57 @@ fn statements_of_each_form(rt: HostRuntime) -> Result<(), Fail> {
     Ok(())
 }
 
+// What a statement may stand in, without a fault of its own.
+static AROUND: [(&str, &str); 8] = [
+    ("IF B THEN ", " END_IF"),
+    ("IF B THEN ELSIF 1 THEN ", " END_IF"),
+    ("IF B THEN ELSE ", " END_IF"),
+    ("CASE X OF 1: ; 2: ", " END_CASE"),
+    ("CASE X OF 1: ELSE ", " END_CASE"),
+    ("FOR X := 1 TO 2 DO ", " END_FOR"),
+    ("WHILE B DO ", " END_WHILE"),
+    ("REPEAT ", " UNTIL B END_REPEAT"),
+];
+
+fn is_judged_inside(alloc: Global, open: &str, close: &str) -> Result<bool, Fail> {
+    for (body, faults) in &STATEMENTS {
+        let text = format!(in alloc; "{open}{body}{close}")?;
+        let judged = judged_body(alloc, text.as_str())?;
+        if judged.as_str() != *faults {
+            return Ok(false);
+        }
+    }
+    Ok(true)
+}
+
+#[test]
+fn statements_in_each_other(rt: HostRuntime) -> Result<(), Fail> {
+    for (open, close) in &AROUND {
+        assert!(rt; is_judged_inside(rt.alloc(), open, close)?);
+    }
+    Ok(())
+}
+
+fn repeated(alloc: Global, part: &str) -> Result<String, Fail> {
+    let mut text = String::new(alloc);
+    for _ in 0..64 {
+        text.push_str(part)?;
+    }
+    Ok(text)
+}
+
+#[test]
+fn statements_at_the_last_level(rt: HostRuntime) -> Result<(), Fail> {
+    let [open, close] = [
+        repeated(rt.alloc(), "IF B THEN ")?,
+        repeated(rt.alloc(), "END_IF ")?,
+    ];
+    let text = format!(in rt.alloc(); "{open}Y := X + TRUE; {close}")?;
+    let judged = judged_body(rt.alloc(), text.as_str())?;
+    assert_eq!(rt; judged.as_str(), "VARIABLE_UNKNOWN Y; CLASS +; ");
+    Ok(())
+}
+
 // Each unit alone, with its faults.
 static UNITS: [(&str, &str); 6] = [
     // guards
@@ -338,6 +389,7 @@ fn guards_and_algorithms(rt: HostRuntime) -> Result<(), Fail> {
         assert_eq!(rt; judged(rt.alloc(), &[("U", *text)])?.as_str(), *faults);
     }
     expr_faults_are_local();
+    expr_faults_are_unmet();
     Ok(())
 }
 
