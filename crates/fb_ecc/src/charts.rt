@@ -1,8 +1,9 @@
 //! The check of execution control charts (IEC 61499-1, 5.2.1).
 ghost use Rattle.std.specs.Prelude.{◌≡◌, ◌++◌, IfOk, OnOk};
-ghost use Rattle.fb_tree.specs.Tree.{chart_tree};
+ghost use Rattle.fb_tree.specs.Tree.{chart_tree, type_tree};
 ghost use Rattle.fb_iface.specs.Fault.{faults_in_order};
 ghost use Rattle.fb_iface.specs.Kept.{scope_in};
+ghost use Rattle.fb_iface.specs.Scope.{scope_of_type};
 ghost use Rattle.fb_ecc.specs.Charts.{chart_faults, ecc_faults_of};
 
 use crate::algorithms::report_algorithms;
@@ -11,7 +12,7 @@ use crate::states::report_states;
 use fb_iface::{Fault, Scope, sorted_faults};
 use fb_library::{View, tree_by_name};
 use fb_text::Name;
-use fb_tree::{Chart, Decl};
+use fb_tree::{Chart, Decl, TypeDeclaration};
 use std::alloc::{AllocError, Global};
 
 /// The faults of a unit's execution control chart, in order, each once.
@@ -29,10 +30,27 @@ fn reported<V: View>(alloc: Global, view: &V, unit: &Name) -> Result<Vec<Fault>,
 {
     let mut found = Vec::new(alloc);
     if let Some(Decl::Block(declared)) = tree_by_name(view, unit) {
-        let scope = Scope::of_type(alloc, view, declared)?;
-        report_chart(alloc, &scope, &declared.chart, &mut found)?;
+        report_block(alloc, view, declared, &mut found)?;
     }
     Ok(found)
+}
+
+/// Reports the faults of a block type. Where it has no chart, what names stand for isn't read.
+fn report_block<V: View>(
+    alloc: Global,
+    view: &V,
+    declared: &TypeDeclaration,
+    found: &mut Vec<Fault>,
+) -> Result<(), AllocError>
+    ensures { OnOk result (found.new.items ≡ found.old.items
+        ++ chart_faults (scope_of_type (V.sources view.now) (type_tree declared.now)) (chart_tree declared.now.chart)) }
+{
+    let chart = &declared.chart;
+    if chart.states.is_empty() && chart.transitions.is_empty() {
+        return Ok(());
+    }
+    let scope = Scope::of_type(alloc, view, declared)?;
+    report_chart(alloc, &scope, chart, found)
 }
 
 /// Reports the faults of a chart.
