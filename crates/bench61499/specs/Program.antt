@@ -1,10 +1,8 @@
--- What a run of the program has answered.
-use Rattle.std.specs.Prelude.{ℕ, List, []}
+-- What a run of the program has said.
+use Rattle.std.specs.Prelude.{◌≡◌, ◌⊎◌, ℕ, List, []}
 use Rattle.clap.specs.Words.{Text}
-use Rattle.fb_bench.specs.Solo.{IsStep}
 use Rattle.fb_bench.specs.Story.{Story}
-use Rattle.fb_wire.specs.Ends.{AnsweredAll}
-use Rattle.fb_wire.specs.Talk.{Pair, Runs}
+use Rattle.fb_wire.specs.Script.{IsFrontOf, script}
 use Rattle.bench61499.specs.Words.{Asks}
 use Rattle.bench61499.specs.declared.asked.Settings.TheVariants.{Script}
 
@@ -12,11 +10,24 @@ use Rattle.bench61499.specs.declared.asked.Settings.TheVariants.{Script}
 abbrev pub new_bench : ℕ → ℕ → Story
 new_bench units history = record { most_units = units; log = record { limit = history; records = [] } }
 
--- all lines of the bytes were answered by a new workbench of these limits, to caller 1
-abbrev pub BenchAnswers : ℕ → ℕ → List ℕ → List ℕ → Type 0
-BenchAnswers units history bytes out =
-    (pairs : List Pair) × (after : Story) × Runs (IsStep 1) (new_bench units history) pairs after × AnsweredAll bytes pairs out
+-- what a new workbench of these limits says to the bytes, to caller 1
+abbrev pub said_to : ℕ → ℕ → List ℕ → List ℕ
+said_to units history bytes = (script 1 (new_bench units history) bytes).out
 
--- the same by the limits that the words ask for
-abbrev pub ScriptAnswers : List Text → List ℕ → List ℕ → Type 0
-ScriptAnswers words bytes out = (units history : ℕ) × Asks words (Script units history) × BenchAnswers units history bytes out
+-- by status: all of it, or a front of it
+abbrev pub BenchSays : ℕ → ℕ → ℕ → List ℕ → List ℕ → Type 0
+BenchSays units history status bytes out =
+    (status ≡ 0 → out ≡ said_to units history bytes) × (status ≡ 1 → IsFrontOf out (said_to units history bytes))
+
+-- by the limits that the words ask for
+abbrev pub ScriptSays : List Text → ℕ → List ℕ → List ℕ → Type 0
+ScriptSays words status bytes out = (units history : ℕ) × Asks words (Script units history) × BenchSays units history status bytes out
+
+-- nothing was read, and nothing was written
+abbrev pub DoesNothing : List ℕ → List ℕ → Type 0
+DoesNothing bytes out = (bytes ≡ []) × (out ≡ [])
+
+-- Status 0: all was said to the bytes. 1: a front of it, or memory ran out for the words. 2: nothing, by words that ask for nothing.
+abbrev pub HasSaid : List Text → ℕ → List ℕ → List ℕ → Type 0
+HasSaid words status bytes out =
+    (status ≡ 0 → ScriptSays words 0 bytes out) × (status ≡ 1 → ScriptSays words 1 bytes out ⊎ DoesNothing bytes out) × (status ≡ 2 → DoesNothing bytes out)

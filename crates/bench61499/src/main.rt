@@ -6,6 +6,8 @@ mod asked;
 mod fault;
 #[cfg(test)]
 mod library_tests;
+#[cfg(test)]
+mod line_tests;
 mod program;
 #[cfg(test)]
 mod tests;

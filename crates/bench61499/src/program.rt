@@ -1,7 +1,7 @@
 // The program, over the streams that it is given.
-ghost use Rattle.std.specs.Prelude.{◌≡◌, ◌<◌, ◌++◌, ℕ, List, map, false};
+ghost use Rattle.std.specs.Prelude.{◌≡◌, ◌<◌, ◌≤◌, ◌++◌, ℕ, List, map, false};
 ghost use Rattle.std.specs.Io.KnownBytes.{IsAtEnd};
-ghost use Rattle.bench61499.specs.Program.{BenchAnswers, ScriptAnswers};
+ghost use Rattle.bench61499.specs.Program.{BenchSays, HasSaid};
 
 use crate::arguments::settings;
 use crate::asked;
@@ -34,11 +34,12 @@ fn script<F: Feed, S: Sink, E: Write>(
 ) -> u8
     requires reader { F.has_failed reader.old ≡ false }
     requires writer { S.has_failed writer.old ≡ false }
-    ensures { result ≡ 0 → (bytes : List ℕ) × (out : List ℕ)
+    ensures status { result ≤ 1 }
+    ensures said { (bytes : List ℕ) × (out : List ℕ)
         × (F.given reader.new ≡ F.given reader.old ++ bytes)
-        × IsAtEnd (F.left reader.new)
         × (S.held writer.new ≡ S.held writer.old ++ out)
-        × BenchAnswers limits.units limits.history bytes out }
+        × BenchSays limits.units limits.history result bytes out }
+    ensures whole { result ≡ 0 → IsAtEnd (F.left reader.new) }
 {
     let mut bench = Bench::new(alloc, limits);
     let end = run_script(alloc, reader, writer, &mut bench, SCRIPT_CALLER, turns);
@@ -52,7 +53,8 @@ fn script<F: Feed, S: Sink, E: Write>(
 }
 
 fn refuse<E: Write>(error: &clap::Error, errors: &mut E) -> u8
-    ensures { 0 < result }
+    ensures some { 0 < result }
+    ensures status { result ≤ 2 }
 {
     if error.kind() == ErrorKind::OutOfMemory {
         return FAILED;
@@ -72,12 +74,14 @@ pub fn run<F: Feed, S: Sink, E: Write>(
 ) -> u8
     requires reader { F.has_failed reader.old ≡ false }
     requires writer { S.has_failed writer.old ≡ false }
-    // Where the status is 0, the input was read to its end, and its lines were answered.
-    ensures { result ≡ 0 → (bytes : List ℕ) × (out : List ℕ)
+    ensures status { result ≤ 2 }
+    // What was written is all, a front or nothing of what a new workbench says to the bytes that were read.
+    ensures said { (bytes : List ℕ) × (out : List ℕ)
         × (F.given reader.new ≡ F.given reader.old ++ bytes)
-        × IsAtEnd (F.left reader.new)
         × (S.held writer.new ≡ S.held writer.old ++ out)
-        × ScriptAnswers (map (λ word. word.now) words.now) bytes out }
+        × HasSaid (map (λ word. word.now) words.now) result bytes out }
+    // Where the status is 0, the input was read to its end.
+    ensures whole { result ≡ 0 → IsAtEnd (F.left reader.new) }
 {
     match settings(alloc, words) {
         Ok(asked::Settings::Script { units, history }) => match Limits::new(units, history) {

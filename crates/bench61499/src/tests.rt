@@ -62,6 +62,49 @@ pub(crate) fn answers(
     says(alloc, words, input.as_str(), output.as_str())
 }
 
+// What a run over these lines has written, where it failed so.
+pub(crate) fn output_of(
+    alloc: Global,
+    rows: &[(&str, &str)],
+    piece: usize,
+    good_reads: u64,
+    good_writes: u64,
+    said: &str,
+) -> Result<Option<Vec<u8>>, AllocError> {
+    let mut input = String::new(alloc);
+    for (line, _) in rows {
+        input.push_str(line)?;
+        input.push_str("\n")?;
+    }
+    let bytes = input.as_bytes();
+    let found = run_over(
+        alloc,
+        &SCRIPT,
+        bytes,
+        piece,
+        good_reads,
+        good_writes,
+        1_000_000,
+    )?;
+    if found.status == 1 && found.errors.as_slice() == said.as_bytes() {
+        Ok(Some(found.output))
+    } else {
+        Ok(None)
+    }
+}
+
+// Whether a script over good streams writes this, and ends well.
+pub(crate) fn says_bytes(alloc: Global, input: &[u8], output: &str) -> Result<bool, AllocError> {
+    let found = run_over(alloc, &SCRIPT, input, 100, ALWAYS, ALWAYS, 1_000_000)?;
+    Ok(found.status == 0 && found.errors.is_empty() && found.output.as_slice() == output.as_bytes())
+}
+
+// Whether the program reads and writes nothing for these words, and says why.
+pub(crate) fn refuses_words(alloc: Global, words: &[&str]) -> Result<bool, AllocError> {
+    let found = run_over(alloc, words, b"{}\n", 1, ALWAYS, ALWAYS, 1)?;
+    Ok(found.status == 2 && found.output.is_empty() && !found.errors.is_empty())
+}
+
 // Whether a run over good streams writes this, and ends well.
 fn says(alloc: Global, words: &[&str], input: &str, output: &str) -> Result<bool, AllocError> {
     let found = run_over(

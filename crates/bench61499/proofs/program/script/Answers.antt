@@ -1,9 +1,17 @@
-use Rattle.std.proofs.Common.{◌≡◌}
-use Rattle.fb_wire.specs.declared.end.RunEnd.TheVariants.{End}
+use Rattle.std.proofs.Common.{arith}
 use Rattle.bench61499.proofs.program.script.Goals as goal
 
-pub returns-in-None : goal.returns-in-None
-returns-in-None g c = λ zero.
+pub returns-in-None-clause-said : goal.returns-in-None-clause-said
+returns-in-None-clause-said g c =
     let t = c.run_script-end.ensures.script in
-    let end : c.run_script-end.result ≡ End = c.fault_of.ensures.0 c.in-None.is in
-    (t.0, t.2, t.3, c.run_script-end.ensures.whole end, t.6, (t.1, c.run_script-end.new.bench, rw c.new-bench.ensures at t.5, rw end at t.7))
+    let says = rw c.new-bench.ensures at t.8 in
+    (t.0, t.2, t.3, t.6, (λ zero. (says.1 (c.fault_of.ensures.0 c.in-None.is)).0, λ one. absurd (omega (arith, one))))
+
+pub returns-in-None-clause-whole : goal.returns-in-None-clause-whole
+returns-in-None-clause-whole g c = λ zero. c.run_script-end.ensures.whole (c.fault_of.ensures.0 c.in-None.is)
+
+pub returns-clause-said : goal.returns-clause-said
+returns-clause-said g c =
+    let t = c.run_script-end.ensures.script in
+    let says = rw c.new-bench.ensures at t.8 in
+    (t.0, t.2, t.3, t.6, (λ zero. absurd (omega (arith, zero)), λ one. says.0))
