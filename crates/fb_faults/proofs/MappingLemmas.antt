@@ -1,5 +1,5 @@
 -- The resources of one more device.
-use Rattle.std.proofs.Common.{◌≡◌, ℕ, Bool, true, false, cond, ◌&&◌, ◌||◌, List, [], ◌∷◌, ◌++◌, None, Some, refl, sym, ap, ◌∙◌, nat_eq, is_some}
+use Rattle.std.proofs.Common.{◌≡◌, ℕ, Bool, true, false, cond, ◌&&◌, ◌||◌, List, [], ◌∷◌, ◌++◌, None, Some, not, refl, sym, ap, ◌∙◌, nat_eq, is_some}
 use Rattle.std.proofs.lemmas.List.Folds.{list_any-append}
 use Rattle.std.specs.BTreeSet.{BTreeSet, contains, Updates}
 use Rattle.std.specs.Cmp.Lexicographic.{pointwise}
@@ -29,10 +29,23 @@ true_or true false = refl
 true_or false true = refl
 true_or false false = refl
 
+pub not_true : (b : Bool) → not b ≡ true → b ≡ false
+not_true true e = sym e
+not_true false e = refl
+
+pub not_false : (b : Bool) → not b ≡ false → b ≡ true
+not_false true e = refl
+not_false false e = sym e
+
 one_more : (old device names name : Bool) → ((old || (device && names)) || (device && name)) ≡ (old || (device && (names || name)))
 one_more true device names name = refl
 one_more false true names name = refl
 one_more false false names name = refl
+
+pub none_added : (old device : Bool) → old ≡ (old || (device && false))
+none_added true device = refl
+none_added false true = refl
+none_added false false = refl
 
 -- the resources of a device with one more
 pub added : (device : List ℕ) (names : List NameUse) (x : NameUse) (first old new : BTreeSet (List ℕ × List ℕ)) → ((name resource : List ℕ) → contains pair_cmp old (name, resource) ≡ (contains pair_cmp first (name, resource) || (is_same device name && has_name names resource))) → Updates pair_cmp old new (device, x.name) true → (name resource : List ℕ) → contains pair_cmp new (name, resource) ≡ (contains pair_cmp first (name, resource) || (is_same device name && has_name (names ++ x ∷ []) resource))
@@ -62,7 +75,7 @@ module _ (devices : List (List ℕ × List NameUse)) (x : List ℕ × List NameU
       by true e = ap (λ o. option_map_or (λ names. has_name names resource) o false || has_name x.1 resource) (e refl)
       by false e = or_false (among devices name resource)
 
-  pub seen-new : is_some (stands_for devices x.0) ≡ false → (q : List ℕ) → cond (is_same x.0 q) true (is_some (stands_for devices q)) ≡ is_some (stands_for (devices ++ x ∷ []) q)
+  seen-new : is_some (stands_for devices x.0) ≡ false → (q : List ℕ) → cond (is_same x.0 q) true (is_some (stands_for devices q)) ≡ is_some (stands_for (devices ++ x ∷ []) q)
   seen-new absent q =
       (λ i. cond (sym (same_name x.0 q) i) true (is_some (stands_for devices q))) ∙ by (pointwise nat_eq x.0 q) ∙ ap is_some (stands_new absent q)
     where
@@ -74,10 +87,18 @@ module _ (devices : List (List ℕ × List NameUse)) (x : List ℕ × List NameU
   pub among-old : is_some (stands_for devices x.0) ≡ true → (name resource : List ℕ) → among devices name resource ≡ among (devices ++ x ∷ []) name resource
   among-old there name resource = ap (λ o. option_map_or (λ names. has_name names resource) o false) (known-old devices x (stands_for devices) (λ q. refl) there name)
 
-  pub seen-old : is_some (stands_for devices x.0) ≡ true → (q : List ℕ) → cond (is_same x.0 q) true (is_some (stands_for devices q)) ≡ is_some (stands_for (devices ++ x ∷ []) q)
+  seen-old : is_some (stands_for devices x.0) ≡ true → (q : List ℕ) → cond (is_same x.0 q) true (is_some (stands_for devices q)) ≡ is_some (stands_for (devices ++ x ∷ []) q)
   seen-old there q =
       by (is_same x.0 q) refl ∙ ap is_some (known-old devices x (stands_for devices) (λ q. refl) there q)
     where
       by : (b : Bool) → is_same x.0 q ≡ b → cond b true (is_some (stands_for devices q)) ≡ is_some (stands_for devices q)
       by true e = sym there ∙ ap (λ n. is_some (stands_for devices n)) (sym (is_it x.0 q e))
       by false e = refl
+
+  -- the names of devices with one more
+  pub seen-next : (q : List ℕ) → cond (is_same x.0 q) true (is_some (stands_for devices q)) ≡ is_some (stands_for (devices ++ x ∷ []) q)
+  seen-next q = by (is_some (stands_for devices x.0)) refl
+    where
+      by : (b : Bool) → is_some (stands_for devices x.0) ≡ b → cond (is_same x.0 q) true (is_some (stands_for devices q)) ≡ is_some (stands_for (devices ++ x ∷ []) q)
+      by true e = seen-old e q
+      by false e = seen-new e q

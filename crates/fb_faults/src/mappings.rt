@@ -86,12 +86,24 @@ fn report_homes(
 {
     for mapping in mappings {
         let home = (mapping.device.name, mapping.resource.name);
-        if !resources.contains(&home) {
-            found.push(Fault {
-                code: Code::NoSuchResource,
-                span: span_of_home(mapping),
-            })?;
-        }
+        report_home(resources.contains(&home), mapping, found)?;
+    }
+    Ok(())
+}
+
+fn report_home(
+    is_resource: bool,
+    mapping: &Mapping,
+    found: &mut Vec<Fault>,
+) -> Result<(), AllocError>
+    ensures { OnOk result
+        (found.new.items ≡ found.old.items ++ home_faults is_resource (mapping_tree mapping.now)) }
+{
+    if !is_resource {
+        found.push(Fault {
+            code: Code::NoSuchResource,
+            span: span_of_home(mapping),
+        })?;
     }
     Ok(())
 }
