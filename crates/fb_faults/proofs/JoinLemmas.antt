@@ -11,6 +11,6 @@ all_joined a b =
     in_order-same fault_cmp fault_cmp_total fault_cmp-exact (a ++ faults_in_order b) (a ++ b) (λ q. simp (has-append fault_cmp, has-in_order fault_cmp fault_cmp_total))
 
 -- the same for all checks, one after the other
-pub each_joined : (s i e c n : List Fault) → faults_in_order (s ++ faults_in_order i ++ faults_in_order e ++ faults_in_order c ++ faults_in_order n) ≡ faults_in_order (s ++ i ++ e ++ c ++ n)
-each_joined s i e c n =
-    in_order-same fault_cmp fault_cmp_total fault_cmp-exact (s ++ faults_in_order i ++ faults_in_order e ++ faults_in_order c ++ faults_in_order n) (s ++ i ++ e ++ c ++ n) (λ q. simp (has-append fault_cmp, has-in_order fault_cmp fault_cmp_total))
+pub each_joined : (s i e c n m : List Fault) → faults_in_order (s ++ faults_in_order i ++ faults_in_order e ++ faults_in_order c ++ faults_in_order n ++ m) ≡ faults_in_order (s ++ i ++ e ++ c ++ n ++ m)
+each_joined s i e c n m =
+    in_order-same fault_cmp fault_cmp_total fault_cmp-exact (s ++ faults_in_order i ++ faults_in_order e ++ faults_in_order c ++ faults_in_order n ++ m) (s ++ i ++ e ++ c ++ n ++ m) (λ q. simp (has-append fault_cmp, has-in_order fault_cmp fault_cmp_total))

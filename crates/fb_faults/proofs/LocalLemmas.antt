@@ -19,6 +19,7 @@ use Rattle.fb_iface.specs.Types.{instance_faults, instances_of, type_fault, type
 use Rattle.fb_expr.proofs.LocalLemmas.{expr_faults_local}
 use Rattle.fb_ecc.proofs.LocalLemmas.{ecc_local}
 use Rattle.fb_netcheck.proofs.LocalLemmas.{net_faults_local}
+use Rattle.fb_faults.specs.Mappings.{declared_mapping_faults}
 use Rattle.fb_library.specs.Local.{Agree}
 use Rattle.fb_faults.specs.Faults.{FaultsAreLocal, text_faults}
 
@@ -65,4 +66,4 @@ faults_local a b unit agree =
     let expressions = expr_faults_local a b unit agree in
     let charts = ecc_local a b unit agree in
     let networks = net_faults_local a b unit agree in
-    λ i. faults_in_order (text_faults (own i) ++ declared i ++ expressions i ++ charts i ++ networks i)
+    λ i. faults_in_order (text_faults (own i) ++ declared i ++ expressions i ++ charts i ++ networks i ++ declared_mapping_faults (option_and_then tree_of (own i)))

@@ -12,6 +12,7 @@ use Rattle.fb_iface.specs.Declarations.{iface_faults_of}
 use Rattle.fb_expr.specs.Charts.{expr_faults_of}
 use Rattle.fb_ecc.specs.Charts.{ecc_faults_of}
 use Rattle.fb_netcheck.specs.Networks.{net_faults_of}
+use Rattle.fb_faults.specs.Mappings.{mapping_faults_of}
 
 abbrev pub body_faults : BodyTree → List Fault
 body_faults (Whole decl) = []
@@ -32,7 +33,8 @@ faults_of sources unit =
         ++ iface_faults_of sources unit
         ++ expr_faults_of sources unit
         ++ ecc_faults_of sources unit
-        ++ net_faults_of sources unit)
+        ++ net_faults_of sources unit
+        ++ mapping_faults_of sources unit)
 
 -- what each check finds, one after the other
 abbrev pub found_in_turn : Sources → List ℕ → List Fault
@@ -42,6 +44,7 @@ found_in_turn sources unit =
     ++ faults_in_order (expr_faults_of sources unit)
     ++ faults_in_order (ecc_faults_of sources unit)
     ++ faults_in_order (net_faults_of sources unit)
+    ++ mapping_faults_of sources unit
 
 -- the faults of a unit depend on the texts of the unit and of its mentions alone
 abbrev pub FaultsAreLocal : Type 0

@@ -2,6 +2,7 @@
 ghost use Rattle.std.specs.Prelude.{◌≡◌, ◌++◌, IfOk, OnOk};
 ghost use Rattle.fb_faults.specs.Faults.{faults_of, found_in_turn, syntax_faults_of};
 
+use crate::mappings::mapping_faults;
 use fb_ecc::ecc_faults;
 use fb_expr::expr_faults;
 use fb_iface::{Code, Fault, iface_faults, sorted_faults};
@@ -32,6 +33,7 @@ fn found_by_checks<V: View>(
     add(expr_faults(alloc, view, unit)?, &mut found)?;
     add(ecc_faults(alloc, view, unit)?, &mut found)?;
     add(net_faults(alloc, view, unit)?, &mut found)?;
+    add(mapping_faults(alloc, view, unit)?, &mut found)?;
     Ok(found)
 }
 

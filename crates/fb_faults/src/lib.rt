@@ -3,6 +3,7 @@
 
 mod all;
 mod laws;
+mod mappings;
 
 pub use all::faults;
 pub use laws::faults_are_local;
