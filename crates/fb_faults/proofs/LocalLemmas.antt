@@ -15,7 +15,10 @@ use Rattle.fb_library.proofs.LocalLemmas.{near_unit}
 use Rattle.fb_iface.specs.Declarations.{declaration_faults, duplicate_faults, literal_faults_of, mixed_faults, name_faults, with_faults_of}
 use Rattle.fb_iface.specs.Fault.{faults_in_order}
 use Rattle.fb_iface.specs.Types.{instance_faults, instances_of, type_fault, type_faults}
+use Rattle.fb_netcheck.proofs.LocalLemmas.{net_faults_local}
+use Rattle.fb_netcheck.specs.Networks.{net_faults_of}
 use Rattle.fb_faults.specs.Faults.{FaultsAreLocal, text_faults}
+use Rattle.fb_faults.specs.Mappings.{declared_mapping_faults, mapping_faults_of}
 
 first_contained : {A : Type 0} (x : A) (xs : List A) → Contains (x ∷ xs) x
 first_contained x xs = (0, omega arith, refl)
@@ -59,4 +62,6 @@ pub faults_local : FaultsAreLocal
 faults_local a b unit agree =
     let own = agree unit (near_unit a unit) in
     let declared = declared_local a b unit (tree_at a unit) (λ name h. agree name (near_mention a unit name h)) ∙ ap (λ o. declaration_faults b unit (option_and_then tree_of o)) own in
-    λ i. faults_in_order (text_faults (own i) ++ declared i)
+    let networks : net_faults_of a unit ≡ net_faults_of b unit = net_faults_local a b unit agree in
+    let mappings : mapping_faults_of a unit ≡ mapping_faults_of b unit = ap (λ o. declared_mapping_faults (option_and_then tree_of o)) own in
+    λ i. faults_in_order (text_faults (own i) ++ declared i ++ networks i ++ mappings i)

@@ -9,6 +9,8 @@ use Rattle.fb_iface.specs.declared.code.Code.TheVariants.{Syntax}
 use Rattle.fb_iface.specs.declared.fault.Fault.{Fault}
 use Rattle.fb_iface.specs.Fault.{faults_in_order}
 use Rattle.fb_iface.specs.Declarations.{iface_faults_of}
+use Rattle.fb_netcheck.specs.Networks.{net_faults_of}
+use Rattle.fb_faults.specs.Mappings.{mapping_faults_of}
 
 abbrev pub body_faults : BodyTree → List Fault
 body_faults (Whole decl) = []
@@ -23,7 +25,8 @@ syntax_faults_of sources unit = text_faults (get sources unit)
 
 -- all faults of a unit, in order, each once
 abbrev pub faults_of : Sources → List ℕ → List Fault
-faults_of sources unit = faults_in_order (syntax_faults_of sources unit ++ iface_faults_of sources unit)
+faults_of sources unit =
+    faults_in_order (syntax_faults_of sources unit ++ iface_faults_of sources unit ++ net_faults_of sources unit ++ mapping_faults_of sources unit)
 
 -- the faults of a unit depend on the texts of the unit and of its mentions alone
 abbrev pub FaultsAreLocal : Type 0

@@ -2,8 +2,10 @@
 ghost use Rattle.std.specs.Prelude.{◌≡◌, IfOk};
 ghost use Rattle.fb_faults.specs.Faults.{faults_of, syntax_faults_of};
 
+use crate::mappings::mapping_faults;
 use fb_iface::{Code, Fault, iface_faults, sorted_faults};
 use fb_library::View;
+use fb_netcheck::net_faults;
 use fb_parse::Body;
 use fb_text::Name;
 use std::alloc::{AllocError, Global};
@@ -15,6 +17,10 @@ pub fn faults<V: View>(alloc: Global, view: &V, unit: &Name) -> Result<Vec<Fault
     let mut found = syntax_faults(alloc, view, unit)?;
     let declarations = iface_faults(alloc, view, unit)?;
     found.extend_from_slice(declarations.as_slice())?;
+    let networks = net_faults(alloc, view, unit)?;
+    found.extend_from_slice(networks.as_slice())?;
+    let mappings = mapping_faults(alloc, view, unit)?;
+    found.extend_from_slice(mappings.as_slice())?;
     sorted_faults(alloc, found.as_slice())
 }
 
