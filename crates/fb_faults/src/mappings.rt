@@ -42,10 +42,7 @@ fn report_system(alloc: Global, system: &System, found: &mut Vec<Fault>) -> Resu
 }
 
 /// Each resource with its device. The name of a device stands for its first declaration.
-fn resources_of(
-    alloc: Global,
-    devices: &[Device],
-) -> Result<BTreeSet<(Name, Name)>, AllocError>
+fn resources_of(alloc: Global, devices: &[Device]) -> Result<BTreeSet<(Name, Name)>, AllocError>
     ensures { IfOk result (λ resources. (device resource : List ℕ)
         → contains pair_cmp resources (device, resource) ≡ has_resource (map device_tree devices.now) device resource) }
 {
