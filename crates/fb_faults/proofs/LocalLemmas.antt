@@ -22,7 +22,6 @@ use Rattle.fb_netcheck.proofs.LocalLemmas.{net_faults_local}
 use Rattle.fb_faults.specs.Mappings.{declared_mapping_faults}
 use Rattle.fb_library.specs.Local.{Agree}
 use Rattle.fb_faults.specs.Faults.{FaultsAreLocal, text_faults}
-use Rattle.fb_faults.specs.Mappings.{declared_mapping_faults, mapping_faults_of}
 
 first_contained : {A : Type 0} (x : A) (xs : List A) → Contains (x ∷ xs) x
 first_contained x xs = (0, omega arith, refl)
