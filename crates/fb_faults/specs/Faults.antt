@@ -29,12 +29,12 @@ syntax_faults_of sources unit = text_faults (get sources unit)
 abbrev pub faults_of : Sources → List ℕ → List Fault
 faults_of sources unit =
     faults_in_order
-        (syntax_faults_of sources unit
-        ++ iface_faults_of sources unit
-        ++ expr_faults_of sources unit
-        ++ ecc_faults_of sources unit
-        ++ net_faults_of sources unit
-        ++ mapping_faults_of sources unit)
+    (syntax_faults_of sources unit
+    ++ iface_faults_of sources unit
+    ++ expr_faults_of sources unit
+    ++ ecc_faults_of sources unit
+    ++ net_faults_of sources unit
+    ++ mapping_faults_of sources unit)
 
 -- what each check finds, one after the other
 abbrev pub found_in_turn : Sources → List ℕ → List Fault

@@ -21,11 +21,7 @@ pub fn faults<V: View>(alloc: Global, view: &V, unit: &Name) -> Result<Vec<Fault
 }
 
 /// What each check finds, one after the other.
-fn found_by_checks<V: View>(
-    alloc: Global,
-    view: &V,
-    unit: &Name,
-) -> Result<Vec<Fault>, AllocError>
+fn found_by_checks<V: View>(alloc: Global, view: &V, unit: &Name) -> Result<Vec<Fault>, AllocError>
     ensures { IfOk result (λ found. found.items ≡ found_in_turn (V.sources view.now) unit.now) }
 {
     let mut found = syntax_faults(alloc, view, unit)?;
