@@ -4,8 +4,8 @@ use Rattle.std.specs.List.{flat_map}
 use Rattle.std.proofs.lemmas.List.{flat_map_more, take_more}
 
 module _ {A : Type 0} where
-  pub four_joined : (old a b c d : List A) → (((old ++ a) ++ b) ++ c) ++ d ≡ old ++ (((a ++ b) ++ c) ++ d)
-  four_joined old a b c d = simp append_assoc
+  pub five_joined : (old a b c d e : List A) → ((((old ++ a) ++ b) ++ c) ++ d) ++ e ≡ old ++ ((((a ++ b) ++ c) ++ d) ++ e)
+  five_joined old a b c d e = simp append_assoc
 
   -- what one more item of a list gives
   pub flat_map_next : {B : Type 0} (f : B → List A) (old : List A) (xs : List B) (n : ℕ) (x : B) → n < length xs → x ≡ get_or xs n x → (old ++ flat_map f (take n xs)) ++ f x ≡ old ++ flat_map f (take (n + 1) xs)

@@ -1,5 +1,6 @@
 -- The faults of networks depend on the texts of the unit and of its mentions alone.
-use Rattle.std.proofs.Common.{◌≡◌, ℕ, Bool, true, false, cond, List, [], ◌∷◌, ◌++◌, Option, Some, None, filter, map, refl, sym, ap, ◌∙◌, ◌+◌, subst, unwrap_or, arith}
+use Rattle.std.proofs.Common.{◌≡◌, ℕ, Bool, true, false, cond, List, [], ◌∷◌, ◌++◌, Option, Some, None, filter, map, nat_eq, refl, sym, ap, ◌∙◌, ◌+◌, subst, unwrap_or, arith}
+use Rattle.std.specs.Cmp.Lexicographic.{pointwise}
 use Rattle.std.specs.FinMap.{get}
 use Rattle.std.specs.List.{Contains, enumerate_from, flat_map}
 use Rattle.std.specs.Option.{option_and_then, option_map_or}
@@ -18,15 +19,15 @@ use Rattle.fb_iface.specs.Names.{first_ones, is_same, stands_for}
 use Rattle.fb_iface.specs.Ports.{instances_in}
 use Rattle.fb_iface.specs.Scope.{Scope, scope_of_network, scope_of_type}
 use Rattle.fb_iface.specs.declared.ports.DeclaredInstance.{DeclaredInstance}
-use Rattle.fb_netcheck.specs.Connections.{connection_faults, joined_faults}
+use Rattle.fb_netcheck.specs.Connections.{connection_faults}
 use Rattle.fb_netcheck.specs.Ends.{target}
 use Rattle.fb_netcheck.specs.Local.{NetFaultsAreLocal}
 use Rattle.fb_netcheck.specs.Networks.{application_network, declared_faults, network_faults, tree_faults, type_network}
 use Rattle.fb_netcheck.specs.Parameters.{all_parameters}
 use Rattle.fb_netcheck.specs.Repeats.{second_adapters, second_sources}
 use Rattle.fb_netcheck.specs.Settings.{Place}
-use Rattle.fb_netcheck.specs.Spellings.{same_by_form, same_words}
-use Rattle.fb_netcheck.specs.Types.{home, home_of, same_at_ends}
+use Rattle.fb_netcheck.specs.Spellings.{part, same_by_form, words}
+use Rattle.fb_netcheck.specs.Types.{home, home_of, joined_types, type_faults}
 
 -- each item of a list has the fact
 abbrev Each : {A : Type 0} → (A → Type 0) → List A → Type 0
@@ -85,8 +86,8 @@ module _ (a b : Sources) (unit : List ℕ) (own : get a unit ≡ get b unit) whe
   network_local kind scope n declared agree =
       let here : Place = record { unit = unit; kind = kind; scope = scope } in
       let text : (end : End) → get a (home here end) ≡ get b (home here end) = λ end. home_local kind scope n declared agree end.name end.port in
-      let joined : (c : Connection) → connection_faults a here c ≡ connection_faults b here c = λ c. (λ i. joined_faults kind (λ x y. same_by_form x.form y.form (is_same x.name.name y.name.name) (same_words (unwrap_or (text c.source i) []) x.span (unwrap_or (text c.destination i) []) y.span)) c (target here c.sort c.source) (target here c.sort c.destination)) in
-      λ i. flat_map (λ c. joined c i) n.connections ++ second_sources n.connections ++ second_adapters n.connections ++ all_parameters scope n.instances
+      let types : (c : Connection) → joined_types a here c ≡ joined_types b here c = λ c. (λ i. type_faults (λ x y. same_by_form x.form y.form (is_same x.name.name y.name.name) (pointwise nat_eq (words (part (unwrap_or (text c.source i) []) x.span)) (words (part (unwrap_or (text c.destination i) []) y.span)))) c (target here c.sort c.source) (target here c.sort c.destination)) in
+      λ i. flat_map (connection_faults here) n.connections ++ flat_map (λ c. types c i) n.connections ++ second_sources n.connections ++ second_adapters n.connections ++ all_parameters scope n.instances
 
   type_local : (kind : UnitKind) (d : TypeTree) → ((name : List ℕ) → Contains (types_in d.network.instances) name → get a name ≡ get b name) → type_network a unit kind d ≡ type_network b unit kind d
   type_local kind d agree =

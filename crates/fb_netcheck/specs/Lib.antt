@@ -5,6 +5,7 @@ pub mod Sides
 pub mod Paths
 pub mod Repeats
 pub mod Spellings
+pub mod Known
 pub mod Types
 pub mod Connections
 pub mod Parameters

@@ -11,11 +11,12 @@ use Rattle.fb_netcheck.specs.Settings.{Place}
 use Rattle.fb_netcheck.specs.Connections.{connection_faults}
 use Rattle.fb_netcheck.specs.Parameters.{all_parameters}
 use Rattle.fb_netcheck.specs.Repeats.{second_adapters, second_sources}
+use Rattle.fb_netcheck.specs.Types.{joined_types}
 
 -- the faults of a network
 abbrev pub network_faults : Sources → Place → NetworkTree → List Fault
 network_faults sources here n =
-    flat_map (connection_faults sources here) n.connections ++ second_sources n.connections ++ second_adapters n.connections ++ all_parameters here.scope n.instances
+    flat_map (connection_faults here) n.connections ++ flat_map (joined_types sources here) n.connections ++ second_sources n.connections ++ second_adapters n.connections ++ all_parameters here.scope n.instances
 
 -- the network of a type
 abbrev pub type_network : Sources → List ℕ → UnitKind → TypeTree → List Fault

@@ -37,9 +37,13 @@ words text = words_of text (tokens_of text)
 abbrev pub text_at : Sources → List ℕ → List ℕ
 text_at sources unit = unwrap_or (get sources unit) []
 
+-- the words of a part of a unit's text
+abbrev pub words_at : Sources → List ℕ → Span → List ℕ
+words_at sources unit span = words (part (text_at sources unit) span)
+
 -- types with a length and arrays are the same where their tokens are
-abbrev pub same_words : List ℕ → Span → List ℕ → Span → Bool
-same_words text a other b = pointwise nat_eq (words (part text a)) (words (part other b))
+abbrev pub same_words : Sources → List ℕ → Span → List ℕ → Span → Bool
+same_words sources unit a other b = pointwise nat_eq (words_at sources unit a) (words_at sources other b)
 
 -- plain types are the same where their names are
 abbrev pub same_by_form : TypeForm → TypeForm → Bool → Bool → Bool
@@ -50,5 +54,4 @@ same_by_form a b names tokens = false
 
 -- whether two types are spelled alike, each in the text of a unit
 abbrev pub same_type : Sources → List ℕ → TypeUse → List ℕ → TypeUse → Bool
-same_type sources unit a other b =
-    same_by_form a.form b.form (is_same a.name.name b.name.name) (same_words (text_at sources unit) a.span (text_at sources other) b.span)
+same_type sources unit a other b = same_by_form a.form b.form (is_same a.name.name b.name.name) (same_words sources unit a.span other b.span)

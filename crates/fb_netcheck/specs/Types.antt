@@ -17,7 +17,7 @@ use Rattle.fb_netcheck.specs.declared.ends.Target.{Target}
 use Rattle.fb_netcheck.specs.declared.ends.Target.TheVariants.{Found}
 use Rattle.fb_netcheck.specs.Settings.{Place}
 use Rattle.fb_netcheck.specs.Sides.{fault_of}
-use Rattle.fb_netcheck.specs.Ends.{is_right}
+use Rattle.fb_netcheck.specs.Ends.{is_right, target}
 use Rattle.fb_netcheck.specs.Spellings.{same_type}
 
 -- the unit in whose text the port `name` or `name.port` is declared: the own unit, or the type of the instance
@@ -46,3 +46,7 @@ type_faults same c source destination =
 -- whether two types are spelled alike, one at the source of a connection and the other at its destination
 abbrev pub same_at_ends : Sources → Place → Connection → TypeUse → TypeUse → Bool
 same_at_ends sources here c a b = same_type sources (home here c.source) a (home here c.destination) b
+
+-- the ports that a connection joins are of one type
+abbrev pub joined_types : Sources → Place → Connection → List Fault
+joined_types sources here c = type_faults (same_at_ends sources here c) c (target here c.sort c.source) (target here c.sort c.destination)

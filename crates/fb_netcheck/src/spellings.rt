@@ -3,14 +3,21 @@ ghost use Rattle.std.specs.Prelude.{◌≡◌, [], ◌∷◌, ◌++◌, All, IfO
 ghost use Rattle.std.specs.List.{flat_map};
 ghost use Rattle.std.specs.Str.{str_to_ascii_uppercase};
 ghost use Rattle.fb_text.specs.Tokens.{LiesIn};
-ghost use Rattle.fb_netcheck.specs.Spellings.{is_boundary, part, same_type, same_words, text_at, word, words};
+ghost use Rattle.std.specs.BTreeMap.{get};
+ghost use Rattle.fb_netcheck.specs.Known.{AreSpellings, part_cmp};
+ghost use Rattle.fb_netcheck.specs.Spellings.{is_boundary, part, same_type, same_words, text_at, word, words, words_at};
 
 use fb_library::View;
 use fb_text::{Name, Span, Token, TokenFault, same_name, tokens};
 use fb_tree::{TypeForm, TypeUse};
 use std::alloc::{AllocError, Global};
+use std::collections::BTreeMap;
 
-/// Whether two types are spelled alike, each in the text of a unit: plain types by their names, others token by token.
+/// The spellings of parts of texts: of a unit, from a start to an end.
+pub type Spellings = BTreeMap<(Name, (usize, usize)), Vec<u8>>;
+
+/// Whether two types are spelled alike, each in the text of a unit: plain types by their names, others token by token. What is spelled
+/// out is kept, so that a long type with many connections is read once.
 pub fn is_same_type<V: View>(
     alloc: Global,
     view: &V,
@@ -18,24 +25,59 @@ pub fn is_same_type<V: View>(
     used: &TypeUse,
     other_unit: &Name,
     other: &TypeUse,
+    known: &mut Spellings,
 ) -> Result<bool, AllocError>
-    ensures { IfOk result
+    requires { AreSpellings (V.sources view.now) (get part_cmp known.old) }
+    ensures kept { OnOk result (AreSpellings (V.sources view.now) (get part_cmp known.new)) }
+    ensures same { IfOk result
         (λ same. same ≡ same_type (V.sources view.now) unit.now used.now other_unit.now other.now) }
 {
     match (used.form, other.form) {
         (TypeForm::Plain, TypeForm::Plain) => Ok(same_name(&used.name.name, &other.name.name)),
         (TypeForm::Sized, TypeForm::Sized) | (TypeForm::Array, TypeForm::Array) => {
-            let text = text_by_name(view, unit);
-            is_spelled_alike(
-                alloc,
-                text,
-                used.span,
-                text_by_name(view, other_unit),
-                other.span,
-            )
+            spell(alloc, view, unit, used.span, known)?;
+            spell(alloc, view, other_unit, other.span, known)?;
+            is_spelled_alike(alloc, view, unit, used.span, other_unit, other.span, known)
         }
         _ => Ok(false),
     }
+}
+
+/// Keeps the spelling of a part of a unit's text.
+fn spell<V: View>(
+    alloc: Global,
+    view: &V,
+    unit: &Name,
+    span: Span,
+    known: &mut Spellings,
+) -> Result<(), AllocError>
+    requires { AreSpellings (V.sources view.now) (get part_cmp known.old) }
+    ensures { OnOk result (AreSpellings (V.sources view.now) (get part_cmp known.new)) }
+{
+    let key = key_of(unit, span);
+    if !known.contains_key(&key) {
+        let spelling = words_of_unit(alloc, view, unit, span)?;
+        known.insert(key, spelling)?;
+    }
+    Ok(())
+}
+
+fn key_of(unit: &Name, span: Span) -> (Name, (usize, usize))
+    ensures { result ≡ (unit.now, (span.start, span.end)) }
+{
+    (*unit, (span.start, span.end))
+}
+
+/// The tokens of a part of a unit's text in upper case, each with a blank behind it.
+fn words_of_unit<V: View>(
+    alloc: Global,
+    view: &V,
+    unit: &Name,
+    span: Span,
+) -> Result<Vec<u8>, AllocError>
+    ensures { IfOk result (λ spelling. spelling.items ≡ words_at (V.sources view.now) unit.now span) }
+{
+    words_in(alloc, part_of(text_by_name(view, unit), span))
 }
 
 /// The text of a unit, empty where it is absent.
@@ -48,18 +90,29 @@ fn text_by_name<'a, V: View>(view: &'a V, unit: &Name) -> &'a str
     }
 }
 
-fn is_spelled_alike(
+/// Whether two parts have the same tokens, by what is kept of them or else by their texts.
+fn is_spelled_alike<V: View>(
     alloc: Global,
-    text: &str,
+    view: &V,
+    unit: &Name,
     span: Span,
-    other_text: &str,
+    other_unit: &Name,
     other_span: Span,
+    known: &Spellings,
 ) -> Result<bool, AllocError>
-    ensures { IfOk result (λ same. same ≡ same_words text.now span other_text.now other_span) }
+    requires { AreSpellings (V.sources view.now) (get part_cmp known.now) }
+    ensures { IfOk result
+        (λ same. same ≡ same_words (V.sources view.now) unit.now span other_unit.now other_span) }
 {
-    let spelling = words_in(alloc, part_of(text, span))?;
-    let other_spelling = words_in(alloc, part_of(other_text, other_span))?;
-    Ok(spelling.as_slice() == other_spelling.as_slice())
+    let kept = known.get(&key_of(unit, span));
+    match (kept, known.get(&key_of(other_unit, other_span))) {
+        (Some(spelling), Some(other)) => Ok(spelling.as_slice() == other.as_slice()),
+        _ => {
+            let spelling = words_of_unit(alloc, view, unit, span)?;
+            let other = words_of_unit(alloc, view, other_unit, other_span)?;
+            Ok(spelling.as_slice() == other.as_slice())
+        }
+    }
 }
 
 /// The part of a text, empty where the span is none of it.

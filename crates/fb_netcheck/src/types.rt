@@ -1,38 +1,62 @@
 //! The types of what connections join.
 ghost use Rattle.std.specs.Prelude.{◌≡◌, ◌++◌, IfOk, OnOk};
+ghost use Rattle.std.specs.BTreeMap.{get};
+ghost use Rattle.std.specs.List.{flat_map};
+ghost use Rattle.fb_netcheck.specs.Known.{AreSpellings, part_cmp};
 ghost use Rattle.fb_netcheck.specs.Spellings.{same_type};
 ghost use Rattle.fb_netcheck.specs.Settings.{place_in};
-ghost use Rattle.fb_netcheck.specs.Types.{flows_agree, home, same_at_ends, targets_agree, type_faults};
+ghost use Rattle.fb_netcheck.specs.Types.{flows_agree, home, joined_types, targets_agree};
 
-use crate::ends::{Flow, Position, Target, is_right_target};
+use crate::ends::{Flow, Position, Target, is_right_target, target_at};
 use crate::setting::Setting;
 use crate::sides::fault_at;
-use crate::spellings::is_same_type;
+use crate::spellings::{Spellings, is_same_type};
 use fb_iface::{Code, Fault, class_of};
 use fb_library::View;
 use fb_text::{Name, same_name};
 use fb_tree::{Connection, End};
 use std::alloc::{AllocError, Global};
+use std::collections::BTreeMap;
 
-/// Reports a connection whose ends are of the right sides and of two types.
+/// Reports connections whose ends are of the right sides and of two types.
 pub fn report_types<V: View>(
     alloc: Global,
     view: &V,
     here: &Setting,
-    connection: &Connection,
-    source: &Target,
-    destination: &Target,
+    connections: &[Connection],
     found: &mut Vec<Fault>,
 ) -> Result<(), AllocError>
     ensures { OnOk result (found.new.items ≡ found.old.items
-        ++ type_faults (same_at_ends (V.sources view.now) (place_in here.now) connection.now) connection.now source.now destination.now) }
+        ++ flat_map (joined_types (V.sources view.now) (place_in here.now)) connections.now) }
 {
-    if is_right_target(Position::Source, source)
-        && is_right_target(Position::Destination, destination)
+    let mut known = BTreeMap::new(alloc);
+    for connection in connections {
+        report_type(alloc, view, here, connection, &mut known, found)?;
+    }
+    Ok(())
+}
+
+fn report_type<V: View>(
+    alloc: Global,
+    view: &V,
+    here: &Setting,
+    connection: &Connection,
+    known: &mut Spellings,
+    found: &mut Vec<Fault>,
+) -> Result<(), AllocError>
+    requires { AreSpellings (V.sources view.now) (get part_cmp known.old) }
+    ensures kept { OnOk result (AreSpellings (V.sources view.now) (get part_cmp known.new)) }
+    ensures reported { OnOk result (found.new.items
+        ≡ found.old.items ++ joined_types (V.sources view.now) (place_in here.now) connection.now) }
+{
+    let source = target_at(here, connection.sort, &connection.source);
+    let destination = target_at(here, connection.sort, &connection.destination);
+    if is_right_target(Position::Source, &source)
+        && is_right_target(Position::Destination, &destination)
     {
         let first = home_at(here, &connection.source);
         let second = home_at(here, &connection.destination);
-        if !are_agreed(alloc, view, &first, source, &second, destination)? {
+        if !are_agreed(alloc, view, &first, &source, &second, &destination, known)? {
             found.push(fault_at(Code::DataType, &connection.destination))?;
         }
     }
@@ -60,13 +84,24 @@ fn are_agreed<V: View>(
     target: &Target,
     other_unit: &Name,
     other: &Target,
+    known: &mut Spellings,
 ) -> Result<bool, AllocError>
-    ensures { IfOk result (λ agreed. agreed
+    requires { AreSpellings (V.sources view.now) (get part_cmp known.old) }
+    ensures kept { OnOk result (AreSpellings (V.sources view.now) (get part_cmp known.new)) }
+    ensures agreed { IfOk result (λ agreed. agreed
         ≡ targets_agree (λ a b. same_type (V.sources view.now) unit.now a other_unit.now b) target.now other.now) }
 {
     match (target, other) {
         (Target::Found(_, port), Target::Found(_, other)) => {
-            is_flow_agreed(alloc, view, unit, &port.flow, other_unit, &other.flow)
+            is_flow_agreed(
+                alloc,
+                view,
+                unit,
+                &port.flow,
+                other_unit,
+                &other.flow,
+                known,
+            )
         }
         _ => Ok(true),
     }
@@ -79,8 +114,11 @@ fn is_flow_agreed<V: View>(
     flow: &Flow,
     other_unit: &Name,
     other: &Flow,
+    known: &mut Spellings,
 ) -> Result<bool, AllocError>
-    ensures { IfOk result (λ agreed. agreed
+    requires { AreSpellings (V.sources view.now) (get part_cmp known.old) }
+    ensures kept { OnOk result (AreSpellings (V.sources view.now) (get part_cmp known.new)) }
+    ensures agreed { IfOk result (λ agreed. agreed
         ≡ flows_agree (λ a b. same_type (V.sources view.now) unit.now a other_unit.now b) flow.now other.now) }
 {
     match (flow, other) {
@@ -88,7 +126,7 @@ fn is_flow_agreed<V: View>(
             if class_of(used).is_free() || class_of(other).is_free() {
                 Ok(true)
             } else {
-                is_same_type(alloc, view, unit, used, other_unit, other)
+                is_same_type(alloc, view, unit, used, other_unit, other, known)
             }
         }
         (Flow::Adapter(used), Flow::Adapter(other)) => Ok(same_name(&used.name, &other.name)),
