@@ -1,9 +1,9 @@
 -- A commit's answer, and what it leaves.
-use Rattle.std.proofs.Common.{◌≡◌, ℕ, ◌+◌, ◌<◌, ◌≤◌, true, false, List, [], ◌∷◌, map, length, refl, sym, ap, ◌∙◌, subst, Option, Some, None, cond, nat_lt, ◌==◌, arith}
+use Rattle.std.proofs.Common.{◌≡◌, ℕ, ◌+◌, ◌<◌, ◌≤◌, true, false, List, [], ◌∷◌, map, length, refl, sym, ap, ◌∙◌, subst, Option, Some, None, cond, nat_lt, ◌==◌, arith, Vec}
 use Rattle.std.proofs.lemmas.Bool.Decides.{nat_tests}
 use Rattle.std.specs.BTreeMap as tree
 use Rattle.std.specs.BTreeSet as set
-use Rattle.fb_library.specs.Texts.{Texts, Held, held, Edit, Puts, Removes, unit_of, all_edited, names_of}
+use Rattle.fb_library.specs.Texts.{Texts, Held, held, Edit, Puts, Removes, unit_of, all_edited}
 use Rattle.fb_jobs.specs.declared.key.Key.{Key}
 use Rattle.fb_jobs.specs.KeyOrder.{key_cmp}
 use Rattle.fb_bench.specs.declared.entry.Entry.{Entry}
@@ -13,12 +13,16 @@ use Rattle.fb_bench.specs.declared.answers.Delivered.{Delivered}
 use Rattle.fb_bench.specs.declared.answers.Delivered.TheVariants.{Accepted, NoSuchKey, NotPending, Stale}
 use Rattle.fb_bench.specs.declared.answers.GivenBack.{GivenBack}
 use Rattle.fb_bench.specs.declared.answers.GivenBack.TheVariants.{Returned, NothingOut}
-use Rattle.fb_bench.specs.Machine.{after_give_back, give_back_answer, State, Call, ToCommit, ToTake, ToDeliver, ToGiveBack, ToAsk, OfCommit, reply, after, commit_answer, after_commit, after_take, after_deliver, deliver_answer, next, after_done, refusal, or_else, or_some, repeated_refusal, repeated_after, first_misfit, misfit, misfit_at, count_answer, all_keys}
+use Rattle.fb_bench.specs.Machine.{after_give_back, give_back_answer, State, Call, ToCommit, ToTake, ToDeliver, ToGiveBack, ToAsk, OfCommit, reply, after, commit_answer, after_commit, after_take, after_deliver, deliver_answer, next, after_done, refusal, or_else, or_some, repeated_refusal, repeated_after, first_misfit, misfit, misfit_at, count_answer, keys_of}
 use Rattle.fb_bench.specs.Story.{Story, start, replay, calls_of, state_of}
-use Rattle.fb_bench.specs.Kept.{Agrees, EntryFits}
-use Rattle.fb_bench.specs.Renew.{RenewedSoFar, IsRebuilt}
+use Rattle.fb_bench.specs.Kept.{Agrees}
+use Rattle.fb_bench.specs.declared.renewal.Renewal.{Renewal}
+use Rattle.fb_bench.specs.Renew.{is_of, keys_in, AreAfresh, WrittenIf, IsRenewal, HasRoom, AreKeys, items_or}
+use Rattle.std.specs.declared.alloc.Global.{Global}
 use Rattle.fb_bench.proofs.Steps.{reply_commit, after_commit_is}
-use Rattle.fb_bench.proofs.Renewing.{agrees_done}
+use Rattle.fb_bench.proofs.Renewing.{NeedsLocal, ScratchLocal}
+use Rattle.fb_bench.proofs.Renewals.{agrees_done}
+use Rattle.fb_bench.proofs.KeysKept.{keys_after}
 
 -- ---- a refusal leaves the state
 
@@ -134,7 +138,17 @@ commits_is s made edits answer same is = ap OfCommit (is ∙ ap (λ es. commit_a
 pub committed_is : (s : State) (made edits : List Edit) (answer : Committed) → made ≡ edits → answer ≡ commit_answer s edits → after s (ToCommit made) ≡ after_commit answer edits s
 committed_is s made edits answer same is = after_commit_is s made ∙ (λ i. after_commit (commit_answer s (same i)) (same i) s) ∙ ap (λ a. after_commit a edits s) (sym is)
 
-pub agrees_rebuilt : (n : ℕ) (edits : List Edit) (T U : Texts) (old es : tree.BTreeMap Key Entry) (rs : set.BTreeSet Key) (s : State) → U ≡ all_edited (n + 1) edits T → T ≡ s.units → ((key : Key) → EntryFits s key (tree.get key_cmp old key)) → IsRebuilt U edits old (all_keys (names_of U)) es rs → Agrees U (n + 1) es rs (after_done (n + 1) edits s)
-agrees_rebuilt n edits T U old es rs s is same fits built =
-    let units : U ≡ all_edited (n + 1) edits s.units = is ∙ ap (λ us. all_edited (n + 1) edits us) same in
-    agrees_done (n + 1) edits U es rs s units (subst (λ us. RenewedSoFar (all_keys (names_of us)) es rs (after_done (n + 1) edits s)) units (built s (n + 1) units fits))
+-- ---- what is kept after a commit that is done
+
+pub agrees_renewed : NeedsLocal → ScratchLocal → (n : ℕ) (edits : List Edit) (T U : Texts) (E0 E1 E2 : tree.BTreeMap Key Entry) (R0 R1 R2 W0 W1 W2 : set.BTreeSet Key) (s : State) (it : Renewal) → U ≡ all_edited (n + 1) edits T → Agrees T n E0 R0 W0 s → IsRenewal U edits E0 R0 W0 it → HasRoom it E0 E1 R0 R1 W0 W1 → ((texts : Texts) (q : Key) → AreAfresh texts it.renewed.items → WrittenIf texts q (is_of q (keys_in it.renewed.items)) (cond (is_of q it.gone.items) None (tree.get key_cmp E1 q)) (tree.get key_cmp E2 q)) → ((q : Key) → set.contains key_cmp R2 q ≡ cond (is_of q it.gone.items) false (set.contains key_cmp R1 q)) → ((q : Key) → set.contains key_cmp W2 q ≡ cond (is_of q it.gone.items) false (set.contains key_cmp W1 q)) → Agrees U (n + 1) E2 R2 W2 (after_done (n + 1) edits s)
+agrees_renewed needs_law law n edits T U E0 E1 E2 R0 R1 R2 W0 W1 W2 s it is agrees found room written ready waits =
+    let units : U ≡ all_edited (n + 1) edits s.units = is ∙ ap (λ us. all_edited (n + 1) edits us) agrees.units_are in
+    subst (λ us. Agrees us (n + 1) E2 R2 W2 (after_done (n + 1) edits s)) (sym units)
+    (agrees_done needs_law law n edits T s it (n + 1) E0 E1 E2 R0 R1 R2 W0 W1 W2 agrees (subst (λ us. IsRenewal us edits E0 R0 W0 it) units found) room written ready waits)
+
+pub keys_done : (n : ℕ) (edits : List Edit) (T U : Texts) (story : Story) (E0 : tree.BTreeMap Key Entry) (R0 W0 : set.BTreeSet Key) (it : Renewal) (keys now : List Key) (made : Option (Vec Key Global)) → U ≡ all_edited (n + 1) edits T → Agrees T n E0 R0 W0 (state_of story) → IsRenewal U edits E0 R0 W0 it → keys ≡ keys_of T → AreKeys U it.fresh.items it.gone.items made → now ≡ items_or made keys → now ≡ keys_of U
+keys_done n edits T U story E0 R0 W0 it keys now made is agrees found were are now_is =
+    let units : U ≡ all_edited (n + 1) edits (state_of story).units = is ∙ ap (λ us. all_edited (n + 1) edits us) agrees.units_are in
+    now_is
+    ∙ keys_after (n + 1) n edits T story E0 R0 W0 it keys made agrees (subst (λ us. IsRenewal us edits E0 R0 W0 it) units found) were (subst (λ us. AreKeys us it.fresh.items it.gone.items made) units are)
+    ∙ ap keys_of (sym units)

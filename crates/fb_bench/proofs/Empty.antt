@@ -18,20 +18,21 @@ no_key : (key : Key) → has_key [] key ≡ false
 unfolding has_key
 no_key key = no_kind key.kind
 
-agrees_empty : (most : ℕ) (entries : tree.BTreeMap Key Entry) (ready : set.BTreeSet Key) → entries.entries ≡ [] → ready.keys ≡ [] → Agrees [] 0 entries ready (start most)
-agrees_empty most entries ready no_entries no_keys = record {
+agrees_empty : (most : ℕ) (entries : tree.BTreeMap Key Entry) (ready waiting : set.BTreeSet Key) → entries.entries ≡ [] → ready.keys ≡ [] → waiting.keys ≡ [] → Agrees [] 0 entries ready waiting (start most)
+agrees_empty most entries ready waiting no_entries no_keys none_wait = record {
   units_are = refl;
   commits_are = refl;
   each = λ key. subst (λ es. EntryFits (start most) key (lookup (is_at (key_cmp key)) es)) (sym no_entries) (no_key key, refl, refl);
   ready_are = λ key. ap (λ ks. list_any (is_at (key_cmp key)) ks) no_keys;
+  waiting_are = λ key. ap (λ ks. list_any (is_at (key_cmp key)) ks) none_wait;
 }
 
-kept_start : (most limit : ℕ) (entries : tree.BTreeMap Key Entry) (ready : set.BTreeSet Key) → entries.entries ≡ [] → ready.keys ≡ [] → IsKept [] 0 [] entries ready (record { most_units = most; log = record { limit = limit; records = [] } })
+kept_start : (most limit : ℕ) (entries : tree.BTreeMap Key Entry) (ready waiting : set.BTreeSet Key) → entries.entries ≡ [] → ready.keys ≡ [] → waiting.keys ≡ [] → IsKept [] 0 [] entries ready waiting (record { most_units = most; log = record { limit = limit; records = [] } })
 unfolding replay replies
-kept_start most limit entries ready no_entries no_keys = record { agrees = agrees_empty most entries ready no_entries no_keys; replayed = refl; keys_are = refl; few = omega arith }
+kept_start most limit entries ready waiting no_entries no_keys none_wait = record { agrees = agrees_empty most entries ready waiting no_entries no_keys none_wait; replayed = refl; keys_are = refl; few = omega arith }
 
-pub kept_empty : (most limit : ℕ) (units : Texts) (keys : List Key) (entries : tree.BTreeMap Key Entry) (ready : set.BTreeSet Key) (log : Log) → units ≡ [] → keys ≡ [] → entries.entries ≡ [] → ready.keys ≡ [] → log ≡ record { limit = limit; records = [] } → IsKept units 0 keys entries ready (record { most_units = most; log = log })
-kept_empty most limit units keys entries ready log no_units none no_entries no_keys is =
-    subst (λ l. IsKept units 0 keys entries ready (record { most_units = most; log = l })) (sym is)
-    (subst (λ us. IsKept us 0 keys entries ready (record { most_units = most; log = record { limit = limit; records = [] } })) (sym no_units)
-    (subst (λ ks. IsKept [] 0 ks entries ready (record { most_units = most; log = record { limit = limit; records = [] } })) (sym none) (kept_start most limit entries ready no_entries no_keys)))
+pub kept_empty : (most limit : ℕ) (units : Texts) (keys : List Key) (entries : tree.BTreeMap Key Entry) (ready waiting : set.BTreeSet Key) (log : Log) → units ≡ [] → keys ≡ [] → entries.entries ≡ [] → ready.keys ≡ [] → waiting.keys ≡ [] → log ≡ record { limit = limit; records = [] } → IsKept units 0 keys entries ready waiting (record { most_units = most; log = log })
+kept_empty most limit units keys entries ready waiting log no_units none no_entries no_keys none_wait is =
+    subst (λ l. IsKept units 0 keys entries ready waiting (record { most_units = most; log = l })) (sym is)
+    (subst (λ us. IsKept us 0 keys entries ready waiting (record { most_units = most; log = record { limit = limit; records = [] } })) (sym no_units)
+    (subst (λ ks. IsKept [] 0 ks entries ready waiting (record { most_units = most; log = record { limit = limit; records = [] } })) (sym none) (kept_start most limit entries ready waiting no_entries no_keys none_wait)))

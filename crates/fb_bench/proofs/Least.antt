@@ -37,7 +37,7 @@ of_kind kind name (n ∷ ns) among =
     ] refl among
 
 -- the keys of the kind `Faults` are all keys
-at_name : (name : List ℕ) (names : List (List ℕ)) → is_among name names ≡ true → list_any (same_key (record { kind = Faults; unit = name })) (all_keys names) ≡ true
+pub at_name : (name : List ℕ) (names : List (List ℕ)) → is_among name names ≡ true → list_any (same_key (record { kind = Faults; unit = name })) (all_keys names) ≡ true
 at_name name names among = list_any-append (same_key (record { kind = Faults; unit = name })) (keys_of_kind names Faults) [] ∙ or_left _ _ (of_kind Faults name names among)
 
 pub no_kind : (kind : Kind) → has_kind_at kind None ≡ false

@@ -10,3 +10,6 @@ pub mod Writes
 pub mod Numbers
 pub mod Sorted
 pub mod AfterCalls
+pub mod Renewals
+pub mod KeySteps
+pub mod KeysKept

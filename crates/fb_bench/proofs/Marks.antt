@@ -36,9 +36,9 @@ take_fits s k q None true same ready fits =
     let at : k ≡ q = keys_equal k q same in
     let here : is_ready s q ≡ true = subst (λ x. is_ready s x ≡ true) at ready in
     let no : is_ready s q ≡ false = ap (λ b. b && not (s.out q)) fits.1 in cc
-take_fits s k q (Some it) true same ready fits = (fits.0, fits.1, ap (λ b. b || s.out q) same, fits.3)
+take_fits s k q (Some it) true same ready fits = (fits.0, fits.1, ap (λ b. b || s.out q) same, fits.3, fits.4)
 take_fits s k q None false same ready fits = (fits.0, fits.1, ap (λ b. b || s.out q) same ∙ fits.2)
-take_fits s k q (Some it) false same ready fits = (fits.0, fits.1, ap (λ b. b || s.out q) same ∙ fits.2, fits.3)
+take_fits s k q (Some it) false same ready fits = (fits.0, fits.1, ap (λ b. b || s.out q) same ∙ fits.2, fits.3, fits.4)
 
 and_not_true : (b : Bool) → (b && not true) ≡ false
 and_not_true true = refl
@@ -49,33 +49,39 @@ take_ready s k q true now same was = sym (ap (λ b. s.pending q && not (b || s.o
 take_ready s k q false now same was = was ∙ sym (ap (λ b. s.pending q && not (b || s.out q)) same)
 
 -- what is kept agrees after a key is handed out
-pub agrees_take : (units : Texts) (commits : ℕ) (es fs : tree.BTreeMap Key Entry) (rs ts : set.BTreeSet Key) (s : State) (k : Key) → Agrees units commits es rs s → is_ready s k ≡ true → ((q : Key) → tree.get key_cmp fs q ≡ cond (same_key k q) (option_map (λ (it : Entry). record it { out = true }) (tree.get key_cmp es q)) (tree.get key_cmp es q)) → ((q : Key) → set.contains key_cmp ts q ≡ cond (same_key k q) false (set.contains key_cmp rs q)) → Agrees units commits fs ts (after_take (Some k) s)
-agrees_take units commits es fs rs ts s k agrees ready marked left = record {
+pub agrees_take : (units : Texts) (commits : ℕ) (es fs : tree.BTreeMap Key Entry) (rs ts ws : set.BTreeSet Key) (s : State) (k : Key) → Agrees units commits es rs ws s → is_ready s k ≡ true → ((q : Key) → tree.get key_cmp fs q ≡ cond (same_key k q) (option_map (λ (it : Entry). record it { out = true }) (tree.get key_cmp es q)) (tree.get key_cmp es q)) → ((q : Key) → set.contains key_cmp ts q ≡ cond (same_key k q) false (set.contains key_cmp rs q)) → Agrees units commits fs ts ws (after_take (Some k) s)
+agrees_take units commits es fs rs ts ws s k agrees ready marked left = record {
   units_are = agrees.units_are;
   commits_are = agrees.commits_are;
   each = λ q. subst (λ o. EntryFits (after_take (Some k) s) q o) (sym (marked q)) (take_fits s k q (tree.get key_cmp es q) (same_key k q) refl ready (agrees.each q));
   ready_are = λ q. left q ∙ take_ready s k q (same_key k q) (set.contains key_cmp rs q) refl (agrees.ready_are q);
+  waiting_are = agrees.waiting_are;
 }
 
 -- ---- after a result that is accepted
 
-pub deliver_fits : (s : State) (k q : Key) (o : Option Entry) (v : Arc Value Global) (b : Bool) → same_key k q ≡ b → finding_of v.value ≡ scratch s.units k → EntryFits s q o → EntryFits (after_deliver Accepted k s) q (cond b (option_map (λ (it : Entry). record { value = Some v; out = false }) o) o)
+pub deliver_fits : (s : State) (k q : Key) (o : Option Entry) (v : Arc Value Global) (b : Bool) → same_key k q ≡ b → finding_of v.value ≡ scratch s.units k → EntryFits s q o → EntryFits (after_deliver Accepted k s) q (cond b (option_map (λ (it : Entry). record it { value = Some v; out = false }) o) o)
 deliver_fits s k q None v true same value fits = (fits.0, ap (λ b. not b && s.pending q) same, ap (λ b. not b && s.out q) same)
 deliver_fits s k q (Some it) v true same value fits =
-    (fits.0, ap (λ b. not b && s.pending q) same, ap (λ b. not b && s.out q) same, value ∙ ap (λ x. scratch s.units x) (keys_equal k q same))
+    (fits.0, ap (λ b. not b && s.pending q) same, ap (λ b. not b && s.out q) same, value ∙ ap (λ x. scratch s.units x) (keys_equal k q same), fits.4)
 deliver_fits s k q None v false same value fits = (fits.0, ap (λ b. not b && s.pending q) same ∙ fits.1, ap (λ b. not b && s.out q) same ∙ fits.2)
-deliver_fits s k q (Some it) v false same value fits = (fits.0, ap (λ b. not b && s.pending q) same ∙ fits.1, ap (λ b. not b && s.out q) same ∙ fits.2, fits.3)
+deliver_fits s k q (Some it) v false same value fits = (fits.0, ap (λ b. not b && s.pending q) same ∙ fits.1, ap (λ b. not b && s.out q) same ∙ fits.2, fits.3, fits.4)
 
 pub deliver_ready : (s : State) (k q : Key) (b now : Bool) → same_key k q ≡ b → now ≡ is_ready s q → cond b false now ≡ is_ready (after_deliver Accepted k s) q
 deliver_ready s k q true now same was = sym (ap (λ b. (not b && s.pending q) && not (not b && s.out q)) same)
 deliver_ready s k q false now same was = was ∙ sym (ap (λ b. (not b && s.pending q) && not (not b && s.out q)) same)
 
-pub agrees_deliver : (units : Texts) (commits : ℕ) (es fs : tree.BTreeMap Key Entry) (rs ts : set.BTreeSet Key) (s : State) (k : Key) (v : Arc Value Global) → Agrees units commits es rs s → finding_of v.value ≡ scratch s.units k → ((q : Key) → tree.get key_cmp fs q ≡ cond (same_key k q) (option_map (λ (it : Entry). record { value = Some v; out = false }) (tree.get key_cmp es q)) (tree.get key_cmp es q)) → ((q : Key) → set.contains key_cmp ts q ≡ cond (same_key k q) false (set.contains key_cmp rs q)) → Agrees units commits fs ts (after_deliver Accepted k s)
-agrees_deliver units commits es fs rs ts s k v agrees value marked left = record {
+deliver_waits : (s : State) (k q : Key) (b now : Bool) → same_key k q ≡ b → now ≡ s.pending q → cond b false now ≡ removed s.pending k q
+deliver_waits s k q true now same was = sym (ap (λ b. not b && s.pending q) same)
+deliver_waits s k q false now same was = was ∙ sym (ap (λ b. not b && s.pending q) same)
+
+pub agrees_deliver : (units : Texts) (commits : ℕ) (es fs : tree.BTreeMap Key Entry) (rs ts ws xs : set.BTreeSet Key) (s : State) (k : Key) (v : Arc Value Global) → Agrees units commits es rs ws s → finding_of v.value ≡ scratch s.units k → ((q : Key) → tree.get key_cmp fs q ≡ cond (same_key k q) (option_map (λ (it : Entry). record it { value = Some v; out = false }) (tree.get key_cmp es q)) (tree.get key_cmp es q)) → ((q : Key) → set.contains key_cmp ts q ≡ cond (same_key k q) false (set.contains key_cmp rs q)) → ((q : Key) → set.contains key_cmp xs q ≡ cond (same_key k q) false (set.contains key_cmp ws q)) → Agrees units commits fs ts xs (after_deliver Accepted k s)
+agrees_deliver units commits es fs rs ts ws xs s k v agrees value marked left gone = record {
   units_are = agrees.units_are;
   commits_are = agrees.commits_are;
   each = λ q. subst (λ o. EntryFits (after_deliver Accepted k s) q o) (sym (marked q)) (deliver_fits s k q (tree.get key_cmp es q) v (same_key k q) refl value (agrees.each q));
   ready_are = λ q. left q ∙ deliver_ready s k q (same_key k q) (set.contains key_cmp rs q) refl (agrees.ready_are q);
+  waiting_are = λ q. gone q ∙ deliver_waits s k q (same_key k q) (set.contains key_cmp ws q) refl (agrees.waiting_are q);
 }
 
 accepted_stale : (o : Option (List ℕ)) → Accepted ≡ unless_stale o → o ≡ None
@@ -105,9 +111,9 @@ returned s k = record s { out = removed s.out k }
 
 return_fits : (s : State) (k q : Key) (o : Option Entry) (b : Bool) → same_key k q ≡ b → EntryFits s q o → EntryFits (returned s k) q (cond b (option_map (λ (it : Entry). record it { out = false }) o) o)
 return_fits s k q None true same fits = (fits.0, fits.1, ap (λ b. not b && s.out q) same)
-return_fits s k q (Some it) true same fits = (fits.0, fits.1, ap (λ b. not b && s.out q) same, fits.3)
+return_fits s k q (Some it) true same fits = (fits.0, fits.1, ap (λ b. not b && s.out q) same, fits.3, fits.4)
 return_fits s k q None false same fits = (fits.0, fits.1, ap (λ b. not b && s.out q) same ∙ fits.2)
-return_fits s k q (Some it) false same fits = (fits.0, fits.1, ap (λ b. not b && s.out q) same ∙ fits.2, fits.3)
+return_fits s k q (Some it) false same fits = (fits.0, fits.1, ap (λ b. not b && s.out q) same ∙ fits.2, fits.3, fits.4)
 
 return_ready : (s : State) (k q : Key) (b now : Bool) → same_key k q ≡ b → s.pending k ≡ true → now ≡ is_ready s q → cond b true now ≡ is_ready (returned s k) q
 return_ready s k q true now same waits was =
@@ -120,20 +126,22 @@ return_kept s k q true now same kept was =
     was ∙ ap (λ p. p && not (s.out q)) none ∙ sym (ap (λ p. p && not (not (same_key k q) && s.out q)) none)
 return_kept s k q false now same kept was = was ∙ sym (ap (λ b. s.pending q && not (not b && s.out q)) same)
 
-pub agrees_return : (units : Texts) (commits : ℕ) (es fs : tree.BTreeMap Key Entry) (rs ts : set.BTreeSet Key) (s : State) (k : Key) → Agrees units commits es rs s → s.pending k ≡ true → ((q : Key) → tree.get key_cmp fs q ≡ cond (same_key k q) (option_map (λ (it : Entry). record it { out = false }) (tree.get key_cmp es q)) (tree.get key_cmp es q)) → ((q : Key) → set.contains key_cmp ts q ≡ cond (same_key k q) true (set.contains key_cmp rs q)) → Agrees units commits fs ts (returned s k)
-agrees_return units commits es fs rs ts s k agrees waits marked joined = record {
+pub agrees_return : (units : Texts) (commits : ℕ) (es fs : tree.BTreeMap Key Entry) (rs ts ws : set.BTreeSet Key) (s : State) (k : Key) → Agrees units commits es rs ws s → s.pending k ≡ true → ((q : Key) → tree.get key_cmp fs q ≡ cond (same_key k q) (option_map (λ (it : Entry). record it { out = false }) (tree.get key_cmp es q)) (tree.get key_cmp es q)) → ((q : Key) → set.contains key_cmp ts q ≡ cond (same_key k q) true (set.contains key_cmp rs q)) → Agrees units commits fs ts ws (returned s k)
+agrees_return units commits es fs rs ts ws s k agrees waits marked joined = record {
   units_are = agrees.units_are;
   commits_are = agrees.commits_are;
   each = λ q. subst (λ o. EntryFits (returned s k) q o) (sym (marked q)) (return_fits s k q (tree.get key_cmp es q) (same_key k q) refl (agrees.each q));
   ready_are = λ q. joined q ∙ return_ready s k q (same_key k q) (set.contains key_cmp rs q) refl waits (agrees.ready_are q);
+  waiting_are = agrees.waiting_are;
 }
 
-pub agrees_return_kept : (units : Texts) (commits : ℕ) (es fs : tree.BTreeMap Key Entry) (rs : set.BTreeSet Key) (s : State) (k : Key) → Agrees units commits es rs s → s.pending k ≡ false → ((q : Key) → tree.get key_cmp fs q ≡ cond (same_key k q) (option_map (λ (it : Entry). record it { out = false }) (tree.get key_cmp es q)) (tree.get key_cmp es q)) → Agrees units commits fs rs (returned s k)
-agrees_return_kept units commits es fs rs s k agrees kept marked = record {
+pub agrees_return_kept : (units : Texts) (commits : ℕ) (es fs : tree.BTreeMap Key Entry) (rs ws : set.BTreeSet Key) (s : State) (k : Key) → Agrees units commits es rs ws s → s.pending k ≡ false → ((q : Key) → tree.get key_cmp fs q ≡ cond (same_key k q) (option_map (λ (it : Entry). record it { out = false }) (tree.get key_cmp es q)) (tree.get key_cmp es q)) → Agrees units commits fs rs ws (returned s k)
+agrees_return_kept units commits es fs rs ws s k agrees kept marked = record {
   units_are = agrees.units_are;
   commits_are = agrees.commits_are;
   each = λ q. subst (λ o. EntryFits (returned s k) q o) (sym (marked q)) (return_fits s k q (tree.get key_cmp es q) (same_key k q) refl (agrees.each q));
   ready_are = λ q. return_kept s k q (same_key k q) (set.contains key_cmp rs q) refl kept (agrees.ready_are q);
+  waiting_are = agrees.waiting_are;
 }
 
 -- a key put among the ready ones and taken out again, which was not there

@@ -1,32 +1,29 @@
 -- The entries after a commit.
-use Rattle.std.proofs.Common.{◌≡◌, ℕ, Bool, true, false, ◌||◌, ◌&&◌, not, List, [], ◌∷◌, ◌++◌, map, refl, sym, ap, ◌∙◌, subst, Option, Some, None, cond, is_none}
-use Rattle.std.specs.List.{list_any}
+use Rattle.std.proofs.Common.{◌≡◌, ℕ, Bool, true, false, ◌||◌, ◌&&◌, not, List, [], ◌∷◌, ◌++◌, map, filter, refl, sym, ap, ◌∙◌, subst, Option, Some, None, cond, is_none}
+use Rattle.std.specs.List.{list_any, AllByRecursion}
+use Rattle.std.specs.List.Sorted.{IsStrictlySortedBy}
 use Rattle.std.specs.Map.{lookup, remove_entry}
-use Rattle.std.specs.BTreeMap as tree
 use Rattle.std.specs.BTreeMap.{is_at, insert_entry}
-use Rattle.std.specs.BTreeSet as set
-use Rattle.std.specs.Ordering.{match_ordering}
+use Rattle.std.specs.Ordering.{is_eq, match_ordering}
 use Rattle.std.specs.declared.sync.Arc.{Arc}
 use Rattle.std.specs.declared.alloc.Global.{Global}
 use Rattle.std.specs.declared.cmp.Ordering.TheVariants.{Less, Equal, Greater}
-use Rattle.fb_library.proofs.Names.{exact_name}
+use Rattle.fb_library.proofs.Names.{exact_name, name_total}
 use Rattle.std.proofs.lemmas.List.Folds.{list_any-append}
 use Rattle.std.proofs.lemmas.Cmp.{eq_by_cmp_equiv}
 use Rattle.std.specs.Option.{option_map}
-use Rattle.fb_library.specs.Texts.{Texts, Held, held, text_in, Edit, Puts, Removes, unit_of, edited, all_edited, names_of}
+use Rattle.fb_library.specs.Texts.{Texts, Held, held, text_in, Edit, Puts, Removes, unit_of, edited, all_edited}
 use Rattle.fb_text.specs.Order.{name_cmp}
 use Rattle.fb_jobs.specs.declared.key.Key.{Key}
 use Rattle.fb_jobs.specs.declared.value.Value.{Value}
-use Rattle.fb_jobs.specs.Values.{finding_of}
 use Rattle.fb_jobs.specs.Keys.{has_key, needs, scratch}
 use Rattle.fb_jobs.specs.KeyOrder.{key_cmp, same_key}
 use Rattle.fb_jobs.specs.Reads.{is_among, Agree}
 use Rattle.fb_bench.specs.declared.entry.Entry.{Entry}
-use Rattle.fb_bench.specs.Machine.{State, is_ready, after_done, reaches, all_keys}
-use Rattle.fb_bench.specs.Kept.{EntryFits, IsScratch, Agrees}
-use Rattle.fb_bench.specs.Renew.{Renews, FitsIf, RenewedSoFar, IsRebuilt, value_in}
+use Rattle.fb_bench.specs.Machine.{State, after_done, reaches}
+use Rattle.fb_bench.specs.Kept.{EntryFits, IsScratch}
+use Rattle.fb_bench.specs.Renew.{is_of, is_hit, IsAfresh}
 use Rattle.fb_bench.proofs.Order.{key_total, keys_equal, is_equal}
-use Rattle.fb_bench.proofs.Least.{key_named}
 
 -- ---- names that are not changed
 
@@ -79,7 +76,7 @@ not_met n (d ∷ ds) names none among =
 pub agree_unreached : (commit : ℕ) (es : List Edit) (T : Texts) (k : Key) → reaches (map unit_of es) (all_edited commit es T) k ≡ false → Agree (all_edited commit es T) T (needs (all_edited commit es T) k)
 agree_unreached commit es T k unreached n among = ap (option_map text_in) (held_all_edited n commit es T (not_met n (map unit_of es) (needs (all_edited commit es T) k) unreached among))
 
--- ---- one entry
+-- ---- booleans
 
 or_true : (b : Bool) → (b || true) ≡ true
 or_true true = refl
@@ -97,135 +94,142 @@ and_true : (b : Bool) → (b && true) ≡ b
 and_true true = refl
 and_true false = refl
 
-kept_value : (T U : Texts) (k : Key) (old new : Option (Arc Value Global)) → value_in new ≡ value_in old → scratch T k ≡ scratch U k → IsScratch T k old → (is_none old ≡ is_none new) × IsScratch U k new
-kept_value T U k None None same law was = (refl, tt)
-kept_value T U k None (Some w) same law was = cc
-kept_value T U k (Some v) None same law was = cc
-kept_value T U k (Some v) (Some w) same law was = let values : w.value ≡ v.value = cc in (refl, ap finding_of values ∙ was ∙ law)
-
-unscratched : (U : Texts) (k : Key) (new : Option (Arc Value Global)) → new ≡ None → (true ≡ is_none new) × IsScratch U k new
-unscratched U k new none = subst (λ o. (true ≡ is_none o) × IsScratch U k o) (sym none) (refl, tt)
-
-pub renewed_fits : (commit : ℕ) (es : List Edit) (s : State) (k : Key) (old : Option Entry) (r : Bool) (it : Entry) → has_key (all_edited commit es s.units) k ≡ true → EntryFits s k old → reaches (map unit_of es) (all_edited commit es s.units) k ≡ r → (r ≡ false → scratch s.units k ≡ scratch (all_edited commit es s.units) k) → Renews old r it → EntryFits (after_done commit es s) k (Some it)
-renewed_fits commit es s k None r it has fits reach law new =
-    let value = unscratched (all_edited commit es s.units) k it.value new.0 in (
-      has,
-      (λ i. has i && ((s.pending k || not (fits.0 i)) || reach i)) ∙ ap (λ b. b || r) (or_true (s.pending k)) ∙ value.0,
-      (λ i. ((has i && fits.0 i) && s.out k) && not (reach i)) ∙ sym new.1,
-      value.1,
-    )
-renewed_fits commit es s k (Some old) true it has fits reach law new =
-    let value = unscratched (all_edited commit es s.units) k it.value new.0 in (
-      has,
-      (λ i. has i && ((s.pending k || not (has_key s.units k)) || reach i)) ∙ or_true _ ∙ value.0,
-      (λ i. ((has i && has_key s.units k) && s.out k) && not (reach i)) ∙ and_false _ ∙ sym new.1,
-      value.1,
-    )
-renewed_fits commit es s k (Some old) false it has fits reach law new =
-    let value = kept_value s.units (all_edited commit es s.units) k old.value it.value new.0 (law refl) fits.3 in (
-      has,
-      (λ i. has i && ((s.pending k || not (fits.0 i)) || reach i)) ∙ or_false _ ∙ or_false _ ∙ fits.1 ∙ value.0,
-      (λ i. ((has i && fits.0 i) && s.out k) && not (reach i)) ∙ and_true _ ∙ fits.2 ∙ sym new.1,
-      value.1,
-    )
-
--- ---- one more key
+-- ---- keys among keys
 
 same_flips : (a b : Key) → same_key a b ≡ same_key b a
 same_flips a b = (eq_by_cmp_equiv key_total).symm a b
 
-among_more : (q k : Key) (seen : List Key) → list_any (same_key q) (seen ++ k ∷ []) ≡ (list_any (same_key q) seen || same_key k q)
-among_more q k seen = list_any-append (same_key q) seen (k ∷ []) ∙ ap (λ b. list_any (same_key q) seen || b) (or_false (same_key q k) ∙ same_flips q k)
+pub of_more : (q k : Key) (ks : List Key) → is_of q (ks ++ k ∷ []) ≡ (is_of q ks || same_key k q)
+of_more q k ks = list_any-append (same_key q) ks (k ∷ []) ∙ ap (λ b. is_of q ks || b) (or_false (same_key q k) ∙ same_flips q k)
 
-fits_more : (s : State) (q k : Key) (a b : Bool) (o : Option Entry) (it : Entry) → same_key k q ≡ b → EntryFits s k (Some it) → FitsIf a s q o → FitsIf (a || b) s q (cond b (Some it) o)
-fits_more s q k a true o it same here was = subst (λ x. FitsIf x s q (Some it)) (sym (or_true a)) (subst (λ x. EntryFits s x (Some it)) (keys_equal k q same) here)
-fits_more s q k a false o it same here was = subst (λ x. FitsIf x s q o) (sym (or_false a)) was
+pub of_both : (q : Key) (ks others : List Key) → is_of q (ks ++ others) ≡ (is_of q ks || is_of q others)
+of_both q ks others = list_any-append (same_key q) ks others
 
-fits_skipped : (s : State) (q k : Key) (a b : Bool) (o : Option Entry) → same_key k q ≡ b → EntryFits s k None → FitsIf a s q o → FitsIf (a || b) s q o
-fits_skipped s q k true b o same here was = was
-fits_skipped s q k false false o same here was = was
-fits_skipped s q k false true o same here was = subst (λ x. EntryFits s q x) (sym was) (subst (λ x. EntryFits s x None) (keys_equal k q same) here)
+module _ (p : Key → Bool) (q k : Key) (ks : List Key) where
+  of_one : (same keep : Bool) → same_key q k ≡ same → p k ≡ keep → is_of q (filter p ks) ≡ (is_of q ks && p q) → is_of q (cond keep (k ∷ filter p ks) (filter p ks)) ≡ ((same || is_of q ks) && p q)
+  of_one true true at keeps rest = ap (λ b. b || is_of q (filter p ks)) at ∙ sym (ap p (keys_equal q k at) ∙ keeps)
+  of_one true false at keeps rest =
+      let here : p q ≡ false = ap p (keys_equal q k at) ∙ keeps in
+      rest ∙ ap (λ b. is_of q ks && b) here ∙ and_false (is_of q ks) ∙ sym here
+  of_one false true at keeps rest = ap (λ b. b || is_of q (filter p ks)) at ∙ rest
+  of_one false false at keeps rest = rest
 
-ready_more : (s : State) (q k : Key) (a b r c : Bool) → same_key k q ≡ b → r ≡ is_ready s k → c ≡ (a && is_ready s q) → cond b (r || c) c ≡ ((a || b) && is_ready s q)
-ready_more s q k a true r c same here was =
-    (λ i. (here ∙ ap (λ x. is_ready s x) (keys_equal k q same)) i || was i)
-    ∙ absorb (is_ready s q) a ∙ sym (ap (λ x. x && is_ready s q) (or_true a))
-  where
-    absorb : (x y : Bool) → (x || (y && x)) ≡ x
-    absorb true y = refl
-    absorb false y = and_false y
-ready_more s q k a false r c same here was = was ∙ sym (ap (λ x. x && is_ready s q) (or_false a))
+-- the keys that pass a test
+pub of_filtered : (p : Key → Bool) (q : Key) (ks : List Key) → is_of q (filter p ks) ≡ (is_of q ks && p q)
+of_filtered p q [] = refl
+of_filtered p q (k ∷ ks) = of_one p q k ks (same_key q k) (p k) refl refl (of_filtered p q ks)
 
-ready_skipped : (s : State) (q k : Key) (a b c : Bool) → same_key k q ≡ b → is_ready s k ≡ false → c ≡ (a && is_ready s q) → c ≡ ((a || b) && is_ready s q)
-ready_skipped s q k a true c same here was =
-    let none : is_ready s q ≡ false = subst (λ x. is_ready s x ≡ false) (keys_equal k q same) here in
-    was ∙ ap (λ x. a && x) none ∙ and_false a ∙ sym (ap (λ x. (a || true) && x) none ∙ and_false (a || true))
-ready_skipped s q k a false c same here was = was ∙ sym (ap (λ x. x && is_ready s q) (or_false a))
+-- ---- which entries are reached
 
-pub renewed_more : (seen : List Key) (k : Key) (it : Entry) (es fs : tree.BTreeMap Key Entry) (rs ts : set.BTreeSet Key) (s : State) → RenewedSoFar seen es rs s → EntryFits s k (Some it) → ((q : Key) → tree.get key_cmp fs q ≡ cond (same_key k q) (Some it) (tree.get key_cmp es q)) → ((q : Key) → set.contains key_cmp ts q ≡ cond (same_key k q) ((is_none it.value && not it.out) || set.contains key_cmp rs q) (set.contains key_cmp rs q)) → RenewedSoFar (seen ++ k ∷ []) fs ts s
-renewed_more seen k it es fs rs ts s so_far fits put joined = record {
-  each = λ q. subst (λ b. FitsIf b s q (tree.get key_cmp fs q)) (sym (among_more q k seen)) (subst (λ o. FitsIf (list_any (same_key q) seen || same_key k q) s q o) (sym (put q)) (fits_more s q k (list_any (same_key q) seen) (same_key k q) (tree.get key_cmp es q) it refl fits (so_far.each q)));
-  ready_are = λ q. joined q ∙ ready_more s q k (list_any (same_key q) seen) (same_key k q) (is_none it.value && not it.out) (set.contains key_cmp rs q) refl (sym (λ i. fits.1 i && not (fits.2 i))) (so_far.ready_are q) ∙ ap (λ b. b && is_ready s q) (sym (among_more q k seen));
-}
+module _ (P : List ℕ → Bool) where
+  abbrev pub hit_in : List (Key × Entry) → List Key
+  hit_in es = map (λ e. e.0) (filter (λ e. list_any P e.1.needs.items) es)
 
-pub renewed_skipped : (seen : List Key) (k : Key) (es : tree.BTreeMap Key Entry) (rs : set.BTreeSet Key) (s : State) → RenewedSoFar seen es rs s → EntryFits s k None → RenewedSoFar (seen ++ k ∷ []) es rs s
-renewed_skipped seen k es rs s so_far fits = record {
-  each = λ q. subst (λ b. FitsIf b s q (tree.get key_cmp es q)) (sym (among_more q k seen)) (fits_skipped s q k (list_any (same_key q) seen) (same_key k q) (tree.get key_cmp es q) refl fits (so_far.each q));
-  ready_are = λ q. ready_skipped s q k (list_any (same_key q) seen) (same_key k q) (set.contains key_cmp rs q) refl (ap (λ b. b && not (s.out k)) fits.1) (so_far.ready_are q) ∙ ap (λ b. b && is_ready s q) (sym (among_more q k seen));
-}
+  none_after : (q : Key) (es : List (Key × Entry)) → AllByRecursion (λ k. key_cmp q k ≡ Less) (map (λ e. e.0) es) → is_of q (hit_in es) ≡ false
+  none_after q [] above = refl
+  none_after q (e ∷ es) above =
+      elim (list_any P e.1.needs.items) as (λ b. is_of q (map (λ x. x.0) (cond b (e ∷ filter (λ x. list_any P x.1.needs.items) es) (filter (λ x. list_any P x.1.needs.items) es))) ≡ false) [
+        | true ↦ ap (λ o. is_eq o || is_of q (hit_in es)) above.0 ∙ none_after q es above.1
+        | false ↦ none_after q es above.1
+      ]
 
--- a key that the texts after the commit don't have
-pub gone_fits : (commit : ℕ) (es : List Edit) (s : State) (k : Key) → has_key (all_edited commit es s.units) k ≡ false → EntryFits (after_done commit es s) k None
-gone_fits commit es s k gone = (
-  gone,
-  ap (λ b. b && ((s.pending k || not (has_key s.units k)) || reaches (map unit_of es) (all_edited commit es s.units) k)) gone,
-  ap (λ b. ((b && has_key s.units k) && s.out k) && not (reaches (map unit_of es) (all_edited commit es s.units) k)) gone,
-)
+  hit_one : (q : Key) (e : Key × Entry) (es : List (Key × Entry)) (same hit : Bool) → same_key q e.0 ≡ same → list_any P e.1.needs.items ≡ hit → AllByRecursion (λ k. key_cmp e.0 k ≡ Less) (map (λ x. x.0) es) → is_of q (hit_in es) ≡ is_hit P (lookup (is_at (key_cmp q)) es) → is_of q (map (λ x. x.0) (cond hit (e ∷ filter (λ x. list_any P x.1.needs.items) es) (filter (λ x. list_any P x.1.needs.items) es))) ≡ is_hit P (cond same (Some e.1) (lookup (is_at (key_cmp q)) es))
+  hit_one q e es true true at hits above rest = ap (λ b. b || is_of q (hit_in es)) at ∙ sym hits
+  hit_one q e es true false at hits above rest = none_after q es (subst (λ k. AllByRecursion (λ x. key_cmp k x ≡ Less) (map (λ x. x.0) es)) (sym (keys_equal q e.0 at)) above) ∙ sym hits
+  hit_one q e es false true at hits above rest = ap (λ b. b || is_of q (hit_in es)) at ∙ rest
+  hit_one q e es false false at hits above rest = rest
 
--- ---- all keys
+  -- a key is among them where what it has is hit
+  pub hit_is : (q : Key) (es : List (Key × Entry)) → IsStrictlySortedBy key_cmp (map (λ e. e.0) es) → is_of q (hit_in es) ≡ is_hit P (lookup (is_at (key_cmp q)) es)
+  unfolding IsStrictlySortedBy
+  hit_is q [] rise = refl
+  hit_is q (e ∷ es) rise = hit_one q e es (same_key q e.0) (list_any P e.1.needs.items) refl refl rise.0 (hit_is q es rise.1)
 
-all_fits : (commit : ℕ) (es : List Edit) (s : State) (q : Key) (o : Option Entry) (b : Bool) → list_any (same_key q) (all_keys (names_of (all_edited commit es s.units))) ≡ b → FitsIf b (after_done commit es s) q o → EntryFits (after_done commit es s) q o
-all_fits commit es s q o true among fits = fits
-all_fits commit es s q o false none fits =
-    let gone : has_key (all_edited commit es s.units) q ≡ false =
-    elim (has_key (all_edited commit es s.units) q) as (λ h. has_key (all_edited commit es s.units) q ≡ h → h ≡ false) [
-      | true ↦ λ has. let named : list_any (same_key q) (all_keys (names_of (all_edited commit es s.units))) ≡ true = key_named (all_edited commit es s.units) q has in cc
-      | false ↦ λ _. refl
-    ] refl in
-    subst (λ x. EntryFits (after_done commit es s) q x) (sym fits) (gone_fits commit es s q gone)
+nothing_after : (keys : List Key) → keys ≡ keys ++ []
+nothing_after [] = refl
+nothing_after (key ∷ keys) = ap (λ ks. key ∷ ks) (nothing_after keys)
 
-all_ready : (s : State) (q : Key) (o : Option Entry) (b : Bool) → EntryFits s q o → FitsIf b s q o → (b && is_ready s q) ≡ is_ready s q
-all_ready s q o true fits given = refl
-all_ready s q o false fits given = sym (ap (λ b. b && not (s.out q)) (subst (λ x. EntryFits s q x) given fits).1)
+-- nothing is left
+pub hit_all : (P : List ℕ → Bool) (keys : List Key) (rest es : List (Key × Entry)) → rest ≡ [] → keys ++ hit_in P rest ≡ hit_in P es → keys ≡ hit_in P es
+hit_all P keys rest es none all = nothing_after keys ∙ sym (ap (λ xs. keys ++ hit_in P xs) none) ∙ all
 
--- what is kept agrees with the state after the commit
-pub agrees_done : (commit : ℕ) (edits : List Edit) (units : Texts) (es : tree.BTreeMap Key Entry) (rs : set.BTreeSet Key) (s : State) → units ≡ all_edited commit edits s.units → RenewedSoFar (all_keys (names_of (all_edited commit edits s.units))) es rs (after_done commit edits s) → Agrees units commit es rs (after_done commit edits s)
-agrees_done commit edits units es rs s same all = record {
-  units_are = same;
-  commits_are = refl;
-  each = λ q. all_fits commit edits s q (tree.get key_cmp es q) _ refl (all.each q);
-  ready_are = λ q. all.ready_are q ∙ all_ready (after_done commit edits s) q (tree.get key_cmp es q) _ (all_fits commit edits s q (tree.get key_cmp es q) _ refl (all.each q)) (all.each q);
-}
+any_none : {A : Type 0} (xs : List A) → list_any (λ x. false) xs ≡ false
+any_none [] = refl
+any_none (x ∷ xs) = any_none xs
 
--- nothing is entered yet
-pub rebuilt_none : (units : Texts) (edits : List Edit) (old es : tree.BTreeMap Key Entry) (rs : set.BTreeSet Key) → es.entries ≡ [] → rs.keys ≡ [] → IsRebuilt units edits old [] es rs
-rebuilt_none units edits old es rs no_entries no_keys s commit same fits = record {
-  each = λ q. ap (λ xs. lookup (is_at (key_cmp q)) xs) no_entries;
-  ready_are = λ q. ap (λ ks. list_any (is_at (key_cmp q)) ks) no_keys;
-}
+shuffle : (a b c d : Bool) → ((a || b) || (c || d)) ≡ ((a || c) || (b || d))
+shuffle true b c d = refl
+shuffle false true true d = refl
+shuffle false true false d = refl
+shuffle false false c d = refl
 
-pub rebuilt_skipped : (units : Texts) (edits : List Edit) (old es : tree.BTreeMap Key Entry) (rs : set.BTreeSet Key) (k : Key) (seen : List Key) → has_key units k ≡ false → IsRebuilt units edits old seen es rs → IsRebuilt units edits old (seen ++ k ∷ []) es rs
-rebuilt_skipped units edits old es rs k seen none so_far s commit same fits =
-    renewed_skipped seen k es rs (after_done commit edits s) (so_far s commit same fits) (gone_fits commit edits s k (ap (λ us. has_key us k) (sym same) ∙ none))
+any_or : {A : Type 0} (p r : A → Bool) (xs : List A) → list_any (λ x. p x || r x) xs ≡ (list_any p xs || list_any r xs)
+any_or p r [] = refl
+any_or p r (x ∷ xs) = ap (λ b. (p x || r x) || b) (any_or p r xs) ∙ shuffle (p x) (r x) (list_any p xs) (list_any r xs)
 
--- the law that texts which agree on a key's needs have the same value
+flips : (a b : List ℕ) → is_at (name_cmp a) b ≡ is_at (name_cmp b) a
+flips a b = (eq_by_cmp_equiv name_total).symm a b
+
+-- some of these are among those, where some of those are among these
+pub any_swap : (ds ns : List (List ℕ)) → list_any (λ d. is_among d ns) ds ≡ list_any (λ n. is_among n ds) ns
+any_swap [] ns = sym (any_none ns)
+any_swap (d ∷ ds) ns = (λ i. list_any (λ n. flips d n i) ns || any_swap ds ns i) ∙ sym (any_or (λ n. is_at (name_cmp n) d) (λ n. is_among n ds) ns)
+
+-- ---- one entry
+
+kept_value : (T U : Texts) (k : Key) (value : Option (Arc Value Global)) → scratch T k ≡ scratch U k → IsScratch T k value → IsScratch U k value
+kept_value T U k None law was = tt
+kept_value T U k (Some v) law was = was ∙ law
+
+unscratched : (U : Texts) (k : Key) (new : Option (Arc Value Global)) → new ≡ None → (true ≡ is_none new) × IsScratch U k new
+unscratched U k new none = subst (λ o. (true ≡ is_none o) × IsScratch U k o) (sym none) (refl, tt)
+
+-- the laws that texts which agree on a key's needs have the same needs and the same value
+abbrev pub NeedsLocal : Type 0
+NeedsLocal = (texts others : Texts) (key : Key) → Agree texts others (needs texts key) → needs others key ≡ needs texts key
+
 abbrev pub ScratchLocal : Type 0
 ScratchLocal = (texts others : Texts) (key : Key) → Agree texts others (needs texts key) → scratch others key ≡ scratch texts key
 
-pub rebuilt_more : (law : ScratchLocal) (units : Texts) (edits : List Edit) (old es fs : tree.BTreeMap Key Entry) (rs ts : set.BTreeSet Key) (k : Key) (r : Bool) (it : Entry) (seen : List Key) → has_key units k ≡ true → r ≡ list_any (λ name. is_among name (needs units k)) (map unit_of edits) → Renews (tree.get key_cmp old k) r it → ((q : Key) → tree.get key_cmp fs q ≡ cond (same_key k q) (Some it) (tree.get key_cmp es q)) → ((q : Key) → set.contains key_cmp ts q ≡ cond (same_key k q) ((is_none it.value && not it.out) || set.contains key_cmp rs q) (set.contains key_cmp rs q)) → IsRebuilt units edits old seen es rs → IsRebuilt units edits old (seen ++ k ∷ []) fs ts
-rebuilt_more law units edits old es fs rs ts k r it seen has reach new put joined so_far s commit same fits =
-    let reached : reaches (map unit_of edits) (all_edited commit edits s.units) k ≡ r = ap (λ us. reaches (map unit_of edits) us k) (sym same) ∙ sym reach in
-    renewed_more seen k it es fs rs ts (after_done commit edits s) (so_far s commit same fits)
-    (renewed_fits commit edits s k (tree.get key_cmp old k) r it (ap (λ us. has_key us k) (sym same) ∙ has) (fits k) reached
-    (λ not. law (all_edited commit edits s.units) s.units k (agree_unreached commit edits s.units k (reached ∙ not))) new)
-    put joined
+waits_bits : (p h r : Bool) → (not h || r) ≡ true → ((p || not h) || r) ≡ true
+waits_bits true h r new = refl
+waits_bits false h r new = new
+
+out_bits : (h' h o r : Bool) → (not h || r) ≡ true → (((h' && h) && o) && not r) ≡ false
+out_bits h' h o true new = and_false _
+out_bits h' true o false new = cc
+out_bits h' false o false new = ap (λ b. (b && o) && true) (and_false h')
+
+module _ (commit : ℕ) (es : List Edit) (s : State) (q : Key) where
+  abbrev later : Texts
+  later = all_edited commit es s.units
+
+  -- a new or a reached key
+  pub afresh_fits : (it : Entry) → has_key later q ≡ true → (not (has_key s.units q) || reaches (map unit_of es) later q) ≡ true → IsAfresh later q it → EntryFits (after_done commit es s) q (Some it)
+  afresh_fits it has new afresh =
+      let value = unscratched later q it.value afresh.0 in (
+        has,
+        (λ i. has i && ((s.pending q || not (has_key s.units q)) || reaches (map unit_of es) later q)) ∙ waits_bits (s.pending q) (has_key s.units q) (reaches (map unit_of es) later q) new ∙ value.0,
+        out_bits (has_key later q) (has_key s.units q) (s.out q) (reaches (map unit_of es) later q) new ∙ sym afresh.1,
+        value.1,
+        afresh.2,
+      )
+
+  -- a key that is not reached
+  pub kept_fits : (it : Entry) → NeedsLocal → ScratchLocal → has_key later q ≡ true → reaches (map unit_of es) later q ≡ false → EntryFits s q (Some it) → EntryFits (after_done commit es s) q (Some it)
+  kept_fits it needs_law law has missed fits =
+      let agree = agree_unreached commit es s.units q missed in (
+        has,
+        (λ i. has i && ((s.pending q || not (fits.0 i)) || missed i)) ∙ or_false _ ∙ or_false _ ∙ fits.1,
+        (λ i. ((has i && fits.0 i) && s.out q) && not (missed i)) ∙ and_true _ ∙ fits.2,
+        kept_value s.units later q it.value (law later s.units q agree) fits.3,
+        fits.4 ∙ needs_law later s.units q agree,
+      )
+
+  -- a key that the texts after the commit don't have
+  pub gone_fits : has_key later q ≡ false → EntryFits (after_done commit es s) q None
+  gone_fits gone = (
+    gone,
+    ap (λ b. b && ((s.pending q || not (has_key s.units q)) || reaches (map unit_of es) later q)) gone,
+    ap (λ b. ((b && has_key s.units q) && s.out q) && not (reaches (map unit_of es) later q)) gone,
+  )

@@ -142,8 +142,16 @@ nothing_after (key ∷ keys) = ap (λ ks. key ∷ ks) (nothing_after keys)
 sorted_all : (names : List (List ℕ)) → IsStrictlySortedBy name_cmp names → IsStrictlySortedBy key_cmp (all_keys names)
 sorted_all names rise = subst (λ ks. IsStrictlySortedBy key_cmp ks) (nothing_after (keys_of_kind names Faults)) (sorted_of_kind Faults names rise)
 
+keys_sorted : (texts : Texts) → Rise texts → IsStrictlySortedBy key_cmp (keys_of texts)
+keys_sorted texts rise = IsStrictlySortedBy-filter key_cmp (has_key texts) (all_keys (names_of texts)) (sorted_all (names_of texts) rise)
+
+rise_story : (story : Story) → Rise (state_of story).units
+rise_story story = rise_replay (start story.most_units) (calls_of story.log) (rise_start story.most_units)
+
 -- the keys of every workbench rise
 pub keys_rise : (story : Story) → IsStrictlySortedBy key_cmp (keys_of (state_of story).units)
-keys_rise story =
-    IsStrictlySortedBy-filter key_cmp (has_key (state_of story).units) (all_keys (names_of (state_of story).units))
-    (sorted_all (names_of (state_of story).units) (rise_replay (start story.most_units) (calls_of story.log) (rise_start story.most_units)))
+keys_rise story = keys_sorted (state_of story).units (rise_story story)
+
+-- and so they do after one more commit
+pub keys_rise_done : (commit : ℕ) (edits : List Edit) (story : Story) → IsStrictlySortedBy key_cmp (keys_of (all_edited commit edits (state_of story).units))
+keys_rise_done commit edits story = keys_sorted (all_edited commit edits (state_of story).units) (rise_all_edited commit edits (state_of story).units (rise_story story))

@@ -44,20 +44,20 @@ replayed_recorded story caller call so_far =
     ∙ sym (replies_pushed story.log.records _)
 
 -- what is kept after one more recorded call
-pub kept_recorded : (units : Texts) (commits : ℕ) (keys : List Key) (entries : tree.BTreeMap Key Entry) (ready : set.BTreeSet Key) (story : Story) (caller : ℕ) (call : Call) (answer : Reply) → answer ≡ reply (state_of story) call → Agrees units commits entries ready (after (state_of story) call) → IsReplay story → keys ≡ keys_of units → commits ≤ length story.log.records + 1 → IsKept units commits keys entries ready (record { most_units = story.most_units; log = logged story.log caller call answer })
-kept_recorded units commits keys entries ready story caller call answer same agrees so_far all few =
-    subst (λ a. IsKept units commits keys entries ready (record { most_units = story.most_units; log = logged story.log caller call a })) (sym same)
+pub kept_recorded : (units : Texts) (commits : ℕ) (keys : List Key) (entries : tree.BTreeMap Key Entry) (ready waiting : set.BTreeSet Key) (story : Story) (caller : ℕ) (call : Call) (answer : Reply) → answer ≡ reply (state_of story) call → Agrees units commits entries ready waiting (after (state_of story) call) → IsReplay story → keys ≡ keys_of units → commits ≤ length story.log.records + 1 → IsKept units commits keys entries ready waiting (record { most_units = story.most_units; log = logged story.log caller call answer })
+kept_recorded units commits keys entries ready waiting story caller call answer same agrees so_far all few =
+    subst (λ a. IsKept units commits keys entries ready waiting (record { most_units = story.most_units; log = logged story.log caller call a })) (sym same)
     (record {
-      agrees = subst (λ s. Agrees units commits entries ready s) (sym (state_recorded story caller call)) agrees;
+      agrees = subst (λ s. Agrees units commits entries ready waiting s) (sym (state_recorded story caller call)) agrees;
       replayed = replayed_recorded story caller call so_far;
       keys_are = all;
       few = simp length-append (omega arith);
     })
 
 -- the same, where the log is known by an equation
-pub kept_pushed : (units : Texts) (commits : ℕ) (keys : List Key) (entries : tree.BTreeMap Key Entry) (ready : set.BTreeSet Key) (story : Story) (log : Log) (caller : ℕ) (call : Call) (answer : Reply) → log ≡ logged story.log caller call answer → answer ≡ reply (state_of story) call → Agrees units commits entries ready (after (state_of story) call) → IsReplay story → keys ≡ keys_of units → commits ≤ length story.log.records + 1 → IsKept units commits keys entries ready (record { most_units = story.most_units; log = log })
-kept_pushed units commits keys entries ready story log caller call answer is same agrees so_far all few =
-    subst (λ l. IsKept units commits keys entries ready (record { most_units = story.most_units; log = l })) (sym is) (kept_recorded units commits keys entries ready story caller call answer same agrees so_far all few)
+pub kept_pushed : (units : Texts) (commits : ℕ) (keys : List Key) (entries : tree.BTreeMap Key Entry) (ready waiting : set.BTreeSet Key) (story : Story) (log : Log) (caller : ℕ) (call : Call) (answer : Reply) → log ≡ logged story.log caller call answer → answer ≡ reply (state_of story) call → Agrees units commits entries ready waiting (after (state_of story) call) → IsReplay story → keys ≡ keys_of units → commits ≤ length story.log.records + 1 → IsKept units commits keys entries ready waiting (record { most_units = story.most_units; log = log })
+kept_pushed units commits keys entries ready waiting story log caller call answer is same agrees so_far all few =
+    subst (λ l. IsKept units commits keys entries ready waiting (record { most_units = story.most_units; log = l })) (sym is) (kept_recorded units commits keys entries ready waiting story caller call answer same agrees so_far all few)
 
 pub story_pushed : (story now : Story) (log : Log) (caller : ℕ) (call : Call) (answer : Reply) → story ≡ now → log ≡ logged story.log caller call answer → answer ≡ reply (state_of story) call → ◌≡◌ {A = Story} (record { most_units = story.most_units; log = log }) (recorded now caller call)
 story_pushed story now log caller call answer known is same =

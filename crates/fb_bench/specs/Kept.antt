@@ -7,7 +7,7 @@ use Rattle.std.specs.declared.alloc.Global.{Global}
 use Rattle.fb_library.specs.Texts.{Texts}
 use Rattle.fb_jobs.specs.declared.key.Key.{Key}
 use Rattle.fb_jobs.specs.declared.value.Value.{Value}
-use Rattle.fb_jobs.specs.Keys.{has_key, scratch}
+use Rattle.fb_jobs.specs.Keys.{has_key, needs, scratch}
 use Rattle.fb_jobs.specs.KeyOrder.{key_cmp}
 use Rattle.fb_jobs.specs.Values.{finding_of}
 use Rattle.fb_bench.specs.Machine.{State, is_ready, keys_of}
@@ -19,21 +19,22 @@ abbrev pub IsScratch : Texts → Key → Option (Arc Value Global) → Type 0
 IsScratch texts key None = Unit {0}
 IsScratch texts key (Some value) = finding_of value.value ≡ scratch texts key
 
--- an entry for each key of the texts, and for no other, with its marks and its value
+-- an entry for each key of the texts, and for no other, with its marks, its value and the names that decide it
 abbrev pub EntryFits : State → Key → Option Entry → Type 0
 EntryFits state key None = (has_key state.units key ≡ false) × (state.pending key ≡ false) × (state.out key ≡ false)
-EntryFits state key (Some it) = (has_key state.units key ≡ true) × (state.pending key ≡ is_none it.value) × (state.out key ≡ it.out) × IsScratch state.units key it.value
+EntryFits state key (Some it) = (has_key state.units key ≡ true) × (state.pending key ≡ is_none it.value) × (state.out key ≡ it.out) × IsScratch state.units key it.value × (it.needs.items ≡ needs state.units key)
 
 -- what is kept agrees with a state
-pub record Agrees (units : Texts) (commits : ℕ) (entries : tree.BTreeMap Key Entry) (ready : set.BTreeSet Key) (state : State) : Type 0 where
+pub record Agrees (units : Texts) (commits : ℕ) (entries : tree.BTreeMap Key Entry) (ready waiting : set.BTreeSet Key) (state : State) : Type 0 where
   pub units_are : units ≡ state.units
   pub commits_are : commits ≡ state.commits
   pub each : (key : Key) → EntryFits state key (tree.get key_cmp entries key)
   pub ready_are : (key : Key) → set.contains key_cmp ready key ≡ is_ready state key
+  pub waiting_are : (key : Key) → set.contains key_cmp waiting key ≡ state.pending key
 
 -- and so does the history: each stored answer is the machine's
-pub record IsKept (units : Texts) (commits : ℕ) (keys : List Key) (entries : tree.BTreeMap Key Entry) (ready : set.BTreeSet Key) (story : Story) : Type 0 where
-  pub agrees : Agrees units commits entries ready (state_of story)
+pub record IsKept (units : Texts) (commits : ℕ) (keys : List Key) (entries : tree.BTreeMap Key Entry) (ready waiting : set.BTreeSet Key) (story : Story) : Type 0 where
+  pub agrees : Agrees units commits entries ready waiting (state_of story)
   pub replayed : IsReplay story
   pub keys_are : keys ≡ keys_of units
   pub few : commits ≤ length story.log.records

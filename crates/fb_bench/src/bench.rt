@@ -6,13 +6,12 @@ ghost use Rattle.fb_bench.specs.Records.{job_in};
 use crate::answers::{Asked, Committed, Delivered, GivenBack, Refused, Taken};
 use crate::commit::{first_changes, refusal};
 use crate::entry::{Entry, join, keep, leave, mark_out};
-use crate::keys::present_keys;
 use crate::limits::Limits;
 use crate::log::History;
 use crate::peek::Shown;
-use crate::rebuild::rebuilt;
 use crate::record::{Call, Record, Reply, Request, Wanted};
-use fb_jobs::{Finished, Job, Key, Read, Value, current_reads};
+use crate::renewal::{Renewal, carry_out, make_room, replace, take_back};
+use fb_jobs::{Finished, Job, Key, Read, Value, current_reads, locality};
 use fb_library::{Change, Library};
 use fb_text::Name;
 use std::alloc::{AllocError, Global};
@@ -33,6 +32,8 @@ pub struct Bench {
     entries: BTreeMap<Key, Entry>,
     // the keys that are pending and not handed out
     ready: BTreeSet<Key>,
+    // the keys that are pending
+    waiting: BTreeSet<Key>,
 }
 
 impl Model for Bench {
@@ -44,7 +45,7 @@ impl Model for Bench {
 
     ghost view = { λ it. record { most_units = it.most_units; log = it.history } };
 
-    ghost invariant = { λ it. IsKept it.library it.commits it.keys.items it.entries it.ready (record { most_units = it.most_units; log = it.history }) };
+    ghost invariant = { λ it. IsKept it.library it.commits it.keys.items it.entries it.ready it.waiting (record { most_units = it.most_units; log = it.history }) };
 }
 
 impl Bench {
@@ -74,6 +75,7 @@ impl Bench {
             commits: 0,
             entries: BTreeMap::new(alloc),
             ready: BTreeSet::new(alloc),
+            waiting: BTreeSet::new(alloc),
             keys: Vec::new(alloc),
         }
     }
@@ -114,7 +116,7 @@ impl Bench {
     pub fn pending_count(&self) -> usize
         ensures { result ≡ count_by (state_of self.now).pending (keys_of (state_of self.now).units) }
     {
-        self.keys.iter().filter(|key| self.waits(*key)).count()
+        self.waiting.len()
     }
 
     // what is known of a key
@@ -287,16 +289,47 @@ impl Bench {
                     let share = self.history.push(caller, call, stored)?;
                     return Ok((Committed::TooManyUnits, share));
                 }
-                let (entries, ready) = rebuilt(self.alloc, &library, changes, &self.entries)?;
-                let keys = present_keys(self.alloc, &library)?;
+                let renewal = Renewal::find(
+                    self.alloc,
+                    &library,
+                    changes,
+                    &self.entries,
+                    &self.ready,
+                    &self.waiting,
+                )?;
+                let keys = renewal.keys(self.alloc, &library)?;
+                make_room(
+                    self.alloc,
+                    &mut self.entries,
+                    &mut self.ready,
+                    &mut self.waiting,
+                    &renewal,
+                )?;
                 let stored = Reply::Committing(Committed::Done(number));
-                let share = self.history.push(caller, call, stored)?;
-                self.library = library;
-                self.commits = number;
-                self.keys = keys;
-                self.entries = entries;
-                self.ready = ready;
-                Ok((Committed::Done(number), share))
+                match self.history.push(caller, call, stored) {
+                    Ok(share) => {
+                        carry_out(
+                            &mut self.entries,
+                            &mut self.ready,
+                            &mut self.waiting,
+                            renewal,
+                        );
+                        replace(&mut self.keys, keys);
+                        self.library = library;
+                        self.commits = number;
+                        locality();
+                        Ok((Committed::Done(number), share))
+                    }
+                    Err(_) => {
+                        take_back(
+                            &mut self.entries,
+                            &mut self.ready,
+                            &mut self.waiting,
+                            &renewal,
+                        );
+                        Err(Refused::Memory)
+                    }
+                }
             }
         }
     }
@@ -342,6 +375,7 @@ impl Bench {
                 let key = finished.key();
                 keep(&mut self.entries, &key, value);
                 leave(&mut self.ready, &key);
+                leave(&mut self.waiting, &key);
                 current_reads();
                 Ok((Delivered::Accepted, share))
             }

@@ -1,5 +1,4 @@
 ghost use Rattle.std.specs.Prelude.{◌≡◌, [], map, take};
-ghost use Rattle.std.specs.List.{list_any};
 ghost use Rattle.fb_library.specs.Texts.{unit_of};
 ghost use Rattle.fb_library.specs.Changes.{edit_of, edits_of};
 ghost use Rattle.fb_jobs.specs.Reads.{is_among};
@@ -96,27 +95,4 @@ pub(crate) fn refusal(library: &Library, changes: &[Change]) -> Option<Committed
         Some(unit) => Some(Committed::SameUnitTwice(unit)),
         None => first_misfit(library, changes),
     }
-}
-
-/// Whether one of the names is changed.
-pub(crate) fn meets(changes: &[Change], names: &[Name]) -> bool
-    ensures { result ≡ list_any (λ name. is_among name names.now) (map unit_of (edits_of changes.now)) }
-{
-    for change in changes {
-        if has_name(names, change.unit()) {
-            return true;
-        }
-    }
-    false
-}
-
-fn has_name(names: &[Name], unit: Name) -> bool
-    ensures { result ≡ is_among unit names.now }
-{
-    for name in names {
-        if same_name(&unit, name) {
-            return true;
-        }
-    }
-    false
 }

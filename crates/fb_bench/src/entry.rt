@@ -1,22 +1,33 @@
-ghost use Rattle.std.specs.Prelude.{◌≡◌, ◌&&◌, ◌||◌, not, is_none, Some, true, false, IfOk, OnOk, OnErr, if◌then◌else◌};
-ghost use Rattle.std.specs.Option.{option_map, option_copied};
+ghost use Rattle.std.specs.Prelude.{◌≡◌, ◌||◌, not, is_none, None, Some, true, false, List, ℕ, IfOk, OnOk, OnErr, if◌then◌else◌};
+ghost use Rattle.std.specs.Option.{option_map};
+ghost use Rattle.std.specs.List.{list_any};
 ghost use Rattle.std.specs.BTreeMap as tree;
 ghost use Rattle.std.specs.BTreeSet as set;
+ghost use Rattle.fb_text.specs.Order.{name_cmp};
 ghost use Rattle.fb_jobs.specs.declared.key.Key.{Key};
 ghost use Rattle.fb_jobs.specs.KeyOrder.{key_cmp, same_key};
 ghost use Rattle.fb_bench.specs.declared.entry.Entry.{Entry};
-ghost use Rattle.fb_bench.specs.Renew.{Renews};
 
 use fb_jobs::{Key, Value};
+use fb_text::Name;
 use std::alloc::AllocError;
 use std::collections::{BTreeMap, BTreeSet};
 use std::sync::Arc;
 
-/// What is kept of a key: its value unless it is pending, and whether it is handed out.
+/// What is kept of a key: the names whose texts decide its value, its value unless it is pending, and whether it is
+/// handed out.
 #[derive(Drop)]
 pub(crate) struct Entry {
+    pub(crate) needs: Vec<Name>,
     pub(crate) value: Option<Arc<Value>>,
     pub(crate) out: bool,
+}
+
+/// A key with the entry that it gets.
+#[derive(Drop)]
+pub(crate) struct Renewed {
+    pub(crate) key: Key,
+    pub(crate) entry: Entry,
 }
 
 /// Marks a key that has an entry as handed out or not.
@@ -30,7 +41,7 @@ pub(crate) fn mark_out(entries: &mut BTreeMap<Key, Entry>, key: &Key, out: bool)
 
 /// Gives a key that has an entry its value; the key is not handed out then.
 pub(crate) fn keep(entries: &mut BTreeMap<Key, Entry>, key: &Key, value: Arc<Value>)
-    ensures { (other : Key) → tree.get key_cmp entries.new other ≡ (if same_key key.now other then option_map (λ (it : Entry). record { value = Some value; out = false }) (tree.get key_cmp entries.old other) else tree.get key_cmp entries.old other) }
+    ensures { (other : Key) → tree.get key_cmp entries.new other ≡ (if same_key key.now other then option_map (λ (it : Entry). record it { value = Some value; out = false }) (tree.get key_cmp entries.old other) else tree.get key_cmp entries.old other) }
 {
     if let Some(entry) = entries.get_mut(key) {
         entry.value = Some(value);
@@ -51,47 +62,6 @@ pub(crate) fn join(keys: &mut BTreeSet<Key>, key: &Key) -> Result<(), AllocError
     ensures err { OnErr result ((other : Key) → set.contains key_cmp keys.new other ≡ set.contains key_cmp keys.old other) }
 {
     match keys.insert(*key) {
-        Ok(_) => Ok(()),
-        Err(_) => Err(AllocError),
-    }
-}
-
-/// The entry of a key after a commit: a new or a reached key waits, and another one stays as it was.
-pub(crate) fn renewed(old: Option<&Entry>, reached: bool) -> Result<Entry, AllocError>
-    ensures { IfOk result (Renews (option_copied old.entry) reached) }
-{
-    match old {
-        Some(entry) if !reached => {
-            let value = match &entry.value {
-                Some(value) => Some(value.clone()?),
-                None => None,
-            };
-            Ok(Entry {
-                value,
-                out: entry.out,
-            })
-        }
-        _ => Ok(Entry {
-            value: None,
-            out: false,
-        }),
-    }
-}
-
-/// Puts a key's entry, and the key among the ready ones if it is so.
-pub(crate) fn enter(
-    entries: &mut BTreeMap<Key, Entry>,
-    ready: &mut BTreeSet<Key>,
-    key: &Key,
-    entry: Entry,
-) -> Result<(), AllocError>
-    ensures entries { OnOk result ((other : Key) → tree.get key_cmp entries.new other ≡ (if same_key key.now other then Some entry else tree.get key_cmp entries.old other)) }
-    ensures ready { OnOk result ((other : Key) → set.contains key_cmp ready.new other ≡ (if same_key key.now other then (is_none entry.value && not entry.out) || set.contains key_cmp ready.old other else set.contains key_cmp ready.old other)) }
-{
-    if entry.value.is_none() && !entry.out {
-        join(ready, key)?;
-    }
-    match entries.insert(*key, entry) {
         Ok(_) => Ok(()),
         Err(_) => Err(AllocError),
     }

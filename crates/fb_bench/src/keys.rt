@@ -27,8 +27,12 @@ pub(crate) fn keys_by_name(alloc: Global, names: &[Name]) -> Result<Vec<Key>, Al
     Ok(keys)
 }
 
-// those that the library has
-fn only_present(alloc: Global, library: &Library, keys: &[Key]) -> Result<Vec<Key>, AllocError>
+/// Those that the library has.
+pub(crate) fn only_present(
+    alloc: Global,
+    library: &Library,
+    keys: &[Key],
+) -> Result<Vec<Key>, AllocError>
     ensures { IfOk result (λ present. present.items ≡ filter (has_key library.now) keys.now) }
 {
     let mut present = Vec::new(alloc);

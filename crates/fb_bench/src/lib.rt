@@ -11,8 +11,8 @@ mod laws;
 mod limits;
 mod log;
 mod peek;
-mod rebuild;
 mod record;
+mod renewal;
 
 pub use answers::{Asked, Committed, Delivered, GivenBack, Refused, Taken};
 pub use bench::Bench;

@@ -6,9 +6,10 @@ use Rattle.fb_bench.specs.declared.answers.Committed.TheVariants.{Done, TooManyU
 use Rattle.fb_bench.specs.Machine.{State, ToCommit, commit_answer, reply}
 use Rattle.fb_bench.specs.Story.{Story, state_of, recorded, record_of}
 use Rattle.fb_bench.specs.Records.{listed}
-use Rattle.fb_bench.specs.Kept.{Agrees}
+use Rattle.fb_bench.specs.Kept.{Agrees, IsKept}
 use Rattle.fb_bench.proofs.Steps.{kept_pushed, story_pushed, share_pushed}
-use Rattle.fb_bench.proofs.Committing.{refused_stays, refused_answer, too_many_answer, done_answer, commits_is, committed_is, most_units_of, agrees_rebuilt}
+use Rattle.fb_bench.proofs.Committing.{refused_stays, refused_answer, too_many_answer, done_answer, commits_is, committed_is, most_units_of, agrees_renewed, keys_done}
+use Rattle.fb_bench.proofs.Renewals.{agrees_back, taken_back}
 use Rattle.fb_bench.proofs.bench.Bench.commit_recorded.Goals as goal
 
 pub overflow_add-number : goal.overflow_add-number
@@ -26,8 +27,8 @@ invariant_of-self-in-Some c =
     let front : edits ≡ listed c.args.changes.now = ap edits_of c.first_changes-changes.ensures in
     let agrees = c.self.invariant.agrees in
     let answer : c.in-Some.refused ≡ commit_answer s edits = refused_answer s c.self.inside.library edits c.in-Some.refused agrees.units_are c.in-Some.ensures in
-    kept_pushed _ _ _ _ _ story _ c.args.caller (ToCommit made) _ c.in_ok-share-in-Some.ensures.ok (commits_is s made edits c.in-Some.refused copied answer)
-    (subst (λ t. Agrees c.self.inside.library c.self.inside.commits c.self.inside.entries c.self.inside.ready t) (sym (committed_is s made edits c.in-Some.refused copied answer ∙ refused_stays c.self.inside.library edits c.in-Some.refused s c.in-Some.ensures)) agrees)
+    kept_pushed _ _ _ _ _ _ story _ c.args.caller (ToCommit made) _ c.in_ok-share-in-Some.ensures.ok (commits_is s made edits c.in-Some.refused copied answer)
+    (subst (λ t. Agrees c.self.inside.library c.self.inside.commits c.self.inside.entries c.self.inside.ready c.self.inside.waiting t) (sym (committed_is s made edits c.in-Some.refused copied answer ∙ refused_stays c.self.inside.library edits c.in-Some.refused s c.in-Some.ensures)) agrees)
     c.self.invariant.replayed c.self.invariant.keys_are (omega (arith, c.self.invariant.few))
 
 pub returns-in_ok-share-in-Some-clause-step : goal.returns-in_ok-share-in-Some-clause-step
@@ -65,8 +66,8 @@ invariant_of-self-then-self-len c =
     let agrees = c.self.invariant.agrees in
     let many : s.most_units < length c.in_ok-library-in-None.library = omega (arith, most_units_of story, c.len.ensures, c.if-self-len.true) in
     let answer : TooManyUnits ≡ commit_answer s edits = too_many_answer s c.self.inside.library c.in_ok-library-in-None.library c.self.inside.commits edits agrees.units_are c.in-None.ensures agrees.commits_are c.in_ok-library-in-None.ensures many in
-    kept_pushed _ _ _ _ _ story _ c.args.caller (ToCommit made) _ c.in_ok-share-in-None.ensures.ok (commits_is s made edits TooManyUnits copied answer)
-    (subst (λ t. Agrees c.self.inside.library c.self.inside.commits c.self.inside.entries c.self.inside.ready t) (sym (committed_is s made edits TooManyUnits copied answer)) agrees)
+    kept_pushed _ _ _ _ _ _ story _ c.args.caller (ToCommit made) _ c.in_ok-share-in-None.ensures.ok (commits_is s made edits TooManyUnits copied answer)
+    (subst (λ t. Agrees c.self.inside.library c.self.inside.commits c.self.inside.entries c.self.inside.ready c.self.inside.waiting t) (sym (committed_is s made edits TooManyUnits copied answer)) agrees)
     c.self.invariant.replayed c.self.invariant.keys_are (omega (arith, c.self.invariant.few))
 
 pub returns-then-self-len-clause-step : goal.returns-then-self-len-clause-step
@@ -95,51 +96,6 @@ returns-then-self-len-clause-answer c =
     let answer : TooManyUnits ≡ commit_answer s edits = too_many_answer s c.self.inside.library c.in_ok-library-in-None.library c.self.inside.commits edits agrees.units_are c.in-None.ensures agrees.commits_are c.in_ok-library-in-None.ensures many in
     commits_is s (listed c.args.changes.now) edits TooManyUnits (sym front) answer ∙ ap (λ st. reply (state_of st) (ToCommit (listed c.args.changes.now))) c.self.view_is
 
-pub invariant_of-self-in-None : goal.invariant_of-self-in-None
-invariant_of-self-in-None c =
-    let story : Story = record { most_units = c.self.inside.most_units; log = c.self.inside.history } in
-    let s : State = state_of story in
-    let made : List Edit = edits_of c.in_ok-copies.field-0.items in
-    let edits : List Edit = edits_of c.first_changes-changes.result.now in
-    let copied : made ≡ edits = c.in_ok-copies.ensures in
-    let front : edits ≡ listed c.args.changes.now = ap edits_of c.first_changes-changes.ensures in
-    let agrees = c.self.invariant.agrees in
-    let few : length c.in_ok-library-in-None.library ≤ s.most_units = omega (arith, most_units_of story, c.len.ensures, c.if-self-len.false) in
-    let number : ℕ = c.self.inside.commits + 1 in
-    let answer : Done number ≡ commit_answer s edits = done_answer s c.self.inside.library c.in_ok-library-in-None.library c.self.inside.commits edits agrees.units_are c.in-None.ensures agrees.commits_are c.in_ok-library-in-None.ensures few in
-    kept_pushed _ _ _ _ _ story _ c.args.caller (ToCommit made) _ c.in_ok-share-in-None-2.ensures.ok (commits_is s made edits (Done number) copied answer)
-    (subst (λ t. Agrees c.in_ok-library-in-None.library number c.in_ok-entries-in-None.entries c.in_ok-entries-in-None.ready t) (sym (committed_is s made edits (Done number) copied answer))
-    (agrees_rebuilt c.self.inside.commits edits c.self.inside.library c.in_ok-library-in-None.library c.self.inside.entries c.in_ok-entries-in-None.entries c.in_ok-entries-in-None.ready s c.in_ok-library-in-None.ensures agrees.units_are agrees.each c.in_ok-entries-in-None.ensures))
-    c.self.invariant.replayed c.in_ok-keys-in-None.ensures (omega (arith, c.self.invariant.few))
-
-pub returns-in_ok-share-in-None-2-clause-step : goal.returns-in_ok-share-in-None-2-clause-step
-returns-in_ok-share-in-None-2-clause-step c =
-    let story : Story = record { most_units = c.self.inside.most_units; log = c.self.inside.history } in
-    let s : State = state_of story in
-    let made : List Edit = edits_of c.in_ok-copies.field-0.items in
-    let edits : List Edit = edits_of c.first_changes-changes.result.now in
-    let copied : made ≡ edits = c.in_ok-copies.ensures in
-    let front : edits ≡ listed c.args.changes.now = ap edits_of c.first_changes-changes.ensures in
-    let agrees = c.self.invariant.agrees in
-    let few : length c.in_ok-library-in-None.library ≤ s.most_units = omega (arith, most_units_of story, c.len.ensures, c.if-self-len.false) in
-    let number : ℕ = c.self.inside.commits + 1 in
-    let answer : Done number ≡ commit_answer s edits = done_answer s c.self.inside.library c.in_ok-library-in-None.library c.self.inside.commits edits agrees.units_are c.in-None.ensures agrees.commits_are c.in_ok-library-in-None.ensures few in
-    story_pushed story _ _ c.args.caller (ToCommit made) _ c.self.view_is c.in_ok-share-in-None-2.ensures.ok (commits_is s made edits (Done number) copied answer) ∙ ap (λ es. recorded c.args.self.now c.args.caller (ToCommit es)) (copied ∙ front)
-
-pub returns-in_ok-share-in-None-2-clause-answer : goal.returns-in_ok-share-in-None-2-clause-answer
-returns-in_ok-share-in-None-2-clause-answer c =
-    let story : Story = record { most_units = c.self.inside.most_units; log = c.self.inside.history } in
-    let s : State = state_of story in
-    let made : List Edit = edits_of c.in_ok-copies.field-0.items in
-    let edits : List Edit = edits_of c.first_changes-changes.result.now in
-    let copied : made ≡ edits = c.in_ok-copies.ensures in
-    let front : edits ≡ listed c.args.changes.now = ap edits_of c.first_changes-changes.ensures in
-    let agrees = c.self.invariant.agrees in
-    let few : length c.in_ok-library-in-None.library ≤ s.most_units = omega (arith, most_units_of story, c.len.ensures, c.if-self-len.false) in
-    let number : ℕ = c.self.inside.commits + 1 in
-    let answer : Done number ≡ commit_answer s edits = done_answer s c.self.inside.library c.in_ok-library-in-None.library c.self.inside.commits edits agrees.units_are c.in-None.ensures agrees.commits_are c.in_ok-library-in-None.ensures few in
-    commits_is s (listed c.args.changes.now) edits (Done number) (sym front) answer ∙ ap (λ st. reply (state_of st) (ToCommit (listed c.args.changes.now))) c.self.view_is
-
 pub returns-in_ok-share-in-Some-clause-share : goal.returns-in_ok-share-in-Some-clause-share
 returns-in_ok-share-in-Some-clause-share c =
     let story : Story = record { most_units = c.self.inside.most_units; log = c.self.inside.history } in
@@ -165,8 +121,52 @@ returns-then-self-len-clause-share c =
     let answer : TooManyUnits ≡ commit_answer s edits = too_many_answer s c.self.inside.library c.in_ok-library-in-None.library c.self.inside.commits edits agrees.units_are c.in-None.ensures agrees.commits_are c.in_ok-library-in-None.ensures many in
     share_pushed story _ _ c.args.caller (ToCommit made) _ c.self.view_is c.in_ok-share-in-None.ensures.share (commits_is s made edits TooManyUnits copied answer) ∙ ap (λ es. record_of c.args.self.now c.args.caller (ToCommit es)) (copied ∙ front)
 
-pub returns-in_ok-share-in-None-2-clause-share : goal.returns-in_ok-share-in-None-2-clause-share
-returns-in_ok-share-in-None-2-clause-share c =
+pub invariant_of-self-in_err-make_room-in-None : goal.invariant_of-self-in_err-make_room-in-None
+invariant_of-self-in_err-make_room-in-None c =
+    let story : Story = record { most_units = c.self.inside.most_units; log = c.self.inside.history } in
+    let kept = c.self.invariant in
+    record {
+      agrees = agrees_back c.self.inside.library c.in_ok-library-in-None.library c.self.inside.commits (edits_of c.first_changes-changes.result.now) c.self.inside.entries c.make_room.new.entries c.self.inside.ready c.make_room.new.ready c.self.inside.waiting c.make_room.new.waiting (state_of story) c.in_ok-renewal-in-None.renewal kept.agrees c.in_ok-renewal-in-None.ensures c.in_err-make_room-in-None.ensures.err;
+      replayed = kept.replayed;
+      keys_are = kept.keys_are;
+      few = kept.few;
+    }
+
+pub invariant_of-self-in-Err-1 : goal.invariant_of-self-in-Err-1
+invariant_of-self-in-Err-1 c =
+    let story : Story = record { most_units = c.self.inside.most_units; log = c.self.inside.history } in
+    let kept = c.self.invariant in
+    let it = c.in_ok-renewal-in-None.renewal in
+    let back = taken_back c.self.inside.entries c.make_room.new.entries c.take_back.new.entries c.self.inside.ready c.make_room.new.ready c.take_back.new.ready c.self.inside.waiting c.make_room.new.waiting c.take_back.new.waiting it c.in_ok-make_room-in-None.ensures.ok c.take_back.ensures.entries c.take_back.ensures.ready c.take_back.ensures.waiting in
+    subst (λ l. IsKept c.self.inside.library c.self.inside.commits c.self.inside.keys.items c.take_back.new.entries c.take_back.new.ready c.take_back.new.waiting (record { most_units = c.self.inside.most_units; log = l })) (sym c.in-Err.ensures.err)
+    (record {
+      agrees = agrees_back c.self.inside.library c.in_ok-library-in-None.library c.self.inside.commits (edits_of c.first_changes-changes.result.now) c.self.inside.entries c.take_back.new.entries c.self.inside.ready c.take_back.new.ready c.self.inside.waiting c.take_back.new.waiting (state_of story) it kept.agrees c.in_ok-renewal-in-None.ensures back;
+      replayed = kept.replayed;
+      keys_are = kept.keys_are;
+      few = kept.few;
+    })
+
+pub invariant_of-self-in-Ok : goal.invariant_of-self-in-Ok
+invariant_of-self-in-Ok c =
+    let story : Story = record { most_units = c.self.inside.most_units; log = c.self.inside.history } in
+    let s : State = state_of story in
+    let made : List Edit = edits_of c.in_ok-copies.field-0.items in
+    let edits : List Edit = edits_of c.first_changes-changes.result.now in
+    let copied : made ≡ edits = c.in_ok-copies.ensures in
+    let agrees = c.self.invariant.agrees in
+    let few : length c.in_ok-library-in-None.library ≤ s.most_units = omega (arith, most_units_of story, c.len.ensures, c.if-self-len.false) in
+    let number : ℕ = c.self.inside.commits + 1 in
+    let answer : Done number ≡ commit_answer s edits = done_answer s c.self.inside.library c.in_ok-library-in-None.library c.self.inside.commits edits agrees.units_are c.in-None.ensures agrees.commits_are c.in_ok-library-in-None.ensures few in
+    let it = c.in_ok-renewal-in-None.renewal in
+    kept_pushed _ _ _ _ _ _ story _ c.args.caller (ToCommit made) _ c.in-Ok.ensures.ok (commits_is s made edits (Done number) copied answer)
+    (subst (λ t. Agrees c.in_ok-library-in-None.library number c.carry_out.new.entries c.carry_out.new.ready c.carry_out.new.waiting t) (sym (committed_is s made edits (Done number) copied answer))
+    (agrees_renewed c.locality.ensures.needs c.locality.ensures.value c.self.inside.commits edits c.self.inside.library c.in_ok-library-in-None.library c.self.inside.entries c.make_room.new.entries c.carry_out.new.entries c.self.inside.ready c.make_room.new.ready c.carry_out.new.ready c.self.inside.waiting c.make_room.new.waiting c.carry_out.new.waiting s it c.in_ok-library-in-None.ensures agrees c.in_ok-renewal-in-None.ensures c.in_ok-make_room-in-None.ensures.ok c.carry_out.ensures.entries c.carry_out.ensures.ready c.carry_out.ensures.waiting))
+    c.self.invariant.replayed
+    (keys_done c.self.inside.commits edits c.self.inside.library c.in_ok-library-in-None.library story c.self.inside.entries c.self.inside.ready c.self.inside.waiting it c.self.inside.keys.items c.replace.new.keys.items c.in_ok-keys-in-None.keys c.in_ok-library-in-None.ensures agrees c.in_ok-renewal-in-None.ensures c.self.invariant.keys_are c.in_ok-keys-in-None.ensures c.replace.ensures)
+    (omega (arith, c.self.invariant.few))
+
+pub returns-in-Ok-clause-step : goal.returns-in-Ok-clause-step
+returns-in-Ok-clause-step c =
     let story : Story = record { most_units = c.self.inside.most_units; log = c.self.inside.history } in
     let s : State = state_of story in
     let made : List Edit = edits_of c.in_ok-copies.field-0.items in
@@ -177,4 +177,32 @@ returns-in_ok-share-in-None-2-clause-share c =
     let few : length c.in_ok-library-in-None.library ≤ s.most_units = omega (arith, most_units_of story, c.len.ensures, c.if-self-len.false) in
     let number : ℕ = c.self.inside.commits + 1 in
     let answer : Done number ≡ commit_answer s edits = done_answer s c.self.inside.library c.in_ok-library-in-None.library c.self.inside.commits edits agrees.units_are c.in-None.ensures agrees.commits_are c.in_ok-library-in-None.ensures few in
-    share_pushed story _ _ c.args.caller (ToCommit made) _ c.self.view_is c.in_ok-share-in-None-2.ensures.share (commits_is s made edits (Done number) copied answer) ∙ ap (λ es. record_of c.args.self.now c.args.caller (ToCommit es)) (copied ∙ front)
+    story_pushed story _ _ c.args.caller (ToCommit made) _ c.self.view_is c.in-Ok.ensures.ok (commits_is s made edits (Done number) copied answer) ∙ ap (λ es. recorded c.args.self.now c.args.caller (ToCommit es)) (copied ∙ front)
+
+pub returns-in-Ok-clause-answer : goal.returns-in-Ok-clause-answer
+returns-in-Ok-clause-answer c =
+    let story : Story = record { most_units = c.self.inside.most_units; log = c.self.inside.history } in
+    let s : State = state_of story in
+    let made : List Edit = edits_of c.in_ok-copies.field-0.items in
+    let edits : List Edit = edits_of c.first_changes-changes.result.now in
+    let copied : made ≡ edits = c.in_ok-copies.ensures in
+    let front : edits ≡ listed c.args.changes.now = ap edits_of c.first_changes-changes.ensures in
+    let agrees = c.self.invariant.agrees in
+    let few : length c.in_ok-library-in-None.library ≤ s.most_units = omega (arith, most_units_of story, c.len.ensures, c.if-self-len.false) in
+    let number : ℕ = c.self.inside.commits + 1 in
+    let answer : Done number ≡ commit_answer s edits = done_answer s c.self.inside.library c.in_ok-library-in-None.library c.self.inside.commits edits agrees.units_are c.in-None.ensures agrees.commits_are c.in_ok-library-in-None.ensures few in
+    commits_is s (listed c.args.changes.now) edits (Done number) (sym front) answer ∙ ap (λ st. reply (state_of st) (ToCommit (listed c.args.changes.now))) c.self.view_is
+
+pub returns-in-Ok-clause-share : goal.returns-in-Ok-clause-share
+returns-in-Ok-clause-share c =
+    let story : Story = record { most_units = c.self.inside.most_units; log = c.self.inside.history } in
+    let s : State = state_of story in
+    let made : List Edit = edits_of c.in_ok-copies.field-0.items in
+    let edits : List Edit = edits_of c.first_changes-changes.result.now in
+    let copied : made ≡ edits = c.in_ok-copies.ensures in
+    let front : edits ≡ listed c.args.changes.now = ap edits_of c.first_changes-changes.ensures in
+    let agrees = c.self.invariant.agrees in
+    let few : length c.in_ok-library-in-None.library ≤ s.most_units = omega (arith, most_units_of story, c.len.ensures, c.if-self-len.false) in
+    let number : ℕ = c.self.inside.commits + 1 in
+    let answer : Done number ≡ commit_answer s edits = done_answer s c.self.inside.library c.in_ok-library-in-None.library c.self.inside.commits edits agrees.units_are c.in-None.ensures agrees.commits_are c.in_ok-library-in-None.ensures few in
+    share_pushed story _ _ c.args.caller (ToCommit made) _ c.self.view_is c.in-Ok.ensures.share (commits_is s made edits (Done number) copied answer) ∙ ap (λ es. record_of c.args.self.now c.args.caller (ToCommit es)) (copied ∙ front)

@@ -23,9 +23,9 @@ invariant_of-self-in-Accepted c =
     let law = c.current_reads.ensures s.units now c.reads.ensures.right (accepted_fresh s now accepted) in
     let cloned : c.in_ok-value-in-Accepted.value.value ≡ c.value.result.now.value = search rules in
     let value : finding_of c.in_ok-value-in-Accepted.value.value ≡ scratch s.units c.key-key.result = ap finding_of cloned ∙ c.value.ensures ∙ sym law ∙ ap (λ k. scratch s.units k) (sym c.key-key.ensures) in
-    kept_pushed _ _ _ _ _ story _ c.args.caller (ToDeliver order) _ c.in_ok-share-in-Accepted.ensures.ok (delivers_is s order now Accepted same accepted)
-    (subst (λ t. Agrees c.self.inside.library c.self.inside.commits c.keep.new.entries c.leave.new.keys t) (sym (delivered_is s order now c.key-key.result Accepted same c.key-key.ensures accepted))
-    (agrees_deliver _ _ c.self.inside.entries _ c.self.inside.ready _ s c.key-key.result c.in_ok-value-in-Accepted.value c.self.invariant.agrees value c.keep.ensures c.leave.ensures))
+    kept_pushed _ _ _ _ _ _ story _ c.args.caller (ToDeliver order) _ c.in_ok-share-in-Accepted.ensures.ok (delivers_is s order now Accepted same accepted)
+    (subst (λ t. Agrees c.self.inside.library c.self.inside.commits c.keep.new.entries c.leave.new.keys c.leave-in-Accepted.new.keys t) (sym (delivered_is s order now c.key-key.result Accepted same c.key-key.ensures accepted))
+    (agrees_deliver _ _ c.self.inside.entries _ c.self.inside.ready _ c.self.inside.waiting _ s c.key-key.result c.in_ok-value-in-Accepted.value c.self.invariant.agrees value c.keep.ensures c.leave.ensures c.leave-in-Accepted.ensures))
     c.self.invariant.replayed c.self.invariant.keys_are (omega (arith, c.self.invariant.few))
 
 pub returns-in_ok-share-in-Accepted-clause-step : goal.returns-in_ok-share-in-Accepted-clause-step
@@ -55,8 +55,8 @@ invariant_of-self-in_default c =
     let same : order ≡ now = λ i. record { key = c.key-2.ensures i; reads = (c.in_ok-reads.ensures.same ∙ c.reads-2.ensures.same) i } in
     let judged : ◌≡◌ {A = Order} (record { key = c.key.result; reads = all_seen c.reads.result.now }) now = λ i. record { key = c.key.ensures i; reads = c.reads.ensures.same i } in
     let answer : c.judged-answer.result ≡ deliver_answer s now = c.judged-answer.ensures ∙ (λ i. deliver_answer (state_of (sym c.self.view_is i)) (judged i)) in
-    kept_pushed _ _ _ _ _ story _ c.args.caller (ToDeliver order) _ c.in_ok-share-in_default.ensures.ok (delivers_is s order now c.judged-answer.result same answer)
-    (subst (λ t. Agrees c.self.inside.library c.self.inside.commits c.self.inside.entries c.self.inside.ready t) (sym (delivered_is s order now now.key c.judged-answer.result same refl answer ∙ deliver_stays c.judged-answer.result now.key s c.in_default.not-Accepted)) c.self.invariant.agrees)
+    kept_pushed _ _ _ _ _ _ story _ c.args.caller (ToDeliver order) _ c.in_ok-share-in_default.ensures.ok (delivers_is s order now c.judged-answer.result same answer)
+    (subst (λ t. Agrees c.self.inside.library c.self.inside.commits c.self.inside.entries c.self.inside.ready c.self.inside.waiting t) (sym (delivered_is s order now now.key c.judged-answer.result same refl answer ∙ deliver_stays c.judged-answer.result now.key s c.in_default.not-Accepted)) c.self.invariant.agrees)
     c.self.invariant.replayed c.self.invariant.keys_are (omega (arith, c.self.invariant.few))
 
 pub returns-in_ok-share-in_default : goal.returns-in_ok-share-in_default

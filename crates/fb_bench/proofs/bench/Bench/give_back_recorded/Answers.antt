@@ -12,8 +12,8 @@ invariant_of-self-then-not-is_out c =
     let story : Story = record { most_units = c.self.inside.most_units; log = c.self.inside.history } in
     let s : State = state_of story in
     let free : s.out c.args.key ≡ false = ap (λ st. (state_of st).out c.args.key) c.self.view_is ∙ search rules in
-    kept_pushed _ _ _ _ _ story _ c.args.caller (ToGiveBack c.args.key) _ c.in_ok-share.ensures.ok (nothing_out s c.args.key free)
-    (subst (λ t. Agrees c.self.inside.library c.self.inside.commits c.self.inside.entries c.self.inside.ready t) (sym (after_nothing_out s c.args.key free)) c.self.invariant.agrees)
+    kept_pushed _ _ _ _ _ _ story _ c.args.caller (ToGiveBack c.args.key) _ c.in_ok-share.ensures.ok (nothing_out s c.args.key free)
+    (subst (λ t. Agrees c.self.inside.library c.self.inside.commits c.self.inside.entries c.self.inside.ready c.self.inside.waiting t) (sym (after_nothing_out s c.args.key free)) c.self.invariant.agrees)
     c.self.invariant.replayed c.self.invariant.keys_are (omega (arith, c.self.invariant.few))
 
 pub returns-then-not-is_out-clause-step : goal.returns-then-not-is_out-clause-step
@@ -32,9 +32,9 @@ invariant_of-self-then-not-waits c =
     let s : State = state_of story in
     let out : s.out c.args.key ≡ true = ap (λ st. (state_of st).out c.args.key) c.self.view_is ∙ search rules in
     let kept : s.pending c.args.key ≡ false = ap (λ st. (state_of st).pending c.args.key) c.self.view_is ∙ search rules in
-    kept_pushed _ _ _ _ _ story _ c.args.caller (ToGiveBack c.args.key) _ c.in_ok-share-2.ensures.ok (out_returned s c.args.key out)
-    (subst (λ t. Agrees c.self.inside.library c.self.inside.commits c.mark_out.new.entries c.self.inside.ready t) (sym (after_returned s c.args.key out))
-    (agrees_return_kept _ _ c.self.inside.entries _ _ s c.args.key c.self.invariant.agrees kept c.mark_out.ensures))
+    kept_pushed _ _ _ _ _ _ story _ c.args.caller (ToGiveBack c.args.key) _ c.in_ok-share-2.ensures.ok (out_returned s c.args.key out)
+    (subst (λ t. Agrees c.self.inside.library c.self.inside.commits c.mark_out.new.entries c.self.inside.ready c.self.inside.waiting t) (sym (after_returned s c.args.key out))
+    (agrees_return_kept _ _ c.self.inside.entries _ _ _ s c.args.key c.self.invariant.agrees kept c.mark_out.ensures))
     c.self.invariant.replayed c.self.invariant.keys_are (omega (arith, c.self.invariant.few))
 
 pub returns-then-not-waits-clause-step : goal.returns-then-not-waits-clause-step
@@ -53,9 +53,9 @@ invariant_of-self-in-Ok c =
     let s : State = state_of story in
     let out : s.out c.args.key ≡ true = ap (λ st. (state_of st).out c.args.key) c.self.view_is ∙ search rules in
     let waits : s.pending c.args.key ≡ true = ap (λ st. (state_of st).pending c.args.key) c.self.view_is ∙ search rules in
-    kept_pushed _ _ _ _ _ story _ c.args.caller (ToGiveBack c.args.key) _ c.in-Ok.ensures.ok (out_returned s c.args.key out)
-    (subst (λ t. Agrees c.self.inside.library c.self.inside.commits c.mark_out-in-Ok.new.entries c.join.new.keys t) (sym (after_returned s c.args.key out))
-    (agrees_return _ _ c.self.inside.entries _ c.self.inside.ready _ s c.args.key c.self.invariant.agrees waits c.mark_out-in-Ok.ensures c.in_ok-join.ensures.ok))
+    kept_pushed _ _ _ _ _ _ story _ c.args.caller (ToGiveBack c.args.key) _ c.in-Ok.ensures.ok (out_returned s c.args.key out)
+    (subst (λ t. Agrees c.self.inside.library c.self.inside.commits c.mark_out-in-Ok.new.entries c.join.new.keys c.self.inside.waiting t) (sym (after_returned s c.args.key out))
+    (agrees_return _ _ c.self.inside.entries _ c.self.inside.ready _ c.self.inside.waiting s c.args.key c.self.invariant.agrees waits c.mark_out-in-Ok.ensures c.in_ok-join.ensures.ok))
     c.self.invariant.replayed c.self.invariant.keys_are (omega (arith, c.self.invariant.few))
 
 pub returns-in-Ok-clause-step : goal.returns-in-Ok-clause-step
@@ -74,12 +74,13 @@ invariant_of-self-in-Err c =
     let s : State = state_of story in
     let out : s.out c.args.key ≡ true = ap (λ st. (state_of st).out c.args.key) c.self.view_is ∙ search rules in
     let agrees = c.self.invariant.agrees in
-    subst (λ l. IsKept c.self.inside.library c.self.inside.commits c.self.inside.keys.items c.self.inside.entries c.leave.new.keys (record { most_units = c.self.inside.most_units; log = l })) (sym c.in-Err.ensures.err)
+    subst (λ l. IsKept c.self.inside.library c.self.inside.commits c.self.inside.keys.items c.self.inside.entries c.leave.new.keys c.self.inside.waiting (record { most_units = c.self.inside.most_units; log = l })) (sym c.in-Err.ensures.err)
     (record {
       agrees = record {
         units_are = agrees.units_are;
         commits_are = agrees.commits_are;
         each = agrees.each;
+        waiting_are = agrees.waiting_are;
         ready_are = put_and_taken c.self.inside.ready c.join.new.keys c.leave.new.keys s c.args.key out agrees.ready_are c.in_ok-join.ensures.ok c.leave.ensures;
       };
       replayed = c.self.invariant.replayed;
@@ -116,6 +117,7 @@ invariant_of-self-in_err-join c =
         units_are = agrees.units_are;
         commits_are = agrees.commits_are;
         each = agrees.each;
+        waiting_are = agrees.waiting_are;
         ready_are = λ key. c.in_err-join.ensures.err key ∙ agrees.ready_are key;
       };
       replayed = c.self.invariant.replayed;

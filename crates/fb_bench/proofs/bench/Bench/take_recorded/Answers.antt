@@ -22,8 +22,8 @@ pub invariant_of-self-in-None : goal.invariant_of-self-in-None
 invariant_of-self-in-None c =
     let story : Story = record { most_units = c.self.inside.most_units; log = c.self.inside.history } in
     let none : None ≡ next (state_of story) = c.in-None.ensures ∙ ap (λ st. next (state_of st)) (sym c.self.view_is) in
-    kept_pushed _ _ _ _ _ story _ c.args.caller ToTake _ c.in_ok-share-in-None.ensures.ok (take_none (state_of story) none)
-    (subst (λ s. Agrees c.self.inside.library c.self.inside.commits c.self.inside.entries c.self.inside.ready s) (sym (stays_none (state_of story) none)) c.self.invariant.agrees)
+    kept_pushed _ _ _ _ _ _ story _ c.args.caller ToTake _ c.in_ok-share-in-None.ensures.ok (take_none (state_of story) none)
+    (subst (λ s. Agrees c.self.inside.library c.self.inside.commits c.self.inside.entries c.self.inside.ready c.self.inside.waiting s) (sym (stays_none (state_of story) none)) c.self.invariant.agrees)
     c.self.invariant.replayed c.self.invariant.keys_are (omega (arith, c.self.invariant.few))
 
 pub returns-in_ok-share-in-None-clause-step : goal.returns-in_ok-share-in-None-clause-step
@@ -42,9 +42,9 @@ invariant_of-self-in-Some c =
     let key = c.in-Some.key in
     let some : Some key ≡ next s = c.in-Some.ensures ∙ ap (λ st. next (state_of st)) (sym c.self.view_is) in
     let same = take_some s c.self.inside.library key c.in_ok-job-in-Some.job c.key.result (all_seen c.in_ok-reads-in-Some.reads.items) c.self.invariant.agrees.units_are c.in_ok-job-in-Some.ensures c.key.ensures (c.in_ok-reads-in-Some.ensures.same ∙ c.reads.ensures.same) some in
-    kept_pushed _ _ _ _ _ story _ c.args.caller ToTake _ c.in_ok-share-in-Some.ensures.ok same
-    (subst (λ t. Agrees c.self.inside.library c.self.inside.commits c.mark_out.new.entries c.leave.new.keys t) (sym (stays_some s key some))
-    (agrees_take _ _ c.self.inside.entries _ c.self.inside.ready _ s key c.self.invariant.agrees (next_passes s key some) c.mark_out.ensures c.leave.ensures))
+    kept_pushed _ _ _ _ _ _ story _ c.args.caller ToTake _ c.in_ok-share-in-Some.ensures.ok same
+    (subst (λ t. Agrees c.self.inside.library c.self.inside.commits c.mark_out.new.entries c.leave.new.keys c.self.inside.waiting t) (sym (stays_some s key some))
+    (agrees_take _ _ c.self.inside.entries _ c.self.inside.ready _ c.self.inside.waiting s key c.self.invariant.agrees (next_passes s key some) c.mark_out.ensures c.leave.ensures))
     c.self.invariant.replayed c.self.invariant.keys_are (omega (arith, c.self.invariant.few))
 
 pub returns-in_ok-share-in-Some-clause-step : goal.returns-in_ok-share-in-Some-clause-step

@@ -1,0 +1,7 @@
+use Rattle.std.proofs.Common.{◌≡◌, take, map}
+use Rattle.fb_library.specs.Texts.{unit_of}
+use Rattle.fb_library.specs.Changes.{edits_of}
+use Rattle.fb_bench.proofs.renewal.changed_units.Given as goal
+
+abbrev pub invariant-loop-change : goal.invariant-loop-change
+invariant-loop-change l = l.names.items ≡ map unit_of (edits_of (take l.change-index l.changes))
