@@ -15,6 +15,7 @@ use Rattle.fb_library.proofs.LocalLemmas.{near_unit}
 use Rattle.fb_iface.specs.Declarations.{declaration_faults, duplicate_faults, literal_faults_of, mixed_faults, name_faults, with_faults_of}
 use Rattle.fb_iface.specs.Fault.{faults_in_order}
 use Rattle.fb_iface.specs.Types.{instance_faults, instances_of, type_fault, type_faults}
+use Rattle.fb_ecc.proofs.LocalLemmas.{ecc_local}
 use Rattle.fb_faults.specs.Faults.{FaultsAreLocal, text_faults}
 
 first_contained : {A : Type 0} (x : A) (xs : List A) → Contains (x ∷ xs) x
@@ -59,4 +60,5 @@ pub faults_local : FaultsAreLocal
 faults_local a b unit agree =
     let own = agree unit (near_unit a unit) in
     let declared = declared_local a b unit (tree_at a unit) (λ name h. agree name (near_mention a unit name h)) ∙ ap (λ o. declaration_faults b unit (option_and_then tree_of o)) own in
-    λ i. faults_in_order (text_faults (own i) ++ declared i)
+    let charts = ecc_local a b unit agree in
+    λ i. faults_in_order (text_faults (own i) ++ declared i ++ charts i)

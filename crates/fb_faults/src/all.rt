@@ -2,6 +2,7 @@
 ghost use Rattle.std.specs.Prelude.{◌≡◌, IfOk};
 ghost use Rattle.fb_faults.specs.Faults.{faults_of, syntax_faults_of};
 
+use fb_ecc::ecc_faults;
 use fb_iface::{Code, Fault, iface_faults, sorted_faults};
 use fb_library::View;
 use fb_parse::Body;
@@ -15,6 +16,8 @@ pub fn faults<V: View>(alloc: Global, view: &V, unit: &Name) -> Result<Vec<Fault
     let mut found = syntax_faults(alloc, view, unit)?;
     let declarations = iface_faults(alloc, view, unit)?;
     found.extend_from_slice(declarations.as_slice())?;
+    let charts = ecc_faults(alloc, view, unit)?;
+    found.extend_from_slice(charts.as_slice())?;
     sorted_faults(alloc, found.as_slice())
 }
 
