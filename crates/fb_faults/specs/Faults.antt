@@ -1,13 +1,15 @@
 -- All faults of a unit.
-use Rattle.std.specs.Prelude.{◌≡◌, ℕ, List, [], ◌∷◌, ◌++◌, Option}
+use Rattle.std.specs.Prelude.{◌≡◌, ℕ, List, [], ◌∷◌, ◌++◌, Option, Some, Contains, ◌↔◌}
 use Rattle.std.specs.Option.{option_map_or}
 use Rattle.std.specs.FinMap.{get}
+use Rattle.std.specs.List.Sorted.{IsStrictlySortedBy}
+use Rattle.fb_text.specs.declared.token.Span.{Span}
 use Rattle.fb_parse.specs.Body.{BodyTree, Whole, BrokenAt, body_of}
 use Rattle.fb_library.specs.Local.{Agree}
 use Rattle.fb_library.specs.View.{Sources, near_of}
 use Rattle.fb_iface.specs.declared.code.Code.TheVariants.{Syntax}
 use Rattle.fb_iface.specs.declared.fault.Fault.{Fault}
-use Rattle.fb_iface.specs.Fault.{faults_in_order}
+use Rattle.fb_iface.specs.Fault.{fault_cmp, faults_in_order}
 use Rattle.fb_iface.specs.Declarations.{iface_faults_of}
 use Rattle.fb_expr.specs.Charts.{expr_faults_of}
 use Rattle.fb_ecc.specs.Charts.{ecc_faults_of}
@@ -24,6 +26,10 @@ text_faults text = option_map_or (λ t. body_faults (body_of t)) text []
 
 abbrev pub syntax_faults_of : Sources → List ℕ → List Fault
 syntax_faults_of sources unit = text_faults (get sources unit)
+
+-- what each check reports of a unit
+abbrev pub reported_of : Sources → List ℕ → List Fault
+reported_of sources unit = syntax_faults_of sources unit ++ iface_faults_of sources unit ++ ecc_faults_of sources unit
 
 -- all faults of a unit, in order, each once
 abbrev pub faults_of : Sources → List ℕ → List Fault
@@ -49,3 +55,15 @@ found_in_turn sources unit =
 -- the faults of a unit depend on the texts of the unit and of its mentions alone
 abbrev pub FaultsAreLocal : Type 0
 FaultsAreLocal = (a b : Sources) (unit : List ℕ) → Agree (near_of a unit) a b → faults_of a unit ≡ faults_of b unit
+
+-- each fault stands below those after it
+abbrev pub FaultsAreInOrder : Type 0
+FaultsAreInOrder = (sources : Sources) (unit : List ℕ) → IsStrictlySortedBy fault_cmp (faults_of sources unit)
+
+-- the faults are what the checks report, and nothing else
+abbrev pub FaultsAreThoseReported : Type 0
+FaultsAreThoseReported = (sources : Sources) (unit : List ℕ) (fault : Fault) → Contains (faults_of sources unit) fault ↔ Contains (reported_of sources unit) fault
+
+-- a broken text has no other fault
+abbrev pub BrokenTextsHaveOneFault : Type 0
+BrokenTextsHaveOneFault = (sources : Sources) (unit text : List ℕ) (span : Span) → get sources unit ≡ Some text → body_of text ≡ BrokenAt span → faults_of sources unit ≡ record { code = Syntax; span = span } ∷ []

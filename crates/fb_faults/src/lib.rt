@@ -6,7 +6,9 @@ mod laws;
 mod mappings;
 
 pub use all::faults;
-pub use laws::faults_are_local;
+pub use laws::{
+    broken_texts_have_one_fault, faults_are_in_order, faults_are_local, faults_are_those_reported,
+};
 
 #[cfg(test)]
 mod tests;

@@ -18,6 +18,9 @@ fn a_broken_text_has_one_fault(rt: HostRuntime) -> Result<(), Fail> {
     assert_eq!(rt; (found[0].span.start, found[0].span.end), (0, 1));
     assert_eq!(rt; faults(alloc, &library, &Name::read("b")?)?.len(), 0);
     faults_are_local();
+    faults_are_in_order();
+    faults_are_those_reported();
+    broken_texts_have_one_fault();
     Ok(())
 }
 

@@ -1,0 +1,22 @@
+-- The faults in their order, and those of a broken text.
+use Rattle.std.proofs.Common.{◌++◌, ◌∙◌}
+use Rattle.std.specs.Option.{option_and_then}
+use Rattle.fb_text.proofs.OrderLemmas.{in_order-members, in_order-sorted}
+use Rattle.fb_library.specs.View.{tree_in, tree_of}
+use Rattle.fb_iface.specs.Declarations.{declaration_faults}
+use Rattle.fb_iface.specs.Fault.{fault_cmp, fault_cmp_total, faults_in_order}
+use Rattle.fb_iface.proofs.FaultLemmas.{fault_cmp-exact}
+use Rattle.fb_ecc.specs.Charts.{chart_faults_in}
+use Rattle.fb_faults.specs.Faults.{BrokenTextsHaveOneFault, FaultsAreInOrder, FaultsAreThoseReported, body_faults, reported_of, text_faults}
+
+pub in_order : FaultsAreInOrder
+in_order sources unit = in_order-sorted fault_cmp fault_cmp_total (reported_of sources unit)
+
+pub those_reported : FaultsAreThoseReported
+those_reported sources unit fault = in_order-members fault_cmp fault_cmp_total fault_cmp-exact (reported_of sources unit) fault
+
+-- a broken text declares nothing
+pub broken_alone : BrokenTextsHaveOneFault
+broken_alone sources unit text span there broken =
+    (λ i. faults_in_order (text_faults (there i) ++ declaration_faults sources unit (option_and_then tree_of (there i)) ++ chart_faults_in sources (option_and_then tree_of (there i))))
+    ∙ (λ i. faults_in_order (body_faults (broken i) ++ declaration_faults sources unit (tree_in (broken i)) ++ chart_faults_in sources (tree_in (broken i))))
