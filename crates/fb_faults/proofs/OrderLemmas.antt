@@ -1,12 +1,17 @@
 -- The faults in their order, and those of a broken text.
-use Rattle.std.proofs.Common.{◌++◌, ◌∙◌}
+use Rattle.std.proofs.Common.{ℕ, List, Option, ◌++◌, ◌∙◌}
 use Rattle.std.specs.Option.{option_and_then}
 use Rattle.fb_text.proofs.OrderLemmas.{in_order-members, in_order-sorted}
-use Rattle.fb_library.specs.View.{tree_in, tree_of}
+use Rattle.fb_tree.specs.Tree.{DeclTree}
+use Rattle.fb_library.specs.View.{Sources, tree_in, tree_of}
 use Rattle.fb_iface.specs.Declarations.{declaration_faults}
 use Rattle.fb_iface.specs.Fault.{fault_cmp, fault_cmp_total, faults_in_order}
 use Rattle.fb_iface.proofs.FaultLemmas.{fault_cmp-exact}
+use Rattle.fb_iface.specs.declared.fault.Fault.{Fault}
 use Rattle.fb_ecc.specs.Charts.{chart_faults_in}
+use Rattle.fb_expr.specs.Charts.{faults_in_unit}
+use Rattle.fb_netcheck.specs.Networks.{tree_faults}
+use Rattle.fb_faults.specs.Mappings.{declared_mapping_faults}
 use Rattle.fb_faults.specs.Faults.{BrokenTextsHaveOneFault, FaultsAreInOrder, FaultsAreThoseReported, body_faults, reported_of, text_faults}
 
 pub in_order : FaultsAreInOrder
@@ -15,8 +20,13 @@ in_order sources unit = in_order-sorted fault_cmp fault_cmp_total (reported_of s
 pub those_reported : FaultsAreThoseReported
 those_reported sources unit fault = in_order-members fault_cmp fault_cmp_total fault_cmp-exact (reported_of sources unit) fault
 
+-- what is reported of a declaration, behind what is reported of the text
+abbrev with_tree : List Fault → Sources → List ℕ → Option DeclTree → List Fault
+with_tree syntax sources unit tree =
+    syntax ++ declaration_faults sources unit tree ++ faults_in_unit sources tree ++ chart_faults_in sources tree ++ tree_faults sources unit tree ++ declared_mapping_faults tree
+
 -- a broken text declares nothing
 pub broken_alone : BrokenTextsHaveOneFault
 broken_alone sources unit text span there broken =
-    (λ i. faults_in_order (text_faults (there i) ++ declaration_faults sources unit (option_and_then tree_of (there i)) ++ chart_faults_in sources (option_and_then tree_of (there i))))
-    ∙ (λ i. faults_in_order (body_faults (broken i) ++ declaration_faults sources unit (tree_in (broken i)) ++ chart_faults_in sources (tree_in (broken i))))
+    (λ i. faults_in_order (with_tree (text_faults (there i)) sources unit (option_and_then tree_of (there i))))
+    ∙ (λ i. faults_in_order (with_tree (body_faults (broken i)) sources unit (tree_in (broken i))))

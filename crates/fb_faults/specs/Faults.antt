@@ -27,22 +27,21 @@ text_faults text = option_map_or (λ t. body_faults (body_of t)) text []
 abbrev pub syntax_faults_of : Sources → List ℕ → List Fault
 syntax_faults_of sources unit = text_faults (get sources unit)
 
--- what each check reports of a unit
+-- what the checks report of a unit
 abbrev pub reported_of : Sources → List ℕ → List Fault
-reported_of sources unit = syntax_faults_of sources unit ++ iface_faults_of sources unit ++ ecc_faults_of sources unit
-
--- all faults of a unit, in order, each once
-abbrev pub faults_of : Sources → List ℕ → List Fault
-faults_of sources unit =
-    faults_in_order
-    (syntax_faults_of sources unit
+reported_of sources unit =
+    syntax_faults_of sources unit
     ++ iface_faults_of sources unit
     ++ expr_faults_of sources unit
     ++ ecc_faults_of sources unit
     ++ net_faults_of sources unit
-    ++ mapping_faults_of sources unit)
+    ++ mapping_faults_of sources unit
 
--- what each check finds, one after the other
+-- all faults of a unit, in order, each once
+abbrev pub faults_of : Sources → List ℕ → List Fault
+faults_of sources unit = faults_in_order (reported_of sources unit)
+
+-- what each check gives, one after the other
 abbrev pub found_in_turn : Sources → List ℕ → List Fault
 found_in_turn sources unit =
     syntax_faults_of sources unit
