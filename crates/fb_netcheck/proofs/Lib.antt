@@ -1,3 +1,4 @@
+pub mod CleanLemmas
 pub mod JoinLemmas
 pub mod KnownLemmas
 pub mod LocalLemmas

@@ -30,7 +30,7 @@ use Rattle.fb_netcheck.specs.Spellings.{part, same_by_form, words}
 use Rattle.fb_netcheck.specs.Types.{home, home_of, joined_types, type_faults}
 
 -- each item of a list has the fact
-abbrev Each : {A : Type 0} → (A → Type 0) → List A → Type 0
+abbrev pub Each : {A : Type 0} → (A → Type 0) → List A → Type 0
 Each P [] = Unit {0}
 Each P (x ∷ xs) = P x × Each P xs
 
@@ -64,13 +64,18 @@ each_type : (types : List (List ℕ)) (instances : List InstanceTree) → ((name
 each_type types [] among = tt
 each_type types (x ∷ xs) among = (among x.type_name.name (0, omega arith, refl), each_type types xs (λ name h. among name (Contains-append_right (x.type_name.name ∷ []) (types_in xs) name h)))
 
+-- what holds of each instance holds of what a name stands for
+pub instance_stands : (P : DeclaredInstance → Type 0) (n : NetworkTree) → Each (λ (i : InstanceTree). P (record { role = i.role; type_name = i.type_name })) n.instances → (name : List ℕ) (i : DeclaredInstance) → stands_for (first_ones (instances_in n)) name ≡ Some i → P i
+instance_stands P n each name i e =
+    let Q : List ℕ × DeclaredInstance → Type 0 = λ d. P d.1 in
+    let declared : Each Q (instances_in n) = each_map Q _ n.instances each in
+    each_stands P (first_ones (instances_in n)) (each_map Q _ _ (each_filter _ _ _ (each_placed Q 0 (instances_in n) declared))) name i e
+
 -- the type of what a name stands for among the instances is a mention
 type_mentioned : (n : NetworkTree) (name : List ℕ) (i : DeclaredInstance) → stands_for (first_ones (instances_in n)) name ≡ Some i → Contains (types_in n.instances) i.type_name.name
 type_mentioned n name i e =
     let P : DeclaredInstance → Type 0 = λ d. Contains (types_in n.instances) d.type_name.name in
-    let Q : List ℕ × DeclaredInstance → Type 0 = λ d. P d.1 in
-    let declared : Each Q (instances_in n) = each_map Q _ n.instances (each_type (types_in n.instances) n.instances (λ name h. h)) in
-    each_stands P (first_ones (instances_in n)) (each_map Q _ _ (each_filter _ _ _ (each_placed Q 0 (instances_in n) declared))) name i e
+    instance_stands P n (each_type (types_in n.instances) n.instances (λ name h. h)) name i e
 
 module _ (a b : Sources) (unit : List ℕ) (own : get a unit ≡ get b unit) where
   -- a port is declared in the unit or in a mention

@@ -11,3 +11,4 @@ pub mod Connections
 pub mod Parameters
 pub mod Networks
 pub mod Local
+pub mod Clean
