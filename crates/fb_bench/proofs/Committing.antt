@@ -13,7 +13,7 @@ use Rattle.fb_bench.specs.declared.answers.Delivered.{Delivered}
 use Rattle.fb_bench.specs.declared.answers.Delivered.TheVariants.{Accepted, NoSuchKey, NotPending, Stale}
 use Rattle.fb_bench.specs.declared.answers.GivenBack.{GivenBack}
 use Rattle.fb_bench.specs.declared.answers.GivenBack.TheVariants.{Returned, NothingOut}
-use Rattle.fb_bench.specs.Machine.{after_give_back, give_back_answer, State, Call, ToCommit, ToTake, ToDeliver, ToGiveBack, ToAsk, OfCommit, reply, after, commit_answer, after_commit, after_take, after_deliver, deliver_answer, next, after_done, refusal, or_else, or_some, repeated_refusal, repeated_after, first_misfit, misfit, misfit_at, count_answer, keys_of}
+use Rattle.fb_bench.specs.Machine.{after_give_back, give_back_answer, State, Call, ToCommit, ToTake, ToDeliver, ToGiveBack, ToAsk, OfCommit, reply, after, commit_answer, after_commit, after_take, after_deliver, deliver_answer, next, after_done, refusal, or_else, or_some, repeated_refusal, first_repeated, first_misfit, misfit, misfit_at, count_answer, keys_of}
 use Rattle.fb_bench.specs.Story.{Story, start, replay, calls_of, state_of}
 use Rattle.fb_bench.specs.Kept.{Agrees}
 use Rattle.fb_bench.specs.declared.renewal.Renewal.{Renewal}
@@ -54,11 +54,11 @@ stays_repeats (Some u) = λ es s. refl
 
 stays_refusal : (T : Texts) (edits : List Edit) → Stays (refusal T edits)
 stays_refusal T edits =
-    elim (length edits == 0) as (λ b. Stays (cond b (Some NoChange) (cond (nat_lt 16 (length edits)) (Some TooManyChanges) (or_some (repeated_refusal (repeated_after [] (map unit_of edits))) (first_misfit T edits))))) [
+    elim (length edits == 0) as (λ b. Stays (cond b (Some NoChange) (cond (nat_lt 16 (length edits)) (Some TooManyChanges) (or_some (repeated_refusal (first_repeated (map unit_of edits))) (first_misfit T edits))))) [
       | true ↦ λ es s. refl
-      | false ↦ elim (nat_lt 16 (length edits)) as (λ b. Stays (cond b (Some TooManyChanges) (or_some (repeated_refusal (repeated_after [] (map unit_of edits))) (first_misfit T edits)))) [
+      | false ↦ elim (nat_lt 16 (length edits)) as (λ b. Stays (cond b (Some TooManyChanges) (or_some (repeated_refusal (first_repeated (map unit_of edits))) (first_misfit T edits)))) [
         | true ↦ λ es s. refl
-        | false ↦ stays_or (repeated_refusal (repeated_after [] (map unit_of edits))) (first_misfit T edits) (stays_repeats (repeated_after [] (map unit_of edits))) (stays_first T edits)
+        | false ↦ stays_or (repeated_refusal (first_repeated (map unit_of edits))) (first_misfit T edits) (stays_repeats (first_repeated (map unit_of edits))) (stays_first T edits)
       ]
     ]
 

@@ -13,3 +13,4 @@ pub mod AfterCalls
 pub mod Renewals
 pub mod KeySteps
 pub mod KeysKept
+pub mod Again

@@ -1,6 +1,7 @@
 -- The workbench as a machine: its states, its calls, and what each call answers and leaves.
-use Rattle.std.specs.Prelude.{ℕ, ◌+◌, Bool, ◌&&◌, ◌||◌, not, List, [], ◌∷◌, ◌++◌, map, filter, length, Option, Some, None, if◌then◌else◌, nat_lt, ◌==◌}
-use Rattle.std.specs.List.{list_any, flat_map}
+use Rattle.std.specs.Prelude.{ℕ, ◌+◌, Bool, ◌&&◌, ◌||◌, not, List, [], ◌∷◌, map, filter, take, find, length, Option, Some, None, if◌then◌else◌, nat_lt, ◌==◌}
+use Rattle.std.specs.List.{list_any, flat_map, enumerate_from}
+use Rattle.std.specs.Option.{option_map}
 use Rattle.std.specs.Ordering.{is_lt}
 use Rattle.fb_library.specs.Texts.{Texts, Held, held, Edit, Puts, Removes, unit_of, names_of, all_edited}
 use Rattle.fb_jobs.specs.declared.key.Kind.{Kind}
@@ -85,10 +86,13 @@ reaches changed texts key = list_any (λ name. is_among name (needs texts key)) 
 
 -- ---- commit
 
--- the first unit that comes again, where some came before the list
-abbrev pub repeated_after : List (List ℕ) → List (List ℕ) → Option (List ℕ)
-repeated_after before [] = None
-repeated_after before (unit ∷ units) = if is_among unit before then Some unit else repeated_after (before ++ unit ∷ []) units
+-- whether an earlier change has the unit
+abbrev pub comes_again : List (List ℕ) → ℕ × List ℕ → Bool
+comes_again units placed = is_among placed.1 (take placed.0 units)
+
+-- the unit of the first change whose unit came before
+abbrev pub first_repeated : List (List ℕ) → Option (List ℕ)
+first_repeated units = option_map (λ placed. placed.1) (find (comes_again units) (enumerate_from 0 units))
 
 abbrev pub misfit_at : Option Held → Edit → Option Committed
 misfit_at None (Puts unit base text) = if base == 0 then None else Some (StaleBase unit 0)
@@ -125,7 +129,7 @@ abbrev pub refusal : Texts → List Edit → Option Committed
 refusal texts edits =
     if length edits == 0 then Some NoChange
     else (if nat_lt 16 (length edits) then Some TooManyChanges
-    else or_some (repeated_refusal (repeated_after [] (map unit_of edits))) (first_misfit texts edits))
+    else or_some (repeated_refusal (first_repeated (map unit_of edits))) (first_misfit texts edits))
 
 -- the first refusal, or the number of the commit
 abbrev pub commit_answer : State → List Edit → Committed

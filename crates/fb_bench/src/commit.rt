@@ -1,8 +1,8 @@
-ghost use Rattle.std.specs.Prelude.{◌≡◌, [], map, take};
+ghost use Rattle.std.specs.Prelude.{◌≡◌, map, take};
 ghost use Rattle.fb_library.specs.Texts.{unit_of};
 ghost use Rattle.fb_library.specs.Changes.{edit_of, edits_of};
 ghost use Rattle.fb_jobs.specs.Reads.{is_among};
-ghost use Rattle.fb_bench.specs.Machine.{repeated_after, misfit, first_misfit, refusal};
+ghost use Rattle.fb_bench.specs.Machine.{first_repeated, misfit, first_misfit, refusal};
 
 use crate::answers::Committed;
 use fb_library::{Change, Library};
@@ -34,9 +34,9 @@ fn is_changed(changes: &[Change], unit: Name) -> bool
     false
 }
 
-// the first unit that is changed twice
+// the unit of the first change whose unit came before
 fn repeated(changes: &[Change]) -> Option<Name>
-    ensures { result ≡ repeated_after [] (map unit_of (edits_of changes.now)) }
+    ensures { result ≡ first_repeated (map unit_of (edits_of changes.now)) }
 {
     for i in 0..changes.len() {
         let unit = changes[i].unit();
