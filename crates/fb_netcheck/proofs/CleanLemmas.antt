@@ -25,11 +25,11 @@ use Rattle.fb_netcheck.specs.Settings.{Place}
 use Rattle.fb_netcheck.specs.Sides.{end_faults, is_own_port, pass_through_faults}
 use Rattle.fb_netcheck.specs.Types.{joined_types, same_at_ends, targets_agree}
 
-left_none : {A : Type 0} (xs ys : List A) → xs ++ ys ≡ [] → xs ≡ []
+pub left_none : {A : Type 0} (xs ys : List A) → xs ++ ys ≡ [] → xs ≡ []
 left_none [] ys e = refl
 left_none (x ∷ xs) ys e = absurd (let no : ⊥ = cc in no)
 
-right_none : {A : Type 0} (xs ys : List A) → xs ++ ys ≡ [] → ys ≡ []
+pub right_none : {A : Type 0} (xs ys : List A) → xs ++ ys ≡ [] → ys ≡ []
 right_none [] ys e = e
 right_none (x ∷ xs) ys e = absurd (let no : ⊥ = cc in no)
 
@@ -37,7 +37,7 @@ none_mapped : {A B : Type 0} (f : A → B) (xs : List A) → map f xs ≡ [] →
 none_mapped f [] e = refl
 none_mapped f (x ∷ xs) e = absurd (let no : ⊥ = cc in no)
 
-none_of_each : {A B : Type 0} (f : A → List B) (xs : List A) → flat_map f xs ≡ [] → All (λ x. f x ≡ []) xs
+pub none_of_each : {A B : Type 0} (f : A → List B) (xs : List A) → flat_map f xs ≡ [] → All (λ x. f x ≡ []) xs
 none_of_each f [] e = All-nil (λ x. f x ≡ [])
 none_of_each f (x ∷ xs) e =
     All-cons (λ x. f x ≡ []) x xs (left_none (f x) (flat_map f xs) e) (none_of_each f xs (right_none (f x) (flat_map f xs) e))
@@ -83,7 +83,7 @@ module _ (sources : Sources) (here : Place) where
         passes_nothing = fine_passage here.kind c source destination (right_none (first ++ second) third none);
       }
 
-  fine_network : (n : NetworkTree) → network_faults sources here n ≡ [] → IsFineNetwork sources here n
+  pub fine_network : (n : NetworkTree) → network_faults sources here n ≡ [] → IsFineNetwork sources here n
   fine_network n none =
       let sides = flat_map (connection_faults here) n.connections in
       let types = flat_map (joined_types sources here) n.connections in

@@ -3,3 +3,4 @@ pub mod JoinLemmas
 pub mod KnownLemmas
 pub mod LocalLemmas
 pub mod RepeatLemmas
+pub mod RightLemmas

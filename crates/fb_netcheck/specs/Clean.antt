@@ -7,6 +7,7 @@ use Rattle.fb_tree.specs.declared.kinds.UnitKind.{UnitKind}
 use Rattle.fb_tree.specs.declared.kinds.UnitKind.TheVariants.{Block, Subapplication, System}
 use Rattle.fb_tree.specs.declared.network.Connection.{Connection}
 use Rattle.fb_library.specs.View.{Sources, tree_at}
+use Rattle.fb_iface.specs.Declarations.{iface_faults_of}
 use Rattle.fb_iface.specs.Ports.{same_side}
 use Rattle.fb_iface.specs.Scope.{scope_of_network, scope_of_type}
 use Rattle.fb_netcheck.specs.declared.ends.Position.{Position}
@@ -68,3 +69,13 @@ abbrev pub NetworksAreFine : Type 0
 NetworksAreFine =
     (sources : Sources) (unit : List ℕ) → net_faults_of sources unit ≡ []
     → All (λ (placed : Place × NetworkTree). IsFineNetwork sources placed.0 placed.1) (networks_in sources unit (tree_at sources unit))
+
+-- both ends name ports of the right sides
+abbrev pub AreRight : Place → Connection → Type 0
+AreRight here c = (is_right Source (target here c.sort c.source) ≡ true) × (is_right Destination (target here c.sort c.destination) ≡ true)
+
+-- without faults of what the unit declares, each type is usable, and each end names a port of the right side
+abbrev pub ConnectionsAreRight : Type 0
+ConnectionsAreRight =
+    (sources : Sources) (unit : List ℕ) → iface_faults_of sources unit ≡ [] → net_faults_of sources unit ≡ []
+    → All (λ (placed : Place × NetworkTree). All (AreRight placed.0) placed.1.connections) (networks_in sources unit (tree_at sources unit))

@@ -1,5 +1,5 @@
 //! Laws of the faults of networks.
-ghost use Rattle.fb_netcheck.specs.Clean.{NetworksAreFine};
+ghost use Rattle.fb_netcheck.specs.Clean.{ConnectionsAreRight, NetworksAreFine};
 ghost use Rattle.fb_netcheck.specs.Local.{NetFaultsAreLocal};
 
 /// The faults of the networks of a unit depend on its text and the texts of the types that it mentions alone.
@@ -12,4 +12,10 @@ pub fn net_faults_are_local()
 /// that is not usable is not judged.
 pub fn networks_are_fine()
     ensures { NetworksAreFine }
+{}
+
+/// Where a unit has no faults of what it declares either, each type of an instance is usable, and each end of a connection is a port of
+/// the right side.
+pub fn connections_are_right()
+    ensures { ConnectionsAreRight }
 {}

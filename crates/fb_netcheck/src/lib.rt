@@ -14,7 +14,7 @@ mod sides;
 mod spellings;
 mod types;
 
-pub use laws::{net_faults_are_local, networks_are_fine};
+pub use laws::{connections_are_right, net_faults_are_local, networks_are_fine};
 pub use networks::net_faults;
 pub use paths::{Placed, report_repeated};
 

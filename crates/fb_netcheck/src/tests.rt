@@ -94,6 +94,9 @@ fn a_subapplication_passes_nothing_through(rt: HostRuntime) -> Result<(), Fail> 
         "SUBAPPLICATION P EVENT_INPUT E; END_EVENT EVENT_OUTPUT F; END_EVENT EVENT_CONNECTIONS E TO F; END_CONNECTIONS END_SUBAPPLICATION";
     let found = placed(rt.alloc(), [("P", p)].as_slice(), "P")?;
     assert!(rt; found.as_slice() == [(18, 86, 92)].as_slice());
+    net_faults_are_local();
+    networks_are_fine();
+    connections_are_right();
     Ok(())
 }
 
