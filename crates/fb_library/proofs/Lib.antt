@@ -1,3 +1,4 @@
+pub mod FarLemmas
 pub mod LocalLemmas
 pub mod Names
 pub mod Places

@@ -44,7 +44,7 @@ gap_behind x xs n gap = record {
 }
 
 -- a list in strict order is its own ordering
-already_in_order : (xs : List (List ℕ)) → IsStrictlySortedBy name_cmp xs → in_order name_cmp xs ≡ xs
+pub already_in_order : (xs : List (List ℕ)) → IsStrictlySortedBy name_cmp xs → in_order name_cmp xs ≡ xs
 unfolding IsStrictlySortedBy
 already_in_order [] s = refl
 already_in_order (x ∷ []) s = refl

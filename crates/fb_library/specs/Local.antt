@@ -1,6 +1,8 @@
 -- What near and far depend on.
 use Rattle.std.specs.Prelude.{◌≡◌, ℕ, List, Contains, ◌↔◌}
 use Rattle.std.specs.FinMap.{get}
+use Rattle.std.specs.List.Sorted.{IsStrictlySortedBy}
+use Rattle.fb_text.specs.Order.{name_cmp}
 use Rattle.fb_library.specs.View.{Sources, near_of}
 use Rattle.fb_library.specs.Rests.{Rests}
 
@@ -19,3 +21,11 @@ NearIsLocal = (a b : Sources) (unit : List ℕ) → Agree (near_of a unit) a b �
 -- what a unit rests on depends on the texts that it rests on alone
 abbrev pub FarIsLocal : Type 0
 FarIsLocal = (a b : Sources) (unit : List ℕ) → AgreeFar unit a b → (name : List ℕ) → Rests a unit name ↔ Rests b unit name
+
+-- what is known of the list that a unit rests on: it is in order, each name once, and has these names and no others
+abbrev pub IsFar : Sources → List ℕ → List (List ℕ) → Type 0
+IsFar sources unit names = IsStrictlySortedBy name_cmp names × ((name : List ℕ) → Contains names name ↔ Rests sources unit name)
+
+-- there is one such list
+abbrev pub FarIsOneList : Type 0
+FarIsOneList = (sources : Sources) (unit : List ℕ) (names others : List (List ℕ)) → IsFar sources unit names → IsFar sources unit others → names ≡ others

@@ -1,5 +1,5 @@
 //! Laws of what is near and far.
-ghost use Rattle.fb_library.specs.Local.{NearIsLocal, FarIsLocal};
+ghost use Rattle.fb_library.specs.Local.{NearIsLocal, FarIsLocal, FarIsOneList};
 
 /// The names near a unit depend on the texts under these names alone.
 pub fn near_is_local()
@@ -9,4 +9,9 @@ pub fn near_is_local()
 /// What a unit rests on depends on the texts that it rests on alone.
 pub fn far_is_local()
     ensures { FarIsLocal }
+{}
+
+/// What `far` says of its names leaves one list alone.
+pub fn far_is_one_list()
+    ensures { FarIsOneList }
 {}

@@ -9,7 +9,7 @@ mod reads;
 mod walk;
 
 pub use change::Change;
-pub use laws::{far_is_local, near_is_local};
+pub use laws::{far_is_local, far_is_one_list, near_is_local};
 pub use library::Library;
 pub use look_up::{View, declaration_by_name, tree_by_name};
 pub use reads::{mentions_by_name, near};

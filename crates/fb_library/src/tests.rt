@@ -42,6 +42,7 @@ fn near_is_mentioned_and_far_is_reached(rt: HostRuntime) -> Result<(), Fail> {
     assert!(rt; declaration_by_name(&library, &s).is_some() == is_whole);
     near_is_local();
     far_is_local();
+    far_is_one_list();
     Ok(())
 }
 
