@@ -1,0 +1,692 @@
+"""Random small libraries. generate.py SEED COUNT OUT.jsonl [plain|tokens|deep] writes request lines for COUNT libraries, and beside it
+OUT.json, the list of libraries (name -> text) in the same order."""
+import json
+import random
+import sys
+
+UNITS = ["A", "B", "C", "D", "E", "F", "G", "H_1", "INT", "X"]
+PORTS = ["X", "Y", "Z", "K", "P", "Q", "IN", "ON", "ST", "V", "A"]
+INSTS = ["P", "Q", "F1", "F2", "X", "K", "S"]
+STATES = ["S0", "S1", "S2", "X", "IN"]
+ALGS = ["G", "X", "H", "ST"]
+TYPES = [["BOOL"], ["BOOL"], ["BOOL"], ["INT"], ["INT"], ["INT"], ["INT"], ["DINT"], ["UINT"], ["SINT"], ["LINT"],
+         ["USINT"], ["UDINT"], ["ULINT"], ["WORD"], ["WORD"], ["BYTE"], ["DWORD"], ["LWORD"], ["REAL"], ["REAL"],
+         ["TIME"], ["ANY"], ["ANY"], ["ANY_INT"], ["ANY_"], ["ANYX"], ["STRING"], ["STRING", "[", "10", "]"],
+         ["STRING", "[", "10", "]"], ["STRING", "[", "1_0", "]"], ["INT", "[", "5", "]"], ["ANY", "[", "3", "]"],
+         ["ARRAY", "[", "0", "..", "3", "]", "OF", "INT"], ["ARRAY", "[", "0", "..", "3", "]", "OF", "INT"],
+         ["ARRAY", "[", "0", "..", "3", "]", "OF", "BOOL"], ["ARRAY", "[", "0", "..", "3", "]", "OF", "WORD"],
+         ["ARRAY", "[", "0", "..", "+", "3", "]", "OF", "INT"],
+         ["ARRAY", "[", "0", "..", "1", ",", "-", "1", "..", "2", "]", "OF", "REAL"],
+         ["ARRAY", "[", "0", "..", "3", "]", "OF", "ANY"], ["ARRAY", "[", "0", "..", "3", "]", "OF", "ANY_X"],
+         ["MYTYPE"], ["A"], ["ST"]]
+LITERALS = {
+    "B": ["TRUE", "FALSE", "BOOL#1", "bool#TRUE", "Bool#0"],
+    "I": ["INT#5", "UINT#16#FF", "sint#-1", "ULINT#1_0", "LINT#+3", "dint#7", "USINT#2#1", "UDINT#0"],
+    "W": ["WORD#16#FF", "BYTE#1", "dword#0", "LWORD#2#1010_1010"],
+    "O": ["1.5", "1.5E3", "2.0e-1", "1.5e+10", "T#1s", "TIME#1.5h", "REAL#1.5E+3", "LREAL#-1E-5", "D#2020-01-02",
+          "DT#2020-01-02-10:11:12.5", "TOD#-10:11", "DATE#--1", "'a$'b'", '"s"', "''", "'\u00e4\u20ac'", "\"$\"'\"",
+          "TO#1", "STRING#1", "ANYX#1"],
+    "Num": ["2", "16#FF", "1_0", "00", "01", "1_", "0_", "10", "2#0", "1#0"],
+    "Any": ["0", "1"],
+    "Free": ["ANY#1", "ANY_#2", "any_int#3"],
+}
+ALL_LITERALS = [x for v in LITERALS.values() for x in v]
+ODD = ["#", "$", "'", '"', "%", "\u00e9", "{", "!", "^", "1..5", "INT#1..5", "D#-", "REAL#1E+", "1.", "1.5e", "1#", "T#",
+       "T#-", "T#1.", "(*", "*)", "(**)", "(*)", "//", "->", "=>", "==", ":=", "@", "_", "0", "1", "::", "..", "...",
+       "\u000c", "\u00a0", "INT#-+1", "LREAL#E-5", "TIME_OF_DAY#:1", "D#1-:2", "REAL#E5+6", "1E5", "1.5E-x"]
+WORDS = """FUNCTION_BLOCK END_FUNCTION_BLOCK ADAPTER SUBAPPLICATION SYSTEM APPLICATION END_APPLICATION DEVICE END_DEVICE
+RESOURCE END_RESOURCE MAPPINGS END_MAPPINGS EVENT_INPUT EVENT_OUTPUT END_EVENT VAR VAR_INPUT VAR_OUTPUT END_VAR PLUGS
+END_PLUGS SOCKETS END_SOCKETS FBS END_FBS SUBAPPS END_SUBAPPS EVENT_CONNECTIONS DATA_CONNECTIONS ADAPTER_CONNECTIONS
+END_CONNECTIONS EC_STATES END_STATES EC_TRANSITIONS END_TRANSITIONS ALGORITHM END_ALGORITHM SERVICE END_SERVICE WITH
+TO ARRAY OF IF THEN ELSIF ELSE END_IF CASE END_CASE FOR BY DO END_FOR WHILE END_WHILE REPEAT UNTIL END_REPEAT EXIT
+RETURN AND OR XOR NOT MOD TRUE FALSE IN ON ST""".split()
+SYMS = [":=", "<=", ">=", "<>", "**", "->", "..", ";", ":", ",", ".", "(", ")", "[", "]", "=", "<", ">", "+", "-", "*",
+        "/", "&"]
+LONG64, LONG65 = "L" * 64, "L" * 65
+
+
+def type_class(ty):
+    if len(ty) > 1:
+        return "O"
+    t = ty[0].upper()
+    if t == "BOOL":
+        return "B"
+    if t in ("BYTE", "WORD", "DWORD", "LWORD"):
+        return "W"
+    if t in ("SINT", "INT", "DINT", "LINT", "USINT", "UINT", "UDINT", "ULINT"):
+        return "I"
+    return "Free" if t == "ANY" or t.startswith("ANY_") else "O"
+
+
+def type_element(ty):
+    return type_class(ty[-1:]) if ty[0] == "ARRAY" else None
+
+
+class Gen:
+    def __init__(self, rng):
+        self.r = rng
+        self.subs = 0
+
+    def chance(self, p):
+        return self.r.random() < p
+
+    def pick(self, xs):
+        return self.r.choice(xs)
+
+    def bad(self, p):
+        """Chance p of something wrong, less in the libraries with little noise."""
+        return self.r.random() < p * self.noise
+
+    # -- plans: what each unit declares
+    def library(self):
+        r = self.r
+        self.noise = r.choice([0.0, 0.1, 0.3, 0.6, 1.0, 1.0])
+        names = r.sample(UNITS, r.randint(3, 8))
+        self.plan = {}
+        for n in names:
+            kind = r.choices(["basic", "composite", "adapter", "subapp", "system"], [30, 22, 20, 18, 10])[0]
+            self.plan[n] = self.interface(kind)
+        for n, p in self.plan.items():
+            self.instances(n, p)
+        out = {}
+        for n in names:
+            out[n] = self.text(n)
+        return out
+
+    def several(self, low, high):
+        return self.r.randint(low, high)
+
+    def distinct(self, pool, low, high):
+        """Names, mostly distinct, sometimes doubled."""
+        n = self.several(low, high)
+        out = self.r.sample(pool, min(n, len(pool)))
+        if out and self.bad(0.12):
+            out.append(self.pick(out))
+        return out
+
+    def interface(self, kind):
+        p = dict(kind=kind, events=[], vars=[], insts=[], apps=[])
+        if kind != "system":
+            p["events"] = [(n, self.pick(["in", "out"])) for n in self.distinct(PORTS, 0, 4)]
+            sides = ["in", "in", "out", "out", "var"] if kind in ("basic", "composite") else ["in", "out"]
+            p["vars"] = [(n, self.pick(sides), self.pick(TYPES)) for n in self.distinct(PORTS, 0, 6)]
+        return p
+
+    def of_kind(self, role):
+        want = {"plug": ("adapter",), "socket": ("adapter",), "fb": ("basic", "composite"), "sub": ("subapp",)}[role]
+        good = [n for n, p in self.plan.items() if p["kind"] in want]
+        if good and not self.bad(0.12):
+            return self.pick(good)
+        return self.pick(list(self.plan) + UNITS + ["NOPE"])
+
+    def some_instances(self, roles, low, high):
+        out = []
+        for n in self.distinct(INSTS, low, high):
+            role = self.pick(roles)
+            out.append((n, role, self.of_kind(role)))
+        return out
+
+    def instances(self, name, p):
+        k = p["kind"]
+        if k == "basic":
+            p["insts"] = self.some_instances(["plug", "socket"], 0, 2)
+            if self.bad(0.06):
+                p["insts"] += self.some_instances(["fb"], 1, 1)
+        elif k == "composite":
+            p["insts"] = self.some_instances(["plug", "socket", "fb", "fb"], 0, 5)
+        elif k == "subapp":
+            p["insts"] = self.some_instances(["plug", "socket", "fb", "fb", "sub"], 0, 5)
+        elif k == "system":
+            for a in self.distinct(["APP", "X", "K"], 1, 2):
+                p["apps"].append((a, self.some_instances(["fb", "fb", "sub"], 0, 4)))
+
+    # -- texts
+    def text(self, name):
+        p = self.plan[name]
+        k = p["kind"]
+        word = {"basic": "FUNCTION_BLOCK", "composite": "FUNCTION_BLOCK", "adapter": "ADAPTER",
+                "subapp": "SUBAPPLICATION", "system": "SYSTEM"}[k]
+        said = name if not self.bad(0.05) else self.pick(UNITS + [LONG64])
+        body = self.system(p) if k == "system" else self.sections(p)
+        toks = [word, said] + body + ["END_" + word]
+        if self.bad(0.07):
+            for _ in range(self.several(1, 2)):
+                toks = self.mutate(toks)
+        text = self.join(toks)
+        if self.bad(0.02):
+            i = self.r.randint(0, len(text))
+            text = text[:i] + self.pick(ODD + SYMS) + text[i:]
+        if self.bad(0.01):
+            text = text[:self.r.randint(0, len(text))]
+        return text
+
+    def mutate(self, toks):
+        if not toks:
+            return toks
+        i = self.r.randrange(len(toks))
+        how = self.several(0, 6)
+        if how == 0:
+            return toks[:i] + toks[i + 1:]
+        if how == 1:
+            return toks[:i] + [self.pick(WORDS + SYMS + ODD)] + toks[i:]
+        if how == 2:
+            return toks[:i] + [self.pick(WORDS + SYMS + ODD + [LONG65])] + toks[i + 1:]
+        if how == 3:
+            return toks[:i]
+        if how == 4:
+            return toks[:i] + [toks[i]] + toks[i:]
+        if how == 5:
+            j = self.r.randrange(len(toks))
+            toks = list(toks)
+            toks[i], toks[j] = toks[j], toks[i]
+            return toks
+        return toks + [self.pick(WORDS + SYMS + ODD)]
+
+    def join(self, toks):
+        r, out, last = self.r, [], ""
+        wild = self.chance(0.3)
+        for t in toks:
+            if r.random() < 0.15 and t.isascii() and t[0].isalpha():
+                t = t.lower() if r.random() < 0.7 else t.capitalize()
+            wordy = (last[-1:].isalnum() or last[-1:] in "_#") and (t[0].isalnum() or t[0] in "_#")
+            risky = last and (last[-1] + t[0] in ("(*", "//", "..", ":=", "<=", ">=", "<>", "**", "->")
+                              or last[-1].isdigit() and t[0] == "." or last[-1] == "." and t[0].isdigit()
+                              or last[-1] == "#" or t[0] == "#" or "#" in last and t[0] in ".+-:")
+            if wild and r.random() < 0.08:
+                out.append(self.pick(["(* c *)", "(* END_VAR ; *)", "// c\n", "\n\t", "  ", "(**)", "(* \u20ac\u00e4 *)",
+                                      "(* (* *)", "// \r ;\n", "\r\n", "(* ' *)", "(***)"]))
+            elif wordy or risky or r.random() < 0.35:
+                out.append(" ")
+            out.append(t)
+            last = t
+        if r.random() < 0.1:
+            out.append(self.pick([" ", "\n", " // end", " (* end *)"]))
+        return "".join(out)
+
+    # -- sections of a block, adapter or subapplication
+    def sections(self, p):
+        parts = []
+        k = p["kind"]
+        for side, kw in (("in", "EVENT_INPUT"), ("out", "EVENT_OUTPUT")):
+            items = [self.event(p, n, side) for n, s in p["events"] if s == side]
+            parts += self.split(kw, items, "END_EVENT")
+        for side, kw in (("in", "VAR_INPUT"), ("out", "VAR_OUTPUT"), ("var", "VAR")):
+            items = self.vardecls([(n, t) for n, s, t in p["vars"] if s == side])
+            if side != "var" or k in ("basic", "composite") or self.bad(0.01):
+                parts += self.split(kw, items, "END_VAR")
+        parts += self.inst_sections(p["insts"])
+        if k == "composite" or k == "subapp" or (k == "basic" and self.bad(0.05)):
+            parts += self.connections(p, p["insts"], "block" if k != "subapp" else "subapp")
+            if k == "composite" and self.bad(0.05):
+                parts.append(["EC_STATES", "END_STATES"])
+        if k == "basic":
+            parts += self.chart(p)
+        if self.chance(0.06):
+            parts.append(["SERVICE"] + [self.pick(["X", "FBS", ";", "1", "'a'", ":=", "END_VAR", "(", "#"])
+                                        for _ in range(self.several(0, 4))] + ["END_SERVICE"])
+        if k == "adapter":
+            pass
+        if self.chance(0.5):
+            self.r.shuffle(parts)
+        return [t for s in parts for t in s]
+
+    def split(self, kw, items, end):
+        """The items in no, one or two sections."""
+        if not items and self.chance(0.85):
+            return []
+        if len(items) > 1 and self.chance(0.2):
+            i = self.several(1, len(items) - 1)
+            return [[kw] + sum(items[:i], []) + [end], [kw] + sum(items[i:], []) + [end]]
+        return [[kw] + sum(items, []) + [end]]
+
+    def event(self, p, n, side):
+        out = [n]
+        if self.chance(0.1):
+            out += [":", self.pick(["EVT", "A", "X"])]
+        if self.chance(0.4):
+            good = [v[0] for v in p["vars"] if v[1] == side]
+            ws = [self.pick(good) if good and not self.bad(0.3) else self.pick(PORTS) for _ in range(self.several(1, 3))]
+            if good or self.bad(1):
+                out += ["WITH"] + self.commas([[w] for w in ws])
+        return out + [";"]
+
+    def commas(self, lists):
+        out = []
+        for i, x in enumerate(lists):
+            out += ([","] if i else []) + x
+        return out
+
+    def vardecls(self, items):
+        out = []
+        while items:
+            n = 2 if len(items) > 1 and self.chance(0.15) else 1
+            ty = items[0][1]
+            names = [i[0] for i in items[:n]]
+            items = items[n:]
+            d = self.commas([[x] for x in names]) + [":"] + ty
+            if self.chance(0.35):
+                d += [":="] + self.constant(ty)
+            out.append(d + [";"])
+        return out
+
+    def simple(self, cls):
+        if self.bad(0.25):
+            cls = self.pick(list(LITERALS))
+        c = self.pick(LITERALS[cls])
+        if c[0].isdigit() and self.chance(0.2):
+            return [self.pick("+-"), c]
+        if self.chance(0.06):
+            return [self.pick(["X", "NAME", "ST", "ON"])]
+        return [c]
+
+    def constant(self, ty):
+        el = type_element(ty)
+        if (el is not None) == (not self.bad(0.15)):
+            c = el or "I"
+            return ["["] + self.commas([self.simple(self.near(c)) for _ in range(self.several(1, 3))]) + ["]"]
+        return self.simple(self.near(type_class(ty)))
+
+    def near(self, c):
+        return self.pick({"B": ["B", "B", "Any"], "I": ["I", "Num", "Any"], "W": ["W", "Num", "Any"],
+                          "O": ["O", "O", "I", "Num", "Any"], "Free": list(LITERALS)}[c])
+
+    def inst_sections(self, insts):
+        out = []
+        for role, kw in (("plug", "PLUGS"), ("socket", "SOCKETS"), ("fb", "FBS"), ("sub", "SUBAPPS")):
+            items = []
+            for n, ro, ty in insts:
+                if ro == role:
+                    d = [n, ":", ty]
+                    if role != "sub" and self.chance(0.45 if role == "fb" else 0.1):
+                        d += self.params(ty)
+                    items.append(d + [";"])
+            if items or (role == "fb" and self.chance(0.02)):
+                out += self.split(kw, items, "END_" + kw)
+        return out
+
+    def params(self, ty):
+        vs = [v for v in self.plan.get(ty, {"vars": []})["vars"]]
+        good = [v for v in vs if v[1] == "in"]
+        out = []
+        for _ in range(self.several(1, 3)):
+            if not good and not self.bad(1):
+                return []
+            v = self.pick(good) if good and not self.bad(0.2) else self.pick(vs) if vs and self.chance(0.4) else None
+            n, t = (v[0], v[2]) if v else (self.pick(PORTS), self.pick(TYPES))
+            out.append([n, ":="] + self.constant(t))
+        return ["("] + self.commas(out) + [")"]
+
+    # -- connections
+    def ends(self, p, insts, kind, sort):
+        """All ends of a sort as (tokens, side, type) by the plans: side "from" or "to"."""
+        out = []
+        key = "events" if sort == "event" else "vars"
+        flip = {"in": "from", "out": "to"}
+        back = {"in": "to", "out": "from"}
+        if sort == "adapter":
+            if p is not None:
+                out += [([n], "from" if ro == "socket" else "to", ty) for n, ro, ty in insts if ro in ("plug", "socket")]
+            for n, ro, ty in insts:
+                if ro in ("fb", "sub") and ty in self.plan:
+                    for m, ro2, ty2 in self.plan[ty]["insts"]:
+                        if ro2 in ("plug", "socket"):
+                            out.append(([n, ".", m], "from" if ro2 == "plug" else "to", ty2))
+            return out
+        if p is not None:
+            out += [([x[0]], flip[x[1]], x[2:]) for x in p[key] if x[1] != "var"]
+        for n, ro, ty in insts:
+            if ty in self.plan and (ro in ("fb", "sub") or kind == "block"):
+                d = flip if ro == "plug" else back
+                out += [([n, ".", x[0]], d[x[1]], x[2:]) for x in self.plan[ty][key] if x[1] != "var"]
+        return out
+
+    def connections(self, p, insts, kind):
+        out = []
+        for sort, kw in (("event", "EVENT_CONNECTIONS"), ("data", "DATA_CONNECTIONS"),
+                         ("adapter", "ADAPTER_CONNECTIONS")):
+            if self.chance(0.3):
+                continue
+            ends = self.ends(p if kind != "app" else None, insts, kind, sort)
+            items, made = [], []
+            for _ in range(self.several(0, 5)):
+                a = self.an_end(ends, "from", insts, None, made)
+                b = a and self.an_end(ends, "to", insts, a[2], made)
+                if a is None or b is None or self.noise < 0.5 and a[2] != b[2] and self.chance(0.9):
+                    continue
+                made += [a, b]
+                items.append(a[0] + ["TO"] + b[0] + [";"])
+            if items or self.chance(0.2):
+                out += self.split(kw, items, "END_CONNECTIONS")
+        return out
+
+    def an_end(self, ends, side, insts, ty, made):
+        x = self.r.random()
+        right = [e for e in ends if e[1] == side]
+        x = 0.5 if not self.bad(1) else x
+        if made and x < 0.06:
+            return self.pick(made)
+        if not right and not self.bad(1):
+            return None
+        if right and x < 0.75:
+            same = [e for e in right if e[2] == ty]
+            return self.pick(same) if same and self.chance(0.6) else self.pick(right)
+        if ends and x < 0.88:
+            return self.pick(ends)
+        return ([self.pick(PORTS)] if self.chance(0.4) else
+                [self.pick(INSTS), ".", self.pick(PORTS + INSTS)], "", None)
+
+    # -- systems
+    def system(self, p):
+        parts, paths = [], []
+        for a, insts in p["apps"]:
+            secs = self.inst_sections(insts) + self.connections(None, insts, "app")
+            if self.chance(0.4):
+                self.r.shuffle(secs)
+            parts.append(["APPLICATION", a] + [t for s in secs for t in s] + ["END_APPLICATION"])
+            paths.append([a])
+            paths += [[a, n] for n, _, _ in insts]
+        devs = []
+        for d in self.distinct(["D1", "D2", "X"], 0, 2):
+            res = self.distinct(["R1", "R2", "X"], 0, 3)
+            s = ["DEVICE", d, ":", "DT"] + (self.params("A") if self.chance(0.1) else [])
+            s += [";"] if self.chance(0.3) else []
+            for x in res:
+                s += ["RESOURCE", x, ":", "RT"] + (self.params("A") if self.chance(0.1) else [])
+                s += ([";"] if self.chance(0.3) else []) + ["END_RESOURCE"]
+            parts.append(s + ["END_DEVICE"])
+            devs += [(d, x) for x in res]
+        items = []
+        for _ in range(self.several(0, 5)):
+            path = self.pick(paths) if paths and not self.bad(0.2) else [self.pick(["APP", "ON", "X", "Q"])
+                                                                        for _ in range(self.several(1, 4))]
+            d = self.pick(devs) if devs and not self.bad(0.2) else (self.pick(["D1", "D2", "X"]), self.pick(["R1", "X"]))
+            dotted = []
+            for i, x in enumerate(path):
+                dotted += (["."] if i else []) + [x]
+            items.append(dotted + ["ON", d[0], ".", d[1], ";"])
+        parts += self.split("MAPPINGS", items, "END_MAPPINGS")
+        if self.chance(0.4):
+            self.r.shuffle(parts)
+        return [t for s in parts for t in s]
+
+    # -- charts
+    def chart(self, p):
+        states = self.distinct(STATES, 1, 4)
+        algs = self.distinct(ALGS, 0, 3)
+        out, items = [], []
+        for s in states:
+            acts = []
+            for _ in range(self.several(0, 2)):
+                x = self.r.random()
+                a = [self.pick(algs) if algs and not self.bad(0.2) else self.pick(ALGS)]
+                e = ["->"] + self.chart_event(p, "out")
+                acts.append(a if x < 0.3 else e if x < 0.5 else a + e)
+            items.append([s] + ([":"] + self.commas(acts) if acts else []) + [";"])
+        if not self.bad(0.05):
+            out += self.split("EC_STATES", items, "END_STATES")
+        items = []
+        for _ in range(self.several(0, 4)):
+            ab = [self.pick(states) if not self.bad(0.1) else self.pick(STATES) for _ in "ab"]
+            items.append([ab[0], "TO", ab[1], ":="] + self.cond(p) + [";"])
+        out += self.split("EC_TRANSITIONS", items, "END_TRANSITIONS")
+        for a in algs:
+            out.append(self.algorithm(p, a))
+        return out
+
+    def chart_event(self, p, side):
+        good = [[n] for n, s in p["events"] if s == side]
+        bad = [[n] for n, s in p["events"] if s != side]
+        for n, ro, ty in p["insts"]:
+            for m, s in self.plan.get(ty, {"events": []})["events"]:
+                (good if (s == side) == (ro == "plug") else bad).append([n, ".", m])
+        x = self.r.random() if self.bad(1) else 0
+        if good and x < 0.7:
+            return self.pick(good)
+        if bad and x < 0.85:
+            return self.pick(bad)
+        return [self.pick(PORTS)] if self.chance(0.5) else [self.pick(INSTS), ".", self.pick(PORTS)]
+
+    def cond(self, p):
+        x = self.r.random()
+        self.scope = self.variables(p)
+        e = self.chart_event(p, "in")
+        if x < 0.12:
+            return ["1"]
+        if x < 0.35:
+            return e
+        g = self.expr("B", self.several(0, 2))
+        if x < 0.6:
+            return e + ["["] + g + ["]"]
+        if x < 0.8:
+            return e + [self.pick(["&", "AND"])] + g
+        return ["["] + g + ["]"]
+
+    # -- algorithms
+    def variables(self, p):
+        out = [([n], t) for n, _, t in p["vars"]]
+        for n, ro, ty in p["insts"]:
+            out += [([n, ".", v[0]], v[2]) for v in self.plan.get(ty, {"vars": []})["vars"]]
+        return out
+
+    def algorithm(self, p, a):
+        self.scope = self.variables(p)
+        if self.chance(0.07):
+            junk = [self.pick(["X", ":=", "IF", "FBS", "'a'", "1", "#", "END_IF", "(", "END_SERVICE"])
+                    for _ in range(self.several(0, 5))]
+            return ["ALGORITHM", a, "IN", self.pick(["LD", "JAVA", "IN"])] + junk + ["END_ALGORITHM"]
+        body = []
+        for _ in range(self.several(0, 5)):
+            body += self.stmt(self.several(0, 2))
+        if self.chance(0.03):
+            body += self.deep()
+        return ["ALGORITHM", a, "IN", "ST"] + ([":"] if self.chance(0.7) else []) + body + ["END_ALGORITHM"]
+
+    def deep(self):
+        """Nesting near level 64."""
+        ifs, total = self.several(0, 66), self.several(62, 65)
+        parens = max(0, total - ifs)
+        kinds = [self.pick(["IF", "WHILE", "FOR", "REPEAT", "CASE"]) for _ in range(ifs)]
+        heads = {"IF": ["IF", "TRUE", "THEN"], "WHILE": ["WHILE", "TRUE", "DO"], "REPEAT": ["REPEAT"],
+                 "FOR": ["FOR", "X", ":=", "1", "TO", "2", "DO"], "CASE": ["CASE", "1", "OF", "1", ":"]}
+        tails = {"IF": ["END_IF"], "WHILE": ["END_WHILE"], "REPEAT": ["UNTIL", "X", "END_REPEAT"], "FOR": ["END_FOR"],
+                 "CASE": ["END_CASE"]}
+        out = []
+        for k in kinds:
+            out += heads[k]
+        inner = [self.pick(["X", "1", "X"])]
+        for i in range(parens):
+            inner = ["("] + inner + [")"] if self.chance(0.7) else ["X", "["] + inner + ["]"]
+        out += ["X", ":="] + inner + [";"]
+        for k in reversed(kinds):
+            out += tails[k]
+        return out
+
+    def block(self, depth):
+        out = []
+        for _ in range(self.several(0, 2)):
+            out += self.stmt(depth)
+        return out
+
+    def stmt(self, depth):
+        x = self.several(0, 19)
+        d = depth - 1
+        if depth <= 0 or x < 8:
+            if x == 0:
+                return [";"]
+            if x == 1:
+                return [self.pick(["EXIT", "RETURN"]), ";"]
+            ref, cls = self.reference()
+            return ref + [":="] + self.expr(cls, self.several(0, 2)) + [";"]
+        semi = [";"] if self.chance(0.7) else []
+        if x < 11:
+            s = ["IF"] + self.expr("B", d) + ["THEN"] + self.block(d)
+            for _ in range(self.several(0, 1)):
+                s += ["ELSIF"] + self.expr("B", d) + ["THEN"] + self.block(d)
+            if self.chance(0.4):
+                s += ["ELSE"] + self.block(d)
+            return s + ["END_IF"] + semi
+        if x < 13:
+            s = ["CASE"] + self.expr(self.pick(["I", "I", "W", "O", "Any"]), d) + ["OF"]
+            for _ in range(self.several(1, 2)):
+                labels = []
+                for _ in range(self.several(1, 2)):
+                    la = self.label()
+                    if self.chance(0.3):
+                        la = la + [".."] + self.label()
+                    labels.append(la)
+                s += self.commas(labels) + [":"] + self.block(d)
+            if self.chance(0.4):
+                s += ["ELSE"] + self.block(d)
+            return s + ["END_CASE"] + semi
+        if x < 16:
+            good = [v[0][0] for v in self.scope if len(v[0]) == 1 and type_class(v[1]) == "I"]
+            n = self.pick(good) if good and not self.bad(0.3) else self.pick(PORTS)
+            s = ["FOR", n, ":="] + self.expr("I", d) + ["TO"] + self.expr("I", d)
+            if self.chance(0.4):
+                s += ["BY"] + self.expr("I", d)
+            return s + ["DO"] + self.block(d) + ["END_FOR"] + semi
+        if x < 18:
+            return ["WHILE"] + self.expr("B", d) + ["DO"] + self.block(d) + ["END_WHILE"] + semi
+        return ["REPEAT"] + self.block(d) + ["UNTIL"] + self.expr("B", d) + ["END_REPEAT"] + semi
+
+    def label(self):
+        x = self.r.random()
+        if x < 0.3:
+            return [self.pick(["INT#5", "T#1s", "BOOL#1", "D#1-1"])]
+        n = self.pick(["0", "1", "16#FF", "1.5", "7"])
+        return [self.pick("+-"), n] if x < 0.5 else [n]
+
+    def reference(self, cls=None):
+        """A reference (tokens) and its class; of class cls where one is there and chance will."""
+        good = []
+        for n, t in self.scope:
+            if cls is None or type_class(t) == cls:
+                good.append((n, type_class(t)))
+            el = type_element(t)
+            if el is not None and (cls is None or el == cls):
+                good.append((n, el, True))
+        if not good and cls is not None and not self.bad(1):
+            return [self.pick(LITERALS[cls])], cls
+        if not good or self.bad(0.05):
+            n = [self.pick(PORTS)] if self.chance(0.6) else [self.pick(INSTS), ".", self.pick(PORTS)]
+            good = [(n, "Free", self.chance(0.2))]
+        g = self.pick(good)
+        out = list(g[0])
+        if (len(g) > 2 and g[2]) or self.bad(0.03):
+            self.subs += 1
+            deep = self.subs > 2
+            out += ["["] + self.commas([[self.pick(LITERALS["Num"])] if deep else self.expr("I", self.several(0, 1))
+                                        for _ in range(self.several(1, 2))]) + ["]"]
+            self.subs -= 1
+        return out, g[1]
+
+    def expr(self, cls, depth):
+        if self.bad(0.07):
+            cls = self.pick(["B", "I", "W", "O", "Num", "Any", "Free"])
+        if depth <= 0:
+            if self.chance(0.5):
+                return self.reference(cls)[0]
+            if self.bad(0.1):
+                return [self.pick(ALL_LITERALS)]
+            near = {"B": ["B", "Any"], "I": ["I", "Num", "Any"], "W": ["W", "Num", "Any"], "O": ["O", "O", "I", "Num"],
+                    "Num": ["Num"], "Any": ["Any"], "Free": ["Free"]}[cls]
+            return [self.pick(LITERALS[self.pick(near)])]
+        d = depth - 1
+        x = self.r.random()
+        if x < 0.15:
+            return ["("] + self.expr(cls, d) + [")"]
+        if x < 0.3:
+            op = "NOT" if cls in ("B", "W") else self.pick(["+", "-"])
+            if self.bad(0.1):
+                op = self.pick(["NOT", "+", "-"])
+            return [op] + (self.expr(cls, 0) if self.chance(0.5) else ["("] + self.expr(cls, d) + [")"])
+        logic, arith = ["OR", "XOR", "AND", "&"], ["+", "-", "*", "/", "**", "MOD"]
+        if cls == "B":
+            ops = logic if self.chance(0.5) else ["=", "<>", "<", ">", "<=", ">="]
+        elif cls == "W":
+            ops = logic
+        elif cls == "O":
+            ops = arith[:5]
+        else:
+            ops = arith
+        op = self.pick(ops)
+        if self.bad(0.04):
+            op = self.pick(logic + arith + ["=", "<"])
+        sub = self.pick(["B", "I", "W", "O"]) if op in ("=", "<>", "<", ">", "<=", ">=") else cls
+        out = self.expr(sub, d) + [op] + self.expr(sub, d)
+        if self.chance(0.25):
+            out += [self.pick(ops)] + self.expr(sub, d)
+        return out
+
+
+PREFIXES = ["", "FUNCTION_BLOCK %s ", "FUNCTION_BLOCK %s VAR X:INT:=", "FUNCTION_BLOCK %s VAR X:ARRAY[0..1] OF BOOL:=[1,",
+            "FUNCTION_BLOCK %s VAR X:INT;END_VAR ALGORITHM A IN ST X:=", "FUNCTION_BLOCK %s SERVICE ",
+            "FUNCTION_BLOCK %s ALGORITHM A IN LD ", "FUNCTION_BLOCK %s EC_TRANSITIONS A TO B:=", "ADAPTER ",
+            "FUNCTION_BLOCK %s VAR X:INT;END_VAR ALGORITHM A IN ST CASE X OF ", "FUNCTION_BLOCK %s VAR X:",
+            "FUNCTION_BLOCK %s VAR X:INT;END_VAR ALGORITHM A IN ST X:=1+", "SYSTEM %s MAPPINGS ",
+            "FUNCTION_BLOCK %s VAR X:BOOL;END_VAR ALGORITHM A IN ST IF ", "FUNCTION_BLOCK %s VAR X:ARRAY["]
+SUFFIXES = ["", ";END_VAR END_FUNCTION_BLOCK", "]; END_VAR END_FUNCTION_BLOCK", ";END_ALGORITHM END_FUNCTION_BLOCK",
+            " END_SERVICE END_FUNCTION_BLOCK", " END_ALGORITHM END_FUNCTION_BLOCK", ";END_TRANSITIONS END_FUNCTION_BLOCK",
+            " END_FUNCTION_BLOCK", ":END_CASE END_ALGORITHM END_FUNCTION_BLOCK", "*)", " "]
+FAMILY = {2: [1], 3: [2], 4: [3], 5: [4], 6: [5], 7: [6], 8: [7], 9: [8], 10: [1], 11: [3], 13: [3], 14: [2]}
+ATOMS = list("aEe_19#.+-:'\"$(*)/<>=&;, \t\r\n\u00e9\u20ac") + ["T#", "D#", "REAL#", "lreal#", "DT#", "1.5", "E+", "e-", "..",
+        "(*", "*)", "//", "INT#1", "16#", "TRUE", "X", "**", ":=", "->", "$'", "time_of_day#", "#1", "A" * 64, "A" * 65,
+        "\U0001f600", "\x0b", "\x00", "\x7f", "NOT", "[", "]", "Date_And_Time#", "D", "1_", "0"]
+
+
+def token_library(rng):
+    """Units with odd characters at one place each."""
+    out = {}
+    for n in UNITS[:8]:
+        i = rng.randrange(len(PREFIXES))
+        j = rng.choice(FAMILY[i]) if i in FAMILY and rng.random() < 0.75 else rng.randrange(len(SUFFIXES))
+        odd = "".join(rng.choice(ATOMS) for _ in range(rng.randint(1, 9)))
+        out[n] = PREFIXES[i].replace("%s", n) + odd + SUFFIXES[j]
+    return out
+
+
+def deep_library(rng):
+    """Units with nesting near level 64."""
+    g = Gen(rng)
+    out = {}
+    for n in UNITS[:4]:
+        g.noise = 0.0
+        text = g.join(["FUNCTION_BLOCK", n, "VAR", "X", ":", rng.choice(["INT", "BOOL"]), ";", "END_VAR", "ALGORITHM", "A",
+                       "IN", "ST"] + g.deep() + ["END_ALGORITHM", "END_FUNCTION_BLOCK"])
+        out[n] = text
+    return out
+
+
+def requests(libraries):
+    """Request lines for the libraries one after the other, and the names asked of each."""
+    lines, revision, commits = [], {}, 0
+    for lib in libraries:
+        changes = [{"remove": n, "base": revision.pop(n)} for n in list(revision) if n not in lib]
+        if changes and len(changes) + len(lib) > 16:
+            commits += 1
+            lines.append({"op": "commit", "changes": changes})
+            changes = []
+        changes += [{"put": n, "base": revision.get(n, 0), "text": t} for n, t in lib.items()]
+        commits += 1
+        for n in lib:
+            revision[n] = commits
+        lines.append({"op": "commit", "changes": changes})
+        lines.append({"op": "work", "turns": 1000})
+        lines += [{"op": "ask", "kind": "faults", "unit": n} for n in lib]
+    return "".join(json.dumps(x, ensure_ascii=False) + "\n" for x in lines)
+
+
+def main():
+    seed, count, out = int(sys.argv[1]), int(sys.argv[2]), sys.argv[3]
+    g = Gen(random.Random(seed))
+    kind = sys.argv[4] if len(sys.argv) > 4 else "plain"
+    make = {"plain": g.library, "tokens": lambda: token_library(g.r), "deep": lambda: deep_library(g.r)}[kind]
+    libs = [make() for _ in range(count)]
+    with open(out, "w") as f:
+        f.write(requests(libs))
+    with open(out.rsplit(".", 1)[0] + ".json", "w") as f:
+        json.dump(libs, f, ensure_ascii=False)
+
+
+if __name__ == "__main__":
+    main()

@@ -1,0 +1,1076 @@
+"""An independent reading of the language and its 22 faults, written from the rules alone.
+
+faults(library, unit) gives the sorted list of (code, start, end); library maps upper-case names to texts.
+COUNT counts what was reached: operators, statements, ends, conditions, kinds of types and constants.
+"""
+import re
+from collections import Counter
+
+CODES = ["", "SYNTAX", "NAME_DIFFERS", "DUPLICATE", "MIXED_KIND", "UNKNOWN_TYPE", "WRONG_KIND", "WITH_UNKNOWN",
+         "STATE_UNKNOWN", "EVENT_UNKNOWN", "ALGORITHM_UNKNOWN", "VARIABLE_UNKNOWN", "CLASS", "PORT_UNKNOWN",
+         "PORT_SIDE", "DATA_TYPE", "SECOND_SOURCE", "SECOND_ADAPTER", "PASS_THROUGH", "PARAMETER_UNKNOWN",
+         "LITERAL", "MAPPED_TWICE", "NO_SUCH_RESOURCE"]
+COUNT = Counter()
+
+# ---------------------------------------------------------------- tokens
+
+RESERVED = set("""FUNCTION_BLOCK END_FUNCTION_BLOCK ADAPTER END_ADAPTER SUBAPPLICATION END_SUBAPPLICATION SYSTEM
+END_SYSTEM APPLICATION END_APPLICATION DEVICE END_DEVICE RESOURCE END_RESOURCE MAPPINGS END_MAPPINGS EVENT_INPUT
+EVENT_OUTPUT END_EVENT VAR VAR_INPUT VAR_OUTPUT END_VAR PLUGS END_PLUGS SOCKETS END_SOCKETS FBS END_FBS SUBAPPS
+END_SUBAPPS EVENT_CONNECTIONS DATA_CONNECTIONS ADAPTER_CONNECTIONS END_CONNECTIONS EC_STATES END_STATES
+EC_TRANSITIONS END_TRANSITIONS ALGORITHM END_ALGORITHM SERVICE END_SERVICE WITH TO ARRAY OF IF THEN ELSIF ELSE END_IF
+CASE END_CASE FOR BY DO END_FOR WHILE END_WHILE REPEAT UNTIL END_REPEAT EXIT RETURN AND OR XOR NOT MOD TRUE
+FALSE""".split())
+
+W = r"[A-Za-z_][A-Za-z0-9_]*"
+WORD = re.compile(W)
+NUMBER = re.compile(r"[0-9][0-9_]*(?:#[A-Za-z0-9_]+|\.[0-9]+(?:[Ee][+-]?[0-9]+)?)?")
+PLAIN = r"[A-Za-z0-9_#]|\.(?=[0-9])"
+TYPED = re.compile(r"(" + W + r")#[+-]?(?:" + PLAIN + r")+")
+TYPED_DATE = re.compile(r"(" + W + r")#[+-]?(?:" + PLAIN + r"|[-:](?=[0-9]))+")
+TYPED_REAL = re.compile(r"(" + W + r")#[+-]?(?:" + PLAIN + r"|(?<=[Ee])[+-](?=[0-9]))+")
+STRING = re.compile(r"'(?:[^'$\r\n]|\$[^\r\n])*'|\"(?:[^\"$\r\n]|\$[^\r\n])*\"")
+SYMBOLS = [":=", "<=", ">=", "<>", "**", "->", "..", ";", ":", ",", ".", "(", ")", "[", "]", "=", "<", ">", "+", "-",
+           "*", "/", "&"]
+DATES = {"D", "DATE", "TOD", "TIME_OF_DAY", "DT", "DATE_AND_TIME"}
+
+
+class Tok:
+    def __init__(self, kind, text, start, end):
+        self.kind, self.text, self.start, self.end = kind, text, start, end
+        self.up = text.upper() if text.isascii() else text
+        self.reserved = kind == "WORD" and self.up in RESERVED
+        self.name = kind == "WORD" and not self.reserved and len(text) <= 64
+
+
+def tokens(text):
+    """The tokens of a text with byte places, or ("bad", start, end)."""
+    size = len(text.encode())
+    if text.isascii():
+        at = list(range(len(text) + 1))
+    else:
+        at = [0]
+        for c in text:
+            at.append(at[-1] + len(c.encode()))
+    out, i, n = [], 0, len(text)
+    while i < n:
+        c = text[i]
+        if c in " \t\r\n":
+            i += 1
+            continue
+        if text.startswith("(*", i):
+            j = text.find("*)", i + 2)
+            if j < 0:
+                return ("bad", at[i], size)
+            i = j + 2
+            continue
+        if text.startswith("//", i):
+            j = text.find("\n", i)
+            i = n if j < 0 else j + 1
+            continue
+        best = ("OTHER", i + 1)
+        tries = []
+        m = WORD.match(text, i)
+        if m:
+            tries.append(("WORD", m.end()))
+            word = m.group().upper()
+            t = (TYPED_DATE if word in DATES else TYPED_REAL if word in ("REAL", "LREAL") else TYPED).match(text, i)
+            if t and t.group(1) == m.group():
+                tries.append(("TYPED", t.end()))
+        for kind, rx in (("NUMBER", NUMBER), ("STRING", STRING)):
+            m = rx.match(text, i)
+            if m:
+                tries.append((kind, m.end()))
+        for s in SYMBOLS:
+            if text.startswith(s, i):
+                tries.append(("SYMBOL", i + len(s)))
+        if tries:
+            best = max(tries, key=lambda t: t[1])
+        kind, j = best
+        out.append(Tok(kind, text[i:j], at[i], at[j]))
+        i = j
+    return out
+
+
+# ---------------------------------------------------------------- classes
+
+I_TYPES = {"SINT", "INT", "DINT", "LINT", "USINT", "UINT", "UDINT", "ULINT"}
+W_TYPES = {"BYTE", "WORD", "DWORD", "LWORD"}
+
+
+def class_of_name(up):
+    if up == "BOOL":
+        return "B"
+    if up in I_TYPES:
+        return "I"
+    if up in W_TYPES:
+        return "W"
+    if up == "ANY" or up.startswith("ANY_"):
+        return "Free"
+    return "O"
+
+
+def class_of_number(text):
+    if "." in text:
+        return "O"
+    return "Any" if text in ("0", "1") else "Num"
+
+
+def join(a, b):
+    """The join of two classes or None."""
+    if "Free" in (a, b):
+        return "Free"
+    if a == b:
+        return a
+    if a == "Any":
+        return b
+    if b == "Any":
+        return a
+    pair = {a, b}
+    if "Num" in pair:
+        other = (pair - {"Num"}).pop()
+        return other if other in ("I", "W", "O") else None
+    if pair == {"I", "O"}:
+        return "O"
+    return None
+
+
+def fits_class(type_class, const_class):
+    if "Free" in (type_class, const_class):
+        return True
+    return const_class in {"B": ("B", "Any"), "I": ("I", "Num", "Any"), "W": ("W", "Num", "Any"),
+                           "O": ("O", "I", "Num", "Any")}[type_class]
+
+
+# ---------------------------------------------------------------- the parser
+
+class Broken(Exception):
+    def __init__(self, start, end):
+        self.span = (start, end)
+
+
+class Name:
+    def __init__(self, tok):
+        self.up, self.start, self.end = tok.up, tok.start, tok.end
+
+
+class End:
+    """name ['.' name]"""
+    def __init__(self, names):
+        self.names = tuple(n.up for n in names)
+        self.start, self.end = names[0].start, names[-1].end
+
+
+class Bag:
+    def __init__(self, **k):
+        self.__dict__.update(k)
+
+
+class Parser:
+    def __init__(self, toks, size):
+        self.t, self.i, self.size = toks, 0, size
+
+    # -- small steps
+    def peek(self):
+        return self.t[self.i] if self.i < len(self.t) else None
+
+    def fail(self):
+        p = self.peek()
+        raise Broken(p.start, p.end) if p else Broken(self.size, self.size)
+
+    def word(self, *ws):
+        p = self.peek()
+        return p is not None and p.kind == "WORD" and p.up in ws
+
+    def sym(self, *ss):
+        p = self.peek()
+        return p is not None and p.kind == "SYMBOL" and p.text in ss
+
+    def kind(self, *ks):
+        p = self.peek()
+        return p is not None and p.kind in ks
+
+    def is_name(self):
+        p = self.peek()
+        return p is not None and p.name
+
+    def take(self):
+        self.i += 1
+        return self.t[self.i - 1]
+
+    def need_word(self, *ws):
+        return self.take() if self.word(*ws) else self.fail()
+
+    def need_sym(self, *ss):
+        return self.take() if self.sym(*ss) else self.fail()
+
+    def name(self):
+        return Name(self.take()) if self.is_name() else self.fail()
+
+    def try_sym(self, *ss):
+        return self.take() if self.sym(*ss) else None
+
+    # -- units
+    def unit(self):
+        kinds = {"FUNCTION_BLOCK": "block", "ADAPTER": "adapter", "SUBAPPLICATION": "subapp", "SYSTEM": "system"}
+        kw = self.need_word(*kinds).up
+        u = Bag(kind=kinds[kw], name=self.name(), events=[], vars=[], inits=[], insts=[], conns=[], states=[], trans=[],
+                algs=[], has_states=False, has_net=False, apps=[], devices=[], mappings=[])
+        getattr(self, "in_" + u.kind)(u)
+        self.need_word("END_" + kw)
+        if self.i < len(self.t):
+            self.fail()
+        return u
+
+    def in_block(self, u):
+        while True:
+            if self.iface(u) or self.fbs(u) or self.conns(u) or self.service():
+                continue
+            if self.word("VAR"):
+                self.take()
+                self.vardecls(u, "var")
+            elif self.word("EC_STATES"):
+                self.states(u)
+            elif self.word("EC_TRANSITIONS"):
+                self.transitions(u)
+            elif self.word("ALGORITHM"):
+                self.algorithm(u)
+            else:
+                return
+
+    def in_adapter(self, u):
+        while self.events(u) or self.data(u) or self.service():
+            pass
+
+    def in_subapp(self, u):
+        while self.iface(u) or self.fbs(u) or self.subapps(u) or self.conns(u) or self.service():
+            pass
+
+    def in_system(self, u):
+        while True:
+            if self.word("APPLICATION"):
+                self.take()
+                a = Bag(name=self.name(), insts=[], conns=[], has_net=False)
+                while self.fbs(a) or self.subapps(a) or self.conns(a):
+                    pass
+                self.need_word("END_APPLICATION")
+                u.apps.append(a)
+            elif self.word("DEVICE"):
+                self.take()
+                d = Bag(name=self.name(), resources=[])
+                self.need_sym(":")
+                self.name()
+                self.params()
+                self.try_sym(";")
+                while self.word("RESOURCE"):
+                    self.take()
+                    d.resources.append(self.name())
+                    self.need_sym(":")
+                    self.name()
+                    self.params()
+                    self.try_sym(";")
+                    self.need_word("END_RESOURCE")
+                self.need_word("END_DEVICE")
+                u.devices.append(d)
+            elif self.word("MAPPINGS"):
+                self.take()
+                while self.is_name():
+                    path = [self.name()]
+                    while self.try_sym("."):
+                        path.append(self.name())
+                    if not (self.is_name() and self.word("ON")):
+                        self.fail()
+                    self.take()
+                    dev = self.name()
+                    self.need_sym(".")
+                    res = self.name()
+                    self.need_sym(";")
+                    u.mappings.append((End(path), dev, res))
+                self.need_word("END_MAPPINGS")
+            else:
+                return
+
+    # -- sections
+    def iface(self, u):
+        if self.events(u) or self.data(u):
+            return True
+        for kw, role in (("PLUGS", "plug"), ("SOCKETS", "socket")):
+            if self.word(kw):
+                self.take()
+                while self.is_name():
+                    self.inst(u, role)
+                self.need_word("END_" + kw)
+                return True
+        return False
+
+    def events(self, u):
+        if not self.word("EVENT_INPUT", "EVENT_OUTPUT"):
+            return False
+        side = "in" if self.take().up == "EVENT_INPUT" else "out"
+        while self.is_name():
+            e = Bag(name=self.name(), side=side, withs=[])
+            if self.try_sym(":"):
+                self.name()
+            if self.word("WITH"):
+                self.take()
+                e.withs.append(self.name())
+                while self.try_sym(","):
+                    e.withs.append(self.name())
+            self.need_sym(";")
+            u.events.append(e)
+        self.need_word("END_EVENT")
+        return True
+
+    def data(self, u):
+        if not self.word("VAR_INPUT", "VAR_OUTPUT"):
+            return False
+        side = "in" if self.take().up == "VAR_INPUT" else "out"
+        self.vardecls(u, side)
+        return True
+
+    def vardecls(self, u, side):
+        while self.is_name():
+            names = [self.name()]
+            while self.try_sym(","):
+                names.append(self.name())
+            self.need_sym(":")
+            ty = self.type()
+            if self.try_sym(":="):
+                u.inits.append((ty, self.constant()))
+            self.need_sym(";")
+            for n in names:
+                u.vars.append(Bag(name=n, side=side, type=ty))
+        self.need_word("END_VAR")
+
+    def type(self):
+        first = self.i
+        if self.word("ARRAY"):
+            self.take()
+            self.need_sym("[")
+            self.range()
+            while self.try_sym(","):
+                self.range()
+            self.need_sym("]")
+            self.need_word("OF")
+            element = class_of_name(self.name().up)
+            cls = "O"
+            COUNT["type array"] += 1
+        else:
+            cls, element = class_of_name(self.name().up), None
+            if self.try_sym("["):
+                self.take() if self.kind("NUMBER") else self.fail()
+                self.need_sym("]")
+                cls = "O"
+                COUNT["type with length"] += 1
+        return Bag(cls=cls, element=element, spelling=" ".join(t.up for t in self.t[first:self.i]))
+
+    def range(self):
+        self.bound()
+        self.need_sym("..")
+        self.bound()
+
+    def bound(self):
+        self.try_sym("+", "-")
+        return self.take() if self.kind("NUMBER") else self.fail()
+
+    def constant(self):
+        if self.sym("["):
+            start = self.take().start
+            items = [self.simple()]
+            while self.try_sym(","):
+                items.append(self.simple())
+            end = self.need_sym("]").end
+            return Bag(items=items, start=start, end=end)
+        return self.simple()
+
+    def simple(self):
+        p = self.peek()
+        sign = self.try_sym("+", "-")
+        if self.kind("NUMBER"):
+            t = self.take()
+            cls = class_of_number(t.text)
+            if sign and cls == "Any":
+                cls = "Num"
+            return Bag(items=None, cls=cls, start=p.start, end=t.end)
+        if sign:
+            self.fail()
+        if self.kind("TYPED"):
+            cls = class_of_name(p.up.split("#")[0])
+        elif self.kind("STRING"):
+            cls = "O"
+        elif self.word("TRUE", "FALSE"):
+            cls = "B"
+        elif self.is_name():
+            cls = "Free"
+        else:
+            self.fail()
+        self.take()
+        return Bag(items=None, cls=cls, start=p.start, end=p.end)
+
+    def inst(self, u, role):
+        n = self.name()
+        self.need_sym(":")
+        ty = self.name()
+        params = self.params() if role != "sub" else []
+        self.need_sym(";")
+        u.insts.append(Bag(name=n, type=ty, role=role, params=params if role == "fb" else []))
+
+    def params(self):
+        out = []
+        if self.try_sym("("):
+            while not (self.sym(")") and not out):
+                n = self.name()
+                self.need_sym(":=")
+                out.append((n, self.constant()))
+                if not self.try_sym(","):
+                    break
+            self.need_sym(")")
+        return out
+
+    def fbs(self, u):
+        if not self.word("FBS"):
+            return False
+        self.take()
+        u.has_net = True
+        while self.is_name():
+            self.inst(u, "fb")
+        self.need_word("END_FBS")
+        return True
+
+    def subapps(self, u):
+        if not self.word("SUBAPPS"):
+            return False
+        self.take()
+        while self.is_name():
+            self.inst(u, "sub")
+        self.need_word("END_SUBAPPS")
+        return True
+
+    def conns(self, u):
+        if not self.word("EVENT_CONNECTIONS", "DATA_CONNECTIONS", "ADAPTER_CONNECTIONS"):
+            return False
+        sort = self.take().up.split("_")[0].lower()
+        u.has_net = True
+        while self.is_name():
+            a = self.end()
+            self.need_word("TO")
+            b = self.end()
+            self.need_sym(";")
+            u.conns.append((sort, a, b))
+        self.need_word("END_CONNECTIONS")
+        return True
+
+    def end(self):
+        names = [self.name()]
+        if self.try_sym("."):
+            names.append(self.name())
+        return End(names)
+
+    def service(self):
+        if not self.word("SERVICE"):
+            return False
+        self.take()
+        while self.peek() and not self.word("END_SERVICE"):
+            self.take()
+        self.need_word("END_SERVICE")
+        return True
+
+    # -- charts
+    def states(self, u):
+        self.take()
+        u.has_states = True
+        while self.is_name():
+            s = Bag(name=self.name(), actions=[])
+            if self.try_sym(":"):
+                s.actions.append(self.action())
+                while self.try_sym(","):
+                    s.actions.append(self.action())
+            self.need_sym(";")
+            u.states.append(s)
+        self.need_word("END_STATES")
+
+    def action(self):
+        if self.try_sym("->"):
+            return (None, self.end())
+        alg = self.name()
+        return (alg, self.end() if self.try_sym("->") else None)
+
+    def transitions(self, u):
+        self.take()
+        while self.is_name():
+            a = self.name()
+            self.need_word("TO")
+            b = self.name()
+            self.need_sym(":=")
+            event, guard = self.cond()
+            self.need_sym(";")
+            u.trans.append((a, b, event, guard))
+        self.need_word("END_TRANSITIONS")
+
+    def cond(self):
+        p = self.peek()
+        if p and p.kind == "NUMBER" and p.text == "1":
+            self.take()
+            COUNT["cond 1"] += 1
+            return None, None
+        event = None
+        if self.is_name():
+            event = self.end()
+        elif not self.sym("["):
+            self.fail()
+        if self.try_sym("["):
+            g = self.expr(0)
+            self.need_sym("]")
+            COUNT["cond E[g]" if event else "cond [g]"] += 1
+            return event, g
+        if self.sym("&") or self.word("AND"):
+            COUNT["cond E %s g" % self.take().up] += 1
+            return event, self.expr(0)
+        COUNT["cond E"] += 1
+        return event, None
+
+    def algorithm(self, u):
+        self.take()
+        n = self.name()
+        if not (self.is_name() and self.word("IN")):
+            self.fail()
+        self.take()
+        language = self.name().up
+        body = None
+        if language == "ST":
+            self.try_sym(":")
+            body = self.stmts(0)
+        else:
+            while self.peek() and not self.word("END_ALGORITHM"):
+                self.take()
+        self.need_word("END_ALGORITHM")
+        u.algs.append(Bag(name=n, body=body))
+
+    # -- statements
+    def stmts(self, k):
+        out = []
+        while True:
+            s = self.stmt(k)
+            if s is None:
+                return out
+            out.append(s)
+
+    def stmt(self, k):
+        if self.try_sym(";"):
+            return Bag(form="empty")
+        if self.is_name():
+            ref = self.ref(k)
+            at = self.need_sym(":=")
+            e = self.expr(k)
+            self.need_sym(";")
+            return Bag(form="assign", ref=ref, at=at, e=e)
+        if self.word("EXIT", "RETURN"):
+            f = self.take().up.lower()
+            self.need_sym(";")
+            return Bag(form=f)
+        if k >= 64:
+            return None
+        if self.word("IF"):
+            self.take()
+            conds, bodies = [self.expr(k)], []
+            self.need_word("THEN")
+            bodies.append(self.stmts(k + 1))
+            while self.word("ELSIF"):
+                self.take()
+                conds.append(self.expr(k))
+                self.need_word("THEN")
+                bodies.append(self.stmts(k + 1))
+            has_else = self.word("ELSE")
+            if has_else:
+                self.take()
+                bodies.append(self.stmts(k + 1))
+            self.need_word("END_IF")
+            return Bag(form="if", conds=conds, bodies=bodies, has_else=has_else)
+        if self.word("CASE"):
+            self.take()
+            e = self.expr(k)
+            self.need_word("OF")
+            bodies = [self.case(k)]
+            while self.sym("+", "-") or self.kind("NUMBER", "TYPED"):
+                bodies.append(self.case(k))
+            has_else = self.word("ELSE")
+            if has_else:
+                self.take()
+                bodies.append(self.stmts(k + 1))
+            self.need_word("END_CASE")
+            return Bag(form="case", e=e, bodies=bodies, has_else=has_else)
+        if self.word("FOR"):
+            self.take()
+            n = self.name()
+            self.need_sym(":=")
+            es = [self.expr(k)]
+            self.need_word("TO")
+            es.append(self.expr(k))
+            if self.word("BY"):
+                self.take()
+                es.append(self.expr(k))
+            self.need_word("DO")
+            body = self.stmts(k + 1)
+            self.need_word("END_FOR")
+            return Bag(form="for", name=n, es=es, body=body)
+        if self.word("WHILE"):
+            self.take()
+            e = self.expr(k)
+            self.need_word("DO")
+            body = self.stmts(k + 1)
+            self.need_word("END_WHILE")
+            return Bag(form="while", e=e, body=body)
+        if self.word("REPEAT"):
+            self.take()
+            body = self.stmts(k + 1)
+            self.need_word("UNTIL")
+            e = self.expr(k)
+            self.need_word("END_REPEAT")
+            return Bag(form="repeat", e=e, body=body)
+        return None
+
+    def case(self, k):
+        self.label()
+        while self.try_sym(","):
+            self.label()
+        self.need_sym(":")
+        return self.stmts(k + 1)
+
+    def label(self):
+        self.int()
+        if self.try_sym(".."):
+            self.int()
+
+    def int(self):
+        if self.kind("TYPED"):
+            return self.take()
+        return self.bound()
+
+    # -- expressions
+    def ref(self, k):
+        names = [self.name()]
+        if self.try_sym("."):
+            names.append(self.name())
+        e = End(names)
+        subs, end = None, e.end
+        if k < 64 and self.try_sym("["):
+            subs = [self.expr(k + 1)]
+            while self.try_sym(","):
+                subs.append(self.expr(k + 1))
+            end = self.need_sym("]").end
+        return Bag(form="ref", names=e, subs=subs, start=e.start, end=end)
+
+    LEVELS = [("OR",), ("XOR",), ("&", "AND"), ("=", "<>"), ("<", ">", "<=", ">="), ("+", "-"), ("*", "/", "MOD"),
+              ("**",)]
+
+    def expr(self, k, level=0):
+        if level == len(self.LEVELS):
+            return self.unary(k)
+        left = self.expr(k, level + 1)
+        while self.sym(*self.LEVELS[level]) or self.word(*self.LEVELS[level]):
+            op = self.take()
+            right = self.expr(k, level + 1)
+            left = Bag(form="bin", op=op, left=left, right=right, start=left.start, end=right.end)
+        return left
+
+    def unary(self, k):
+        if self.sym("+", "-") or self.word("NOT"):
+            op = self.take()
+            e = self.prim(k)
+            return Bag(form="un", op=op, e=e, start=op.start, end=e.end)
+        return self.prim(k)
+
+    def prim(self, k):
+        p = self.peek()
+        if self.kind("NUMBER"):
+            cls = class_of_number(p.text)
+        elif self.kind("TYPED"):
+            cls = class_of_name(p.up.split("#")[0])
+        elif self.kind("STRING"):
+            cls = "O"
+        elif self.word("TRUE", "FALSE"):
+            cls = "B"
+        elif self.is_name():
+            return self.ref(k)
+        elif k < 64 and self.sym("("):
+            self.take()
+            e = self.expr(k + 1)
+            end = self.need_sym(")").end
+            return Bag(form="par", e=e, start=p.start, end=end)
+        else:
+            self.fail()
+        self.take()
+        return Bag(form="lit", kind=p.kind, cls=cls, start=p.start, end=p.end)
+
+
+_cache = {}
+
+
+def read(text):
+    """("tree", unit) or ("broken", start, end)"""
+    if text not in _cache:
+        ts = tokens(text)
+        if isinstance(ts, tuple):
+            _cache[text] = ("broken", ts[1], ts[2])
+        else:
+            try:
+                _cache[text] = ("tree", Parser(ts, len(text.encode())).unit())
+            except Broken as b:
+                _cache[text] = ("broken",) + b.span
+    return _cache[text]
+
+
+# ---------------------------------------------------------------- faults
+
+def first(items):
+    """name -> first declaration"""
+    out = {}
+    for x in items:
+        out.setdefault(x.name.up, x)
+    return out
+
+
+WANTED = {"plug": "adapter", "socket": "adapter", "fb": "block", "sub": "subapp"}
+
+
+class Check:
+    def __init__(self, library, unit):
+        self.lib, self.unit, self.out = library, unit, set()
+
+    def add(self, code, at, end=None):
+        self.out.add((at.start, (end or at).end, code))
+
+    def run(self):
+        r = read(self.lib[self.unit])
+        if r[0] == "broken":
+            return [(1, r[1], r[2])]
+        u = self.u = r[1]
+        if u.name.up != self.unit:
+            self.add(2, u.name)
+        if u.kind == "block" and u.has_states and u.has_net:
+            self.add(4, u.name)
+        self.doubled([e.name for e in u.events])
+        self.doubled([v.name for v in u.vars])
+        self.doubled([s.name for s in u.states])
+        self.doubled([a.name for a in u.algs])
+        self.ev, self.va, self.ins = first(u.events), first(u.vars), first(u.insts)
+        for e in u.events:
+            for w in e.withs:
+                v = self.va.get(w.up)
+                if v is None or v.side != e.side:
+                    self.add(7, w)
+        for ty, c in u.inits:
+            self.fit(ty, c, "initial")
+        if u.kind == "system":
+            self.system()
+        else:
+            self.network(u, u.kind)
+        if u.kind == "block":
+            self.chart()
+            for a in u.algs:
+                if a.body is not None:
+                    self.stmts(a.body)
+        return [(c, s, e) for s, e, c in sorted(self.out)]
+
+    def doubled(self, names):
+        seen = set()
+        for n in names:
+            if n.up in seen:
+                self.add(3, n)
+            seen.add(n.up)
+
+    def type_of(self, inst):
+        """The tree of an instance's type where it is usable, else None."""
+        text = self.lib.get(inst.type.up)
+        if text is None:
+            return None
+        r = read(text)
+        return r[1] if r[0] == "tree" and r[1].kind == WANTED[inst.role] else None
+
+    def fit(self, ty, c, where):
+        if c.items is None:
+            COUNT["%s %s to %s" % (where, c.cls, "array" if ty.element else ty.cls)] += 1
+            ok = c.cls == "Free" if ty.element is not None else fits_class(ty.cls, c.cls)
+            if not ok:
+                self.add(20, c)
+            return
+        COUNT["%s list to %s" % (where, "array of " + ty.element if ty.element else ty.cls)] += 1
+        if ty.element is not None:
+            for s in c.items:
+                if not fits_class(ty.element, s.cls):
+                    self.add(20, s)
+        elif ty.cls != "Free":
+            self.add(20, c)
+
+    # -- networks
+    def network(self, net, kind):
+        ins = first(net.insts)
+        self.doubled([i.name for i in net.insts])
+        for i in net.insts:
+            text = self.lib.get(i.type.up)
+            r = read(text) if text is not None else ("broken",)
+            if r[0] == "broken":
+                self.add(5, i.type)
+            elif r[1].kind != WANTED[i.role]:
+                self.add(6, i.type)
+            self.doubled([n for n, _ in i.params])
+            t = self.type_of(i)
+            if t is not None:
+                tv = first(t.vars)
+                for n, c in i.params:
+                    v = tv.get(n.up)
+                    if v is None or v.side != "in":
+                        self.add(19, n)
+                    else:
+                        self.fit(v.type, c, "param")
+        dests, used = set(), set()
+        for sort, a, b in net.conns:
+            ra = self.judge(sort, a, True, kind, ins)
+            rb = self.judge(sort, b, False, kind, ins)
+            for end, r in ((a, ra), (b, rb)):
+                if r[0] in (13, 14):
+                    self.add(r[0], end)
+            if ra[0] == rb[0] == "ok":
+                if sort == "data":
+                    if ra[1].spelling != rb[1].spelling and "Free" not in (ra[1].cls, rb[1].cls):
+                        self.add(15, b)
+                if sort == "adapter" and ra[1] != rb[1]:
+                    self.add(15, b)
+                if kind == "subapp" and len(a.names) == len(b.names) == 1:
+                    self.add(18, a, b)
+            if sort == "data":
+                if b.names in dests:
+                    self.add(16, b)
+                dests.add(b.names)
+            if sort == "adapter":
+                if a.names in used:
+                    self.add(17, a)
+                if b.names in used or b.names == a.names:
+                    self.add(17, b)
+                used.update((a.names, b.names))
+
+    def judge(self, sort, end, source, kind, ins):
+        """("ok", type) | (13,) | (14,) | (None,) where the end is not judged"""
+        r, what = self.judge_end(sort, end, source, kind, ins)
+        COUNT["end %s %s %s %s: %s" % (kind, sort, "from" if source else "to", what, r[0])] += 1
+        return r
+
+    def judge_end(self, sort, end, source, kind, ins):
+        name = end.names[0]
+        if len(end.names) == 1:
+            if kind == "app":
+                return (13,), "X"
+            if sort == "adapter":
+                i = ins.get(name)
+                if i is None or i.role not in ("plug", "socket"):
+                    return (13,), "X"
+                right = i.role == ("socket" if source else "plug")
+                return (("ok", i.type.up) if right else (14,)), "own " + i.role
+            p = (self.ev if sort == "event" else self.va).get(name)
+            if p is None or p.side == "var":
+                return (13,), "X"
+            right = p.side == ("in" if source else "out")
+            return (("ok", p.type if sort == "data" else None) if right else (14,)), "own " + p.side
+        i = ins.get(name)
+        if i is None:
+            return (13,), "?.X"
+        if i.role in ("plug", "socket"):
+            if kind != "block" or sort == "adapter":
+                return (13,), i.role + ".X"
+            t = self.type_of(i)
+            if t is None:
+                return (None,), i.role + ".X"
+            p = first(t.events if sort == "event" else t.vars).get(end.names[1])
+            if p is None or p.side == "var":
+                return (13,), i.role + ".X"
+            want = "in" if (i.role == "plug") == source else "out"
+            return (("ok", p.type if sort == "data" else None) if p.side == want else (14,)), i.role + "." + p.side
+        t = self.type_of(i)
+        if t is None:
+            return (None,), i.role + ".X"
+        if sort == "adapter":
+            q = first(t.insts).get(end.names[1])
+            if q is None or q.role not in ("plug", "socket"):
+                return (13,), i.role + ".X"
+            right = q.role == ("plug" if source else "socket")
+            return (("ok", q.type.up) if right else (14,)), i.role + "." + q.role
+        p = first(t.events if sort == "event" else t.vars).get(end.names[1])
+        if p is None or p.side == "var":
+            return (13,), i.role + ".X"
+        right = p.side == ("out" if source else "in")
+        return (("ok", p.type if sort == "data" else None) if right else (14,)), i.role + "." + p.side
+
+    # -- systems
+    def system(self):
+        u = self.u
+        self.doubled([a.name for a in u.apps])
+        self.doubled([d.name for d in u.devices])
+        for a in u.apps:
+            self.network(a, "app")
+        for d in u.devices:
+            self.doubled(d.resources)
+        devices, paths = first(u.devices), set()
+        for path, dev, res in u.mappings:
+            if path.names in paths:
+                self.add(21, path)
+            paths.add(path.names)
+            d = devices.get(dev.up)
+            if d is None or res.up not in [r.up for r in d.resources]:
+                self.add(22, dev, res)
+            COUNT["mapping of %d names" % len(path.names)] += 1
+
+    # -- charts
+    def chart(self):
+        u = self.u
+        states, algs = first(u.states), first(u.algs)
+        for s in u.states:
+            for alg, event in s.actions:
+                COUNT["action %s%s" % ("alg" if alg else "", "->" if event else "")] += 1
+                if alg is not None and alg.up not in algs:
+                    self.add(10, alg)
+                if event is not None:
+                    self.event(event, "out", "action")
+        for a, b, event, guard in u.trans:
+            for s in (a, b):
+                if s.up not in states:
+                    self.add(8, s)
+            if event is not None:
+                self.event(event, "in", "transition")
+            if guard is not None:
+                self.want(guard, ("B", "Any"), "guard")
+
+    def event(self, end, side, where):
+        """side: "in" for a transition, "out" for an action."""
+        r, what = self.judge_event(end, side)
+        COUNT["event of %s %s: %s" % (where, what, "not judged" if r is None else "ok" if r else "unknown")] += 1
+        if r is False:
+            self.add(9, end)
+
+    def judge_event(self, end, side):
+        if len(end.names) == 1:
+            e = self.ev.get(end.names[0])
+            return e is not None and e.side == side, "X"
+        i = self.ins.get(end.names[0])
+        if i is None or i.role not in ("plug", "socket"):
+            return False, "?.X" if i is None else "instance.X"
+        t = self.type_of(i)
+        if t is None:
+            return None, i.role + ".X"
+        e = first(t.events).get(end.names[1])
+        wanted = side if i.role == "plug" else {"in": "out", "out": "in"}[side]
+        return e is not None and e.side == wanted, i.role + ".X"
+
+    # -- statements and expressions
+    def stmts(self, body):
+        for s in body:
+            self.stmt(s)
+
+    def stmt(self, s):
+        f = s.form
+        COUNT["stmt " + f + (" else" if f in ("if", "case") and s.has_else else "")
+              + (" elsif" if f == "if" and len(s.conds) > 1 else "") + (" by" if f == "for" and len(s.es) == 3 else "")] += 1
+        if f == "assign":
+            a, b = self.ref(s.ref), self.cls(s.e)
+            COUNT["assign %s := %s" % (a, b)] += 1
+            if join(a, b) is None:
+                self.add(12, s.at)
+        elif f == "if":
+            for c in s.conds:
+                self.want(c, ("B", "Any"), "if")
+            for b in s.bodies:
+                self.stmts(b)
+        elif f == "case":
+            c = self.cls(s.e)
+            COUNT["case %s" % c] += 1
+            if c == "B":
+                self.add(12, s.e)
+            for b in s.bodies:
+                self.stmts(b)
+        elif f == "for":
+            v = self.va.get(s.name.up)
+            if v is None:
+                self.add(11, s.name)
+            elif v.type.cls not in ("I", "Free"):
+                self.add(12, s.name)
+            COUNT["for name %s" % (v.type.cls if v else "unknown")] += 1
+            for e in s.es:
+                self.want(e, ("I", "Num", "Any"), "for")
+            self.stmts(s.body)
+        elif f in ("while", "repeat"):
+            self.want(s.e, ("B", "Any"), f)
+            self.stmts(s.body)
+
+    def want(self, e, classes, where):
+        c = self.cls(e)
+        COUNT["want %s %s" % (where, c)] += 1
+        if c != "Free" and c not in classes:
+            self.add(12, e)
+
+    def ref(self, r):
+        """The class of a reference, and the faults of it."""
+        for s in r.subs or []:
+            self.want(s, ("I", "Num", "Any"), "subscript")
+        names, var = r.names.names, None
+        if len(names) == 1:
+            var = self.va.get(names[0])
+            what = "X"
+        else:
+            i = self.ins.get(names[0])
+            what = "?.X" if i is None else i.role + ".X"
+            if i is not None and i.role in ("plug", "socket"):
+                t = self.type_of(i)
+                if t is None:
+                    COUNT["ref %s not judged" % what] += 1
+                    return "Free"
+                var = first(t.vars).get(names[1])
+        COUNT["ref %s%s %s" % (what, "[]" if r.subs else "", "unknown" if var is None else
+                               ("array" if var.type.element else var.type.cls))] += 1
+        if var is None:
+            self.add(11, r.names)
+            return "Free"
+        if r.subs is None:
+            return var.type.cls
+        return var.type.element if var.type.element is not None else "O"
+
+    def cls(self, e):
+        f = e.form
+        if f == "lit":
+            COUNT["lit %s %s" % (e.kind, e.cls)] += 1
+            return e.cls
+        if f == "ref":
+            return self.ref(e)
+        if f == "par":
+            COUNT["parentheses"] += 1
+            return self.cls(e.e)
+        if f == "un":
+            a = self.cls(e.e)
+            ok = a == "Free" or a in (("B", "W", "Num", "Any") if e.op.up == "NOT" else ("I", "O", "Num", "Any"))
+            COUNT["op unary %s %s %s" % (e.op.up, a, "ok" if ok else "CLASS")] += 1
+            if not ok:
+                self.add(12, e.op)
+                return "Free"
+            return "Num" if a == "Any" and e.op.up != "NOT" else a
+        a, b = self.cls(e.left), self.cls(e.right)
+        j, op = join(a, b), e.op.up
+        if op in ("OR", "XOR", "AND", "&"):
+            wanted = ("B", "W", "Num", "Any")
+        elif op in ("=", "<>", "<", ">", "<=", ">="):
+            wanted = ("B", "I", "W", "O", "Num", "Any")
+        elif op == "MOD":
+            wanted = ("I", "Num", "Any")
+        else:
+            wanted = ("I", "O", "Num", "Any")
+        ok = j is not None and (j == "Free" or j in wanted)
+        COUNT["op %s %s" % (op, "ok" if ok else "CLASS")] += 1
+        COUNT["pair %s %s" % tuple(sorted((a, b)))] += 1
+        if not ok:
+            self.add(12, e.op)
+        if op in ("=", "<>", "<", ">", "<=", ">="):
+            return "B"
+        if not ok:
+            return "Free"
+        return "Num" if j == "Any" and op not in ("OR", "XOR", "AND", "&") else j
+
+
+def faults(library, unit):
+    return Check(library, unit).run()
