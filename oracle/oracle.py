@@ -580,10 +580,7 @@ class Parser:
                 conds.append(self.expr(k))
                 self.need_word("THEN")
                 bodies.append(self.stmts(k + 1))
-            has_else = self.word("ELSE")
-            if has_else:
-                self.take()
-                bodies.append(self.stmts(k + 1))
+            has_else = self.otherwise(k, bodies)
             self.need_word("END_IF")
             return Bag(form="if", conds=conds, bodies=bodies, has_else=has_else)
         if self.word("CASE"):
@@ -593,10 +590,7 @@ class Parser:
             bodies = [self.case(k)]
             while self.sym("+", "-") or self.kind("NUMBER", "TYPED"):
                 bodies.append(self.case(k))
-            has_else = self.word("ELSE")
-            if has_else:
-                self.take()
-                bodies.append(self.stmts(k + 1))
+            has_else = self.otherwise(k, bodies)
             self.need_word("END_CASE")
             return Bag(form="case", e=e, bodies=bodies, has_else=has_else)
         if self.word("FOR"):
@@ -628,6 +622,14 @@ class Parser:
             self.need_word("END_REPEAT")
             return Bag(form="repeat", e=e, body=body)
         return None
+
+    def otherwise(self, k, bodies):
+        """Adds the statements behind ELSE, and tells whether it stands there."""
+        if not self.word("ELSE"):
+            return False
+        self.take()
+        bodies.append(self.stmts(k + 1))
+        return True
 
     def case(self, k):
         self.label()
