@@ -140,15 +140,15 @@ committed_is s made edits answer same is = after_commit_is s made ∙ (λ i. aft
 
 -- ---- what is kept after a commit that is done
 
-pub agrees_renewed : NeedsLocal → ScratchLocal → (n : ℕ) (edits : List Edit) (T U : Texts) (E0 E1 E2 : tree.BTreeMap Key Entry) (R0 R1 R2 W0 W1 W2 : set.BTreeSet Key) (s : State) (it : Renewal) → U ≡ all_edited (n + 1) edits T → Agrees T n E0 R0 W0 s → IsRenewal U edits E0 R0 W0 it → HasRoom it E0 E1 R0 R1 W0 W1 → ((texts : Texts) (q : Key) → AreAfresh texts it.renewed.items → WrittenIf texts q (is_of q (keys_in it.renewed.items)) (cond (is_of q it.gone.items) None (tree.get key_cmp E1 q)) (tree.get key_cmp E2 q)) → ((q : Key) → set.contains key_cmp R2 q ≡ cond (is_of q it.gone.items) false (set.contains key_cmp R1 q)) → ((q : Key) → set.contains key_cmp W2 q ≡ cond (is_of q it.gone.items) false (set.contains key_cmp W1 q)) → Agrees U (n + 1) E2 R2 W2 (after_done (n + 1) edits s)
-agrees_renewed needs_law law n edits T U E0 E1 E2 R0 R1 R2 W0 W1 W2 s it is agrees found room written ready waits =
+pub agrees_renewed : NeedsLocal → ScratchLocal → (n : ℕ) (edits : List Edit) (T U : Texts) (old_entries room_entries new_entries : tree.BTreeMap Key Entry) (old_ready room_ready new_ready old_waiting room_waiting new_waiting : set.BTreeSet Key) (s : State) (it : Renewal) → U ≡ all_edited (n + 1) edits T → Agrees T n old_entries old_ready old_waiting s → IsRenewal U edits old_entries old_ready old_waiting it → HasRoom it old_entries room_entries old_ready room_ready old_waiting room_waiting → ((texts : Texts) (q : Key) → AreAfresh texts it.renewed.items → WrittenIf texts q (is_of q (keys_in it.renewed.items)) (cond (is_of q it.gone.items) None (tree.get key_cmp room_entries q)) (tree.get key_cmp new_entries q)) → ((q : Key) → set.contains key_cmp new_ready q ≡ cond (is_of q it.gone.items) false (set.contains key_cmp room_ready q)) → ((q : Key) → set.contains key_cmp new_waiting q ≡ cond (is_of q it.gone.items) false (set.contains key_cmp room_waiting q)) → Agrees U (n + 1) new_entries new_ready new_waiting (after_done (n + 1) edits s)
+agrees_renewed needs_law law n edits T U old_entries room_entries new_entries old_ready room_ready new_ready old_waiting room_waiting new_waiting s it is agrees found room written ready waits =
     let units : U ≡ all_edited (n + 1) edits s.units = is ∙ ap (λ us. all_edited (n + 1) edits us) agrees.units_are in
-    subst (λ us. Agrees us (n + 1) E2 R2 W2 (after_done (n + 1) edits s)) (sym units)
-    (agrees_done needs_law law n edits T s it (n + 1) E0 E1 E2 R0 R1 R2 W0 W1 W2 agrees (subst (λ us. IsRenewal us edits E0 R0 W0 it) units found) room written ready waits)
+    subst (λ us. Agrees us (n + 1) new_entries new_ready new_waiting (after_done (n + 1) edits s)) (sym units)
+    (agrees_done needs_law law n edits T s it (n + 1) old_entries room_entries new_entries old_ready room_ready new_ready old_waiting room_waiting new_waiting agrees (subst (λ us. IsRenewal us edits old_entries old_ready old_waiting it) units found) room written ready waits)
 
-pub keys_done : (n : ℕ) (edits : List Edit) (T U : Texts) (story : Story) (E0 : tree.BTreeMap Key Entry) (R0 W0 : set.BTreeSet Key) (it : Renewal) (keys now : List Key) (made : Option (Vec Key Global)) → U ≡ all_edited (n + 1) edits T → Agrees T n E0 R0 W0 (state_of story) → IsRenewal U edits E0 R0 W0 it → keys ≡ keys_of T → AreKeys U it.fresh.items it.gone.items made → now ≡ items_or made keys → now ≡ keys_of U
-keys_done n edits T U story E0 R0 W0 it keys now made is agrees found were are now_is =
+pub keys_done : (n : ℕ) (edits : List Edit) (T U : Texts) (story : Story) (old_entries : tree.BTreeMap Key Entry) (old_ready old_waiting : set.BTreeSet Key) (it : Renewal) (keys now : List Key) (made : Option (Vec Key Global)) → U ≡ all_edited (n + 1) edits T → Agrees T n old_entries old_ready old_waiting (state_of story) → IsRenewal U edits old_entries old_ready old_waiting it → keys ≡ keys_of T → AreKeys U it.fresh.items it.gone.items made → now ≡ items_or made keys → now ≡ keys_of U
+keys_done n edits T U story old_entries old_ready old_waiting it keys now made is agrees found were are now_is =
     let units : U ≡ all_edited (n + 1) edits (state_of story).units = is ∙ ap (λ us. all_edited (n + 1) edits us) agrees.units_are in
     now_is
-    ∙ keys_after (n + 1) n edits T story E0 R0 W0 it keys made agrees (subst (λ us. IsRenewal us edits E0 R0 W0 it) units found) were (subst (λ us. AreKeys us it.fresh.items it.gone.items made) units are)
+    ∙ keys_after (n + 1) n edits T story old_entries old_ready old_waiting it keys made agrees (subst (λ us. IsRenewal us edits old_entries old_ready old_waiting it) units found) were (subst (λ us. AreKeys us it.fresh.items it.gone.items made) units are)
     ∙ ap keys_of (sym units)

@@ -60,13 +60,13 @@ none_fits s q None fits = sym (ap (λ b. not b) fits.0)
 none_fits s q (Some it) fits = sym (ap (λ b. not b) fits.0)
 
 -- the keys after a commit, whether they are others or not
-pub keys_after : (commit commits : ℕ) (es : List Edit) (T : Texts) (story : Story) (E0 : tree.BTreeMap Key Entry) (R0 W0 : set.BTreeSet Key) (it : Renewal) (keys : List Key) (made : Option (Vec Key Global)) → Agrees T commits E0 R0 W0 (state_of story) → IsRenewal (all_edited commit es (state_of story).units) es E0 R0 W0 it → keys ≡ keys_of T → AreKeys (all_edited commit es (state_of story).units) it.fresh.items it.gone.items made → items_or made keys ≡ keys_of (all_edited commit es (state_of story).units)
-keys_after commit commits es T story E0 R0 W0 it keys (Some made) agrees is were are = are
-keys_after commit commits es T story E0 R0 W0 it keys None agrees is were are =
+pub keys_after : (commit commits : ℕ) (es : List Edit) (T : Texts) (story : Story) (old_entries : tree.BTreeMap Key Entry) (old_ready old_waiting : set.BTreeSet Key) (it : Renewal) (keys : List Key) (made : Option (Vec Key Global)) → Agrees T commits old_entries old_ready old_waiting (state_of story) → IsRenewal (all_edited commit es (state_of story).units) es old_entries old_ready old_waiting it → keys ≡ keys_of T → AreKeys (all_edited commit es (state_of story).units) it.fresh.items it.gone.items made → items_or made keys ≡ keys_of (all_edited commit es (state_of story).units)
+keys_after commit commits es T story old_entries old_ready old_waiting it keys (Some made) agrees is were are = are
+keys_after commit commits es T story old_entries old_ready old_waiting it keys None agrees is were are =
     let s : State = state_of story in
     let U : Texts = all_edited commit es s.units in
     let had : (q : Key) → has_key U q ≡ has_key s.units q = λ q.
-    had_bits (has_key U q) (has_key s.units q) (is_own es q) (is_none (tree.get key_cmp E0 q)) (has_apart commit es s.units q) (none_fits s q (tree.get key_cmp E0 q) (agrees.each q))
+    had_bits (has_key U q) (has_key s.units q) (is_own es q) (is_none (tree.get key_cmp old_entries q)) (has_apart commit es s.units q) (none_fits s q (tree.get key_cmp old_entries q) (agrees.each q))
     (sym (is.fresh_are q) ∙ ap (λ ks. is_of q ks) are.0)
     (sym (is.gone_are q) ∙ ap (λ ks. is_of q ks) are.1) in
     were ∙ ap keys_of agrees.units_are
@@ -79,10 +79,10 @@ waits_has s q None fits waits = let no : s.pending q ≡ false = fits.1 in cc
 waits_has s q (Some it) fits waits = fits.0
 
 -- the set of the keys that wait has as many as wait
-pub waiting_count : (story : Story) (T : Texts) (commits : ℕ) (E0 : tree.BTreeMap Key Entry) (R0 W0 : set.BTreeSet Key) → Agrees T commits E0 R0 W0 (state_of story) → IsStrictlySortedBy key_cmp W0.keys → length W0.keys ≡ count_by (state_of story).pending (keys_of (state_of story).units)
-waiting_count story T commits E0 R0 W0 agrees rise =
+pub waiting_count : (story : Story) (T : Texts) (commits : ℕ) (old_entries : tree.BTreeMap Key Entry) (old_ready old_waiting : set.BTreeSet Key) → Agrees T commits old_entries old_ready old_waiting (state_of story) → IsStrictlySortedBy key_cmp old_waiting.keys → length old_waiting.keys ≡ count_by (state_of story).pending (keys_of (state_of story).units)
+waiting_count story T commits old_entries old_ready old_waiting agrees rise =
     let s : State = state_of story in
-    let same : W0.keys ≡ filter s.pending (keys_of s.units) =
-    same_rising W0.keys (filter s.pending (keys_of s.units)) rise (IsStrictlySortedBy-filter key_cmp s.pending (keys_of s.units) (keys_rise story))
-    (λ q. agrees.waiting_are q ∙ sym (of_filtered s.pending q (keys_of s.units) ∙ ap (λ b. b && s.pending q) (of_keys s.units q) ∙ and_named (has_key s.units q) (s.pending q) (waits_has s q (tree.get key_cmp E0 q) (agrees.each q)))) in
+    let same : old_waiting.keys ≡ filter s.pending (keys_of s.units) =
+    same_rising old_waiting.keys (filter s.pending (keys_of s.units)) rise (IsStrictlySortedBy-filter key_cmp s.pending (keys_of s.units) (keys_rise story))
+    (λ q. agrees.waiting_are q ∙ sym (of_filtered s.pending q (keys_of s.units) ∙ ap (λ b. b && s.pending q) (of_keys s.units q) ∙ and_named (has_key s.units q) (s.pending q) (waits_has s q (tree.get key_cmp old_entries q) (agrees.each q)))) in
     ap length same ∙ length-filter s.pending (keys_of s.units)

@@ -222,44 +222,44 @@ joined_bits false was = refl
 -- ---- all of it
 
 module _ (needs_law : NeedsLocal) (law : ScratchLocal) (commits : ℕ) (es : List Edit) (T : Texts) (s : State) (it : Renewal) where
-  module _ (commit : ℕ) (E0 E1 E2 : tree.BTreeMap Key Entry) (R0 R1 R2 W0 W1 W2 : set.BTreeSet Key) where
+  module _ (commit : ℕ) (old_entries room_entries new_entries : tree.BTreeMap Key Entry) (old_ready room_ready new_ready old_waiting room_waiting new_waiting : set.BTreeSet Key) where
     abbrev Done : Type 0
-    Done = Agrees (all_edited commit es s.units) commit E2 R2 W2 (after_done commit es s)
+    Done = Agrees (all_edited commit es s.units) commit new_entries new_ready new_waiting (after_done commit es s)
 
-    module _ (agrees : Agrees T commits E0 R0 W0 s) (is : IsRenewal (all_edited commit es s.units) es E0 R0 W0 it) (room : HasRoom it E0 E1 R0 R1 W0 W1) (q : Key) where
+    module _ (agrees : Agrees T commits old_entries old_ready old_waiting s) (is : IsRenewal (all_edited commit es s.units) es old_entries old_ready old_waiting it) (room : HasRoom it old_entries room_entries old_ready room_ready old_waiting room_waiting) (q : Key) where
       abbrev units : Texts
       units = all_edited commit es s.units
 
-      fresh_is : is_fresh units es E0 q ≡ fresh_of (has_key units q) (has_key s.units q) (is_own es q)
-      fresh_is = ap (λ b. (is_own es q && has_key units q) && b) (none_bits s q (tree.get key_cmp E0 q) (agrees.each q))
+      fresh_is : is_fresh units es old_entries q ≡ fresh_of (has_key units q) (has_key s.units q) (is_own es q)
+      fresh_is = ap (λ b. (is_own es q && has_key units q) && b) (none_bits s q (tree.get key_cmp old_entries q) (agrees.each q))
 
-      renewed_is : is_renewed units es E0 q ≡ renewed_of (has_key units q) (has_key s.units q) (is_own es q) (reaches (map unit_of es) units q)
-      renewed_is = λ i. (hit_bits commit es s q (tree.get key_cmp E0 q) (agrees.each q) i && has_key units q) || fresh_is i
+      renewed_is : is_renewed units es old_entries q ≡ renewed_of (has_key units q) (has_key s.units q) (is_own es q) (reaches (map unit_of es) units q)
+      renewed_is = λ i. (hit_bits commit es s q (tree.get key_cmp old_entries q) (agrees.each q) i && has_key units q) || fresh_is i
 
-      done_entry : WrittenIf units q (is_of q (keys_in it.renewed.items)) (cond (is_of q it.gone.items) None (tree.get key_cmp E1 q)) (tree.get key_cmp E2 q) → EntryFits (after_done commit es s) q (tree.get key_cmp E2 q)
+      done_entry : WrittenIf units q (is_of q (keys_in it.renewed.items)) (cond (is_of q it.gone.items) None (tree.get key_cmp room_entries q)) (tree.get key_cmp new_entries q) → EntryFits (after_done commit es s) q (tree.get key_cmp new_entries q)
       done_entry written =
-          each_fits needs_law law commit es s q (tree.get key_cmp E0 q) (tree.get key_cmp E1 q) (tree.get key_cmp E2 q) (has_key units q) (has_key s.units q) (is_own es q) (reaches (map unit_of es) units q) refl refl refl (has_apart commit es s.units q) (agrees.each q)
+          each_fits needs_law law commit es s q (tree.get key_cmp old_entries q) (tree.get key_cmp room_entries q) (tree.get key_cmp new_entries q) (has_key units q) (has_key s.units q) (is_own es q) (reaches (map unit_of es) units q) refl refl refl (has_apart commit es s.units q) (agrees.each q)
           (λ none. room.others q (is.fresh_are q ∙ fresh_is ∙ none))
           (λ some. room.there q (is.fresh_are q ∙ fresh_is ∙ some))
-          (subst (λ b. WrittenIf units q b (cond (is_own es q && not (has_key units q)) None (tree.get key_cmp E1 q)) (tree.get key_cmp E2 q)) (is.renewed_are q ∙ renewed_is)
-          (subst (λ b. WrittenIf units q (is_of q (keys_in it.renewed.items)) (cond b None (tree.get key_cmp E1 q)) (tree.get key_cmp E2 q)) (is.gone_are q) written))
+          (subst (λ b. WrittenIf units q b (cond (is_own es q && not (has_key units q)) None (tree.get key_cmp room_entries q)) (tree.get key_cmp new_entries q)) (is.renewed_are q ∙ renewed_is)
+          (subst (λ b. WrittenIf units q (is_of q (keys_in it.renewed.items)) (cond b None (tree.get key_cmp room_entries q)) (tree.get key_cmp new_entries q)) (is.gone_are q) written))
 
-      done_ready : set.contains key_cmp R2 q ≡ cond (is_of q it.gone.items) false (set.contains key_cmp R1 q) → set.contains key_cmp R2 q ≡ is_ready (after_done commit es s) q
+      done_ready : set.contains key_cmp new_ready q ≡ cond (is_of q it.gone.items) false (set.contains key_cmp room_ready q) → set.contains key_cmp new_ready q ≡ is_ready (after_done commit es s) q
       done_ready left =
           left
-          ∙ (λ i. cond (is.gone_are q i) false ((room.readies q ∙ ap (λ b. b || set.contains key_cmp R0 q) (is.unready_are q) ∙ joined_bits (is_renewed units es E0 q) (set.contains key_cmp R0 q)) i))
+          ∙ (λ i. cond (is.gone_are q i) false ((room.readies q ∙ ap (λ b. b || set.contains key_cmp old_ready q) (is.unready_are q) ∙ joined_bits (is_renewed units es old_entries q) (set.contains key_cmp old_ready q)) i))
           ∙ (λ i. cond (is_own es q && not (has_key units q)) false (renewed_is i || agrees.ready_are q i))
-          ∙ ready_bits (has_key units q) (has_key s.units q) (is_own es q) (reaches (map unit_of es) units q) (s.pending q) (s.out q) (has_apart commit es s.units q) (absent_pending s q (tree.get key_cmp E0 q) (agrees.each q))
+          ∙ ready_bits (has_key units q) (has_key s.units q) (is_own es q) (reaches (map unit_of es) units q) (s.pending q) (s.out q) (has_apart commit es s.units q) (absent_pending s q (tree.get key_cmp old_entries q) (agrees.each q))
 
-      done_waits : set.contains key_cmp W2 q ≡ cond (is_of q it.gone.items) false (set.contains key_cmp W1 q) → set.contains key_cmp W2 q ≡ (after_done commit es s).pending q
+      done_waits : set.contains key_cmp new_waiting q ≡ cond (is_of q it.gone.items) false (set.contains key_cmp room_waiting q) → set.contains key_cmp new_waiting q ≡ (after_done commit es s).pending q
       done_waits left =
           left
-          ∙ (λ i. cond (is.gone_are q i) false ((room.waits q ∙ ap (λ b. b || set.contains key_cmp W0 q) (is.unwaiting_are q) ∙ joined_bits (is_renewed units es E0 q) (set.contains key_cmp W0 q)) i))
+          ∙ (λ i. cond (is.gone_are q i) false ((room.waits q ∙ ap (λ b. b || set.contains key_cmp old_waiting q) (is.unwaiting_are q) ∙ joined_bits (is_renewed units es old_entries q) (set.contains key_cmp old_waiting q)) i))
           ∙ (λ i. cond (is_own es q && not (has_key units q)) false (renewed_is i || agrees.waiting_are q i))
-          ∙ waits_bits (has_key units q) (has_key s.units q) (is_own es q) (reaches (map unit_of es) units q) (s.pending q) (has_apart commit es s.units q) (absent_pending s q (tree.get key_cmp E0 q) (agrees.each q))
+          ∙ waits_bits (has_key units q) (has_key s.units q) (is_own es q) (reaches (map unit_of es) units q) (s.pending q) (has_apart commit es s.units q) (absent_pending s q (tree.get key_cmp old_entries q) (agrees.each q))
 
     -- what is kept agrees with the state after the commit
-    pub agrees_done : Agrees T commits E0 R0 W0 s → IsRenewal (all_edited commit es s.units) es E0 R0 W0 it → HasRoom it E0 E1 R0 R1 W0 W1 → ((texts : Texts) (q : Key) → AreAfresh texts it.renewed.items → WrittenIf texts q (is_of q (keys_in it.renewed.items)) (cond (is_of q it.gone.items) None (tree.get key_cmp E1 q)) (tree.get key_cmp E2 q)) → ((q : Key) → set.contains key_cmp R2 q ≡ cond (is_of q it.gone.items) false (set.contains key_cmp R1 q)) → ((q : Key) → set.contains key_cmp W2 q ≡ cond (is_of q it.gone.items) false (set.contains key_cmp W1 q)) → Done
+    pub agrees_done : Agrees T commits old_entries old_ready old_waiting s → IsRenewal (all_edited commit es s.units) es old_entries old_ready old_waiting it → HasRoom it old_entries room_entries old_ready room_ready old_waiting room_waiting → ((texts : Texts) (q : Key) → AreAfresh texts it.renewed.items → WrittenIf texts q (is_of q (keys_in it.renewed.items)) (cond (is_of q it.gone.items) None (tree.get key_cmp room_entries q)) (tree.get key_cmp new_entries q)) → ((q : Key) → set.contains key_cmp new_ready q ≡ cond (is_of q it.gone.items) false (set.contains key_cmp room_ready q)) → ((q : Key) → set.contains key_cmp new_waiting q ≡ cond (is_of q it.gone.items) false (set.contains key_cmp room_waiting q)) → Done
     agrees_done agrees is room written ready waits = record {
       units_are = refl;
       commits_are = refl;
@@ -270,24 +270,24 @@ module _ (needs_law : NeedsLocal) (law : ScratchLocal) (commits : ℕ) (es : Lis
 
 -- ---- what is found
 
-module _ (U : Texts) (edits : List Edit) (E0 : tree.BTreeMap Key Entry) (R0 W0 : set.BTreeSet Key) (it : Renewal) (own present hit kept all : List Key) (changed : set.BTreeSet (List ℕ)) where
-  pub found : own ≡ all_keys (map unit_of edits) → present ≡ filter (has_key U) own → it.fresh.items ≡ filter (λ k. is_none (tree.get key_cmp E0 k)) present → it.gone.items ≡ filter (λ k. not (has_key U k)) own → ((n : List ℕ) → set.contains name_cmp changed n ≡ is_among n (map unit_of edits)) → ((q : Key) → is_of q hit ≡ is_hit (set.contains name_cmp changed) (tree.get key_cmp E0 q)) → kept ≡ filter (has_key U) hit → all ≡ kept ++ it.fresh.items → keys_in it.renewed.items ≡ all → AreAfresh U it.renewed.items → it.unready.items ≡ filter (λ k. not (set.contains key_cmp R0 k)) all → it.unwaiting.items ≡ filter (λ k. not (set.contains key_cmp W0 k)) all → IsRenewal U edits E0 R0 W0 it
+module _ (U : Texts) (edits : List Edit) (old_entries : tree.BTreeMap Key Entry) (old_ready old_waiting : set.BTreeSet Key) (it : Renewal) (own present hit kept all : List Key) (changed : set.BTreeSet (List ℕ)) where
+  pub found : own ≡ all_keys (map unit_of edits) → present ≡ filter (has_key U) own → it.fresh.items ≡ filter (λ k. is_none (tree.get key_cmp old_entries k)) present → it.gone.items ≡ filter (λ k. not (has_key U k)) own → ((n : List ℕ) → set.contains name_cmp changed n ≡ is_among n (map unit_of edits)) → ((q : Key) → is_of q hit ≡ is_hit (set.contains name_cmp changed) (tree.get key_cmp old_entries q)) → kept ≡ filter (has_key U) hit → all ≡ kept ++ it.fresh.items → keys_in it.renewed.items ≡ all → AreAfresh U it.renewed.items → it.unready.items ≡ filter (λ k. not (set.contains key_cmp old_ready k)) all → it.unwaiting.items ≡ filter (λ k. not (set.contains key_cmp old_waiting k)) all → IsRenewal U edits old_entries old_ready old_waiting it
   found own_is present_is fresh_is gone_is changed_is hit_is kept_is all_is renewed_is afresh unready_is unwaiting_is =
       let owns : (q : Key) → is_of q own ≡ is_own edits q = λ q. ap (λ ks. is_of q ks) own_is in
-      let freshes : (q : Key) → is_of q it.fresh.items ≡ is_fresh U edits E0 q = λ q.
-      ap (λ ks. is_of q ks) fresh_is ∙ of_filtered (λ k. is_none (tree.get key_cmp E0 k)) q present
-      ∙ ap (λ b. b && is_none (tree.get key_cmp E0 q)) (ap (λ ks. is_of q ks) present_is ∙ of_filtered (has_key U) q own ∙ ap (λ b. b && has_key U q) (owns q)) in
-      let hits : (q : Key) → is_of q kept ≡ (is_reached edits E0 q && has_key U q) = λ q.
+      let freshes : (q : Key) → is_of q it.fresh.items ≡ is_fresh U edits old_entries q = λ q.
+      ap (λ ks. is_of q ks) fresh_is ∙ of_filtered (λ k. is_none (tree.get key_cmp old_entries k)) q present
+      ∙ ap (λ b. b && is_none (tree.get key_cmp old_entries q)) (ap (λ ks. is_of q ks) present_is ∙ of_filtered (has_key U) q own ∙ ap (λ b. b && has_key U q) (owns q)) in
+      let hits : (q : Key) → is_of q kept ≡ (is_reached edits old_entries q && has_key U q) = λ q.
       ap (λ ks. is_of q ks) kept_is ∙ of_filtered (has_key U) q hit
-      ∙ ap (λ b. b && has_key U q) (hit_is q ∙ (λ i. is_hit (λ n. changed_is n i) (tree.get key_cmp E0 q))) in
-      let alls : (q : Key) → is_of q all ≡ is_renewed U edits E0 q = λ q.
+      ∙ ap (λ b. b && has_key U q) (hit_is q ∙ (λ i. is_hit (λ n. changed_is n i) (tree.get key_cmp old_entries q))) in
+      let alls : (q : Key) → is_of q all ≡ is_renewed U edits old_entries q = λ q.
       ap (λ ks. is_of q ks) all_is ∙ of_both q kept it.fresh.items ∙ (λ i. hits q i || freshes q i) in
       record {
         fresh_are = freshes;
         gone_are = λ q. ap (λ ks. is_of q ks) gone_is ∙ of_filtered (λ k. not (has_key U k)) q own ∙ ap (λ b. b && not (has_key U q)) (owns q);
         renewed_are = λ q. ap (λ ks. is_of q ks) renewed_is ∙ alls q;
-        unready_are = λ q. ap (λ ks. is_of q ks) unready_is ∙ of_filtered (λ k. not (set.contains key_cmp R0 k)) q all ∙ ap (λ b. b && not (set.contains key_cmp R0 q)) (alls q);
-        unwaiting_are = λ q. ap (λ ks. is_of q ks) unwaiting_is ∙ of_filtered (λ k. not (set.contains key_cmp W0 k)) q all ∙ ap (λ b. b && not (set.contains key_cmp W0 q)) (alls q);
+        unready_are = λ q. ap (λ ks. is_of q ks) unready_is ∙ of_filtered (λ k. not (set.contains key_cmp old_ready k)) q all ∙ ap (λ b. b && not (set.contains key_cmp old_ready q)) (alls q);
+        unwaiting_are = λ q. ap (λ ks. is_of q ks) unwaiting_is ∙ of_filtered (λ k. not (set.contains key_cmp old_waiting k)) q all ∙ ap (λ b. b && not (set.contains key_cmp old_waiting q)) (alls q);
         afresh = afresh;
       }
 
@@ -305,13 +305,13 @@ back_mark r true false is = refl
 back_mark r false was is = refl
 
 -- all is as it was
-pub agrees_back : (T U : Texts) (commits : ℕ) (es : List Edit) (E0 E1 : tree.BTreeMap Key Entry) (R0 R1 W0 W1 : set.BTreeSet Key) (s : State) (it : Renewal) → Agrees T commits E0 R0 W0 s → IsRenewal U es E0 R0 W0 it → IsTakenBack it E0 E1 R0 R1 W0 W1 → Agrees T commits E1 R1 W1 s
-agrees_back T U commits es E0 E1 R0 R1 W0 W1 s it agrees is back = record {
+pub agrees_back : (T U : Texts) (commits : ℕ) (es : List Edit) (old_entries room_entries : tree.BTreeMap Key Entry) (old_ready room_ready old_waiting room_waiting : set.BTreeSet Key) (s : State) (it : Renewal) → Agrees T commits old_entries old_ready old_waiting s → IsRenewal U es old_entries old_ready old_waiting it → IsTakenBack it old_entries room_entries old_ready room_ready old_waiting room_waiting → Agrees T commits room_entries room_ready room_waiting s
+agrees_back T U commits es old_entries room_entries old_ready room_ready old_waiting room_waiting s it agrees is back = record {
   units_are = agrees.units_are;
   commits_are = agrees.commits_are;
-  each = λ q. subst (λ o. EntryFits s q o) (sym (back.entries q ∙ back_entry (is_own es q && has_key U q) (is_of q it.fresh.items) (tree.get key_cmp E0 q) (is.fresh_are q))) (agrees.each q);
-  ready_are = λ q. back.readies q ∙ back_mark (is_renewed U es E0 q) (is_of q it.unready.items) (set.contains key_cmp R0 q) (is.unready_are q) ∙ agrees.ready_are q;
-  waiting_are = λ q. back.waits q ∙ back_mark (is_renewed U es E0 q) (is_of q it.unwaiting.items) (set.contains key_cmp W0 q) (is.unwaiting_are q) ∙ agrees.waiting_are q;
+  each = λ q. subst (λ o. EntryFits s q o) (sym (back.entries q ∙ back_entry (is_own es q && has_key U q) (is_of q it.fresh.items) (tree.get key_cmp old_entries q) (is.fresh_are q))) (agrees.each q);
+  ready_are = λ q. back.readies q ∙ back_mark (is_renewed U es old_entries q) (is_of q it.unready.items) (set.contains key_cmp old_ready q) (is.unready_are q) ∙ agrees.ready_are q;
+  waiting_are = λ q. back.waits q ∙ back_mark (is_renewed U es old_entries q) (is_of q it.unwaiting.items) (set.contains key_cmp old_waiting q) (is.unwaiting_are q) ∙ agrees.waiting_are q;
 }
 
 room_entry : (b : Bool) (o1 o0 : Option Entry) → (b ≡ false → o1 ≡ o0) → cond b None o1 ≡ cond b None o0
@@ -323,9 +323,9 @@ room_mark true was now is = refl
 room_mark false was now is = is
 
 -- room that was made, and was taken back
-pub taken_back : (E0 E1 E2 : tree.BTreeMap Key Entry) (R0 R1 R2 W0 W1 W2 : set.BTreeSet Key) (it : Renewal) → HasRoom it E0 E1 R0 R1 W0 W1 → ((q : Key) → tree.get key_cmp E2 q ≡ cond (is_of q it.fresh.items) None (tree.get key_cmp E1 q)) → ((q : Key) → set.contains key_cmp R2 q ≡ cond (is_of q it.unready.items) false (set.contains key_cmp R1 q)) → ((q : Key) → set.contains key_cmp W2 q ≡ cond (is_of q it.unwaiting.items) false (set.contains key_cmp W1 q)) → IsTakenBack it E0 E2 R0 R2 W0 W2
-taken_back E0 E1 E2 R0 R1 R2 W0 W1 W2 it room entries ready waits = record {
-  entries = λ q. entries q ∙ room_entry (is_of q it.fresh.items) (tree.get key_cmp E1 q) (tree.get key_cmp E0 q) (room.others q);
-  readies = λ q. ready q ∙ room_mark (is_of q it.unready.items) (set.contains key_cmp R0 q) (set.contains key_cmp R1 q) (room.readies q);
-  waits = λ q. waits q ∙ room_mark (is_of q it.unwaiting.items) (set.contains key_cmp W0 q) (set.contains key_cmp W1 q) (room.waits q);
+pub taken_back : (old_entries room_entries new_entries : tree.BTreeMap Key Entry) (old_ready room_ready new_ready old_waiting room_waiting new_waiting : set.BTreeSet Key) (it : Renewal) → HasRoom it old_entries room_entries old_ready room_ready old_waiting room_waiting → ((q : Key) → tree.get key_cmp new_entries q ≡ cond (is_of q it.fresh.items) None (tree.get key_cmp room_entries q)) → ((q : Key) → set.contains key_cmp new_ready q ≡ cond (is_of q it.unready.items) false (set.contains key_cmp room_ready q)) → ((q : Key) → set.contains key_cmp new_waiting q ≡ cond (is_of q it.unwaiting.items) false (set.contains key_cmp room_waiting q)) → IsTakenBack it old_entries new_entries old_ready new_ready old_waiting new_waiting
+taken_back old_entries room_entries new_entries old_ready room_ready new_ready old_waiting room_waiting new_waiting it room entries ready waits = record {
+  entries = λ q. entries q ∙ room_entry (is_of q it.fresh.items) (tree.get key_cmp room_entries q) (tree.get key_cmp old_entries q) (room.others q);
+  readies = λ q. ready q ∙ room_mark (is_of q it.unready.items) (set.contains key_cmp old_ready q) (set.contains key_cmp room_ready q) (room.readies q);
+  waits = λ q. waits q ∙ room_mark (is_of q it.unwaiting.items) (set.contains key_cmp old_waiting q) (set.contains key_cmp room_waiting q) (room.waits q);
 }
