@@ -1,0 +1,6 @@
+//! The flat networks of units.
+#![tactic(auto)]
+
+mod laws;
+
+pub use laws::flat_networks_are_local;
