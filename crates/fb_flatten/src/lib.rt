@@ -1,7 +1,9 @@
-//! The flat networks of units.
+//! The flat networks of units (IEC 61499-1, 5.4: subapplication types; 7: systems).
 #![tactic(auto)]
 
 mod blocking;
 mod laws;
+mod net;
 
 pub use laws::flat_networks_are_local;
+pub use net::Net;
