@@ -1,3 +1,6 @@
 -- Lemmas of the proofs.
 pub mod LocalLemmas
 pub mod MentionLemmas
+pub mod CleanLemmas
+pub mod OrderLemmas
+pub mod TableLemmas

@@ -29,7 +29,7 @@ later : {X : Type 0} (x : X) (xs : List X) (y : X) → Contains xs y → Contain
 later x xs y c = Contains-append_right (x ∷ []) xs y c
 
 -- what a search finds stands in the list
-found : {X : Type 0} (p : X → Bool) (xs : List X) (x : X) → find p xs ≡ Some x → Contains xs x
+pub found : {X : Type 0} (p : X → Bool) (xs : List X) (x : X) → find p xs ≡ Some x → Contains xs x
 found p [] x e = absurd (cc)
 found {X = X} p (z ∷ xs) x e = by_test (p z) e (found p xs x)
   where

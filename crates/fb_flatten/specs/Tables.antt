@@ -7,7 +7,7 @@ use Rattle.fb_faults.specs.Faults.{faults_of}
 use Rattle.fb_order.specs.Order.{IsOrdered}
 use Rattle.fb_network.specs.Plain.{PlainNetwork}
 use Rattle.fb_network.specs.Network.{View}
-use Rattle.fb_compose.specs.Counts.{IsCounted}
+use Rattle.fb_compose.specs.Counts.{IsCounted, AreCounted}
 use Rattle.fb_wiring.specs.ByName.{declared}
 
 -- the table has the networks of these names, and no wrong one
@@ -27,3 +27,14 @@ pub record IsSoundOrder (sources : Sources) (unit : List ℕ) (order : List (Lis
   pub whole : (v : List ℕ) → Contains order v ↔ Rests sources unit v
   pub present : (v : List ℕ) → Rests sources unit v → get sources v ≢ None
   pub faultless : (v : List ℕ) → Rests sources unit v → faults_of sources v ≡ []
+
+-- the network of the name is there, and the types of its subapplication instances are counted
+pub record IsCountable (view : View) (counts : List ℕ → Option ℕ) (name : List ℕ) : Type 0 where
+  pub network : PlainNetwork
+  pub declared : view name ≡ Some network
+  pub counted : AreCounted view network.instances counts
+
+-- the name is counted in the new ones, and each other name has what it had
+pub record AddsCount (view : View) (old new : List ℕ → Option ℕ) (name : List ℕ) : Type 0 where
+  pub counted : IsCounted view new name
+  pub others : (other : List ℕ) → other ≢ name → new other ≡ old other

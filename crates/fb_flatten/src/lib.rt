@@ -4,6 +4,7 @@
 mod blocking;
 mod laws;
 mod net;
+mod tables;
 
 pub use laws::flat_networks_are_local;
 pub use net::Net;
