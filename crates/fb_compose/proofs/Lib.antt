@@ -14,3 +14,4 @@ pub mod Tables
 pub mod FlatLemmas
 pub mod EmptyMaps
 pub mod SystemLemmas
+pub mod NothingLemmas

@@ -25,3 +25,6 @@ pub use laws::{chains_are_composed, flat_is_one};
 pub use look_up::{Nets, Networks};
 pub use sorted::sort_once;
 pub use system::join;
+
+#[cfg(test)]
+mod tests;

@@ -15,3 +15,6 @@ pub use network::{
     Connection, End, Instance, InstanceKind, Network, Port, is_same_sort, sort_number,
 };
 pub use path::Path;
+
+#[cfg(test)]
+mod tests;
