@@ -56,8 +56,8 @@ further order i name lt e = ap (λ (x : List ℕ). take i order ++ x ∷ []) e �
 pub counted_nothing : {view : View} {counts : List ℕ → Option ℕ} → AllCounted view counts []
 counted_nothing name c = absurd (contains_nothing name c)
 
-pub counted_more : {view : View} {old new : List ℕ → Option ℕ} {names : List (List ℕ)} {name : List ℕ} → AllCounted view old names → AddsCount view old new name → AllCounted view new (names ++ name ∷ [])
-counted_more {view = view} {old = old} {new = new} {names = names} {name = name} all adds q c = by_test (is_at (name_cmp name) q) refl (Contains-push_cases names name q c)
+pub counted_more : {view : View} {old new : List ℕ → Option ℕ} (names : List (List ℕ)) {name : List ℕ} → AllCounted view old names → AddsCount view old new name → AllCounted view new (names ++ name ∷ [])
+counted_more {view = view} {old = old} {new = new} names {name = name} all adds q c = by_test (is_at (name_cmp name) q) refl (Contains-push_cases names name q c)
   where
     by_test : (b : Bool) → is_at (name_cmp name) q ≡ b → Contains names q ⊎ (name ≡ q) → IsCounted view new q
     by_test true e cases = subst (λ (n : List ℕ). IsCounted view new n) (same_bytes name q e) adds.counted

@@ -1,5 +1,5 @@
 -- The next name can be counted, and then it is.
-use Rattle.std.proofs.Common.{List, ℕ, subst}
+use Rattle.std.proofs.Common.{List, ℕ, subst, take}
 use Rattle.std.specs.BTreeMap.{get}
 use Rattle.fb_text.specs.Order.{name_cmp}
 use Rattle.fb_flatten.specs.Tables.{AllCounted}
@@ -16,4 +16,4 @@ pub loop-name-preserved : goal.loop-name-preserved
 loop-name-preserved c =
     subst (λ (names : List (List ℕ)). AllCounted (get name_cmp c.args.table.now) (get name_cmp c.add_count.new.counts) names)
     (further c.args.order.now c.loop-name.name-index c.name-item.result c.loop-name-test.true c.name-item.is)
-    (counted_more c.loop-name.invariant c.in_ok-add_count.ensures)
+    (counted_more (take c.loop-name.name-index c.args.order.now) c.loop-name.invariant c.in_ok-add_count.ensures)
