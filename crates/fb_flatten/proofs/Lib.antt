@@ -4,3 +4,5 @@ pub mod MentionLemmas
 pub mod CleanLemmas
 pub mod OrderLemmas
 pub mod TableLemmas
+pub mod UnitLemmas
+pub mod NetLemmas

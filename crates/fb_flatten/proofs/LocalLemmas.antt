@@ -134,7 +134,7 @@ net_link_there {network = network} closed same within (FromPlug plug socket adap
 net_link_there {network = network} closed same within (ToPlug plug socket adapter port link at among k s f g) =
     ToPlug plug socket adapter port (link_there closed same within link) (adapter_there network adapter plug closed same within at) among k s f g
 
-instances_there : {a b : View} {known : List ℕ → Type 0} {list : List Instance} {held : List Held} → IsClosed a known → SameNetworks known a b → ((i : Instance) → Contains list i → known i.type_name) → AreInstances a list held → AreInstances b list held
+pub instances_there : {a b : View} {known : List ℕ → Type 0} {list : List Instance} {held : List Held} → IsClosed a known → SameNetworks known a b → ((i : Instance) → Contains list i → known i.type_name) → AreInstances a list held → AreInstances b list held
 instances_there closed same within NoInstance = NoInstance
 instances_there closed same within (ThenBlock i rest others k more) =
     ThenBlock i rest others k (instances_there closed same (λ j c. within j (later i rest j c)) more)

@@ -5,6 +5,7 @@ mod blocking;
 mod laws;
 mod net;
 mod tables;
+mod units;
 
 pub use laws::flat_networks_are_local;
-pub use net::Net;
+pub use net::{Net, net_of};
