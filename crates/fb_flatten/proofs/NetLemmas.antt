@@ -12,7 +12,7 @@ use Rattle.fb_iface.proofs.Members.{contains_nothing, contains_filter, passes_in
 use Rattle.fb_faults.specs.Faults.{faults_of}
 use Rattle.fb_order.specs.Order.{IsOrdered}
 use Rattle.fb_order.specs.Reaches.{IsRecursive, RestsOnRecursive}
-use Rattle.fb_flatten.specs.Blocking.{AreThose, IsBlocking, is_blocking, is_some_fault}
+use Rattle.fb_flatten.specs.Blocking.{AreThose, IsBlocking, is_blocking, is_some_fault, is_some_name}
 use Rattle.fb_flatten.specs.Net.{IsWhole}
 use Rattle.fb_flatten.specs.Tables.{IsSoundOrder}
 
@@ -66,3 +66,11 @@ sound_order {sources = sources} {unit = unit} order none ordered whole =
     by : (v : List ℕ) → Rests sources unit v → (fs : List Fault) → faults_of sources v ≡ fs → faults_of sources v ≡ []
     by v r [] f = f
     by v r (x ∷ fs) f = absurd (contains_nothing v ((none.members v).1 (r, inr (λ n. let no : ⊥ = cc in no))))
+
+pub some_not_none : (names : List (List ℕ)) → is_some_name names ≡ true → names ≢ []
+some_not_none [] h e = let no : ⊥ = cc in no
+some_not_none (x ∷ xs) h e = let no : ⊥ = cc in no
+
+pub none_of_not : (names : List (List ℕ)) → is_some_name names ≡ false → names ≡ []
+none_of_not [] h = refl
+none_of_not (x ∷ xs) h = absurd (let no : ⊥ = cc in no)

@@ -16,6 +16,10 @@ abbrev pub is_some_fault : List Fault → Bool
 is_some_fault [] = false
 is_some_fault (f ∷ fs) = true
 
+abbrev pub is_some_name : List (List ℕ) → Bool
+is_some_name [] = false
+is_some_name (x ∷ xs) = true
+
 -- the same as a test
 abbrev pub is_blocking : Sources → List ℕ → Bool
 is_blocking sources name = is_none (get sources name) || is_some_fault (faults_of sources name)

@@ -1,6 +1,6 @@
 //! What keeps a unit from having a flat network.
 ghost use Rattle.std.specs.Prelude.{◌≡◌, IfOk, filter};
-ghost use Rattle.fb_flatten.specs.Blocking.{is_blocking};
+ghost use Rattle.fb_flatten.specs.Blocking.{is_blocking, is_some_name};
 
 use fb_faults::faults;
 use fb_library::View;
@@ -33,4 +33,11 @@ pub(crate) fn blocking<V: View>(
         }
     }
     Ok(found)
+}
+
+/// Whether there is a name.
+pub(crate) fn has_some(names: &[Name]) -> bool
+    ensures { result ≡ is_some_name names.now }
+{
+    !names.is_empty()
 }

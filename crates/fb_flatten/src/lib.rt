@@ -9,3 +9,6 @@ mod units;
 
 pub use laws::flat_networks_are_local;
 pub use net::{Net, net_of};
+
+#[cfg(test)]
+mod tests;

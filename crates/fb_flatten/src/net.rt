@@ -4,7 +4,7 @@ ghost use Rattle.fb_flatten.specs.Net.{IsNet, plain_net};
 ghost use Rattle.fb_flatten.specs.Tables.{IsSoundOrder};
 ghost use Rattle.fb_flatten.specs.Units.{HasNet};
 
-use crate::blocking::blocking;
+use crate::blocking::{blocking, has_some};
 use crate::tables::networks_of;
 use crate::units::{count_of_unit, flat_of_unit};
 use fb_library::{View, far};
@@ -33,7 +33,7 @@ pub fn net_of<V: View>(alloc: Global, view: &V, unit: Name) -> Result<Net, Alloc
 {
     let names = far(alloc, view, unit)?;
     let found = blocking(alloc, view, names.as_slice())?;
-    if !found.is_empty() {
+    if has_some(found.as_slice()) {
         return Ok(Net::Blocked(found));
     }
     match inner_first(alloc, view, unit)? {

@@ -28,10 +28,7 @@ fn is_system(decl: &Decl) -> bool
 }
 
 /// The instances of all applications.
-fn instances_of(
-    alloc: Global,
-    applications: &[Application],
-) -> Result<Vec<Instance>, AllocError>
+fn instances_of(alloc: Global, applications: &[Application]) -> Result<Vec<Instance>, AllocError>
     ensures { IfOk result (λ instances. instances.items ≡ instances_in applications.now) }
 {
     let mut instances = Vec::new(alloc);
