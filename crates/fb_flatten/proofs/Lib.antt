@@ -6,3 +6,5 @@ pub mod OrderLemmas
 pub mod TableLemmas
 pub mod UnitLemmas
 pub mod NetLemmas
+pub mod OneNet
+pub mod NetLocal

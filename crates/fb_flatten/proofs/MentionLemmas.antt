@@ -24,7 +24,7 @@ use Rattle.fb_network.specs.declared.network.Instance.{Instance}
 use Rattle.fb_network.specs.declared.network.Port.{Port}
 use Rattle.fb_network.specs.Plain.{PlainNetwork}
 use Rattle.fb_wiring.specs.Applications.{applications_of, plain_application}
-use Rattle.fb_wiring.specs.ByName.{declared}
+use Rattle.fb_wiring.specs.ByName.{applications_at, declared}
 use Rattle.fb_wiring.specs.Networks.{instance_in_role, plain_instance, plain_network, network_of, leaf}
 use Rattle.fb_wiring.specs.Ports.{plain_ports, plain_event, plain_data, plain_adapter}
 use Rattle.fb_wiring.specs.declared.systems.Application.{Application}
@@ -176,3 +176,29 @@ own_mentioned (system_configuration s) i c =
 -- the types of a unit's own instances are among its mentions
 pub own_within : (sources : Sources) (unit : List ℕ) (decl : DeclTree) → tree_at sources unit ≡ Some decl → (i : Instance) → Contains (own_instances decl) i → Contains (mentions_at sources unit) i.type_name
 own_within sources unit decl t i c = subst (λ (o : Option DeclTree). Contains (mentions_in o) i.type_name) (sym t) (own_mentioned decl i c)
+
+plain_within : (decl : DeclTree) (a : Application) → Contains (applications_of decl) a → Within (Contains (mentions_of decl)) a.network
+plain_within (block_type d) a c = absurd (contains_nothing a c)
+plain_within (adapter_type d) a c = absurd (contains_nothing a c)
+plain_within (subapplication_type d) a c = absurd (contains_nothing a c)
+plain_within (system_configuration s) a c =
+    record {
+      types = λ i h. own_mentioned (system_configuration s) i (contains_flat_map (λ (x : Application). x.network.instances) (applications_of (system_configuration s)) a i c h);
+      adapters = adapters;
+    }
+  where
+    adapters : (port : Port) (name : List ℕ) → Contains a.network.ports port → port.adapter ≡ Some name → Contains (mentions_of (system_configuration s)) name
+    adapters port name h e =
+        let o = origin_in_map plain_application s.applications a c in
+        absurd (contains_nothing port (subst (λ (x : Application). Contains x.network.ports port) (sym o.gives) h))
+
+-- the networks of a system's applications are within its mentions
+pub applications_within : (sources : Sources) (unit : List ℕ) (applications : List Application) → applications_at sources unit ≡ Some applications → (a : Application) → Contains applications a → Within (Contains (mentions_at sources unit)) a.network
+applications_within sources unit applications e a c = by_tree (tree_at sources unit) refl e
+  where
+    by_tree : (o : Option DeclTree) → tree_at sources unit ≡ o → option_map applications_of o ≡ Some applications → Within (Contains (mentions_at sources unit)) a.network
+    by_tree None t e = absurd (let no : ⊥ = cc in no)
+    by_tree (Some decl) t e =
+        let same : applications_of decl ≡ applications = cc in
+        subst (λ (o : Option DeclTree). Within (Contains (mentions_in o)) a.network) (sym t)
+        (plain_within decl a (subst (λ (l : List Application). Contains l a) (sym same) c))

@@ -50,7 +50,7 @@ tree_of_faultless sources name here none = by_text (get sources name) refl
     by_text None e = absurd (here e)
     by_text (Some text) e = by_body text e (body_of text) refl
 
-rests_on : {sources : Sources} {u v w : List ℕ} → Rests sources u v → Contains (mentions_at sources v) w → Rests sources u w
+pub rests_on : {sources : Sources} {u v w : List ℕ} → Rests sources u v → Contains (mentions_at sources v) w → Rests sources u w
 rests_on itself m = through m itself
 rests_on (through k r) m = through k (rests_on r m)
 

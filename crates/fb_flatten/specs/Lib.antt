@@ -4,3 +4,4 @@ pub mod Blocking
 pub mod Units
 pub mod Net
 pub mod Tables
+pub mod Laws

@@ -7,7 +7,7 @@ mod net;
 mod tables;
 mod units;
 
-pub use laws::flat_networks_are_local;
+pub use laws::{flat_networks_are_local, net_is_local, one_net};
 pub use net::{Net, net_of};
 
 #[cfg(test)]

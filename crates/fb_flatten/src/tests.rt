@@ -120,6 +120,8 @@ fn units_that_have_no_flat_network(rt: HostRuntime) -> Result<(), Fail> {
     let units = [("S", s), ("M", m), ("N", n)];
     assert_eq!(rt; told(alloc, &units, "S")?.as_str(), "recursive M N");
     flat_networks_are_local();
+    one_net();
+    net_is_local();
     Ok(())
 }
 
