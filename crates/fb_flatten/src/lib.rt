@@ -9,6 +9,3 @@ mod units;
 
 pub use laws::{flat_networks_are_local, net_is_local, one_net};
 pub use net::{Net, net_of};
-
-#[cfg(test)]
-mod tests;
