@@ -1,6 +1,6 @@
 -- Whether a network is clean is found by the networks alone that it rests on.
-use Rattle.std.proofs.Common.{ℕ, ◌≡◌, Bool, List, [], ◌∷◌, Option, Some, None, refl, sym, ◌∙◌, ap}
-use Rattle.std.specs.Prelude.{Contains, find, option_and_then, option_map}
+use Rattle.std.proofs.Common.{ℕ, ◌≡◌, List, Option, Some, None, refl, sym, ◌∙◌, ap}
+use Rattle.std.specs.Prelude.{Contains, option_and_then, option_map}
 use Rattle.std.specs.BTreeMap.{is_at}
 use Rattle.fb_text.specs.Order.{name_cmp}
 use Rattle.fb_tree.specs.declared.network.Sort.{Sort}

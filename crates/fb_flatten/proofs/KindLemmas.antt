@@ -1,5 +1,5 @@
 -- Subapplications and systems have nets.
-use Rattle.std.proofs.Common.{ℕ, ◌≡◌, Bool, true, false, List, Option, Some, None, ◌⊎◌, inl, inr, refl, sym, ◌∙◌, ap}
+use Rattle.std.proofs.Common.{ℕ, ◌≡◌, Bool, true, false, List, Some, None, inl, inr, ap}
 use Rattle.std.specs.Prelude.{◌↔◌, option_map}
 use Rattle.fb_tree.specs.Mentions.{kind_of}
 use Rattle.fb_tree.specs.Tree.{DeclTree, block_type, adapter_type, subapplication_type, system_configuration}

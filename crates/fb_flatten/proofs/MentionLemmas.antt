@@ -1,23 +1,22 @@
 -- What a unit says as a network is within its mentions.
-use Rattle.std.proofs.Common.{ℕ, ◌≡◌, ◌+◌, Bool, true, false, List, [], ◌∷◌, ◌++◌, Option, Some, None, ◌⊎◌, inl, inr, refl, sym, ◌∙◌, ap, subst}
-use Rattle.std.specs.Prelude.{Contains, map, filter, flat_map, option_map, is_none, take}
+use Rattle.std.proofs.Common.{ℕ, ◌≡◌, ◌+◌, List, [], ◌∷◌, ◌++◌, Option, Some, None, ◌⊎◌, inl, inr, refl, sym, ◌∙◌, ap, subst}
+use Rattle.std.specs.Prelude.{Contains, map, filter, option_map, is_none, take}
 use Rattle.std.specs.List.{filter_map, cons_option, enumerate_from}
 use Rattle.std.specs.Cmp.Lexicographic.{nat_list_cmp_total}
 use Rattle.std.specs.FinMap.{slice_cmp-IsAntisymmetric, nat_cmp-IsAntisymmetric}
 use Rattle.std.proofs.lemmas.List.Elements.{Contains-append_cases}
-use Rattle.fb_text.specs.Order.{name_cmp, names_in_order}
+use Rattle.fb_text.specs.Order.{name_cmp}
 use Rattle.fb_text.proofs.OrderLemmas.{in_order-members}
 use Rattle.fb_text.specs.declared.name.NameUse.{NameUse}
-use Rattle.fb_tree.specs.Tree.{ApplicationTree, DeclTree, InstanceTree, NetworkTree, TypeTree, block_type, adapter_type, subapplication_type, system_configuration}
+use Rattle.fb_tree.specs.Tree.{ApplicationTree, DeclTree, InstanceTree, TypeTree, block_type, adapter_type, subapplication_type, system_configuration}
 use Rattle.fb_tree.specs.Mentions.{mentioned_in, mentions_of, types_in}
 use Rattle.fb_tree.specs.declared.interface.Side.{Side}
 use Rattle.fb_tree.specs.declared.interface.Side.TheVariants.{Input, Output}
-use Rattle.fb_tree.specs.declared.interface.TypeUse.{TypeUse}
 use Rattle.fb_tree.specs.declared.network.Role.{Role}
 use Rattle.fb_tree.specs.declared.network.Role.TheVariants as roles
 use Rattle.fb_library.specs.View.{Sources, tree_at, mentions_at, mentions_in}
 use Rattle.fb_iface.specs.Names.{first_ones, stands_for}
-use Rattle.fb_iface.specs.Ports.{Meanings, meanings_in_type, events_on, data_on, instances_as, instances_in as declared_instances, same_role}
+use Rattle.fb_iface.specs.Ports.{meanings_in_type, events_on, data_on, instances_as, instances_in as declared_instances, same_role}
 use Rattle.fb_iface.specs.declared.ports.DeclaredInstance.{DeclaredInstance}
 use Rattle.fb_iface.proofs.Members.{contains_nothing, contains_here, contains_later, contains_cases, contains_map, origin_in_map, contains_flat_map, origin_in_flat_map, passes_in_filter}
 use Rattle.fb_network.specs.declared.network.Instance.{Instance}
@@ -25,11 +24,11 @@ use Rattle.fb_network.specs.declared.network.Port.{Port}
 use Rattle.fb_network.specs.Plain.{PlainNetwork}
 use Rattle.fb_wiring.specs.Applications.{applications_of, plain_application}
 use Rattle.fb_wiring.specs.ByName.{applications_at, declared}
-use Rattle.fb_wiring.specs.Networks.{instance_in_role, plain_instance, plain_network, network_of, leaf}
+use Rattle.fb_wiring.specs.Networks.{instance_in_role, plain_instance, network_of, leaf}
 use Rattle.fb_wiring.specs.Ports.{plain_ports, plain_event, plain_data, plain_adapter}
 use Rattle.fb_wiring.specs.declared.systems.Application.{Application}
 use Rattle.fb_flatten.specs.Locality.{Within}
-use Rattle.fb_flatten.specs.Units.{own_instances, instances_in}
+use Rattle.fb_flatten.specs.Units.{own_instances}
 
 -- an element of which the member is given
 record IsGiven {X Y : Type 0} (f : X → Option Y) (xs : List X) (y : Y) : Type 0 where

@@ -1,5 +1,5 @@
 -- Which names keep a unit from having a flat network.
-use Rattle.std.proofs.Common.{ℕ, ◌≡◌, Bool, true, false, List, [], ◌∷◌, Option, Some, None, ◌⊎◌, inl, inr, refl, sym, ◌∙◌, ap, subst}
+use Rattle.std.proofs.Common.{ℕ, ◌≡◌, true, false, List, [], ◌∷◌, Option, Some, None, inl, inr, refl, sym, ap, subst}
 use Rattle.std.specs.Prelude.{Contains, ◌≢◌, ◌↔◌, ◌||◌, is_none, filter}
 use Rattle.std.specs.FinMap.{get}
 use Rattle.std.specs.List.Sorted.{IsStrictlySortedBy}

@@ -1,36 +1,32 @@
 -- The net of a unit depends on the texts alone that the unit rests on.
-use Rattle.std.proofs.Common.{ℕ, ◌≡◌, List, [], ◌∷◌, Option, Some, None, ◌⊎◌, inl, inr, refl, sym, ◌∙◌, ◌++◌, ap, subst}
-use Rattle.std.specs.Prelude.{Contains, ◌≢◌, ◌↔◌}
+use Rattle.std.proofs.Common.{ℕ, ◌≡◌, List, [], ◌∷◌, ◌⊎◌, inl, inr, sym, ◌∙◌, ◌++◌, ap, subst}
+use Rattle.std.specs.Prelude.{Contains}
 use Rattle.std.specs.Option.{option_and_then}
-use Rattle.std.specs.FinMap.{get, slice_cmp-IsAntisymmetric, nat_cmp-IsAntisymmetric}
+use Rattle.std.specs.FinMap.{slice_cmp-IsAntisymmetric, nat_cmp-IsAntisymmetric}
 use Rattle.std.specs.Cmp.Lexicographic.{nat_list_cmp_total}
 use Rattle.std.proofs.lemmas.List.Elements.{Contains-append_cases}
 use Rattle.fb_text.specs.Order.{name_cmp}
 use Rattle.fb_text.proofs.OrderLemmas.{in_order-members}
-use Rattle.fb_tree.specs.Tree.{DeclTree, ApplicationTree, block_type, adapter_type, subapplication_type, system_configuration}
 use Rattle.fb_library.specs.View.{Sources, tree_at, tree_of, mentions_at, near_of}
-use Rattle.fb_library.specs.Rests.{Rests, itself, through}
-use Rattle.fb_library.specs.Local.{Agree, AgreeFar}
+use Rattle.fb_library.specs.Rests.{Rests, itself}
+use Rattle.fb_library.specs.Local.{AgreeFar}
 use Rattle.fb_library.proofs.LocalLemmas.{far_local}
 use Rattle.fb_faults.specs.Faults.{faults_of}
 use Rattle.fb_faults.proofs.LocalLemmas.{faults_local}
 use Rattle.fb_order.specs.Reaches.{IsRecursive}
 use Rattle.fb_order.proofs.LocalLemmas.{recursion_local}
-use Rattle.fb_network.specs.declared.network.Instance.{Instance}
-use Rattle.fb_network.specs.Plain.{PlainNetwork}
 use Rattle.fb_network.specs.PlainFlat.{PlainFlat}
-use Rattle.fb_network.specs.Network.{View}
-use Rattle.fb_network.specs.Instances.{Held, AreInstances}
+use Rattle.fb_network.specs.Instances.{Held}
 use Rattle.fb_compose.proofs.Members.{contains_nothing, contains_here, contains_later, contains_cases}
 use Rattle.fb_compose.specs.declared.application.FlatApplication.{FlatApplication}
-use Rattle.fb_wiring.specs.ByName.{applications_at, declared, kind_at}
+use Rattle.fb_wiring.specs.ByName.{declared}
 use Rattle.fb_wiring.specs.declared.systems.Application.{Application}
 use Rattle.fb_wiring.proofs.LocalLemmas.{networks_local}
 use Rattle.fb_flatten.specs.Blocking.{AreThose, IsBlocking}
 use Rattle.fb_flatten.specs.Laws.{NetIsLocal}
 use Rattle.fb_flatten.specs.Locality.{Within, IsClosed, SameNetworks}
 use Rattle.fb_flatten.specs.Net.{PlainNet, blocked, recursive, too_large, flat_net, IsNet, IsSound}
-use Rattle.fb_flatten.specs.Units.{AreFlatApplications, NoApplication, ThenApplication, Holds, IsTooLarge, IsWithinLimit, IsUnitFlat, OfSubapplication, OfSystem, own_instances}
+use Rattle.fb_flatten.specs.Units.{AreFlatApplications, NoApplication, ThenApplication, Holds, IsTooLarge, IsWithinLimit, IsUnitFlat, OfSubapplication, OfSystem}
 use Rattle.fb_flatten.proofs.LocalLemmas.{instances_there, same_flats}
 use Rattle.fb_flatten.proofs.MentionLemmas.{applications_within, declared_within, own_within}
 use Rattle.fb_flatten.proofs.OrderLemmas.{rests_on}

@@ -1,10 +1,8 @@
 -- A unit has one net only.
-use Rattle.std.proofs.Common.{ℕ, ◌≡◌, ◌<◌, ◌≤◌, List, [], ◌∷◌, Some, refl, sym, ◌∙◌, ap, subst, arith, length}
-use Rattle.std.specs.Prelude.{Contains}
+use Rattle.std.proofs.Common.{ℕ, ◌≡◌, List, [], ◌∷◌, refl, sym, ◌∙◌, ap, subst, arith, length}
 use Rattle.std.specs.Cmp.Lexicographic.{nat_list_cmp_total}
 use Rattle.fb_tree.specs.Tree.{DeclTree}
 use Rattle.fb_library.specs.View.{Sources}
-use Rattle.fb_network.specs.declared.network.Instance.{Instance}
 use Rattle.fb_network.specs.LinkOrder.{link_cmp_total}
 use Rattle.fb_network.specs.Plain.{PlainNetwork}
 use Rattle.fb_network.specs.PlainFlat.{PlainFlat}

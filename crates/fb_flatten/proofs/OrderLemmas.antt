@@ -1,5 +1,5 @@
 -- A sound order of what a unit rests on is one in which flat networks are composed.
-use Rattle.std.proofs.Common.{ℕ, ◌≡◌, ◌<◌, List, [], ◌∷◌, Option, Some, None, refl, sym, ◌∙◌, ap, subst, take, get_or, length}
+use Rattle.std.proofs.Common.{ℕ, ◌≡◌, List, [], ◌∷◌, Option, Some, None, refl, sym, ◌∙◌, ap, subst, take, get_or}
 use Rattle.std.specs.Prelude.{Contains, ◌≢◌, option_map}
 use Rattle.std.specs.Option.{option_and_then}
 use Rattle.std.specs.FinMap.{get}
@@ -12,16 +12,14 @@ use Rattle.fb_iface.specs.declared.code.Code.TheVariants.{Syntax}
 use Rattle.fb_iface.specs.declared.fault.Fault.{Fault}
 use Rattle.fb_faults.specs.Faults.{faults_of, syntax_faults_of, text_faults, body_faults}
 use Rattle.fb_network.specs.declared.network.Instance.{Instance}
-use Rattle.fb_network.specs.declared.network.InstanceKind.TheVariants.{Subapplication}
-use Rattle.fb_network.specs.Plain.{PlainNetwork}
 use Rattle.fb_network.specs.Network.{View}
-use Rattle.fb_network.specs.Clean.{IsClean, IsDeclared}
-use Rattle.fb_compose.specs.Ordered.{IsNext, IsOrdered, AreClean}
+use Rattle.fb_network.specs.Clean.{IsDeclared}
+use Rattle.fb_compose.specs.Ordered.{IsOrdered, AreClean}
 use Rattle.fb_wiring.specs.ByName.{declared}
 use Rattle.fb_wiring.specs.Networks.{network_of}
 use Rattle.fb_wiring.proofs.NothingLemmas.{nothing_reported}
 use Rattle.fb_wiring.proofs.UnitLemmas.{networks_clean}
-use Rattle.fb_flatten.specs.Locality.{Within, IsClosed, SameNetworks}
+use Rattle.fb_flatten.specs.Locality.{IsClosed, SameNetworks}
 use Rattle.fb_flatten.specs.Tables.{IsTable, IsSoundOrder}
 use Rattle.fb_flatten.proofs.CleanLemmas.{clean_there}
 use Rattle.fb_flatten.proofs.MentionLemmas.{declared_within}

@@ -1,35 +1,30 @@
 -- What is found over the table of a sound order is that of the texts.
-use Rattle.std.proofs.Common.{ℕ, ◌≡◌, ◌<◌, ◌≤◌, ◌+◌, Bool, true, false, List, [], ◌∷◌, ◌++◌, Option, Some, None, Result, Ok, Err, ◌⊎◌, inl, inr, refl, sym, ◌∙◌, ap, subst, arith, length, min, is_some, take, get_or, add-one}
-use Rattle.std.specs.Prelude.{Contains, IfOk, ◌≢◌, ◌↔◌, map, option_map}
-use Rattle.std.specs.FinMap.{get}
+use Rattle.std.proofs.Common.{ℕ, ◌≡◌, ◌<◌, ◌≤◌, ◌+◌, true, false, List, [], ◌∷◌, ◌++◌, Option, Some, None, Result, Ok, Err, inl, inr, refl, sym, ◌∙◌, ap, subst, arith, length, is_some, take, get_or, add-one}
+use Rattle.std.specs.Prelude.{Contains, IfOk, option_map}
 use Rattle.std.proofs.Math.Seq.{take-suc}
 use Rattle.std.specs.List.Sorted.{IsStrictlySortedBy}
 use Rattle.fb_text.specs.Order.{name_cmp}
 use Rattle.fb_tree.specs.Mentions.{kind_of}
-use Rattle.fb_tree.specs.Tree.{ApplicationTree, DeclTree, block_type, adapter_type, subapplication_type, system_configuration}
+use Rattle.fb_tree.specs.Tree.{DeclTree, block_type, adapter_type, subapplication_type, system_configuration}
 use Rattle.fb_tree.specs.declared.kinds.UnitKind.{UnitKind}
 use Rattle.fb_tree.specs.declared.kinds.UnitKind.TheVariants as kinds
 use Rattle.fb_library.specs.View.{Sources, tree_at}
 use Rattle.fb_library.specs.Rests.{Rests, itself}
-use Rattle.fb_faults.specs.Faults.{faults_of}
-use Rattle.fb_order.specs.Reaches.{IsRecursive}
 use Rattle.fb_order.proofs.OrderLemmas.{ordered_not_recursive}
 use Rattle.fb_network.specs.declared.count.TheConstants.{INSTANCE_LIMIT}
 use Rattle.fb_network.specs.declared.network.Instance.{Instance}
 use Rattle.fb_network.specs.declared.network.Port.{Port}
-use Rattle.fb_network.specs.declared.network.InstanceKind.TheVariants.{Subapplication}
 use Rattle.fb_network.specs.Plain.{PlainNetwork}
 use Rattle.fb_network.specs.PlainFlat.{PlainFlat}
 use Rattle.fb_network.specs.Network.{View, IsInner}
-use Rattle.fb_network.specs.Instances.{Held, AreInstances}
+use Rattle.fb_network.specs.Instances.{AreInstances}
 use Rattle.fb_network.specs.Count.{IsCount}
-use Rattle.fb_network.specs.Clean.{IsClean, IsCleanThroughout, CleanThroughout}
+use Rattle.fb_network.specs.Clean.{IsCleanThroughout, CleanThroughout}
 use Rattle.fb_network.specs.FlatNet.{IsFlat}
 use Rattle.fb_compose.proofs.Composing.{found_by_name}
 use Rattle.fb_compose.specs.Counts.{AreCounted}
-use Rattle.fb_compose.specs.Ready.{Nets, AreFinished}
+use Rattle.fb_compose.specs.Ready.{Nets}
 use Rattle.fb_compose.specs.Ordered.{AreFlat}
-use Rattle.fb_compose.specs.SystemFlat.{IsSystemFlat}
 use Rattle.fb_compose.specs.declared.application.FlatApplication.{FlatApplication}
 use Rattle.fb_iface.proofs.Members.{contains_nothing, contains_here, contains_later, origin_in_map, contains_flat_map}
 use Rattle.fb_wiring.specs.Applications.{applications_of, plain_application}
@@ -37,11 +32,11 @@ use Rattle.fb_wiring.specs.Networks.{network_of}
 use Rattle.fb_wiring.specs.ByName.{applications_at, declared, kind_at}
 use Rattle.fb_wiring.specs.declared.systems.Application.{Application}
 use Rattle.fb_wiring.proofs.UnitLemmas.{applications_clean}
-use Rattle.fb_flatten.specs.Blocking.{AreThose, IsBlocking}
-use Rattle.fb_flatten.specs.Locality.{Within, IsClosed, SameNetworks, SameFlats}
-use Rattle.fb_flatten.specs.Net.{IsSound, IsWhole}
+use Rattle.fb_flatten.specs.Blocking.{IsBlocking}
+use Rattle.fb_flatten.specs.Locality.{Within, IsClosed, SameNetworks}
+use Rattle.fb_flatten.specs.Net.{IsSound}
 use Rattle.fb_flatten.specs.Tables.{AllCounted, IsComposable, IsFitting, IsFlatTogether, IsFlatUnder, IsSoundOrder, IsTable, IsUnitCount, is_system_tree}
-use Rattle.fb_flatten.specs.Units.{AreFlatApplications, NoApplication, ThenApplication, HasNet, Holds, IsFlatApplication, IsTooLarge, IsWithinLimit, IsUnitFlat, OfSubapplication, OfSystem, instances_in, own_instances}
+use Rattle.fb_flatten.specs.Units.{AreFlatApplications, NoApplication, ThenApplication, HasNet, IsFlatApplication, IsTooLarge, IsWithinLimit, IsUnitFlat, OfSubapplication, OfSystem, instances_in, own_instances}
 use Rattle.fb_flatten.proofs.CleanLemmas.{clean_there}
 use Rattle.fb_flatten.proofs.LocalLemmas.{closed_there, same_back, same_flats, instances_there}
 use Rattle.fb_flatten.proofs.MentionLemmas.{own_within}

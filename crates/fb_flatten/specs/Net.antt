@@ -1,5 +1,5 @@
 -- The net of a unit: its flat network, or why it has none.
-use Rattle.std.specs.Prelude.{ℕ, ◌≡◌, ◌≢◌, List, []}
+use Rattle.std.specs.Prelude.{ℕ, ◌≢◌, List, []}
 use Rattle.fb_library.specs.View.{Sources}
 use Rattle.fb_order.specs.Reaches.{IsRecursive}
 use Rattle.fb_network.specs.PlainFlat.{PlainFlat}

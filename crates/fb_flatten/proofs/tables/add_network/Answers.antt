@@ -1,5 +1,5 @@
 -- Where the unit has a tree, its network is added; where it has none, none is.
-use Rattle.std.proofs.Common.{◌≡◌, Option, Some, None, sym, ap, ◌∙◌}
+use Rattle.std.proofs.Common.{◌≡◌, Some, None, sym, ap, ◌∙◌}
 use Rattle.std.specs.Prelude.{option_map}
 use Rattle.fb_network.specs.Plain.{PlainNetwork}
 use Rattle.fb_wiring.specs.ByName.{declared}

@@ -1,5 +1,5 @@
 -- The unit is there, its inner types are counted, and then it is.
-use Rattle.std.proofs.Common.{◌≡◌, Some, sym, ◌∙◌}
+use Rattle.std.proofs.Common.{◌≡◌, Some, ◌∙◌}
 use Rattle.std.specs.BTreeMap.{get}
 use Rattle.fb_text.specs.Order.{name_cmp}
 use Rattle.fb_tree.specs.Tree.{decl_tree}
