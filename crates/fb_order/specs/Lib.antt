@@ -1,0 +1,5 @@
+-- What the contracts of this crate cite.
+pub mod Reaches
+pub mod Order
+pub mod Steps
+pub mod Local
