@@ -1,0 +1,17 @@
+-- Lemmas of the proofs.
+pub mod Members
+pub mod Equals
+pub mod Chains
+pub mod LinkLemmas
+pub mod AdapterLemmas
+pub mod Composing
+pub mod BlockLemmas
+pub mod InOrder
+pub mod Counting
+pub mod SameSorted
+pub mod OneFlat
+pub mod Tables
+pub mod FlatLemmas
+pub mod EmptyMaps
+pub mod SystemLemmas
+pub mod NothingLemmas

@@ -1,0 +1,7 @@
+-- What the contracts of this crate cite.
+pub mod Composition
+pub mod Composed
+pub mod Ready
+pub mod Ordered
+pub mod Counts
+pub mod SystemFlat
