@@ -1,0 +1,9 @@
+pub mod Finding
+pub mod FirstOnes
+pub mod InnerInstances
+pub mod LocalLemmas
+pub mod NameLemmas
+pub mod NetworkLemmas
+pub mod NothingLemmas
+pub mod PortLemmas
+pub mod UnitLemmas

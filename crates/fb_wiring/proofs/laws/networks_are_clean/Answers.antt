@@ -1,0 +1,5 @@
+use Rattle.fb_wiring.proofs.UnitLemmas.{networks_clean}
+use Rattle.fb_wiring.proofs.laws.networks_are_clean.Goals as goal
+
+pub returns : goal.returns
+returns c = networks_clean

@@ -1,0 +1,5 @@
+use Rattle.fb_wiring.proofs.LocalLemmas.{networks_local}
+use Rattle.fb_wiring.proofs.laws.networks_are_local.Goals as goal
+
+pub returns : goal.returns
+returns c = networks_local

@@ -1,0 +1,19 @@
+-- Networks, applications and kinds by name.
+use Rattle.std.specs.Prelude.{ℕ, List, Option, option_map}
+use Rattle.fb_tree.specs.Mentions.{kind_of}
+use Rattle.fb_tree.specs.declared.kinds.UnitKind.{UnitKind}
+use Rattle.fb_library.specs.View.{Sources, tree_at}
+use Rattle.fb_network.specs.Plain.{PlainNetwork}
+use Rattle.fb_wiring.specs.Applications.{applications_of}
+use Rattle.fb_wiring.specs.Networks.{network_of}
+use Rattle.fb_wiring.specs.declared.systems.Application.{Application}
+
+-- the network of a unit that is present and not broken
+abbrev pub declared : Sources → List ℕ → Option PlainNetwork
+declared sources unit = option_map network_of (tree_at sources unit)
+
+abbrev pub applications_at : Sources → List ℕ → Option (List Application)
+applications_at sources unit = option_map applications_of (tree_at sources unit)
+
+abbrev pub kind_at : Sources → List ℕ → Option UnitKind
+kind_at sources unit = option_map kind_of (tree_at sources unit)

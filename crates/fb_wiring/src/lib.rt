@@ -1,0 +1,17 @@
+//! What the trees of units say as networks in plain, and that units without faults are clean.
+#![tactic(auto)]
+
+mod laws;
+mod networks;
+mod ports;
+mod systems;
+
+pub use laws::{
+    applications_are_clean, networks_are_clean, networks_are_local,
+    without_faults_nothing_is_reported,
+};
+pub use networks::network;
+pub use systems::{Application, applications};
+
+#[cfg(test)]
+mod tests;
