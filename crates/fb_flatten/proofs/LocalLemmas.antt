@@ -1,0 +1,193 @@
+-- The flat network of a network is found by the networks alone that it rests on.
+use Rattle.std.proofs.Common.{ℕ, ◌≡◌, Bool, true, false, cond, List, [], ◌∷◌, Option, Some, None, ◌⊎◌, inl, inr, refl, sym, ◌∙◌, ap, subst, arith}
+use Rattle.std.specs.Prelude.{Contains, find, ◌&&◌, option_and_then}
+use Rattle.std.proofs.lemmas.List.Elements.{Contains-append_right}
+use Rattle.std.specs.BTreeMap.{is_at}
+use Rattle.fb_text.specs.Order.{name_cmp}
+use Rattle.fb_tree.specs.declared.network.Sort.{Sort}
+use Rattle.fb_tree.specs.declared.network.Sort.TheVariants.{Adapter}
+use Rattle.fb_network.specs.Sorts.{same_sort}
+use Rattle.fb_network.specs.declared.network.Port.{Port}
+use Rattle.fb_network.specs.declared.network.Instance.{Instance}
+use Rattle.fb_network.specs.Plain.{PlainNetwork}
+use Rattle.fb_network.specs.PlainFlat.{PlainFlat}
+use Rattle.fb_network.specs.declared.flat.Link.{Link}
+use Rattle.fb_network.specs.declared.flat.Border.{Border}
+use Rattle.fb_network.specs.Network.{View, Place, instance_named, IsInner, Step, Holds, Within as Inside, IsBorderPlace, OwnPort, PortWithin, IsLeafPlace, BlockPort, LeafWithin, Chain, One, More, IsLink, IsBorder}
+use Rattle.fb_network.specs.Clean.{port_named, type_of, adapter_name_at, adapter_at}
+use Rattle.fb_network.specs.NetLink.{IsNetLink, Direct, FromPlug, ToPlug}
+use Rattle.fb_network.specs.Flat.{PrintsLink, PrintsBorder, AreLinks, AreBorders}
+use Rattle.fb_network.specs.Instances.{Held, AreInstances, NoInstance, ThenBlock, ThenSubapplication}
+use Rattle.fb_network.specs.Count.{IsCount}
+use Rattle.fb_network.specs.FlatNet.{IsFlat}
+use Rattle.fb_flatten.specs.Locality.{Within, IsClosed, SameNetworks, SameFlats}
+
+here : {X : Type 0} (x : X) (xs : List X) → Contains (x ∷ xs) x
+here x xs = (0, omega arith, refl)
+
+later : {X : Type 0} (x : X) (xs : List X) (y : X) → Contains xs y → Contains (x ∷ xs) y
+later x xs y c = Contains-append_right (x ∷ []) xs y c
+
+-- what a search finds stands in the list
+pub found : {X : Type 0} (p : X → Bool) (xs : List X) (x : X) → find p xs ≡ Some x → Contains xs x
+found p [] x e = absurd (cc)
+found {X = X} p (z ∷ xs) x e = by_test (p z) e (found p xs x)
+  where
+    by_test : (b : Bool) → cond b (Some z) (find p xs) ≡ Some x → (find p xs ≡ Some x → Contains xs x) → Contains (z ∷ xs) x
+    by_test true d more = let same : z ≡ x = cc in subst (λ (w : X). Contains (z ∷ xs) w) same (here z xs)
+    by_test false d more = later z xs x (more d)
+
+-- the steps of a look-up that gives something
+record Reached {X Y : Type 0} (f : X → Option Y) (o : Option X) (y : Y) : Type 0 where
+  pub middle : X
+  pub first : o ≡ Some middle
+  pub gives : f middle ≡ Some y
+
+reached : {X Y : Type 0} (f : X → Option Y) (o : Option X) (y : Y) → option_and_then f o ≡ Some y → Reached f o y
+reached f None y e = absurd (cc)
+reached f (Some x) y e = record { middle = x; first = refl; gives = e }
+
+-- the inner network is the same, and within the names
+inner_known : {a : View} {known : List ℕ → Type 0} {network inner : PlainNetwork} {name : List ℕ} → IsClosed a known → Within known network → IsInner a network name inner → Within known inner
+inner_known {network = network} {inner = inner} {name = name} closed within i =
+    closed i.instance.type_name inner (within.types i.instance (found (λ (j : Instance). is_at (name_cmp j.name) name) network.instances i.instance i.first)) i.declared
+
+inner_there : {a b : View} {known : List ℕ → Type 0} {network inner : PlainNetwork} {name : List ℕ} → SameNetworks known a b → Within known network → IsInner a network name inner → IsInner b network name inner
+inner_there {network = network} {name = name} same within i =
+    record {
+      instance = i.instance;
+      first = i.first;
+      kind = i.kind;
+      declared = sym (same i.instance.type_name (within.types i.instance (found (λ (j : Instance). is_at (name_cmp j.name) name) network.instances i.instance i.first))) ∙ i.declared;
+    }
+
+step_there : {a b : View} {known : List ℕ → Type 0} {sort : Sort} {network : PlainNetwork} {x y : Place} → IsClosed a known → SameNetworks known a b → Within known network → Step a sort network x y → Step b sort network x y
+step_there closed same within (Holds s d c e f) = Holds s d c e f
+step_there closed same within (Inside inner name x' y' i e f s) =
+    Inside inner name x' y' (inner_there same within i) e f (step_there closed same (inner_known closed within i) s)
+
+border_place_there : {a b : View} {known : List ℕ → Type 0} {network : PlainNetwork} {x : Place} → IsClosed a known → SameNetworks known a b → Within known network → IsBorderPlace a network x → IsBorderPlace b network x
+border_place_there closed same within (OwnPort port e) = OwnPort port e
+border_place_there closed same within (PortWithin inner name x' i e p) =
+    PortWithin inner name x' (inner_there same within i) e (border_place_there closed same (inner_known closed within i) p)
+
+leaf_there : {a b : View} {known : List ℕ → Type 0} {network : PlainNetwork} {x : Place} → IsClosed a known → SameNetworks known a b → Within known network → IsLeafPlace a network x → IsLeafPlace b network x
+leaf_there closed same within (BlockPort name type port k e) = BlockPort name type port k e
+leaf_there closed same within (LeafWithin inner name x' i e p) =
+    LeafWithin inner name x' (inner_there same within i) e (leaf_there closed same (inner_known closed within i) p)
+
+chain_there : {a b : View} {known : List ℕ → Type 0} {sort : Sort} {network : PlainNetwork} {x y : Place} → IsClosed a known → SameNetworks known a b → Within known network → Chain a sort network x y → Chain b sort network x y
+chain_there closed same within (One s) = One (step_there closed same within s)
+chain_there closed same within (More m s p rest) =
+    More m (step_there closed same within s) (border_place_there closed same within p) (chain_there closed same within rest)
+
+link_there : {a b : View} {known : List ℕ → Type 0} {sort : Sort} {network : PlainNetwork} {x y : Place} → IsClosed a known → SameNetworks known a b → Within known network → IsLink a network sort x y → IsLink b network sort x y
+link_there closed same within l =
+    record {
+      from_leaf = leaf_there closed same within l.from_leaf;
+      to_leaf = leaf_there closed same within l.to_leaf;
+      chain = chain_there closed same within l.chain;
+    }
+
+border_there : {a b : View} {known : List ℕ → Type 0} {network : PlainNetwork} {sort : Sort} {port : List ℕ} {x : Place} → IsClosed a known → SameNetworks known a b → Within known network → IsBorder a network sort port x → IsBorder b network sort port x
+border_there {a = a} {b = b} {network = network} {sort = sort} {port = port} {x = x} closed same within l =
+    record { leaf = leaf_there closed same within l.leaf; chain = by_case l.chain }
+  where
+    by_case : Chain a sort network (port ∷ []) x ⊎ Chain a sort network x (port ∷ []) → Chain b sort network (port ∷ []) x ⊎ Chain b sort network x (port ∷ [])
+    by_case (inl c) = inl (chain_there closed same within c)
+    by_case (inr c) = inr (chain_there closed same within c)
+
+-- the adapter type of a place is among the names, and the same
+record AdapterName (b : View) (known : List ℕ → Type 0) (network : PlainNetwork) (x : Place) (name : List ℕ) : Type 0 where
+  pub is_known : known name
+  pub there : adapter_name_at b network x ≡ Some name
+
+adapter_name_there : {a b : View} {known : List ℕ → Type 0} (network : PlainNetwork) (x : Place) (name : List ℕ) → IsClosed a known → SameNetworks known a b → Within known network → adapter_name_at a network x ≡ Some name → AdapterName b known network x name
+adapter_name_there network [] name closed same within e = absurd (cc)
+adapter_name_there network (port ∷ []) name closed same within e =
+    let r = reached (λ (p : Port). p.adapter) (port_named network.ports Adapter port) name e in
+    record {
+      is_known = within.adapters r.middle name (found (λ (p : Port). same_sort p.sort Adapter && is_at (name_cmp p.name) port) network.ports r.middle r.first) r.gives;
+      there = e;
+    }
+adapter_name_there {a = a} {b = b} network (at ∷ (y ∷ x)) name closed same within e =
+    let r = reached (λ (type : PlainNetwork). adapter_name_at a type (y ∷ x)) (type_of a network at) name e in
+    let q = reached (λ (i : Instance). a i.type_name) (instance_named network.instances at) r.middle r.first in
+    let is_type = within.types q.middle (found (λ (j : Instance). is_at (name_cmp j.name) at) network.instances q.middle q.first) in
+    let inner = adapter_name_there r.middle (y ∷ x) name closed same (closed q.middle.type_name r.middle is_type q.gives) r.gives in
+    let type_there : type_of b network at ≡ Some r.middle = ap (option_and_then (λ (i : Instance). b i.type_name)) q.first ∙ sym (same q.middle.type_name is_type) ∙ q.gives in
+    record {
+      is_known = inner.is_known;
+      there = ap (option_and_then (λ (type : PlainNetwork). adapter_name_at b type (y ∷ x))) type_there ∙ inner.there;
+    }
+
+adapter_there : {a b : View} {known : List ℕ → Type 0} (network adapter : PlainNetwork) (x : Place) → IsClosed a known → SameNetworks known a b → Within known network → adapter_at a network x ≡ Some adapter → adapter_at b network x ≡ Some adapter
+adapter_there {a = a} {b = b} network adapter x closed same within e =
+    let r = reached a (adapter_name_at a network x) adapter e in
+    let n = adapter_name_there network x r.middle closed same within r.first in
+    ap (option_and_then b) n.there ∙ sym (same r.middle n.is_known) ∙ r.gives
+
+net_link_there : {a b : View} {known : List ℕ → Type 0} {sort : Sort} {network : PlainNetwork} {x y : Place} → IsClosed a known → SameNetworks known a b → Within known network → IsNetLink a network sort x y → IsNetLink b network sort x y
+net_link_there closed same within (Direct n link) = Direct n (link_there closed same within link)
+net_link_there {network = network} closed same within (FromPlug plug socket adapter port link at among k s f g) =
+    FromPlug plug socket adapter port (link_there closed same within link) (adapter_there network adapter plug closed same within at) among k s f g
+net_link_there {network = network} closed same within (ToPlug plug socket adapter port link at among k s f g) =
+    ToPlug plug socket adapter port (link_there closed same within link) (adapter_there network adapter plug closed same within at) among k s f g
+
+pub instances_there : {a b : View} {known : List ℕ → Type 0} {list : List Instance} {held : List Held} → IsClosed a known → SameNetworks known a b → ((i : Instance) → Contains list i → known i.type_name) → AreInstances a list held → AreInstances b list held
+instances_there closed same within NoInstance = NoInstance
+instances_there closed same within (ThenBlock i rest others k more) =
+    ThenBlock i rest others k (instances_there closed same (λ j c. within j (later i rest j c)) more)
+instances_there closed same within (ThenSubapplication i rest inner own others k d inside more) =
+    let is_type = within i (here i rest) in
+    ThenSubapplication i rest inner own others k (sym (same i.type_name is_type) ∙ d)
+    (instances_there closed same (closed i.type_name inner is_type d).types inside)
+    (instances_there closed same (λ j c. within j (later i rest j c)) more)
+
+links_there : {a b : View} {known : List ℕ → Type 0} {network : PlainNetwork} {links : List Link} → IsClosed a known → SameNetworks known a b → IsClosed b known → SameNetworks known b a → Within known network → AreLinks a network links → AreLinks b network links
+links_there {b = b} {network = network} {links = links} closed same closed' same' within are =
+    record { sound = sound; complete = λ sort x y l. are.complete sort x y (net_link_there closed' same' within l) }
+  where
+    sound : (l : Link) → Contains links l → PrintsLink b network l
+    sound l c =
+        let p = are.sound l c in
+        record { from_place = p.from_place; to_place = p.to_place; from_is = p.from_is; to_is = p.to_is; link = net_link_there closed same within p.link }
+
+borders_there : {a b : View} {known : List ℕ → Type 0} {network : PlainNetwork} {borders : List Border} → IsClosed a known → SameNetworks known a b → IsClosed b known → SameNetworks known b a → Within known network → AreBorders a network borders → AreBorders b network borders
+borders_there {b = b} {network = network} {borders = borders} closed same closed' same' within are =
+    record { sound = sound; complete = λ sort port x l. are.complete sort port x (border_there closed' same' within l) }
+  where
+    sound : (l : Border) → Contains borders l → PrintsBorder b network l
+    sound l c = let p = are.sound l c in record { at = p.at; place_is = p.place_is; border = border_there closed same within p.border }
+
+flat_there : {a b : View} {known : List ℕ → Type 0} {network : PlainNetwork} {flat : PlainFlat} → IsClosed a known → SameNetworks known a b → IsClosed b known → SameNetworks known b a → Within known network → IsFlat a network flat → IsFlat b network flat
+flat_there closed same closed' same' within f =
+    record {
+      blocks = record { held = f.blocks.held; instances = instances_there closed same within.types f.blocks.instances; blocks_are = f.blocks.blocks_are };
+      links = links_there closed same closed' same' within f.links;
+      borders = borders_there closed same closed' same' within f.borders;
+      links_sorted = f.links_sorted;
+      borders_sorted = f.borders_sorted;
+    }
+
+count_there : {a b : View} {known : List ℕ → Type 0} {network : PlainNetwork} {count : ℕ} → IsClosed a known → SameNetworks known a b → Within known network → IsCount a network.instances count → IsCount b network.instances count
+count_there closed same within c =
+    record { held = c.held; instances = instances_there closed same within.types c.instances; count_is = c.count_is }
+
+-- the other view is closed as well
+pub closed_there : {a b : View} {known : List ℕ → Type 0} → IsClosed a known → SameNetworks known a b → IsClosed b known
+closed_there closed same name network k d = closed name network k (same name k ∙ d)
+
+pub same_back : {a b : View} {known : List ℕ → Type 0} → SameNetworks known a b → SameNetworks known b a
+same_back same name k = sym (same name k)
+
+-- both views have the same flat networks of what is within the names
+pub same_flats : {a b : View} {known : List ℕ → Type 0} {network : PlainNetwork} → IsClosed a known → SameNetworks known a b → Within known network → SameFlats a b network
+same_flats {a = a} {b = b} {known = known} {network = network} closed same within =
+    let closed' = closed_there closed same in
+    let same' = same_back same in
+    record {
+      flats = λ flat. (flat_there closed same closed' same' within, flat_there closed' same' closed same within);
+      instances = λ held. (instances_there closed same within.types, instances_there closed' same' within.types);
+      counts = λ count. (count_there closed same within, count_there closed' same' within);
+    }

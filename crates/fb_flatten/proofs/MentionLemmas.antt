@@ -1,0 +1,204 @@
+-- What a unit says as a network is within its mentions.
+use Rattle.std.proofs.Common.{ℕ, ◌≡◌, ◌+◌, Bool, true, false, List, [], ◌∷◌, ◌++◌, Option, Some, None, ◌⊎◌, inl, inr, refl, sym, ◌∙◌, ap, subst}
+use Rattle.std.specs.Prelude.{Contains, map, filter, flat_map, option_map, is_none, take}
+use Rattle.std.specs.List.{filter_map, cons_option, enumerate_from}
+use Rattle.std.specs.Cmp.Lexicographic.{nat_list_cmp_total}
+use Rattle.std.specs.FinMap.{slice_cmp-IsAntisymmetric, nat_cmp-IsAntisymmetric}
+use Rattle.std.proofs.lemmas.List.Elements.{Contains-append_cases}
+use Rattle.fb_text.specs.Order.{name_cmp, names_in_order}
+use Rattle.fb_text.proofs.OrderLemmas.{in_order-members}
+use Rattle.fb_text.specs.declared.name.NameUse.{NameUse}
+use Rattle.fb_tree.specs.Tree.{ApplicationTree, DeclTree, InstanceTree, NetworkTree, TypeTree, block_type, adapter_type, subapplication_type, system_configuration}
+use Rattle.fb_tree.specs.Mentions.{mentioned_in, mentions_of, types_in}
+use Rattle.fb_tree.specs.declared.interface.Side.{Side}
+use Rattle.fb_tree.specs.declared.interface.Side.TheVariants.{Input, Output}
+use Rattle.fb_tree.specs.declared.interface.TypeUse.{TypeUse}
+use Rattle.fb_tree.specs.declared.network.Role.{Role}
+use Rattle.fb_tree.specs.declared.network.Role.TheVariants as roles
+use Rattle.fb_library.specs.View.{Sources, tree_at, mentions_at, mentions_in}
+use Rattle.fb_iface.specs.Names.{first_ones, stands_for}
+use Rattle.fb_iface.specs.Ports.{Meanings, meanings_in_type, events_on, data_on, instances_as, instances_in as declared_instances, same_role}
+use Rattle.fb_iface.specs.declared.ports.DeclaredInstance.{DeclaredInstance}
+use Rattle.fb_iface.proofs.Members.{contains_nothing, contains_here, contains_later, contains_cases, contains_map, origin_in_map, contains_flat_map, origin_in_flat_map, passes_in_filter}
+use Rattle.fb_network.specs.declared.network.Instance.{Instance}
+use Rattle.fb_network.specs.declared.network.Port.{Port}
+use Rattle.fb_network.specs.Plain.{PlainNetwork}
+use Rattle.fb_wiring.specs.Applications.{applications_of, plain_application}
+use Rattle.fb_wiring.specs.ByName.{applications_at, declared}
+use Rattle.fb_wiring.specs.Networks.{instance_in_role, plain_instance, plain_network, network_of, leaf}
+use Rattle.fb_wiring.specs.Ports.{plain_ports, plain_event, plain_data, plain_adapter}
+use Rattle.fb_wiring.specs.declared.systems.Application.{Application}
+use Rattle.fb_flatten.specs.Locality.{Within}
+use Rattle.fb_flatten.specs.Units.{own_instances, instances_in}
+
+-- an element of which the member is given
+record IsGiven {X Y : Type 0} (f : X → Option Y) (xs : List X) (y : Y) : Type 0 where
+  pub origin : X
+  pub among : Contains xs origin
+  pub gives : f origin ≡ Some y
+
+given_later : {X Y : Type 0} (f : X → Option Y) (x : X) (xs : List X) (y : Y) → IsGiven f xs y → IsGiven f (x ∷ xs) y
+given_later f x xs y g = record { origin = g.origin; among = contains_later x xs g.origin g.among; gives = g.gives }
+
+origin_in_filter_map : {X Y : Type 0} (f : X → Option Y) (xs : List X) (y : Y) → Contains (filter_map f xs) y → IsGiven f xs y
+origin_in_filter_map f [] y c = absurd (contains_nothing y c)
+origin_in_filter_map {X = X} {Y = Y} f (x ∷ xs) y c = by_given (f x) refl c (origin_in_filter_map f xs y)
+  where
+    by_given : (o : Option Y) → f x ≡ o → Contains (cons_option o (filter_map f xs)) y → (Contains (filter_map f xs) y → IsGiven f xs y) → IsGiven f (x ∷ xs) y
+    by_given None e c more = given_later f x xs y (more c)
+    by_given (Some z) e c more = by_case (contains_cases z (filter_map f xs) y c)
+      where
+        by_case : (z ≡ y) ⊎ Contains (filter_map f xs) y → IsGiven f (x ∷ xs) y
+        by_case (inl s) = record { origin = x; among = contains_here x xs; gives = e ∙ ap (λ (w : Y). Some w) s }
+        by_case (inr d) = given_later f x xs y (more d)
+
+in_enumerated : {X : Type 0} (n : ℕ) (xs : List X) (p : ℕ × X) → Contains (enumerate_from n xs) p → Contains xs p.1
+in_enumerated n [] p c = absurd (contains_nothing p c)
+in_enumerated {X = X} n (x ∷ xs) p c = by_case (contains_cases (n, x) (enumerate_from (n + 1) xs) p c) (in_enumerated (n + 1) xs p)
+  where
+    by_case : ((n, x) ≡ p) ⊎ Contains (enumerate_from (n + 1) xs) p → (Contains (enumerate_from (n + 1) xs) p → Contains xs p.1) → Contains (x ∷ xs) p.1
+    by_case (inl e) more = subst (λ (q : ℕ × X). Contains (x ∷ xs) q.1) e (contains_here x xs)
+    by_case (inr d) more = contains_later x xs p.1 (more d)
+
+-- first declarations are declarations
+in_first_ones : {D : Type 0} (declarations : List (List ℕ × D)) (y : List ℕ × D) → Contains (first_ones declarations) y → Contains declarations y
+in_first_ones {D = D} declarations y c =
+    let test = λ (placed : ℕ × (List ℕ × D)). is_none (stands_for (take placed.0 declarations) placed.1.0) in
+    let o = origin_in_map (λ (placed : ℕ × (List ℕ × D)). placed.1) (filter test (enumerate_from 0 declarations)) y c in
+    let p = passes_in_filter test (enumerate_from 0 declarations) o.origin o.among in
+    subst (λ (z : List ℕ × D). Contains declarations z) o.gives (in_enumerated 0 declarations o.origin p.among)
+
+type_kept : (role : Role) (name type_name : List ℕ) (i : Instance) → instance_in_role role name type_name ≡ Some i → type_name ≡ i.type_name
+type_kept roles.Plug name type_name i e = absurd (let no : ⊥ = cc in no)
+type_kept roles.Socket name type_name i e = absurd (let no : ⊥ = cc in no)
+type_kept roles.Block name type_name i e = let same = ap (λ (o : Option Instance). elim o [ None ↦ type_name | Some j ↦ j.type_name ]) e in same
+type_kept roles.Subapplication name type_name i e = let same = ap (λ (o : Option Instance). elim o [ None ↦ type_name | Some j ↦ j.type_name ]) e in same
+
+-- an instance of a network has the type of one of the text
+instance_mentioned : (instances : List InstanceTree) (i : Instance) → Contains (filter_map plain_instance instances) i → Contains (types_in instances) i.type_name
+instance_mentioned instances i c =
+    let g = origin_in_filter_map plain_instance instances i c in
+    let it = g.origin in
+    subst (λ (n : List ℕ). Contains (types_in instances) n) (type_kept it.role it.name.name it.type_name.name i g.gives) (contains_map (λ (j : InstanceTree). j.type_name.name) instances it g.among)
+
+adapter_mentioned : (side : Side) (role : Role) (d : TypeTree) (port : Port) (name : List ℕ) → Contains (map (plain_adapter side) (instances_as role (meanings_in_type d))) port → port.adapter ≡ Some name → Contains (types_in d.network.instances) name
+adapter_mentioned side role d port name c e =
+    let m = meanings_in_type d in
+    let one = λ (i : List ℕ × DeclaredInstance). same_role i.1.role role in
+    let a = origin_in_map (plain_adapter side) (instances_as role m) port c in
+    let b = origin_in_map (λ (i : List ℕ × DeclaredInstance). (i.0, i.1.type_name)) (filter one m.instances) a.origin a.among in
+    let p = passes_in_filter one m.instances b.origin b.among in
+    let it = in_first_ones (declared_instances d.network) b.origin p.among in
+    let t = origin_in_map (λ (i : InstanceTree). (i.name.name, let it : DeclaredInstance = record { role = i.role; type_name = i.type_name } in it)) d.network.instances b.origin it in
+    let first : b.origin.1.type_name ≡ a.origin.1 = ap (λ (x : List ℕ × NameUse). x.1) b.gives in
+    let second : t.origin.type_name ≡ b.origin.1.type_name = ap (λ (x : List ℕ × DeclaredInstance). x.1.type_name) t.gives in
+    let third : Some a.origin.1.name ≡ port.adapter = ap (λ (x : Port). x.adapter) a.gives in
+    let both : Some a.origin.1.name ≡ Some name = third ∙ e in
+    let same : a.origin.1.name ≡ name = cc in
+    subst (λ (n : List ℕ). Contains (types_in d.network.instances) n) (ap (λ (u : NameUse). u.name) (second ∙ first) ∙ same) (contains_map (λ (j : InstanceTree). j.type_name.name) d.network.instances t.origin t.among)
+
+-- a port with no adapter
+no_adapter : {X : Type 0} (f : X → Port) (xs : List X) (port : Port) (name : List ℕ) → ((x : X) → (f x).adapter ≡ None) → Contains (map f xs) port → port.adapter ≡ Some name → ⊥
+no_adapter f xs port name none c e =
+    let o = origin_in_map f xs port c in
+    let same : None ≡ Some name = sym (none o.origin) ∙ ap (λ (x : Port). x.adapter) o.gives ∙ e in
+    cc
+
+port_mentioned : (d : TypeTree) (port : Port) (name : List ℕ) → Contains (plain_ports (meanings_in_type d)) port → port.adapter ≡ Some name → Contains (types_in d.network.instances) name
+port_mentioned d port name c e =
+    let m = meanings_in_type d in
+    let a = map (plain_event Input) (events_on Input m) in
+    let b = map (plain_event Output) (events_on Output m) in
+    let v = map (plain_data Input) (data_on Input m) in
+    let w = map (plain_data Output) (data_on Output m) in
+    let plugs = map (plain_adapter Output) (instances_as roles.Plug m) in
+    let sockets = map (plain_adapter Input) (instances_as roles.Socket m) in
+    elim (Contains-append_cases ((((a ++ b) ++ v) ++ w) ++ plugs) sockets port c) [
+      | inr h ↦ adapter_mentioned Input roles.Socket d port name h e
+      | inl h ↦ elim (Contains-append_cases (((a ++ b) ++ v) ++ w) plugs port h) [
+        | inr h ↦ adapter_mentioned Output roles.Plug d port name h e
+        | inl h ↦ elim (Contains-append_cases ((a ++ b) ++ v) w port h) [
+          | inr h ↦ absurd (no_adapter (plain_data Output) (data_on Output m) port name (λ x. refl) h e)
+          | inl h ↦ elim (Contains-append_cases (a ++ b) v port h) [
+            | inr h ↦ absurd (no_adapter (plain_data Input) (data_on Input m) port name (λ x. refl) h e)
+            | inl h ↦ elim (Contains-append_cases a b port h) [
+              | inr h ↦ absurd (no_adapter (plain_event Output) (events_on Output m) port name (λ x. refl) h e)
+              | inl h ↦ absurd (no_adapter (plain_event Input) (events_on Input m) port name (λ x. refl) h e)
+            ]
+          ]
+        ]
+      ]
+    ]
+
+-- what is mentioned stands among the mentions
+listed : (decl : DeclTree) (name : List ℕ) → Contains (mentioned_in decl) name → Contains (mentions_of decl) name
+listed decl name c = (in_order-members name_cmp nat_list_cmp_total (slice_cmp-IsAntisymmetric nat_cmp-IsAntisymmetric) (mentioned_in decl) name).1 c
+
+-- a block type or an adapter type has ports alone
+leaf_within : (decl : DeclTree) (d : TypeTree) → mentioned_in decl ≡ types_in d.network.instances → Within (Contains (mentions_of decl)) (leaf d)
+leaf_within decl d same =
+    record {
+      types = λ i c. absurd (contains_nothing i c);
+      adapters = λ port name c e. listed decl name (subst (λ (l : List (List ℕ)). Contains l name) (sym same) (port_mentioned d port name c e));
+    }
+
+network_within : (decl : DeclTree) → Within (Contains (mentions_of decl)) (network_of decl)
+network_within (block_type d) = leaf_within (block_type d) d refl
+network_within (adapter_type d) = leaf_within (adapter_type d) d refl
+network_within (subapplication_type d) =
+    record {
+      types = λ i c. listed (subapplication_type d) i.type_name (instance_mentioned d.network.instances i c);
+      adapters = λ port name c e. listed (subapplication_type d) name (port_mentioned d port name c e);
+    }
+network_within (system_configuration s) = record { types = λ i c. absurd (contains_nothing i c); adapters = λ port name c e. absurd (contains_nothing port c) }
+
+-- the network of a declared unit is within its mentions
+pub declared_within : (sources : Sources) (name : List ℕ) (network : PlainNetwork) → declared sources name ≡ Some network → Within (Contains (mentions_at sources name)) network
+declared_within sources name network e = by_tree (tree_at sources name) refl e
+  where
+    by_tree : (o : Option DeclTree) → tree_at sources name ≡ o → option_map network_of o ≡ Some network → Within (Contains (mentions_at sources name)) network
+    by_tree None t e = absurd (let no : ⊥ = cc in no)
+    by_tree (Some decl) t e =
+        let same : network_of decl ≡ network = cc in
+        subst (λ (n : PlainNetwork). Within (Contains (mentions_at sources name)) n) same
+        (subst (λ (o : Option DeclTree). Within (Contains (mentions_in o)) (network_of decl)) (sym t) (network_within decl))
+
+own_mentioned : (decl : DeclTree) (i : Instance) → Contains (own_instances decl) i → Contains (mentions_of decl) i.type_name
+own_mentioned (block_type d) i c = absurd (contains_nothing i c)
+own_mentioned (adapter_type d) i c = absurd (contains_nothing i c)
+own_mentioned (subapplication_type d) i c = listed (subapplication_type d) i.type_name (instance_mentioned d.network.instances i c)
+own_mentioned (system_configuration s) i c =
+    let o = origin_in_flat_map (λ (a : Application). a.network.instances) (map plain_application s.applications) i c in
+    let a = origin_in_map plain_application s.applications o.origin o.among in
+    let has : Contains (plain_application a.origin).network.instances i = subst (λ (x : Application). Contains x.network.instances i) (sym a.gives) o.has in
+    listed (system_configuration s) i.type_name (contains_flat_map (λ (x : ApplicationTree). types_in x.network.instances) s.applications a.origin i.type_name a.among (instance_mentioned a.origin.network.instances i has))
+
+-- the types of a unit's own instances are among its mentions
+pub own_within : (sources : Sources) (unit : List ℕ) (decl : DeclTree) → tree_at sources unit ≡ Some decl → (i : Instance) → Contains (own_instances decl) i → Contains (mentions_at sources unit) i.type_name
+own_within sources unit decl t i c = subst (λ (o : Option DeclTree). Contains (mentions_in o) i.type_name) (sym t) (own_mentioned decl i c)
+
+plain_within : (decl : DeclTree) (a : Application) → Contains (applications_of decl) a → Within (Contains (mentions_of decl)) a.network
+plain_within (block_type d) a c = absurd (contains_nothing a c)
+plain_within (adapter_type d) a c = absurd (contains_nothing a c)
+plain_within (subapplication_type d) a c = absurd (contains_nothing a c)
+plain_within (system_configuration s) a c =
+    record {
+      types = λ i h. own_mentioned (system_configuration s) i (contains_flat_map (λ (x : Application). x.network.instances) (applications_of (system_configuration s)) a i c h);
+      adapters = adapters;
+    }
+  where
+    adapters : (port : Port) (name : List ℕ) → Contains a.network.ports port → port.adapter ≡ Some name → Contains (mentions_of (system_configuration s)) name
+    adapters port name h e =
+        let o = origin_in_map plain_application s.applications a c in
+        absurd (contains_nothing port (subst (λ (x : Application). Contains x.network.ports port) (sym o.gives) h))
+
+-- the networks of a system's applications are within its mentions
+pub applications_within : (sources : Sources) (unit : List ℕ) (applications : List Application) → applications_at sources unit ≡ Some applications → (a : Application) → Contains applications a → Within (Contains (mentions_at sources unit)) a.network
+applications_within sources unit applications e a c = by_tree (tree_at sources unit) refl e
+  where
+    by_tree : (o : Option DeclTree) → tree_at sources unit ≡ o → option_map applications_of o ≡ Some applications → Within (Contains (mentions_at sources unit)) a.network
+    by_tree None t e = absurd (let no : ⊥ = cc in no)
+    by_tree (Some decl) t e =
+        let same : applications_of decl ≡ applications = cc in
+        subst (λ (o : Option DeclTree). Within (Contains (mentions_in o)) a.network) (sym t)
+        (plain_within decl a (subst (λ (l : List Application). Contains l a) (sym same) c))

@@ -1,0 +1,140 @@
+-- The net of a unit depends on the texts alone that the unit rests on.
+use Rattle.std.proofs.Common.{ℕ, ◌≡◌, List, [], ◌∷◌, Option, Some, None, ◌⊎◌, inl, inr, refl, sym, ◌∙◌, ◌++◌, ap, subst}
+use Rattle.std.specs.Prelude.{Contains, ◌≢◌, ◌↔◌}
+use Rattle.std.specs.Option.{option_and_then}
+use Rattle.std.specs.FinMap.{get, slice_cmp-IsAntisymmetric, nat_cmp-IsAntisymmetric}
+use Rattle.std.specs.Cmp.Lexicographic.{nat_list_cmp_total}
+use Rattle.std.proofs.lemmas.List.Elements.{Contains-append_cases}
+use Rattle.fb_text.specs.Order.{name_cmp}
+use Rattle.fb_text.proofs.OrderLemmas.{in_order-members}
+use Rattle.fb_tree.specs.Tree.{DeclTree, ApplicationTree, block_type, adapter_type, subapplication_type, system_configuration}
+use Rattle.fb_library.specs.View.{Sources, tree_at, tree_of, mentions_at, near_of}
+use Rattle.fb_library.specs.Rests.{Rests, itself, through}
+use Rattle.fb_library.specs.Local.{Agree, AgreeFar}
+use Rattle.fb_library.proofs.LocalLemmas.{far_local}
+use Rattle.fb_faults.specs.Faults.{faults_of}
+use Rattle.fb_faults.proofs.LocalLemmas.{faults_local}
+use Rattle.fb_order.specs.Reaches.{IsRecursive}
+use Rattle.fb_order.proofs.LocalLemmas.{recursion_local}
+use Rattle.fb_network.specs.declared.network.Instance.{Instance}
+use Rattle.fb_network.specs.Plain.{PlainNetwork}
+use Rattle.fb_network.specs.PlainFlat.{PlainFlat}
+use Rattle.fb_network.specs.Network.{View}
+use Rattle.fb_network.specs.Instances.{Held, AreInstances}
+use Rattle.fb_compose.proofs.Members.{contains_nothing, contains_here, contains_later, contains_cases}
+use Rattle.fb_compose.specs.declared.application.FlatApplication.{FlatApplication}
+use Rattle.fb_wiring.specs.ByName.{applications_at, declared, kind_at}
+use Rattle.fb_wiring.specs.declared.systems.Application.{Application}
+use Rattle.fb_wiring.proofs.LocalLemmas.{networks_local}
+use Rattle.fb_flatten.specs.Blocking.{AreThose, IsBlocking}
+use Rattle.fb_flatten.specs.Laws.{NetIsLocal}
+use Rattle.fb_flatten.specs.Locality.{Within, IsClosed, SameNetworks}
+use Rattle.fb_flatten.specs.Net.{PlainNet, blocked, recursive, too_large, flat_net, IsNet, IsSound}
+use Rattle.fb_flatten.specs.Units.{AreFlatApplications, NoApplication, ThenApplication, Holds, IsTooLarge, IsWithinLimit, IsUnitFlat, OfSubapplication, OfSystem, own_instances}
+use Rattle.fb_flatten.proofs.LocalLemmas.{instances_there, same_flats}
+use Rattle.fb_flatten.proofs.MentionLemmas.{applications_within, declared_within, own_within}
+use Rattle.fb_flatten.proofs.OrderLemmas.{rests_on}
+
+module _ (a b : Sources) (unit : List ℕ) (agree : AgreeFar unit a b) where
+  tree_same : (v : List ℕ) → Rests a unit v → tree_at a v ≡ tree_at b v
+  tree_same v r = ap (option_and_then tree_of) (agree v r)
+
+  -- what is near a name that the unit rests on
+  near_far : (v : List ℕ) → Rests a unit v → (n : List ℕ) → Contains (near_of a v) n → Rests a unit n
+  near_far v r n c =
+      let listed = (in_order-members name_cmp nat_list_cmp_total (slice_cmp-IsAntisymmetric nat_cmp-IsAntisymmetric) (mentions_at a v ++ v ∷ []) n).0 c in
+      by_case (Contains-append_cases (mentions_at a v) (v ∷ []) n listed)
+    where
+      by_last : (v ≡ n) ⊎ Contains [] n → Rests a unit n
+      by_last (inl e) = subst (λ (w : List ℕ). Rests a unit w) e r
+      by_last (inr d) = absurd (contains_nothing n d)
+
+      by_case : Contains (mentions_at a v) n ⊎ Contains (v ∷ []) n → Rests a unit n
+      by_case (inl m) = rests_on r m
+      by_case (inr d) = by_last (contains_cases v [] n d)
+
+  faults_same : (v : List ℕ) → Rests a unit v → faults_of a v ≡ faults_of b v
+  faults_same v r = faults_local a b v (λ n c. agree n (near_far v r n c))
+
+  blocking_there : (v : List ℕ) → Rests a unit v → IsBlocking a v → IsBlocking b v
+  blocking_there v r (inl e) = inl (sym (agree v r) ∙ e)
+  blocking_there v r (inr n) = inr (λ e. n (faults_same v r ∙ e))
+
+  blocking_back : (v : List ℕ) → Rests a unit v → IsBlocking b v → IsBlocking a v
+  blocking_back v r (inl e) = inl (agree v r ∙ e)
+  blocking_back v r (inr n) = inr (λ e. n (sym (faults_same v r) ∙ e))
+
+  blocking_those_there : (names : List (List ℕ)) → AreThose a unit (IsBlocking a) names → AreThose b unit (IsBlocking b) names
+  blocking_those_there names t =
+      record {
+        sorted = t.sorted;
+        members = λ v. (
+          λ c. let m = (t.members v).0 c in ((far_local a b unit agree v).0 m.0, blocking_there v m.0 m.1),
+          λ r. let far = (far_local a b unit agree v).1 r.0 in (t.members v).1 (far, blocking_back v far r.1),
+        );
+      }
+
+  recursive_those_there : (names : List (List ℕ)) → AreThose a unit (IsRecursive a) names → AreThose b unit (IsRecursive b) names
+  recursive_those_there names t =
+      record {
+        sorted = t.sorted;
+        members = λ v. (
+          λ c. (recursion_local a b unit agree v).0 ((t.members v).0 c),
+          λ r. (t.members v).1 ((recursion_local a b unit agree v).1 r),
+        );
+      }
+
+  sound_there : IsSound a unit → IsSound b unit
+  sound_there s = record { whole = blocking_those_there [] s.whole; finite = recursive_those_there [] s.finite }
+
+  same_networks : SameNetworks (Rests a unit) (declared a) (declared b)
+  same_networks name r = (networks_local a b name (agree name r)).network
+
+  closed : IsClosed (declared a) (Rests a unit)
+  closed name network r e =
+      let w = declared_within a name network e in
+      record { types = λ i c. rests_on r (w.types i c); adapters = λ port n c p. rests_on r (w.adapters port n c p) }
+
+  holds_there : (held : List Held) → Holds a unit held → Holds b unit held
+  holds_there held h =
+      record {
+        tree = h.tree;
+        present = sym (tree_same unit itself) ∙ h.present;
+        instances = instances_there closed same_networks (λ i c. rests_on itself (own_within a unit h.tree h.present i c)) h.instances;
+      }
+
+  large_there : IsTooLarge a unit → IsTooLarge b unit
+  large_there t = record { held = t.held; holds = holds_there t.held t.holds; more = t.more }
+
+  within_there : IsWithinLimit a unit → IsWithinLimit b unit
+  within_there t = record { held = t.held; holds = holds_there t.held t.holds; within = t.within }
+
+  flats_there : {applications : List Application} {flats : List FlatApplication} → ((x : Application) → Contains applications x → Within (Rests a unit) x.network) → AreFlatApplications (declared a) applications flats → AreFlatApplications (declared b) applications flats
+  flats_there within NoApplication = NoApplication
+  flats_there within (ThenApplication {rest = rest} x f here more) =
+      ThenApplication x f
+      (record { name = here.name; net = ((same_flats closed same_networks (within x (contains_here x rest))).flats f.flat).0 here.net })
+      (flats_there (λ y c. within y (contains_later x rest y c)) more)
+
+  unit_flat_there : (flat : PlainFlat) → IsUnitFlat a unit flat → IsUnitFlat b unit flat
+  unit_flat_there flat (OfSubapplication network k d f) =
+      let same = networks_local a b unit (agree unit itself) in
+      OfSubapplication network (sym same.kind ∙ k) (sym same.network ∙ d)
+      (((same_flats closed same_networks (closed unit network itself d)).flats flat).0 f)
+  unit_flat_there flat (OfSystem applications flats k d each joined) =
+      let same = networks_local a b unit (agree unit itself) in
+      OfSystem applications flats (sym same.kind ∙ k) (sym same.applications ∙ d) (flats_there within each) joined
+    where
+      within : (x : Application) → Contains applications x → Within (Rests a unit) x.network
+      within x c =
+          let w = applications_within a unit applications d x c in
+          record { types = λ i h. rests_on itself (w.types i h); adapters = λ port n h p. rests_on itself (w.adapters port n h p) }
+
+  there : (net : PlainNet) → IsNet a unit net → IsNet b unit net
+  there (blocked names) p = (blocking_those_there names p.0, p.1)
+  there (recursive names) p = (blocking_those_there [] p.0, recursive_those_there names p.1, p.2)
+  there too_large p = (sound_there p.0, large_there p.1)
+  there (flat_net flat) p = (sound_there p.0, within_there p.1, unit_flat_there flat p.2)
+
+pub net_local : NetIsLocal
+net_local a b unit agree net p = there a b unit agree net p

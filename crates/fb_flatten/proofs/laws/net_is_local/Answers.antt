@@ -1,0 +1,6 @@
+-- The law is the lemma on nets of texts that agree.
+use Rattle.fb_flatten.proofs.NetLocal.{net_local}
+use Rattle.fb_flatten.proofs.laws.net_is_local.Goals as goal
+
+pub returns : goal.returns
+returns c = net_local

@@ -1,0 +1,40 @@
+-- The net of a unit: its flat network, or why it has none.
+use Rattle.std.specs.Prelude.{ℕ, ◌≡◌, ◌≢◌, List, []}
+use Rattle.fb_library.specs.View.{Sources}
+use Rattle.fb_order.specs.Reaches.{IsRecursive}
+use Rattle.fb_network.specs.PlainFlat.{PlainFlat}
+use Rattle.fb_flatten.specs.declared.net.Net.{Net}
+use Rattle.fb_flatten.specs.declared.net.Net.TheVariants.{Blocked, Recursive, TooLarge, Flat}
+use Rattle.fb_flatten.specs.Blocking.{IsBlocking, AreThose}
+use Rattle.fb_flatten.specs.Units.{IsTooLarge, IsWithinLimit, IsUnitFlat}
+
+-- a net in plain
+pub data PlainNet : Type 0 where
+  blocked : List (List ℕ) → PlainNet
+  recursive : List (List ℕ) → PlainNet
+  too_large : PlainNet
+  flat_net : PlainFlat → PlainNet
+
+-- a net without where it lies in memory
+abbrev pub plain_net : Net → PlainNet
+plain_net (Blocked names) = blocked names.items
+plain_net (Recursive names) = recursive names.items
+plain_net TooLarge = too_large
+plain_net (Flat flat) = flat_net flat
+
+-- all that the unit rests on is present and without faults
+abbrev pub IsWhole : Sources → List ℕ → Type 0
+IsWhole sources unit = AreThose sources unit (IsBlocking sources) []
+
+-- and none of it reaches itself
+pub record IsSound (sources : Sources) (unit : List ℕ) : Type 0 where
+  pub whole : IsWhole sources unit
+  pub finite : AreThose sources unit (IsRecursive sources) []
+
+-- The first of these that applies: the names that the unit rests on that are absent or have faults, if any; those that reach
+-- themselves, if any; too many instances; the flat network.
+abbrev pub IsNet : Sources → List ℕ → PlainNet → Type 0
+IsNet sources unit (blocked names) = AreThose sources unit (IsBlocking sources) names × (names ≢ [])
+IsNet sources unit (recursive names) = IsWhole sources unit × AreThose sources unit (IsRecursive sources) names × (names ≢ [])
+IsNet sources unit too_large = IsSound sources unit × IsTooLarge sources unit
+IsNet sources unit (flat_net flat) = IsSound sources unit × IsWithinLimit sources unit × IsUnitFlat sources unit flat

@@ -1,0 +1,63 @@
+//! The nets of units.
+ghost use Rattle.std.specs.Prelude.{IfOk};
+ghost use Rattle.fb_flatten.specs.Net.{IsNet, plain_net};
+ghost use Rattle.fb_flatten.specs.Tables.{IsSoundOrder};
+ghost use Rattle.fb_flatten.specs.Units.{HasNet};
+
+use crate::blocking::{blocking, has_some};
+use crate::tables::networks_of;
+use crate::units::{count_of_unit, flat_of_unit};
+use fb_library::{View, far};
+use fb_network::{Flat, INSTANCE_LIMIT};
+use fb_order::{inner_first, recursive};
+use fb_text::Name;
+use std::alloc::{AllocError, Global};
+
+/// The flat network of a unit, or why it has none.
+#[derive(Drop)]
+pub enum Net {
+    /// The names that the unit rests on that are of no unit, or of one with faults.
+    Blocked(Vec<Name>),
+    /// The types that the unit rests on that reach themselves.
+    Recursive(Vec<Name>),
+    /// More instances than the limit.
+    TooLarge,
+    Flat(Flat),
+}
+
+/// The flat network of a subapplication or a system, or the first reason why it has none: that it rests on units that are absent or have
+/// faults, that it rests on types that reach themselves, that it holds more than 4,096 instances.
+pub fn net_of<V: View>(alloc: Global, view: &V, unit: Name) -> Result<Net, AllocError>
+    requires { HasNet (V.sources view.now) unit }
+    ensures { IfOk result (λ net. IsNet (V.sources view.now) unit (plain_net net)) }
+{
+    let names = far(alloc, view, unit)?;
+    let found = blocking(alloc, view, names.as_slice())?;
+    if has_some(found.as_slice()) {
+        return Ok(Net::Blocked(found));
+    }
+    match inner_first(alloc, view, unit)? {
+        None => Ok(Net::Recursive(recursive(alloc, view, names.as_slice())?)),
+        Some(order) => net_in_order(alloc, view, &unit, order.as_slice()),
+    }
+}
+
+/// The same where all that the unit rests on is without faults, and stands in an order with inner types first.
+fn net_in_order<V: View>(
+    alloc: Global,
+    view: &V,
+    unit: &Name,
+    order: &[Name],
+) -> Result<Net, AllocError>
+    requires net { HasNet (V.sources view.now) unit.now }
+    requires sound { IsSoundOrder (V.sources view.now) unit.now order.now }
+    ensures { IfOk result (λ net. IsNet (V.sources view.now) unit.now (plain_net net)) }
+{
+    let table = networks_of(alloc, view, order)?;
+    let count = count_of_unit(alloc, view, &table, order, unit)?;
+    if count > INSTANCE_LIMIT {
+        return Ok(Net::TooLarge);
+    }
+    let flat = flat_of_unit(alloc, view, &table, order, unit)?;
+    Ok(Net::Flat(flat))
+}
