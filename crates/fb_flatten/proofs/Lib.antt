@@ -8,3 +8,4 @@ pub mod UnitLemmas
 pub mod NetLemmas
 pub mod OneNet
 pub mod NetLocal
+pub mod KindLemmas

@@ -1,5 +1,5 @@
 -- The instances of a unit, and its flat network (IEC 61499-1, 5.4: subapplication types; 7: systems).
-use Rattle.std.specs.Prelude.{ℕ, ◌≡◌, ◌≤◌, ◌<◌, ◌⊎◌, List, [], ◌∷◌, Some, flat_map, length}
+use Rattle.std.specs.Prelude.{ℕ, ◌≡◌, ◌≤◌, ◌<◌, ◌⊎◌, Bool, true, false, List, [], ◌∷◌, Some, flat_map, length}
 use Rattle.fb_tree.specs.Tree.{DeclTree, block_type, adapter_type, subapplication_type, system_configuration}
 use Rattle.fb_tree.specs.declared.kinds.UnitKind.TheVariants.{Subapplication, System}
 use Rattle.fb_library.specs.View.{Sources, tree_at}
@@ -20,6 +20,12 @@ use Rattle.fb_wiring.specs.declared.systems.Application.{Application}
 -- subapplications and systems have flat networks
 abbrev pub HasNet : Sources → List ℕ → Type 0
 HasNet sources unit = (kind_at sources unit ≡ Some Subapplication) ⊎ (kind_at sources unit ≡ Some System)
+
+abbrev pub has_net_tree : DeclTree → Bool
+has_net_tree (block_type d) = false
+has_net_tree (adapter_type d) = false
+has_net_tree (subapplication_type d) = true
+has_net_tree (system_configuration s) = true
 
 abbrev pub instances_in : List Application → List Instance
 instances_in applications = flat_map (λ a. a.network.instances) applications

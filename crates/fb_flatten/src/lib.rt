@@ -2,11 +2,13 @@
 #![tactic(auto)]
 
 mod blocking;
+mod kinds;
 mod laws;
 mod net;
 mod tables;
 mod units;
 
+pub use kinds::has_net;
 pub use laws::{flat_networks_are_local, net_is_local, one_net};
 pub use net::{Net, net_of};
 

@@ -47,7 +47,11 @@ fn names_told(alloc: Global, why: &str, names: &[Name]) -> Result<String, Fail> 
 /// The net of a unit as a text.
 fn told(alloc: Global, units: &[(&str, &str)], unit: &str) -> Result<String, Fail> {
     let library = library_of(alloc, units)?;
-    match net_of(alloc, &library, Name::read(unit)?)? {
+    let name = Name::read(unit)?;
+    if !has_net(&library, &name) {
+        return Ok(String::from_str(alloc, "no net")?);
+    }
+    match net_of(alloc, &library, name)? {
         Net::Blocked(names) => names_told(alloc, "blocked", names.as_slice()),
         Net::Recursive(names) => names_told(alloc, "recursive", names.as_slice()),
         Net::TooLarge => Ok(String::from_str(alloc, "too large")?),
@@ -119,47 +123,76 @@ fn units_that_have_no_flat_network(rt: HostRuntime) -> Result<(), Fail> {
     let n = "FUNCTION_BLOCK N FBS F:M; END_FBS END_FUNCTION_BLOCK";
     let units = [("S", s), ("M", m), ("N", n)];
     assert_eq!(rt; told(alloc, &units, "S")?.as_str(), "recursive M N");
+    assert_eq!(rt; told(alloc, &units, "M")?.as_str(), "no net");
     flat_networks_are_local();
     one_net();
     net_is_local();
     Ok(())
 }
 
-/// What a subapplication of so many levels is, each with two of the level below.
-fn doubled(alloc: Global, levels: u32) -> Result<Net, Fail> {
-    let mut changes = Vec::new(alloc);
-    let block = Source::read(alloc, Name::read("B")?, BLOCK)?;
-    changes.push(Change::Put {
-        base: 0,
-        source: block,
-    })?;
-    let first = "SUBAPPLICATION S1 FBS X:B; Y:B; END_FBS END_SUBAPPLICATION";
-    let source = Source::read(alloc, Name::read("S1")?, first)?;
-    changes.push(Change::Put { base: 0, source })?;
-    for i in 1..levels {
-        let unit = format!(in alloc; "S{}", i as u64 + 1)?;
-        let text = format!(in alloc;
-            "SUBAPPLICATION {unit} SUBAPPS X:S{i}; Y:S{i}; END_SUBAPPS END_SUBAPPLICATION"
-        )?;
-        let source = Source::read(alloc, Name::read(unit.as_str())?, text.as_str())?;
-        changes.push(Change::Put { base: 0, source })?;
-    }
-    let library = Library::new(alloc).edited(1, changes.as_slice())?;
-    let top = format!(in alloc; "S{levels}")?;
-    Ok(net_of(alloc, &library, Name::read(top.as_str())?)?)
-}
-
 #[test]
 fn a_chain_that_doubles(rt: HostRuntime) -> Result<(), Fail> {
     let alloc = rt.alloc();
-    // 2 + 4 + .. + 1024 instances
-    match doubled(alloc, 10)? {
-        Net::Flat(flat) => assert_eq!(rt; flat.blocks().len(), 1024),
-        Net::Blocked(_) | Net::Recursive(_) | Net::TooLarge => assert!(rt; false),
-    }
-    match doubled(alloc, 13)? {
-        Net::TooLarge => {}
-        Net::Blocked(_) | Net::Recursive(_) | Net::Flat(_) => assert!(rt; false),
-    }
+    let units = [
+        ("B", BLOCK),
+        (
+            "S1",
+            "SUBAPPLICATION S1 FBS X:B; Y:B; END_FBS END_SUBAPPLICATION",
+        ),
+        (
+            "S2",
+            "SUBAPPLICATION S2 SUBAPPS X:S1; Y:S1; END_SUBAPPS END_SUBAPPLICATION",
+        ),
+        (
+            "S3",
+            "SUBAPPLICATION S3 SUBAPPS X:S2; Y:S2; END_SUBAPPS END_SUBAPPLICATION",
+        ),
+        (
+            "S4",
+            "SUBAPPLICATION S4 SUBAPPS X:S3; Y:S3; END_SUBAPPS END_SUBAPPLICATION",
+        ),
+        (
+            "S5",
+            "SUBAPPLICATION S5 SUBAPPS X:S4; Y:S4; END_SUBAPPS END_SUBAPPLICATION",
+        ),
+        (
+            "S6",
+            "SUBAPPLICATION S6 SUBAPPS X:S5; Y:S5; END_SUBAPPS END_SUBAPPLICATION",
+        ),
+        (
+            "S7",
+            "SUBAPPLICATION S7 SUBAPPS X:S6; Y:S6; END_SUBAPPS END_SUBAPPLICATION",
+        ),
+        (
+            "S8",
+            "SUBAPPLICATION S8 SUBAPPS X:S7; Y:S7; END_SUBAPPS END_SUBAPPLICATION",
+        ),
+        (
+            "S9",
+            "SUBAPPLICATION S9 SUBAPPS X:S8; Y:S8; END_SUBAPPS END_SUBAPPLICATION",
+        ),
+        (
+            "S10",
+            "SUBAPPLICATION S10 SUBAPPS X:S9; Y:S9; END_SUBAPPS END_SUBAPPLICATION",
+        ),
+        (
+            "S11",
+            "SUBAPPLICATION S11 SUBAPPS X:S10; Y:S10; END_SUBAPPS END_SUBAPPLICATION",
+        ),
+        (
+            "S12",
+            "SUBAPPLICATION S12 SUBAPPS X:S11; Y:S11; END_SUBAPPS END_SUBAPPLICATION",
+        ),
+        (
+            "S13",
+            "SUBAPPLICATION S13 SUBAPPS X:S12; Y:S12; END_SUBAPPS END_SUBAPPLICATION",
+        ),
+    ];
+    assert_eq!(rt;
+        told(alloc, &units, "S2")?.as_str(),
+        "X.X:B;X.Y:B;Y.X:B;Y.Y:B;"
+    );
+    // 2 + 4 + .. + 8192 instances
+    assert_eq!(rt; told(alloc, &units, "S13")?.as_str(), "too large");
     Ok(())
 }

@@ -1,0 +1,27 @@
+//! Which units have nets.
+ghost use Rattle.std.specs.Prelude.{◌≡◌, ◌↔◌, IsTrue};
+ghost use Rattle.fb_tree.specs.Tree.{decl_tree};
+ghost use Rattle.fb_flatten.specs.Units.{HasNet, has_net_tree};
+
+use fb_library::{View, tree_by_name};
+use fb_text::Name;
+use fb_tree::Decl;
+
+fn is_of_net(decl: &Decl) -> bool
+    ensures { result ≡ has_net_tree (decl_tree decl.now) }
+{
+    match decl {
+        Decl::Block(_) | Decl::Adapter(_) => false,
+        Decl::Subapplication(_) | Decl::System(_) => true,
+    }
+}
+
+/// Whether the unit is a subapplication or a system.
+pub fn has_net<V: View>(view: &V, unit: &Name) -> bool
+    ensures { IsTrue result ↔ HasNet (V.sources view.now) unit.now }
+{
+    match tree_by_name(view, unit) {
+        Some(decl) => is_of_net(decl),
+        None => false,
+    }
+}
