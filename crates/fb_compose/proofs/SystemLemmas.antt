@@ -1,11 +1,14 @@
 -- The links of a system.
-use Rattle.std.proofs.Common.{◌≡◌, List, sym, subst}
+use Rattle.std.proofs.Common.{◌≡◌, ◌∙◌, List, sym, subst}
 use Rattle.std.specs.Prelude.{◌↔◌, Contains}
 use Rattle.std.specs.List.{flat_map}
 use Rattle.fb_network.specs.declared.flat.Link.{Link}
 use Rattle.fb_compose.specs.declared.application.FlatApplication.{FlatApplication}
 use Rattle.fb_compose.specs.Composed.{link_within}
-use Rattle.fb_compose.specs.SystemFlat.{IsApplicationLink, application_links}
+use Rattle.fb_network.specs.PlainFlat.{PlainFlat}
+use Rattle.fb_network.specs.LinkOrder.{link_cmp_total}
+use Rattle.fb_compose.specs.SystemFlat.{IsApplicationLink, IsSystemFlat, application_links}
+use Rattle.fb_compose.proofs.SameSorted.{same_sorted}
 use Rattle.fb_compose.proofs.Members.{contains_map, origin_in_map, contains_flat_map, origin_in_flat_map}
 
 link_of_application : (applications : List FlatApplication) (link : Link) → Contains (flat_map application_links applications) link → IsApplicationLink applications link
@@ -26,3 +29,11 @@ system_links_are applications made links is kept added link = (
   λ c. link_of_application applications link (subst (λ (ls : List Link). Contains ls link) is (added link c)),
   λ i. kept link (subst (λ (ls : List Link). Contains ls link) (sym is) (application_link_listed applications link i)),
 )
+
+-- a system has one flat network only
+pub same_system : (applications : List FlatApplication) (a b : PlainFlat) → IsSystemFlat applications a → IsSystemFlat applications b → a ≡ b
+same_system applications a b p q =
+    let blocks = p.blocks ∙ sym q.blocks in
+    let links = same_sorted link_cmp_total a.links b.links p.links_sorted q.links_sorted (λ l c. (q.links l).1 ((p.links l).0 c)) (λ l c. (p.links l).1 ((q.links l).0 c)) in
+    let borders = p.borders ∙ sym q.borders in
+    λ i. record { blocks = blocks i; links = links i; borders = borders i }

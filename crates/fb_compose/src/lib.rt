@@ -21,7 +21,7 @@ pub use application::FlatApplication;
 pub use count::count_instances;
 pub use flat_network::compose;
 pub use in_order::compose_in_order;
-pub use laws::{chains_are_composed, flat_is_one};
+pub use laws::{chains_are_composed, flat_is_one, system_is_one};
 pub use look_up::{Nets, Networks};
 pub use sorted::sort_once;
 pub use system::join;

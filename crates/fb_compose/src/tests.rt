@@ -59,5 +59,6 @@ fn a_network_of_nothing_is_flat(rt: HostRuntime) -> Result<(), Fail> {
     assert_eq!(rt; count_instances(&counts, &nothing), 0);
     chains_are_composed();
     flat_is_one();
+    system_is_one();
     Ok(())
 }

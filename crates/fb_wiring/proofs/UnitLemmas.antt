@@ -1,7 +1,7 @@
 -- Units without faults are clean in plain.
-use Rattle.std.proofs.Common.{◌≡◌, ℕ, true, false, ◌&&◌, List, [], ◌∷◌, ◌++◌, map, Option, Some, None, option_map, refl, sym, ap, ◌∙◌, subst, ◌⊎◌, inl, inr}
+use Rattle.std.proofs.Common.{◌≡◌, zero, suc, ℕ, ◌<◌, true, false, ◌&&◌, List, [], ◌∷◌, ◌++◌, map, Option, Some, None, option_map, refl, sym, ap, ◌∙◌, subst, ◌⊎◌, inl, inr}
 use Rattle.std.proofs.lemmas.List.Elements.{All-contains, All-head, Contains-append_left, Contains-append_right}
-use Rattle.std.specs.List.{All, Contains, filter_map, find, flat_map}
+use Rattle.std.specs.List.{All, Contains, filter_map, find, flat_map, slice_get}
 use Rattle.std.specs.Option.{option_and_then}
 use Rattle.fb_text.specs.declared.name.NameUse.{NameUse}
 use Rattle.fb_tree.specs.Tree.{ApplicationTree, DeclTree, InstanceTree, NetworkTree, SystemTree, TypeTree, block_type, adapter_type, subapplication_type, system_configuration}
@@ -39,7 +39,7 @@ use Rattle.fb_wiring.specs.declared.systems.Application.{Application}
 use Rattle.fb_wiring.proofs.Finding.{found_by_name}
 use Rattle.fb_wiring.proofs.FirstOnes.{Distinct, first_ones-distinct}
 use Rattle.fb_wiring.proofs.InnerInstances.{IsInnerInstance, inner_instances, is_inner}
-use Rattle.fb_wiring.proofs.NameLemmas.{apart, distinct, stands_for_itself}
+use Rattle.fb_wiring.proofs.NameLemmas.{AreApart, apart, distinct, stands_for_itself}
 use Rattle.fb_wiring.proofs.NetworkLemmas.{meaning, sound}
 use Rattle.fb_wiring.proofs.NothingLemmas.{nothing_reported}
 use Rattle.fb_wiring.proofs.PortLemmas.{plain_port, port_by_name}
@@ -171,6 +171,17 @@ each_contains {A = A} P (y ∷ ys) h x c = by (contains_cases y ys x c) (each_co
     by (inl e) more = subst P e h.0
     by (inr d) more = more d
 
+-- items at their places in a list of others
+got_in_map : {X Y : Type 0} (f : X → Y) (xs : List X) (i : ℕ) (y : Y) → slice_get (map f xs) i ≡ Some y → (x : X) × (slice_get xs i ≡ Some x) × (f x ≡ y)
+got_in_map f [] i y e = absurd (let no : ⊥ = cc in no)
+got_in_map f (x ∷ xs) zero y e = (x, refl, (let same : f x ≡ y = cc in same))
+got_in_map f (x ∷ xs) (suc i) y e = got_in_map f xs i y e
+
+map_gets : {X Y : Type 0} (f : X → Y) (xs : List X) (i : ℕ) (x : X) → slice_get xs i ≡ Some x → slice_get (map f xs) i ≡ Some (f x)
+map_gets f [] i x e = absurd (let no : ⊥ = cc in no)
+map_gets f (y ∷ ys) zero x e = let same : y ≡ x = cc in ap (λ z. Some (f z)) same
+map_gets f (y ∷ ys) (suc i) x e = map_gets f ys i x e
+
 module _ (sources : Sources) (unit : List ℕ) (s : SystemTree) (is : tree_at sources unit ≡ Some (system_configuration s)) (report : HasNoReport sources unit) where
   abbrev front : List (List NameUse)
   front = map (λ (x : ApplicationTree). x.name) s.applications ∷ flat_map (λ (x : ApplicationTree). network_spaces x.network) s.applications
@@ -204,12 +215,20 @@ module _ (sources : Sources) (unit : List ℕ) (s : SystemTree) (is : tree_at so
   each_made [] = refl
   each_made (x ∷ xs) = ap (λ l. plain_application x ∷ l) (each_made xs)
 
-  applications_apart : Distinct (map (λ (a : ApplicationTree). (a.name.name, a.network)) s.applications)
-  applications_apart =
-      let decl = system_configuration s in
+  names_apart : AreApart (map (λ (x : ApplicationTree). x.name) s.applications)
+  names_apart =
       let names = map (λ (x : ApplicationTree). x.name) s.applications in
-      distinct (λ (x : ApplicationTree). x.name) (λ x. x.network) s.applications
-      (apart sources unit decl names report.declarations is (Contains-append_left front behind names (contains_here names (flat_map (λ (x : ApplicationTree). network_spaces x.network) s.applications))))
+      apart sources unit (system_configuration s) names report.declarations is (Contains-append_left front behind names (contains_here names (flat_map (λ (x : ApplicationTree). network_spaces x.network) s.applications)))
+
+  applications_apart : Distinct (map (λ (a : ApplicationTree). (a.name.name, a.network)) s.applications)
+  applications_apart = distinct (λ (x : ApplicationTree). x.name) (λ x. x.network) s.applications names_apart
+
+  places_apart : (i j : ℕ) (a b : Application) → i < j → slice_get (map plain_application s.applications) i ≡ Some a → slice_get (map plain_application s.applications) j ≡ Some b → a.name ≡ b.name → ⊥
+  places_apart i j a b before first again same =
+      let p = got_in_map plain_application s.applications i a first in
+      let q = got_in_map plain_application s.applications j b again in
+      let named = λ (x : ApplicationTree). x.name in
+      names_apart i j p.0.name q.0.name before (map_gets named s.applications i p.0 p.1) (map_gets named s.applications j q.0 q.1) (ap (λ (x : Application). x.name) p.2 ∙ same ∙ sym (ap (λ (x : Application). x.name) q.2))
 
   application_found : (a : ApplicationTree) → Contains s.applications a → application_named (map plain_application s.applications) a.name.name ≡ Some (plain_application a)
   application_found a c =
@@ -224,6 +243,7 @@ module _ (sources : Sources) (unit : List ℕ) (s : SystemTree) (is : tree_at so
 
   system_sound : AreSound sources (map plain_application s.applications)
   system_sound = record {
+    apart = places_apart;
     named = λ a c.
         let o = origin_in_map plain_application s.applications a c in
         subst (λ (x : Application). application_named (map plain_application s.applications) x.name ≡ Some x) o.gives (application_found o.origin o.among);
@@ -234,6 +254,7 @@ module _ (sources : Sources) (unit : List ℕ) (s : SystemTree) (is : tree_at so
 
 no_applications : (sources : Sources) → AreSound sources []
 no_applications sources = record {
+  apart = λ i j a b before first again same. absurd (let no : ⊥ = cc in no);
   named = λ a c. absurd (contains_nothing a c);
   sound = λ a c. absurd (contains_nothing a c);
 }

@@ -1,5 +1,5 @@
 -- What units without faults keep of their networks.
-use Rattle.std.specs.Prelude.{◌≡◌, ℕ, List, [], Option, Some, Contains, find}
+use Rattle.std.specs.Prelude.{◌≡◌, ℕ, ◌<◌, List, [], Option, Some, Contains, find, slice_get}
 use Rattle.fb_tree.specs.declared.kinds.UnitKind.{UnitKind}
 use Rattle.fb_tree.specs.declared.kinds.UnitKind.TheVariants as kinds
 use Rattle.fb_library.specs.View.{Sources}
@@ -35,6 +35,9 @@ application_named applications name = find (λ a. is_same a.name name) applicati
 
 -- each application has a name of its own and a clean network
 pub record AreSound (sources : Sources) (applications : List Application) : Type 0 where
+  pub apart :
+      (i j : ℕ) (a b : Application)
+      → i < j → slice_get applications i ≡ Some a → slice_get applications j ≡ Some b → a.name ≡ b.name → ⊥
   pub named : (a : Application) → Contains applications a → application_named applications a.name ≡ Some a
   pub sound : (a : Application) → Contains applications a → IsSound sources a.network
 
