@@ -1,0 +1,145 @@
+-- Through enough depths flat networks and instances are found.
+use Rattle.std.proofs.Common.{◌≡◌, ℕ, suc, List, [], ◌∷◌, ◌++◌, Some, None, refl, sym, ap, subst, ◌∙◌}
+use Rattle.std.specs.Prelude.{Contains, ◌≢◌, option_map}
+use Rattle.std.specs.FinMap.{get}
+use Rattle.std.specs.Ordering.{is_eq}
+use Rattle.std.specs.declared.cmp.Ordering.TheVariants.{Equal}
+use Rattle.fb_text.specs.Order.{in_order}
+use Rattle.fb_text.proofs.OrderLemmas.{in_order-members, in_order-sorted}
+use Rattle.fb_library.specs.View.{Sources, mentions_at}
+use Rattle.fb_library.specs.Rests.{Rests, itself, through}
+use Rattle.fb_iface.proofs.Members.{contains_here, contains_later}
+use Rattle.fb_faults.specs.Faults.{faults_of}
+use Rattle.fb_network.specs.declared.network.InstanceKind.{InstanceKind}
+use Rattle.fb_network.specs.declared.network.InstanceKind.TheVariants.{Block, Subapplication}
+use Rattle.fb_network.specs.declared.network.Instance.{Instance}
+use Rattle.fb_network.specs.declared.flat.Link.{Link}
+use Rattle.fb_network.specs.declared.flat.Border.{Border}
+use Rattle.fb_network.specs.Plain.{PlainNetwork}
+use Rattle.fb_network.specs.LinkOrder.{link_cmp, link_cmp_total, border_cmp, border_cmp_total}
+use Rattle.fb_network.specs.Network.{View, IsInner, instance_named}
+use Rattle.fb_network.specs.Clean.{IsClean, IsCleanThroughout, CleanThroughout}
+use Rattle.fb_network.specs.Instances.{Held, held_as, AreInstances, NoInstance, ThenBlock, ThenSubapplication}
+use Rattle.fb_network.specs.FlatNet.{IsFlat}
+use Rattle.fb_compose.specs.Composed.{composed_blocks, composed_borders, composed_links}
+use Rattle.fb_compose.specs.Ready.{Nets, IsFinished, AreFinished}
+use Rattle.fb_compose.proofs.Composing.{found_by_name}
+use Rattle.fb_compose.proofs.Equals.{exact_border, exact_link}
+use Rattle.fb_compose.proofs.FlatLemmas.{IsOrderOf, flat_of}
+use Rattle.fb_wiring.specs.ByName.{declared}
+use Rattle.fb_wiring.specs.Networks.{network_of}
+use Rattle.fb_wiring.proofs.UnitLemmas.{networks_clean}
+use Rattle.fb_flatten.proofs.MentionLemmas.{declared_within}
+use Rattle.fb_flatten.proofs.OrderLemmas.{tree_of_faultless}
+use Rattle.fb_nets.specs.Nets.{composed, composed_at, flats_of, held_inside, held_by, held_at, held_of}
+use Rattle.fb_nets.proofs.DepthLemmas.{Deep, deep}
+
+-- ---- lists in order
+
+pub link_ties : (a b : Link) → link_cmp a b ≡ Equal → a ≡ b
+link_ties a b e = exact_link a b (ap is_eq e)
+
+pub border_ties : (a b : Border) → border_cmp a b ≡ Equal → a ≡ b
+border_ties a b e = exact_border a b (ap is_eq e)
+
+pub links_ordered : (links : List Link) → IsOrderOf links (in_order link_cmp links)
+links_ordered links = record {
+  kept = λ l c. (in_order-members link_cmp link_cmp_total link_ties links l).1 c;
+  added = λ l c. (in_order-members link_cmp link_cmp_total link_ties links l).0 c;
+}
+
+pub borders_ordered : (borders : List Border) → IsOrderOf borders (in_order border_cmp borders)
+borders_ordered borders = record {
+  kept = λ b c. (in_order-members border_cmp border_cmp_total border_ties borders b).1 c;
+  added = λ b c. (in_order-members border_cmp border_cmp_total border_ties borders b).0 c;
+}
+
+-- what is composed of finished types is the flat network
+pub composed_is : (view : View) (nets : Nets) (network : PlainNetwork) → IsCleanThroughout view network → AreFinished view network nets → IsFlat view network (composed view nets network)
+composed_is view nets network clean finished =
+    let links = composed_links view network (instance_named network.instances) nets in
+    let borders = composed_borders network (instance_named network.instances) nets in
+    flat_of (instance_named network.instances) (composed_blocks network nets) links (in_order link_cmp links) borders (in_order border_cmp borders) clean finished refl refl refl refl
+    (links_ordered links) (borders_ordered borders) (in_order-sorted link_cmp link_cmp_total links) (in_order-sorted border_cmp border_cmp_total borders)
+
+-- ---- depths
+
+-- all that the name rests on is there and without faults
+abbrev pub AreFaultless : Sources → List ℕ → Type 0
+AreFaultless sources name = (v : List ℕ) → Rests sources name v → (get sources v ≢ None) × (faults_of sources v ≡ [])
+
+-- the type's network is clean, with its flat network and its instances through these depths
+pub record IsDone (sources : Sources) (depth : ℕ) (name : List ℕ) : Type 0 where
+  pub network : PlainNetwork
+  pub is_declared : declared sources name ≡ Some network
+  pub clean : IsCleanThroughout (declared sources) network
+  pub finished : IsFinished (declared sources) (flats_of depth (declared sources)) name
+  pub held : AreInstances (declared sources) network.instances (held_of depth (declared sources) name)
+
+abbrev AreDone : Sources → ℕ → List Instance → Type 0
+AreDone sources depth list = (i : Instance) → Contains list i → IsDone sources depth i.type_name
+
+pub clean_with : (sources : Sources) (depth : ℕ) (network : PlainNetwork) → IsClean (declared sources) network → AreDone sources depth network.instances → IsCleanThroughout (declared sources) network
+clean_with sources depth network clean done = CleanThroughout clean inside
+  where
+    inside : (at : List ℕ) (inner : PlainNetwork) → IsInner (declared sources) network at inner → IsCleanThroughout (declared sources) inner
+    inside at inner i =
+        let found = found_by_name network.instances at i.instance i.first in
+        let d = done i.instance found.among in
+        let a = d.is_declared in
+        let b = i.declared in
+        let same : d.network ≡ inner = cc in
+        subst (λ (n : PlainNetwork). IsCleanThroughout (declared sources) n) same d.clean
+
+pub finished_with : (sources : Sources) (depth : ℕ) (network : PlainNetwork) → AreDone sources depth network.instances → AreFinished (declared sources) network (flats_of depth (declared sources))
+finished_with sources depth network done i c k = (done i c).finished
+
+-- the flat network of a clean network whose types are done
+pub flat_with : (sources : Sources) (depth : ℕ) (network : PlainNetwork) → IsClean (declared sources) network → AreDone sources depth network.instances → IsFlat (declared sources) network (composed (declared sources) (flats_of depth (declared sources)) network)
+flat_with sources depth network clean done =
+    composed_is (declared sources) (flats_of depth (declared sources)) network (clean_with sources depth network clean done) (finished_with sources depth network done)
+
+held_one : (sources : Sources) (depth : ℕ) (i : Instance) (rest : List Instance) (others : List Held) (kind : InstanceKind) → i.kind ≡ kind → IsDone sources depth i.type_name → AreInstances (declared sources) rest others → AreInstances (declared sources) (i ∷ rest) (held_as i ∷ (held_inside (held_of depth (declared sources)) kind i ++ others))
+held_one sources depth i rest others Block e done more = ThenBlock i rest others e more
+held_one sources depth i rest others Subapplication e done more = ThenSubapplication i rest done.network (held_of depth (declared sources) i.type_name) others e done.is_declared done.held more
+
+-- the instances of a list whose types are done
+pub held_with : (sources : Sources) (depth : ℕ) (list : List Instance) → AreDone sources depth list → AreInstances (declared sources) list (held_by (held_of depth (declared sources)) list)
+held_with sources depth [] done = NoInstance
+held_with sources depth (i ∷ rest) done =
+    held_one sources depth i rest (held_by (held_of depth (declared sources)) rest) i.kind refl (done i (contains_here i rest)) (held_with sources depth rest (λ j c. done j (contains_later i rest j c)))
+
+flats_next : (depth : ℕ) (view : View) (name : List ℕ) → flats_of (suc depth) view name ≡ composed_at view (flats_of depth view) (view name)
+unfolding flats_of
+flats_next depth view name = refl
+
+held_next : (depth : ℕ) (view : View) (name : List ℕ) → held_of (suc depth) view name ≡ held_at (held_of depth view) (view name)
+unfolding held_of
+held_next depth view name = refl
+
+done_next : (sources : Sources) (depth : ℕ) (name : List ℕ) → AreFaultless sources name → ((w : List ℕ) → Contains (mentions_at sources name) w → IsDone sources depth w) → IsDone sources (suc depth) name
+done_next sources depth name faultless inner =
+    let whole = faultless name itself in
+    let t = tree_of_faultless sources name whole.0 whole.1 in
+    let network : PlainNetwork = network_of t.tree in
+    let is : declared sources name ≡ Some network = ap (option_map network_of) t.present in
+    let clean : IsClean (declared sources) network = (networks_clean sources name network is whole.1).clean in
+    let done : AreDone sources depth network.instances = λ i c. inner i.type_name ((declared_within sources name network is).types i c) in
+    let view = declared sources in
+    record {
+      network = network;
+      is_declared = is;
+      clean = clean_with sources depth network clean done;
+      finished = record {
+        inner = network;
+        declared = is;
+        net = composed view (flats_of depth view) network;
+        found = flats_next depth view name ∙ ap (composed_at view (flats_of depth view)) is;
+        flat = flat_with sources depth network clean done;
+      };
+      held = subst (AreInstances view network.instances) (sym (held_next depth view name ∙ ap (held_at (held_of depth view)) is)) (held_with sources depth network.instances done);
+    }
+
+pub all_done : {sources : Sources} {depth : ℕ} {name : List ℕ} → Deep sources depth name → AreFaultless sources name → IsDone sources depth name
+all_done {sources = sources} (deep {depth = depth} {name = name} inner) faultless =
+    done_next sources depth name faultless (λ w m. all_done (inner w m) (λ v r. faultless v (through m r)))

@@ -1,0 +1,4 @@
+pub mod FarLemmas
+pub mod DepthLemmas
+pub mod FlatLemmas
+pub mod NetLemmas

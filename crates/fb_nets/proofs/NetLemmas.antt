@@ -1,0 +1,241 @@
+-- What is computed is the net of the unit.
+use Rattle.std.proofs.Common.{◌≡◌, ℕ, Bool, true, false, cond, if◌then◌else◌, List, [], ◌∷◌, length, ◌⊎◌, inl, inr, Option, Some, None, refl, sym, ap, subst, ◌∙◌, arith}
+use Rattle.std.proofs.lemmas.Bool.{false≢true}
+use Rattle.std.proofs.lemmas.Bool.Decides.{nat_tests}
+use Rattle.std.specs.Prelude.{Contains, ◌↔◌, nat_lt, map, filter, option_map}
+use Rattle.std.specs.List.{flat_map}
+use Rattle.std.specs.Option.{option_and_then}
+use Rattle.std.specs.FinMap.{get}
+use Rattle.std.proofs.lemmas.List.Kept.{IsStrictlySortedBy-filter}
+use Rattle.fb_text.specs.Order.{name_cmp, in_order}
+use Rattle.fb_text.proofs.OrderLemmas.{in_order-sorted}
+use Rattle.fb_tree.specs.Tree.{DeclTree, SystemTree, TypeTree, block_type, adapter_type, subapplication_type, system_configuration}
+use Rattle.fb_tree.specs.Mentions.{kind_of}
+use Rattle.fb_tree.specs.declared.kinds.UnitKind.TheVariants as kinds
+use Rattle.fb_library.specs.View.{Sources, mentions_at, tree_at, tree_of}
+use Rattle.fb_library.specs.Rests.{Rests, itself, through}
+use Rattle.fb_library.specs.Local.{AgreeFar}
+use Rattle.fb_library.proofs.LocalLemmas.{far_local}
+use Rattle.fb_iface.proofs.Members.{contains_nothing, contains_filter, passes_in_filter, contains_here, contains_later}
+use Rattle.fb_iface.specs.declared.fault.Fault.{Fault}
+use Rattle.fb_faults.specs.Faults.{faults_of}
+use Rattle.fb_order.specs.Reaches.{IsRecursive}
+use Rattle.fb_network.specs.declared.count.TheConstants.{INSTANCE_LIMIT}
+use Rattle.fb_network.specs.PlainFlat.{PlainFlat}
+use Rattle.fb_network.specs.LinkOrder.{link_cmp, link_cmp_total}
+use Rattle.fb_network.specs.Network.{View}
+use Rattle.fb_network.specs.FlatNet.{IsFlat}
+use Rattle.fb_network.specs.Instances.{Held}
+use Rattle.fb_compose.specs.SystemFlat.{IsSystemFlat, application_links}
+use Rattle.fb_compose.specs.declared.application.FlatApplication.{FlatApplication}
+use Rattle.fb_compose.proofs.SystemLemmas.{system_links_are}
+use Rattle.fb_wiring.specs.Applications.{applications_of}
+use Rattle.fb_wiring.specs.ByName.{applications_at, declared}
+use Rattle.fb_wiring.specs.Networks.{network_of}
+use Rattle.fb_wiring.specs.declared.systems.Application.{Application}
+use Rattle.fb_wiring.proofs.UnitLemmas.{applications_clean, networks_clean}
+use Rattle.fb_flatten.specs.Blocking.{AreThose, IsBlocking, is_blocking}
+use Rattle.fb_flatten.specs.Net.{PlainNet, too_large, flat_net, IsNet, IsSound}
+use Rattle.fb_flatten.specs.Units.{HasNet, has_net_tree, own_instances, AreFlatApplications, NoApplication, ThenApplication, Holds, IsUnitFlat, OfSubapplication, OfSystem}
+use Rattle.fb_flatten.proofs.KindLemmas.{net_kind, no_net_kind}
+use Rattle.fb_flatten.proofs.MentionLemmas.{applications_within, declared_within, own_within}
+use Rattle.fb_flatten.proofs.NetLemmas.{blocking_those, recursive_those}
+use Rattle.fb_flatten.proofs.NetLocal.{net_local}
+use Rattle.fb_flatten.proofs.OneNet.{one_net_only}
+use Rattle.fb_nets.specs.Far.{far_of}
+use Rattle.fb_nets.specs.Nets.{composed, flats_of, flat_application, joined, flat_of_tree, held_by, held_of, is_recursive, sized_net, finite_net, first_net, net_of_tree, has_net_in, net_in, net_at, HasNetByText, NetAtIsNet, NetAtIsLocal}
+use Rattle.fb_nets.proofs.FarLemmas.{far_is_all}
+use Rattle.fb_nets.proofs.DepthLemmas.{far_deep, recursive_is}
+use Rattle.fb_nets.proofs.FlatLemmas.{AreFaultless, IsDone, all_done, flat_with, held_with, links_ordered}
+
+module _ (sources : Sources) (unit : List ℕ) where
+  names_sound : (v : List ℕ) → Contains (far_of sources unit) v → Rests sources unit v
+  names_sound v c = ((far_is_all sources unit).1 v).0 c
+
+  names_complete : (v : List ℕ) → Rests sources unit v → Contains (far_of sources unit) v
+  names_complete v r = ((far_is_all sources unit).1 v).1 r
+
+  those_blocking : AreThose sources unit (IsBlocking sources) (filter (is_blocking sources) (far_of sources unit))
+  those_blocking = blocking_those (far_of sources unit) (filter (is_blocking sources) (far_of sources unit)) (far_is_all sources unit).0 names_sound names_complete refl
+
+  those_recursive : AreThose sources unit (IsRecursive sources) (filter (is_recursive sources) (far_of sources unit))
+  those_recursive =
+      recursive_those (far_of sources unit) (filter (is_recursive sources) (far_of sources unit)) names_sound names_complete
+      (IsStrictlySortedBy-filter name_cmp (is_recursive sources) (far_of sources unit) (far_is_all sources unit).0)
+      (λ v. (
+        λ c. let p = passes_in_filter (is_recursive sources) (far_of sources unit) v c in (p.among, (recursive_is sources v).0 p.passes),
+        λ r. contains_filter (is_recursive sources) (far_of sources unit) v r.0 ((recursive_is sources v).1 r.1),
+      ))
+
+  -- ---- a sound unit
+
+  faultless : IsSound sources unit → (u : List ℕ) → Rests sources unit u → AreFaultless sources u
+  faultless sound u r v s = (λ e. contains_nothing v ((sound.whole.members v).1 (rests_on r s, inl e)), by (faults_of sources v) refl)
+    where
+      rests_on : {a b c : List ℕ} → Rests sources a b → Rests sources b c → Rests sources a c
+      rests_on itself k = k
+      rests_on (through m h) k = through m (rests_on h k)
+
+      by : (fs : List Fault) → faults_of sources v ≡ fs → faults_of sources v ≡ []
+      by [] f = f
+      by (x ∷ fs) f = absurd (contains_nothing v ((sound.whole.members v).1 (rests_on r s, inr (λ n. let no : ⊥ = cc in no))))
+
+  finite : IsSound sources unit → (v : List ℕ) → Rests sources unit v → IsRecursive sources v → ⊥
+  finite sound v r rec = contains_nothing v ((sound.finite.members v).1 (r, rec))
+
+  done : IsSound sources unit → (v : List ℕ) → Rests sources unit v → IsDone sources (length (far_of sources unit)) v
+  done sound v r = all_done (far_deep sources unit (finite sound) v r) (faultless sound v r)
+
+  done_mention : IsSound sources unit → (v : List ℕ) → Contains (mentions_at sources unit) v → IsDone sources (length (far_of sources unit)) v
+  done_mention sound v m = done sound v (through m itself)
+
+  unit_faultless : IsSound sources unit → faults_of sources unit ≡ []
+  unit_faultless sound = (faultless sound unit itself unit itself).1
+
+  -- ---- its flat network
+
+  flat_applications : (view : View) (depth : ℕ) (list : List Application) → ((a : Application) → Contains list a → IsFlat view a.network (composed view (flats_of depth view) a.network)) → AreFlatApplications view list (map (flat_application view (flats_of depth view)) list)
+  flat_applications view depth [] each = NoApplication
+  flat_applications view depth (a ∷ list) each =
+      ThenApplication a (flat_application view (flats_of depth view) a) (record { name = refl; net = each a (contains_here a list) })
+      (flat_applications view depth list (λ b c. each b (contains_later a list b c)))
+
+  joined_is : (flats : List FlatApplication) → IsSystemFlat flats (joined flats)
+  joined_is flats =
+      let made = flat_map application_links flats in
+      let ordered = links_ordered made in
+      record {
+        blocks = refl;
+        links = system_links_are flats made (in_order link_cmp made) refl ordered.kept ordered.added;
+        links_sorted = in_order-sorted link_cmp link_cmp_total made;
+        borders = refl;
+      }
+
+  system_flat : (s : SystemTree) → tree_at sources unit ≡ Some (system_configuration s) → IsSound sources unit → IsUnitFlat sources unit (flat_of_tree (declared sources) (flats_of (length (far_of sources unit)) (declared sources)) (system_configuration s))
+  system_flat s present sound =
+      let view = declared sources in
+      let depth = length (far_of sources unit) in
+      let list = applications_of (system_configuration s) in
+      let flats = map (flat_application view (flats_of depth view)) list in
+      let is : applications_at sources unit ≡ Some list = ap (option_map applications_of) present in
+      let clean = applications_clean sources unit list is (unit_faultless sound) in
+      OfSystem list flats (ap (option_map kind_of) present) is
+      (flat_applications view depth list
+      (λ a c. flat_with sources depth a.network (clean.sound a c).clean (λ i h. done_mention sound i.type_name ((applications_within sources unit list is a c).types i h))))
+      (joined_is flats)
+
+  type_flat : (d : TypeTree) → tree_at sources unit ≡ Some (subapplication_type d) → IsSound sources unit → IsUnitFlat sources unit (flat_of_tree (declared sources) (flats_of (length (far_of sources unit)) (declared sources)) (subapplication_type d))
+  type_flat d present sound =
+      let network = network_of (subapplication_type d) in
+      let is : declared sources unit ≡ Some network = ap (option_map network_of) present in
+      OfSubapplication network (ap (option_map kind_of) present) is
+      (flat_with sources (length (far_of sources unit)) network (networks_clean sources unit network is (unit_faultless sound)).clean
+      (λ i h. done_mention sound i.type_name ((declared_within sources unit network is).types i h)))
+
+  unit_flat : (tree : DeclTree) → tree_at sources unit ≡ Some tree → has_net_tree tree ≡ true → IsSound sources unit → IsUnitFlat sources unit (flat_of_tree (declared sources) (flats_of (length (far_of sources unit)) (declared sources)) tree)
+  unit_flat (block_type d) present has sound = absurd (false≢true has)
+  unit_flat (adapter_type d) present has sound = absurd (false≢true has)
+  unit_flat (subapplication_type d) present has sound = type_flat d present sound
+  unit_flat (system_configuration s) present has sound = system_flat s present sound
+
+  -- ---- its net
+
+  unit_held : (tree : DeclTree) → tree_at sources unit ≡ Some tree → IsSound sources unit → Holds sources unit (held_by (held_of (length (far_of sources unit)) (declared sources)) (own_instances tree))
+  unit_held tree present sound = record {
+    tree = tree;
+    present = present;
+    instances = held_with sources (length (far_of sources unit)) (own_instances tree) (λ i c. done_mention sound i.type_name (own_within sources unit tree present i c));
+  }
+
+  sized_is : (held : List Held) (flat : PlainFlat) → IsSound sources unit → Holds sources unit held → IsUnitFlat sources unit flat → IsNet sources unit (sized_net held flat)
+  sized_is held flat sound holds is = by (nat_lt INSTANCE_LIMIT (length held)) refl
+    where
+      by : (b : Bool) → nat_lt INSTANCE_LIMIT (length held) ≡ b → IsNet sources unit (cond b too_large (flat_net flat))
+      by true e = (sound, record { held = held; holds = holds; more = grind (arith, nat_tests) })
+      by false e = (sound, record { held = held; holds = holds; within = grind (arith, nat_tests) }, is)
+
+  finite_is : (tree : DeclTree) → tree_at sources unit ≡ Some tree → has_net_tree tree ≡ true → IsSound sources unit → IsNet sources unit (finite_net (length (far_of sources unit)) sources tree)
+  finite_is tree present has sound = sized_is _ _ sound (unit_held tree present sound) (unit_flat tree present has sound)
+
+  first_is : (xs ys : List (List ℕ)) (net : PlainNet) → AreThose sources unit (IsBlocking sources) xs → AreThose sources unit (IsRecursive sources) ys → (IsSound sources unit → IsNet sources unit net) → IsNet sources unit (first_net xs ys net)
+  first_is [] [] net b r last = last (record { whole = b; finite = r })
+  first_is [] (y ∷ ys) net b r last = (b, r, λ e. let no : ⊥ = cc in no)
+  first_is (x ∷ xs) ys net b r last = (b, λ e. let no : ⊥ = cc in no)
+
+  net_of_tree_is : (tree : DeclTree) → tree_at sources unit ≡ Some tree → has_net_tree tree ≡ true → IsNet sources unit (net_of_tree sources unit tree)
+  net_of_tree_is tree present has = first_is _ _ _ those_blocking those_recursive (finite_is tree present has)
+
+  -- the computed net of a unit that has one
+  record Computed : Type 0 where
+    pub net : PlainNet
+    pub at : net_at sources unit ≡ Some net
+    pub is : IsNet sources unit net
+
+  computed : HasNet sources unit → Computed
+  unfolding net_at
+  computed has = by_tree (tree_at sources unit) refl
+    where
+      by_test : (tree : DeclTree) (b : Bool) → tree_at sources unit ≡ Some tree → has_net_tree tree ≡ b → Computed
+      by_test tree true present e = record {
+        net = net_of_tree sources unit tree;
+        at = ap (net_in sources unit) present ∙ ap (λ c. if c then Some (net_of_tree sources unit tree) else None) e;
+        is = net_of_tree_is tree present e;
+      }
+      by_test tree false present e = absurd (false≢true ((net_kind sources unit tree false present (sym e)).1 has))
+
+      by_tree : (o : Option DeclTree) → tree_at sources unit ≡ o → Computed
+      by_tree None e = absurd (false≢true ((no_net_kind sources unit e).1 has))
+      by_tree (Some tree) e = by_test tree (has_net_tree tree) e refl
+
+  has_computed : (net : PlainNet) → net_at sources unit ≡ Some net → HasNet sources unit
+  unfolding net_at
+  has_computed net at = by_tree (tree_at sources unit) refl at
+    where
+      by_test : (tree : DeclTree) (b : Bool) → tree_at sources unit ≡ Some tree → has_net_tree tree ≡ b → (if b then Some (net_of_tree sources unit tree) else None) ≡ Some net → HasNet sources unit
+      by_test tree true present e there = (net_kind sources unit tree true present (sym e)).0 refl
+      by_test tree false present e there = absurd (let no : ⊥ = cc in no)
+
+      by_tree : (o : Option DeclTree) → tree_at sources unit ≡ o → net_in sources unit o ≡ Some net → HasNet sources unit
+      by_tree None e there = absurd (let no : ⊥ = cc in no)
+      by_tree (Some tree) e there = by_test tree (has_net_tree tree) e refl there
+
+  computed_is : (net : PlainNet) → net_at sources unit ≡ Some net → HasNet sources unit × IsNet sources unit net
+  computed_is net at =
+      let has = has_computed net at in
+      let c = computed has in
+      let there = c.at in
+      let same : c.net ≡ net = cc in
+      (has, subst (IsNet sources unit) same c.is)
+
+  is_computed : (net : PlainNet) → HasNet sources unit → IsNet sources unit net → net_at sources unit ≡ Some net
+  is_computed net has is = let c = computed has in c.at ∙ ap (λ n. Some n) (one_net_only sources unit c.net net c.is is)
+
+-- whether there is a net is told by the tree
+pub has_by_text : HasNetByText
+has_by_text sources unit = by (tree_at sources unit) refl
+  where
+    by : (o : Option DeclTree) → tree_at sources unit ≡ o → (has_net_in o ≡ true) ↔ HasNet sources unit
+    by None e = no_net_kind sources unit e
+    by (Some tree) e = net_kind sources unit tree (has_net_tree tree) e refl
+
+pub net_at_is : NetAtIsNet
+net_at_is sources unit net = (computed_is sources unit net, λ h. is_computed sources unit net h.0 h.1)
+
+same_kind : (a b : Sources) (unit : List ℕ) → get a unit ≡ get b unit → HasNet a unit → HasNet b unit
+same_kind a b unit e has = subst (λ o. (option_map kind_of (option_and_then tree_of o) ≡ Some kinds.Subapplication) ⊎ (option_map kind_of (option_and_then tree_of o) ≡ Some kinds.System)) e has
+
+there : (a b : Sources) (unit : List ℕ) → AgreeFar unit a b → (net : PlainNet) → net_at a unit ≡ Some net → net_at b unit ≡ Some net
+there a b unit agree net at =
+    let p = (net_at_is a unit net).0 at in
+    (net_at_is b unit net).1 (same_kind a b unit (agree unit itself) p.0, net_local a b unit agree net p.1)
+
+pub net_at_local : NetAtIsLocal
+net_at_local a b unit agree = by (net_at a unit) refl (net_at b unit) refl
+  where
+    back : AgreeFar unit b a
+    back name r = sym (agree name ((far_local a b unit agree name).1 r))
+
+    by : (o : Option PlainNet) → net_at a unit ≡ o → (p : Option PlainNet) → net_at b unit ≡ p → net_at a unit ≡ net_at b unit
+    by (Some net) e p f = e ∙ sym (there a b unit agree net e)
+    by None e None f = e ∙ sym f
+    by None e (Some net) f = there b a unit back net f ∙ sym f

@@ -1,0 +1,33 @@
+//! What a unit rests on, and its net, by the functions of the specs.
+ghost use Rattle.std.specs.Prelude.{◌≡◌, true, Some, IfOk};
+ghost use Rattle.fb_library.specs.View.{tree_at};
+ghost use Rattle.fb_flatten.specs.Net.{plain_net};
+ghost use Rattle.fb_nets.specs.Far.{far_of};
+ghost use Rattle.fb_nets.specs.Nets.{has_net_in, net_at};
+
+use fb_flatten::{Net, has_net, net_of};
+use fb_library::{View, far};
+use fb_text::Name;
+use std::alloc::{AllocError, Global};
+
+/// All names that the unit rests on, itself and absent ones included, in order, each once.
+pub fn all_far<V: View>(alloc: Global, view: &V, unit: Name) -> Result<Vec<Name>, AllocError>
+    ensures { IfOk result (λ names. names.items ≡ far_of (V.sources view.now) unit) }
+{
+    far(alloc, view, unit)
+}
+
+/// Whether the unit is a subapplication or a system, and so has a net.
+pub fn is_of_net<V: View>(view: &V, unit: &Name) -> bool
+    ensures { result ≡ has_net_in (tree_at (V.sources view.now) unit.now) }
+{
+    has_net(view, unit)
+}
+
+/// The net of a subapplication or a system.
+pub fn net_of_unit<V: View>(alloc: Global, view: &V, unit: Name) -> Result<Net, AllocError>
+    requires { has_net_in (tree_at (V.sources view.now) unit) ≡ true }
+    ensures { IfOk result (λ net. net_at (V.sources view.now) unit ≡ Some (plain_net net)) }
+{
+    net_of(alloc, view, unit)
+}
