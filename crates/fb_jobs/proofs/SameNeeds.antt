@@ -17,10 +17,13 @@ use Rattle.fb_library.proofs.Sources.{get_source}
 use Rattle.fb_library.proofs.WalkLemmas.{has-Contains}
 use Rattle.fb_library.proofs.LocalLemmas.{near_unit, near_local}
 use Rattle.fb_faults.proofs.LocalLemmas.{faults_local}
+use Rattle.fb_nets.specs.Far.{far_of}
+use Rattle.fb_nets.proofs.FarLemmas.{far_is_all, far_of_local, far_unit}
+use Rattle.fb_nets.proofs.NetLemmas.{net_at_local}
 use Rattle.fb_jobs.specs.declared.key.Kind.{Kind}
 use Rattle.fb_jobs.specs.declared.key.Kind.TheVariants.{Faults, Net, Deploy}
 use Rattle.fb_jobs.specs.declared.key.Key.{Key}
-use Rattle.fb_jobs.specs.Keys.{needs, needs_of, has_key, has_kind_at, scratch, scratch_of, FaultsFound}
+use Rattle.fb_jobs.specs.Keys.{needs, needs_of, has_key, has_kind_at, scratch, scratch_of, net_finding, FaultsFound}
 use Rattle.fb_jobs.specs.Reads.{is_among, Agree}
 
 pub at_itself : (n : List ℕ) → is_at (name_cmp n) n ≡ true
@@ -39,19 +42,28 @@ same_sources : (T T' : Texts) (names : List (List ℕ)) → Agree T T' names →
 same_sources T T' names agree n among = get_source T n ∙ agree n (has-Contains n names among) ∙ sym (get_source T' n)
 
 unit_of_kind : (T : Texts) (kind : Kind) (u : List ℕ) → is_among u (needs_of kind (sources_of T) u) ≡ true
-unit_of_kind T kind u = has-Contains u (near_of (sources_of T) u) (near_unit (sources_of T) u)
+unit_of_kind T Faults u = has-Contains u (near_of (sources_of T) u) (near_unit (sources_of T) u)
+unit_of_kind T Net u = has-Contains u (far_of (sources_of T) u) (far_unit (sources_of T) u)
+unit_of_kind T Deploy u = has-Contains u (far_of (sources_of T) u) (far_unit (sources_of T) u)
 
 -- a key needs its own unit
 pub unit_needed : (T : Texts) (k : Key) → is_among k.unit (needs T k) ≡ true
 unfolding needs
 unit_needed T k = unit_of_kind T k.kind k.unit
 
-same_near : (T T' : Texts) (kind : Kind) (u : List ℕ) → Agree T T' (needs_of kind (sources_of T) u) → needs_of kind (sources_of T') u ≡ needs_of kind (sources_of T) u
-same_near T T' kind u agree = sym (near_local (sources_of T) (sources_of T') u (same_sources T T' (near_of (sources_of T) u) agree))
+-- texts that agree on all that a unit rests on
+agree_far : (T T' : Texts) (u : List ℕ) → Agree T T' (far_of (sources_of T) u) → local.AgreeFar u (sources_of T) (sources_of T')
+agree_far T T' u agree n r =
+    same_sources T T' (far_of (sources_of T) u) agree n (((far_is_all (sources_of T) u).1 n).1 r)
+
+same_needs : (T T' : Texts) (kind : Kind) (u : List ℕ) → Agree T T' (needs_of kind (sources_of T) u) → needs_of kind (sources_of T') u ≡ needs_of kind (sources_of T) u
+same_needs T T' Faults u agree = sym (near_local (sources_of T) (sources_of T') u (same_sources T T' (near_of (sources_of T) u) agree))
+same_needs T T' Net u agree = sym (far_of_local (sources_of T) (sources_of T') u (agree_far T T' u agree))
+same_needs T T' Deploy u agree = sym (far_of_local (sources_of T) (sources_of T') u (agree_far T T' u agree))
 
 pub needs_local : (T T' : Texts) (k : Key) → Agree T T' (needs T k) → needs T' k ≡ needs T k
 unfolding needs
-needs_local T T' k agree = same_near T T' k.kind k.unit agree
+needs_local T T' k agree = same_needs T T' k.kind k.unit agree
 
 pub has_key_local : (T T' : Texts) (k : Key) → Agree T T' (needs T k) → has_key T' k ≡ has_key T k
 unfolding has_key
@@ -60,7 +72,7 @@ has_key_local T T' k agree = ap (λ o. has_kind_at k.kind o) (sym (agree k.unit 
 same_scratch : (T T' : Texts) (kind : Kind) (u : List ℕ) → Agree T T' (needs_of kind (sources_of T) u) → scratch_of kind (sources_of T') u ≡ scratch_of kind (sources_of T) u
 same_scratch T T' Faults u agree =
     ap FaultsFound (sym (faults_local (sources_of T) (sources_of T') u (same_sources T T' (near_of (sources_of T) u) agree)))
-same_scratch T T' Net u agree = refl
+same_scratch T T' Net u agree = ap net_finding (sym (net_at_local (sources_of T) (sources_of T') u (agree_far T T' u agree)))
 same_scratch T T' Deploy u agree = refl
 
 pub scratch_local : (T T' : Texts) (k : Key) → Agree T T' (needs T k) → scratch T' k ≡ scratch T k
@@ -68,7 +80,9 @@ unfolding needs scratch
 scratch_local T T' k agree = same_scratch T T' k.kind k.unit agree
 
 needs_of_rise : (kind : Kind) (sources : Sources) (u : List ℕ) → IsStrictlySortedBy name_cmp (needs_of kind sources u)
-needs_of_rise kind sources u = in_order-sorted name_cmp name_total (mentions_at sources u ++ u ∷ [])
+needs_of_rise Faults sources u = in_order-sorted name_cmp name_total (mentions_at sources u ++ u ∷ [])
+needs_of_rise Net sources u = (far_is_all sources u).0
+needs_of_rise Deploy sources u = (far_is_all sources u).0
 
 -- what a key needs stands in order
 pub needs_rise : (T : Texts) (k : Key) → IsStrictlySortedBy name_cmp (needs T k)

@@ -1,26 +1,34 @@
 -- Which keys texts have, what a key needs, and what reading it from scratch gives.
-use Rattle.std.specs.Prelude.{ℕ, Bool, false, List, Option, is_some}
+use Rattle.std.specs.Prelude.{ℕ, Bool, false, List, Option, Some, None, is_some}
+use Rattle.std.specs.Option.{option_and_then}
 use Rattle.fb_library.specs.Texts.{Texts, text_at, sources_of}
-use Rattle.fb_library.specs.View.{Sources, near_of}
+use Rattle.fb_library.specs.View.{Sources, near_of, tree_of}
 use Rattle.fb_iface.specs.declared.fault.Fault.{Fault}
 use Rattle.fb_faults.specs.Faults.{faults_of}
+use Rattle.fb_flatten.specs.Net.{PlainNet}
+use Rattle.fb_nets.specs.Far.{far_of}
+use Rattle.fb_nets.specs.Nets.{has_net_in, net_at}
 use Rattle.fb_jobs.specs.declared.key.Kind.{Kind}
 use Rattle.fb_jobs.specs.declared.key.Kind.TheVariants.{Faults, Net, Deploy}
 use Rattle.fb_jobs.specs.declared.key.Key.{Key}
 
--- whether a unit with this text, or with none, has a key of the kind; so far there are keys of the kind `Faults` alone
+-- Whether a unit with this text, or with none, has a key of the kind: each unit has faults, a subapplication and a system have a
+-- net. So far there are no keys of the kind `Deploy`.
 abbrev pub has_kind_at : Kind → Option (List ℕ) → Bool
 has_kind_at Faults text = is_some text
-has_kind_at Net text = false
+has_kind_at Net text = has_net_in (option_and_then tree_of text)
 has_kind_at Deploy text = false
 
 -- whether the key is one of the texts' keys
 unfoldable pub has_key : Texts → Key → Bool
 has_key texts key = has_kind_at key.kind (text_at texts key.unit)
 
--- the names whose texts decide the value of a unit's key, in order
+-- The names whose texts decide the value of a unit's key, in order: for its faults those near it, for the other kinds all that it
+-- rests on.
 abbrev pub needs_of : Kind → Sources → List ℕ → List (List ℕ)
-needs_of kind sources unit = near_of sources unit
+needs_of Faults sources unit = near_of sources unit
+needs_of Net sources unit = far_of sources unit
+needs_of Deploy sources unit = far_of sources unit
 
 unfoldable pub needs : Texts → Key → List (List ℕ)
 needs texts key = needs_of key.kind (sources_of texts) key.unit
@@ -28,11 +36,16 @@ needs texts key = needs_of key.kind (sources_of texts) key.unit
 -- what an entry can hold
 pub data Finding : Type 0 where
   FaultsFound : (faults : List Fault) → Finding
+  NetFound : (net : PlainNet) → Finding
   NothingFound : Finding
+
+abbrev pub net_finding : Option PlainNet → Finding
+net_finding None = NothingFound
+net_finding (Some net) = NetFound net
 
 abbrev pub scratch_of : Kind → Sources → List ℕ → Finding
 scratch_of Faults sources unit = FaultsFound (faults_of sources unit)
-scratch_of Net sources unit = NothingFound
+scratch_of Net sources unit = net_finding (net_at sources unit)
 scratch_of Deploy sources unit = NothingFound
 
 -- the key's value, computed afresh from the texts

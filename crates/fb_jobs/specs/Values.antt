@@ -5,11 +5,12 @@ use Rattle.std.specs.declared.sync.Arc.{Arc}
 use Rattle.std.specs.declared.alloc.Global.{Global}
 use Rattle.fb_library.specs.Texts.{Held}
 use Rattle.fb_parse.specs.Source.{Written}
-use Rattle.fb_jobs.specs.Keys.{Finding, FaultsFound}
+use Rattle.fb_flatten.specs.Net.{plain_net}
+use Rattle.fb_jobs.specs.Keys.{Finding, FaultsFound, NetFound}
 use Rattle.fb_jobs.specs.Reads.{Seen}
 use Rattle.fb_jobs.specs.declared.read.Read.{Read}
 use Rattle.fb_jobs.specs.declared.value.Value.{Value}
-use Rattle.fb_jobs.specs.declared.value.Value.TheVariants.{Faults}
+use Rattle.fb_jobs.specs.declared.value.Value.TheVariants.{Faults, Net}
 
 abbrev pub found_in : ℕ → Option (Arc Written Global) → Option Held
 found_in revision None = None
@@ -27,3 +28,4 @@ IsOwn it = MatchOption it.source (it.revision ≡ 0) (λ source. source.value.un
 
 abbrev pub finding_of : Value → Finding
 finding_of (Faults faults) = FaultsFound faults.items
+finding_of (Net net) = NetFound (plain_net net)

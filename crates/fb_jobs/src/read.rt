@@ -4,6 +4,7 @@ ghost use Rattle.fb_jobs.specs.Keys.{needs, has_key};
 
 use crate::key::{Key, Kind};
 use fb_library::{Library, near};
+use fb_nets::{all_far, is_of_net};
 use fb_parse::Source;
 use fb_text::Name;
 use std::alloc::{AllocError, Global};
@@ -22,17 +23,21 @@ pub struct Read {
 pub fn needed(alloc: Global, library: &Library, key: Key) -> Result<Vec<Name>, AllocError>
     ensures { IfOk result (λ names. names.items ≡ needs library.now key) }
 {
-    near(alloc, library, key.unit)
+    match key.kind {
+        Kind::Faults => near(alloc, library, key.unit),
+        Kind::Net | Kind::Deploy => all_far(alloc, library, key.unit),
+    }
 }
 
-/// Whether the library has the key. So far units have keys of the kind `Faults` alone.
+/// Whether the library has the key: each unit has its faults, a subapplication and a system have a net.
 #[tactic(auto, unfolding(crate::specs::Keys::has_key))]
 pub fn has_key(library: &Library, key: Key) -> bool
     ensures { result ≡ has_key library.now key }
 {
     match key.kind {
         Kind::Faults => library.source(&key.unit).is_some(),
-        Kind::Net | Kind::Deploy => false,
+        Kind::Net => is_of_net(library, &key.unit),
+        Kind::Deploy => false,
     }
 }
 

@@ -1,5 +1,6 @@
 use super::*;
-use fb_iface::Code;
+use fb_flatten::Net;
+use fb_iface::{Code, Fault};
 use fb_library::{Change, Library};
 use fb_parse::Source;
 use fb_text::Name;
@@ -13,6 +14,20 @@ fn library_of(alloc: Global, unit: Name, text: &str) -> Result<Library, Fail> {
     changes.push(Change::Put { base: 0, source })?;
     library.apply(1, &changes)?;
     Ok(library)
+}
+
+fn faults_in(value: &Value) -> Option<&[Fault]> {
+    match value {
+        Value::Faults(faults) => Some(faults.as_slice()),
+        Value::Net(_) => None,
+    }
+}
+
+fn blocked_by(value: &Value) -> Option<&[Name]> {
+    match value {
+        Value::Net(Net::Blocked(names)) => Some(names.as_slice()),
+        _ => None,
+    }
 }
 
 #[test]
@@ -29,9 +44,28 @@ fn a_broken_text_is_one_fault(rt: HostRuntime) -> Result<(), Fail> {
     assert_eq!(rt; finished.reads()[0].name, unit);
     assert_eq!(rt; finished.reads()[0].revision, 1);
     assert!(rt; finished.reads()[0].source.is_some());
-    let Value::Faults(faults) = &**finished.value();
+    let faults = faults_in(finished.value()).ok_or("no faults")?;
     assert_eq!(rt; faults.len(), 1);
     assert_eq!(rt; faults[0].code, Code::Syntax);
+    Ok(())
+}
+
+#[test]
+fn a_net_rests_on_a_type_that_is_absent(rt: HostRuntime) -> Result<(), Fail> {
+    let alloc = rt.alloc();
+    let [s, t] = [Name::read("S")?, Name::read("T")?];
+    let text = "SUBAPPLICATION S FBS X:T; END_FBS END_SUBAPPLICATION";
+    let library = library_of(alloc, s, text)?;
+    let key = Key {
+        kind: Kind::Net,
+        unit: s,
+    };
+    assert!(rt; has_key(&library, key));
+    let finished = Job::make(alloc, &library, key)?.run(alloc)?;
+    assert_eq!(rt; finished.reads().len(), 2);
+    assert!(rt; finished.reads()[0].source.is_some() && finished.reads()[1].source.is_none());
+    let names = blocked_by(finished.value()).ok_or("not blocked")?;
+    assert_eq!(rt; names, [s, t].as_slice());
     Ok(())
 }
 

@@ -6,14 +6,17 @@ ghost use Rattle.fb_jobs.specs.Values.{finding_of};
 
 use crate::key::{Key, Kind};
 use fb_faults::faults;
+use fb_flatten::Net;
 use fb_iface::Fault;
 use fb_library::View;
+use fb_nets::net_of_unit;
 use std::alloc::{AllocError, Global};
 
 /// What an entry holds once it is not pending.
 #[derive(Drop)]
 pub enum Value {
     Faults(Vec<Fault>),
+    Net(Net),
 }
 
 /// The key's value, computed afresh.
@@ -23,6 +26,7 @@ pub(crate) fn value_of<V: View>(alloc: Global, view: &V, key: Key) -> Result<Val
 {
     match key.kind {
         Kind::Faults => Ok(Value::Faults(faults(alloc, view, &key.unit)?)),
-        Kind::Net | Kind::Deploy => unreachable!(),
+        Kind::Net => Ok(Value::Net(net_of_unit(alloc, view, key.unit)?)),
+        Kind::Deploy => unreachable!(),
     }
 }
