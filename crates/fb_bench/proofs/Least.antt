@@ -1,5 +1,5 @@
 -- The least of the keys that pass a test.
-use Rattle.std.proofs.Common.{◌≡◌, ℕ, Bool, true, false, ◌||◌, List, [], ◌∷◌, filter, refl, sym, ap, ◌∙◌, subst, Option, Some, None, cond}
+use Rattle.std.proofs.Common.{◌≡◌, ℕ, Bool, true, false, ◌||◌, List, [], ◌∷◌, ◌++◌, filter, refl, sym, ap, ◌∙◌, subst, Option, Some, None, cond}
 use Rattle.std.specs.List.{list_any}
 use Rattle.std.specs.BTreeMap.{is_at}
 use Rattle.std.specs.Ordering.{is_eq, is_lt, is_gt, ordering_reverse}
@@ -36,9 +36,23 @@ of_kind kind name (n ∷ ns) among =
       | false ↦ λ _ rest. or_right _ _ (of_kind kind name ns rest)
     ] refl among
 
--- the keys of the kind `Faults` are all keys
-pub at_name : (name : List ℕ) (names : List (List ℕ)) → is_among name names ≡ true → list_any (same_key (record { kind = Faults; unit = name })) (all_keys names) ≡ true
-at_name name names among = list_any-append (same_key (record { kind = Faults; unit = name })) (keys_of_kind names Faults) [] ∙ or_left _ _ (of_kind Faults name names among)
+-- whether one of three lists has it
+in_three : (p : Key → Bool) (xs ys zs : List Key) → list_any p (xs ++ (ys ++ (zs ++ []))) ≡ (list_any p xs || (list_any p ys || (list_any p zs || false)))
+in_three p xs ys zs =
+    list_any-append p xs (ys ++ (zs ++ []))
+    ∙ ap (λ b. list_any p xs || b) (list_any-append p ys (zs ++ []) ∙ ap (λ b. list_any p ys || b) (list_any-append p zs []))
+
+-- each name with each kind is one of all keys
+pub at_name : (kind : Kind) (name : List ℕ) (names : List (List ℕ)) → is_among name names ≡ true → list_any (same_key (record { kind = kind; unit = name })) (all_keys names) ≡ true
+at_name Faults name names among =
+    in_three (same_key (record { kind = Faults; unit = name })) (keys_of_kind names Faults) (keys_of_kind names Net) (keys_of_kind names Deploy)
+    ∙ or_left _ _ (of_kind Faults name names among)
+at_name Net name names among =
+    in_three (same_key (record { kind = Net; unit = name })) (keys_of_kind names Faults) (keys_of_kind names Net) (keys_of_kind names Deploy)
+    ∙ or_right _ _ (or_left _ _ (of_kind Net name names among))
+at_name Deploy name names among =
+    in_three (same_key (record { kind = Deploy; unit = name })) (keys_of_kind names Faults) (keys_of_kind names Net) (keys_of_kind names Deploy)
+    ∙ or_right _ _ (or_right _ _ (or_left _ _ (of_kind Deploy name names among)))
 
 pub no_kind : (kind : Kind) → has_kind_at kind None ≡ false
 no_kind Faults = refl
@@ -66,17 +80,11 @@ filtered p k (x ∷ xs) here among =
       | false ↦ λ _ rest. elim (p x) as (λ b. list_any (same_key k) (cond b (x ∷ filter p xs) (filter p xs)) ≡ true) [ true ↦ or_right _ _ (filtered p k xs here rest) | false ↦ filtered p k xs here rest ]
     ] refl among
 
-key_of_kind : (T : Texts) (kind : Kind) (unit : List ℕ) → has_key T (record { kind = kind; unit = unit }) ≡ true → is_among unit (names_of T) ≡ true → list_any (same_key (record { kind = kind; unit = unit })) (all_keys (names_of T)) ≡ true
-unfolding has_key
-key_of_kind T Faults unit has among = at_name unit (names_of T) among
-key_of_kind T Net unit has among = cc
-key_of_kind T Deploy unit has among = cc
-
 -- a key of the texts is among the keys by name
 pub key_named : (T : Texts) (key : Key) → has_key T key ≡ true → list_any (same_key key) (all_keys (names_of T)) ≡ true
 key_named T key has =
     elim (is_among key.unit (names_of T)) as (λ b. is_among key.unit (names_of T) ≡ b → list_any (same_key key) (all_keys (names_of T)) ≡ true) [
-      | true ↦ λ among. key_of_kind T key.kind key.unit has among
+      | true ↦ λ among. at_name key.kind key.unit (names_of T) among
       | false ↦ λ none. let not : has_key T key ≡ false = no_key_unnamed T key none in cc
     ] refl
 

@@ -7,7 +7,6 @@ use Rattle.fb_library.specs.Texts.{Texts, Edit, unit_of, all_edited, text_in}
 use Rattle.std.specs.Option.{option_map}
 use Rattle.fb_jobs.specs.declared.key.Key.{Key}
 use Rattle.fb_jobs.specs.declared.key.Kind.{Kind}
-use Rattle.fb_jobs.specs.declared.key.Kind.TheVariants.{Faults, Net, Deploy}
 use Rattle.fb_jobs.specs.Keys.{has_key, has_kind_at, needs}
 use Rattle.fb_jobs.specs.KeyOrder.{key_cmp}
 use Rattle.fb_jobs.specs.Reads.{is_among}
@@ -33,10 +32,8 @@ and_false false = refl
 
 apart_of : (commit : ℕ) (es : List Edit) (T : Texts) (kind : Kind) (unit : List ℕ) (b : Bool) → is_among unit (map unit_of es) ≡ b → is_own es (record { kind = kind; unit = unit }) ≡ false → has_key (all_edited commit es T) (record { kind = kind; unit = unit }) ≡ has_key T (record { kind = kind; unit = unit })
 unfolding has_key
-apart_of commit es T Faults unit true among apart = let own : is_own es (record { kind = Faults; unit = unit }) ≡ true = at_name unit (map unit_of es) among in cc
-apart_of commit es T Faults unit false among apart = ap (λ o. has_kind_at Faults (option_map text_in o)) (held_all_edited unit commit es T among)
-apart_of commit es T Net unit b among apart = refl
-apart_of commit es T Deploy unit b among apart = refl
+apart_of commit es T kind unit true among apart = let own : is_own es (record { kind = kind; unit = unit }) ≡ true = at_name kind unit (map unit_of es) among in cc
+apart_of commit es T kind unit false among apart = ap (λ o. has_kind_at kind (option_map text_in o)) (held_all_edited unit commit es T among)
 
 -- is there after the commit where it was before
 pub has_apart : (commit : ℕ) (es : List Edit) (T : Texts) (q : Key) → is_own es q ≡ false → has_key (all_edited commit es T) q ≡ has_key T q

@@ -5,7 +5,7 @@ use Rattle.std.specs.Option.{option_map}
 use Rattle.std.specs.Ordering.{is_lt}
 use Rattle.fb_library.specs.Texts.{Texts, Held, held, Edit, Puts, Removes, unit_of, names_of, all_edited}
 use Rattle.fb_jobs.specs.declared.key.Kind.{Kind}
-use Rattle.fb_jobs.specs.declared.key.Kind.TheVariants.{Faults}
+use Rattle.fb_jobs.specs.declared.key.Kind.TheVariants.{Faults, Net, Deploy}
 use Rattle.fb_jobs.specs.declared.key.Key.{Key}
 use Rattle.fb_jobs.specs.Keys.{has_key, needs, scratch, Finding}
 use Rattle.fb_jobs.specs.KeyOrder.{key_cmp, same_key}
@@ -51,7 +51,7 @@ pub data Reply : Type 0 where
 
 -- the kinds, in order
 abbrev pub all_kinds : List Kind
-all_kinds = Faults ∷ []
+all_kinds = Faults ∷ Net ∷ Deploy ∷ []
 
 abbrev pub keys_of_kind : List (List ℕ) → Kind → List Key
 keys_of_kind names kind = map (λ name. record { kind = kind; unit = name }) names

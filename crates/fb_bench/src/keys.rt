@@ -24,6 +24,8 @@ pub(crate) fn keys_by_name(alloc: Global, names: &[Name]) -> Result<Vec<Key>, Al
 {
     let mut keys = Vec::new(alloc);
     add_keys(&mut keys, names, Kind::Faults)?;
+    add_keys(&mut keys, names, Kind::Net)?;
+    add_keys(&mut keys, names, Kind::Deploy)?;
     Ok(keys)
 }
 
