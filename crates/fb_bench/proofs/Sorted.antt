@@ -1,5 +1,5 @@
 -- The texts of every workbench stand by rising name, and its keys by rising key.
-use Rattle.std.proofs.Common.{◌≡◌, ℕ, ◌<◌, true, false, List, [], ◌∷◌, ◌++◌, refl, ap, ◌∙◌, subst, Option, Some, None, cond, arith}
+use Rattle.std.proofs.Common.{◌≡◌, ℕ, ◌<◌, true, false, List, [], ◌∷◌, ◌++◌, refl, ap, ◌∙◌, Option, Some, None, cond, arith}
 use Rattle.std.specs.List.{AllByRecursion}
 use Rattle.std.specs.List.Sorted.{IsStrictlySortedBy}
 use Rattle.std.specs.Map.{remove_entry}
@@ -183,8 +183,8 @@ sorted_all names rise =
     faults [] = tt
     faults (unit ∷ units) = (
       below_before (record { kind = Faults; unit = unit }) (keys_of_kind names Net) (keys_of_kind names Deploy ++ [])
-      (below_kind Faults Net unit names (omega arith))
-      (below_before (record { kind = Faults; unit = unit }) (keys_of_kind names Deploy) [] (below_kind Faults Deploy unit names (omega arith)) tt),
+          (below_kind Faults Net unit names (omega arith))
+          (below_before (record { kind = Faults; unit = unit }) (keys_of_kind names Deploy) [] (below_kind Faults Deploy unit names (omega arith)) tt),
       faults units,
     )
 

@@ -1,11 +1,10 @@
 -- A unit has a net by its own text.
-use Rattle.std.proofs.Common.{◌≡◌, ℕ, List, Option, ap, sym, ◌∙◌}
+use Rattle.std.proofs.Common.{ℕ, List, Option, ap, sym, ◌∙◌}
 use Rattle.std.specs.Option.{option_and_then}
 use Rattle.fb_library.specs.Texts.{text_at}
 use Rattle.fb_library.specs.View.{tree_of}
 use Rattle.fb_jobs.specs.Keys.{has_key, has_kind_at}
 use Rattle.fb_jobs.specs.declared.key.Kind.{Kind}
-use Rattle.fb_jobs.specs.declared.key.Kind.TheVariants.{Net}
 use Rattle.fb_nets.specs.Nets.{has_net_in}
 use Rattle.fb_jobs.proofs.Sources.{get_source}
 use Rattle.fb_jobs.proofs.read.has_key.Goals as goal
