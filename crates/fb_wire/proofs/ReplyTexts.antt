@@ -1,9 +1,15 @@
 -- No reply has a float.
-use Rattle.std.proofs.Common.{◌≡◌, List, [], ◌∷◌, false, refl}
+use Rattle.std.proofs.Common.{◌≡◌, ℕ, List, [], ◌∷◌, false, refl}
 use Rattle.fb_iface.specs.declared.fault.Fault.{Fault}
 use Rattle.serde_json.specs.Written.{has_float, items_have_float}
-use Rattle.fb_jobs.specs.Keys.{Finding, FaultsFound, NothingFound}
+use Rattle.fb_network.specs.declared.flat.FlatBlock.{FlatBlock}
+use Rattle.fb_network.specs.declared.flat.Link.{Link}
+use Rattle.fb_network.specs.declared.flat.Border.{Border}
+use Rattle.fb_network.specs.PlainFlat.{PlainFlat}
+use Rattle.fb_flatten.specs.Net.{PlainNet, blocked, recursive, too_large, flat_net}
+use Rattle.fb_jobs.specs.Keys.{Finding, FaultsFound, NetFound, NothingFound}
 use Rattle.fb_jobs.specs.Values.{finding_of}
+use Rattle.fb_wire.specs.NetReplies.{name_items, block_items, border_items, link_items, flat_said, net_said}
 use Rattle.fb_wire.specs.Replies.{fault_items, value_said}
 use Rattle.fb_wire.specs.ReplyView.{data_of}
 use Rattle.fb_wire.specs.declared.reply.Reply.{Reply}
@@ -13,8 +19,35 @@ pub items_have_float-fault_items : (fs : List Fault) → items_have_float (fault
 items_have_float-fault_items [] = refl
 items_have_float-fault_items (f ∷ fs) = items_have_float-fault_items fs
 
+items_have_float-name_items : (names : List (List ℕ)) → items_have_float (name_items names) ≡ false
+items_have_float-name_items [] = refl
+items_have_float-name_items (n ∷ ns) = items_have_float-name_items ns
+
+items_have_float-block_items : (blocks : List FlatBlock) → items_have_float (block_items blocks) ≡ false
+items_have_float-block_items [] = refl
+items_have_float-block_items (b ∷ bs) = items_have_float-block_items bs
+
+items_have_float-border_items : (borders : List Border) → items_have_float (border_items borders) ≡ false
+items_have_float-border_items [] = refl
+items_have_float-border_items (b ∷ bs) = items_have_float-border_items bs
+
+items_have_float-link_items : (links : List Link) → items_have_float (link_items links) ≡ false
+items_have_float-link_items [] = refl
+items_have_float-link_items (l ∷ ls) = items_have_float-link_items ls
+
+has_float-flat_said : (flat : PlainFlat) → has_float (flat_said flat) ≡ false
+has_float-flat_said flat =
+    rw (items_have_float-block_items flat.blocks, items_have_float-border_items flat.borders, items_have_float-link_items flat.links) refl
+
+has_float-net_said : (net : PlainNet) → has_float (net_said net) ≡ false
+has_float-net_said (blocked names) = rw (items_have_float-name_items names) refl
+has_float-net_said (recursive names) = rw (items_have_float-name_items names) refl
+has_float-net_said too_large = refl
+has_float-net_said (flat_net flat) = has_float-flat_said flat
+
 has_float-value_said : (f : Finding) → has_float (value_said f) ≡ false
 has_float-value_said (FaultsFound faults) = rw (items_have_float-fault_items faults) refl
+has_float-value_said (NetFound net) = rw (has_float-net_said net) refl
 has_float-value_said NothingFound = refl
 
 pub has_float-data_of : (r : Reply) → has_float (data_of r) ≡ false

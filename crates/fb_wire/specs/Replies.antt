@@ -8,7 +8,7 @@ use Rattle.fb_iface.specs.Code.{code_word}
 use Rattle.fb_jobs.specs.declared.key.Kind.{Kind}
 use Rattle.fb_jobs.specs.declared.key.Kind.TheVariants.{Faults, Net, Deploy}
 use Rattle.fb_jobs.specs.declared.key.Key.{Key}
-use Rattle.fb_jobs.specs.Keys.{Finding, FaultsFound, NothingFound}
+use Rattle.fb_jobs.specs.Keys.{Finding, FaultsFound, NetFound, NothingFound}
 use Rattle.fb_jobs.specs.Reads.{Order}
 use Rattle.fb_bench.specs.Machine.{Reply, OfCommit, OfTake, OfDeliver, OfGiveBack, OfAsk, Shown, Finds, Waits, Unknown}
 use Rattle.fb_bench.specs.Calls.{Answer, Replied, FullHistory, BehindHistory}
@@ -18,6 +18,7 @@ use Rattle.fb_bench.specs.declared.answers.Delivered.{Delivered}
 use Rattle.fb_bench.specs.declared.answers.Delivered.TheVariants.{Accepted, NoSuchKey, NotPending, Stale}
 use Rattle.fb_bench.specs.declared.answers.GivenBack.{GivenBack}
 use Rattle.fb_bench.specs.declared.answers.GivenBack.TheVariants.{Returned, NothingOut}
+use Rattle.fb_wire.specs.NetReplies.{net_found}
 
 abbrev pub count : ℕ → Data
 count n = number (unsigned n)
@@ -97,6 +98,7 @@ faults_found fs = one_member (codes "faults") (array (fault_items fs))
 
 abbrev pub value_said : Finding → Data
 value_said (FaultsFound faults) = faults_found faults
+value_said (NetFound net) = net_found net
 -- no entry holds this
 value_said NothingFound = refused (codes "NoSuchKey")
 

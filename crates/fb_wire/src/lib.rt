@@ -11,6 +11,7 @@ mod laws;
 mod line;
 mod memory_feed;
 mod memory_sink;
+mod net_reply;
 mod piece;
 mod reply;
 mod request;

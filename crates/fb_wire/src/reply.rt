@@ -6,6 +6,7 @@ ghost use Rattle.fb_jobs.specs.Values.{finding_of};
 ghost use Rattle.fb_wire.specs.Replies.{fault_items, fault_item, kind_text, reply_line, value_said};
 ghost use Rattle.fb_wire.specs.ReplyView.{refusal_text, data_of};
 
+use crate::net_reply::net_value;
 use fb_iface::Fault;
 use fb_jobs::{Key, Kind, Value as EntryValue};
 use fb_text::Name;
@@ -116,6 +117,7 @@ fn entry_value(alloc: Global, value: &EntryValue) -> Result<Value, AllocError>
             let items = faults_value(alloc, faults)?;
             json!(in alloc; {"faults": items})
         }
+        EntryValue::Net(net) => net_value(alloc, net),
     }
 }
 
