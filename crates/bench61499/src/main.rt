@@ -8,6 +8,8 @@ mod fault;
 mod library_tests;
 #[cfg(test)]
 mod line_tests;
+#[cfg(test)]
+mod net_tests;
 mod program;
 #[cfg(test)]
 mod tests;
