@@ -9,3 +9,7 @@ pub mod NetLemmas
 pub mod OneNet
 pub mod NetLocal
 pub mod KindLemmas
+pub mod FarNames
+pub mod Depths
+pub mod ComputedFlats
+pub mod ComputedNets

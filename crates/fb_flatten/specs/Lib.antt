@@ -5,3 +5,5 @@ pub mod Units
 pub mod Net
 pub mod Tables
 pub mod Laws
+pub mod Far
+pub mod Nets

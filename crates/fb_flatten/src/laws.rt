@@ -1,6 +1,8 @@
 //! Laws of flat networks of units.
+ghost use Rattle.fb_flatten.specs.Far.{FarIsAll, FarOfIsLocal};
 ghost use Rattle.fb_flatten.specs.Laws.{NetIsLocal, OneNet};
 ghost use Rattle.fb_flatten.specs.Locality.{FlatNetworksAreLocal};
+ghost use Rattle.fb_flatten.specs.Nets.{HasNetByText, NetAtIsLocal, NetAtIsNet};
 
 /// The flat network of a network, and the number of its instances, depend on the networks alone that it rests on.
 pub fn flat_networks_are_local()
@@ -15,4 +17,29 @@ pub fn one_net()
 /// The net of a unit depends on the texts alone that the unit rests on.
 pub fn net_is_local()
     ensures { NetIsLocal }
+{}
+
+/// The names that opening finds are all that the unit rests on.
+pub fn far_is_all()
+    ensures { FarIsAll }
+{}
+
+/// They depend on the texts alone that the unit rests on.
+pub fn far_of_is_local()
+    ensures { FarOfIsLocal }
+{}
+
+/// Whether a unit has a net is told by its own text.
+pub fn has_net_by_text()
+    ensures { HasNetByText }
+{}
+
+/// The computed net is the one net of the unit.
+pub fn net_at_is_net()
+    ensures { NetAtIsNet }
+{}
+
+/// It depends on the texts alone that the unit rests on.
+pub fn net_at_is_local()
+    ensures { NetAtIsLocal }
 {}

@@ -2,14 +2,19 @@
 #![tactic(auto)]
 
 mod blocking;
+mod computed;
 mod kinds;
 mod laws;
 mod net;
 mod tables;
 mod units;
 
+pub use computed::{all_far, is_of_net, net_of_unit};
 pub use kinds::has_net;
-pub use laws::{flat_networks_are_local, net_is_local, one_net};
+pub use laws::{
+    far_is_all, far_of_is_local, flat_networks_are_local, has_net_by_text, net_at_is_local,
+    net_at_is_net, net_is_local, one_net,
+};
 pub use net::{Net, net_of};
 
 #[cfg(test)]

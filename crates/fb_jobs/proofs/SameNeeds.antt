@@ -17,9 +17,9 @@ use Rattle.fb_library.proofs.Sources.{get_source}
 use Rattle.fb_library.proofs.WalkLemmas.{has-Contains}
 use Rattle.fb_library.proofs.LocalLemmas.{near_unit, near_local}
 use Rattle.fb_faults.proofs.LocalLemmas.{faults_local}
-use Rattle.fb_nets.specs.Far.{far_of}
-use Rattle.fb_nets.proofs.FarLemmas.{far_is_all, far_of_local, far_unit}
-use Rattle.fb_nets.proofs.NetLemmas.{net_at_local}
+use Rattle.fb_flatten.specs.Far.{far_of}
+use Rattle.fb_flatten.proofs.FarNames.{far_is_all, far_of_local, far_unit}
+use Rattle.fb_flatten.proofs.ComputedNets.{net_at_local}
 use Rattle.fb_jobs.specs.declared.key.Kind.{Kind}
 use Rattle.fb_jobs.specs.declared.key.Kind.TheVariants.{Faults, Net, Deploy}
 use Rattle.fb_jobs.specs.declared.key.Key.{Key}

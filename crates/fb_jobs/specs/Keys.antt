@@ -6,8 +6,8 @@ use Rattle.fb_library.specs.View.{Sources, near_of, tree_of}
 use Rattle.fb_iface.specs.declared.fault.Fault.{Fault}
 use Rattle.fb_faults.specs.Faults.{faults_of}
 use Rattle.fb_flatten.specs.Net.{PlainNet}
-use Rattle.fb_nets.specs.Far.{far_of}
-use Rattle.fb_nets.specs.Nets.{has_net_in, net_at}
+use Rattle.fb_flatten.specs.Far.{far_of}
+use Rattle.fb_flatten.specs.Nets.{has_net_in, net_at}
 use Rattle.fb_jobs.specs.declared.key.Kind.{Kind}
 use Rattle.fb_jobs.specs.declared.key.Kind.TheVariants.{Faults, Net, Deploy}
 use Rattle.fb_jobs.specs.declared.key.Key.{Key}

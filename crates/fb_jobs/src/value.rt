@@ -6,10 +6,9 @@ ghost use Rattle.fb_jobs.specs.Values.{finding_of};
 
 use crate::key::{Key, Kind};
 use fb_faults::faults;
-use fb_flatten::Net;
+use fb_flatten::{Net, net_of_unit};
 use fb_iface::Fault;
 use fb_library::View;
-use fb_nets::net_of_unit;
 use std::alloc::{AllocError, Global};
 
 /// What an entry holds once it is not pending.

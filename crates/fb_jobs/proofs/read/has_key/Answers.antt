@@ -5,7 +5,7 @@ use Rattle.fb_library.specs.Texts.{text_at}
 use Rattle.fb_library.specs.View.{tree_of}
 use Rattle.fb_jobs.specs.Keys.{has_key, has_kind_at}
 use Rattle.fb_jobs.specs.declared.key.Kind.{Kind}
-use Rattle.fb_nets.specs.Nets.{has_net_in}
+use Rattle.fb_flatten.specs.Nets.{has_net_in}
 use Rattle.fb_jobs.proofs.Sources.{get_source}
 use Rattle.fb_jobs.proofs.read.has_key.Goals as goal
 

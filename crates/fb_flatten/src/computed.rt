@@ -2,10 +2,11 @@
 ghost use Rattle.std.specs.Prelude.{◌≡◌, true, Some, IfOk};
 ghost use Rattle.fb_library.specs.View.{tree_at};
 ghost use Rattle.fb_flatten.specs.Net.{plain_net};
-ghost use Rattle.fb_nets.specs.Far.{far_of};
-ghost use Rattle.fb_nets.specs.Nets.{has_net_in, net_at};
+ghost use Rattle.fb_flatten.specs.Far.{far_of};
+ghost use Rattle.fb_flatten.specs.Nets.{has_net_in, net_at};
 
-use fb_flatten::{Net, has_net, net_of};
+use crate::kinds::has_net;
+use crate::net::{Net, net_of};
 use fb_library::{View, far};
 use fb_text::Name;
 use std::alloc::{AllocError, Global};

@@ -2,9 +2,9 @@
 use Rattle.std.proofs.Common.{Result, Ok, Err}
 use Rattle.std.specs.Prelude.{IfOk}
 use Rattle.fb_library.proofs.FarLemmas.{one_list}
-use Rattle.fb_nets.specs.Far.{far_of}
-use Rattle.fb_nets.proofs.FarLemmas.{far_is_all}
-use Rattle.fb_nets.proofs.units.all_far.Goals as goal
+use Rattle.fb_flatten.specs.Far.{far_of}
+use Rattle.fb_flatten.proofs.FarNames.{far_is_all}
+use Rattle.fb_flatten.proofs.computed.all_far.Goals as goal
 
 all_three : {X E : Type 0} (r : Result X E) (P Q R S : X → Type 0) → ((x : X) → P x → Q x → R x → S x) → IfOk r P → IfOk r Q → IfOk r R → IfOk r S
 all_three (Ok x) P Q R S f p q s = f x p q s

@@ -14,9 +14,9 @@ use Rattle.fb_library.proofs.WalkLemmas.{Contains-has, has-Contains}
 use Rattle.fb_order.specs.Reaches.{Reaches, directly, onward, IsRecursive}
 use Rattle.fb_order.proofs.StackLemmas.{reaches_more}
 use Rattle.fb_iface.proofs.Members.{contains_here}
-use Rattle.fb_nets.specs.Far.{far_of}
-use Rattle.fb_nets.specs.Nets.{is_recursive}
-use Rattle.fb_nets.proofs.FarLemmas.{far_is_all, one_fewer, some_unseen, all_unseen}
+use Rattle.fb_flatten.specs.Far.{far_of}
+use Rattle.fb_flatten.specs.Nets.{is_recursive}
+use Rattle.fb_flatten.proofs.FarNames.{far_is_all, one_fewer, some_unseen, all_unseen}
 
 -- the type mentions others through fewer depths than this
 pub data Deep (sources : Sources) : ℕ → List ℕ → Type 0 where

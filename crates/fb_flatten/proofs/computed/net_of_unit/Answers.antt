@@ -1,8 +1,8 @@
 -- There is one net of the unit.
 use Rattle.std.proofs.lemmas.Result.{IfOk-weaker}
 use Rattle.fb_flatten.specs.Net.{plain_net}
-use Rattle.fb_nets.proofs.NetLemmas.{has_by_text, net_at_is}
-use Rattle.fb_nets.proofs.units.net_of_unit.Goals as goal
+use Rattle.fb_flatten.proofs.ComputedNets.{has_by_text, net_at_is}
+use Rattle.fb_flatten.proofs.computed.net_of_unit.Goals as goal
 
 pub returns : goal.returns
 returns g c =

@@ -26,7 +26,7 @@ use Rattle.fb_wiring.specs.declared.systems.Application.{Application}
 use Rattle.fb_flatten.specs.Blocking.{is_blocking}
 use Rattle.fb_flatten.specs.Net.{PlainNet, blocked, recursive, too_large, flat_net, IsNet}
 use Rattle.fb_flatten.specs.Units.{HasNet, has_net_tree, own_instances}
-use Rattle.fb_nets.specs.Far.{far_of}
+use Rattle.fb_flatten.specs.Far.{far_of}
 
 -- ---- flat networks
 

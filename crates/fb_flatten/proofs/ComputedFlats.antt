@@ -31,8 +31,8 @@ use Rattle.fb_wiring.specs.Networks.{network_of}
 use Rattle.fb_wiring.proofs.UnitLemmas.{networks_clean}
 use Rattle.fb_flatten.proofs.MentionLemmas.{declared_within}
 use Rattle.fb_flatten.proofs.OrderLemmas.{tree_of_faultless}
-use Rattle.fb_nets.specs.Nets.{composed, composed_at, flats_of, held_inside, held_by, held_at, held_of}
-use Rattle.fb_nets.proofs.DepthLemmas.{Deep, deep}
+use Rattle.fb_flatten.specs.Nets.{composed, composed_at, flats_of, held_inside, held_by, held_at, held_of}
+use Rattle.fb_flatten.proofs.Depths.{Deep, deep}
 
 -- ---- lists in order
 

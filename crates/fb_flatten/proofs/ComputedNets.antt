@@ -42,11 +42,11 @@ use Rattle.fb_flatten.proofs.MentionLemmas.{applications_within, declared_within
 use Rattle.fb_flatten.proofs.NetLemmas.{blocking_those, recursive_those}
 use Rattle.fb_flatten.proofs.NetLocal.{net_local}
 use Rattle.fb_flatten.proofs.OneNet.{one_net_only}
-use Rattle.fb_nets.specs.Far.{far_of}
-use Rattle.fb_nets.specs.Nets.{composed, flats_of, flat_application, joined, flat_of_tree, held_by, held_of, is_recursive, sized_net, finite_net, first_net, net_of_tree, has_net_in, net_in, net_at, HasNetByText, NetAtIsNet, NetAtIsLocal}
-use Rattle.fb_nets.proofs.FarLemmas.{far_is_all}
-use Rattle.fb_nets.proofs.DepthLemmas.{far_deep, recursive_is}
-use Rattle.fb_nets.proofs.FlatLemmas.{AreFaultless, IsDone, all_done, flat_with, held_with, links_ordered}
+use Rattle.fb_flatten.specs.Far.{far_of}
+use Rattle.fb_flatten.specs.Nets.{composed, flats_of, flat_application, joined, flat_of_tree, held_by, held_of, is_recursive, sized_net, finite_net, first_net, net_of_tree, has_net_in, net_in, net_at, HasNetByText, NetAtIsNet, NetAtIsLocal}
+use Rattle.fb_flatten.proofs.FarNames.{far_is_all}
+use Rattle.fb_flatten.proofs.Depths.{far_deep, recursive_is}
+use Rattle.fb_flatten.proofs.ComputedFlats.{AreFaultless, IsDone, all_done, flat_with, held_with, links_ordered}
 
 module _ (sources : Sources) (unit : List ℕ) where
   names_sound : (v : List ℕ) → Contains (far_of sources unit) v → Rests sources unit v

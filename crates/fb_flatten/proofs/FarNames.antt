@@ -18,7 +18,7 @@ use Rattle.fb_library.proofs.LocalLemmas.{far_local}
 use Rattle.fb_library.specs.Seen.{has_name, unseen}
 use Rattle.fb_library.proofs.WalkLemmas.{Contains-has, has-Contains}
 use Rattle.fb_iface.proofs.Members.{contains_flat_map, origin_in_flat_map, contains_here, contains_single}
-use Rattle.fb_nets.specs.Far.{mentioned_in, all_mentioned, opened, opened_times, far_of, FarIsAll, FarOfIsLocal}
+use Rattle.fb_flatten.specs.Far.{mentioned_in, all_mentioned, opened, opened_times, far_of, FarIsAll, FarOfIsLocal}
 
 by_bool : {P : Type 0} (b : Bool) → (b ≡ true → P) → (b ≡ false → P) → P
 by_bool true t f = t refl

@@ -1,0 +1,5 @@
+use Rattle.fb_flatten.proofs.ComputedNets.{net_at_is}
+use Rattle.fb_flatten.proofs.laws.net_at_is_net.Goals as goal
+
+pub returns : goal.returns
+returns c = net_at_is

@@ -1,4 +1,0 @@
-pub mod FarLemmas
-pub mod DepthLemmas
-pub mod FlatLemmas
-pub mod NetLemmas

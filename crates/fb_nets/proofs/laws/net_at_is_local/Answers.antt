@@ -1,5 +1,0 @@
-use Rattle.fb_nets.proofs.NetLemmas.{net_at_local}
-use Rattle.fb_nets.proofs.laws.net_at_is_local.Goals as goal
-
-pub returns : goal.returns
-returns c = net_at_local
