@@ -1,0 +1,4 @@
+pub mod Books
+pub mod Closings
+pub mod Receipts
+pub mod Works
