@@ -5,3 +5,4 @@ pub mod Calls
 pub mod Ends
 pub mod Runs
 pub mod Closing
+pub mod Sitting

@@ -32,19 +32,38 @@ next_claim hall caller call = record { number = length hall.bench.log.records + 
 abbrev pub seat_after : Place → Claim → Place
 seat_after seat claim = record seat { turns = claim.entry.turn; seen = claim.number }
 
--- a reply of the call's kind
-abbrev pub Fits : Call → Reply → Type 0
-Fits (ToCommit edits) (OfCommit answer) = Unit {0}
-Fits ToTake (OfTake order) = Unit {0}
-Fits (ToDeliver order) (OfDeliver answer) = Unit {0}
-Fits (ToGiveBack key) (OfGiveBack answer) = Unit {0}
-Fits (ToAsk key) (OfAsk shown) = Unit {0}
-Fits _ _ = ⊥
+-- an answer to a commit
+abbrev pub IsCommitted : Reply → Type 0
+IsCommitted (OfCommit answer) = Unit {0}
+IsCommitted _ = ⊥
+
+-- an answer to a delivery
+abbrev pub IsDelivered : Reply → Type 0
+IsDelivered (OfDeliver answer) = Unit {0}
+IsDelivered _ = ⊥
+
+-- an answer to a key that is given back
+abbrev pub IsReturned : Reply → Type 0
+IsReturned (OfGiveBack answer) = Unit {0}
+IsReturned _ = ⊥
 
 -- an answer to a question
 abbrev pub IsAsked : Reply → Type 0
 IsAsked (OfAsk shown) = Unit {0}
 IsAsked _ = ⊥
+
+-- an answer to a take
+abbrev pub IsTaken : Reply → Type 0
+IsTaken (OfTake order) = Unit {0}
+IsTaken _ = ⊥
+
+-- a reply of the call's kind
+abbrev pub Fits : Call → Reply → Type 0
+Fits (ToCommit edits) answer = IsCommitted answer
+Fits ToTake answer = IsTaken answer
+Fits (ToDeliver order) answer = IsDelivered answer
+Fits (ToGiveBack key) answer = IsReturned answer
+Fits (ToAsk key) answer = IsAsked answer
 
 -- the receipt is of this call, the seat's next, with a reply of its kind, and newer than all that the seat has seen
 pub record IsReceiptOf (seat : Place) (call : Call) (claim : Claim) : Type 0 where

@@ -1,4 +1,4 @@
-ghost use Rattle.std.specs.Prelude.{◌≡◌, max};
+ghost use Rattle.std.specs.Prelude.{◌≡◌, ◌↔◌, IsTrue, max};
 ghost use Rattle.fb_bench.specs.Records.{call_of, reply_of};
 
 use fb_bench::{Call, Record, Reply};
@@ -86,6 +86,13 @@ impl Receipt {
         ensures { result ≡ self.now.entry.turn }
     {
         self.record.turn()
+    }
+
+    /// Whether both are the same by content: of one number, caller and turn, with the same call and the same reply.
+    pub fn is_same(&self, other: &Receipt) -> bool
+        ensures { IsTrue result ↔ (self.now ≡ other.now) }
+    {
+        self.number == other.number && self.record.is_same(&other.record)
     }
 
     pub fn call(&self) -> &Call
