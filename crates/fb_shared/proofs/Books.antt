@@ -1,11 +1,11 @@
 -- The book through a call.
-use Rattle.std.proofs.Common.{◌≡◌, ◌==◌, ◌&&◌, ◌||◌, ℕ, ◌+◌, ◌<◌, ◌≤◌, List, [], ◌∷◌, ◌++◌, Bool, true, false, cond, Option, Some, None, unwrap_or, refl, ap, sym, ◌∙◌, subst, arith, nat_lt, nat_le, add-zero}
+use Rattle.std.proofs.Common.{◌≡◌, ◌==◌, ◌&&◌, ◌||◌, ℕ, ◌+◌, List, [], ◌∷◌, ◌++◌, Bool, true, false, cond, Option, Some, None, unwrap_or, refl, ap, sym, ◌∙◌, subst, arith, nat_lt, nat_le, add-zero}
 use borrow.Author.Tests.{eqb-true}
 use Rattle.std.proofs.lemmas.Bool.Decides.{nat_tests}
 use Rattle.std.proofs.lemmas.List.Sums.{sum_by_push}
 use Rattle.std.specs.Bool.{OnTrue}
 use Rattle.fb_bench.specs.Story.{Record, turns_of}
-use Rattle.fb_shared.specs.Book.{is_caller, page_of}
+use Rattle.fb_shared.specs.Book.{page_of}
 
 pub turns_of-push : (q : ℕ) (es : List Record) (e : Record) → turns_of q (es ++ e ∷ []) ≡ turns_of q es + cond (e.caller == q) 1 0
 turns_of-push q es e = sum_by_push (λ (x : Record). cond (x.caller == q) 1 0) es e

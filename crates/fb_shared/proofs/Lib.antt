@@ -2,3 +2,4 @@ pub mod Books
 pub mod Closings
 pub mod Receipts
 pub mod Works
+pub mod Histories

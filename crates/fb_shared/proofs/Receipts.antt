@@ -1,5 +1,5 @@
 -- The receipt of the next record is one of the seat that fits.
-use Rattle.std.proofs.Common.{◌≡◌, ℕ, ◌+◌, ◌≤◌, length, refl, ap, sym, subst, arith}
+use Rattle.std.proofs.Common.{◌≡◌, ◌+◌, ◌≤◌, length, refl, ap, sym, subst, arith}
 use Rattle.fb_bench.specs.Machine.{State, Call, ToCommit, ToTake, ToDeliver, ToGiveBack, ToAsk, reply}
 use Rattle.fb_bench.specs.Story.{turns_of, state_of}
 use Rattle.fb_shared.specs.Seats.{Hall, Place, Claim, Fits, next_claim, IsReceiptOf}

@@ -1,10 +1,9 @@
 -- Calls of a worker, one list after another.
-use Rattle.std.proofs.Common.{◌≡◌, ℕ, ◌+◌, ◌*◌, ◌≤◌, List, [], ◌∷◌, ◌++◌, length, Option, Some, None, sym, ap, ◌∙◌, subst, arith, append_assoc, append-nil, length-append, refl}
-use Rattle.std.specs.Option.{option_map}
+use Rattle.std.proofs.Common.{ℕ, ◌+◌, ◌*◌, ◌≤◌, List, [], ◌∷◌, ◌++◌, Option, None, sym, ap, ◌∙◌, subst, arith, append_assoc, append-nil, length-append, refl}
 use Rattle.fb_jobs.specs.Reads.{Order}
 use Rattle.fb_bench.specs.Machine.{Call, ToCommit, ToTake, ToDeliver, ToGiveBack, ToAsk}
 use Rattle.fb_bench.specs.Requests.{job_of}
-use Rattle.fb_shared.specs.Seats.{Place, Claim, IsReceiptOf, seat_after}
+use Rattle.fb_shared.specs.Seats.{Place, Claim, seat_after}
 use Rattle.fb_shared.specs.Runs.{IsRun, IsWork, Follows, AddsWork}
 
 run_append : (seat : Place) (xs ys : List Claim) (middle after : Place) → IsRun seat xs middle → IsRun middle ys after → IsRun seat (xs ++ ys) after

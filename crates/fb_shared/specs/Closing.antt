@@ -1,11 +1,9 @@
 -- Seats and receipts against the book and the history.
-use Rattle.std.specs.Prelude.{◌≡◌, ◌==◌, ◌&&◌, ℕ, ◌<◌, ◌≤◌, List, Bool, true, false, not, take, length, min, Option, None, Some, slice_get, count_by, All}
+use Rattle.std.specs.Prelude.{◌≡◌, ◌==◌, ◌&&◌, ℕ, ◌<◌, ◌≤◌, List, Bool, true, false, not, take, min, Option, None, Some, slice_get, count_by, All}
 use Rattle.std.specs.List.{list_any}
-use Rattle.std.specs.Ordering.{nat_cmp}
-use Rattle.std.specs.BTreeMap.{BTreeMap}
 use Rattle.fb_bench.specs.Story.{Record, turns_of, record_at}
 use Rattle.fb_shared.specs.Seats.{Hall, Place, Claim}
-use Rattle.fb_shared.specs.Book.{is_caller, IsBookOf}
+use Rattle.fb_shared.specs.Book.{is_caller}
 use Rattle.fb_shared.specs.declared.close.CloseFault.{CloseFault}
 use Rattle.fb_shared.specs.declared.close.CloseFault.TheVariants.{SeatMissing, SeatDiffers, ReceiptDiffers, ReceiptTwice, Memory}
 
@@ -32,6 +30,10 @@ IsReceiptRight records claim = record_at records claim.number ≡ Some claim.ent
 -- how many of the receipts have this number
 abbrev pub times : ℕ → List Claim → ℕ
 times number receipts = count_by (λ c. c.number == number) receipts
+
+-- how many of the receipts are of this caller
+abbrev pub receipts_of : ℕ → List Claim → ℕ
+receipts_of caller receipts = count_by (λ c. c.entry.caller == caller) receipts
 
 -- the lesser of the caller that was found and one that is wrong
 abbrev pub lesser_of : Option ℕ → ℕ → Bool → Option ℕ

@@ -1,5 +1,5 @@
 -- Why a call with a seat is refused.
-use Rattle.std.specs.Prelude.{◌≡◌, ◌≢◌, ◌==◌, ℕ, ◌<◌, Option, Some, None, length, nat_lt, nat_le, if◌then◌else◌}
+use Rattle.std.specs.Prelude.{◌≡◌, ◌≢◌, ◌==◌, ◌<◌, Option, Some, None, length, nat_lt, nat_le, if◌then◌else◌}
 use Rattle.fb_shared.specs.declared.locked.SharedRefused.{SharedRefused}
 use Rattle.fb_shared.specs.declared.locked.SharedRefused.TheVariants.{SeatDiffers, Behind, HistoryFull, Memory}
 use Rattle.fb_bench.specs.Story.{turns_of}

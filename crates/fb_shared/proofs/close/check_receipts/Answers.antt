@@ -1,4 +1,4 @@
-use Rattle.std.proofs.Common.{rules, ◌≡◌, ◌≤◌, ◌<◌, ◌-◌, ◌+◌, ℕ, length, take, get_or, false, true, cond, ap, sym, ◌∙◌, arith, length-set, subst}
+use Rattle.std.proofs.Common.{◌≡◌, ◌<◌, ◌-◌, ◌+◌, ℕ, length, take, get_or, false, true, cond, ap, sym, ◌∙◌, arith, length-set, subst}
 use Rattle.std.proofs.lemmas.Grind.{common_steps}
 use Rattle.fb_shared.specs.Closing.{IsReceiptRight, times}
 use Rattle.fb_shared.proofs.Closings.{placed, right_more, marks_more}

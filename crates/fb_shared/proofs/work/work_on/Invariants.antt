@@ -1,4 +1,4 @@
-use Rattle.std.proofs.Common.{◌≡◌, ◌*◌, ◌≤◌, None}
+use Rattle.std.proofs.Common.{◌*◌, None}
 use Rattle.fb_shared.specs.Runs.{AddsWork}
 use Rattle.fb_shared.proofs.work.work_on.Given as goal
 

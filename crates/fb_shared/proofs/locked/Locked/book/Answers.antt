@@ -1,4 +1,3 @@
-use Rattle.std.proofs.Common.{rules, ◌≡◌, ◌∙◌, ap, unwrap_or}
 use Rattle.fb_shared.proofs.Books.{count-page_of}
 use Rattle.fb_shared.proofs.locked.Locked.book.Goals as goal
 

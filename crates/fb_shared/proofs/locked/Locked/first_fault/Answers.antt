@@ -1,4 +1,4 @@
-use Rattle.std.proofs.Common.{rules, ◌≡◌, ap, sym, ◌∙◌, arith}
+use Rattle.std.proofs.Common.{sym}
 use Rattle.fb_shared.proofs.Closings.{seated, missing, receipt_fault}
 use Rattle.fb_shared.proofs.locked.Locked.first_fault.Goals as goal
 

@@ -1,4 +1,4 @@
-use Rattle.std.proofs.Common.{rules, ◌≡◌, ◌==◌, ◌∙◌, ap, refl, sym, arith, nat_cmp, cond, Some, ℕ, length-append}
+use Rattle.std.proofs.Common.{◌≡◌, ◌==◌, ◌∙◌, ap, refl, nat_cmp, cond, Some, ℕ, length-append}
 use Rattle.std.specs.BTreeMap.{get}
 use Rattle.fb_bench.specs.Story.{record_of}
 use Rattle.fb_bench.specs.Requests.{call_for}
