@@ -3,3 +3,4 @@ pub mod Closings
 pub mod Receipts
 pub mod Works
 pub mod Histories
+pub mod Crossing

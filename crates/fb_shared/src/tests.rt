@@ -10,7 +10,7 @@ use std::hint::spin_loop;
 use std::sync::Wait;
 use std::sync::atomic::{AtomicU64, Ordering};
 use std::test::Fail;
-use std::thread::join;
+use std::thread::{Threads, join};
 
 const PLAIN: &str = "FUNCTION_BLOCK A END_FUNCTION_BLOCK";
 
@@ -344,6 +344,13 @@ impl Meeting {
     }
 }
 
+// how a worker ended, and what it has recorded
+#[derive(Drop)]
+struct Worked {
+    end: WorkEnd,
+    receipts: Vec<Receipt>,
+}
+
 // works until the stop
 fn works<R: Wait>(
     rt: &R,
@@ -351,10 +358,26 @@ fn works<R: Wait>(
     shared: &Shared,
     mut seat: Seat,
     gate: &Meeting,
-) -> (WorkEnd, Seat, Vec<Receipt>) {
+) -> Worked {
     let mut receipts = Vec::new(alloc);
     let end = work_on(rt, alloc, shared, &mut seat, &mut receipts, gate, 1_000_000);
-    (end, seat, receipts)
+    Worked { end, receipts }
+}
+
+// two workers at once
+fn both_work<R: Threads + Wait + Sync>(
+    rt: &R,
+    alloc: Global,
+    shared: &Shared,
+    first: Seat,
+    second: Seat,
+    gate: &Meeting,
+) -> (Worked, Worked) {
+    join(
+        rt,
+        || works(rt, alloc, shared, first, gate),
+        || works(rt, alloc, shared, second, gate),
+    )
 }
 
 // makes the workers stop once both jobs have begun
@@ -391,21 +414,15 @@ fn two_jobs_run_at_once(rt: HostRuntime) -> Result<(), Fail> {
     };
     let ((a, b), ()) = join(
         &rt,
-        || {
-            join(
-                &rt,
-                || works(&rt, alloc, &shared, first, &gate),
-                || works(&rt, alloc, &shared, second, &gate),
-            )
-        },
+        || both_work(&rt, alloc, &shared, first, second, &gate),
         || stops(&rt, &shared, &gate),
     );
     assert_eq!(rt; gate.begun.load(Ordering::SeqCst), 2);
     assert_eq!(rt; gate.late.load(Ordering::SeqCst), 0);
-    assert_eq!(rt; a.0, WorkEnd::Stopped);
-    assert_eq!(rt; b.0, WorkEnd::Stopped);
-    assert!(rt; is_one_job(&a.2));
-    assert!(rt; is_one_job(&b.2));
+    assert_eq!(rt; a.end, WorkEnd::Stopped);
+    assert_eq!(rt; b.end, WorkEnd::Stopped);
+    assert!(rt; is_one_job(&a.receipts));
+    assert!(rt; is_one_job(&b.receipts));
     Ok(())
 }
 
