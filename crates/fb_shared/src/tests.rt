@@ -10,7 +10,7 @@ use std::hint::spin_loop;
 use std::sync::Wait;
 use std::sync::atomic::{AtomicU64, Ordering};
 use std::test::Fail;
-use std::thread::{Threads, join};
+use std::thread::join;
 
 const PLAIN: &str = "FUNCTION_BLOCK A END_FUNCTION_BLOCK";
 
@@ -364,22 +364,6 @@ fn works<R: Wait>(
     Worked { end, receipts }
 }
 
-// two workers at once
-fn both_work<R: Threads + Wait + Sync>(
-    rt: &R,
-    alloc: Global,
-    shared: &Shared,
-    first: Seat,
-    second: Seat,
-    gate: &Meeting,
-) -> (Worked, Worked) {
-    join(
-        rt,
-        || works(rt, alloc, shared, first, gate),
-        || works(rt, alloc, shared, second, gate),
-    )
-}
-
 // makes the workers stop once both jobs have begun
 fn stops<R: Wait>(rt: &R, shared: &Shared, gate: &Meeting) {
     gate.wait_for_both();
@@ -414,7 +398,13 @@ fn two_jobs_run_at_once(rt: HostRuntime) -> Result<(), Fail> {
     };
     let ((a, b), ()) = join(
         &rt,
-        || both_work(&rt, alloc, &shared, first, second, &gate),
+        || {
+            join(
+                &rt,
+                || works(&rt, alloc, &shared, first, &gate),
+                || works(&rt, alloc, &shared, second, &gate),
+            )
+        },
         || stops(&rt, &shared, &gate),
     );
     assert_eq!(rt; gate.begun.load(Ordering::SeqCst), 2);
