@@ -14,3 +14,4 @@ pub mod Renewals
 pub mod KeySteps
 pub mod KeysKept
 pub mod Again
+pub mod Alike

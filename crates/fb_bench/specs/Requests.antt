@@ -2,7 +2,9 @@
 use Rattle.std.specs.Prelude.{Option, None}
 use Rattle.fb_jobs.specs.Reads.{Order}
 use Rattle.fb_bench.specs.Machine.{Call, ToCommit, ToTake, ToDeliver, ToGiveBack, ToAsk, Reply, OfCommit, OfTake, OfDeliver, OfGiveBack, OfAsk}
-use Rattle.fb_bench.specs.Records.{listed}
+use Rattle.fb_bench.specs.Records.{listed, job_in, shown_in}
+use Rattle.fb_bench.specs.declared.answers.Answered.{Answered}
+use Rattle.fb_bench.specs.declared.answers.Answered.TheVariants as answer
 use Rattle.fb_bench.specs.declared.record.Request.{Request}
 use Rattle.fb_bench.specs.declared.record.Request.TheVariants.{Commit, Take, Deliver, GiveBack, Ask}
 
@@ -12,6 +14,14 @@ call_for Take = ToTake
 call_for (Deliver finished) = ToDeliver finished.now
 call_for (GiveBack key) = ToGiveBack key
 call_for (Ask key) = ToAsk key
+
+-- an answer of the program as the machine's
+abbrev pub reply_in : Answered → Reply
+reply_in (answer.Commit given) = OfCommit given
+reply_in (answer.Take given) = OfTake (job_in given)
+reply_in (answer.Deliver given) = OfDeliver given
+reply_in (answer.GiveBack given) = OfGiveBack given
+reply_in (answer.Ask given) = OfAsk (shown_in given)
 
 -- the job that an answer hands out
 abbrev pub job_of : Reply → Option Order

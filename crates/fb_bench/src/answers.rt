@@ -55,6 +55,16 @@ pub enum Asked {
     NoSuchKey,
 }
 
+/// The answer to any of the calls.
+#[derive(Drop)]
+pub enum Answered {
+    Commit(Committed),
+    Take(Taken),
+    Deliver(Delivered),
+    GiveBack(GivenBack),
+    Ask(Asked),
+}
+
 /// Why a call is not recorded. It then changes nothing.
 #[derive(Clone, Copy, PartialEq, Eq, Debug)]
 pub enum Refused {

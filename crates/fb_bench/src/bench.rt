@@ -3,7 +3,7 @@ ghost use Rattle.fb_jobs.specs.Reads.{stale, is_current};
 ghost use Rattle.fb_jobs.specs.Values.{all_seen, seen_of};
 ghost use Rattle.fb_bench.specs.Records.{job_in};
 
-use crate::answers::{Asked, Committed, Delivered, GivenBack, Refused, Taken};
+use crate::answers::{Answered, Asked, Committed, Delivered, GivenBack, Refused, Taken};
 use crate::commit::{first_changes, refusal};
 use crate::entry::{Entry, join, keep, leave, mark_out};
 use crate::limits::Limits;
@@ -49,7 +49,7 @@ impl Model for Bench {
 }
 
 impl Bench {
-    ghost use Rattle.std.specs.Prelude.{◌≡◌, ◌≤◌, ◌↔◌, [], IfOk, OnErr, Err, length, slice_get, count_by};
+    ghost use Rattle.std.specs.Prelude.{◌≡◌, ◌≤◌, ◌↔◌, [], IfOk, OnErr, Err, IsTrue, is_some, length, slice_get, count_by};
     ghost use Rattle.std.specs.Option.{option_map};
     ghost use Rattle.std.specs.List.Sorted.{IsStrictlySortedBy};
     ghost use Rattle.fb_jobs.specs.KeyOrder.{key_cmp};
@@ -57,7 +57,7 @@ impl Bench {
     ghost use Rattle.fb_jobs.specs.Values.{all_seen};
     ghost use Rattle.fb_bench.specs.Story.{Story, Log, state_of, recorded, record_of, record_at, calls_of, IsReplay, AreTurns};
     ghost use Rattle.fb_bench.specs.Records.{shown_in, job_in, listed};
-    ghost use Rattle.fb_bench.specs.Requests.{call_for, job_of};
+    ghost use Rattle.fb_bench.specs.Requests.{call_for, reply_in};
     ghost use Rattle.fb_bench.specs.Peeks.{shown_by, is_pending};
     ghost use Rattle.fb_bench.specs.Due.{is_due};
     ghost use Rattle.fb_bench.specs.Laws.{entry_after};
@@ -87,6 +87,20 @@ impl Bench {
         ensures turns { AreTurns self.now.log.records }
     {
         self.history.len()
+    }
+
+    /// Whether as many calls are recorded as the limits allow.
+    pub fn is_full(&self) -> bool
+        ensures { IsTrue result ↔ (self.now.log.limit ≤ length self.now.log.records) }
+    {
+        self.history.is_full()
+    }
+
+    /// Whether there is something to take: a key that is pending and not handed out.
+    pub fn has_work(&self) -> bool
+        ensures { result ≡ is_some (next (state_of self.now)) }
+    {
+        self.next().is_some()
     }
 
     /// The record of this number, counted from 1: None at 0 and past the end.
@@ -463,38 +477,38 @@ impl Bench {
         }
     }
 
-    /// Makes any call. It gives a share of the record, and the job that is then handed out.
+    /// Makes any call. It gives a share of the record, and the answer.
     pub fn perform(
         &mut self,
         caller: u32,
         request: &Request<'_>,
-    ) -> Result<(Arc<Record>, Option<Job>), Refused>
+    ) -> Result<(Arc<Record>, Answered), Refused>
         ensures step { IfOk result (λ _. self.new ≡ recorded self.old caller (call_for request.now)) }
         ensures share { IfOk result (λ made. made.0.value ≡ record_of self.old caller (call_for request.now)) }
-        ensures job { IfOk result (λ made. made.1 ≡ job_of (reply (state_of self.old) (call_for request.now))) }
+        ensures answer { IfOk result (λ made. reply_in made.1 ≡ reply (state_of self.old) (call_for request.now)) }
         ensures full { (result ≡ Err Refused.HistoryFull) ↔ (self.old.log.limit ≤ length self.old.log.records) }
         ensures err { OnErr result (self.new ≡ self.old) }
     {
         match request {
             Request::Commit(changes) => {
-                let (_, share) = self.commit_recorded(caller, *changes)?;
-                Ok((share, None))
+                let (answer, share) = self.commit_recorded(caller, *changes)?;
+                Ok((share, Answered::Commit(answer)))
             }
             Request::Take => {
-                let (taken, share) = self.take_recorded(caller)?;
-                Ok((share, job_from(taken)))
+                let (answer, share) = self.take_recorded(caller)?;
+                Ok((share, Answered::Take(answer)))
             }
             Request::Deliver(finished) => {
-                let (_, share) = self.deliver_recorded(caller, *finished)?;
-                Ok((share, None))
+                let (answer, share) = self.deliver_recorded(caller, *finished)?;
+                Ok((share, Answered::Deliver(answer)))
             }
             Request::GiveBack(key) => {
-                let (_, share) = self.give_back_recorded(caller, *key)?;
-                Ok((share, None))
+                let (answer, share) = self.give_back_recorded(caller, *key)?;
+                Ok((share, Answered::GiveBack(answer)))
             }
             Request::Ask(key) => {
-                let (_, share) = self.ask_recorded(caller, *key)?;
-                Ok((share, None))
+                let (answer, share) = self.ask_recorded(caller, *key)?;
+                Ok((share, Answered::Ask(answer)))
             }
         }
     }
@@ -515,16 +529,6 @@ impl Bench {
                 }
             }
         }
-    }
-}
-
-// the job that is handed out
-fn job_from(taken: Taken) -> Option<Job>
-    ensures { result ≡ job_in taken }
-{
-    match taken {
-        Taken::Job(job) => Some(job),
-        Taken::Nothing => None,
     }
 }
 

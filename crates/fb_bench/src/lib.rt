@@ -13,8 +13,9 @@ mod log;
 mod peek;
 mod record;
 mod renewal;
+mod same;
 
-pub use answers::{Asked, Committed, Delivered, GivenBack, Refused, Taken};
+pub use answers::{Answered, Asked, Committed, Delivered, GivenBack, Refused, Taken};
 pub use bench::Bench;
 pub use desk::{Desk, DeskRefused, Solo};
 pub use laws::{entries_follow_the_texts, reach_before_and_after};

@@ -1,4 +1,5 @@
 use crate::answers::{Asked, Committed, Delivered, GivenBack};
+use crate::same::{is_same_call, is_same_reply};
 use fb_jobs::{Finished, Key, Read};
 use fb_library::Change;
 use std::marker::Model;
@@ -50,7 +51,7 @@ impl Model for Record {
 }
 
 impl Record {
-    ghost use Rattle.std.specs.Prelude.{◌≡◌};
+    ghost use Rattle.std.specs.Prelude.{◌≡◌, ◌↔◌, IsTrue};
     ghost use Rattle.fb_bench.specs.Records.{call_of, reply_of};
 
     /// Who made the call.
@@ -77,6 +78,16 @@ impl Record {
         ensures { reply_of result.now ≡ self.now.reply }
     {
         &self.reply
+    }
+
+    /// Whether both are the same by content: of one caller and turn, with the same call and the same answer.
+    pub fn is_same(&self, other: &Record) -> bool
+        ensures { IsTrue result ↔ (self.now ≡ other.now) }
+    {
+        other.caller == self.caller
+            && self.turn == other.turn
+            && is_same_call(&self.call, &other.call)
+            && is_same_reply(&self.reply, &other.reply)
     }
 }
 

@@ -1,7 +1,7 @@
 //! Everyday orders of calls, as tables of steps. One helper makes one call and says whether its answer is the one wanted.
 use crate::{
-    Asked, Bench, Call, Committed, Delivered, Desk, DeskRefused, GivenBack, Limits, Refused, Reply,
-    Request, Shown, Solo, Taken,
+    Answered, Asked, Bench, Call, Committed, Delivered, Desk, DeskRefused, GivenBack, Limits,
+    Refused, Reply, Request, Shown, Solo, Taken,
 };
 use fb_jobs::{Finished, Key, Kind};
 use fb_library::Change;
@@ -439,8 +439,9 @@ fn requests(
     turn: u64,
     has_job: bool,
 ) -> Result<bool, Fail> {
-    let (record, job) = bench.perform(3, request)?;
-    Ok(record.turn() == turn && job.is_some() == has_job)
+    let (record, answer) = bench.perform(3, request)?;
+    let is_job = matches!(&answer, Answered::Take(Taken::Job(_)));
+    Ok(record.turn() == turn && is_job == has_job)
 }
 
 fn requests_changes(

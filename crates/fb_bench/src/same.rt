@@ -1,0 +1,230 @@
+//! Whether two records say the same, by content.
+ghost use Rattle.std.specs.Prelude.{◌≡◌, ◌↔◌, IsTrue};
+ghost use Rattle.fb_library.specs.Changes.{edit_of, edits_of};
+ghost use Rattle.fb_jobs.specs.Values.{all_seen, found_in, seen_of, finding_of};
+ghost use Rattle.fb_bench.specs.Records.{order_of, order_in, call_of, shown_in, reply_of};
+
+use crate::answers::{Asked, Committed, Delivered, GivenBack};
+use crate::record::{Call, Reply, Wanted};
+use fb_iface::Fault;
+use fb_jobs::{Key, Read, Value};
+use fb_library::Change;
+use fb_parse::Source;
+use fb_text::{Name, same_name};
+use std::sync::Arc;
+
+/// The same call.
+pub(crate) fn is_same_call(a: &Call, b: &Call) -> bool
+    ensures { IsTrue result ↔ (call_of a.now ≡ call_of b.now) }
+{
+    match (a, b) {
+        (Call::Commit(a), Call::Commit(b)) => are_same_changes(a, b),
+        (Call::Take, Call::Take) => true,
+        (Call::Deliver(a), Call::Deliver(b)) => is_same_wanted(a, b),
+        (Call::GiveBack(a), Call::GiveBack(b)) => is_one_key(a, b),
+        (Call::Ask(a), Call::Ask(b)) => is_one_key(a, b),
+        _ => false,
+    }
+}
+
+/// The same answer.
+pub(crate) fn is_same_reply(a: &Reply, b: &Reply) -> bool
+    ensures { IsTrue result ↔ (reply_of a.now ≡ reply_of b.now) }
+{
+    match (a, b) {
+        (Reply::Committing(a), Reply::Committing(b)) => is_same_end(a, b),
+        (Reply::Taking(None), Reply::Taking(None)) => true,
+        (Reply::Taking(Some(a)), Reply::Taking(Some(b))) => is_same_wanted(a, b),
+        (Reply::Delivering(a), Reply::Delivering(b)) => is_same_delivery(a, b),
+        (Reply::GivingBack(a), Reply::GivingBack(b)) => is_same_return(a, b),
+        (Reply::Asking(a), Reply::Asking(b)) => is_same_asked(a, b),
+        _ => false,
+    }
+}
+
+fn is_one_name(a: &Name, b: &Name) -> bool
+    ensures { IsTrue result ↔ (a.now ≡ b.now) }
+{
+    same_name(a, b)
+}
+
+fn is_one_key(a: &Key, b: &Key) -> bool
+    ensures { IsTrue result ↔ (a.now ≡ b.now) }
+{
+    *a == *b
+}
+
+fn is_same_source(a: &Source, b: &Source) -> bool
+    ensures { IsTrue result ↔ (a.now ≡ b.now) }
+{
+    is_one_name(&a.unit(), &b.unit()) && a.text() == b.text()
+}
+
+fn is_same_change(a: &Change, b: &Change) -> bool
+    ensures { IsTrue result ↔ (edit_of a.now ≡ edit_of b.now) }
+{
+    match (a, b) {
+        (
+            Change::Put {
+                base: a,
+                source: of_a,
+            },
+            Change::Put {
+                base: b,
+                source: of_b,
+            },
+        ) => a == b && is_same_source(of_a, of_b),
+        (
+            Change::Remove {
+                unit: of_a,
+                base: a,
+            },
+            Change::Remove {
+                unit: of_b,
+                base: b,
+            },
+        ) => { is_one_name(of_a, of_b) && a == b }
+        _ => false,
+    }
+}
+
+fn are_same_changes(a: &[Change], b: &[Change]) -> bool
+    ensures { IsTrue result ↔ (edits_of a.now ≡ edits_of b.now) }
+{
+    if a.len() != b.len() {
+        return false;
+    }
+    for place in 0..a.len() {
+        if !is_same_change(&a[place], &b[place]) {
+            return false;
+        }
+    }
+    true
+}
+
+// the same source at the same revision, or none
+fn is_same_find(
+    revision: u64,
+    source: &Option<Arc<Source>>,
+    other_revision: u64,
+    other: &Option<Arc<Source>>,
+) -> bool
+    ensures { IsTrue result ↔ (found_in revision source.now ≡ found_in other_revision other.now) }
+{
+    match (source, other) {
+        (None, None) => true,
+        (Some(a), Some(b)) => revision == other_revision && a.text() == b.text(),
+        _ => false,
+    }
+}
+
+fn is_same_read(a: &Read, b: &Read) -> bool
+    ensures { IsTrue result ↔ (seen_of a.now ≡ seen_of b.now) }
+{
+    is_one_name(&a.name, &b.name) && is_same_find(a.revision, &a.source, b.revision, &b.source)
+}
+
+fn are_same_reads(a: &[Read], b: &[Read]) -> bool
+    ensures { IsTrue result ↔ (all_seen a.now ≡ all_seen b.now) }
+{
+    if a.len() != b.len() {
+        return false;
+    }
+    for place in 0..a.len() {
+        if !is_same_read(&a[place], &b[place]) {
+            return false;
+        }
+    }
+    true
+}
+
+fn is_same_wanted(a: &Wanted, b: &Wanted) -> bool
+    ensures { IsTrue result ↔ (order_of a.now ≡ order_of b.now) }
+{
+    is_one_key(&a.key, &b.key) && are_same_reads(&a.reads, &b.reads)
+}
+
+fn is_same_fault(a: &Fault, b: &Fault) -> bool
+    ensures { IsTrue result ↔ (a.now ≡ b.now) }
+{
+    *a == *b
+}
+
+fn are_same_faults(a: &[Fault], b: &[Fault]) -> bool
+    ensures { IsTrue result ↔ (a.now ≡ b.now) }
+{
+    if a.len() != b.len() {
+        return false;
+    }
+    for place in 0..a.len() {
+        if !is_same_fault(&a[place], &b[place]) {
+            return false;
+        }
+    }
+    true
+}
+
+fn is_same_value(a: &Value, b: &Value) -> bool
+    ensures { IsTrue result ↔ (finding_of a.now ≡ finding_of b.now) }
+{
+    match (a, b) {
+        (Value::Faults(a), Value::Faults(b)) => are_same_faults(a, b),
+    }
+}
+
+fn is_same_end(a: &Committed, b: &Committed) -> bool
+    ensures { IsTrue result ↔ (a.now ≡ b.now) }
+{
+    match (a, b) {
+        (Committed::Done(a), Committed::Done(b)) => a == b,
+        (Committed::NoChange, Committed::NoChange) => true,
+        (Committed::TooManyChanges, Committed::TooManyChanges) => true,
+        (Committed::SameUnitTwice(a), Committed::SameUnitTwice(b)) => is_one_name(a, b),
+        (
+            Committed::StaleBase {
+                unit: of_a,
+                current: a,
+            },
+            Committed::StaleBase {
+                unit: of_b,
+                current: b,
+            },
+        ) => is_one_name(of_a, of_b) && a == b,
+        (Committed::NoSuchUnit(a), Committed::NoSuchUnit(b)) => is_one_name(a, b),
+        (Committed::TooManyUnits, Committed::TooManyUnits) => true,
+        _ => false,
+    }
+}
+
+fn is_same_delivery(a: &Delivered, b: &Delivered) -> bool
+    ensures { IsTrue result ↔ (a.now ≡ b.now) }
+{
+    match (a, b) {
+        (Delivered::Accepted, Delivered::Accepted) => true,
+        (Delivered::NoSuchKey, Delivered::NoSuchKey) => true,
+        (Delivered::NotPending, Delivered::NotPending) => true,
+        (Delivered::Stale(a), Delivered::Stale(b)) => is_one_name(a, b),
+        _ => false,
+    }
+}
+
+fn is_same_return(a: &GivenBack, b: &GivenBack) -> bool
+    ensures { IsTrue result ↔ (a.now ≡ b.now) }
+{
+    match (a, b) {
+        (GivenBack::Returned, GivenBack::Returned) => true,
+        (GivenBack::NothingOut, GivenBack::NothingOut) => true,
+        _ => false,
+    }
+}
+
+fn is_same_asked(a: &Asked, b: &Asked) -> bool
+    ensures { IsTrue result ↔ (shown_in a.now ≡ shown_in b.now) }
+{
+    match (a, b) {
+        (Asked::Value(a), Asked::Value(b)) => is_same_value(a, b),
+        (Asked::Pending, Asked::Pending) => true,
+        (Asked::NoSuchKey, Asked::NoSuchKey) => true,
+        _ => false,
+    }
+}

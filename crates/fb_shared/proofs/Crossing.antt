@@ -1,0 +1,448 @@
+-- Which types of a workbench may cross threads, each from those inside it, so that no search is long.
+use denote.Param.Send.{IsSend, IsSync, sendable}
+use Rattle.std.proofs.Crossing.{crosses}
+use Rattle.std.proofs.MapsCrossing as maps
+use Rattle.fb_tree.proofs.expression.Expr.TheLaws.TheKnot as expressions
+use Rattle.fb_tree.proofs.statement.Stmt.TheLaws.TheKnot as statements
+use Rattle.fb_tree.specs.contracts.constant.Constant as Constant
+use Rattle.fb_tree.specs.contracts.interface.Variables as Variables
+use Rattle.fb_tree.specs.contracts.interface.Interface as Interface
+use Rattle.fb_tree.specs.contracts.network.Parameter as Parameter
+use Rattle.fb_tree.specs.contracts.network.Instance as Instance
+use Rattle.fb_tree.specs.contracts.network.Network as Network
+use Rattle.fb_tree.specs.contracts.system.Application as Application
+use Rattle.fb_tree.specs.contracts.system.Device as Device
+use Rattle.fb_tree.specs.contracts.system.System as System
+use Rattle.fb_tree.specs.contracts.expression.Expr as Expr
+use Rattle.fb_tree.specs.contracts.statement.Stmt as Stmt
+use Rattle.fb_tree.specs.contracts.chart.Condition as Condition
+use Rattle.fb_tree.specs.contracts.chart.Transition as Transition
+use Rattle.fb_tree.specs.contracts.chart.Algorithm as Algorithm
+use Rattle.fb_tree.specs.contracts.chart.Chart as Chart
+use Rattle.fb_tree.specs.contracts.declaration.TypeDeclaration as TypeDeclaration
+use Rattle.fb_tree.specs.contracts.declaration.Decl as Decl
+use Rattle.fb_parse.specs.contracts.body.Body as Body
+use Rattle.fb_parse.specs.contracts.source.Source as Source
+use Rattle.fb_jobs.specs.contracts.read.Read as Read
+use Rattle.fb_bench.specs.contracts.record.Wanted as Wanted
+use Rattle.fb_iface.specs.contracts.fault.Fault as Fault
+use Rattle.fb_jobs.specs.contracts.value.Value as Value
+use Rattle.fb_library.specs.contracts.change.Change as Change
+use Rattle.fb_bench.specs.contracts.record.Call as Call
+use Rattle.fb_bench.specs.contracts.answers.Asked as Asked
+use Rattle.fb_bench.specs.contracts.record.Reply as Reply
+use Rattle.fb_bench.specs.contracts.record.Record as Record
+use Rattle.fb_shared.specs.contracts.seat.Receipt as Receipt
+use Rattle.fb_shared.specs.contracts.seat.Seat as Seat
+use Rattle.fb_library.specs.contracts.library.Library as Library
+use Rattle.fb_bench.specs.contracts.bench.Bench as Bench
+use Rattle.fb_shared.specs.contracts.locked.Locked as Locked
+use Rattle.fb_shared.specs.contracts.shared.Shared as Shared
+
+pub constant_field_send : IsSend (Constant.the_field).row
+constant_field_send = search (crosses, maps.crosses, sendable) depth 60 fits 20000
+
+pub constant_send : IsSend Constant.the_row
+constant_send = search (constant_field_send, crosses, maps.crosses, sendable) depth 60 fits 20000
+
+pub constant_field_sync : IsSync (Constant.the_field).row
+constant_field_sync = search (crosses, maps.crosses, sendable) depth 60 fits 20000
+
+pub constant_sync : IsSync Constant.the_row
+constant_sync = search (constant_field_sync, crosses, maps.crosses, sendable) depth 60 fits 20000
+
+pub variables_field_send : IsSend (Variables.the_field).row
+variables_field_send = search (constant_field_send, constant_send, constant_field_sync, constant_sync, crosses, maps.crosses, sendable) depth 60 fits 20000
+
+pub variables_send : IsSend Variables.the_row
+variables_send = search (variables_field_send, constant_field_send, constant_send, constant_field_sync, constant_sync, crosses, maps.crosses, sendable) depth 60 fits 20000
+
+pub variables_field_sync : IsSync (Variables.the_field).row
+variables_field_sync = search (constant_field_send, constant_send, constant_field_sync, constant_sync, crosses, maps.crosses, sendable) depth 60 fits 20000
+
+pub variables_sync : IsSync Variables.the_row
+variables_sync = search (variables_field_sync, constant_field_send, constant_send, constant_field_sync, constant_sync, crosses, maps.crosses, sendable) depth 60 fits 20000
+
+pub interface_field_send : IsSend (Interface.the_field).row
+interface_field_send = search (variables_field_send, variables_send, variables_field_sync, variables_sync, crosses, maps.crosses, sendable) depth 60 fits 20000
+
+pub interface_send : IsSend Interface.the_row
+interface_send = search (interface_field_send, variables_field_send, variables_send, variables_field_sync, variables_sync, crosses, maps.crosses, sendable) depth 60 fits 20000
+
+pub interface_field_sync : IsSync (Interface.the_field).row
+interface_field_sync = search (variables_field_send, variables_send, variables_field_sync, variables_sync, crosses, maps.crosses, sendable) depth 60 fits 20000
+
+pub interface_sync : IsSync Interface.the_row
+interface_sync = search (interface_field_sync, variables_field_send, variables_send, variables_field_sync, variables_sync, crosses, maps.crosses, sendable) depth 60 fits 20000
+
+pub parameter_field_send : IsSend (Parameter.the_field).row
+parameter_field_send = search (constant_field_send, constant_send, constant_field_sync, constant_sync, crosses, maps.crosses, sendable) depth 60 fits 20000
+
+pub parameter_send : IsSend Parameter.the_row
+parameter_send = search (parameter_field_send, constant_field_send, constant_send, constant_field_sync, constant_sync, crosses, maps.crosses, sendable) depth 60 fits 20000
+
+pub parameter_field_sync : IsSync (Parameter.the_field).row
+parameter_field_sync = search (constant_field_send, constant_send, constant_field_sync, constant_sync, crosses, maps.crosses, sendable) depth 60 fits 20000
+
+pub parameter_sync : IsSync Parameter.the_row
+parameter_sync = search (parameter_field_sync, constant_field_send, constant_send, constant_field_sync, constant_sync, crosses, maps.crosses, sendable) depth 60 fits 20000
+
+pub instance_field_send : IsSend (Instance.the_field).row
+instance_field_send = search (parameter_field_send, parameter_send, parameter_field_sync, parameter_sync, crosses, maps.crosses, sendable) depth 60 fits 20000
+
+pub instance_send : IsSend Instance.the_row
+instance_send = search (instance_field_send, parameter_field_send, parameter_send, parameter_field_sync, parameter_sync, crosses, maps.crosses, sendable) depth 60 fits 20000
+
+pub instance_field_sync : IsSync (Instance.the_field).row
+instance_field_sync = search (parameter_field_send, parameter_send, parameter_field_sync, parameter_sync, crosses, maps.crosses, sendable) depth 60 fits 20000
+
+pub instance_sync : IsSync Instance.the_row
+instance_sync = search (instance_field_sync, parameter_field_send, parameter_send, parameter_field_sync, parameter_sync, crosses, maps.crosses, sendable) depth 60 fits 20000
+
+pub network_field_send : IsSend (Network.the_field).row
+network_field_send = search (instance_field_send, instance_send, instance_field_sync, instance_sync, crosses, maps.crosses, sendable) depth 60 fits 20000
+
+pub network_send : IsSend Network.the_row
+network_send = search (network_field_send, instance_field_send, instance_send, instance_field_sync, instance_sync, crosses, maps.crosses, sendable) depth 60 fits 20000
+
+pub network_field_sync : IsSync (Network.the_field).row
+network_field_sync = search (instance_field_send, instance_send, instance_field_sync, instance_sync, crosses, maps.crosses, sendable) depth 60 fits 20000
+
+pub network_sync : IsSync Network.the_row
+network_sync = search (network_field_sync, instance_field_send, instance_send, instance_field_sync, instance_sync, crosses, maps.crosses, sendable) depth 60 fits 20000
+
+pub application_field_send : IsSend (Application.the_field).row
+application_field_send = search (network_field_send, network_send, network_field_sync, network_sync, crosses, maps.crosses, sendable) depth 60 fits 20000
+
+pub application_send : IsSend Application.the_row
+application_send = search (application_field_send, network_field_send, network_send, network_field_sync, network_sync, crosses, maps.crosses, sendable) depth 60 fits 20000
+
+pub application_field_sync : IsSync (Application.the_field).row
+application_field_sync = search (network_field_send, network_send, network_field_sync, network_sync, crosses, maps.crosses, sendable) depth 60 fits 20000
+
+pub application_sync : IsSync Application.the_row
+application_sync = search (application_field_sync, network_field_send, network_send, network_field_sync, network_sync, crosses, maps.crosses, sendable) depth 60 fits 20000
+
+pub device_field_send : IsSend (Device.the_field).row
+device_field_send = search (parameter_field_send, parameter_send, parameter_field_sync, parameter_sync, instance_field_send, instance_send, instance_field_sync, instance_sync, crosses, maps.crosses, sendable) depth 60 fits 20000
+
+pub device_send : IsSend Device.the_row
+device_send = search (device_field_send, parameter_field_send, parameter_send, parameter_field_sync, parameter_sync, instance_field_send, instance_send, instance_field_sync, instance_sync, crosses, maps.crosses, sendable) depth 60 fits 20000
+
+pub device_field_sync : IsSync (Device.the_field).row
+device_field_sync = search (parameter_field_send, parameter_send, parameter_field_sync, parameter_sync, instance_field_send, instance_send, instance_field_sync, instance_sync, crosses, maps.crosses, sendable) depth 60 fits 20000
+
+pub device_sync : IsSync Device.the_row
+device_sync = search (device_field_sync, parameter_field_send, parameter_send, parameter_field_sync, parameter_sync, instance_field_send, instance_send, instance_field_sync, instance_sync, crosses, maps.crosses, sendable) depth 60 fits 20000
+
+pub system_field_send : IsSend (System.the_field).row
+system_field_send = search (application_field_send, application_send, application_field_sync, application_sync, device_field_send, device_send, device_field_sync, device_sync, crosses, maps.crosses, sendable) depth 60 fits 20000
+
+pub system_send : IsSend System.the_row
+system_send = search (system_field_send, application_field_send, application_send, application_field_sync, application_sync, device_field_send, device_send, device_field_sync, device_sync, crosses, maps.crosses, sendable) depth 60 fits 20000
+
+pub system_field_sync : IsSync (System.the_field).row
+system_field_sync = search (application_field_send, application_send, application_field_sync, application_sync, device_field_send, device_send, device_field_sync, device_sync, crosses, maps.crosses, sendable) depth 60 fits 20000
+
+pub system_sync : IsSync System.the_row
+system_sync = search (system_field_sync, application_field_send, application_send, application_field_sync, application_sync, device_field_send, device_send, device_field_sync, device_sync, crosses, maps.crosses, sendable) depth 60 fits 20000
+
+pub expr_field_send : IsSend (Expr.the_field).row
+expr_field_send = search (crosses, maps.crosses, expressions.crosses, sendable) depth 60 fits 20000
+
+pub expr_send : IsSend Expr.the_row
+expr_send = search (expr_field_send, crosses, maps.crosses, expressions.crosses, sendable) depth 60 fits 20000
+
+pub expr_field_sync : IsSync (Expr.the_field).row
+expr_field_sync = search (crosses, maps.crosses, expressions.crosses, sendable) depth 60 fits 20000
+
+pub expr_sync : IsSync Expr.the_row
+expr_sync = search (expr_field_sync, crosses, maps.crosses, expressions.crosses, sendable) depth 60 fits 20000
+
+pub stmt_field_send : IsSend (Stmt.the_field).row
+stmt_field_send = search (expr_field_send, expr_send, expr_field_sync, expr_sync, crosses, maps.crosses, expressions.crosses, statements.crosses, sendable) depth 60 fits 20000
+
+pub stmt_send : IsSend Stmt.the_row
+stmt_send = search (stmt_field_send, expr_field_send, expr_send, expr_field_sync, expr_sync, crosses, maps.crosses, expressions.crosses, statements.crosses, sendable) depth 60 fits 20000
+
+pub stmt_field_sync : IsSync (Stmt.the_field).row
+stmt_field_sync = search (expr_field_send, expr_send, expr_field_sync, expr_sync, crosses, maps.crosses, expressions.crosses, statements.crosses, sendable) depth 60 fits 20000
+
+pub stmt_sync : IsSync Stmt.the_row
+stmt_sync = search (stmt_field_sync, expr_field_send, expr_send, expr_field_sync, expr_sync, crosses, maps.crosses, expressions.crosses, statements.crosses, sendable) depth 60 fits 20000
+
+pub condition_field_send : IsSend (Condition.the_field).row
+condition_field_send = search (expr_field_send, expr_send, expr_field_sync, expr_sync, crosses, maps.crosses, sendable) depth 60 fits 20000
+
+pub condition_send : IsSend Condition.the_row
+condition_send = search (condition_field_send, expr_field_send, expr_send, expr_field_sync, expr_sync, crosses, maps.crosses, sendable) depth 60 fits 20000
+
+pub condition_field_sync : IsSync (Condition.the_field).row
+condition_field_sync = search (expr_field_send, expr_send, expr_field_sync, expr_sync, crosses, maps.crosses, sendable) depth 60 fits 20000
+
+pub condition_sync : IsSync Condition.the_row
+condition_sync = search (condition_field_sync, expr_field_send, expr_send, expr_field_sync, expr_sync, crosses, maps.crosses, sendable) depth 60 fits 20000
+
+pub transition_field_send : IsSend (Transition.the_field).row
+transition_field_send = search (condition_field_send, condition_send, condition_field_sync, condition_sync, crosses, maps.crosses, sendable) depth 60 fits 20000
+
+pub transition_send : IsSend Transition.the_row
+transition_send = search (transition_field_send, condition_field_send, condition_send, condition_field_sync, condition_sync, crosses, maps.crosses, sendable) depth 60 fits 20000
+
+pub transition_field_sync : IsSync (Transition.the_field).row
+transition_field_sync = search (condition_field_send, condition_send, condition_field_sync, condition_sync, crosses, maps.crosses, sendable) depth 60 fits 20000
+
+pub transition_sync : IsSync Transition.the_row
+transition_sync = search (transition_field_sync, condition_field_send, condition_send, condition_field_sync, condition_sync, crosses, maps.crosses, sendable) depth 60 fits 20000
+
+pub algorithm_field_send : IsSend (Algorithm.the_field).row
+algorithm_field_send = search (stmt_field_send, stmt_send, stmt_field_sync, stmt_sync, crosses, maps.crosses, sendable) depth 60 fits 20000
+
+pub algorithm_send : IsSend Algorithm.the_row
+algorithm_send = search (algorithm_field_send, stmt_field_send, stmt_send, stmt_field_sync, stmt_sync, crosses, maps.crosses, sendable) depth 60 fits 20000
+
+pub algorithm_field_sync : IsSync (Algorithm.the_field).row
+algorithm_field_sync = search (stmt_field_send, stmt_send, stmt_field_sync, stmt_sync, crosses, maps.crosses, sendable) depth 60 fits 20000
+
+pub algorithm_sync : IsSync Algorithm.the_row
+algorithm_sync = search (algorithm_field_sync, stmt_field_send, stmt_send, stmt_field_sync, stmt_sync, crosses, maps.crosses, sendable) depth 60 fits 20000
+
+pub chart_field_send : IsSend (Chart.the_field).row
+chart_field_send = search (transition_field_send, transition_send, transition_field_sync, transition_sync, algorithm_field_send, algorithm_send, algorithm_field_sync, algorithm_sync, crosses, maps.crosses, sendable) depth 60 fits 20000
+
+pub chart_send : IsSend Chart.the_row
+chart_send = search (chart_field_send, transition_field_send, transition_send, transition_field_sync, transition_sync, algorithm_field_send, algorithm_send, algorithm_field_sync, algorithm_sync, crosses, maps.crosses, sendable) depth 60 fits 20000
+
+pub chart_field_sync : IsSync (Chart.the_field).row
+chart_field_sync = search (transition_field_send, transition_send, transition_field_sync, transition_sync, algorithm_field_send, algorithm_send, algorithm_field_sync, algorithm_sync, crosses, maps.crosses, sendable) depth 60 fits 20000
+
+pub chart_sync : IsSync Chart.the_row
+chart_sync = search (chart_field_sync, transition_field_send, transition_send, transition_field_sync, transition_sync, algorithm_field_send, algorithm_send, algorithm_field_sync, algorithm_sync, crosses, maps.crosses, sendable) depth 60 fits 20000
+
+pub typedeclaration_field_send : IsSend (TypeDeclaration.the_field).row
+typedeclaration_field_send = search (interface_field_send, interface_send, interface_field_sync, interface_sync, instance_field_send, instance_send, instance_field_sync, instance_sync, network_field_send, network_send, network_field_sync, network_sync, chart_field_send, chart_send, chart_field_sync, chart_sync, crosses, maps.crosses, sendable) depth 60 fits 20000
+
+pub typedeclaration_send : IsSend TypeDeclaration.the_row
+typedeclaration_send = search (typedeclaration_field_send, interface_field_send, interface_send, interface_field_sync, interface_sync, instance_field_send, instance_send, instance_field_sync, instance_sync, network_field_send, network_send, network_field_sync, network_sync, chart_field_send, chart_send, chart_field_sync, chart_sync, crosses, maps.crosses, sendable) depth 60 fits 20000
+
+pub typedeclaration_field_sync : IsSync (TypeDeclaration.the_field).row
+typedeclaration_field_sync = search (interface_field_send, interface_send, interface_field_sync, interface_sync, instance_field_send, instance_send, instance_field_sync, instance_sync, network_field_send, network_send, network_field_sync, network_sync, chart_field_send, chart_send, chart_field_sync, chart_sync, crosses, maps.crosses, sendable) depth 60 fits 20000
+
+pub typedeclaration_sync : IsSync TypeDeclaration.the_row
+typedeclaration_sync = search (typedeclaration_field_sync, interface_field_send, interface_send, interface_field_sync, interface_sync, instance_field_send, instance_send, instance_field_sync, instance_sync, network_field_send, network_send, network_field_sync, network_sync, chart_field_send, chart_send, chart_field_sync, chart_sync, crosses, maps.crosses, sendable) depth 60 fits 20000
+
+pub decl_field_send : IsSend (Decl.the_field).row
+decl_field_send = search (typedeclaration_field_send, typedeclaration_send, typedeclaration_field_sync, typedeclaration_sync, system_field_send, system_send, system_field_sync, system_sync, crosses, maps.crosses, sendable) depth 60 fits 20000
+
+pub decl_send : IsSend Decl.the_row
+decl_send = search (decl_field_send, typedeclaration_field_send, typedeclaration_send, typedeclaration_field_sync, typedeclaration_sync, system_field_send, system_send, system_field_sync, system_sync, crosses, maps.crosses, sendable) depth 60 fits 20000
+
+pub decl_field_sync : IsSync (Decl.the_field).row
+decl_field_sync = search (typedeclaration_field_send, typedeclaration_send, typedeclaration_field_sync, typedeclaration_sync, system_field_send, system_send, system_field_sync, system_sync, crosses, maps.crosses, sendable) depth 60 fits 20000
+
+pub decl_sync : IsSync Decl.the_row
+decl_sync = search (decl_field_sync, typedeclaration_field_send, typedeclaration_send, typedeclaration_field_sync, typedeclaration_sync, system_field_send, system_send, system_field_sync, system_sync, crosses, maps.crosses, sendable) depth 60 fits 20000
+
+pub body_field_send : IsSend (Body.the_field).row
+body_field_send = search (decl_field_send, decl_send, decl_field_sync, decl_sync, crosses, maps.crosses, sendable) depth 60 fits 20000
+
+pub body_send : IsSend Body.the_row
+body_send = search (body_field_send, decl_field_send, decl_send, decl_field_sync, decl_sync, crosses, maps.crosses, sendable) depth 60 fits 20000
+
+pub body_field_sync : IsSync (Body.the_field).row
+body_field_sync = search (decl_field_send, decl_send, decl_field_sync, decl_sync, crosses, maps.crosses, sendable) depth 60 fits 20000
+
+pub body_sync : IsSync Body.the_row
+body_sync = search (body_field_sync, decl_field_send, decl_send, decl_field_sync, decl_sync, crosses, maps.crosses, sendable) depth 60 fits 20000
+
+pub source_field_send : IsSend (Source.the_field).row
+source_field_send = search (body_field_send, body_send, body_field_sync, body_sync, crosses, maps.crosses, sendable) depth 60 fits 20000
+
+pub source_send : IsSend Source.the_row
+source_send = search (source_field_send, body_field_send, body_send, body_field_sync, body_sync, crosses, maps.crosses, sendable) depth 60 fits 20000
+
+pub source_field_sync : IsSync (Source.the_field).row
+source_field_sync = search (body_field_send, body_send, body_field_sync, body_sync, crosses, maps.crosses, sendable) depth 60 fits 20000
+
+pub source_sync : IsSync Source.the_row
+source_sync = search (source_field_sync, body_field_send, body_send, body_field_sync, body_sync, crosses, maps.crosses, sendable) depth 60 fits 20000
+
+pub read_field_send : IsSend (Read.the_field).row
+read_field_send = search (source_field_send, source_send, source_field_sync, source_sync, crosses, maps.crosses, sendable) depth 60 fits 20000
+
+pub read_send : IsSend Read.the_row
+read_send = search (read_field_send, source_field_send, source_send, source_field_sync, source_sync, crosses, maps.crosses, sendable) depth 60 fits 20000
+
+pub read_field_sync : IsSync (Read.the_field).row
+read_field_sync = search (source_field_send, source_send, source_field_sync, source_sync, crosses, maps.crosses, sendable) depth 60 fits 20000
+
+pub read_sync : IsSync Read.the_row
+read_sync = search (read_field_sync, source_field_send, source_send, source_field_sync, source_sync, crosses, maps.crosses, sendable) depth 60 fits 20000
+
+pub wanted_field_send : IsSend (Wanted.the_field).row
+wanted_field_send = search (read_field_send, read_send, read_field_sync, read_sync, crosses, maps.crosses, sendable) depth 60 fits 20000
+
+pub wanted_send : IsSend Wanted.the_row
+wanted_send = search (wanted_field_send, read_field_send, read_send, read_field_sync, read_sync, crosses, maps.crosses, sendable) depth 60 fits 20000
+
+pub wanted_field_sync : IsSync (Wanted.the_field).row
+wanted_field_sync = search (read_field_send, read_send, read_field_sync, read_sync, crosses, maps.crosses, sendable) depth 60 fits 20000
+
+pub wanted_sync : IsSync Wanted.the_row
+wanted_sync = search (wanted_field_sync, read_field_send, read_send, read_field_sync, read_sync, crosses, maps.crosses, sendable) depth 60 fits 20000
+
+pub fault_field_send : IsSend (Fault.the_field).row
+fault_field_send = search (crosses, maps.crosses, sendable) depth 60 fits 20000
+
+pub fault_send : IsSend Fault.the_row
+fault_send = search (fault_field_send, crosses, maps.crosses, sendable) depth 60 fits 20000
+
+pub fault_field_sync : IsSync (Fault.the_field).row
+fault_field_sync = search (crosses, maps.crosses, sendable) depth 60 fits 20000
+
+pub fault_sync : IsSync Fault.the_row
+fault_sync = search (fault_field_sync, crosses, maps.crosses, sendable) depth 60 fits 20000
+
+pub value_field_send : IsSend (Value.the_field).row
+value_field_send = search (fault_field_send, fault_send, fault_field_sync, fault_sync, crosses, maps.crosses, sendable) depth 60 fits 20000
+
+pub value_send : IsSend Value.the_row
+value_send = search (value_field_send, fault_field_send, fault_send, fault_field_sync, fault_sync, crosses, maps.crosses, sendable) depth 60 fits 20000
+
+pub value_field_sync : IsSync (Value.the_field).row
+value_field_sync = search (fault_field_send, fault_send, fault_field_sync, fault_sync, crosses, maps.crosses, sendable) depth 60 fits 20000
+
+pub value_sync : IsSync Value.the_row
+value_sync = search (value_field_sync, fault_field_send, fault_send, fault_field_sync, fault_sync, crosses, maps.crosses, sendable) depth 60 fits 20000
+
+pub change_field_send : IsSend (Change.the_field).row
+change_field_send = search (source_field_send, source_send, source_field_sync, source_sync, crosses, maps.crosses, sendable) depth 60 fits 20000
+
+pub change_send : IsSend Change.the_row
+change_send = search (change_field_send, source_field_send, source_send, source_field_sync, source_sync, crosses, maps.crosses, sendable) depth 60 fits 20000
+
+pub change_field_sync : IsSync (Change.the_field).row
+change_field_sync = search (source_field_send, source_send, source_field_sync, source_sync, crosses, maps.crosses, sendable) depth 60 fits 20000
+
+pub change_sync : IsSync Change.the_row
+change_sync = search (change_field_sync, source_field_send, source_send, source_field_sync, source_sync, crosses, maps.crosses, sendable) depth 60 fits 20000
+
+pub call_field_send : IsSend (Call.the_field).row
+call_field_send = search (change_field_send, change_send, change_field_sync, change_sync, wanted_field_send, wanted_send, wanted_field_sync, wanted_sync, crosses, maps.crosses, sendable) depth 60 fits 20000
+
+pub call_send : IsSend Call.the_row
+call_send = search (call_field_send, change_field_send, change_send, change_field_sync, change_sync, wanted_field_send, wanted_send, wanted_field_sync, wanted_sync, crosses, maps.crosses, sendable) depth 60 fits 20000
+
+pub call_field_sync : IsSync (Call.the_field).row
+call_field_sync = search (change_field_send, change_send, change_field_sync, change_sync, wanted_field_send, wanted_send, wanted_field_sync, wanted_sync, crosses, maps.crosses, sendable) depth 60 fits 20000
+
+pub call_sync : IsSync Call.the_row
+call_sync = search (call_field_sync, change_field_send, change_send, change_field_sync, change_sync, wanted_field_send, wanted_send, wanted_field_sync, wanted_sync, crosses, maps.crosses, sendable) depth 60 fits 20000
+
+pub asked_field_send : IsSend (Asked.the_field).row
+asked_field_send = search (value_field_send, value_send, value_field_sync, value_sync, crosses, maps.crosses, sendable) depth 60 fits 20000
+
+pub asked_send : IsSend Asked.the_row
+asked_send = search (asked_field_send, value_field_send, value_send, value_field_sync, value_sync, crosses, maps.crosses, sendable) depth 60 fits 20000
+
+pub asked_field_sync : IsSync (Asked.the_field).row
+asked_field_sync = search (value_field_send, value_send, value_field_sync, value_sync, crosses, maps.crosses, sendable) depth 60 fits 20000
+
+pub asked_sync : IsSync Asked.the_row
+asked_sync = search (asked_field_sync, value_field_send, value_send, value_field_sync, value_sync, crosses, maps.crosses, sendable) depth 60 fits 20000
+
+pub reply_field_send : IsSend (Reply.the_field).row
+reply_field_send = search (wanted_field_send, wanted_send, wanted_field_sync, wanted_sync, asked_field_send, asked_send, asked_field_sync, asked_sync, crosses, maps.crosses, sendable) depth 60 fits 20000
+
+pub reply_send : IsSend Reply.the_row
+reply_send = search (reply_field_send, wanted_field_send, wanted_send, wanted_field_sync, wanted_sync, asked_field_send, asked_send, asked_field_sync, asked_sync, crosses, maps.crosses, sendable) depth 60 fits 20000
+
+pub reply_field_sync : IsSync (Reply.the_field).row
+reply_field_sync = search (wanted_field_send, wanted_send, wanted_field_sync, wanted_sync, asked_field_send, asked_send, asked_field_sync, asked_sync, crosses, maps.crosses, sendable) depth 60 fits 20000
+
+pub reply_sync : IsSync Reply.the_row
+reply_sync = search (reply_field_sync, wanted_field_send, wanted_send, wanted_field_sync, wanted_sync, asked_field_send, asked_send, asked_field_sync, asked_sync, crosses, maps.crosses, sendable) depth 60 fits 20000
+
+pub record_field_send : IsSend (Record.the_field).row
+record_field_send = search (call_field_send, call_send, call_field_sync, call_sync, reply_field_send, reply_send, reply_field_sync, reply_sync, crosses, maps.crosses, sendable) depth 60 fits 20000
+
+pub record_send : IsSend Record.the_row
+record_send = search (record_field_send, call_field_send, call_send, call_field_sync, call_sync, reply_field_send, reply_send, reply_field_sync, reply_sync, crosses, maps.crosses, sendable) depth 60 fits 20000
+
+pub record_field_sync : IsSync (Record.the_field).row
+record_field_sync = search (call_field_send, call_send, call_field_sync, call_sync, reply_field_send, reply_send, reply_field_sync, reply_sync, crosses, maps.crosses, sendable) depth 60 fits 20000
+
+pub record_sync : IsSync Record.the_row
+record_sync = search (record_field_sync, call_field_send, call_send, call_field_sync, call_sync, reply_field_send, reply_send, reply_field_sync, reply_sync, crosses, maps.crosses, sendable) depth 60 fits 20000
+
+pub receipt_field_send : IsSend (Receipt.the_field).row
+receipt_field_send = search (record_field_send, record_send, record_field_sync, record_sync, crosses, maps.crosses, sendable) depth 60 fits 20000
+
+pub receipt_send : IsSend Receipt.the_row
+receipt_send = search (receipt_field_send, record_field_send, record_send, record_field_sync, record_sync, crosses, maps.crosses, sendable) depth 60 fits 20000
+
+pub receipt_field_sync : IsSync (Receipt.the_field).row
+receipt_field_sync = search (record_field_send, record_send, record_field_sync, record_sync, crosses, maps.crosses, sendable) depth 60 fits 20000
+
+pub receipt_sync : IsSync Receipt.the_row
+receipt_sync = search (receipt_field_sync, record_field_send, record_send, record_field_sync, record_sync, crosses, maps.crosses, sendable) depth 60 fits 20000
+
+pub seat_field_send : IsSend (Seat.the_field).row
+seat_field_send = search (crosses, maps.crosses, sendable) depth 60 fits 20000
+
+pub seat_send : IsSend Seat.the_row
+seat_send = search (seat_field_send, crosses, maps.crosses, sendable) depth 60 fits 20000
+
+pub seat_field_sync : IsSync (Seat.the_field).row
+seat_field_sync = search (crosses, maps.crosses, sendable) depth 60 fits 20000
+
+pub seat_sync : IsSync Seat.the_row
+seat_sync = search (seat_field_sync, crosses, maps.crosses, sendable) depth 60 fits 20000
+
+pub library_field_send : IsSend (Library.the_field).row
+library_field_send = search (source_field_send, source_send, source_field_sync, source_sync, crosses, maps.crosses, sendable) depth 60 fits 20000
+
+pub library_send : IsSend Library.the_row
+library_send = search (library_field_send, source_field_send, source_send, source_field_sync, source_sync, crosses, maps.crosses, sendable) depth 60 fits 20000
+
+pub library_field_sync : IsSync (Library.the_field).row
+library_field_sync = search (source_field_send, source_send, source_field_sync, source_sync, crosses, maps.crosses, sendable) depth 60 fits 20000
+
+pub library_sync : IsSync Library.the_row
+library_sync = search (library_field_sync, source_field_send, source_send, source_field_sync, source_sync, crosses, maps.crosses, sendable) depth 60 fits 20000
+
+pub bench_field_send : IsSend (Bench.the_field).row
+bench_field_send = search (library_field_send, library_send, library_field_sync, library_sync, record_field_send, record_send, record_field_sync, record_sync, value_field_send, value_send, value_field_sync, value_sync, crosses, maps.crosses, sendable) depth 60 fits 20000
+
+pub bench_send : IsSend Bench.the_row
+bench_send = search (bench_field_send, library_field_send, library_send, library_field_sync, library_sync, record_field_send, record_send, record_field_sync, record_sync, value_field_send, value_send, value_field_sync, value_sync, crosses, maps.crosses, sendable) depth 60 fits 20000
+
+pub bench_field_sync : IsSync (Bench.the_field).row
+bench_field_sync = search (library_field_send, library_send, library_field_sync, library_sync, record_field_send, record_send, record_field_sync, record_sync, value_field_send, value_send, value_field_sync, value_sync, crosses, maps.crosses, sendable) depth 60 fits 20000
+
+pub bench_sync : IsSync Bench.the_row
+bench_sync = search (bench_field_sync, library_field_send, library_send, library_field_sync, library_sync, record_field_send, record_send, record_field_sync, record_sync, value_field_send, value_send, value_field_sync, value_sync, crosses, maps.crosses, sendable) depth 60 fits 20000
+
+pub locked_field_send : IsSend (Locked.the_field).row
+locked_field_send = search (bench_field_send, bench_send, bench_field_sync, bench_sync, crosses, maps.crosses, sendable) depth 60 fits 20000
+
+pub locked_send : IsSend Locked.the_row
+locked_send = search (locked_field_send, bench_field_send, bench_send, bench_field_sync, bench_sync, crosses, maps.crosses, sendable) depth 60 fits 20000
+
+pub locked_field_sync : IsSync (Locked.the_field).row
+locked_field_sync = search (bench_field_send, bench_send, bench_field_sync, bench_sync, crosses, maps.crosses, sendable) depth 60 fits 20000
+
+pub locked_sync : IsSync Locked.the_row
+locked_sync = search (locked_field_sync, bench_field_send, bench_send, bench_field_sync, bench_sync, crosses, maps.crosses, sendable) depth 60 fits 20000
+
+pub shared_field_send : IsSend (Shared.the_field).row
+shared_field_send = search (locked_field_send, locked_send, locked_field_sync, locked_sync, crosses, maps.crosses, sendable) depth 60 fits 20000
+
+pub shared_send : IsSend Shared.the_row
+shared_send = search (shared_field_send, locked_field_send, locked_send, locked_field_sync, locked_sync, crosses, maps.crosses, sendable) depth 60 fits 20000
+
+pub shared_field_sync : IsSync (Shared.the_field).row
+shared_field_sync = search (locked_field_send, locked_send, locked_field_sync, locked_sync, crosses, maps.crosses, sendable) depth 60 fits 20000
+
+pub shared_sync : IsSync Shared.the_row
+shared_sync = search (shared_field_sync, locked_field_send, locked_send, locked_field_sync, locked_sync, crosses, maps.crosses, sendable) depth 60 fits 20000

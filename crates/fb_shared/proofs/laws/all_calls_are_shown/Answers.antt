@@ -1,0 +1,5 @@
+use Rattle.fb_shared.proofs.Histories.{all_shown}
+use Rattle.fb_shared.proofs.laws.all_calls_are_shown.Goals as goal
+
+pub returns : goal.returns
+returns c = λ records receipts caller number it. all_shown records receipts caller number it

@@ -1,0 +1,37 @@
+-- How a worker ends.
+use Rattle.std.specs.Prelude.{◌≡◌, ◌≢◌, ◌<◌, Option, Some, if◌then◌else◌}
+use Rattle.std.specs.Option.{option_map}
+use Rattle.fb_shared.specs.declared.locked.SharedRefused.{SharedRefused}
+use Rattle.fb_shared.specs.declared.locked.SharedRefused.TheVariants as refused
+use Rattle.fb_shared.specs.declared.work.WorkEnd.{WorkEnd}
+use Rattle.fb_shared.specs.declared.work.WorkEnd.TheVariants.{TurnsOver, Stopped, SeatDiffers, Behind, HistoryFull, Memory}
+use Rattle.fb_shared.specs.declared.work.Look.{Look}
+use Rattle.fb_shared.specs.declared.work.Look.TheVariants.{Ended, Nothing, Taken}
+use Rattle.fb_shared.specs.Seats.{Hall, Place}
+use Rattle.fb_shared.specs.Refusals.{refusal_of}
+
+-- a refusal under its name
+abbrev pub end_of : SharedRefused → WorkEnd
+end_of (refused.SeatDiffers turns book) = SeatDiffers turns book
+end_of (refused.Behind seen len) = Behind seen len
+end_of refused.HistoryFull = HistoryFull
+end_of refused.Memory = Memory
+
+-- what ends a worker before a take, whether or not a key is pending: the stop mark, or else the first cause against a call
+abbrev pub end_before_take : Hall → Place → Option WorkEnd
+end_before_take hall seat = if hall.stopped then Some Stopped else option_map end_of (refusal_of hall seat)
+
+-- an end that names the seat
+abbrev pub NamesSeat : Place → WorkEnd → Type 0
+NamesSeat seat (SeatDiffers turns book) = (turns ≡ seat.turns) × (book ≢ turns)
+NamesSeat seat (Behind seen len) = (seen ≡ seat.seen) × (len < seen)
+NamesSeat seat TurnsOver = Unit {0}
+NamesSeat seat Stopped = Unit {0}
+NamesSeat seat HistoryFull = Unit {0}
+NamesSeat seat Memory = Unit {0}
+
+-- a look that ends a worker
+abbrev pub LookNames : Place → Look → Type 0
+LookNames seat (Ended end) = NamesSeat seat end
+LookNames seat Nothing = Unit {0}
+LookNames seat (Taken job) = Unit {0}

@@ -1,0 +1,82 @@
+-- What contracts see of a seat, of a receipt and of what lies under the lock.
+use Rattle.std.specs.Prelude.{◌≡◌, ℕ, ◌+◌, ◌<◌, List, Bool, Some, length, slice_get}
+use Rattle.fb_bench.specs.Machine.{Call, ToCommit, ToTake, ToDeliver, ToGiveBack, ToAsk, Reply, OfCommit, OfTake, OfDeliver, OfGiveBack, OfAsk}
+use Rattle.fb_bench.specs.Story.{Record, Story, recorded, record_of}
+
+-- a seat: whose it is, how many calls were recorded with it, and the greatest number of a record that it has seen
+pub record Place : Type 0 where
+  pub caller : ℕ
+  pub turns : ℕ
+  pub seen : ℕ
+
+-- a receipt: the number of a record, and that record
+pub record Claim : Type 0 where
+  pub number : ℕ
+  pub entry : Record
+
+-- a workbench under a lock, for how many callers seats were made, and whether the workers are to stop
+pub record Hall : Type 0 where
+  pub bench : Story
+  pub callers : ℕ
+  pub stopped : Bool
+
+-- after one recorded call
+abbrev pub hall_after : Hall → ℕ → Call → Hall
+hall_after hall caller call = record hall { bench = recorded hall.bench caller call }
+
+-- the receipt of the call that is recorded next
+abbrev pub next_claim : Hall → ℕ → Call → Claim
+next_claim hall caller call = record { number = length hall.bench.log.records + 1; entry = record_of hall.bench caller call }
+
+-- the seat after the call of this receipt
+abbrev pub seat_after : Place → Claim → Place
+seat_after seat claim = record seat { turns = claim.entry.turn; seen = claim.number }
+
+-- an answer to a commit
+abbrev pub IsCommitted : Reply → Type 0
+IsCommitted (OfCommit answer) = Unit {0}
+IsCommitted _ = ⊥
+
+-- an answer to a delivery
+abbrev pub IsDelivered : Reply → Type 0
+IsDelivered (OfDeliver answer) = Unit {0}
+IsDelivered _ = ⊥
+
+-- an answer to a key that is given back
+abbrev pub IsReturned : Reply → Type 0
+IsReturned (OfGiveBack answer) = Unit {0}
+IsReturned _ = ⊥
+
+-- an answer to a question
+abbrev pub IsAsked : Reply → Type 0
+IsAsked (OfAsk shown) = Unit {0}
+IsAsked _ = ⊥
+
+-- an answer to a take
+abbrev pub IsTaken : Reply → Type 0
+IsTaken (OfTake order) = Unit {0}
+IsTaken _ = ⊥
+
+-- a reply of the call's kind
+abbrev pub Fits : Call → Reply → Type 0
+Fits (ToCommit edits) answer = IsCommitted answer
+Fits ToTake answer = IsTaken answer
+Fits (ToDeliver order) answer = IsDelivered answer
+Fits (ToGiveBack key) answer = IsReturned answer
+Fits (ToAsk key) answer = IsAsked answer
+
+-- the receipt is of this call, the seat's next, with a reply of its kind, and newer than all that the seat has seen
+pub record IsReceiptOf (seat : Place) (call : Call) (claim : Claim) : Type 0 where
+  pub caller_is : claim.entry.caller ≡ seat.caller
+  pub call_is : claim.entry.call ≡ call
+  pub turn_is : claim.entry.turn ≡ seat.turns + 1
+  pub reply_fits : Fits call claim.entry.reply
+  pub later : seat.seen < claim.number
+
+-- the seat of a caller that has made no call
+abbrev pub new_seat : ℕ → Place
+new_seat caller = record { caller = caller; turns = 0; seen = 0 }
+
+-- the new seats of callers 1 to n, in order
+abbrev pub AreFirstSeats : ℕ → List Place → Type 0
+AreFirstSeats n seats = (length seats ≡ n) × ((k : ℕ) → k < n → slice_get seats k ≡ Some (new_seat (k + 1)))

@@ -1,0 +1,28 @@
+-- A shared workbench as the desk of one seat. Nothing is known of the workbench but what the seat and its receipts tell.
+use Rattle.std.specs.Prelude.{◌≡◌, ◌++◌, ◌∷◌, [], List}
+use Rattle.fb_bench.specs.Machine.{Call}
+use Rattle.fb_bench.specs.Calls.{Answer, Replied, FullHistory, BehindHistory}
+use Rattle.fb_bench.specs.declared.desk.DeskRefused.{DeskRefused}
+use Rattle.fb_bench.specs.declared.desk.DeskRefused.TheVariants as desk
+use Rattle.fb_shared.specs.declared.locked.SharedRefused.{SharedRefused}
+use Rattle.fb_shared.specs.declared.locked.SharedRefused.TheVariants.{SeatDiffers, Behind, HistoryFull, Memory}
+use Rattle.fb_shared.specs.Seats.{Place, Claim, IsReceiptOf, seat_after}
+
+-- a seat with the receipts of its calls
+pub record Sitter : Type 0 where
+  pub seat : Place
+  pub receipts : List Claim
+
+-- a refusal as a desk says it
+abbrev pub desk_refused : SharedRefused → DeskRefused
+desk_refused (SeatDiffers turns book) = desk.Behind
+desk_refused (Behind seen len) = desk.Behind
+desk_refused HistoryFull = desk.HistoryFull
+desk_refused Memory = desk.Memory
+
+-- An answered call adds one receipt, which is of the call, with the reply, and which the seat has then seen. A refused one changes neither.
+abbrev pub SitterStep : Sitter → Call → Answer → Sitter → Type 0
+SitterStep old call (Replied reply) new =
+    (claim : Claim) × (new.receipts ≡ old.receipts ++ claim ∷ []) × IsReceiptOf old.seat call claim × (claim.entry.reply ≡ reply) × (new.seat ≡ seat_after old.seat claim)
+SitterStep old call FullHistory new = new ≡ old
+SitterStep old call BehindHistory new = new ≡ old

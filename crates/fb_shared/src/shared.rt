@@ -1,0 +1,169 @@
+ghost use Rattle.std.specs.Prelude.{◌≡◌, IfOk, IfErr};
+ghost use Rattle.fb_bench.specs.Machine.{ToCommit, ToTake, ToDeliver, ToGiveBack, ToAsk, OfAsk};
+ghost use Rattle.fb_bench.specs.Records.{listed, shown_in};
+ghost use Rattle.fb_bench.specs.Requests.{job_of};
+ghost use Rattle.fb_shared.specs.Book.{IsBookOf};
+ghost use Rattle.fb_shared.specs.Calls.{Answers};
+ghost use Rattle.fb_shared.specs.Closing.{AgreesWith};
+ghost use Rattle.fb_shared.specs.Seats.{Hall, AreFirstSeats};
+
+use crate::close::{Closed, NotClosed};
+use crate::locked::{Locked, SharedRefused};
+use crate::seat::{Receipt, Seat};
+use fb_bench::{Asked, Limits};
+use fb_jobs::{Finished, Job, Key};
+use fb_library::Change;
+use std::alloc::{AllocError, Global};
+use std::sync::{Condvar, Mutex, Wait};
+
+/// A workbench that threads share. Each call holds the lock once.
+#[derive(Drop)]
+pub struct Shared {
+    pub(crate) state: Mutex<Locked>,
+    pub(crate) changed: Condvar,
+}
+
+impl Shared {
+    /// An empty workbench, with the seats of callers 1 to `callers`.
+    pub fn new(
+        alloc: Global,
+        limits: Limits,
+        callers: u32,
+    ) -> Result<(Shared, Vec<Seat>), AllocError>
+        ensures { IfOk result (λ made. AreFirstSeats callers made.1.items) }
+    {
+        let (locked, seats) = Locked::new(alloc, limits, callers)?;
+        let shared = Shared {
+            state: Mutex::new(locked),
+            changed: Condvar::new(),
+        };
+        Ok((shared, seats))
+    }
+
+    // wakes the workers that wait, where there is something for them
+    fn wake(&self, locked: &Locked) {
+        if locked.calls_workers() {
+            self.changed.notify_all();
+        }
+    }
+
+    /// Changes the texts, or says what is first against it.
+    pub fn commit<R: Wait>(
+        &self,
+        rt: &R,
+        seat: &mut Seat,
+        changes: &[Change],
+    ) -> Result<Receipt, SharedRefused>
+        ensures { Answers seat.old (ToCommit (listed changes.now)) (λ claim. claim) result seat.new }
+    {
+        let mut state = self.state.lock(rt);
+        let answer = state.commit(seat, changes);
+        self.wake(&state);
+        answer
+    }
+
+    /// Hands out a job for the least key that is pending and not handed out.
+    pub fn take<R: Wait>(
+        &self,
+        rt: &R,
+        seat: &mut Seat,
+    ) -> Result<(Receipt, Option<Job>), SharedRefused>
+        ensures answers { Answers seat.old ToTake (λ made. made.0) result seat.new }
+        ensures job { IfOk result (λ made. made.1 ≡ job_of made.0.entry.reply) }
+    {
+        let mut state = self.state.lock(rt);
+        let answer = state.take(seat);
+        self.wake(&state);
+        answer
+    }
+
+    /// Takes a result in, if its key waits for one and all that it has read is as it was.
+    pub fn deliver<R: Wait>(
+        &self,
+        rt: &R,
+        seat: &mut Seat,
+        finished: &Finished,
+    ) -> Result<Receipt, SharedRefused>
+        ensures { Answers seat.old (ToDeliver finished.now) (λ claim. claim) result seat.new }
+    {
+        let mut state = self.state.lock(rt);
+        let answer = state.deliver(seat, finished);
+        self.wake(&state);
+        answer
+    }
+
+    /// Ends that a key is handed out.
+    pub fn give_back<R: Wait>(
+        &self,
+        rt: &R,
+        seat: &mut Seat,
+        key: Key,
+    ) -> Result<Receipt, SharedRefused>
+        ensures { Answers seat.old (ToGiveBack key) (λ claim. claim) result seat.new }
+    {
+        let mut state = self.state.lock(rt);
+        let answer = state.give_back(seat, key);
+        self.wake(&state);
+        answer
+    }
+
+    /// What is known of a key.
+    pub fn ask<R: Wait>(&self, rt: &R, seat: &mut Seat, key: Key) -> Result<Receipt, SharedRefused>
+        ensures { Answers seat.old (ToAsk key) (λ claim. claim) result seat.new }
+    {
+        Ok(self.ask_with(rt, seat, key)?.0)
+    }
+
+    // as `ask`, with an answer that is the caller's own
+    pub(crate) fn ask_with<R: Wait>(
+        &self,
+        rt: &R,
+        seat: &mut Seat,
+        key: Key,
+    ) -> Result<(Receipt, Asked), SharedRefused>
+        ensures answers { Answers seat.old (ToAsk key) (λ made. made.0) result seat.new }
+        ensures asked { IfOk result (λ made. OfAsk (shown_in made.1) ≡ made.0.entry.reply) }
+    {
+        let mut state = self.state.lock(rt);
+        let answer = state.ask_with(seat, key);
+        self.wake(&state);
+        answer
+    }
+
+    /// Makes the workers stop.
+    pub fn stop<R: Wait>(&self, rt: &R) {
+        self.state.lock(rt).stop();
+        self.changed.notify_all();
+    }
+
+    /// Ends the calls. It is refused where a seat or a receipt does not fit, and then hands all back.
+    pub fn close(
+        self,
+        alloc: Global,
+        seats: Vec<Seat>,
+        receipts: &[Receipt],
+    ) -> Result<Closed, NotClosed<Shared>>
+        ensures closed { IfOk result
+            (λ closed. (hall : Hall) × (hall.bench ≡ closed.bench) × AgreesWith hall seats.items receipts.now × IsBookOf closed.counts hall.callers hall.bench.log.records) }
+        ensures back { IfErr result (λ refused. refused.seats.items ≡ seats.items) }
+    {
+        let Shared { state, changed } = self;
+        match state.into_inner().close(alloc, seats, receipts) {
+            Ok(closed) => Ok(closed),
+            Err(
+                NotClosed {
+                    fault,
+                    owner,
+                    seats,
+                },
+            ) => Err(NotClosed {
+                fault,
+                owner: Shared {
+                    state: Mutex::new(owner),
+                    changed,
+                },
+                seats,
+            }),
+        }
+    }
+}

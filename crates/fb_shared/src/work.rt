@@ -1,0 +1,184 @@
+ghost use Rattle.std.specs.Prelude.{◌≡◌, ◌*◌, ◌<◌, IfOk, IfSome, None, Some, vec_len, vec_capacity};
+ghost use Rattle.fb_shared.specs.Ends.{end_of, NamesSeat, LookNames};
+ghost use Rattle.fb_shared.specs.Runs.{AddsWork, AddsLook};
+ghost use Rattle.fb_shared.specs.declared.work.WorkEnd.TheVariants.{TurnsOver};
+
+use crate::locked::SharedRefused;
+use crate::seat::{Receipt, Seat};
+use crate::shared::Shared;
+use fb_jobs::{Finished, Job};
+use std::alloc::{AllocError, Global};
+use std::sync::Wait;
+
+/// Where a job is run. No lock is held meanwhile.
+pub trait Gate {
+    /// The result of the job, which this worker has taken.
+    fn run(&self, alloc: Global, worker: u32, job: &Job) -> Result<Finished, AllocError>
+        ensures { IfOk result (λ finished. finished ≡ job.now) };
+}
+
+/// Runs the job at once.
+#[derive(Clone, Copy)]
+pub struct Plain;
+
+impl Gate for Plain {
+    fn run(&self, alloc: Global, _worker: u32, job: &Job) -> Result<Finished, AllocError> {
+        job.run(alloc)
+    }
+}
+
+/// Why a worker ended.
+#[derive(Clone, Copy, PartialEq, Eq, Debug)]
+pub enum WorkEnd {
+    /// All its turns are used.
+    TurnsOver,
+    /// The workers are to stop.
+    Stopped,
+    /// Its seat's number of calls is not that of its caller's records.
+    SeatDiffers { turns: u64, book: u64 },
+    /// The history is shorter than what its seat has seen.
+    Behind { seen: u64, len: u64 },
+    /// As many calls are recorded as the limits allow.
+    HistoryFull,
+    Memory,
+}
+
+impl WorkEnd {
+    pub(crate) fn of(refused: SharedRefused) -> WorkEnd
+        ensures { result ≡ end_of refused }
+    {
+        match refused {
+            SharedRefused::SeatDiffers { turns, book } => WorkEnd::SeatDiffers { turns, book },
+            SharedRefused::Behind { seen, len } => WorkEnd::Behind { seen, len },
+            SharedRefused::HistoryFull => WorkEnd::HistoryFull,
+            SharedRefused::Memory => WorkEnd::Memory,
+        }
+    }
+}
+
+// what a look for a job found
+enum Look {
+    Ended(WorkEnd),
+    Nothing,
+    Taken(Job),
+}
+
+/// Takes jobs, runs each by the gate with no lock held, and delivers the result, at most as often as there are turns. A turn is one look for a
+/// job; where there is nothing to take it waits for a change. Before each take the first of these ends it: no turn left, the stop
+/// mark, a seat that differs, a seat that has seen more than there is, a full history. A result that is not accepted does not
+/// end it; want of memory does, and then it gives the key back where it can.
+pub fn work_on<R: Wait, G: Gate>(
+    rt: &R,
+    alloc: Global,
+    shared: &Shared,
+    seat: &mut Seat,
+    receipts: &mut Vec<Receipt>,
+    gate: &G,
+    turns: u64,
+) -> WorkEnd
+    ensures adds { AddsWork None (2 * turns) seat.old receipts.old.items receipts.new.items seat.new }
+    ensures names { NamesSeat seat.new result }
+    ensures idle { turns ≡ 0 → result ≡ TurnsOver }
+{
+    'looks: for _ in 0..turns {
+        if let Some(end) = work_turn(rt, alloc, shared, seat, receipts, gate) {
+            return end;
+        }
+    }
+    WorkEnd::TurnsOver
+}
+
+// one look for a job and, where there is one, its run
+fn work_turn<R: Wait, G: Gate>(
+    rt: &R,
+    alloc: Global,
+    shared: &Shared,
+    seat: &mut Seat,
+    receipts: &mut Vec<Receipt>,
+    gate: &G,
+) -> Option<WorkEnd>
+    ensures adds { AddsWork None 2 seat.old receipts.old.items receipts.new.items seat.new }
+    ensures names { IfSome result (NamesSeat seat.new) }
+{
+    match take_job(rt, shared, seat, receipts) {
+        Look::Ended(end) => Some(end),
+        Look::Nothing => None,
+        Look::Taken(job) => finish(rt, alloc, shared, seat, receipts, gate, &job),
+    }
+}
+
+// takes a job under one hold of the lock; where there is none, it waits for a change
+fn take_job<R: Wait>(rt: &R, shared: &Shared, seat: &mut Seat, receipts: &mut Vec<Receipt>) -> Look
+    ensures adds { AddsLook result (vec_len receipts.new) (vec_capacity receipts.new) seat.old receipts.old.items receipts.new.items seat.new }
+    ensures names { LookNames seat.new result }
+{
+    let mut state = shared.state.lock(rt);
+    if let Some(end) = state.end_of_work(seat) {
+        return Look::Ended(end);
+    }
+    if state.is_idle() {
+        drop(shared.changed.wait(rt, state));
+        return Look::Nothing;
+    }
+    if receipts.reserve(2).is_err() {
+        return Look::Ended(WorkEnd::Memory);
+    }
+    match state.take(seat) {
+        Err(refused) => Look::Ended(WorkEnd::of(refused)),
+        Ok((receipt, job)) => {
+            receipts.push_reserved(receipt);
+            match job {
+                None => Look::Nothing,
+                Some(job) => Look::Taken(job),
+            }
+        }
+    }
+}
+
+// runs a job that was taken, and delivers its result; where memory is wanting, it gives the key back
+fn finish<R: Wait, G: Gate>(
+    rt: &R,
+    alloc: Global,
+    shared: &Shared,
+    seat: &mut Seat,
+    receipts: &mut Vec<Receipt>,
+    gate: &G,
+    job: &Job,
+) -> Option<WorkEnd>
+    requires { vec_len receipts.old < vec_capacity receipts.old }
+    ensures adds { AddsWork (Some job.now) 1 seat.old receipts.old.items receipts.new.items seat.new }
+    ensures names { IfSome result (NamesSeat seat.new) }
+{
+    let worker = seat.caller();
+    let Ok(finished) = gate.run(alloc, worker, job) else {
+        give_back(rt, shared, seat, receipts, job);
+        return Some(WorkEnd::Memory);
+    };
+    match shared.deliver(rt, seat, &finished) {
+        Ok(receipt) => {
+            receipts.push_reserved(receipt);
+            None
+        }
+        Err(SharedRefused::Memory) => {
+            give_back(rt, shared, seat, receipts, job);
+            Some(WorkEnd::Memory)
+        }
+        Err(refused) => Some(WorkEnd::of(refused)),
+    }
+}
+
+// gives the key of a job back, if it can
+fn give_back<R: Wait>(
+    rt: &R,
+    shared: &Shared,
+    seat: &mut Seat,
+    receipts: &mut Vec<Receipt>,
+    job: &Job,
+)
+    requires { vec_len receipts.old < vec_capacity receipts.old }
+    ensures { AddsWork (Some job.now) 1 seat.old receipts.old.items receipts.new.items seat.new }
+{
+    if let Ok(receipt) = shared.give_back(rt, seat, job.key()) {
+        receipts.push_reserved(receipt);
+    }
+}
