@@ -1,0 +1,21 @@
+//! The resources on which the blocks of a system stand, and the links between resources (IEC 61499-1, clause 7: system configurations).
+#![tactic(auto)]
+
+mod cuts;
+mod fronts;
+mod homes;
+mod laws;
+mod mappings;
+mod placement;
+mod sorted;
+mod standing;
+
+pub use cuts::{cuts, home_table, is_cut};
+pub use fronts::{PathTable, nearest};
+pub use homes::{Home, Homes, Misplaced, homes_of};
+pub use laws::{homes_are_nearest, one_place, place_is_local};
+pub use placement::{Placed, place};
+pub use standing::{Standing, applications_of, path_names, standing_at};
+
+#[cfg(test)]
+mod tests;
