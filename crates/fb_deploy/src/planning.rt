@@ -8,7 +8,7 @@ use crate::orders::orders_of;
 use crate::resources::{ResourcePlan, resource_plans, resources_of};
 use fb_flatten::{Net, net_of};
 use fb_library::View;
-use fb_mapping::{Home, Homes, Misplaced, cuts, home_table, homes_of};
+use fb_mapping::{Home, Homes, Misplaced, cuts_of, home_table, homes_of};
 use fb_network::{Flat, Link};
 use fb_text::Name;
 use std::alloc::{AllocError, Global};
@@ -39,7 +39,7 @@ fn plan_homes<V: View>(
         ≡ tree_plan (V.sources view.now) system.now (tree_at (V.sources view.now) system.now) flat.now homes.now) }
 {
     let table = home_table(alloc, homes)?;
-    let cuts = cuts(alloc, &table, flat.links())?;
+    let cuts = cuts_of(alloc, &table, flat.links())?;
     let names = resources_of(alloc, view, system)?;
     let orders = orders_of(alloc, view, system, names.as_slice(), flat, homes, &table)?;
     let resources = resource_plans(alloc, orders, names)?;

@@ -51,12 +51,16 @@ standing_beyond sources s (name ∷ names) = standing_beyond sources (option_and
 abbrev pub application_called : List ApplicationTree → List ℕ → Option ApplicationTree
 application_called applications name = first_at (λ a. a.name.name) (λ a. a) applications name
 
+-- where names lead to, from these instances of the unit inwards
+abbrev pub standing_from : Sources → List ℕ → List InstanceTree → List (List ℕ) → Option PlainStanding
+standing_from sources unit instances [] = None
+standing_from sources unit instances (name ∷ names) = standing_beyond sources (standing_among unit instances name) names
+
 -- the instance at a path of a system: in an application, and from there inwards
 abbrev pub standing_at : Sources → List ℕ → List ApplicationTree → List (List ℕ) → Option PlainStanding
 standing_at sources system applications [] = None
-standing_at sources system applications (a ∷ []) = None
-standing_at sources system applications (a ∷ (name ∷ names)) =
-    standing_beyond sources (option_and_then (λ it. standing_among system it.network.instances name) (application_called applications a)) names
+standing_at sources system applications (a ∷ names) =
+    option_and_then (λ it. standing_from sources system it.network.instances names) (application_called applications a)
 
 -- plugs and sockets are not placed
 abbrev pub is_placed : Role → Bool

@@ -42,7 +42,7 @@ pub fn is_cut(table: &PathTable, link: &Link) -> bool
 }
 
 /// The links whose two homes differ, in the order of the links.
-pub fn cuts(alloc: Global, table: &PathTable, links: &[Link]) -> Result<Vec<Link>, AllocError>
+pub fn cuts_of(alloc: Global, table: &PathTable, links: &[Link]) -> Result<Vec<Link>, AllocError>
     ensures { IfOk result (λ cuts. cuts.items ≡ cuts_of (get_by_text table.now) links.now) }
 {
     let mut cuts = Vec::new(alloc);

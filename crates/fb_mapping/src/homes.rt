@@ -3,7 +3,7 @@ ghost use Rattle.std.specs.Prelude.{◌≡◌, [], ◌∷◌, ◌++◌, map, IfO
 ghost use Rattle.std.specs.BTreeMap.{get_by_text};
 ghost use Rattle.fb_tree.specs.Tree.{mapping_tree};
 ghost use Rattle.fb_library.specs.View.{tree_at};
-ghost use Rattle.fb_mapping.specs.Homes.{astray, block_homes, homeless, homes_of, misplaced, plain_homes};
+ghost use Rattle.fb_mapping.specs.Homes.{astray, block_home, block_homes, homeless, homes_of, misplaced, plain_homes};
 ghost use Rattle.fb_mapping.specs.Mappings.{names_used, resource_at};
 ghost use Rattle.fb_mapping.specs.Systems.{applications_in, mappings_in};
 ghost use Rattle.fb_mapping.specs.declared.homes.Misplaced.TheVariants.{NoSuchBlock, Unmapped};
@@ -51,6 +51,20 @@ fn mappings_of<'a, V: View>(view: &'a V, system: &Name) -> &'a [Mapping]
     }
 }
 
+/// The home of a block, where the table has what is mapped.
+fn block_home(table: &PathTable, block: &FlatBlock) -> Result<Option<Home>, AllocError>
+    ensures { IfOk result (λ home. home ≡ block_home (get_by_text table.now) block.now) }
+{
+    match nearest(table, block.path.as_str()) {
+        Some(resource) => {
+            let path = block.path.copy()?;
+            let resource = resource.copy()?;
+            Ok(Some(Home { path, resource }))
+        }
+        None => Ok(None),
+    }
+}
+
 /// The homes of the blocks, where the table has what is mapped.
 fn block_homes(
     alloc: Global,
@@ -61,11 +75,8 @@ fn block_homes(
 {
     let mut homes = Vec::new(alloc);
     for block in blocks {
-        if let Some(resource) = nearest(table, block.path.as_str()) {
-            homes.push(Home {
-                path: block.path.copy()?,
-                resource: resource.copy()?,
-            })?;
+        if let Some(home) = block_home(table, block)? {
+            homes.push(home)?;
         }
     }
     Ok(homes)

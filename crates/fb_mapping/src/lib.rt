@@ -10,7 +10,7 @@ mod placement;
 mod sorted;
 mod standing;
 
-pub use cuts::{cuts, home_table, is_cut};
+pub use cuts::{cuts_of, home_table, is_cut};
 pub use fronts::{PathTable, nearest};
 pub use homes::{Home, Homes, Misplaced, homes_of};
 pub use laws::{homes_are_nearest, one_place, place_is_local};

@@ -2,7 +2,7 @@
 ghost use Rattle.std.specs.Prelude.{◌≡◌, IfOk};
 ghost use Rattle.fb_mapping.specs.Placed.{IsPlaced, IsSystem, flat_placed, plain_placed};
 
-use crate::cuts::{cuts, home_table};
+use crate::cuts::{cuts_of, home_table};
 use crate::homes::{Home, Homes, Misplaced, homes_of};
 use fb_flatten::{Net, net_of};
 use fb_library::View;
@@ -34,7 +34,7 @@ fn place_flat<V: View>(
         Homes::Faulty(found) => Ok(Placed::Faulty(found)),
         Homes::On(homes) => {
             let table = home_table(alloc, homes.as_slice())?;
-            let cuts = cuts(alloc, &table, flat.links())?;
+            let cuts = cuts_of(alloc, &table, flat.links())?;
             Ok(Placed::On { homes, cuts })
         }
     }

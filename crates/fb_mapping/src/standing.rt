@@ -2,7 +2,7 @@
 ghost use Rattle.std.specs.Prelude.{◌≡◌, ℕ, List, map, IfOk, Option, Some, option_map, option_and_then};
 ghost use Rattle.fb_tree.specs.Tree.{application_tree, decl_tree, instance_tree};
 ghost use Rattle.fb_library.specs.View.{tree_at};
-ghost use Rattle.fb_mapping.specs.Standing.{application_called, inner_instances, leads_nowhere, is_placed, path_names, plain_standing, standing_among, standing_at, standing_beyond, standing_inside};
+ghost use Rattle.fb_mapping.specs.Standing.{application_called, inner_instances, leads_nowhere, is_placed, path_names, plain_standing, standing_among, standing_at, standing_beyond, standing_from, standing_inside};
 ghost use Rattle.fb_mapping.specs.Systems.{applications_in};
 
 use fb_library::{View, tree_by_name};
@@ -97,35 +97,45 @@ fn standing_inside<'a, V: View>(
     }
 }
 
-/// One name further inwards.
-fn further<'a, V: View>(
-    view: &'a V,
-    name: &str,
-    found: Option<Standing<'a>>,
-) -> Option<Standing<'a>>
-    ensures { option_map plain_standing result
-        ≡ option_and_then (standing_inside (V.sources view.now) name.now) (option_map plain_standing found.entry) }
-{
-    match found {
-        Some(outer) => standing_inside(view, name, &outer),
-        None => None,
-    }
-}
-
 /// Where names lead to, from an instance inwards.
 fn standing_beyond<'a, V: View>(
     view: &'a V,
-    start: Option<Standing<'a>>,
+    start: &Standing<'a>,
     names: &[&str],
 ) -> Option<Standing<'a>>
     ensures { option_map plain_standing result
-        ≡ standing_beyond (V.sources view.now) (option_map plain_standing start.entry) (map (λ n. n.now) names.now) }
+        ≡ standing_beyond (V.sources view.now) (Some (plain_standing start.now)) (map (λ n. n.now) names.now) }
 {
-    let mut found = start;
+    let mut found = Standing {
+        unit: start.unit,
+        instance: start.instance,
+    };
     for name in names {
-        found = further(view, *name, found);
+        match standing_inside(view, *name, &found) {
+            Some(inner) => found = inner,
+            None => return None,
+        }
     }
-    found
+    Some(found)
+}
+
+/// The instance that names lead to, from these instances of the unit inwards.
+fn standing_from<'a, V: View>(
+    view: &'a V,
+    unit: &Name,
+    instances: &'a [Instance],
+    names: &[&str],
+) -> Option<Standing<'a>>
+    ensures { option_map plain_standing result
+        ≡ standing_from (V.sources view.now) unit.now (map instance_tree instances.now) (map (λ n. n.now) names.now) }
+{
+    match names.split_first() {
+        Some((first, others)) => match standing_among(unit, instances, *first) {
+            Some(start) => standing_beyond(view, &start, others),
+            None => None,
+        },
+        None => None,
+    }
 }
 
 /// The instance at a path of a system.
@@ -133,11 +143,16 @@ pub fn standing_at<'a, V: View>(view: &'a V, system: &Name, names: &[&str]) -> O
     ensures { option_map plain_standing result
         ≡ standing_at (V.sources view.now) system.now (applications_in (tree_at (V.sources view.now) system.now)) (map (λ n. n.now) names.now) }
 {
-    let (first, others) = names.split_first()?;
-    let (second, inner) = others.split_first()?;
-    let application = application_called(applications_of(view, system), *first)?;
-    let start = standing_among(system, application.network.instances.as_slice(), *second);
-    standing_beyond(view, start, inner)
+    match names.split_first() {
+        Some((first, others)) => match application_called(applications_of(view, system), *first) {
+            Some(application) => {
+                let instances = application.network.instances.as_slice();
+                standing_from(view, system, instances, others)
+            }
+            None => None,
+        },
+        None => None,
+    }
 }
 
 /// Whether the instance is a block or a subapplication instance.
