@@ -2,6 +2,7 @@
 pub mod TableLemmas
 pub mod FirstLemmas
 pub mod FrontLemmas
+pub mod NearestLemmas
 pub mod NameLemmas
 pub mod ListLemmas
 pub mod PathNameLemmas

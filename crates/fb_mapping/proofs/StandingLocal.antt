@@ -18,6 +18,7 @@ use Rattle.fb_flatten.proofs.OrderLemmas.{rests_on}
 use Rattle.fb_mapping.specs.Firsts.{first_at}
 use Rattle.fb_mapping.specs.Standing.{PlainStanding, application_called, inner_instances, is_placed, leads_nowhere, standing_among, standing_at, standing_beyond, standing_from, standing_inside}
 use Rattle.fb_mapping.specs.Systems.{applications_in}
+use Rattle.fb_mapping.proofs.StandingLemmas.{beyond_nothing}
 
 -- what is found is the form of an item
 record IsFound {X Y : Type 0} (value : X → Y) (xs : List X) (y : Y) : Type 0 where
@@ -74,10 +75,6 @@ module _ (a b : Sources) (unit : List ℕ) (agree : AgreeFar unit a b) where
 
   inside_same : (name : List ℕ) (s : PlainStanding) → Rests a unit (type_of s) → standing_inside a name s ≡ standing_inside b name s
   inside_same name s r = ap (λ (t : Option DeclTree). standing_among (type_of s) (inner_instances t) name) (tree_same (type_of s) r)
-
-  beyond_nothing : (sources : Sources) (names : List (List ℕ)) → standing_beyond sources None names ≡ None
-  beyond_nothing sources [] = refl
-  beyond_nothing sources (name ∷ names) = beyond_nothing sources names
 
   beyond_same : (names : List (List ℕ)) (o : Option PlainStanding) → Reached o → standing_beyond a o names ≡ standing_beyond b o names
   beyond_same [] o r = refl
