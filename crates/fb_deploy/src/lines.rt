@@ -1,7 +1,7 @@
 //! Commands in the order of the places that they are about.
-ghost use Rattle.std.specs.Prelude.{◌≡◌, [], ◌∷◌, ◌++◌, IfOk, OnOk, map, option_map, refl};
+ghost use Rattle.std.specs.Prelude.{◌≡◌, ◌++◌, IfOk, OnOk, map, Some, refl};
 ghost use Rattle.std.specs.BTreeMap.{get_by_text};
-ghost use Rattle.std.specs.List.{filter_map};
+ghost use Rattle.std.specs.List.{filter_map, flat_map};
 ghost use Rattle.std.specs.Ordering.{eq_by_cmp, as_partial_cmp};
 ghost use Rattle.std.specs.Cmp.{eq_by_cmp_equiv, partial_equiv_from_equiv, partial_order_from_total};
 ghost use Rattle.fb_text.specs.Order.{in_order};
@@ -79,26 +79,45 @@ fn sorted_lines(lines: Vec<Line>) -> Result<Vec<Line>, AllocError>
     Ok(sorted)
 }
 
-/// Adds the command that makes a block, if the block has a home.
-fn push_create_line(
+/// The command that makes a block, if the block has a home.
+fn create_line(
     alloc: Global,
     homes: &PathTable,
     block: &FlatBlock,
-    lines: &mut Vec<Line>,
-) -> Result<(), AllocError>
-    ensures { OnOk result (lines.new.items
-        ≡ lines.old.items ++ filter_map (create_line (get_by_text homes.now)) (block.now ∷ [])) }
+) -> Result<Option<Line>, AllocError>
+    ensures { IfOk result (λ line. line ≡ create_line (get_by_text homes.now) block.now) }
 {
     let path = block.path.as_str();
-    if let Some(resource) = homes.get(path) {
-        let command = Command::of_two(alloc, "CREATE FB ", path, block.type_name.as_str())?;
-        lines.push(Line {
-            place: block.path.copy()?,
-            command,
-            resource: resource.copy()?,
-        })?;
+    match homes.get(path) {
+        Some(resource) => {
+            let command = Command::of_two(alloc, "CREATE FB ", path, block.type_name.as_str())?;
+            let place = block.path.copy()?;
+            let resource = resource.copy()?;
+            Ok(Some(Line {
+                place,
+                command,
+                resource,
+            }))
+        }
+        None => Ok(None),
     }
-    Ok(())
+}
+
+/// The commands that make blocks, in the order of the blocks.
+fn block_lines(
+    alloc: Global,
+    homes: &PathTable,
+    blocks: &[FlatBlock],
+) -> Result<Vec<Line>, AllocError>
+    ensures { IfOk result (λ lines. lines.items ≡ filter_map (create_line (get_by_text homes.now)) blocks.now) }
+{
+    let mut lines = Vec::new(alloc);
+    for block in blocks {
+        if let Some(line) = create_line(alloc, homes, block)? {
+            lines.push(line)?;
+        }
+    }
+    Ok(lines)
 }
 
 /// The commands that make blocks, by the bytes of their paths.
@@ -109,11 +128,7 @@ pub(crate) fn create_lines(
 ) -> Result<Vec<Line>, AllocError>
     ensures { IfOk result (λ lines. lines.items ≡ create_lines (get_by_text homes.now) blocks.now) }
 {
-    let mut lines = Vec::new(alloc);
-    for block in blocks {
-        push_create_line(alloc, homes, block, &mut lines)?;
-    }
-    sorted_lines(lines)
+    sorted_lines(block_lines(alloc, homes, blocks)?)
 }
 
 /// The command that sets a parameter of a block.
@@ -153,23 +168,18 @@ fn push_write_lines(
 }
 
 /// Adds the commands that set the parameters of what stands at a home's path.
-fn push_lines_at<V: View>(
+fn push_lines_of<V: View>(
     alloc: Global,
     view: &V,
     home: &Home,
-    standing: Option<Standing<'_>>,
+    it: &Standing<'_>,
     lines: &mut Vec<Line>,
 ) -> Result<(), AllocError>
     ensures { OnOk result (lines.new.items
-        ≡ lines.old.items ++ lines_at (V.sources view.now) home.now (option_map plain_standing standing.entry)) }
+        ≡ lines.old.items ++ lines_at (V.sources view.now) home.now (Some (plain_standing it.now))) }
 {
-    match standing {
-        Some(it) => {
-            let text = text_by_name(view, &it.unit);
-            push_write_lines(alloc, text, home, it.instance.parameters.as_slice(), lines)
-        }
-        None => Ok(()),
-    }
+    let text = text_by_name(view, &it.unit);
+    push_write_lines(alloc, text, home, it.instance.parameters.as_slice(), lines)
 }
 
 /// Adds the commands that set the parameters of a block.
@@ -184,8 +194,27 @@ fn push_home_lines<V: View>(
         ++ home_lines (V.sources view.now) system.now (applications_in (tree_at (V.sources view.now) system.now)) home.now) }
 {
     let names = path_names(alloc, home.path.as_str())?;
-    let standing = standing_at(view, system, names.as_slice());
-    push_lines_at(alloc, view, home, standing, lines)
+    match standing_at(view, system, names.as_slice()) {
+        Some(it) => push_lines_of(alloc, view, home, &it, lines),
+        None => Ok(()),
+    }
+}
+
+/// The commands that set the parameters of blocks, in the order of the blocks.
+fn all_home_lines<V: View>(
+    alloc: Global,
+    view: &V,
+    system: &Name,
+    homes: &[Home],
+) -> Result<Vec<Line>, AllocError>
+    ensures { IfOk result (λ lines. lines.items
+        ≡ flat_map (home_lines (V.sources view.now) system.now (applications_in (tree_at (V.sources view.now) system.now))) homes.now) }
+{
+    let mut lines = Vec::new(alloc);
+    for home in homes {
+        push_home_lines(alloc, view, system, home, &mut lines)?;
+    }
+    Ok(lines)
 }
 
 /// The commands that set the parameters of blocks, by the bytes of their places.
@@ -198,9 +227,5 @@ pub(crate) fn write_lines<V: View>(
     ensures { IfOk result (λ lines. lines.items
         ≡ write_lines (V.sources view.now) system.now (applications_in (tree_at (V.sources view.now) system.now)) homes.now) }
 {
-    let mut lines = Vec::new(alloc);
-    for home in homes {
-        push_home_lines(alloc, view, system, home, &mut lines)?;
-    }
-    sorted_lines(lines)
+    sorted_lines(all_home_lines(alloc, view, system, homes)?)
 }

@@ -1,7 +1,6 @@
 //! The commands of a system, each with the resource that it is for.
-ghost use Rattle.std.specs.Prelude.{◌≡◌, [], ◌∷◌, ◌++◌, IfOk, OnOk, map, option_copied};
+ghost use Rattle.std.specs.Prelude.{◌≡◌, ◌++◌, IfOk, OnOk, map, option_copied};
 ghost use Rattle.std.specs.BTreeMap.{get_by_text};
-ghost use Rattle.std.specs.List.{filter_map};
 ghost use Rattle.fb_library.specs.View.{tree_at};
 ghost use Rattle.fb_mapping.specs.Cuts.{home_at};
 ghost use Rattle.fb_mapping.specs.Systems.{applications_in};
@@ -45,25 +44,23 @@ fn link_resource<'a>(homes: &'a PathTable, link: &Link) -> Option<&'a Path>
     nearest(homes, link.from.as_str())
 }
 
-/// Adds the command that joins the ends of a link within a resource.
-fn push_connection_order(
+/// The command that joins the ends of a link within a resource.
+fn connection_order(
     alloc: Global,
     homes: &PathTable,
     link: &Link,
-    orders: &mut Vec<Order>,
-) -> Result<(), AllocError>
-    ensures { OnOk result (orders.new.items
-        ≡ orders.old.items ++ filter_map (connection_order (get_by_text homes.now)) (link.now ∷ [])) }
+) -> Result<Option<Order>, AllocError>
+    ensures { IfOk result (λ order. order ≡ connection_order (get_by_text homes.now) link.now) }
 {
-    if let Some(resource) = link_resource(homes, link) {
-        let from = link.from.as_str();
-        let command = Command::of_two(alloc, "CREATE CONNECTION ", from, link.to.as_str())?;
-        orders.push(Order {
-            resource: resource.copy()?,
-            command,
-        })?;
+    match link_resource(homes, link) {
+        Some(resource) => {
+            let from = link.from.as_str();
+            let command = Command::of_two(alloc, "CREATE CONNECTION ", from, link.to.as_str())?;
+            let resource = resource.copy()?;
+            Ok(Some(Order { resource, command }))
+        }
+        None => Ok(None),
     }
-    Ok(())
 }
 
 fn push_connection_orders(
@@ -76,7 +73,9 @@ fn push_connection_orders(
         ≡ orders.old.items ++ connection_orders (get_by_text homes.now) links.now) }
 {
     for link in links {
-        push_connection_order(alloc, homes, link, orders)?;
+        if let Some(order) = connection_order(alloc, homes, link)? {
+            orders.push(order)?;
+        }
     }
     Ok(())
 }

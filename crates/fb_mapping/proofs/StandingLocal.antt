@@ -102,6 +102,42 @@ module _ (a b : Sources) (unit : List ℕ) (agree : AgreeFar unit a b) where
           let f = found_in (λ (x : ApplicationTree). x.name.name) (λ (x : ApplicationTree). x) apps first it e in
           from_same it (subst (λ (x : ApplicationTree). Contains apps x) f.gives f.among) names
 
+  -- the unit rests on the unit that declares the instance
+  abbrev Declared : Option PlainStanding → Type 0
+  Declared o = (s : PlainStanding) → o ≡ Some s → Rests a unit s.unit
+
+  among_declared : (u : List ℕ) (instances : List InstanceTree) (name : List ℕ) → Rests a unit u → Declared (standing_among u instances name)
+  among_declared u instances name r s e =
+      let f = found_in (λ (i : InstanceTree). i.name.name) (λ (i : InstanceTree). let it : PlainStanding = record { unit = u; instance = i } in it) instances name s e in
+      subst (λ (v : List ℕ). Rests a unit v) (ap (λ (t : PlainStanding). t.unit) f.gives) r
+
+  beyond_declared : (names : List (List ℕ)) (o : Option PlainStanding) → Reached o → Declared o → Declared (standing_beyond a o names)
+  beyond_declared [] o r d = d
+  beyond_declared (name ∷ names) None r d = λ s e. absurd (let nothing = beyond_nothing a names in let no : ⊥ = cc in no)
+  beyond_declared (name ∷ names) (Some s) r d =
+      beyond_declared names (standing_inside a name s) (inside_reached name s (r s refl))
+      (among_declared (type_of s) (inner_instances (tree_at a (type_of s))) name (r s refl))
+
+  pub unit_reached : (names : List (List ℕ)) → Declared (standing_at a unit (applications_in (tree_at a unit)) names)
+  unit_reached [] = λ s e. absurd (let no : ⊥ = cc in no)
+  unit_reached (first ∷ names) = by_application (application_called apps first) refl
+    where
+      apps : List ApplicationTree
+      apps = applications_in (tree_at a unit)
+
+      from_declared : (it : ApplicationTree) → Contains apps it → (ns : List (List ℕ)) → Declared (standing_from a unit it.network.instances ns)
+      from_declared it c [] = λ s e. absurd (let no : ⊥ = cc in no)
+      from_declared it c (name ∷ ns) =
+          beyond_declared ns (standing_among unit it.network.instances name)
+          (λ s e. rests_on itself (application_mentioned (tree_at a unit) it (type_of s) c (among_typed unit it.network.instances name s e)))
+          (among_declared unit it.network.instances name itself)
+
+      by_application : (o : Option ApplicationTree) → application_called apps first ≡ o → Declared (option_and_then (λ (it : ApplicationTree). standing_from a unit it.network.instances names) o)
+      by_application None e = λ s f. absurd (let no : ⊥ = cc in no)
+      by_application (Some it) e =
+          let f = found_in (λ (x : ApplicationTree). x.name.name) (λ (x : ApplicationTree). x) apps first it e in
+          from_declared it (subst (λ (x : ApplicationTree). Contains apps x) f.gives f.among) names
+
   pub nowhere_same : (names : List (List ℕ)) → leads_nowhere a unit (applications_in (tree_at a unit)) names ≡ leads_nowhere b unit (applications_in (tree_at a unit)) names
   nowhere_same [] = refl
   nowhere_same (first ∷ []) = refl
