@@ -1,7 +1,7 @@
 use super::*;
 use fb_flatten::Net;
 use fb_library::{Change, Library};
-use fb_mapping::Misplaced;
+use fb_mapping::{Misplaced, is_system};
 use fb_parse::Source;
 use fb_text::Name;
 use std::alloc::Global;
@@ -32,7 +32,11 @@ fn library_of(alloc: Global, units: &[(&str, &str)]) -> Result<Library, Fail> {
 fn told(alloc: Global, units: &[(&str, &str)], system: &str) -> Result<String, Fail> {
     let library = library_of(alloc, units)?;
     let mut told = String::new(alloc);
-    match plan(alloc, &library, Name::read(system)?)? {
+    let name = Name::read(system)?;
+    if !is_system(&library, &name) {
+        return Ok(String::from_str(alloc, "no system")?);
+    }
+    match plan(alloc, &library, name)? {
         Deploy::Stopped(Net::Blocked(names)) => {
             told.push_str("blocked")?;
             for name in &names {

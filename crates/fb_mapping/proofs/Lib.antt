@@ -10,3 +10,4 @@ pub mod StandingLemmas
 pub mod StandingLocal
 pub mod PlaceLocal
 pub mod OnePlacement
+pub mod KindLemmas

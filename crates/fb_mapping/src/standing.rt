@@ -34,7 +34,7 @@ pub fn path_names<'a>(alloc: Global, path: &'a str) -> Result<Vec<&'a str>, Allo
 }
 
 /// The applications of a system.
-pub fn applications_of<'a, V: View>(view: &'a V, system: &Name) -> &'a [Application]
+fn applications_of<'a, V: View>(view: &'a V, system: &Name) -> &'a [Application]
     ensures { map application_tree result.now ≡ applications_in (tree_at (V.sources view.now) system.now) }
 {
     match tree_by_name(view, system) {

@@ -31,7 +31,11 @@ fn library_of(alloc: Global, units: &[(&str, &str)]) -> Result<Library, Fail> {
 fn told(alloc: Global, units: &[(&str, &str)], system: &str) -> Result<String, Fail> {
     let library = library_of(alloc, units)?;
     let mut told = String::new(alloc);
-    match place(alloc, &library, Name::read(system)?)? {
+    let name = Name::read(system)?;
+    if !is_system(&library, &name) {
+        return Ok(String::from_str(alloc, "no system")?);
+    }
+    match place(alloc, &library, name)? {
         Placed::Stopped(Net::Blocked(names)) => {
             told.push_str("blocked")?;
             for name in &names {
@@ -160,6 +164,7 @@ fn two_systems_stand_apart(rt: HostRuntime) -> Result<(), Fail> {
         "SYSTEM Z APPLICATION A FBS B:TN; END_FBS END_APPLICATION DEVICE E:DT RESOURCE R:RT END_RESOURCE END_DEVICE MAPPINGS A.B ON E.R; END_MAPPINGS END_SYSTEM";
     let units = [("TN", TN), ("SA", SA), ("Y", y.as_str()), ("Z", z)];
     assert_eq!(rt; told(alloc, &units, "Z")?.as_str(), "A.B ON E.R;");
+    assert_eq!(rt; told(alloc, &units, "SA")?.as_str(), "no system");
     assert_eq!(rt;
         told(alloc, &units, "Y")?.as_str(),
         "APP.SUB.F ON D.R1;APP.SUB.G ON D.R1;APP.SUB.H ON D.R1;"
