@@ -2,6 +2,7 @@ use super::*;
 use fb_flatten::Net;
 use fb_library::{Change, Library};
 use fb_mapping::{Misplaced, is_system};
+use fb_network::Link;
 use fb_parse::Source;
 use fb_text::Name;
 use std::alloc::Global;
@@ -28,53 +29,78 @@ fn library_of(alloc: Global, units: &[(&str, &str)]) -> Result<Library, Fail> {
     Ok(Library::new(alloc).edited(1, changes.as_slice())?)
 }
 
+/// Why there is no flat network, as a text.
+fn net_told(alloc: Global, net: &Net) -> Result<String, Fail> {
+    match net {
+        Net::Blocked(names) => names_told(alloc, names.as_slice()),
+        _ => Ok(String::from_str(alloc, "stopped")?),
+    }
+}
+
+fn names_told(alloc: Global, names: &[Name]) -> Result<String, Fail> {
+    let mut told = String::from_str(alloc, "blocked")?;
+    for name in names {
+        told.push_str(format!(in alloc; " {name}")?.as_str())?;
+    }
+    Ok(told)
+}
+
+/// What is misplaced, as a text.
+fn misplaced_told(alloc: Global, found: &[Misplaced]) -> Result<String, Fail> {
+    let mut told = String::new(alloc);
+    for it in found {
+        match it {
+            Misplaced::Unmapped(path) => {
+                told.push_str("UNMAPPED ")?;
+                told.push_str(path.as_str())?;
+            }
+            Misplaced::NoSuchBlock(path) => {
+                told.push_str("NO_SUCH_BLOCK ")?;
+                told.push_str(path.as_str())?;
+            }
+        }
+        told.push(';')?;
+    }
+    Ok(told)
+}
+
+fn commands_told(resource: &ResourcePlan, told: &mut String) -> Result<(), Fail> {
+    told.push_str(resource.name().as_str())?;
+    told.push(':')?;
+    for command in resource.commands() {
+        told.push_str(command.as_str())?;
+        told.push(';')?;
+    }
+    Ok(())
+}
+
+/// Cuts and commands as a text.
+fn plan_told(alloc: Global, cuts: &[Link], resources: &[ResourcePlan]) -> Result<String, Fail> {
+    let mut told = String::new(alloc);
+    for cut in cuts {
+        let (sort, from, to) = (cut.sort, cut.from.as_str(), cut.to.as_str());
+        told.push_str(format!(in alloc; "{sort:?} {from} TO {to};")?.as_str())?;
+    }
+    for resource in resources {
+        commands_told(resource, &mut told)?;
+    }
+    Ok(told)
+}
+
 /// The plan of a system as a text.
 fn told(alloc: Global, units: &[(&str, &str)], system: &str) -> Result<String, Fail> {
     let library = library_of(alloc, units)?;
-    let mut told = String::new(alloc);
     let name = Name::read(system)?;
     if !is_system(&library, &name) {
         return Ok(String::from_str(alloc, "no system")?);
     }
     match plan(alloc, &library, name)? {
-        Deploy::Stopped(Net::Blocked(names)) => {
-            told.push_str("blocked")?;
-            for name in &names {
-                told.push_str(format!(in alloc; " {name}")?.as_str())?;
-            }
-        }
-        Deploy::Stopped(_) => told.push_str("stopped")?,
-        Deploy::Faulty(found) => {
-            for it in &found {
-                match it {
-                    Misplaced::Unmapped(path) => {
-                        told.push_str("UNMAPPED ")?;
-                        told.push_str(path.as_str())?;
-                    }
-                    Misplaced::NoSuchBlock(path) => {
-                        told.push_str("NO_SUCH_BLOCK ")?;
-                        told.push_str(path.as_str())?;
-                    }
-                }
-                told.push(';')?;
-            }
-        }
+        Deploy::Stopped(net) => net_told(alloc, &net),
+        Deploy::Faulty(found) => misplaced_told(alloc, found.as_slice()),
         Deploy::Plan { cuts, resources } => {
-            for cut in &cuts {
-                let (sort, from, to) = (cut.sort, cut.from.as_str(), cut.to.as_str());
-                told.push_str(format!(in alloc; "{sort:?} {from} TO {to};")?.as_str())?;
-            }
-            for resource in &resources {
-                told.push_str(resource.name().as_str())?;
-                told.push(':')?;
-                for command in resource.commands() {
-                    told.push_str(command.as_str())?;
-                    told.push(';')?;
-                }
-            }
+            plan_told(alloc, cuts.as_slice(), resources.as_slice())
         }
     }
-    Ok(told)
 }
 
 /// The plan of the system `Y` with these mappings.

@@ -1,6 +1,7 @@
 use super::*;
 use fb_flatten::Net;
 use fb_library::{Change, Library};
+use fb_network::Link;
 use fb_parse::Source;
 use fb_text::Name;
 use std::alloc::Global;
@@ -27,50 +28,67 @@ fn library_of(alloc: Global, units: &[(&str, &str)]) -> Result<Library, Fail> {
     Ok(Library::new(alloc).edited(1, changes.as_slice())?)
 }
 
+/// Why there is no flat network, as a text.
+fn net_told(alloc: Global, net: &Net) -> Result<String, Fail> {
+    match net {
+        Net::Blocked(names) => names_told(alloc, names.as_slice()),
+        _ => Ok(String::from_str(alloc, "stopped")?),
+    }
+}
+
+fn names_told(alloc: Global, names: &[Name]) -> Result<String, Fail> {
+    let mut told = String::from_str(alloc, "blocked")?;
+    for name in names {
+        told.push_str(format!(in alloc; " {name}")?.as_str())?;
+    }
+    Ok(told)
+}
+
+/// What is misplaced, as a text.
+fn misplaced_told(alloc: Global, found: &[Misplaced]) -> Result<String, Fail> {
+    let mut told = String::new(alloc);
+    for it in found {
+        match it {
+            Misplaced::Unmapped(path) => {
+                told.push_str("UNMAPPED ")?;
+                told.push_str(path.as_str())?;
+            }
+            Misplaced::NoSuchBlock(path) => {
+                told.push_str("NO_SUCH_BLOCK ")?;
+                told.push_str(path.as_str())?;
+            }
+        }
+        told.push(';')?;
+    }
+    Ok(told)
+}
+
+/// Homes and cuts as a text.
+fn homes_told(alloc: Global, homes: &[Home], cuts: &[Link]) -> Result<String, Fail> {
+    let mut told = String::new(alloc);
+    for home in homes {
+        let (path, resource) = (home.path.as_str(), home.resource.as_str());
+        told.push_str(format!(in alloc; "{path} ON {resource};")?.as_str())?;
+    }
+    for cut in cuts {
+        let (sort, from, to) = (cut.sort, cut.from.as_str(), cut.to.as_str());
+        told.push_str(format!(in alloc; "{sort:?} {from} TO {to};")?.as_str())?;
+    }
+    Ok(told)
+}
+
 /// The placement of a system as a text.
 fn told(alloc: Global, units: &[(&str, &str)], system: &str) -> Result<String, Fail> {
     let library = library_of(alloc, units)?;
-    let mut told = String::new(alloc);
     let name = Name::read(system)?;
     if !is_system(&library, &name) {
         return Ok(String::from_str(alloc, "no system")?);
     }
     match place(alloc, &library, name)? {
-        Placed::Stopped(Net::Blocked(names)) => {
-            told.push_str("blocked")?;
-            for name in &names {
-                told.push_str(format!(in alloc; " {name}")?.as_str())?;
-            }
-        }
-        Placed::Stopped(Net::Recursive(_)) => told.push_str("recursive")?,
-        Placed::Stopped(_) => told.push_str("stopped")?,
-        Placed::Faulty(found) => {
-            for it in &found {
-                match it {
-                    Misplaced::Unmapped(path) => {
-                        told.push_str("UNMAPPED ")?;
-                        told.push_str(path.as_str())?;
-                    }
-                    Misplaced::NoSuchBlock(path) => {
-                        told.push_str("NO_SUCH_BLOCK ")?;
-                        told.push_str(path.as_str())?;
-                    }
-                }
-                told.push(';')?;
-            }
-        }
-        Placed::On { homes, cuts } => {
-            for home in &homes {
-                let (path, resource) = (home.path.as_str(), home.resource.as_str());
-                told.push_str(format!(in alloc; "{path} ON {resource};")?.as_str())?;
-            }
-            for cut in &cuts {
-                let (sort, from, to) = (cut.sort, cut.from.as_str(), cut.to.as_str());
-                told.push_str(format!(in alloc; "{sort:?} {from} TO {to};")?.as_str())?;
-            }
-        }
+        Placed::Stopped(net) => net_told(alloc, &net),
+        Placed::Faulty(found) => misplaced_told(alloc, found.as_slice()),
+        Placed::On { homes, cuts } => homes_told(alloc, homes.as_slice(), cuts.as_slice()),
     }
-    Ok(told)
 }
 
 /// The placement of the system `Y` with these mappings.
