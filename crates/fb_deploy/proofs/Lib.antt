@@ -1,0 +1,4 @@
+-- Lemmas of the proofs.
+pub mod LineLemmas
+pub mod PlanLocal
+pub mod StepLemmas

@@ -1,0 +1,55 @@
+-- The plan of a system: what is to be done on each of its resources (IEC 61499-1, clause 7: system configurations).
+use Rattle.std.specs.Prelude.{ℕ, ◌≡◌, List, Option}
+use Rattle.fb_tree.specs.Tree.{DeclTree}
+use Rattle.fb_library.specs.View.{Sources, tree_at}
+use Rattle.fb_network.specs.PlainFlat.{PlainFlat}
+use Rattle.fb_network.specs.declared.flat.Link.{Link}
+use Rattle.fb_flatten.specs.Net.{PlainNet, IsNet, blocked, recursive, too_large, flat_net, plain_net}
+use Rattle.fb_mapping.specs.Cuts.{cuts_of, home_at}
+use Rattle.fb_mapping.specs.Homes.{PlainHomes, faulty_homes, all_homes, homes_of}
+use Rattle.fb_mapping.specs.Systems.{applications_in, devices_in}
+use Rattle.fb_mapping.specs.declared.homes.Home.{Home}
+use Rattle.fb_mapping.specs.declared.homes.Misplaced.{Misplaced}
+use Rattle.fb_deploy.specs.Orders.{orders_of}
+use Rattle.fb_deploy.specs.PlainResource.{PlainResource}
+use Rattle.fb_deploy.specs.Resources.{resource_plans, resources_of}
+use Rattle.fb_deploy.specs.declared.planning.Deploy.{Deploy}
+use Rattle.fb_deploy.specs.declared.planning.Deploy.TheVariants as deploy
+
+-- a plan in plain: why there is no flat network, what is misplaced, or cut links and the commands of each resource
+pub data PlainDeploy : Type 0 where
+  stopped : PlainNet → PlainDeploy
+  faulty : List Misplaced → PlainDeploy
+  planned : List Link → List PlainResource → PlainDeploy
+
+-- the same without where it lies in memory
+abbrev pub plain_deploy : Deploy → PlainDeploy
+plain_deploy (deploy.Stopped net) = stopped (plain_net net)
+plain_deploy (deploy.Faulty found) = faulty found.items
+plain_deploy (deploy.Plan cuts resources) = planned cuts.items resources.items
+
+abbrev pub tree_plan : Sources → List ℕ → Option DeclTree → PlainFlat → List Home → PlainDeploy
+tree_plan sources system tree flat homes =
+    planned (cuts_of (home_at homes) flat.links)
+    (resource_plans (orders_of sources system (applications_in tree) (resources_of (devices_in tree)) flat homes) (resources_of (devices_in tree)))
+
+abbrev pub with_homes : Sources → List ℕ → PlainFlat → PlainHomes → PlainDeploy
+with_homes sources system flat (faulty_homes found) = faulty found
+with_homes sources system flat (all_homes homes) = tree_plan sources system (tree_at sources system) flat homes
+
+abbrev pub flat_plan : Sources → List ℕ → PlainFlat → PlainDeploy
+flat_plan sources system flat = with_homes sources system flat (homes_of sources system flat.blocks)
+
+-- the plan of a system whose net this is
+abbrev pub planned_by : Sources → List ℕ → PlainNet → PlainDeploy
+planned_by sources system (blocked names) = stopped (blocked names)
+planned_by sources system (recursive names) = stopped (recursive names)
+planned_by sources system too_large = stopped too_large
+planned_by sources system (flat_net flat) = flat_plan sources system flat
+
+-- the plan of a system: its net where that is not flat, what is misplaced if anything is, or its cut links and the commands of each
+-- resource
+pub record IsPlan (sources : Sources) (system : List ℕ) (plan : PlainDeploy) : Type 0 where
+  pub net : PlainNet
+  pub is_net : IsNet sources system net
+  pub plan_is : plan ≡ planned_by sources system net

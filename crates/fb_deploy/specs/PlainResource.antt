@@ -1,0 +1,7 @@
+-- A resource with its commands, in plain.
+use Rattle.std.specs.Prelude.{ℕ, List}
+
+pub record PlainResource : Type 0 where
+  -- DEVICE.RESOURCE
+  pub name : List ℕ
+  pub commands : List (List ℕ)

@@ -1,0 +1,74 @@
+//! The plans of systems.
+ghost use Rattle.std.specs.Prelude.{◌≡◌, IfOk};
+ghost use Rattle.fb_library.specs.View.{tree_at};
+ghost use Rattle.fb_mapping.specs.Placed.{IsSystem};
+ghost use Rattle.fb_deploy.specs.Deploy.{IsPlan, flat_plan, plain_deploy, tree_plan};
+
+use crate::orders::orders_of;
+use crate::resources::{ResourcePlan, resource_plans, resources_of};
+use fb_flatten::{Net, net_of};
+use fb_library::View;
+use fb_mapping::{Home, Homes, Misplaced, cuts_of, home_table, homes_of};
+use fb_network::{Flat, Link};
+use fb_text::Name;
+use std::alloc::{AllocError, Global};
+
+/// What is to be done on each resource of a system.
+#[derive(Drop)]
+pub enum Deploy {
+    /// There is no flat network.
+    Stopped(Net),
+    /// Blocks and mappings do not meet.
+    Faulty(Vec<Misplaced>),
+    /// The links between resources, and the commands of each resource, in the order of the text.
+    Plan {
+        cuts: Vec<Link>,
+        resources: Vec<ResourcePlan>,
+    },
+}
+
+/// The plan of a system whose blocks have these homes.
+fn plan_homes<V: View>(
+    alloc: Global,
+    view: &V,
+    system: &Name,
+    flat: &Flat,
+    homes: &[Home],
+) -> Result<Deploy, AllocError>
+    ensures { IfOk result (λ deploy. plain_deploy deploy
+        ≡ tree_plan (V.sources view.now) system.now (tree_at (V.sources view.now) system.now) flat.now homes.now) }
+{
+    let table = home_table(alloc, homes)?;
+    let cuts = cuts_of(alloc, &table, flat.links())?;
+    let names = resources_of(alloc, view, system)?;
+    let orders = orders_of(alloc, view, system, names.as_slice(), flat, homes, &table)?;
+    let resources = resource_plans(alloc, orders, names)?;
+    Ok(Deploy::Plan { cuts, resources })
+}
+
+/// The plan of a system by its flat network.
+fn plan_flat<V: View>(
+    alloc: Global,
+    view: &V,
+    system: &Name,
+    flat: &Flat,
+) -> Result<Deploy, AllocError>
+    ensures { IfOk result (λ deploy. plain_deploy deploy ≡ flat_plan (V.sources view.now) system.now flat.now) }
+{
+    match homes_of(alloc, view, system, flat.blocks())? {
+        Homes::Faulty(found) => Ok(Deploy::Faulty(found)),
+        Homes::On(homes) => plan_homes(alloc, view, system, flat, homes.as_slice()),
+    }
+}
+
+/// The commands that make the blocks of a system on its resources, set their parameters, join them and start the resources, and the links
+/// that are left, those between resources; or why there is no flat network, or what is misplaced.
+pub fn plan<V: View>(alloc: Global, view: &V, system: Name) -> Result<Deploy, AllocError>
+    requires { IsSystem (V.sources view.now) system }
+    ensures { IfOk result (λ deploy. IsPlan (V.sources view.now) system (plain_deploy deploy)) }
+{
+    match net_of(alloc, view, system)? {
+        Net::Flat(flat) => plan_flat(alloc, view, &system, &flat),
+        net => Ok(Deploy::Stopped(net)),
+    }
+}

@@ -1,0 +1,13 @@
+-- Lemmas of the proofs.
+pub mod TableLemmas
+pub mod FirstLemmas
+pub mod FrontLemmas
+pub mod NearestLemmas
+pub mod NameLemmas
+pub mod ListLemmas
+pub mod PathNameLemmas
+pub mod StandingLemmas
+pub mod StandingLocal
+pub mod PlaceLocal
+pub mod OnePlacement
+pub mod KindLemmas
