@@ -1,0 +1,252 @@
+"""The faults of the language in the words of an engineer."""
+from __future__ import annotations
+
+from bisect import bisect_left
+from collections.abc import Collection, Iterator
+
+from bench61499 import Fault
+from tokens import RESERVED, Token, tokens
+
+_SECTIONS = frozenset(
+    """EVENT_INPUT EVENT_OUTPUT VAR VAR_INPUT VAR_OUTPUT PLUGS SOCKETS FBS SUBAPPS EVENT_CONNECTIONS DATA_CONNECTIONS ADAPTER_CONNECTIONS
+    EC_STATES EC_TRANSITIONS ALGORITHM MAPPINGS""".split()
+)
+_BEGINNINGS = "FUNCTION_BLOCK", "ADAPTER", "SUBAPPLICATION", "SYSTEM"
+_KINDS = {"PLUGS": "adapter", "SOCKETS": "adapter", "FBS": "function block", "SUBAPPS": "subapplication"}
+_SPACES = {
+    **dict.fromkeys(["EVENT_INPUT", "EVENT_OUTPUT"], "events"),
+    **dict.fromkeys(["VAR", "VAR_INPUT", "VAR_OUTPUT"], "variables"),
+    **dict.fromkeys(["PLUGS", "SOCKETS", "FBS", "SUBAPPS"], "instances"),
+    "EC_STATES": "states",
+}
+_OWN_SPACES = {"ALGORITHM": "algorithms", "APPLICATION": "applications", "DEVICE": "devices", "RESOURCE": "resources of this device"}
+_COMPARISONS = frozenset(["=", "<>", "<", ">", "<=", ">="])
+_LONGEST = 60
+
+
+class Explainer:
+    """Explains the faults of one text. `broken` are the names, in upper case, of units whose texts can't be read."""
+
+    def __init__(self, text: str, broken: Collection[str] = ()):
+        self._encoded = text.encode()
+        self._tokens = list(tokens(text))
+        self._starts = [token.start for token in self._tokens]
+        self._sections = list(_sections(self._tokens))
+        self._broken = broken
+
+    def span(self, fault: Fault) -> tuple[int, int]:
+        """Where to show a fault: its place, or the last token where its place is the bare end of the text."""
+        if fault.start == fault.end and self._tokens:
+            return self._tokens[-1].start, self._tokens[-1].end
+        return fault.start, fault.end
+
+    def explain(self, fault: Fault) -> str:
+        """One sentence without a full stop that names the words at the place."""
+        at = bisect_left(self._starts, fault.start)
+        words = _one_line(self._encoded[fault.start : fault.end].decode(errors="replace"))
+        explain = getattr(self, f"_{fault.code.lower()}", None)
+        return explain(at, words) if explain else f"{words} breaks the rule {fault.code}"
+
+    # What stands round a place. `at` is the index of the first token at it.
+
+    def _before(self, at: int, steps: int = 1) -> str:
+        return self._tokens[at - steps].upper if at >= steps else ""
+
+    def _section(self, at: int) -> str:
+        """The word that begins the section."""
+        return self._sections[at] if at < len(self._sections) else ""
+
+    def _other_end(self, at: int) -> str:
+        """The end of a connection that stands left of the `TO` before `at`."""
+        dotted = at >= 4 and self._tokens[at - 3].words == "."
+        return self._joined(at - 4 if dotted else at - 2, at - 1)
+
+    def _instance_before(self, at: int) -> tuple[str, str]:
+        """The name and the type of the instance whose parameters `at` is among."""
+        while at > 0 and self._tokens[at].words != "(":
+            at -= 1
+        return (self._tokens[at - 3].words, self._tokens[at - 1].words) if at >= 3 else ("", "")
+
+    def _back_to(self, words: str, at: int) -> int:
+        """The last token before `at` that is spelled so; 0 where there is none."""
+        return next((index for index in range(at - 1, 0, -1) if self._tokens[index].words == words), 0)
+
+    def _joined(self, begin: int, end: int) -> str:
+        return _one_line("".join(token.words for token in self._tokens[begin:end]))
+
+    def _typed(self, begin: int, end: int) -> str:
+        """The type that stands there, as it is written."""
+        return _one_line(self._encoded[self._tokens[begin].start : self._tokens[end - 1].end].decode(errors="replace"))
+
+    def _is_guard(self, at: int) -> bool:
+        """Whether the guard of a transition begins at `at`, behind `[`, `&` or `AND`, and not a subscript in one."""
+        between = [token.upper for token in self._tokens[self._back_to(":=", at) + 1 : at]]
+        event = between[:-1]
+        is_event = len(event) == 1 or (len(event) == 3 and event[1] == ".")
+        return between[-1:] == ["["] and not event or between[-1:] in (["["], ["&"], ["AND"]) and is_event
+
+    # One explanation for each code, named as the code is.
+
+    def _syntax(self, at: int, words: str) -> str:
+        if at == len(self._tokens):
+            return self._early_end()
+        token = self._tokens[at]
+        if token.kind == "unclosed":
+            return "this comment is never closed: *) is missing"
+        if at == 0:
+            return f"a unit begins with {_listed(_BEGINNINGS)}, and not with {words}"
+        if token.kind == "other" and words in "'\"":
+            return f"the text behind this {words} is not closed on its line"
+        if token.kind == "word" and len(words) > 64:
+            return f"the name {words} has more than 64 characters"
+        what = f"the reserved word {words}" if token.upper in RESERVED else words
+        return f"{what} can't follow {_one_line(self._tokens[at - 1].words)}"
+
+    def _early_end(self) -> str:
+        if not self._tokens:
+            return f"there is nothing here: a unit begins with {_listed(_BEGINNINGS)}"
+        first = self._tokens[0].upper
+        missing = f"END_{first}" if first in _BEGINNINGS else "its end"
+        return f"the text ends too early, behind {_one_line(self._tokens[-1].words)}: {missing} is missing"
+
+    def _name_differs(self, at: int, words: str) -> str:
+        return f"this text declares {words}, and is kept under another name"
+
+    def _duplicate(self, at: int, words: str) -> str:
+        before, section = self._before(at), self._section(at)
+        if section == "FBS" and before in ("(", ","):
+            return f"the parameter {words} is given a second time"
+        space = _OWN_SPACES.get(before) or _SPACES.get(section, "names")
+        return f"{words} is declared already among the {space}"
+
+    def _mixed_kind(self, at: int, words: str) -> str:
+        return f"{words} has both a chart (EC_STATES) and a network (FBS or connections); a block has one of the two"
+
+    def _unknown_type(self, at: int, words: str) -> str:
+        if words.upper() in self._broken:
+            return f"the type {words} can't be used: its own text has a SYNTAX fault"
+        return f"there is no type {words}"
+
+    def _wrong_kind(self, at: int, words: str) -> str:
+        section = self._section(at)
+        return f"{words} is no {_KINDS.get(section, 'such type')}, and {section} takes nothing else"
+
+    def _with_unknown(self, at: int, words: str) -> str:
+        side = "input" if self._section(at) == "EVENT_INPUT" else "output"
+        return f"no data {side} {words} to go with this event"
+
+    def _state_unknown(self, at: int, words: str) -> str:
+        return f"no state {words} in this chart"
+
+    def _event_unknown(self, at: int, words: str) -> str:
+        if self._section(at) == "EC_TRANSITIONS":
+            return f"no event {words} comes in here, so no transition can wait for it"
+        return f"no event {words} goes out from here, so no state can send it"
+
+    def _algorithm_unknown(self, at: int, words: str) -> str:
+        return f"no algorithm {words} in this block"
+
+    def _variable_unknown(self, at: int, words: str) -> str:
+        if "." in words:
+            adapter, _, port = words.partition(".")
+            return f"no variable {words} in this block: {adapter.strip()} is no plug or socket with data {port.strip()}"
+        return f"no variable {words} in this block"
+
+    def _class(self, at: int, words: str) -> str:
+        return self._operator(at, words) or self._wanted(at, words)
+
+    def _operator(self, at: int, words: str) -> str | None:
+        match words.upper():
+            case ":=":
+                return f"the value behind := does not fit the type of {self._assigned(at)}"
+            case "NOT":
+                return f"{words} takes a truth value or a bit string"
+            case "AND" | "OR" | "XOR" | "&":
+                return f"{words} takes two truth values or two bit strings, not numbers or a mixture"
+            case "MOD":
+                return f"{words} takes whole numbers"
+            case "+" | "-" | "*" | "/" | "**":
+                return f"{words} takes numbers, times and the like, not truth values or bit strings"
+            case comparison if comparison in _COMPARISONS:
+                return f"{words} compares two values of one kind, and these are of different kinds"
+        return None
+
+    def _assigned(self, at: int) -> str:
+        """The variable left of the `:=` at `at`, with its subscripts."""
+        begin = at - 1
+        depth = 0
+        while begin > 0 and (depth or self._tokens[begin].words == "]"):
+            depth += {"]": 1, "[": -1}.get(self._tokens[begin].words, 0)
+            begin -= 1
+        dotted = begin >= 2 and self._tokens[begin - 1].words == "."
+        return self._joined(begin - 2 if dotted else begin, at)
+
+    def _wanted(self, at: int, words: str) -> str:
+        """Of a condition, a bound, a subscript or a selector: told by the word before it."""
+        before = self._before(at)
+        guard = self._section(at) == "EC_TRANSITIONS" and self._is_guard(at)
+        if guard or before in ("IF", "ELSIF", "WHILE", "UNTIL"):
+            return f"a condition has to be a truth value, and {words} is none"
+        if before == "CASE":
+            return f"CASE can't select by a truth value, which {words} is"
+        if before == "FOR":
+            return f"FOR counts with a variable for whole numbers, and {words} is none"
+        if before in ("[", ","):
+            return f"a subscript has to be a whole number, and {words} is none"
+        return f"FOR counts from, to and by whole numbers, and {words} is none"
+
+    def _port_unknown(self, at: int, words: str) -> str:
+        sort = {"EVENT_CONNECTIONS": "event", "DATA_CONNECTIONS": "data port", "ADAPTER_CONNECTIONS": "plug or socket"}
+        return f"no {sort.get(self._section(at), 'port')} {words} to connect"
+
+    def _port_side(self, at: int, words: str) -> str:
+        if self._before(at) == "TO":
+            return f"{words} can't be the destination of a connection, only the source of one"
+        return f"{words} can't be the source of a connection, only the destination of one"
+
+    def _data_type(self, at: int, words: str) -> str:
+        return f"{self._other_end(at)} and {words} are of different types"
+
+    def _second_source(self, at: int, words: str) -> str:
+        return f"{words} has a source already; data come from one source"
+
+    def _second_adapter(self, at: int, words: str) -> str:
+        return f"{words} is connected already; a plug or a socket has one connection"
+
+    def _pass_through(self, at: int, words: str) -> str:
+        return f"{words} leads straight through the subapplication, past all its blocks"
+
+    def _parameter_unknown(self, at: int, words: str) -> str:
+        instance, type_name = self._instance_before(at)
+        return f"{type_name}, the type of {instance}, has no data input {words}"
+
+    def _literal(self, at: int, words: str) -> str:
+        assign = self._back_to(":=", at)
+        if self._section(at) == "FBS":
+            return f"{words} does not fit the type of {self._tokens[assign - 1].words}"
+        return f"{words} is no initial value for the type {self._typed(self._back_to(':', assign) + 1, assign)}"
+
+    def _mapped_twice(self, at: int, words: str) -> str:
+        return f"{words} is mapped already"
+
+    def _no_such_resource(self, at: int, words: str) -> str:
+        device, _, resource = words.partition(".")
+        return f"no device {device.strip()} with a resource {resource.strip()} in this system"
+
+
+def _sections(of: list[Token]) -> Iterator[str]:
+    """For each token the word that begins its section."""
+    section = ""
+    for token in of:
+        yield section
+        if token.kind == "word" and token.upper in _SECTIONS:
+            section = token.upper
+
+
+def _one_line(words: str) -> str:
+    joined = " ".join(words.split())
+    return joined if len(joined) <= _LONGEST else f"{joined[:_LONGEST]}…"
+
+
+def _listed(words: tuple[str, ...]) -> str:
+    return f"{', '.join(words[:-1])} or {words[-1]}"
