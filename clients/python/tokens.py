@@ -27,6 +27,7 @@ RESERVED = frozenset(
     WITH TO ARRAY OF IF THEN ELSIF ELSE END_IF CASE END_CASE FOR BY DO END_FOR WHILE END_WHILE REPEAT UNTIL END_REPEAT EXIT RETURN
     AND OR XOR NOT MOD TRUE FALSE""".split()
 )
+PORT_SECTIONS = frozenset(["EVENT_INPUT", "EVENT_OUTPUT", "VAR_INPUT", "VAR_OUTPUT", "PLUGS", "SOCKETS"])
 
 
 @dataclass(frozen=True)
@@ -63,3 +64,22 @@ def declared_kind(text: str) -> str | None:
     """The first word of a text in upper case: FUNCTION_BLOCK, ADAPTER, SUBAPPLICATION, SYSTEM, or what stands there instead."""
     first = next(tokens(text), None)
     return first.upper if first else None
+
+
+def ports(text: str) -> dict[str, str]:
+    """The ports of a unit in the order of its text, each with the word that begins its section: EVENT_INPUT, EVENT_OUTPUT, VAR_INPUT,
+    VAR_OUTPUT, PLUGS or SOCKETS."""
+    found: dict[str, str] = {}
+    section, naming = "", False
+    for token in tokens(text):
+        if token.upper in PORT_SECTIONS:
+            section, naming = token.upper, True
+        elif token.upper.startswith("END_"):
+            section = ""
+        elif section and token.words == ";":
+            naming = True
+        elif token.upper in ("WITH", ":"):
+            naming = False
+        elif section and naming and token.kind == "word":
+            found.setdefault(token.upper, section)
+    return found
