@@ -51,13 +51,19 @@ def tokens(text: str) -> Iterator[Token]:
             yield Token(found.lastgroup, found.start(), found.end(), found.group().decode(errors="replace"))
 
 
-def declared_name(text: str) -> str | None:
-    """The name behind the first word of a text, in upper case; None where there is none that a unit can have."""
+def declaration(text: str) -> Token | None:
+    """The name behind the first word of a text; None where there is none that a unit can have."""
     first = tokens(text)
     begin, name = next(first, None), next(first, None)
     if begin and name and begin.kind == name.kind == "word" and name.upper not in RESERVED and len(name.words) <= 64:
-        return name.upper
+        return name
     return None
+
+
+def declared_name(text: str) -> str | None:
+    """The declared name in upper case, if any."""
+    name = declaration(text)
+    return name.upper if name else None
 
 
 def declared_kind(text: str) -> str | None:
