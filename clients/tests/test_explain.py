@@ -1,0 +1,81 @@
+"""The explanations that depend on what stands round a place."""
+import unittest
+
+import support  # noqa: F401
+
+from bench61499 import Fault
+from explain import Explainer
+from tokens import declared_name, ports, tokens
+
+
+class ExplainTest(unittest.TestCase):
+    def check(self, code, text, expected):
+        """The place is between two `¦` in the text."""
+        before, words, after = text.split("¦")
+        start = len(before.encode())
+        fault = Fault(code, start, start + len(words.encode()))
+        self.assertEqual(Explainer(before + words + after).explain(fault), expected)
+
+    def test_conditions(self):
+        self.check("CLASS", "ALGORITHM A IN ST IF ¦X + 1¦ THEN", "a condition has to be a truth value, and X + 1 is none")
+        self.check("CLASS", "EC_TRANSITIONS A TO B := E [¦X¦];", "a condition has to be a truth value, and X is none")
+        self.check("CLASS", "EC_TRANSITIONS A TO B := [¦X¦];", "a condition has to be a truth value, and X is none")
+        self.check("CLASS", "EC_TRANSITIONS A TO B := P.E AND ¦X¦;", "a condition has to be a truth value, and X is none")
+
+    def test_whole_numbers(self):
+        self.check("CLASS", "EC_TRANSITIONS A TO B := E [Y[¦X¦] = 1];", "a subscript has to be a whole number, and X is none")
+        self.check("CLASS", "EC_TRANSITIONS A TO B := E AND Y[¦X¦];", "a subscript has to be a whole number, and X is none")
+        self.check("CLASS", "ALGORITHM A IN ST Y[1, ¦X¦] := 1;", "a subscript has to be a whole number, and X is none")
+        self.check("CLASS", "ALGORITHM A IN ST FOR ¦X¦ := 1", "FOR counts with a variable for whole numbers, and X is none")
+        self.check("CLASS", "ALGORITHM A IN ST FOR X := 1 TO ¦T#1s¦ DO", "FOR counts from, to and by whole numbers, and T#1s is none")
+
+    def test_operators(self):
+        self.check("CLASS", "ALGORITHM A IN ST: X[Y[1]] ¦:=¦ 1;", "the value behind := does not fit the type of X[Y[1]]")
+        self.check("CLASS", "ALGORITHM A IN ST: P.X ¦:=¦ 1;", "the value behind := does not fit the type of P.X")
+        self.check("CLASS", "ALGORITHM A IN ST: X := 1 ¦mod¦ Y;", "mod takes whole numbers")
+
+    def test_ends(self):
+        self.check("DATA_TYPE", "DATA_CONNECTIONS A.B TO ¦C.D¦;", "A.B and C.D are of different types")
+        self.check("DATA_TYPE", "DATA_CONNECTIONS X TO Y; A TO ¦C¦;", "A and C are of different types")
+        self.check("PORT_SIDE", "EVENT_CONNECTIONS ¦A.B¦ TO C;", "A.B can't be the source of a connection, only the destination of one")
+
+    def test_values(self):
+        self.check("LITERAL", "VAR A : ARRAY [0..1] OF INT := [1, ¦TRUE¦];", "TRUE is no initial value for the type ARRAY [0..1] OF INT")
+        self.check("LITERAL", "FBS A : B(X := 1, Y := ¦TRUE¦);", "TRUE does not fit the type of Y")
+        self.check("DUPLICATE", "FBS A : B(X := 1, ¦X¦ := 2);", "the parameter X is given a second time")
+
+    def test_syntax(self):
+        self.check("SYNTAX", "SYSTEM A ¦(* ..¦", "this comment is never closed: *) is missing")
+        self.check("SYNTAX", "¦STRUCT¦ A", "a unit begins with FUNCTION_BLOCK, ADAPTER, SUBAPPLICATION or SYSTEM, and not with STRUCT")
+        self.check("SYNTAX", "VAR A : STRING := ¦'¦abc\n;", "the text behind this ' is not closed on its line")
+        self.check("SYNTAX", "VAR ¦BY¦ : INT", "the reserved word BY can't follow VAR")
+
+    def test_a_code_of_later_days(self):
+        self.check("NEW_RULE", "SYSTEM ¦A¦", "A breaks the rule NEW_RULE")
+
+
+class TokensTest(unittest.TestCase):
+    def words(self, text):
+        return [token.words for token in tokens(text)]
+
+    def test_literals(self):
+        self.assertEqual(self.words("1..5 INT#1..5 T#250ms REAL#1.0E+5 DT#2020-01-01-12:00:00.5 INT#5-3"),
+                         ["1", "..", "5", "INT#1", "..", "5", "T#250ms", "REAL#1.0E+5", "DT#2020-01-01-12:00:00.5", "INT#5", "-", "3"])
+
+    def test_comments(self):
+        self.assertEqual(self.words("a(* (* *)b // c (*\n'(*'->(*)"), ["a", "b", "'(*'", "->", "(*)"])
+
+    def test_names(self):
+        self.assertEqual(declared_name("(* x *) system plant_1"), "PLANT_1")
+        for text in ("", "SYSTEM", "SYSTEM FBS", "SYSTEM 1", f"SYSTEM {'A' * 65}", "; A"):
+            self.assertIsNone(declared_name(text))
+
+    def test_ports(self):
+        text = """FUNCTION_BLOCK A EVENT_INPUT E: T WITH X, Y; F; END_EVENT VAR_OUTPUT P, Q : ARRAY [0..1] OF INT := [A, 1]; R : INT; END_VAR
+            VAR V : INT; END_VAR PLUGS N : T; END_PLUGS END_FUNCTION_BLOCK"""
+        expected = {"E": "EVENT_INPUT", "F": "EVENT_INPUT", **dict.fromkeys("PQR", "VAR_OUTPUT"), "N": "PLUGS"}
+        self.assertEqual(ports(text), expected)
+
+
+if __name__ == "__main__":
+    unittest.main()
