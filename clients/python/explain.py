@@ -2,10 +2,11 @@
 from __future__ import annotations
 
 from bisect import bisect_left
-from collections.abc import Collection, Iterator
+from collections.abc import Collection, Iterable, Iterator
+from difflib import get_close_matches
 
 from bench61499 import Fault
-from tokens import RESERVED, Token, tokens
+from tokens import RESERVED, Token, declarations, tokens
 
 _SECTIONS = frozenset(
     """EVENT_INPUT EVENT_OUTPUT VAR VAR_INPUT VAR_OUTPUT PLUGS SOCKETS FBS SUBAPPS EVENT_CONNECTIONS DATA_CONNECTIONS ADAPTER_CONNECTIONS
@@ -20,19 +21,40 @@ _SPACES = {
     "EC_STATES": "states",
 }
 _OWN_SPACES = {"ALGORITHM": "algorithms", "APPLICATION": "applications", "DEVICE": "devices", "RESOURCE": "resources of this device"}
+_PORTS = {
+    "EVENT_CONNECTIONS": ("event", "EVENT_INPUT", "EVENT_OUTPUT"),
+    "DATA_CONNECTIONS": ("data port", "VAR_INPUT", "VAR_OUTPUT"),
+    "ADAPTER_CONNECTIONS": ("plug or socket", "PLUGS", "SOCKETS"),
+}
 _COMPARISONS = frozenset(["=", "<>", "<", ">", "<=", ">="])
 _LONGEST = 60
 
 
-class Explainer:
-    """Explains the faults of one text. `broken` are the names, in upper case, of units whose texts can't be read."""
+class Names:
+    """Many names, and which of them a wrong one is near to. It looks for the first fifty wrong ones: more are no slips of the pen."""
 
-    def __init__(self, text: str, broken: Collection[str] = ()):
+    def __init__(self, names: Iterable[str] = ()):
+        self._names = list(names)
+        self._known: dict[str, str | None] = {}
+
+    def near(self, words: str) -> str | None:
+        if words not in self._known and len(self._known) < 50:
+            self._known[words] = next(iter(get_close_matches(words.upper(), self._names, 1, 0.8)), None)
+        return self._known.get(words)
+
+
+class Explainer:
+    """Explains the faults of one text.
+
+    `units` are the names of all units that are known, and `broken` of those whose texts can't be read, in upper case.
+    """
+
+    def __init__(self, text: str, units: Names = Names(), broken: Collection[str] = ()):
         self._encoded = text.encode()
         self._tokens = list(tokens(text))
         self._starts = [token.start for token in self._tokens]
         self._sections = list(_sections(self._tokens))
-        self._broken = broken
+        self._units, self._broken = units, broken
 
     def span(self, fault: Fault) -> tuple[int, int]:
         """Where to show a fault: its place, or the last token where its place is the bare end of the text."""
@@ -70,6 +92,12 @@ class Explainer:
     def _back_to(self, words: str, at: int) -> int:
         """The last token before `at` that is spelled so; 0 where there is none."""
         return next((index for index in range(at - 1, 0, -1) if self._tokens[index].words == words), 0)
+
+    def _meant(self, words: str, *sections: str) -> str:
+        """Asks whether one of the names that are declared in these sections was meant, where one is near."""
+        spelled = {name.upper: name.words for name, section in declarations(self._tokens) if section in sections}
+        near = get_close_matches(words.upper(), spelled, 1)
+        return _asked(spelled[near[0]] if near else None)
 
     def _joined(self, begin: int, end: int) -> str:
         return _one_line("".join(token.words for token in self._tokens[begin:end]))
@@ -125,32 +153,32 @@ class Explainer:
     def _unknown_type(self, at: int, words: str) -> str:
         if words.upper() in self._broken:
             return f"the type {words} can't be used: its own text has a SYNTAX fault"
-        return f"there is no type {words}"
+        return f"there is no type {words}{_asked(self._units.near(words))}"
 
     def _wrong_kind(self, at: int, words: str) -> str:
         section = self._section(at)
         return f"{words} is no {_KINDS.get(section, 'such type')}, and {section} takes nothing else"
 
     def _with_unknown(self, at: int, words: str) -> str:
-        side = "input" if self._section(at) == "EVENT_INPUT" else "output"
-        return f"no data {side} {words} to go with this event"
+        side, section = ("input", "VAR_INPUT") if self._section(at) == "EVENT_INPUT" else ("output", "VAR_OUTPUT")
+        return f"no data {side} {words} to go with this event{self._meant(words, section)}"
 
     def _state_unknown(self, at: int, words: str) -> str:
-        return f"no state {words} in this chart"
+        return f"no state {words} in this chart{self._meant(words, 'EC_STATES')}"
 
     def _event_unknown(self, at: int, words: str) -> str:
         if self._section(at) == "EC_TRANSITIONS":
-            return f"no event {words} comes in here, so no transition can wait for it"
-        return f"no event {words} goes out from here, so no state can send it"
+            return f"no event {words} comes in here, so no transition can wait for it{self._meant(words, 'EVENT_INPUT')}"
+        return f"no event {words} goes out from here, so no state can send it{self._meant(words, 'EVENT_OUTPUT')}"
 
     def _algorithm_unknown(self, at: int, words: str) -> str:
-        return f"no algorithm {words} in this block"
+        return f"no algorithm {words} in this block{self._meant(words, 'ALGORITHM')}"
 
     def _variable_unknown(self, at: int, words: str) -> str:
         if "." in words:
             adapter, _, port = words.partition(".")
             return f"no variable {words} in this block: {adapter.strip()} is no plug or socket with data {port.strip()}"
-        return f"no variable {words} in this block"
+        return f"no variable {words} in this block{self._meant(words, 'VAR', 'VAR_INPUT', 'VAR_OUTPUT')}"
 
     def _class(self, at: int, words: str) -> str:
         return self._operator(at, words) or self._wanted(at, words)
@@ -196,8 +224,12 @@ class Explainer:
         return f"FOR counts from, to and by whole numbers, and {words} is none"
 
     def _port_unknown(self, at: int, words: str) -> str:
-        sort = {"EVENT_CONNECTIONS": "event", "DATA_CONNECTIONS": "data port", "ADAPTER_CONNECTIONS": "plug or socket"}
-        return f"no {sort.get(self._section(at), 'port')} {words} to connect"
+        sort, *sections = _PORTS[self._section(at)]
+        instance, dot, _ = words.partition(".")
+        its = ("PLUGS", "SOCKETS", "FBS", "SUBAPPS") if dot else sections
+        if dot and any(name.upper == instance.upper() for name, section in declarations(self._tokens) if section in its):
+            return f"no {sort} {words} to connect"
+        return f"no {sort} {words} to connect{self._meant(instance, *its)}"
 
     def _port_side(self, at: int, words: str) -> str:
         if self._before(at) == "TO":
@@ -241,6 +273,10 @@ def _sections(of: list[Token]) -> Iterator[str]:
         yield section
         if token.kind == "word" and token.upper in _SECTIONS:
             section = token.upper
+
+
+def _asked(name: str | None) -> str:
+    return f"; did you mean {name}?" if name else ""
 
 
 def _one_line(words: str) -> str:

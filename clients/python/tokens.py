@@ -2,7 +2,7 @@
 from __future__ import annotations
 
 import re
-from collections.abc import Iterator
+from collections.abc import Iterable, Iterator
 from dataclasses import dataclass
 
 _TOKEN = re.compile(
@@ -28,6 +28,7 @@ RESERVED = frozenset(
     AND OR XOR NOT MOD TRUE FALSE""".split()
 )
 PORT_SECTIONS = frozenset(["EVENT_INPUT", "EVENT_OUTPUT", "VAR_INPUT", "VAR_OUTPUT", "PLUGS", "SOCKETS"])
+DECLARING = PORT_SECTIONS | {"VAR", "FBS", "SUBAPPS", "EC_STATES", "ALGORITHM"}
 
 
 @dataclass(frozen=True)
@@ -72,20 +73,26 @@ def declared_kind(text: str) -> str | None:
     return first.upper if first else None
 
 
-def ports(text: str) -> dict[str, str]:
-    """The ports of a unit in the order of its text, each with the word that begins its section: EVENT_INPUT, EVENT_OUTPUT, VAR_INPUT,
-    VAR_OUTPUT, PLUGS or SOCKETS."""
-    found: dict[str, str] = {}
+def declarations(of: Iterable[Token]) -> Iterator[tuple[Token, str]]:
+    """The names that are declared in sections and as algorithms, each with the word that begins the section, in upper case."""
     section, naming = "", False
-    for token in tokens(text):
-        if token.upper in PORT_SECTIONS:
+    for token in of:
+        if token.upper in DECLARING:
             section, naming = token.upper, True
-        elif token.upper.startswith("END_"):
+        elif token.upper in RESERVED - {"WITH", "ARRAY", "OF", "TRUE", "FALSE"}:
             section = ""
         elif section and token.words == ";":
             naming = True
-        elif token.upper in ("WITH", ":"):
+        elif token.upper in ("WITH", ":", "IN"):
             naming = False
         elif section and naming and token.kind == "word":
-            found.setdefault(token.upper, section)
+            yield token, section
+
+
+def ports(text: str) -> dict[str, str]:
+    """The ports of a unit in the order of its text, each with the word that begins its section, all in upper case."""
+    found: dict[str, str] = {}
+    for name, section in declarations(tokens(text)):
+        if section in PORT_SECTIONS:
+            found.setdefault(name.upper, section)
     return found

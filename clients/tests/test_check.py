@@ -45,14 +45,14 @@ class ConveyorTest(InFolder):
         file = self.folder / f"{it['unit']}.fb"
         file.write_text(file.read_text().replace(it["old"], it["new"]))
         ran = self.check("--quiet")
-        self.assertEqual(ran.stdout, "PLANT.fb:5:17: UNKNOWN_TYPE: there is no type LAMP\n")
+        self.assertEqual(ran.stdout, "PLANT.fb:5:17: UNKNOWN_TYPE: there is no type LAMP; did you mean LAMPE?\n")
 
     def test_layout(self):
         self.copy_conveyor()
         self.write("FEEDER.fb", (CONVEYOR / "FEEDER.fb").read_text().replace("IDLE TO MOVING", "IDLE TO MOVE"))
         ran = self.check()
         expected = (
-            "FEEDER.fb:16:13: STATE_UNKNOWN: no state MOVE in this chart\n"
+            "FEEDER.fb:16:13: STATE_UNKNOWN: no state MOVE in this chart; did you mean MOVING?\n"
             "      IDLE TO MOVE := START;\n"
             "              ^~~~\n"
             "1 fault in 1 of 6 units\n"

@@ -4,7 +4,7 @@ import unittest
 import support  # noqa: F401
 
 from bench61499 import Fault
-from explain import Explainer
+from explain import Explainer, Names
 from tokens import declared_name, ports, tokens
 
 
@@ -43,6 +43,16 @@ class ExplainTest(unittest.TestCase):
         self.check("LITERAL", "VAR A : ARRAY [0..1] OF INT := [1, ¦TRUE¦];", "TRUE is no initial value for the type ARRAY [0..1] OF INT")
         self.check("LITERAL", "FBS A : B(X := 1, Y := ¦TRUE¦);", "TRUE does not fit the type of Y")
         self.check("DUPLICATE", "FBS A : B(X := 1, ¦X¦ := 2);", "the parameter X is given a second time")
+
+    def test_what_was_meant(self):
+        self.check("STATE_UNKNOWN", "EC_STATES Idle : A; OTHER; END_STATES EC_TRANSITIONS ¦IDEL¦ TO OTHER", "no state IDEL in this chart; did you mean Idle?")
+        self.check("STATE_UNKNOWN", "EC_STATES IDLE; END_STATES EC_TRANSITIONS ¦MOVING¦ TO IDLE", "no state MOVING in this chart")
+        self.check("ALGORITHM_UNKNOWN", "EC_STATES A : ¦RUN¦; END_STATES ALGORITHM RUNS IN ST", "no algorithm RUN in this block; did you mean RUNS?")
+        self.check("PORT_UNKNOWN", "FBS BELT : B; END_FBS EVENT_CONNECTIONS ¦BLET.O¦ TO", "no event BLET.O to connect; did you mean BELT?")
+        self.check("PORT_UNKNOWN", "FBS BELT : B; END_FBS EVENT_CONNECTIONS ¦BELT.O¦ TO", "no event BELT.O to connect")
+        self.check("VARIABLE_UNKNOWN", "VAR A, LEVEL : INT; END_VAR ALGORITHM X IN ST ¦LEVLE¦ := 1;", "no variable LEVLE in this block; did you mean LEVEL?")
+        explained = Explainer("SYSTEM S LIFTR", Names(["LIFTER"])).explain(Fault("UNKNOWN_TYPE", 9, 14))
+        self.assertEqual(explained, "there is no type LIFTR; did you mean LIFTER?")
 
     def test_syntax(self):
         self.check("SYNTAX", "SYSTEM A ¦(* ..¦", "this comment is never closed: *) is missing")

@@ -147,7 +147,7 @@ class DocumentsTest(LspTest):
             "severity": 1,
             "code": "STATE_UNKNOWN",
             "source": "bench61499",
-            "message": "no state MOVE in this chart",
+            "message": "no state MOVE in this chart; did you mean MOVING?",
         }
         self.assertEqual(editor.shown["FEEDER.fb"], [expected])
         self.assertEqual(editor.versions["FEEDER.fb"], 7)
