@@ -2,9 +2,12 @@
 from __future__ import annotations
 
 import argparse
+import os
 import sys
 import time
+from collections.abc import Callable
 from pathlib import Path
+from typing import NoReturn
 
 from bench61499 import Session
 
@@ -30,6 +33,19 @@ def read_address(words: str) -> tuple[str, int]:
 def open_session(options: argparse.Namespace) -> Session:
     """The session that the words ask for. Raises `NoWorkbench`."""
     return Session.connect(*options.connect) if options.connect else Session.script(options.program)
+
+
+def run(main: Callable[[], int]) -> NoReturn:
+    """Ends the program with the status of `main`; quietly where the user breaks it off, or where nobody reads what it prints."""
+    try:
+        status = main()
+        sys.stdout.flush()
+    except KeyboardInterrupt:
+        status = 130
+    except BrokenPipeError:
+        os.dup2(os.open(os.devnull, os.O_WRONLY), sys.stdout.fileno())
+        status = 141
+    sys.exit(status)
 
 
 def fail(program: str, error: Exception) -> int:

@@ -121,6 +121,8 @@ class Explainer:
         token = self._tokens[at]
         if token.kind == "unclosed":
             return "this comment is never closed: *) is missing"
+        if words == "U+FEFF":
+            return "a byte order mark is no part of the language; save the file as UTF-8 without one"
         if at == 0:
             return f"a unit begins with {_listed(_BEGINNINGS)}, and not with {words}"
         if token.kind == "other" and words in "'\"":
@@ -280,7 +282,8 @@ def _asked(name: str | None) -> str:
 
 
 def _one_line(words: str) -> str:
-    joined = " ".join(words.split())
+    """Words in a line of their own: cut where they are many, and what can't be seen by its number."""
+    joined = "".join(it if it.isprintable() else f"U+{ord(it):04X}" for it in " ".join(words.split()))
     return joined if len(joined) <= _LONGEST else f"{joined[:_LONGEST]}…"
 
 
