@@ -24,7 +24,7 @@ from bisect import bisect_right
 from collections.abc import Callable, Iterable, Iterator
 from dataclasses import dataclass
 from os import PathLike, fspath
-from typing import Any, BinaryIO, Literal, TypeVar
+from typing import Any, BinaryIO, Literal, TypeVar, cast
 
 CHANGES_LIMIT = 16
 """Changes in one commit."""
@@ -47,6 +47,8 @@ Value = TypeVar("Value")
 _NO_REVISION = 2**64 - 1
 _TURNS = 100
 _FIRST_PAUSE, _LONGEST_PAUSE = 0.01, 0.25
+_GREETING = 5.0
+_FULL = "or it has had as many sessions as it was started for"
 
 
 # What can go wrong
@@ -169,6 +171,7 @@ class Remove:
 
 
 Change = Put | Remove
+SomeChange = TypeVar("SomeChange", bound=Change)
 
 
 @dataclass(frozen=True)
@@ -289,8 +292,8 @@ def _read_faults(reply: dict[str, Any]) -> tuple[Fault, ...]:
     return tuple(Fault(str(code), int(start), int(end)) for code, start, end in reply["faults"])
 
 
-def _read_links(links: list[list[str]]) -> tuple[Link, ...]:
-    return tuple(Link(*link) for link in links)
+def _read_links(links: list[Any]) -> tuple[Link, ...]:
+    return tuple(Link(sort, source, destination) for sort, source, destination in links)
 
 
 def _read_net(reply: dict[str, Any]) -> Net:
@@ -308,8 +311,8 @@ def _read_net(reply: dict[str, Any]) -> Net:
 
 def _read_deploy(reply: dict[str, Any]) -> Deploy:
     match reply["deploy"]:
-        case {"stopped": net}:
-            return Stopped(_read_net({"net": net}))
+        case {"stopped": stopped} if not isinstance(net := _read_net({"net": stopped}), Flat):
+            return Stopped(net)
         case {"faulty": misplaced}:
             return Faulty(tuple(Misplaced(*it) for it in misplaced))
         case {"cuts": cuts, "resources": resources}:
@@ -324,13 +327,13 @@ def _read_job(reply: dict[str, Any]) -> Job | None:
 _READERS: dict[str, Callable[[dict[str, Any]], Any]] = {"faults": _read_faults, "net": _read_net, "deploy": _read_deploy}
 
 
-def batches(changes: Iterable[Change]) -> Iterator[list[Change]]:
+def batches(changes: Iterable[SomeChange]) -> Iterator[list[SomeChange]]:
     """Splits changes, in their order, into lists that each fit one commit: its number of changes and its line.
 
     Raises `RequestTooLong` where one change alone is too long; with texts of at most `TEXT_LIMIT` bytes none is.
     """
     around = len(_line({"op": "commit", "changes": []}))
-    batch: list[Change] = []
+    batch: list[SomeChange] = []
     size = around
     for change in changes:
         added = len(_line(change.request())) + 1
@@ -357,74 +360,80 @@ class _Pipes:
 
     def __init__(self, words: list[str]):
         try:
-            self.process = subprocess.Popen(words, stdin=subprocess.PIPE, stdout=subprocess.PIPE)
+            self._process = subprocess.Popen(words, stdin=subprocess.PIPE, stdout=subprocess.PIPE)
         except OSError as error:
             raise NoWorkbench(f"can't start the workbench {words[0]}: {error.strerror}") from error
+        self._input, self._output = cast(BinaryIO, self._process.stdin), cast(BinaryIO, self._process.stdout)
 
     def send(self, line: bytes) -> None:
         try:
-            self.process.stdin.write(line)
-            self.process.stdin.flush()
+            self._input.write(line)
+            self._input.flush()
         except OSError as error:
             raise self._ended() from error
 
     def receive(self) -> bytes:
-        line = self.process.stdout.readline()
+        line = self._output.readline()
         if not line.endswith(b"\n"):
             raise self._ended()
         return line
 
     def _ended(self) -> ConnectionEnded:
         self.close()
-        return ConnectionEnded(f"the workbench ended before it answered (status {self.process.returncode})")
+        return ConnectionEnded(f"the workbench ended before it answered (status {self._process.returncode})")
 
     def close(self) -> None:
         try:
-            self.process.stdin.close()
+            self._input.close()
         except OSError:
             pass  # What could not be sent is lost: nobody reads it any more.
         try:
-            self.process.wait(timeout=5)
+            self._process.wait(timeout=5)
         except subprocess.TimeoutExpired:
-            self.process.kill()
-            self.process.wait()
-        self.process.stdout.close()
+            self._process.kill()
+            self._process.wait()
+        self._output.close()
 
 
 class _Connection:
     """A connection to a server."""
 
     def __init__(self, host: str, port: int, timeout: float):
-        self.address = f"{host}:{port}"
-        self.timeout = timeout
+        self._address = f"{host}:{port}"
+        self._timeout = timeout
         try:
-            self.socket = socket.create_connection((host, port), timeout)
+            self._socket = socket.create_connection((host, port), timeout)
+        except ConnectionRefusedError as error:
+            raise NoWorkbench(f"no workbench at {self._address}: nobody serves there, {_FULL}") from error
         except OSError as error:
-            raise NoWorkbench(f"no workbench at {self.address}: {error.strerror or error}") from error
-        self.socket.setsockopt(socket.IPPROTO_TCP, socket.TCP_NODELAY, 1)
-        self.reader: BinaryIO = self.socket.makefile("rb")
+            raise NoWorkbench(f"no workbench at {self._address}: {error.strerror or error}") from error
+        self._socket.setsockopt(socket.IPPROTO_TCP, socket.TCP_NODELAY, 1)
+        self._reader: BinaryIO = self._socket.makefile("rb")
+
+    def wait_at_most(self, timeout: float) -> None:
+        self._timeout = timeout
+        self._socket.settimeout(timeout)
 
     def send(self, line: bytes) -> None:
-        self._try(lambda: self.socket.sendall(line))
+        self._try(lambda: self._socket.sendall(line))
 
     def receive(self) -> bytes:
-        line = self._try(self.reader.readline)
+        line = self._try(self._reader.readline)
         if not line.endswith(b"\n"):
-            raise ConnectionEnded(f"the workbench at {self.address} hung up before it answered")
+            raise ConnectionEnded(f"the workbench at {self._address} hung up before it answered")
         return line
 
     def _try(self, act: Callable[[], Value]) -> Value:
         try:
             return act()
         except TimeoutError as error:
-            hint = "it may have as many sessions as it was started for"
-            raise NoAnswer(f"no answer from {self.address} within {self.timeout:g} seconds; {hint}") from error
+            raise NoAnswer(f"no answer from {self._address} within {self._timeout:g} seconds: it is busy, {_FULL}") from error
         except OSError as error:
-            raise ConnectionEnded(f"the connection to {self.address} ended: {error.strerror or error}") from error
+            raise ConnectionEnded(f"the connection to {self._address} ended: {error.strerror or error}") from error
 
     def close(self) -> None:
-        self.reader.close()
-        self.socket.close()
+        self._reader.close()
+        self._socket.close()
 
 
 class Session:
@@ -453,10 +462,25 @@ class Session:
     def connect(cls, host: str, port: int, timeout: float = 60) -> Session:
         """Connects to a workbench that serves. No reply may take longer than `timeout` seconds.
 
-        Raises `NoWorkbench` where nobody listens. A server that has all its sessions lets a further client connect and never answers it:
-        that is a `NoAnswer` at the first call.
+        Raises `NoWorkbench` where nobody listens, `NoAnswer` where nobody answers within five seconds, and `BadReply` where it is no
+        workbench that answers. A server that has had as many sessions as it was started for does one of the first two.
         """
-        return cls(_Connection(host, port, timeout))
+        connection = _Connection(host, port, min(timeout, _GREETING))
+        session = cls(connection)
+        try:
+            session._greet()
+        except WorkbenchError:
+            session.close()
+            raise
+        connection.wait_at_most(timeout)
+        return session
+
+    def _greet(self) -> None:
+        """Makes sure that a workbench is there: it refuses a request that is none, which is no recorded call."""
+        try:
+            self.request({})
+        except Refused:
+            return
 
     def close(self) -> None:
         """Ends the session; it can be ended again."""

@@ -48,8 +48,9 @@ class Token:
 def tokens(text: str) -> Iterator[Token]:
     """The tokens of a text in order, without blanks and comments. A comment that is never closed is one token, up to the end."""
     for found in _TOKEN.finditer(text.encode()):
-        if found.lastgroup != "blank":
-            yield Token(found.lastgroup, found.start(), found.end(), found.group().decode(errors="replace"))
+        kind = found.lastgroup or ""
+        if kind != "blank":
+            yield Token(kind, found.start(), found.end(), found.group().decode(errors="replace"))
 
 
 def declaration(text: str) -> Token | None:
@@ -89,10 +90,6 @@ def declarations(of: Iterable[Token]) -> Iterator[tuple[Token, str]]:
             yield token, section
 
 
-def ports(text: str) -> dict[str, str]:
+def ports(text: str) -> list[tuple[str, str]]:
     """The ports of a unit in the order of its text, each with the word that begins its section, all in upper case."""
-    found: dict[str, str] = {}
-    for name, section in declarations(tokens(text)):
-        if section in PORT_SECTIONS:
-            found.setdefault(name.upper, section)
-    return found
+    return [(name.upper, section) for name, section in declarations(tokens(text)) if section in PORT_SECTIONS]

@@ -44,9 +44,15 @@ def serving(sessions: int) -> Iterator[int]:
             server.terminate()
 
 
+GREETING = b'{"refused":"BadRequest"}\n'
+
+
 @contextmanager
 def answering(*replies: bytes) -> Iterator[int]:
-    """A server that sends these bytes, one piece for each line that it reads, and then hangs up; gives its port."""
+    """A server that sends these bytes, one piece for each line that it reads, and then hangs up; gives its port.
+
+    The first line that a client sends is its greeting; `GREETING` is the answer.
+    """
     with socket.create_server(("127.0.0.1", 0)) as listener:
         thread = threading.Thread(target=_answer, args=(listener, replies))
         thread.start()

@@ -40,7 +40,7 @@ class PictureTest(DrawTest):
     def edges(self, unit):
         """The edges, each as its two ends, its colour, and whether it is dashed or drawn backwards."""
         edges = re.findall(r'^  (\S.*) -> (.*) \[color="(#\w+)"(.*)\];$', self.draw(unit).stdout, re.MULTILINE)
-        plain = [(re.sub(r'"(\w+_)?|:[ew]$|port ', "", end) for end in edge[:2]) for edge in edges]
+        plain = [(re.sub(r'"|(event|data|adapter) |:[ew]$', "", end) for end in edge[:2]) for edge in edges]
         return {(*ends, edge[2], "dashed" in edge[3], "dir=back" in edge[3]) for ends, edge in zip(plain, edges)}
 
     def test_a_subapplication(self):
@@ -57,6 +57,14 @@ class PictureTest(DrawTest):
             ("BELT:NEXT", "LIFT:BEFORE", blue, False, False),
         }
         self.assertEqual(self.edges("station"), expected)
+
+    def test_an_event_and_data_of_one_name(self):
+        self.write("T.fb", "FUNCTION_BLOCK T EVENT_INPUT X; END_EVENT VAR_INPUT X : INT; END_VAR END_FUNCTION_BLOCK")
+        text = """SUBAPPLICATION S EVENT_INPUT X; END_EVENT VAR_INPUT X : INT; END_VAR FBS F : T; END_FBS
+            EVENT_CONNECTIONS X TO F.X; END_CONNECTIONS DATA_CONNECTIONS X TO F.X; END_CONNECTIONS END_SUBAPPLICATION"""
+        self.write("S.fb", text)
+        self.assertEqual(len(self.edges("S")), 2)
+        self.assertEqual(self.draw("S").stdout.count("<TD PORT="), 2)
 
     def test_a_system(self):
         dashed = {edge[:2] for edge in self.edges("PLANT") if edge[3]}
@@ -79,7 +87,7 @@ class PictureTest(DrawTest):
         with serving(sessions=2) as port:
             self.assertEqual(run("check", ".", "--connect", f":{port}", folder=self.folder).returncode, 0)
             ran = run("draw", "STATION", "--connect", f":{port}")
-        self.assertIn('"BELT":"r_NEXT":e -> "LIFT":"l_BEFORE":w', ran.stdout)
+        self.assertIn('"BELT":"adapter NEXT":e -> "LIFT":"adapter BEFORE":w', ran.stdout)
 
     @unittest.skipUnless(shutil.which("dot"), "there is no Graphviz here")
     def test_svg(self):
@@ -88,9 +96,9 @@ class PictureTest(DrawTest):
 
     def test_no_network(self):
         self.write("LAMP.fb", "FUNCTION_BLOCK LAMP")
-        self.refused(1, "PLANT has no network yet; these units are missing or have faults: LAMP, PLANT", "PLANT")
+        self.refused(1, "PLANT has no network, as it rests on units that are not there or not sound (with faults: LAMP, PLANT)", "PLANT")
         self.write("PLANT.fb", "SYSTEM PLANT")
-        self.refused(1, "PLANT has no network: its text has a SYNTAX fault, which check shows", "PLANT")
+        self.refused(1, "PLANT has no network, as its text has a SYNTAX fault; check shows it", "PLANT")
 
 
 class NoPictureTest(DrawTest):

@@ -85,7 +85,7 @@ class TokensTest(unittest.TestCase):
     def test_ports(self):
         text = """FUNCTION_BLOCK A EVENT_INPUT E: T WITH X, Y; F; END_EVENT VAR_OUTPUT P, Q : ARRAY [0..1] OF INT := [A, 1]; R : INT; END_VAR
             VAR V : INT; END_VAR PLUGS N : T; END_PLUGS END_FUNCTION_BLOCK"""
-        expected = {"E": "EVENT_INPUT", "F": "EVENT_INPUT", **dict.fromkeys("PQR", "VAR_OUTPUT"), "N": "PLUGS"}
+        expected = [("E", "EVENT_INPUT"), ("F", "EVENT_INPUT"), *((name, "VAR_OUTPUT") for name in "PQR"), ("N", "PLUGS")]
         self.assertEqual(ports(text), expected)
 
 

@@ -2,7 +2,7 @@
 import json
 import unittest
 
-from support import InFolder, answering, free_port, serving, workbench
+from support import GREETING, InFolder, answering, free_port, serving, workbench
 
 from bench61499 import (
     CHANGES_LIMIT, LINE_LIMIT, TEXT_LIMIT, BadReply, Blocked, Block, Border, ConnectionEnded, Fault, Faulty, Flat, Link, Misplaced, NoAnswer,
@@ -152,7 +152,7 @@ class AnswersTest(unittest.TestCase):
     """Nets and plans, as a workbench that computes them answers."""
 
     def answer(self, kind, reply):
-        with answering(json.dumps(reply).encode() + b"\n") as port, Session.connect("127.0.0.1", port) as session:
+        with answering(GREETING, json.dumps(reply).encode() + b"\n") as port, Session.connect("127.0.0.1", port) as session:
             return session.ask(kind, "A")
 
     def test_nets(self):
@@ -200,27 +200,34 @@ class TroubleTest(InFolder):
             Session.connect("127.0.0.1", free_port())
 
     def test_a_server_that_hangs_up(self):
-        with answering(b'{"accepted":1}\n') as port, Session.connect("127.0.0.1", port) as session:
+        with answering(GREETING, b'{"accepted":1}\n') as port, Session.connect("127.0.0.1", port) as session:
             self.assertEqual(session.work(1), 1)
             with self.assertRaisesRegex(ConnectionEnded, "hung up"):
                 session.work(1)
 
     def test_replies_that_are_no_json(self):
         for reply in (b"Hello!\n", b"\xff\n", b"\n", b'{"accepted":1}{}\n'):
-            with answering(reply) as port, Session.connect("127.0.0.1", port) as session:
+            with answering(GREETING, reply) as port, Session.connect("127.0.0.1", port) as session:
                 with self.assertRaises(BadReply) as caught:
                     session.work(1)
                 self.assertEqual(caught.exception.line, reply)
 
     def test_a_server_that_does_not_answer(self):
-        with answering(b"") as port, Session.connect("127.0.0.1", port, timeout=0.1) as session:
-            with self.assertRaisesRegex(NoAnswer, "sessions"):
-                session.work(1)
+        with answering(b"") as port, self.assertRaisesRegex(NoAnswer, "within 0.1 seconds: it is busy, or it has had as many sessions as"):
+            Session.connect("127.0.0.1", port, timeout=0.1)
+        with answering(GREETING, b"") as port, Session.connect("127.0.0.1", port, timeout=0.1) as session:
+            self.assertRaises(NoAnswer, session.work, 1)
+
+    def test_a_server_that_is_no_workbench(self):
+        with answering(b"HTTP/1.1 400 Bad Request\r\n") as port, self.assertRaisesRegex(BadReply, "no sense: HTTP/1.1 400"):
+            Session.connect("127.0.0.1", port)
 
 
 class ServerTest(unittest.TestCase):
     def test_two_sessions(self):
         with serving(sessions=2) as port, Session.connect("127.0.0.1", port) as one, Session.connect("127.0.0.1", port) as other:
+            with self.assertRaisesRegex((NoWorkbench, NoAnswer), "or it has had as many sessions as it was started for"):
+                Session.connect("127.0.0.1", port, timeout=0.2)
             one.commit([Put("A", 0, A)])
             self.assertEqual(other.revision("A"), 1)
             self.assertEqual(other.wait("faults", "A"), (Fault("WITH_UNKNOWN", 36, 37),))
