@@ -2,10 +2,10 @@
 from __future__ import annotations
 
 from bisect import bisect_left
-from collections.abc import Collection, Iterable, Iterator
+from collections.abc import Iterable, Iterator
 from difflib import get_close_matches
 
-from bench61499 import Fault
+from bench61499 import NAME_LIMIT, Fault
 from tokens import RESERVED, Token, declarations, tokens
 
 _SECTIONS = frozenset(
@@ -34,8 +34,11 @@ class Names:
     """Many names, and which of them a wrong one is near to. It looks for the first fifty wrong ones: more are no slips of the pen."""
 
     def __init__(self, names: Iterable[str] = ()):
-        self._names = list(names)
+        self._names = dict.fromkeys(names)
         self._known: dict[str, str | None] = {}
+
+    def __contains__(self, name: str) -> bool:
+        return name in self._names
 
     def near(self, words: str) -> str | None:
         if words not in self._known and len(self._known) < 50:
@@ -44,17 +47,14 @@ class Names:
 
 
 class Explainer:
-    """Explains the faults of one text.
+    """Explains the faults of one text. `units` are the names, in upper case, of the units that are known to be in the workbench."""
 
-    `units` are the names of all units that are known, and `broken` of those whose texts can't be read, in upper case.
-    """
-
-    def __init__(self, text: str, units: Names = Names(), broken: Collection[str] = ()):
+    def __init__(self, text: str, units: Names = Names()):
         self._encoded = text.encode()
         self._tokens = list(tokens(text))
         self._starts = [token.start for token in self._tokens]
         self._sections = list(_sections(self._tokens))
-        self._units, self._broken = units, broken
+        self._units = units
 
     def span(self, fault: Fault) -> tuple[int, int]:
         """Where to show a fault: its place, or the last token where its place is the bare end of the text."""
@@ -65,7 +65,7 @@ class Explainer:
     def explain(self, fault: Fault) -> str:
         """One sentence without a full stop that names the words at the place."""
         at = bisect_left(self._starts, fault.start)
-        words = _one_line(self._encoded[fault.start : fault.end].decode(errors="replace"))
+        words = _quoted(self._spelled(at, bisect_left(self._starts, fault.end)))
         explain = getattr(self, f"_{fault.code.lower()}", None)
         return explain(at, words) if explain else f"{words} breaks the rule {fault.code}"
 
@@ -81,7 +81,7 @@ class Explainer:
     def _other_end(self, at: int) -> str:
         """The end of a connection that stands left of the `TO` before `at`."""
         dotted = at >= 4 and self._tokens[at - 3].words == "."
-        return self._joined(at - 4 if dotted else at - 2, at - 1)
+        return self._spelled(at - 4 if dotted else at - 2, at - 1)
 
     def _instance_before(self, at: int) -> tuple[str, str]:
         """The name and the type of the instance whose parameters `at` is among."""
@@ -99,12 +99,14 @@ class Explainer:
         near = get_close_matches(words.upper(), spelled, 1)
         return _asked(spelled[near[0]] if near else None)
 
-    def _joined(self, begin: int, end: int) -> str:
-        return _one_line("".join(token.words for token in self._tokens[begin:end]))
-
-    def _typed(self, begin: int, end: int) -> str:
-        """The type that stands there, as it is written."""
-        return _one_line(self._encoded[self._tokens[begin].start : self._tokens[end - 1].end].decode(errors="replace"))
+    def _spelled(self, begin: int, end: int) -> str:
+        """Tokens as they are written, without comments, on one line, and without blanks round a point."""
+        spelled = ""
+        for index in range(begin, end):
+            token, before = self._tokens[index], self._tokens[index - 1]
+            apart = index > begin and before.end < token.start and "." not in (token.words, before.words)
+            spelled += " " * apart + token.words
+        return _one_line(spelled)
 
     def _is_guard(self, at: int) -> bool:
         """Whether the guard of a transition begins at `at`, behind `[`, `&` or `AND`, and not a subscript in one."""
@@ -125,19 +127,19 @@ class Explainer:
             return "a byte order mark is no part of the language; save the file as UTF-8 without one"
         if at == 0:
             return f"a unit begins with {_listed(_BEGINNINGS)}, and not with {words}"
-        if token.kind == "other" and words in "'\"":
-            return f"the text behind this {words} is not closed on its line"
-        if token.kind == "word" and len(words) > 64:
+        if token.words in ("'", '"'):
+            return f"the text behind this {token.words} is not closed on its line"
+        if token.kind == "word" and len(token.words) > NAME_LIMIT:
             return f"the name {words} has more than 64 characters"
         what = f"the reserved word {words}" if token.upper in RESERVED else words
-        return f"{what} can't follow {_one_line(self._tokens[at - 1].words)}"
+        return f"{what} can't follow {_quoted(_one_line(self._tokens[at - 1].words))}"
 
     def _early_end(self) -> str:
         if not self._tokens:
             return f"there is nothing here: a unit begins with {_listed(_BEGINNINGS)}"
         first = self._tokens[0].upper
         missing = f"END_{first}" if first in _BEGINNINGS else "its end"
-        return f"the text ends too early, behind {_one_line(self._tokens[-1].words)}: {missing} is missing"
+        return f"the text ends too early, behind {_quoted(_one_line(self._tokens[-1].words))}: {missing} is missing"
 
     def _name_differs(self, at: int, words: str) -> str:
         return f"this text declares {words}, and is kept under another name"
@@ -153,7 +155,7 @@ class Explainer:
         return f"{words} has both a chart (EC_STATES) and a network (FBS or connections); a block has one of the two"
 
     def _unknown_type(self, at: int, words: str) -> str:
-        if words.upper() in self._broken:
+        if words.upper() in self._units:
             return f"the type {words} can't be used: its own text has a SYNTAX fault"
         return f"there is no type {words}{_asked(self._units.near(words))}"
 
@@ -179,16 +181,16 @@ class Explainer:
     def _variable_unknown(self, at: int, words: str) -> str:
         if "." in words:
             adapter, _, port = words.partition(".")
-            return f"no variable {words} in this block: {adapter.strip()} is no plug or socket with data {port.strip()}"
+            return f"no variable {words} in this block: {adapter} is no plug or socket with data {port}"
         return f"no variable {words} in this block{self._meant(words, 'VAR', 'VAR_INPUT', 'VAR_OUTPUT')}"
 
     def _class(self, at: int, words: str) -> str:
         return self._operator(at, words) or self._wanted(at, words)
 
     def _operator(self, at: int, words: str) -> str | None:
-        match words.upper():
+        match self._tokens[at].upper:
             case ":=":
-                return f"the value behind := does not fit the type of {self._assigned(at)}"
+                return f'the value behind ":=" does not fit the type of {self._assigned(at)}'
             case "NOT":
                 return f"{words} takes a truth value or a bit string"
             case "AND" | "OR" | "XOR" | "&":
@@ -209,7 +211,7 @@ class Explainer:
             depth += {"]": 1, "[": -1}.get(self._tokens[begin].words, 0)
             begin -= 1
         dotted = begin >= 2 and self._tokens[begin - 1].words == "."
-        return self._joined(begin - 2 if dotted else begin, at)
+        return self._spelled(begin - 2 if dotted else begin, at)
 
     def _wanted(self, at: int, words: str) -> str:
         """Of a condition, a bound, a subscript or a selector: told by the word before it."""
@@ -258,14 +260,14 @@ class Explainer:
         assign = self._back_to(":=", at)
         if self._section(at) == "FBS":
             return f"{words} does not fit the type of {self._tokens[assign - 1].words}"
-        return f"{words} is no initial value for the type {self._typed(self._back_to(':', assign) + 1, assign)}"
+        return f"{words} is no initial value for the type {self._spelled(self._back_to(':', assign) + 1, assign)}"
 
     def _mapped_twice(self, at: int, words: str) -> str:
         return f"{words} is mapped already"
 
     def _no_such_resource(self, at: int, words: str) -> str:
         device, _, resource = words.partition(".")
-        return f"no device {device.strip()} with a resource {resource.strip()} in this system"
+        return f"no device {device} with a resource {resource} in this system"
 
 
 def _sections(of: list[Token]) -> Iterator[str]:
@@ -275,6 +277,11 @@ def _sections(of: list[Token]) -> Iterator[str]:
         yield section
         if token.kind == "word" and token.upper in _SECTIONS:
             section = token.upper
+
+
+def _quoted(words: str) -> str:
+    """Signs in quotation marks, which are hard to see in a sentence; words as they are."""
+    return words if any(it.isalnum() for it in words) else f'"{words}"'
 
 
 def _asked(name: str | None) -> str:

@@ -30,14 +30,20 @@ class ExplainTest(unittest.TestCase):
         self.check("CLASS", "ALGORITHM A IN ST FOR X := 1 TO ¦T#1s¦ DO", "FOR counts from, to and by whole numbers, and T#1s is none")
 
     def test_operators(self):
-        self.check("CLASS", "ALGORITHM A IN ST: X[Y[1]] ¦:=¦ 1;", "the value behind := does not fit the type of X[Y[1]]")
-        self.check("CLASS", "ALGORITHM A IN ST: P.X ¦:=¦ 1;", "the value behind := does not fit the type of P.X")
+        self.check("CLASS", "ALGORITHM A IN ST: X[Y[1]] ¦:=¦ 1;", 'the value behind ":=" does not fit the type of X[Y[1]]')
+        self.check("CLASS", "ALGORITHM A IN ST: P.X ¦:=¦ 1;", 'the value behind ":=" does not fit the type of P.X')
         self.check("CLASS", "ALGORITHM A IN ST: X := 1 ¦mod¦ Y;", "mod takes whole numbers")
 
     def test_ends(self):
         self.check("DATA_TYPE", "DATA_CONNECTIONS A.B TO ¦C.D¦;", "A.B and C.D are of different types")
         self.check("DATA_TYPE", "DATA_CONNECTIONS X TO Y; A TO ¦C¦;", "A and C are of different types")
         self.check("PORT_SIDE", "EVENT_CONNECTIONS ¦A.B¦ TO C;", "A.B can't be the source of a connection, only the destination of one")
+
+    def test_spelling(self):
+        self.check("PORT_UNKNOWN", "EVENT_CONNECTIONS ¦A .(* x *) B¦ TO C;", "no event A.B to connect")
+        self.check("PASS_THROUGH", "EVENT_CONNECTIONS ¦A(**)TO\n\tB¦;", "A TO B leads straight through the subapplication, past all its blocks")
+        self.check("SYNTAX", "SYSTEM A ;¦;¦", '";" can\'t follow ";"')
+        self.check("CLASS", "ALGORITHM A IN ST: X := 1 ¦+¦ Y;", '"+" takes numbers, times and the like, not truth values or bit strings')
 
     def test_values(self):
         self.check("LITERAL", "VAR A : ARRAY [0..1] OF INT := [1, ¦TRUE¦];", "TRUE is no initial value for the type ARRAY [0..1] OF INT")
@@ -53,6 +59,8 @@ class ExplainTest(unittest.TestCase):
         self.check("VARIABLE_UNKNOWN", "VAR A, LEVEL : INT; END_VAR ALGORITHM X IN ST ¦LEVLE¦ := 1;", "no variable LEVLE in this block; did you mean LEVEL?")
         explained = Explainer("SYSTEM S LIFTR", Names(["LIFTER"])).explain(Fault("UNKNOWN_TYPE", 9, 14))
         self.assertEqual(explained, "there is no type LIFTR; did you mean LIFTER?")
+        explained = Explainer("SYSTEM S LIFTR", Names(["LIFTR"])).explain(Fault("UNKNOWN_TYPE", 9, 14))
+        self.assertEqual(explained, "the type LIFTR can't be used: its own text has a SYNTAX fault")
 
     def test_syntax(self):
         self.check("SYNTAX", "SYSTEM A ¦(* ..¦", "this comment is never closed: *) is missing")
