@@ -31,18 +31,21 @@ _LONGEST = 60
 
 
 class Names:
-    """Many names, and which of them a wrong one is near to. It looks for the first fifty wrong ones: more are no slips of the pen."""
+    """Names, and which of them a wrong one is near to. It looks for the first fifty wrong ones: more are no slips of the pen."""
 
-    def __init__(self, names: Iterable[str] = ()):
-        self._names = dict.fromkeys(names)
+    def __init__(self, names: Iterable[str] = (), nearness: float = 0.8):
+        self._names = {name.upper(): name for name in names}
+        self._nearness = nearness
         self._known: dict[str, str | None] = {}
 
     def __contains__(self, name: str) -> bool:
-        return name in self._names
+        return name.upper() in self._names
 
     def near(self, words: str) -> str | None:
+        """The nearest name, as it is written, if any is near."""
         if words not in self._known and len(self._known) < 50:
-            self._known[words] = next(iter(get_close_matches(words.upper(), self._names, 1, 0.8)), None)
+            near = get_close_matches(words.upper(), self._names, 1, self._nearness)
+            self._known[words] = self._names[near[0]] if near else None
         return self._known.get(words)
 
 
@@ -55,6 +58,7 @@ class Explainer:
         self._starts = [token.start for token in self._tokens]
         self._sections = list(_sections(self._tokens))
         self._units = units
+        self._declared: dict[tuple[str, ...], Names] = {}
 
     def span(self, fault: Fault) -> tuple[int, int]:
         """Where to show a fault: its place, or the last token where its place is the bare end of the text."""
@@ -93,11 +97,16 @@ class Explainer:
         """The last token before `at` that is spelled so; 0 where there is none."""
         return next((index for index in range(at - 1, 0, -1) if self._tokens[index].words == words), 0)
 
+    def _names(self, *sections: str) -> Names:
+        """The names that are declared in these sections."""
+        if sections not in self._declared:
+            names = (name.words for name, section in declarations(self._tokens) if section in sections)
+            self._declared[sections] = Names(names, nearness=0.6)
+        return self._declared[sections]
+
     def _meant(self, words: str, *sections: str) -> str:
         """Asks whether one of the names that are declared in these sections was meant, where one is near."""
-        spelled = {name.upper: name.words for name, section in declarations(self._tokens) if section in sections}
-        near = get_close_matches(words.upper(), spelled, 1)
-        return _asked(spelled[near[0]] if near else None)
+        return _asked(self._names(*sections).near(words))
 
     def _spelled(self, begin: int, end: int) -> str:
         """Tokens as they are written, without comments, on one line, and without blanks round a point."""
@@ -155,7 +164,7 @@ class Explainer:
         return f"{words} has both a chart (EC_STATES) and a network (FBS or connections); a block has one of the two"
 
     def _unknown_type(self, at: int, words: str) -> str:
-        if words.upper() in self._units:
+        if words in self._units:
             return f"the type {words} can't be used: its own text has a SYNTAX fault"
         return f"there is no type {words}{_asked(self._units.near(words))}"
 
@@ -231,7 +240,7 @@ class Explainer:
         sort, *sections = _PORTS[self._section(at)]
         instance, dot, _ = words.partition(".")
         its = ("PLUGS", "SOCKETS", "FBS", "SUBAPPS") if dot else sections
-        if dot and any(name.upper == instance.upper() for name, section in declarations(self._tokens) if section in its):
+        if dot and instance in self._names(*its):
             return f"no {sort} {words} to connect"
         return f"no {sort} {words} to connect{self._meant(instance, *its)}"
 

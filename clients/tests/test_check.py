@@ -117,6 +117,14 @@ class FilesTest(InFolder):
         ]
         self.assertEqual(ran.stdout.splitlines(), expected)
 
+    def test_many_faults_in_one_line(self):
+        variables = " ".join(f"V{number}:INT;" for number in range(1000))
+        statements = " ".join(f"W{number}:=1;" for number in range(3500))
+        text = f"FUNCTION_BLOCK A VAR {variables} END_VAR ALGORITHM B IN ST: {statements} END_ALGORITHM END_FUNCTION_BLOCK"
+        self.write("a.fb", text)
+        ran = run("check", ".", "--program", workbench(), folder=self.folder)
+        self.assertTrue(ran.stdout.endswith("\n3,500 faults in 1 of 1 unit\n"))
+
     def test_one_file_twice(self):
         file = self.write("a.fb", "FUNCTION_BLOCK A END_FUNCTION_BLOCK")
         ran = run("check", ".", file, "--program", workbench(), folder=self.folder)
@@ -214,7 +222,7 @@ class ExcerptTest(unittest.TestCase):
         self.assertEqual(len(line), 122)
         self.assertEqual(line[carets.index("^") : len(carets)], "BAD")
         line, carets = excerpt(Places("漢" * 500), 900, 1500)
-        self.assertLess(len(carets), 123)
+        self.assertEqual((len(line), len(carets)), (122, 241))
 
 
 if __name__ == "__main__":

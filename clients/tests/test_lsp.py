@@ -107,8 +107,12 @@ class LifeTest(LspTest):
         self.assertEqual(capabilities["textDocumentSync"]["change"], 1)
         self.assertEqual(editor.request("textDocument/hover")["error"]["code"], -32601)
         editor.notify("$/setTrace", value="off")
+        self.assertEqual(editor.request("initialize")["error"]["code"], -32600)
         self.assertEqual(editor.request("shutdown")["result"], None)
         self.assertEqual(editor.request("shutdown")["error"]["code"], -32600)
+        editor.open(self.folder / "a.fb", BAD)
+        self.assertEqual(editor.request("shutdown")["error"]["code"], -32600)
+        self.assertEqual(editor.shown, {})
         editor.notify("exit")
         self.assertEqual(editor.process.wait(10), 0)
 
