@@ -53,7 +53,6 @@ class Explainer:
     """Explains the faults of one text. `units` are the names, in upper case, of the units that are known to be in the workbench."""
 
     def __init__(self, text: str, units: Names = Names()):
-        self._encoded = text.encode()
         self._tokens = list(tokens(text))
         self._starts = [token.start for token in self._tokens]
         self._sections = list(_sections(self._tokens))
@@ -70,13 +69,13 @@ class Explainer:
         """One sentence without a full stop that names the words at the place."""
         at = bisect_left(self._starts, fault.start)
         words = _quoted(self._spelled(at, bisect_left(self._starts, fault.end)))
-        explain = getattr(self, f"_{fault.code.lower()}", None)
+        explain = getattr(self, f"_explain_{fault.code.lower()}", None)
         return explain(at, words) if explain else f"{words} breaks the rule {fault.code}"
 
     # What stands round a place. `at` is the index of the first token at it.
 
-    def _before(self, at: int, steps: int = 1) -> str:
-        return self._tokens[at - steps].upper if at >= steps else ""
+    def _before(self, at: int) -> str:
+        return self._tokens[at - 1].upper if at else ""
 
     def _section(self, at: int) -> str:
         """The word that begins the section."""
@@ -126,7 +125,7 @@ class Explainer:
 
     # One explanation for each code, named as the code is.
 
-    def _syntax(self, at: int, words: str) -> str:
+    def _explain_syntax(self, at: int, words: str) -> str:
         if at == len(self._tokens):
             return self._early_end()
         token = self._tokens[at]
@@ -150,50 +149,50 @@ class Explainer:
         missing = f"END_{first}" if first in _BEGINNINGS else "its end"
         return f"the text ends too early, behind {_quoted(_one_line(self._tokens[-1].words))}: {missing} is missing"
 
-    def _name_differs(self, at: int, words: str) -> str:
+    def _explain_name_differs(self, at: int, words: str) -> str:
         return f"this text declares {words}, and is kept under another name"
 
-    def _duplicate(self, at: int, words: str) -> str:
+    def _explain_duplicate(self, at: int, words: str) -> str:
         before, section = self._before(at), self._section(at)
         if section == "FBS" and before in ("(", ","):
             return f"the parameter {words} is given a second time"
         space = _OWN_SPACES.get(before) or _SPACES.get(section, "names")
         return f"{words} is declared already among the {space}"
 
-    def _mixed_kind(self, at: int, words: str) -> str:
+    def _explain_mixed_kind(self, at: int, words: str) -> str:
         return f"{words} has both a chart (EC_STATES) and a network (FBS or connections); a block has one of the two"
 
-    def _unknown_type(self, at: int, words: str) -> str:
+    def _explain_unknown_type(self, at: int, words: str) -> str:
         if words in self._units:
             return f"the type {words} can't be used: its own text has a SYNTAX fault"
         return f"there is no type {words}{_asked(self._units.near(words))}"
 
-    def _wrong_kind(self, at: int, words: str) -> str:
+    def _explain_wrong_kind(self, at: int, words: str) -> str:
         section = self._section(at)
         return f"{words} is no {_KINDS.get(section, 'such type')}, and {section} takes nothing else"
 
-    def _with_unknown(self, at: int, words: str) -> str:
+    def _explain_with_unknown(self, at: int, words: str) -> str:
         side, section = ("input", "VAR_INPUT") if self._section(at) == "EVENT_INPUT" else ("output", "VAR_OUTPUT")
         return f"no data {side} {words} to go with this event{self._meant(words, section)}"
 
-    def _state_unknown(self, at: int, words: str) -> str:
+    def _explain_state_unknown(self, at: int, words: str) -> str:
         return f"no state {words} in this chart{self._meant(words, 'EC_STATES')}"
 
-    def _event_unknown(self, at: int, words: str) -> str:
+    def _explain_event_unknown(self, at: int, words: str) -> str:
         if self._section(at) == "EC_TRANSITIONS":
             return f"no event {words} comes in here, so no transition can wait for it{self._meant(words, 'EVENT_INPUT')}"
         return f"no event {words} goes out from here, so no state can send it{self._meant(words, 'EVENT_OUTPUT')}"
 
-    def _algorithm_unknown(self, at: int, words: str) -> str:
+    def _explain_algorithm_unknown(self, at: int, words: str) -> str:
         return f"no algorithm {words} in this block{self._meant(words, 'ALGORITHM')}"
 
-    def _variable_unknown(self, at: int, words: str) -> str:
+    def _explain_variable_unknown(self, at: int, words: str) -> str:
         if "." in words:
             adapter, _, port = words.partition(".")
             return f"no variable {words} in this block: {adapter} is no plug or socket with data {port}"
         return f"no variable {words} in this block{self._meant(words, 'VAR', 'VAR_INPUT', 'VAR_OUTPUT')}"
 
-    def _class(self, at: int, words: str) -> str:
+    def _explain_class(self, at: int, words: str) -> str:
         return self._operator(at, words) or self._wanted(at, words)
 
     def _operator(self, at: int, words: str) -> str | None:
@@ -236,7 +235,7 @@ class Explainer:
             return f"a subscript has to be a whole number, and {words} is none"
         return f"FOR counts from, to and by whole numbers, and {words} is none"
 
-    def _port_unknown(self, at: int, words: str) -> str:
+    def _explain_port_unknown(self, at: int, words: str) -> str:
         sort, *sections = _PORTS[self._section(at)]
         instance, dot, _ = words.partition(".")
         its = ("PLUGS", "SOCKETS", "FBS", "SUBAPPS") if dot else sections
@@ -244,37 +243,37 @@ class Explainer:
             return f"no {sort} {words} to connect"
         return f"no {sort} {words} to connect{self._meant(instance, *its)}"
 
-    def _port_side(self, at: int, words: str) -> str:
+    def _explain_port_side(self, at: int, words: str) -> str:
         if self._before(at) == "TO":
             return f"{words} can't be the destination of a connection, only the source of one"
         return f"{words} can't be the source of a connection, only the destination of one"
 
-    def _data_type(self, at: int, words: str) -> str:
+    def _explain_data_type(self, at: int, words: str) -> str:
         return f"{self._other_end(at)} and {words} are of different types"
 
-    def _second_source(self, at: int, words: str) -> str:
+    def _explain_second_source(self, at: int, words: str) -> str:
         return f"{words} has a source already; data come from one source"
 
-    def _second_adapter(self, at: int, words: str) -> str:
+    def _explain_second_adapter(self, at: int, words: str) -> str:
         return f"{words} is connected already; a plug or a socket has one connection"
 
-    def _pass_through(self, at: int, words: str) -> str:
+    def _explain_pass_through(self, at: int, words: str) -> str:
         return f"{words} leads straight through the subapplication, past all its blocks"
 
-    def _parameter_unknown(self, at: int, words: str) -> str:
+    def _explain_parameter_unknown(self, at: int, words: str) -> str:
         instance, type_name = self._instance_before(at)
         return f"{type_name}, the type of {instance}, has no data input {words}"
 
-    def _literal(self, at: int, words: str) -> str:
+    def _explain_literal(self, at: int, words: str) -> str:
         assign = self._back_to(":=", at)
         if self._section(at) == "FBS":
             return f"{words} does not fit the type of {self._tokens[assign - 1].words}"
         return f"{words} is no initial value for the type {self._spelled(self._back_to(':', assign) + 1, assign)}"
 
-    def _mapped_twice(self, at: int, words: str) -> str:
+    def _explain_mapped_twice(self, at: int, words: str) -> str:
         return f"{words} is mapped already"
 
-    def _no_such_resource(self, at: int, words: str) -> str:
+    def _explain_no_such_resource(self, at: int, words: str) -> str:
         device, _, resource = words.partition(".")
         return f"no device {device} with a resource {resource} in this system"
 

@@ -1,7 +1,7 @@
 """The explanations that depend on what stands round a place."""
 import unittest
 
-import support  # noqa: F401
+import support  # noqa: F401 (it finds the modules under test)
 
 from bench61499 import Fault
 from explain import Explainer, Names
