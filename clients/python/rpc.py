@@ -1,0 +1,47 @@
+"""JSON-RPC messages with headers, as language servers and editors send them over pipes."""
+from __future__ import annotations
+
+import json
+from typing import Any, BinaryIO
+
+Message = dict[str, Any]
+
+PARSE_ERROR = -32700
+INVALID_REQUEST = -32600
+METHOD_NOT_FOUND = -32601
+INVALID_PARAMS = -32602
+NOT_INITIALIZED = -32002
+
+
+class BadMessage(Exception):
+    """A message that is no JSON object."""
+
+
+def read_message(stream: BinaryIO) -> Message | None:
+    """The next message; None at the end of the stream, or where what comes has no length and nothing more can be read.
+
+    Raises `BadMessage`, after which the next message can be read.
+    """
+    length = None
+    while (header := stream.readline().strip()) or length is None:
+        name, colon, value = header.partition(b":")
+        if not colon:
+            return None
+        if name.strip().lower() == b"content-length" and value.strip().isdigit():
+            length = int(value)
+    content = stream.read(length)
+    if len(content) < length:
+        return None
+    try:
+        message = json.loads(content)
+    except ValueError as error:
+        raise BadMessage(str(error)) from error
+    if not isinstance(message, dict):
+        raise BadMessage("a message has to be an object")
+    return message
+
+
+def write_message(stream: BinaryIO, message: Message) -> None:
+    content = json.dumps({"jsonrpc": "2.0", **message}, ensure_ascii=False, separators=(",", ":")).encode(errors="replace")
+    stream.write(b"Content-Length: %d\r\n\r\n%b" % (len(content), content))
+    stream.flush()

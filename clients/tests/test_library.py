@@ -1,0 +1,240 @@
+"""The library: places, batches, answers, sessions and what can go wrong with them."""
+import json
+import unittest
+
+from support import GREETING, InFolder, answering, free_port, serving, workbench
+
+from bench61499 import (
+    CHANGES_LIMIT, LINE_LIMIT, TEXT_LIMIT, BadReply, Blocked, Block, Border, ConnectionEnded, Fault, Faulty, Flat, Link, Misplaced, NoAnswer,
+    NoSuchKey, NoSuchUnit, NoWorkbench, Places, Plan, Put, Recursive, Refused, Remove, RequestTooLong, Resource, Session, StaleBase, Stopped,
+    TooLarge, batches,
+)
+
+A = "FUNCTION_BLOCK A EVENT_INPUT E WITH X; END_EVENT END_FUNCTION_BLOCK"
+
+
+class PlacesTest(unittest.TestCase):
+    def test_characters_of_many_bytes(self):
+        text = "größe\n𝄞 x\n"
+        places = Places(text)
+        self.assertEqual(places.line_column(text.encode().index("ß".encode())), (1, 4))
+        self.assertEqual(places.line_column(text.encode().index(b"x")), (2, 3))
+        self.assertEqual(places.line(2), "𝄞 x")
+
+    def test_a_place_inside_a_character_is_that_character(self):
+        self.assertEqual([Places("aß𝄞b").line_column(byte)[1] for byte in range(9)], [1, 2, 2, 3, 3, 3, 3, 4, 5])
+
+    def test_line_ends(self):
+        places = Places("a\r\nb\nc\rd")
+        self.assertEqual([places.line(number) for number in (1, 2, 3, 4)], list("abcd"))
+        self.assertEqual([places.line_column(byte) for byte in (0, 3, 5, 7, 8)], [(1, 1), (2, 1), (3, 1), (4, 1), (4, 2)])
+
+    def test_the_end_of_a_text(self):
+        self.assertEqual(Places("").line_column(0), (1, 1))
+        self.assertEqual(Places("a\n").line_column(2), (2, 1))
+        self.assertEqual(Places("a\n").line_count(), 2)
+
+    def test_there_and_back(self):
+        text = "α\tβ\r\n\n𝄞𝄞\nend"
+        places = Places(text)
+        at = 0
+        for character in text:
+            if character not in "\r\n":
+                self.assertEqual(places.place(*places.line_column(at)), at)
+            at += len(character.encode())
+        self.assertEqual(places.place(*places.line_column(at)), at)
+
+    def test_what_is_no_place(self):
+        places = Places("ab\nc")
+        for line, column in ((0, 1), (3, 1), (1, 0), (1, 4)):
+            self.assertRaises(ValueError, places.place, line, column)
+        for byte in (-1, 5):
+            self.assertRaises(ValueError, places.line_column, byte)
+
+    def test_words(self):
+        self.assertEqual(Places("a größe b").words(2, 9), "größe")
+
+
+class BatchesTest(unittest.TestCase):
+    def check(self, changes, sizes):
+        made = list(batches(changes))
+        self.assertEqual([len(batch) for batch in made], sizes)
+        self.assertEqual([change for batch in made for change in batch], changes)
+        for batch in made:
+            line = json.dumps({"op": "commit", "changes": [it.request() for it in batch]}, ensure_ascii=False, separators=(",", ":"))
+            self.assertLessEqual(len(line.encode()), LINE_LIMIT)
+
+    def test_by_number(self):
+        self.check([], [])
+        self.check([Put(f"U{number}", 0, "") for number in range(CHANGES_LIMIT)], [16])
+        self.check([Remove(f"U{number}", 1) for number in range(40)], [16, 16, 8])
+
+    def test_by_bytes(self):
+        self.check([Put(f"U{number}", 0, "x" * TEXT_LIMIT) for number in range(20)], [15, 5])
+        self.check([Put(f"U{number}", 0, "\x01" * TEXT_LIMIT) for number in range(5)], [2, 2, 1])
+        self.check([Put(f"U{number}", 0, "ä" * (TEXT_LIMIT // 2)) for number in range(16)], [15, 1])
+
+    def test_one_that_is_too_long(self):
+        self.assertRaises(RequestTooLong, list, batches([Put("A", 0, "x" * LINE_LIMIT)]))
+
+    def test_the_workbench_takes_them(self):
+        texts = ["x" * TEXT_LIMIT, "\x01" * TEXT_LIMIT, '"' * TEXT_LIMIT, "𝄞" * (TEXT_LIMIT // 4)]
+        with Session.script(workbench()) as session:
+            for batch in batches(Put(f"U{number}", 0, text) for number, text in enumerate(texts * 6)):
+                session.commit(batch)
+            self.assertEqual(len(session.settle()), 24)
+
+
+class SessionTest(unittest.TestCase):
+    def setUp(self):
+        self.session = Session.script(workbench())
+        self.addCleanup(self.session.close)
+
+    def test_faults(self):
+        self.assertEqual(self.session.commit([Put("a", 0, A)]), 1)
+        self.assertIsNone(self.session.faults("A"))
+        results = []
+        self.assertEqual(self.session.settle(results.append), {"A": (Fault("WITH_UNKNOWN", 36, 37),)})
+        self.assertEqual(results, [1])
+        self.assertEqual(self.session.revisions, {"A": 1})
+
+    def test_stale_bases(self):
+        self.session.commit([Put("A", 0, A)])
+        with self.assertRaises(StaleBase) as caught:
+            self.session.commit([Put("B", 0, A), Put("A", 7, A)])
+        self.assertEqual((caught.exception.unit, caught.exception.current), ("A", 1))
+        self.assertRaises(NoSuchKey, self.session.faults, "B")
+        self.session.commit([Remove("A", 1)])
+        self.assertEqual(self.session.revisions, {})
+        self.assertEqual(self.session.settle(), {})
+
+    def test_revision(self):
+        self.assertEqual(self.session.revision("A"), 0)
+        self.session.commit([Put("A", 0, A)])
+        self.session.commit([Put("A", 1, A)])
+        self.assertEqual(self.session.revision("A"), 2)
+        self.assertEqual(self.session.faults("A"), None)
+
+    def test_jobs(self):
+        self.assertIsNone(self.session.take())
+        self.session.commit([Put("A", 0, A)])
+        job = self.session.take()
+        self.assertEqual((job.number, job.kind, job.unit), (1, "faults", "A"))
+        self.assertTrue(self.session.give_back("faults", "A"))
+        self.assertFalse(self.session.give_back("faults", "A"))
+        self.session.deliver(job)
+        with self.assertRaisesRegex(Refused, "NotPending"):
+            self.session.deliver(job)
+
+    def test_refusals(self):
+        for changes, refusal in (
+            ([], "NoChange"),
+            ([Put("A", 0, "")] * 2, "SameUnitTwice"),
+            ([Put("9A", 0, "")], "BadName"),
+            ([Put("A", 0, "x" * (TEXT_LIMIT + 1))], "TextTooLong"),
+            ([Remove("A", 0)], "NoSuchUnit"),
+        ):
+            with self.assertRaises(Refused) as caught:
+                self.session.commit(changes)
+            self.assertEqual(caught.exception.refusal, refusal)
+        self.assertRaises(NoSuchUnit, self.session.commit, [Remove("A", 0)])
+        self.assertRaises(RequestTooLong, self.session.commit, [Put("A", 0, "x" * LINE_LIMIT)])
+        self.assertEqual(self.session.commit([Put("A", 0, A)]), 1)
+
+    def test_full_history(self):
+        with Session.script(workbench(), history=1) as session:
+            session.commit([Put("A", 0, A)])
+            with self.assertRaisesRegex(Refused, "--history"):
+                session.work(1)
+
+
+class AnswersTest(unittest.TestCase):
+    """Nets and plans, as a workbench that computes them answers."""
+
+    def answer(self, kind, reply):
+        with answering(GREETING, json.dumps(reply).encode() + b"\n") as port, Session.connect("127.0.0.1", port) as session:
+            return session.ask(kind, "A")
+
+    def test_nets(self):
+        net = {"blocks": [["X.Y", "T"]], "links": [["event", "X.Y.O", "X.Y.I"]], "borders": [["adapter", "K", "X.Y.P"]]}
+        flat = Flat((Block("X.Y", "T"),), (Link("event", "X.Y.O", "X.Y.I"),), (Border("adapter", "K", "X.Y.P"),))
+        self.assertEqual(self.answer("net", {"net": net}), flat)
+        self.assertEqual(self.answer("net", {"net": {"blocked": ["B", "C"]}}), Blocked(("B", "C")))
+        self.assertEqual(self.answer("net", {"net": {"recursive": ["B"]}}), Recursive(("B",)))
+        self.assertEqual(self.answer("net", {"net": "too_large"}), TooLarge())
+        self.assertIsNone(self.answer("net", {"answer": "pending"}))
+
+    def test_plans(self):
+        plan = {"cuts": [["data", "A.O", "B.I"]], "resources": [["D.R", ["START D.R"]]]}
+        self.assertEqual(self.answer("deploy", {"deploy": plan}), Plan((Link("data", "A.O", "B.I"),), (Resource("D.R", ("START D.R",)),)))
+        self.assertEqual(self.answer("deploy", {"deploy": {"faulty": [["UNMAPPED", "A"]]}}), Faulty((Misplaced("UNMAPPED", "A"),)))
+        self.assertEqual(self.answer("deploy", {"deploy": {"stopped": "too_large"}}), Stopped(TooLarge()))
+
+    def test_answers_of_the_wrong_form(self):
+        for reply in ({"net": {"blocks": []}}, {"net": 7}, {"faults": []}, {}, [], 7, None):
+            self.assertRaises(BadReply, self.answer, "net", reply)
+        self.assertRaises(BadReply, self.answer, "faults", {"faults": [["CLASS", 1]]})
+
+
+class TroubleTest(InFolder):
+    def test_no_program(self):
+        with self.assertRaisesRegex(NoWorkbench, "can't start the workbench .*nowhere: No such file or directory"):
+            Session.script(self.folder / "nowhere")
+
+    def test_a_program_that_dies(self):
+        with Session.script(self.program("sys.stdin.readline(); sys.exit(3)")) as session:
+            with self.assertRaisesRegex(ConnectionEnded, r"status 3"):
+                session.work(1)
+
+    def test_a_program_that_dies_before_it_reads(self):
+        with Session.script(self.program("sys.exit(4)")) as session:
+            with self.assertRaisesRegex(ConnectionEnded, r"status 4"):
+                session.commit([Put("A", 0, "x" * 1_000_000)])
+
+    def test_a_reply_that_is_cut_off(self):
+        with Session.script(self.program("""sys.stdin.readline(); sys.stdout.write('{"accep')""")) as session:
+            self.assertRaises(ConnectionEnded, session.work, 1)
+
+    def test_no_server(self):
+        with self.assertRaisesRegex(NoWorkbench, "no workbench at 127.0.0.1:"):
+            Session.connect("127.0.0.1", free_port())
+
+    def test_a_server_that_hangs_up(self):
+        with answering(GREETING, b'{"accepted":1}\n') as port, Session.connect("127.0.0.1", port) as session:
+            self.assertEqual(session.work(1), 1)
+            with self.assertRaisesRegex(ConnectionEnded, "hung up"):
+                session.work(1)
+
+    def test_replies_that_are_no_json(self):
+        for reply in (b"Hello!\n", b"\xff\n", b"\n", b'{"accepted":1}{}\n'):
+            with answering(GREETING, reply) as port, Session.connect("127.0.0.1", port) as session:
+                with self.assertRaises(BadReply) as caught:
+                    session.work(1)
+                self.assertEqual(caught.exception.line, reply)
+
+    def test_a_server_that_does_not_answer(self):
+        with answering(b"") as port, self.assertRaisesRegex(NoAnswer, "within 0.1 seconds: it is busy, or it has had as many sessions as"):
+            Session.connect("127.0.0.1", port, timeout=0.1)
+        with answering(GREETING, b"") as port, Session.connect("127.0.0.1", port, timeout=0.1) as session:
+            self.assertRaises(NoAnswer, session.work, 1)
+
+    def test_a_server_that_is_no_workbench(self):
+        with answering(b"HTTP/1.1 400 Bad Request\r\n") as port, self.assertRaisesRegex(BadReply, "no sense: HTTP/1.1 400"):
+            Session.connect("127.0.0.1", port)
+
+
+class ServerTest(unittest.TestCase):
+    def test_two_sessions(self):
+        with serving(sessions=2) as port, Session.connect("127.0.0.1", port) as one, Session.connect("127.0.0.1", port) as other:
+            with self.assertRaisesRegex((NoWorkbench, NoAnswer), "or it has had as many sessions as it was started for"):
+                Session.connect("127.0.0.1", port, timeout=0.2)
+            one.commit([Put("A", 0, A)])
+            self.assertEqual(other.revision("A"), 1)
+            self.assertEqual(other.wait("faults", "A"), (Fault("WITH_UNKNOWN", 36, 37),))
+            self.assertRaises(StaleBase, other.commit, [Put("A", 0, A)])
+            other.commit([Remove("A", 1)])
+            self.assertEqual(one.settle(), {})
+
+
+if __name__ == "__main__":
+    unittest.main()
