@@ -22,7 +22,7 @@ ghost use Rattle.fb_structured_text.specs.Operators.{operators, strengths};
 ghost use Rattle.fb_tree.specs.Expression.{expression_tree, expressions_of};
 ghost use Rattle.std.specs.Prelude.{◌≡◌, ◌≤◌, ◌<◌, ◌+◌, drop, map};
 
-use crate::operators::{SIGNS, is_literal, literal, operator, operators, sign};
+use crate::operators::{SIGNS, is_literal, literal, next_strength, operator, operators, sign};
 use crate::references::{flat_reference, member_name, variable};
 use fb_forms::{NAMES, Stop, across, is_next, key};
 use fb_lexemes::{Kind, Lexeme};
@@ -181,7 +181,8 @@ fn unary(alloc: Global, left: u8, tokens: &[Lexeme]) -> Result<(Expr, &[Lexeme])
     Ok((Expr::Unary(sign, Box::new(alloc, value)?), rest))
 }
 
-/// An expression with the operators of a strength and of the stronger ones.
+/// An expression with the operators of a strength and of the stronger ones. The first operand is read once; then rows are built from the
+/// strongest operators to the weakest, where one comes next.
 #[cycle(expression)]
 fn row(
     alloc: Global,
@@ -192,15 +193,17 @@ fn row(
     requires { strength ≤ 8 }
     ensures { Gives (λ x. (expression_tree x.0, x.1.now)) result (read (rows (drop strength strengths) (unary (primary left))) tokens.now) }
 {
-    if strength == 8 {
-        return unary(alloc, left, tokens);
+    let (mut value, mut rest) = unary(alloc, left, tokens)?;
+    let mut level = 8;
+    while level > strength {
+        level -= 1;
+        if next_strength(rest) == level {
+            let (operands, behind) = operands(alloc, level, left, rest)?;
+            value = Expr::Row(Box::new(alloc, value)?, operands);
+            rest = behind;
+        }
     }
-    let (first, rest) = row(alloc, strength + 1, left, tokens)?;
-    if !is_next(rest, operators(strength)) {
-        return Ok((first, rest));
-    }
-    let (operands, rest) = operands(alloc, strength, left, rest)?;
-    Ok((Expr::Row(Box::new(alloc, first)?, operands), rest))
+    Ok((value, rest))
 }
 
 /// Operators of a strength, each with its operand.
