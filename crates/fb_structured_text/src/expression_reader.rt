@@ -104,11 +104,11 @@ fn deep_reference(
     alloc: Global,
     below: u8,
     tokens: &[Lexeme],
-) -> Result<((Reference, Vec<Expr>), &[Lexeme]), Stop<'_>>
-    ensures { Gives (λ x. ((x.0.0, expressions_of (map expression_tree x.0.1.items)), x.1.now)) result (read (deep_reference (expression below)) tokens.now) }
+) -> Result<((Box<Reference>, Vec<Expr>), &[Lexeme]), Stop<'_>>
+    ensures { Gives (λ x. ((x.0.0.value, expressions_of (map expression_tree x.0.1.items)), x.1.now)) result (read (deep_reference (expression below)) tokens.now) }
 {
     let ((name, member), rest) = member_name(tokens)?;
-    let mut variable = variable(name, member);
+    let mut variable = variable(alloc, name, member)?;
     if !is_next(rest, &[Kind::OpenBracket]) {
         return Ok(((variable, Vec::new(alloc)), rest));
     }
@@ -259,8 +259,8 @@ pub fn reference(
     alloc: Global,
     left: u8,
     tokens: &[Lexeme],
-) -> Result<((Reference, Vec<Expr>), &[Lexeme]), Stop<'_>>
-    ensures { Gives (λ x. ((x.0.0, expressions_of (map expression_tree x.0.1.items)), x.1.now)) result (read (reference left) tokens.now) }
+) -> Result<((Box<Reference>, Vec<Expr>), &[Lexeme]), Stop<'_>>
+    ensures { Gives (λ x. ((x.0.0.value, expressions_of (map expression_tree x.0.1.items)), x.1.now)) result (read (reference left) tokens.now) }
 {
     if left == 0 {
         flat_reference(alloc, tokens)

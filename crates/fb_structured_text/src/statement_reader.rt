@@ -32,7 +32,7 @@ use crate::expression_reader::{LEVELS, expression, reference};
 use crate::labels::{begins_label, labels};
 use fb_forms::{Stop, is_next, key, name};
 use fb_lexemes::{Kind, Lexeme};
-use fb_tree::{Expr, Stmt};
+use fb_tree::{Counting, Expr, Stmt};
 use std::alloc::Global;
 
 /// A word with `;` behind it.
@@ -329,7 +329,13 @@ fn for_statement(alloc: Global, left: u8, tokens: &[Lexeme]) -> Result<(Stmt, &[
     let (to, rest) = announced(alloc, Kind::To, left, rest)?;
     let (by, rest) = step(alloc, left, rest)?;
     let (body, rest) = enclosed(alloc, Kind::Do, left - 1, Kind::EndFor, rest)?;
-    Ok((Stmt::For(variable.name_use(), from, to, by, body), rest))
+    let counting = Counting {
+        variable: variable.name_use(),
+        from,
+        to,
+        by,
+    };
+    Ok((Stmt::For(Box::new(alloc, counting)?, body), rest))
 }
 
 #[cycle(statement)]
