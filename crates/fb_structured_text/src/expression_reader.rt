@@ -144,7 +144,8 @@ fn expressions(
     ensures { Gives (λ x. (map expression_tree x.0.items, x.1.now)) result (read (expressions (expression below)) tokens.now) }
 {
     let (first, mut rest) = expression(alloc, below, tokens)?;
-    let mut expressions = Vec::new(alloc);
+    // Most variables have one subscript.
+    let mut expressions = Vec::with_capacity(alloc, 1)?;
     expressions.push(first)?;
     while is_next(rest, &[Kind::Comma]) {
         let (next, behind) = further_expression(alloc, below, rest)?;
@@ -217,7 +218,8 @@ fn operands(
     requires { strength < 8 }
     ensures { Gives (λ x. (map (λ o. (o.0, expression_tree o.1)) x.0.items, x.1.now)) result (read (many (operand (operators strength) (rows (drop (strength + 1) strengths) (unary (primary left))))) tokens.now) }
 {
-    let mut operands = Vec::new(alloc);
+    // Most rows have one operator.
+    let mut operands = Vec::with_capacity(alloc, 1)?;
     let mut rest = tokens;
     while is_next(rest, operators(strength)) {
         let (next, behind) = operand(alloc, strength, left, rest)?;

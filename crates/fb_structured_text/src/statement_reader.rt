@@ -243,7 +243,8 @@ fn arms(
     ensures { Gives (λ x. (map (λ a. (expression_tree a.0, map statement_tree a.1.items)) x.0.items, x.1.now)) result (read (arms (expression left) (statement (left - 1))) tokens.now) }
 {
     let (first, mut rest) = arm(alloc, Kind::If, left, tokens)?;
-    let mut arms = Vec::new(alloc);
+    // Most have no `ELSIF`.
+    let mut arms = Vec::with_capacity(alloc, 1)?;
     arms.push(first)?;
     while is_next(rest, &[Kind::Elsif]) {
         let (next, behind) = arm(alloc, Kind::Elsif, left, rest)?;

@@ -1,4 +1,4 @@
-use Rattle.std.proofs.Common.{◌≡◌, ◌<◌, ◌+◌, ◌∷◌, [], true, false, Ok, List, map, drop, ap, sym, refl, ◌∙◌, arith}
+use Rattle.std.proofs.Common.{◌≡◌, ◌+◌, ◌∷◌, [], true, false, Ok, List, map, drop, ap, sym, refl, ◌∙◌, arith}
 use Rattle.std.proofs.lemmas.Result.{err_from_is_err_and}
 use Rattle.fb_lexemes.specs.declared.kind.Kind.{Kind}
 use Rattle.fb_lexemes.specs.declared.kind.Kind.TheVariants.{Comma}
@@ -56,7 +56,7 @@ operands-loop-alloc-preserved t c =
 
 pub operands-returns-in_err-next : goal.operands-returns-in_err-next
 operands-returns-in_err-next t c =
-    let p = err_from_is_err_and c.from_residual.result c.from_residual.ensures.1 in
+    let p = err_from_is_err_and c.from_residual-in_err-next.result c.from_residual-in_err-next.ensures.1 in
     let kinds = operators c.args.strength in
     let x = rows (drop (c.args.strength + 1) strengths) (unary (primary c.args.left)) in
     let next : is_next kinds c.loop-alloc.rest.now ≡ true = ap (λ (k : List Kind). is_next k c.loop-alloc.rest.now) (sym c.operators.ensures) ∙ sym c.is_next.ensures ∙ c.loop-alloc-test.true in
