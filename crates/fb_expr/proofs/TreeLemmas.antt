@@ -1,8 +1,7 @@
 -- One level of an expression or a statement, in its mirror.
-use Rattle.std.proofs.Common.{◌≡◌, Box, List, Option, Vec, map, option_map, ap, ◌∙◌}
+use Rattle.std.proofs.Common.{◌≡◌, Box, List, Vec, map, option_map, ap, ◌∙◌}
 use Rattle.std.proofs.lemmas.Simd.{map-map}
 use Rattle.std.specs.declared.alloc.Global.{Global}
-use Rattle.fb_text.specs.declared.name.NameUse.{NameUse}
 use Rattle.fb_tree.specs.Expression.{Expression, expression_step, expression_tree, operands_of, row_expression}
 use Rattle.fb_tree.specs.Statement.{Statement, arms_of, choice, count, repeat_loop, selection, statement_step, statement_tree, statements_of, while_loop}
 use Rattle.fb_tree.specs.declared.expression.BinaryUse.{BinaryUse}
@@ -11,6 +10,7 @@ use Rattle.fb_tree.specs.declared.expression.Expr as Expr
 use Rattle.fb_tree.specs.declared.expression.Expr.TheFolds.{fold-roll-Expr}
 use Rattle.fb_tree.specs.declared.expression.Expr.TheOpen.{Row as RowF}
 use Rattle.fb_tree.specs.declared.expression.Expr.TheViews.{roll-Expr}
+use Rattle.fb_tree.specs.declared.statement.Counting.{Counting}
 use Rattle.fb_tree.specs.declared.statement.Stmt.{Stmt}
 use Rattle.fb_tree.specs.declared.statement.Stmt as Stmt
 use Rattle.fb_tree.specs.declared.statement.Stmt.TheFolds.{fold-roll-Stmt}
@@ -38,9 +38,9 @@ pub tree-Case : (selector : Expr) (cases otherwise : Vec Stmt Global) → statem
 unfolding roll-Stmt roll
 tree-Case selector cases otherwise = fold-roll-Stmt Statement statement_step (CaseF selector cases otherwise)
 
-pub tree-For : (name : NameUse) (from to : Expr) (by : Option Expr) (body : Vec Stmt Global) → statement_tree (Stmt.For name from to by body) ≡ count name (expression_tree from) (expression_tree to) (option_map expression_tree by) (statements_of (map statement_tree body.items))
+pub tree-For : (counting : Box Counting Global) (body : Vec Stmt Global) → statement_tree (Stmt.For counting body) ≡ count counting.value.variable (expression_tree counting.value.from) (expression_tree counting.value.to) (option_map expression_tree counting.value.by) (statements_of (map statement_tree body.items))
 unfolding roll-Stmt roll
-tree-For name from to by body = fold-roll-Stmt Statement statement_step (ForF name from to by body)
+tree-For counting body = fold-roll-Stmt Statement statement_step (ForF counting body)
 
 pub tree-While : (condition : Expr) (body : Vec Stmt Global) → statement_tree (Stmt.While condition body) ≡ while_loop (expression_tree condition) (statements_of (map statement_tree body.items))
 unfolding roll-Stmt roll

@@ -11,7 +11,7 @@ use crate::references::{referred_variable, report_unknown};
 use crate::rules::{Place, report_class};
 use fb_iface::{Fault, Scope};
 use fb_text::{NameUse, Span};
-use fb_tree::{Expr, Reference, Stmt};
+use fb_tree::{Counting, Expr, Reference, Stmt};
 use std::alloc::AllocError;
 
 /// Reports the faults of statements.
@@ -56,9 +56,8 @@ fn report_statement(
             report_statements(scope, cases.as_slice(), found)?;
             report_statements(scope, otherwise.as_slice(), found)
         }
-        Stmt::For(name, from, to, by, body) => {
-            report_counter(scope, name, found)?;
-            report_range(scope, from, to, by, found)?;
+        Stmt::For(counting, body) => {
+            report_counting(scope, counting, found)?;
             report_statements(scope, body.as_slice(), found)
         }
         Stmt::While(condition, body) => {
@@ -87,6 +86,20 @@ fn report_assignment(
     let target = judge_reference(scope, variable, subscripts, found)?;
     let value = judge(scope, value, found)?;
     report_class(joined(target, value).is_some(), place, found)
+}
+
+/// Reports the faults of how a `FOR` counts.
+fn report_counting(
+    scope: &Scope,
+    counting: &Counting,
+    found: &mut Vec<Fault>,
+) -> Result<(), AllocError>
+    ensures { OnOk result (found.new.items ≡ found.old.items
+        ++ (counter_faults (scope_in scope.now) counting.now.variable
+        ++ range_faults (scope_in scope.now) (expression_tree counting.now.from) (expression_tree counting.now.to) (option_map expression_tree counting.now.by))) }
+{
+    report_counter(scope, &counting.variable, found)?;
+    report_range(scope, &counting.from, &counting.to, &counting.by, found)
 }
 
 /// Reports a variable of a `FOR` that is none, or no whole number.

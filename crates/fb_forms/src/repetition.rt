@@ -106,7 +106,8 @@ pub fn separated<'a, R: Reader>(
     ensures { Gives (λ x. (map R.view x.0.items, x.1.now)) result (read_separated kind (R.reads reader.now) tokens.now) }
 {
     let (first, rest) = reader.read(alloc, tokens)?;
-    let mut items = Vec::new(alloc);
+    // Most lists have one item.
+    let mut items = Vec::with_capacity(alloc, 1)?;
     items.push(first)?;
     append_each(&Behind { kind, reader }, alloc, &[kind], items, rest)
 }

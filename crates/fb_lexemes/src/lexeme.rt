@@ -16,11 +16,12 @@ use fb_text::{
 };
 use std::alloc::Global;
 
-/// A token: its kind, where it stands, and the name that it spells, `_` where it spells none.
+/// A token: where it stands, its kind, and the name that it spells, `_` where it spells none.
 #[derive(Clone, Copy, Debug)]
 pub struct Lexeme {
-    pub kind: Kind,
+    // First, so that no gap stands before it: a copy of a gap and a span together waits for both.
     pub span: Span,
+    pub kind: Kind,
     pub name: Name,
 }
 
@@ -140,8 +141,8 @@ fn lexeme_of(text: &str, token: &Token) -> Lexeme
 {
     let bytes = token.text(text);
     Lexeme {
-        kind: kind_of(token.kind, bytes.as_bytes()),
         span: token.span,
+        kind: kind_of(token.kind, bytes.as_bytes()),
         name: match Name::read(bytes) {
             Ok(name) => name,
             Err(_) => Name::underscore(),
@@ -157,7 +158,7 @@ pub fn lexemes(alloc: Global, text: &str) -> Result<Vec<Lexeme>, TokenFault>
     ensures rise { IfOk result (λ lexemes. SpansRise 0 (length text.now) (map (λ l. l.span) lexemes.items)) }
 {
     let tokens = tokens(alloc, text)?;
-    let mut lexemes = Vec::new(alloc);
+    let mut lexemes = Vec::with_capacity(alloc, tokens.len())?;
     for token in &tokens {
         lexemes.push(lexeme_of(text, token))?;
     }

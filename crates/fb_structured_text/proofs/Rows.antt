@@ -1,19 +1,21 @@
 -- Reading rows of operands.
-use Rattle.std.proofs.Common.{◌≡◌, ℕ, zero, suc, ◌+◌, ◌<◌, Bool, true, false, List, [], ◌∷◌, length, drop, Ok, Err, refl, ap, ◌∙◌, add-one}
+use Rattle.std.proofs.Common.{◌≡◌, ℕ, zero, suc, ◌+◌, ◌-◌, ◌<◌, ◌≤◌, Bool, true, false, nat_eq, List, [], ◌∷◌, length, drop, Ok, Err, refl, sym, ap, subst, ◌∙◌, add-one, arith, eq-eqb}
 use Rattle.std.proofs.Math.Seq.{drop-cons}
 use Rattle.fb_lexemes.specs.declared.kind.Kind.{Kind}
+use Rattle.fb_lexemes.specs.declared.kind.Kind.TheVariants.{Or}
 use Rattle.fb_lexemes.specs.declared.lexeme.Lexeme.{Lexeme}
 use Rattle.fb_forms.specs.declared.stop.Stop.{Stop}
 use Rattle.fb_forms.specs.declared.stop.Stop.TheVariants.{Memory, Broken}
 use Rattle.fb_forms.specs.Form.{Form, many, as_value}
 use Rattle.fb_forms.specs.Gives.{Fails}
-use Rattle.fb_lexemes.specs.Kind.{name_kinds}
+use Rattle.std.proofs.lemmas.Bool.Decides.{nat_tests}
+use Rattle.fb_lexemes.specs.Kind.{is_among, name_kinds}
 use Rattle.fb_forms.specs.Words.{name}
 use Rattle.fb_forms.specs.Reading.{Outcome, ◌>>=◌, is_next, first, read_each, read}
 use Rattle.fb_forms.proofs.Loops.{many_none, Begins}
 use Rattle.fb_tree.specs.declared.expression.BinaryUse.{BinaryUse}
 use Rattle.fb_tree.specs.Expression.{Expression, row_expression, operands_of}
-use Rattle.fb_structured_text.specs.Operators.{operators, strengths}
+use Rattle.fb_structured_text.specs.Operators.{next_strength, operators, strength_of, strengths}
 use Rattle.fb_structured_text.specs.Expression.{expression, rows, unary, primary, row, operand, row_of, literal, reference_value, deep_reference, deep_primary, member_name, parenthesized}
 
 pub begins-operand : (kinds : List Kind) (x : Form Expression) → Begins (operand kinds x) kinds
@@ -119,3 +121,74 @@ unfolding deep_primary
 primary_parentheses inner ts h g =
     let next : is_next (first (as_value reference_value (deep_reference inner))) ts ≡ false = ap (λ (k : List Kind). is_next k ts) (first-reference inner) ∙ g in
     rw (h, next) refl
+
+-- the operators of a strength are those that have it
+kinds_told : (kind : Kind) →
+    (is_among (operators 0) kind ≡ nat_eq (strength_of kind) 0) × (is_among (operators 1) kind ≡ nat_eq (strength_of kind) 1)
+    × (is_among (operators 2) kind ≡ nat_eq (strength_of kind) 2) × (is_among (operators 3) kind ≡ nat_eq (strength_of kind) 3)
+    × (is_among (operators 4) kind ≡ nat_eq (strength_of kind) 4) × (is_among (operators 5) kind ≡ nat_eq (strength_of kind) 5)
+    × (is_among (operators 6) kind ≡ nat_eq (strength_of kind) 6) × (is_among (operators 7) kind ≡ nat_eq (strength_of kind) 7)
+kinds_told Or = (refl, refl, refl, refl, refl, refl, refl, refl)
+kinds_told _ = (refl, refl, refl, refl, refl, refl, refl, refl)
+
+kind_told : (s : ℕ) (kind : Kind) → s < 8 → is_among (operators s) kind ≡ nat_eq (strength_of kind) s
+kind_told zero kind h = (kinds_told kind).0
+kind_told (suc zero) kind h = (kinds_told kind).1
+kind_told (suc (suc zero)) kind h = (kinds_told kind).2
+kind_told (suc (suc (suc zero))) kind h = (kinds_told kind).3
+kind_told (suc (suc (suc (suc zero)))) kind h = (kinds_told kind).4
+kind_told (suc (suc (suc (suc (suc zero))))) kind h = (kinds_told kind).5
+kind_told (suc (suc (suc (suc (suc (suc zero)))))) kind h = (kinds_told kind).6
+kind_told (suc (suc (suc (suc (suc (suc (suc zero))))))) kind h = (kinds_told kind).7
+kind_told (suc (suc (suc (suc (suc (suc (suc (suc s)))))))) kind h = absurd (omega arith)
+
+next_told : (s : ℕ) (ts : List Lexeme) → s < 8 → is_next (operators s) ts ≡ nat_eq (next_strength ts) s
+next_told s [] h = let none : nat_eq 8 s ≡ false = grind (arith, nat_tests) in sym none
+next_told s (t ∷ ts) h = kind_told s t.kind h
+
+-- a weaker row fails where a stronger one does
+rows_fail : (k s n : ℕ) (x : Form Expression) (ts : List Lexeme) (stop : Stop) → n ≡ s + k → n ≤ 8 → Fails stop (read (rows (drop n strengths) x) ts) → Fails stop (read (rows (drop s strengths) x) ts)
+rows_fail zero s n x ts stop e h fails =
+    let same : n ≡ s = omega arith in
+    subst (λ (m : ℕ). Fails stop (read (rows (drop m strengths) x) ts)) same fails
+rows_fail (suc k) s n x ts stop e h fails =
+    let within : s < 8 = omega arith in
+    rw (rows_step s x within) (row_first_fails (operators s) (rows (drop (s + 1) strengths) x) ts stop (rows_fail k (s + 1) n x ts stop (omega arith) h fails))
+
+-- a row fails where its first operand does
+pub rows_first_fails : (s : ℕ) (x : Form Expression) (ts : List Lexeme) (stop : Stop) → s ≤ 8 → Fails stop (read x ts) → Fails stop (read (rows (drop s strengths) x) ts)
+rows_first_fails s x ts stop h fails =
+    let all : Fails stop (read (rows (drop 8 strengths) x) ts) = rw (rows_none x) fails in
+    rows_fail (8 - s) s 8 x ts stop (omega arith) (omega arith) all
+
+-- the operators of a level and of the stronger ones were read
+abbrev IsReadFrom : ℕ → Form Expression → List Lexeme → Expression → List Lexeme → Type 0
+IsReadFrom l x ts e mid = read (rows (drop l strengths) x) ts ≡ Ok (e, mid)
+
+from_next : (l : ℕ) (x : Form Expression) (ts : List Lexeme) (e : Expression) (mid : List Lexeme) → 0 < l → IsReadFrom l x ts e mid → IsReadFrom (l - 1 + 1) x ts e mid
+from_next l x ts e mid some h =
+    let same : l ≡ l - 1 + 1 = omega arith in
+    subst (λ (m : ℕ). IsReadFrom m x ts e mid) same h
+
+-- no operator of the next level comes
+pub level_passed : (l : ℕ) (x : Form Expression) (ts : List Lexeme) (e : Expression) (mid : List Lexeme) → 0 < l → l ≤ 8 → IsReadFrom l x ts e mid → (next_strength mid ≡ l - 1 → ⊥) → IsReadFrom (l - 1) x ts e mid
+level_passed l x ts e mid some high h other =
+    let within : l - 1 < 8 = omega arith in
+    let over : is_next (operators (l - 1)) mid ≡ false = next_told (l - 1) mid within ∙ grind (arith, nat_tests, other) in
+    rw (rows_step (l - 1) x within) (row_one (operators (l - 1)) (rows (drop (l - 1 + 1) strengths) x) ts e mid (from_next l x ts e mid some h) over)
+
+-- operators of the next level and their operands come
+pub level_read : (l : ℕ) (x : Form Expression) (ts : List Lexeme) (e : Expression) (mid : List Lexeme) (os : List (BinaryUse × Expression)) (rest : List Lexeme) → 0 < l → l ≤ 8 → IsReadFrom l x ts e mid → next_strength mid ≡ l - 1
+    → read (many (operand (operators (l - 1)) (rows (drop (l - 1 + 1) strengths) x))) mid ≡ Ok (os, rest) → IsReadFrom (l - 1) x ts (row_expression e (operands_of os)) rest
+level_read l x ts e mid os rest some high h same more =
+    let within : l - 1 < 8 = omega arith in
+    let next : is_next (operators (l - 1)) mid ≡ true = next_told (l - 1) mid within ∙ eq-eqb (next_strength mid) (l - 1) same in
+    rw (rows_step (l - 1) x within) (row_done (operators (l - 1)) (rows (drop (l - 1 + 1) strengths) x) ts e mid os rest (from_next l x ts e mid some h) next more)
+
+pub level_fails : (s l : ℕ) (x : Form Expression) (ts : List Lexeme) (e : Expression) (mid : List Lexeme) (stop : Stop) → s < l → l ≤ 8 → IsReadFrom l x ts e mid
+    → Fails stop (read (many (operand (operators (l - 1)) (rows (drop (l - 1 + 1) strengths) x))) mid) → Fails stop (read (rows (drop s strengths) x) ts)
+level_fails s l x ts e mid stop some high h fails =
+    let within : l - 1 < 8 = omega arith in
+    let here : Fails stop (read (rows (drop (l - 1) strengths) x) ts) =
+    rw (rows_step (l - 1) x within) (row_fails (operators (l - 1)) (rows (drop (l - 1 + 1) strengths) x) ts e mid stop (from_next l x ts e mid (omega arith) h) fails) in
+    rows_fail (l - 1 - s) s (l - 1) x ts stop (omega arith) (omega arith) here

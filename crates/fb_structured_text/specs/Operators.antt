@@ -31,6 +31,31 @@ strengths =
 abbrev pub operators : ℕ → List Kind
 operators strength = slice_index_or strengths strength []
 
+-- the strength of an operator between operands, 8 of any other token
+abbrev pub strength_of : Kind → ℕ
+strength_of Or = 0
+strength_of Xor = 1
+strength_of Ampersand = 2
+strength_of And = 2
+strength_of Equal = 3
+strength_of NotEqual = 3
+strength_of Less = 4
+strength_of Greater = 4
+strength_of LessEqual = 4
+strength_of GreaterEqual = 4
+strength_of Plus = 5
+strength_of Minus = 5
+strength_of Times = 6
+strength_of Divide = 6
+strength_of Mod = 6
+strength_of Power = 7
+strength_of _ = 8
+
+-- that of the operator that comes next, 8 where none comes
+abbrev pub next_strength : List Lexeme → ℕ
+next_strength [] = 8
+next_strength (token ∷ tokens) = strength_of token.kind
+
 abbrev pub unary_operator : Kind → UnaryOperator
 unary_operator Plus = before.Plus
 unary_operator Minus = before.Minus

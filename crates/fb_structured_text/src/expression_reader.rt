@@ -22,7 +22,7 @@ ghost use Rattle.fb_structured_text.specs.Operators.{operators, strengths};
 ghost use Rattle.fb_tree.specs.Expression.{expression_tree, expressions_of};
 ghost use Rattle.std.specs.Prelude.{◌≡◌, ◌≤◌, ◌<◌, ◌+◌, drop, map};
 
-use crate::operators::{SIGNS, is_literal, literal, operator, operators, sign};
+use crate::operators::{SIGNS, is_literal, literal, next_strength, operator, operators, sign};
 use crate::references::{flat_reference, member_name, variable};
 use fb_forms::{NAMES, Stop, across, is_next, key};
 use fb_lexemes::{Kind, Lexeme};
@@ -104,11 +104,11 @@ fn deep_reference(
     alloc: Global,
     below: u8,
     tokens: &[Lexeme],
-) -> Result<((Reference, Vec<Expr>), &[Lexeme]), Stop<'_>>
-    ensures { Gives (λ x. ((x.0.0, expressions_of (map expression_tree x.0.1.items)), x.1.now)) result (read (deep_reference (expression below)) tokens.now) }
+) -> Result<((Box<Reference>, Vec<Expr>), &[Lexeme]), Stop<'_>>
+    ensures { Gives (λ x. ((x.0.0.value, expressions_of (map expression_tree x.0.1.items)), x.1.now)) result (read (deep_reference (expression below)) tokens.now) }
 {
     let ((name, member), rest) = member_name(tokens)?;
-    let mut variable = variable(name, member);
+    let mut variable = variable(alloc, name, member)?;
     if !is_next(rest, &[Kind::OpenBracket]) {
         return Ok(((variable, Vec::new(alloc)), rest));
     }
@@ -144,7 +144,8 @@ fn expressions(
     ensures { Gives (λ x. (map expression_tree x.0.items, x.1.now)) result (read (expressions (expression below)) tokens.now) }
 {
     let (first, mut rest) = expression(alloc, below, tokens)?;
-    let mut expressions = Vec::new(alloc);
+    // Most variables have one subscript.
+    let mut expressions = Vec::with_capacity(alloc, 1)?;
     expressions.push(first)?;
     while is_next(rest, &[Kind::Comma]) {
         let (next, behind) = further_expression(alloc, below, rest)?;
@@ -181,7 +182,8 @@ fn unary(alloc: Global, left: u8, tokens: &[Lexeme]) -> Result<(Expr, &[Lexeme])
     Ok((Expr::Unary(sign, Box::new(alloc, value)?), rest))
 }
 
-/// An expression with the operators of a strength and of the stronger ones.
+/// An expression with the operators of a strength and of the stronger ones. The first operand is read once; then rows are built from the
+/// strongest operators to the weakest, where one comes next.
 #[cycle(expression)]
 fn row(
     alloc: Global,
@@ -192,15 +194,17 @@ fn row(
     requires { strength ≤ 8 }
     ensures { Gives (λ x. (expression_tree x.0, x.1.now)) result (read (rows (drop strength strengths) (unary (primary left))) tokens.now) }
 {
-    if strength == 8 {
-        return unary(alloc, left, tokens);
+    let (mut value, mut rest) = unary(alloc, left, tokens)?;
+    let mut level = 8;
+    while level > strength {
+        level -= 1;
+        if next_strength(rest) == level {
+            let (operands, behind) = operands(alloc, level, left, rest)?;
+            value = Expr::Row(Box::new(alloc, value)?, operands);
+            rest = behind;
+        }
     }
-    let (first, rest) = row(alloc, strength + 1, left, tokens)?;
-    if !is_next(rest, operators(strength)) {
-        return Ok((first, rest));
-    }
-    let (operands, rest) = operands(alloc, strength, left, rest)?;
-    Ok((Expr::Row(Box::new(alloc, first)?, operands), rest))
+    Ok((value, rest))
 }
 
 /// Operators of a strength, each with its operand.
@@ -214,7 +218,8 @@ fn operands(
     requires { strength < 8 }
     ensures { Gives (λ x. (map (λ o. (o.0, expression_tree o.1)) x.0.items, x.1.now)) result (read (many (operand (operators strength) (rows (drop (strength + 1) strengths) (unary (primary left))))) tokens.now) }
 {
-    let mut operands = Vec::new(alloc);
+    // Most rows have one operator.
+    let mut operands = Vec::with_capacity(alloc, 1)?;
     let mut rest = tokens;
     while is_next(rest, operators(strength)) {
         let (next, behind) = operand(alloc, strength, left, rest)?;
@@ -256,8 +261,8 @@ pub fn reference(
     alloc: Global,
     left: u8,
     tokens: &[Lexeme],
-) -> Result<((Reference, Vec<Expr>), &[Lexeme]), Stop<'_>>
-    ensures { Gives (λ x. ((x.0.0, expressions_of (map expression_tree x.0.1.items)), x.1.now)) result (read (reference left) tokens.now) }
+) -> Result<((Box<Reference>, Vec<Expr>), &[Lexeme]), Stop<'_>>
+    ensures { Gives (λ x. ((x.0.0.value, expressions_of (map expression_tree x.0.1.items)), x.1.now)) result (read (reference left) tokens.now) }
 {
     if left == 0 {
         flat_reference(alloc, tokens)

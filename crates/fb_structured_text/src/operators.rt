@@ -3,7 +3,7 @@ ghost use Rattle.fb_forms.specs.Form.{as_value, one};
 ghost use Rattle.fb_forms.specs.Gives.{Gives};
 ghost use Rattle.fb_forms.specs.Reading.{first, is_next, read};
 ghost use Rattle.fb_structured_text.specs.Expression.{literal};
-ghost use Rattle.fb_structured_text.specs.Operators.{binary_operator, binary_use, operators, signs, unary_operator, unary_use};
+ghost use Rattle.fb_structured_text.specs.Operators.{binary_operator, binary_use, next_strength, operators, signs, strength_of, unary_operator, unary_use};
 ghost use Rattle.fb_tree.specs.Expression.{expression_tree};
 ghost use Rattle.std.specs.Prelude.{◌≡◌, ◌<◌};
 
@@ -37,6 +37,33 @@ pub fn operators(strength: u8) -> &'static [Kind]
     ensures { result.now ≡ operators strength }
 {
     STRENGTHS[strength as usize]
+}
+
+/// The strength of an operator between operands, 8 of any other token.
+fn strength_of(kind: Kind) -> u8
+    ensures { result ≡ strength_of kind }
+{
+    match kind {
+        Kind::Or => 0,
+        Kind::Xor => 1,
+        Kind::Ampersand | Kind::And => 2,
+        Kind::Equal | Kind::NotEqual => 3,
+        Kind::Less | Kind::Greater | Kind::LessEqual | Kind::GreaterEqual => 4,
+        Kind::Plus | Kind::Minus => 5,
+        Kind::Times | Kind::Divide | Kind::Mod => 6,
+        Kind::Power => 7,
+        _ => 8,
+    }
+}
+
+/// The strength of the operator that comes next, 8 where none comes.
+pub fn next_strength(tokens: &[Lexeme]) -> u8
+    ensures { result ≡ next_strength tokens.now }
+{
+    match tokens.first() {
+        Some(token) => strength_of(token.kind),
+        None => 8,
+    }
 }
 
 fn unary_operator(kind: Kind) -> UnaryOperator

@@ -4,12 +4,12 @@ ghost use Rattle.fb_forms.specs.Reading.{read};
 ghost use Rattle.fb_lexemes.specs.Lexemes.{name_use};
 ghost use Rattle.fb_structured_text.specs.Expression.{flat_reference, member_name, variable_of};
 ghost use Rattle.fb_tree.specs.Expression.{expression_tree, expressions_of};
-ghost use Rattle.std.specs.Prelude.{◌≡◌, map, option_map};
+ghost use Rattle.std.specs.Prelude.{◌≡◌, IfOk, map, option_map};
 
 use fb_forms::{Stop, across, is_next, key, name};
 use fb_lexemes::{Kind, Lexeme};
 use fb_tree::{Expr, Reference};
-use std::alloc::Global;
+use std::alloc::{AllocError, Global};
 
 /// A name, and the name behind a point where one is written.
 #[tactic(auto, unfolding(crate::specs::Expression::member_name))]
@@ -26,10 +26,14 @@ pub fn member_name(tokens: &[Lexeme]) -> Result<((&Lexeme, Option<&Lexeme>), &[L
 }
 
 /// The variable of these names.
-pub fn variable(name: &Lexeme, member: Option<&Lexeme>) -> Reference
-    ensures { result ≡ variable_of (name_use name.now) (option_map (λ m. name_use m.now) member.entry) }
+pub fn variable(
+    alloc: Global,
+    name: &Lexeme,
+    member: Option<&Lexeme>,
+) -> Result<Box<Reference>, AllocError>
+    ensures { IfOk result (λ v. v.value ≡ variable_of (name_use name.now) (option_map (λ m. name_use m.now) member.entry)) }
 {
-    match member {
+    let variable = match member {
         Some(member) => Reference {
             name: name.name_use(),
             member: Some(member.name_use()),
@@ -40,7 +44,8 @@ pub fn variable(name: &Lexeme, member: Option<&Lexeme>) -> Reference
             member: None,
             span: name.span,
         },
-    }
+    };
+    Ok(Box::new(alloc, variable)?)
 }
 
 /// A variable without subscripts.
@@ -48,9 +53,10 @@ pub fn variable(name: &Lexeme, member: Option<&Lexeme>) -> Reference
 pub fn flat_reference(
     alloc: Global,
     tokens: &[Lexeme],
-) -> Result<((Reference, Vec<Expr>), &[Lexeme]), Stop<'_>>
-    ensures { Gives (λ x. ((x.0.0, expressions_of (map expression_tree x.0.1.items)), x.1.now)) result (read flat_reference tokens.now) }
+) -> Result<((Box<Reference>, Vec<Expr>), &[Lexeme]), Stop<'_>>
+    ensures { Gives (λ x. ((x.0.0.value, expressions_of (map expression_tree x.0.1.items)), x.1.now)) result (read flat_reference tokens.now) }
 {
     let ((name, member), rest) = member_name(tokens)?;
-    Ok(((variable(name, member), Vec::new(alloc)), rest))
+    let variable = variable(alloc, name, member)?;
+    Ok(((variable, Vec::new(alloc)), rest))
 }

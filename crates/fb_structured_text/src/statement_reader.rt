@@ -32,7 +32,7 @@ use crate::expression_reader::{LEVELS, expression, reference};
 use crate::labels::{begins_label, labels};
 use fb_forms::{Stop, is_next, key, name};
 use fb_lexemes::{Kind, Lexeme};
-use fb_tree::{Expr, Stmt};
+use fb_tree::{Counting, Expr, Stmt};
 use std::alloc::Global;
 
 /// A word with `;` behind it.
@@ -243,7 +243,8 @@ fn arms(
     ensures { Gives (λ x. (map (λ a. (expression_tree a.0, map statement_tree a.1.items)) x.0.items, x.1.now)) result (read (arms (expression left) (statement (left - 1))) tokens.now) }
 {
     let (first, mut rest) = arm(alloc, Kind::If, left, tokens)?;
-    let mut arms = Vec::new(alloc);
+    // Most have no `ELSIF`.
+    let mut arms = Vec::with_capacity(alloc, 1)?;
     arms.push(first)?;
     while is_next(rest, &[Kind::Elsif]) {
         let (next, behind) = arm(alloc, Kind::Elsif, left, rest)?;
@@ -329,7 +330,13 @@ fn for_statement(alloc: Global, left: u8, tokens: &[Lexeme]) -> Result<(Stmt, &[
     let (to, rest) = announced(alloc, Kind::To, left, rest)?;
     let (by, rest) = step(alloc, left, rest)?;
     let (body, rest) = enclosed(alloc, Kind::Do, left - 1, Kind::EndFor, rest)?;
-    Ok((Stmt::For(variable.name_use(), from, to, by, body), rest))
+    let counting = Counting {
+        variable: variable.name_use(),
+        from,
+        to,
+        by,
+    };
+    Ok((Stmt::For(Box::new(alloc, counting)?, body), rest))
 }
 
 #[cycle(statement)]

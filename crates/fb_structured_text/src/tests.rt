@@ -174,10 +174,10 @@ fn parts_of_statements(rt: HostRuntime) -> Result<(), Fail> {
     };
     assert_eq!(rt; (arms.len(), otherwise.len()), (2, 0));
     assert_eq!(rt; (arms[0].1.len(), arms[1].1.len()), (1, 0));
-    let Stmt::For(variable, _, _, step, body) = &body[2] else {
+    let Stmt::For(counting, body) = &body[2] else {
         return Err(Fail::from("FOR"));
     };
-    assert_eq!(rt; variable.name.as_str(), "I");
-    assert_eq!(rt; (step.is_some(), body.len()), (true, 1));
+    assert_eq!(rt; counting.variable.name.as_str(), "I");
+    assert_eq!(rt; (counting.by.is_some(), body.len()), (true, 1));
     Ok(())
 }

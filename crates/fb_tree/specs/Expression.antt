@@ -39,7 +39,7 @@ operands_of (o ∷ os) = operand_then o.0 o.1 (operands_of os)
 -- one level, with the expression of each part in its place
 abbrev pub expression_step : Expr-F Expression → Expression
 expression_step (Literal l) = literal_expression l
-expression_step (Reference r subscripts) = reference_expression r (expressions_of subscripts.items)
+expression_step (Reference r subscripts) = reference_expression (box_value r) (expressions_of subscripts.items)
 expression_step (Unary operator e) = unary_expression operator (box_value e)
 expression_step (Row e operands) = row_expression (box_value e) (operands_of operands.items)
 expression_step (Parentheses e span) = parentheses (box_value e) span

@@ -1,5 +1,5 @@
 -- Statements without where they lie in memory.
-use Rattle.std.specs.Prelude.{List, [], ◌∷◌, map, Option, option_map}
+use Rattle.std.specs.Prelude.{List, [], ◌∷◌, map, Option, option_map, box_value}
 use Rattle.fb_text.specs.declared.token.Span.{Span}
 use Rattle.fb_text.specs.declared.name.NameUse.{NameUse}
 use Rattle.fb_tree.specs.Expression.{Expression, Expressions, expressions_of, expression_tree}
@@ -43,12 +43,14 @@ arms_of (a ∷ others) = arm_then a.0 (statements_of a.1) (arms_of others)
 -- one level, with the statement of each part in its place
 abbrev pub statement_step : Stmt-F Statement → Statement
 statement_step Empty = empty
-statement_step (Assign r subscripts place value) = assignment r (expressions_of (map expression_tree subscripts.items)) place (expression_tree value)
+statement_step (Assign r subscripts place value) = assignment (box_value r) (expressions_of (map expression_tree subscripts.items)) place (expression_tree value)
 statement_step Exit = exit
 statement_step Return = return
 statement_step (If arms otherwise) = choice (arms_of (map (λ a. (expression_tree a.0, a.1.items)) arms.items)) (statements_of otherwise.items)
 statement_step (Case selector cases otherwise) = selection (expression_tree selector) (statements_of cases.items) (statements_of otherwise.items)
-statement_step (For name from to by body) = count name (expression_tree from) (expression_tree to) (option_map expression_tree by) (statements_of body.items)
+statement_step (For counting body) =
+    let c = box_value counting in
+    count c.variable (expression_tree c.from) (expression_tree c.to) (option_map expression_tree c.by) (statements_of body.items)
 statement_step (While condition body) = while_loop (expression_tree condition) (statements_of body.items)
 statement_step (Repeat body condition) = repeat_loop (statements_of body.items) (expression_tree condition)
 

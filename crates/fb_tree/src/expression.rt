@@ -59,7 +59,7 @@ pub struct Reference {
 pub enum Expr {
     Literal(Literal),
     /// A variable with its subscripts.
-    Reference(Reference, Vec<Expr>),
+    Reference(Box<Reference>, Vec<Expr>),
     Unary(UnaryUse, Box<Expr>),
     /// An operand, and the operators of one strength that follow it, each with its operand.
     Row(Box<Expr>, Vec<(BinaryUse, Expr)>),

@@ -23,5 +23,5 @@ pub use interface::{Event, Interface, Section, Side, TypeForm, TypeUse, Variable
 pub use kinds::{UnitKind, kind};
 pub use mention::mentions;
 pub use network::{Connection, End, Instance, Network, Parameter, Role, Sort};
-pub use statement::Stmt;
+pub use statement::{Counting, Stmt};
 pub use system::{Application, Device, Mapping, Resource, System};

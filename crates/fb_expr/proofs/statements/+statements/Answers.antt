@@ -3,6 +3,7 @@ use Rattle.std.proofs.lemmas.Grind.{common_steps}
 use Rattle.std.proofs.lemmas.Result.{on_ok_weaker}
 use Rattle.fb_iface.specs.declared.fault.Fault.{Fault}
 use Rattle.fb_tree.specs.Expression.{expression_tree}
+use Rattle.fb_tree.specs.declared.statement.Counting.{Counting}
 use Rattle.fb_tree.specs.declared.statement.Stmt.{Stmt}
 use Rattle.fb_tree.specs.Statement.{arms_of, statement_tree, statements_of}
 use Rattle.fb_iface.specs.Kept.{scope_in}
@@ -45,17 +46,19 @@ report_statement-returns-in_ok-report_statements-in-Case t c =
     ∙ ap (λ s. old ++ statement_faults scope (statement_tree s)) (sym c.in-Case.is))
     c.report_statements-in-Case-2.ensures
 
-pub report_statement-returns-in_ok-report_range-in-For : goal.report_statement-returns-in_ok-report_range-in-For
-report_statement-returns-in_ok-report_range-in-For t c =
+pub report_statement-returns-in_ok-report_counting-in-For : goal.report_statement-returns-in_ok-report_counting-in-For
+report_statement-returns-in_ok-report_counting-in-For t c =
     let scope = scope_in c.args.scope.now in
     let old = c.args.found.now.items in
     let done = λ (ss : List Stmt). statements_faults scope (statements_of (map statement_tree ss)) in
-    let reported = c.in_ok-report_range-in-For.ensures ∙ ap (λ l. l ++ range_faults scope (expression_tree c.in-For.from) (expression_tree c.in-For.to) (option_map expression_tree c.in-For.by)) c.in_ok-report_counter-in-For.ensures in
+    let counted = λ (k : Counting). counter_faults scope k.variable ++ range_faults scope (expression_tree k.from) (expression_tree k.to) (option_map expression_tree k.by) in
+    let counting = c.in-For.counting.value in
+    let reported : c.report_counting.new.found.items ≡ old ++ counted counting = c.in_ok-report_counting-in-For.ensures ∙ ap (λ k. old ++ counted k) c.deref-in-For.ensures in
     on_ok_weaker c.report_statements-in-For.result
     (λ e. e
     ∙ (λ i. reported i ++ done (c.as_slice-in-For.ensures.value i))
-    ∙ three_joined old (counter_faults scope c.in-For.name) (range_faults scope (expression_tree c.in-For.from) (expression_tree c.in-For.to) (option_map expression_tree c.in-For.by)) (done c.in-For.body.items)
-    ∙ ap (λ s. old ++ statement_faults scope s) (sym (tree-For c.in-For.name c.in-For.from c.in-For.to c.in-For.by c.in-For.body))
+    ∙ append_assoc old (counted counting) (done c.in-For.body.items)
+    ∙ ap (λ s. old ++ statement_faults scope s) (sym (tree-For c.in-For.counting c.in-For.body))
     ∙ ap (λ s. old ++ statement_faults scope (statement_tree s)) (sym c.in-For.is))
     c.report_statements-in-For.ensures
 

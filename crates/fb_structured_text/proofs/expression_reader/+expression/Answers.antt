@@ -1,4 +1,4 @@
-use Rattle.std.proofs.Common.{◌≡◌, ◌<◌, ◌+◌, ◌∷◌, [], true, false, Ok, List, map, drop, ap, sym, refl, ◌∙◌, arith}
+use Rattle.std.proofs.Common.{◌≡◌, ◌+◌, ◌∷◌, [], true, false, Ok, List, map, drop, ap, sym, refl, ◌∙◌, arith}
 use Rattle.std.proofs.lemmas.Result.{err_from_is_err_and}
 use Rattle.fb_lexemes.specs.declared.kind.Kind.{Kind}
 use Rattle.fb_lexemes.specs.declared.kind.Kind.TheVariants.{Comma}
@@ -11,7 +11,7 @@ use Rattle.fb_tree.specs.declared.expression.Expr.TheFolds.{fold-roll-Expr}
 use Rattle.fb_tree.specs.Expression.{Expression, row_expression, operands_of, expression_step, expression_tree}
 use Rattle.fb_structured_text.specs.Expression.{expression, expressions, operand, primary, rows, unary}
 use Rattle.fb_structured_text.specs.Operators.{operators, strengths}
-use Rattle.fb_structured_text.proofs.Rows.{begins-operand, row_one, row_done, row_fails, row_first_fails, rows_step, rows_none, expression_is, primary_reference, primary_parentheses}
+use Rattle.fb_structured_text.proofs.Rows.{begins-operand, level_passed, level_read, level_fails, rows_first_fails, rows_none, expression_is, primary_reference, primary_parentheses}
 use Rattle.fb_forms.specs.Form.{many}
 use Rattle.fb_forms.specs.Reading.{is_next, read}
 use Rattle.fb_forms.specs.Words.{further}
@@ -56,7 +56,7 @@ operands-loop-alloc-preserved t c =
 
 pub operands-returns-in_err-next : goal.operands-returns-in_err-next
 operands-returns-in_err-next t c =
-    let p = err_from_is_err_and c.from_residual.result c.from_residual.ensures.1 in
+    let p = err_from_is_err_and c.from_residual-in_err-next.result c.from_residual-in_err-next.ensures.1 in
     let kinds = operators c.args.strength in
     let x = rows (drop (c.args.strength + 1) strengths) (unary (primary c.args.left)) in
     let next : is_next kinds c.loop-alloc.rest.now ≡ true = ap (λ (k : List Kind). is_next k c.loop-alloc.rest.now) (sym c.operators.ensures) ∙ sym c.is_next.ensures ∙ c.loop-alloc-test.true in
@@ -70,37 +70,39 @@ operands-returns t c =
     let next : is_next kinds c.loop-alloc.rest.now ≡ false = ap (λ (k : List Kind). is_next k c.loop-alloc.rest.now) (sym c.operators.ensures) ∙ sym c.is_next.ensures ∙ c.loop-alloc-test.false in
     push_done (operand kinds x) kinds (map pair_tree c.loop-alloc.operands.items) c.loop-alloc.rest.now (read (many (operand kinds x)) c.args.tokens.now) (begins-operand kinds x) next c.loop-alloc.invariant
 
-pub row-returns-then-strength-eq8 : goal.row-returns-then-strength-eq8
-row-returns-then-strength-eq8 t c = rw (c.if-strength-eq8.true, rows_none (unary (primary c.args.left))) c.unary.ensures
-
-pub row-returns-in_err-first : goal.row-returns-in_err-first
-row-returns-in_err-first t c =
+pub row-returns-in_err-value : goal.row-returns-in_err-value
+row-returns-in_err-value t c =
     let p = err_from_is_err_and c.from_residual.result c.from_residual.ensures.1 in
-    let within : c.args.strength < 8 = omega arith in
-    rw (p.1, p.2, rows_step c.args.strength (unary (primary c.args.left)) within)
-    (row_first_fails (operators c.args.strength) (rows (drop (c.args.strength + 1) strengths) (unary (primary c.args.left))) c.args.tokens.now c.in_err-first.field-0.0 c.in_err-first.ensures)
+    rw (p.1, p.2) (rows_first_fails c.args.strength (unary (primary c.args.left)) c.args.tokens.now c.in_err-value.field-0.0 c.requires c.in_err-value.ensures)
 
-pub row-returns-then-not-is_next : goal.row-returns-then-not-is_next
-row-returns-then-not-is_next t c =
-    let within : c.args.strength < 8 = omega arith in
-    let over : is_next (operators c.args.strength) c.in_ok-first.rest.now ≡ false = ap (λ (k : List Kind). is_next k c.in_ok-first.rest.now) (sym c.operators.ensures) ∙ sym c.is_next.ensures ∙ c.if-not-is_next.true in
-    rw (rows_step c.args.strength (unary (primary c.args.left)) within)
-    (row_one (operators c.args.strength) (rows (drop (c.args.strength + 1) strengths) (unary (primary c.args.left))) c.args.tokens.now (expression_tree c.in_ok-first.first) c.in_ok-first.rest.now c.in_ok-first.ensures over)
+pub row-loop-level-init : goal.row-loop-level-init
+row-loop-level-init t c = record { low = c.requires; high = omega arith; so_far = rw (rows_none (unary (primary c.args.left))) c.in_ok-value.ensures }
 
 pub row-returns-in_err-operands : goal.row-returns-in_err-operands
 row-returns-in_err-operands t c =
     let p = err_from_is_err_and c.from_residual-in_err-operands.result c.from_residual-in_err-operands.ensures.1 in
-    let within : c.args.strength < 8 = omega arith in
-    rw (p.1, p.2, rows_step c.args.strength (unary (primary c.args.left)) within)
-    (row_fails (operators c.args.strength) (rows (drop (c.args.strength + 1) strengths) (unary (primary c.args.left))) c.args.tokens.now (expression_tree c.in_ok-first.first) c.in_ok-first.rest.now c.in_err-operands.field-0.0 c.in_ok-first.ensures c.in_err-operands.ensures)
+    rw (p.1, p.2)
+    (level_fails c.args.strength c.loop-level.level (unary (primary c.args.left)) c.args.tokens.now (expression_tree c.loop-level.value) c.loop-level.rest.now c.in_err-operands.field-0.0
+    c.loop-level-test.true c.loop-level.invariant.high c.loop-level.invariant.so_far c.in_err-operands.ensures)
 
-pub row-returns : goal.row-returns
+pub row-loop-level-preserved-then-next_strength-level : goal.row-loop-level-preserved-then-next_strength-level
 unfolding roll-Expr roll
-row-returns t c =
-    let within : c.args.strength < 8 = omega arith in
-    let next : is_next (operators c.args.strength) c.in_ok-first.rest.now ≡ true = ap (λ (k : List Kind). is_next k c.in_ok-first.rest.now) (sym c.operators.ensures) ∙ sym c.is_next.ensures ∙ c.if-not-is_next.false in
-    rw (rows_step c.args.strength (unary (primary c.args.left)) within)
-    (row_done (operators c.args.strength) (rows (drop (c.args.strength + 1) strengths) (unary (primary c.args.left))) c.args.tokens.now (expression_tree c.in_ok-first.first) c.in_ok-first.rest.now (map pair_tree c.in_ok-operands.operands.items) c.in_ok-operands.rest.now
-    c.in_ok-first.ensures next c.in_ok-operands.ensures
-    ∙ ap (λ (z : Expr). Ok (row_expression (expression_tree z) (operands_of (map pair_tree c.in_ok-operands.operands.items)), c.in_ok-operands.rest.now)) (sym c.in_ok-new.ensures.ok)
-    ∙ ap (λ (z : Expression). Ok (z, c.in_ok-operands.rest.now)) (sym (fold-roll-Expr Expression expression_step (RowF c.in_ok-new.field-0 c.in_ok-operands.operands))))
+row-loop-level-preserved-then-next_strength-level t c =
+    let read_on = level_read c.loop-level.level (unary (primary c.args.left)) c.args.tokens.now (expression_tree c.loop-level.value) c.loop-level.rest.now (map pair_tree c.in_ok-operands.operands.items) c.in_ok-operands.behind.now
+    (omega arith) c.loop-level.invariant.high c.loop-level.invariant.so_far (sym c.next_strength.ensures ∙ c.if-next_strength-level.true) c.in_ok-operands.ensures in
+    record {
+      low = omega arith;
+      high = omega arith;
+      so_far = read_on
+          ∙ ap (λ (z : Expr). Ok (row_expression (expression_tree z) (operands_of (map pair_tree c.in_ok-operands.operands.items)), c.in_ok-operands.behind.now)) (sym c.in_ok-new.ensures.ok)
+          ∙ ap (λ (z : Expression). Ok (z, c.in_ok-operands.behind.now)) (sym (fold-roll-Expr Expression expression_step (RowF c.in_ok-new.field-0 c.in_ok-operands.operands)));
+    }
+
+pub row-loop-level-preserved : goal.row-loop-level-preserved
+row-loop-level-preserved t c =
+    record {
+      low = omega arith;
+      high = omega arith;
+      so_far = level_passed c.loop-level.level (unary (primary c.args.left)) c.args.tokens.now (expression_tree c.loop-level.value) c.loop-level.rest.now
+          (omega arith) c.loop-level.invariant.high c.loop-level.invariant.so_far (λ same. c.if-next_strength-level.false (c.next_strength.ensures ∙ same));
+    }

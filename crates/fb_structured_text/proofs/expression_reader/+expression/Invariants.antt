@@ -1,4 +1,4 @@
-use Rattle.std.proofs.Common.{◌≡◌, ◌+◌, ◌-◌, ◌*◌, length, map, drop}
+use Rattle.std.proofs.Common.{◌≡◌, ◌≤◌, ◌+◌, ◌-◌, ◌*◌, Ok, length, map, drop}
 use Rattle.fb_tree.specs.Expression.{expression_tree}
 use Rattle.fb_structured_text.specs.Expression.{expression, expressions, operand, primary, rows, unary}
 use Rattle.fb_structured_text.specs.Operators.{operators, strengths}
@@ -14,6 +14,17 @@ decreases-expression l = l.left * 64 + 40
 
 abbrev pub decreases-row : goal.decreases-row
 decreases-row l = l.left * 64 + (39 - 3 * l.strength)
+
+-- the operators of this level and of the stronger ones were read
+abbrev pub invariant-row-loop-level : goal.invariant-row-loop-level
+invariant-row-loop-level l = record {
+  low : l.strength ≤ l.level;
+  high : l.level ≤ 8;
+  so_far : read (rows (drop l.level strengths) (unary (primary l.left))) l.tokens ≡ Ok (expression_tree l.value, l.rest);
+}
+
+abbrev pub decreases-row-loop-level : goal.decreases-row-loop-level
+decreases-row-loop-level l = l.level
 
 abbrev pub decreases-operands : goal.decreases-operands
 decreases-operands l = l.left * 64 + (38 - 3 * l.strength)
