@@ -1,7 +1,7 @@
 -- What a run of the program has said.
 use Rattle.std.specs.Prelude.{◌≡◌, ◌⊎◌, ℕ, List, []}
 use Rattle.clap.specs.Words.{Text}
-use Rattle.fb_bench.specs.Story.{Story}
+use Rattle.fb_wire.specs.Bench.Story.{Story}
 use Rattle.fb_wire.specs.Script.{IsFrontOf, script}
 use Rattle.bench61499.specs.Words.{Asks}
 use Rattle.bench61499.specs.declared.asked.Settings.TheVariants.{Script}

@@ -4,12 +4,6 @@
 mod arguments;
 mod asked;
 mod fault;
-#[cfg(test)]
-mod library_tests;
-#[cfg(test)]
-mod line_tests;
-#[cfg(test)]
-mod net_tests;
 mod program;
 #[cfg(test)]
 mod tests;

@@ -7,7 +7,7 @@ use crate::arguments::settings;
 use crate::asked;
 use crate::fault::fault_of;
 use clap::error::ErrorKind;
-use fb_bench::{Bench, Limits};
+use fb_wire::bench::{Bench, Limits};
 use fb_wire::{Feed, Sink, run_script};
 use std::alloc::Global;
 use std::io::Write;

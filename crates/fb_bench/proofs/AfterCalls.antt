@@ -1,7 +1,7 @@
 -- What holds after any calls.
 use Rattle.std.proofs.Common.{◌≡◌, ℕ, Bool, true, false, ◌&&◌, not, List, [], refl, sym, ap, ◌∙◌, cond}
 use Rattle.std.specs.List.{list_any}
-use Rattle.fb_library.specs.Texts.{Texts, Edit}
+use Rattle.fb_jobs.specs.Library.Texts.{Texts, Edit}
 use Rattle.fb_jobs.specs.declared.key.Key.{Key}
 use Rattle.fb_jobs.specs.Keys.{has_key, scratch, needs, Finding}
 use Rattle.fb_jobs.specs.Reads.{is_among, Agree}

@@ -5,10 +5,10 @@ use Rattle.std.specs.BTreeMap.{is_at}
 use Rattle.std.proofs.lemmas.Cmp.{tied_itself}
 use Rattle.std.proofs.lemmas.List.{drop_all, map-id}
 use Rattle.fb_text.specs.Order.{name_cmp}
-use Rattle.fb_library.proofs.Names.{name_total, exact_name}
-use Rattle.fb_iface.specs.declared.fault.Fault.{Fault}
-use Rattle.fb_iface.specs.Fault.{fault_cmp, fault_cmp_total}
-use Rattle.fb_iface.proofs.FaultLemmas.{fault_cmp-exact}
+use Rattle.fb_jobs.proofs.Library.Names.{name_total, exact_name}
+use Rattle.fb_jobs.specs.Iface.declared.fault.Fault.{Fault}
+use Rattle.fb_jobs.specs.Iface.Fault.{fault_cmp, fault_cmp_total}
+use Rattle.fb_jobs.proofs.Iface.FaultLemmas.{fault_cmp-exact}
 use Rattle.fb_jobs.specs.declared.key.Key.{Key}
 use Rattle.fb_jobs.specs.KeyOrder.{same_key}
 use Rattle.fb_bench.proofs.Order.{is_equal, keys_equal, same_itself}

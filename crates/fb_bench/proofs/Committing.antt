@@ -3,7 +3,7 @@ use Rattle.std.proofs.Common.{◌≡◌, ℕ, ◌+◌, ◌<◌, ◌≤◌, true,
 use Rattle.std.proofs.lemmas.Bool.Decides.{nat_tests}
 use Rattle.std.specs.BTreeMap as tree
 use Rattle.std.specs.BTreeSet as set
-use Rattle.fb_library.specs.Texts.{Texts, Held, held, Edit, Puts, Removes, unit_of, all_edited}
+use Rattle.fb_jobs.specs.Library.Texts.{Texts, Held, held, Edit, Puts, Removes, unit_of, all_edited}
 use Rattle.fb_jobs.specs.declared.key.Key.{Key}
 use Rattle.fb_jobs.specs.KeyOrder.{key_cmp}
 use Rattle.fb_bench.specs.declared.entry.Entry.{Entry}

@@ -10,7 +10,7 @@ use Rattle.std.proofs.lemmas.List.Kept.{IsStrictlySortedBy-filter}
 use Rattle.std.proofs.lemmas.List.Sums.{length-filter}
 use Rattle.fb_text.specs.Order.{in_order}
 use Rattle.fb_text.proofs.OrderLemmas.{in_order-same}
-use Rattle.fb_library.specs.Texts.{Texts, Edit, all_edited, names_of}
+use Rattle.fb_jobs.specs.Library.Texts.{Texts, Edit, all_edited, names_of}
 use Rattle.fb_jobs.specs.declared.key.Key.{Key}
 use Rattle.fb_jobs.specs.Keys.{has_key}
 use Rattle.fb_jobs.specs.KeyOrder.{key_cmp}

@@ -6,9 +6,9 @@ use Rattle.std.specs.Ordering.{is_eq, is_lt, is_gt, ordering_reverse}
 use Rattle.std.specs.declared.cmp.Ordering.{Ordering}
 use Rattle.std.specs.declared.cmp.Ordering.TheVariants.{Less, Equal, Greater}
 use Rattle.std.proofs.lemmas.List.Folds.{list_any-append}
-use Rattle.fb_library.proofs.Names.{exact_name}
+use Rattle.fb_jobs.proofs.Library.Names.{exact_name}
 use Rattle.std.specs.Option.{option_map}
-use Rattle.fb_library.specs.Texts.{Texts, held, names_of, text_in}
+use Rattle.fb_jobs.specs.Library.Texts.{Texts, held, names_of, text_in}
 use Rattle.fb_text.specs.Order.{name_cmp}
 use Rattle.fb_jobs.specs.Reads.{is_among}
 use Rattle.fb_jobs.specs.declared.key.Key.{Key}

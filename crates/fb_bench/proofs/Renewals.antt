@@ -3,7 +3,7 @@ use Rattle.std.proofs.Common.{◌≡◌, ℕ, Bool, true, false, ◌||◌, ◌&&
 use Rattle.std.specs.List.{list_any}
 use Rattle.std.specs.BTreeMap as tree
 use Rattle.std.specs.BTreeSet as set
-use Rattle.fb_library.specs.Texts.{Texts, Edit, unit_of, all_edited, text_in}
+use Rattle.fb_jobs.specs.Library.Texts.{Texts, Edit, unit_of, all_edited, text_in}
 use Rattle.std.specs.Option.{option_map}
 use Rattle.fb_jobs.specs.declared.key.Key.{Key}
 use Rattle.fb_jobs.specs.declared.key.Kind.{Kind}

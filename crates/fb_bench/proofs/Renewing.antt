@@ -8,11 +8,11 @@ use Rattle.std.specs.Ordering.{is_eq, match_ordering}
 use Rattle.std.specs.declared.sync.Arc.{Arc}
 use Rattle.std.specs.declared.alloc.Global.{Global}
 use Rattle.std.specs.declared.cmp.Ordering.TheVariants.{Less, Equal, Greater}
-use Rattle.fb_library.proofs.Names.{exact_name, name_total}
+use Rattle.fb_jobs.proofs.Library.Names.{exact_name, name_total}
 use Rattle.std.proofs.lemmas.List.Folds.{list_any-append}
 use Rattle.std.proofs.lemmas.Cmp.{eq_by_cmp_equiv}
 use Rattle.std.specs.Option.{option_map}
-use Rattle.fb_library.specs.Texts.{Texts, Held, held, text_in, Edit, Puts, Removes, unit_of, edited, all_edited}
+use Rattle.fb_jobs.specs.Library.Texts.{Texts, Held, held, text_in, Edit, Puts, Removes, unit_of, edited, all_edited}
 use Rattle.fb_text.specs.Order.{name_cmp}
 use Rattle.fb_jobs.specs.declared.key.Key.{Key}
 use Rattle.fb_jobs.specs.declared.value.Value.{Value}

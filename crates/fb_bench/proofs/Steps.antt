@@ -5,10 +5,10 @@ use Rattle.fb_bench.specs.declared.answers.Delivered.{Delivered}
 use Rattle.fb_bench.specs.declared.answers.GivenBack.TheVariants.{Returned, NothingOut}
 use Rattle.std.specs.BTreeMap as tree
 use Rattle.std.specs.BTreeSet as set
-use Rattle.fb_library.specs.Texts.{Texts}
+use Rattle.fb_jobs.specs.Library.Texts.{Texts}
 use Rattle.fb_jobs.specs.declared.key.Key.{Key}
 use Rattle.fb_bench.specs.declared.entry.Entry.{Entry}
-use Rattle.fb_library.specs.Texts.{Edit}
+use Rattle.fb_jobs.specs.Library.Texts.{Edit}
 use Rattle.fb_jobs.specs.Reads.{Order, Seen}
 use Rattle.fb_bench.specs.Machine.{keys_of, State, Call, Reply, after, reply, ToAsk, OfAsk, shown, ToTake, OfTake, taken, next, after_take, order_for, ToDeliver, OfDeliver, deliver_answer, after_deliver, ToGiveBack, OfGiveBack, give_back_answer, after_give_back, removed, ToCommit, OfCommit, commit_answer, after_commit}
 use Rattle.fb_bench.specs.Story.{Record, Log, Story, start, replay, replies, calls_of, state_of, recorded, logged, record_after, record_of, IsReplay}

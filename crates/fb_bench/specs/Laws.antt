@@ -1,6 +1,6 @@
 -- What holds of a workbench after any calls.
 use Rattle.std.specs.Prelude.{◌≡◌, ℕ, Bool, true, false, not, List, if◌then◌else◌}
-use Rattle.fb_library.specs.Texts.{Texts, text_at}
+use Rattle.fb_jobs.specs.Library.Texts.{Texts, text_at}
 use Rattle.fb_jobs.specs.declared.key.Key.{Key}
 use Rattle.fb_jobs.specs.Keys.{has_key, scratch}
 use Rattle.fb_jobs.specs.Reads.{is_among}

@@ -3,7 +3,7 @@ use Rattle.std.specs.Prelude.{ℕ, ◌+◌, Bool, ◌&&◌, ◌||◌, not, List,
 use Rattle.std.specs.List.{list_any, flat_map, enumerate_from}
 use Rattle.std.specs.Option.{option_map}
 use Rattle.std.specs.Ordering.{is_lt}
-use Rattle.fb_library.specs.Texts.{Texts, Held, held, Edit, Puts, Removes, unit_of, names_of, all_edited}
+use Rattle.fb_jobs.specs.Library.Texts.{Texts, Held, held, Edit, Puts, Removes, unit_of, names_of, all_edited}
 use Rattle.fb_jobs.specs.declared.key.Kind.{Kind}
 use Rattle.fb_jobs.specs.declared.key.Kind.TheVariants.{Faults, Net, Deploy}
 use Rattle.fb_jobs.specs.declared.key.Key.{Key}

@@ -1,8 +1,8 @@
 -- Records of the program as what they say.
 use Rattle.std.specs.Prelude.{List, map, take, Option, Some, None}
-use Rattle.fb_library.specs.Texts.{Edit}
-use Rattle.fb_library.specs.declared.change.Change.{Change}
-use Rattle.fb_library.specs.Changes.{edits_of}
+use Rattle.fb_jobs.specs.Library.Texts.{Edit}
+use Rattle.fb_jobs.specs.Library.declared.change.Change.{Change}
+use Rattle.fb_jobs.specs.Library.Changes.{edits_of}
 use Rattle.fb_jobs.specs.Reads.{Order}
 use Rattle.fb_jobs.specs.Values.{all_seen, finding_of}
 use Rattle.fb_bench.specs.Machine as machine

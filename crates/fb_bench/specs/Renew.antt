@@ -9,7 +9,7 @@ use Rattle.fb_jobs.specs.declared.key.Key.{Key}
 use Rattle.fb_jobs.specs.Keys.{has_key, needs}
 use Rattle.fb_jobs.specs.KeyOrder.{key_cmp, same_key}
 use Rattle.fb_jobs.specs.Reads.{is_among}
-use Rattle.fb_library.specs.Texts.{Texts, Edit, unit_of}
+use Rattle.fb_jobs.specs.Library.Texts.{Texts, Edit, unit_of}
 use Rattle.fb_bench.specs.Machine.{all_keys, keys_of}
 use Rattle.fb_bench.specs.declared.entry.Entry.{Entry}
 use Rattle.fb_bench.specs.declared.entry.Renewed.{Renewed}

@@ -11,8 +11,8 @@ use crate::log::History;
 use crate::peek::Shown;
 use crate::record::{Call, Record, Reply, Request, Wanted};
 use crate::renewal::{Renewal, carry_out, make_room, replace, take_back};
+use fb_jobs::library::{Change, Library};
 use fb_jobs::{Finished, Job, Key, Read, Value, current_reads, locality};
-use fb_library::{Change, Library};
 use fb_text::Name;
 use std::alloc::{AllocError, Global};
 use std::collections::{BTreeMap, BTreeSet};
@@ -61,7 +61,7 @@ impl Bench {
     ghost use Rattle.fb_bench.specs.Peeks.{shown_by, is_pending};
     ghost use Rattle.fb_bench.specs.Due.{is_due};
     ghost use Rattle.fb_bench.specs.Laws.{entry_after};
-    ghost use Rattle.fb_library.specs.Texts.{held, revision_of};
+    ghost use Rattle.fb_jobs.specs.Library.Texts.{held, revision_of};
 
     /// An empty workbench. It keeps the allocator for all its calls.
     pub fn new(alloc: Global, limits: Limits) -> Bench

@@ -1,11 +1,11 @@
 ghost use Rattle.std.specs.Prelude.{◌≡◌, map, take};
-ghost use Rattle.fb_library.specs.Texts.{unit_of};
-ghost use Rattle.fb_library.specs.Changes.{edit_of, edits_of};
+ghost use Rattle.fb_jobs.specs.Library.Texts.{unit_of};
+ghost use Rattle.fb_jobs.specs.Library.Changes.{edit_of, edits_of};
 ghost use Rattle.fb_jobs.specs.Reads.{is_among};
 ghost use Rattle.fb_bench.specs.Machine.{first_repeated, misfit, first_misfit, refusal};
 
 use crate::answers::Committed;
-use fb_library::{Change, Library};
+use fb_jobs::library::{Change, Library};
 use fb_text::{Name, same_name};
 
 /// The most changes of a commit.

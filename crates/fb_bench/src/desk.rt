@@ -3,8 +3,8 @@ ghost use Rattle.fb_bench.specs.Refusals.{as_desk};
 
 use crate::answers::{Asked, Committed, Delivered, GivenBack, Refused, Taken};
 use crate::bench::Bench;
+use fb_jobs::library::Change;
 use fb_jobs::{Finished, Key};
-use fb_library::Change;
 
 /// Why a desk does not record a call.
 #[derive(Clone, Copy, PartialEq, Eq, Debug)]

@@ -3,8 +3,8 @@ ghost use Rattle.std.specs.Prelude.{◌≡◌, ◌++◌, filter, IfOk, OnOk};
 ghost use Rattle.fb_jobs.specs.Keys.{has_key};
 ghost use Rattle.fb_bench.specs.Machine.{keys_of_kind, all_keys, keys_of};
 
+use fb_jobs::library::Library;
 use fb_jobs::{Key, Kind, has_key};
-use fb_library::Library;
 use fb_text::Name;
 use std::alloc::{AllocError, Global};
 

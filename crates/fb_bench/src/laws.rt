@@ -1,5 +1,5 @@
 ghost use Rattle.std.specs.Prelude.{◌≡◌, ℕ, true, List};
-ghost use Rattle.fb_library.specs.Texts.{Texts};
+ghost use Rattle.fb_jobs.specs.Library.Texts.{Texts};
 ghost use Rattle.fb_jobs.specs.declared.key.Key.{Key};
 ghost use Rattle.fb_bench.specs.Machine.{State, Call, reply, after, shown, reaches};
 ghost use Rattle.fb_bench.specs.Story.{start, replay};

@@ -1,7 +1,7 @@
 use crate::answers::{Asked, Committed, Delivered, GivenBack};
 use crate::same::{is_same_call, is_same_reply};
+use fb_jobs::library::Change;
 use fb_jobs::{Finished, Key, Read};
-use fb_library::Change;
 use std::marker::Model;
 
 /// A key with what a job for it has read.

@@ -5,8 +5,8 @@ ghost use Rattle.std.specs.Option.{option_map};
 ghost use Rattle.std.specs.BTreeMap as tree;
 ghost use Rattle.std.specs.BTreeSet as set;
 ghost use Rattle.fb_text.specs.Order.{name_cmp};
-ghost use Rattle.fb_library.specs.Texts.{Texts, unit_of};
-ghost use Rattle.fb_library.specs.Changes.{edits_of};
+ghost use Rattle.fb_jobs.specs.Library.Texts.{Texts, unit_of};
+ghost use Rattle.fb_jobs.specs.Library.Changes.{edits_of};
 ghost use Rattle.fb_jobs.specs.declared.key.Key.{Key};
 ghost use Rattle.fb_jobs.specs.Keys.{has_key, needs};
 ghost use Rattle.fb_jobs.specs.KeyOrder.{key_cmp, same_key};
@@ -16,8 +16,8 @@ ghost use Rattle.fb_bench.specs.Renew.{is_of, is_hit, keys_in, AreAfresh, Writte
 
 use crate::entry::{Entry, Renewed, join, leave};
 use crate::keys::{keys_by_name, only_present, present_keys};
+use fb_jobs::library::{Change, Library};
 use fb_jobs::{Key, has_key, needed};
-use fb_library::{Change, Library};
 use fb_text::Name;
 use std::alloc::{AllocError, Global};
 use std::collections::{BTreeMap, BTreeSet};

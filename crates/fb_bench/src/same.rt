@@ -1,15 +1,15 @@
 //! Whether two records say the same, by content.
 ghost use Rattle.std.specs.Prelude.{◌≡◌, ◌↔◌, IsTrue};
-ghost use Rattle.fb_library.specs.Changes.{edit_of, edits_of};
+ghost use Rattle.fb_jobs.specs.Library.Changes.{edit_of, edits_of};
 ghost use Rattle.fb_jobs.specs.Values.{all_seen, found_in, seen_of, finding_of};
 ghost use Rattle.fb_bench.specs.Records.{order_of, order_in, call_of, shown_in, reply_of};
 
 use crate::answers::{Asked, Committed, Delivered, GivenBack};
 use crate::record::{Call, Reply, Wanted};
-use fb_iface::Fault;
+use fb_jobs::iface::Fault;
+use fb_jobs::library::Change;
+use fb_jobs::parse::Source;
 use fb_jobs::{Key, Read, Value};
-use fb_library::Change;
-use fb_parse::Source;
 use fb_text::{Name, same_name};
 use std::sync::Arc;
 

@@ -1,8 +1,8 @@
 -- Chains of adapters keep the adapter, and stand for links of its events and data.
 use Rattle.std.proofs.Common.{ℕ, ◌≡◌, List, [], ◌∷◌, ◌++◌, ◌⊎◌, inl, inr, refl, sym, ◌∙◌, ap}
 use Rattle.std.specs.Prelude.{Option, option_and_then}
-use Rattle.fb_tree.specs.declared.network.Sort.{Sort}
-use Rattle.fb_tree.specs.declared.network.Sort.TheVariants.{Adapter}
+use Rattle.fb_network.specs.Tree.declared.network.Sort.{Sort}
+use Rattle.fb_network.specs.Tree.declared.network.Sort.TheVariants.{Adapter}
 use Rattle.fb_network.specs.declared.network.End.{End}
 use Rattle.fb_network.specs.Plain.{PlainNetwork}
 use Rattle.fb_network.specs.Network.{View, Place, instance_named, place_of, IsInner, Step, Holds, Within, Chain, One, More, IsLink}

@@ -1,7 +1,7 @@
 -- A chain of a clean network lies inside one subapplication, or crosses one connection of its own.
 use Rattle.std.proofs.Common.{ℕ, ◌≡◌, List, [], ◌∷◌, Some, ◌⊎◌, inl, inr, refl, sym, ◌∙◌, ap, subst}
-use Rattle.fb_tree.specs.declared.network.Sort.{Sort}
-use Rattle.fb_tree.specs.declared.interface.Side.TheVariants.{Input, Output}
+use Rattle.fb_network.specs.Tree.declared.network.Sort.{Sort}
+use Rattle.fb_network.specs.Tree.declared.interface.Side.TheVariants.{Input, Output}
 use Rattle.fb_network.specs.declared.network.End.{End}
 use Rattle.fb_network.specs.declared.network.End.TheVariants.{Own, Of}
 use Rattle.fb_network.specs.Plain.{PlainNetwork}

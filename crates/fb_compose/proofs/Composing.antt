@@ -5,10 +5,10 @@ use Rattle.std.specs.BTreeMap.{is_at}
 use Rattle.fb_text.specs.Order.{name_cmp}
 use Rattle.std.proofs.lemmas.List.Elements.{Contains-append_left, Contains-append_right, Contains-append_cases}
 use Rattle.fb_network.specs.Sorts.{same_sort}
-use Rattle.fb_tree.specs.declared.network.Sort.{Sort}
-use Rattle.fb_tree.specs.declared.network.Sort.TheVariants.{Event, Data, Adapter}
-use Rattle.fb_tree.specs.declared.interface.Side.{Side}
-use Rattle.fb_tree.specs.declared.interface.Side.TheVariants.{Input, Output}
+use Rattle.fb_network.specs.Tree.declared.network.Sort.{Sort}
+use Rattle.fb_network.specs.Tree.declared.network.Sort.TheVariants.{Event, Data, Adapter}
+use Rattle.fb_network.specs.Tree.declared.interface.Side.{Side}
+use Rattle.fb_network.specs.Tree.declared.interface.Side.TheVariants.{Input, Output}
 use Rattle.fb_network.specs.declared.network.Port.{Port}
 use Rattle.fb_network.specs.declared.network.InstanceKind.{InstanceKind}
 use Rattle.fb_network.specs.declared.network.InstanceKind.TheVariants.{Block, Subapplication}

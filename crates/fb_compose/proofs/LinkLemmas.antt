@@ -1,7 +1,7 @@
 -- The links and borders of a clean network are those that its own connections and its inner links and borders give.
 use Rattle.std.proofs.Common.{ℕ, ◌≡◌, List, [], ◌∷◌, Some, ◌⊎◌, inl, inr, refl, sym, ◌∙◌, ap, subst}
-use Rattle.fb_tree.specs.declared.network.Sort.{Sort}
-use Rattle.fb_tree.specs.declared.interface.Side.TheVariants.{Input}
+use Rattle.fb_network.specs.Tree.declared.network.Sort.{Sort}
+use Rattle.fb_network.specs.Tree.declared.interface.Side.TheVariants.{Input}
 use Rattle.fb_network.specs.declared.network.End.{End}
 use Rattle.fb_network.specs.declared.network.End.TheVariants.{Own, Of}
 use Rattle.fb_network.specs.Plain.{PlainNetwork}

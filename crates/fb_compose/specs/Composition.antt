@@ -1,6 +1,6 @@
 -- How a chain of a network is composed of chains of its subapplications.
 use Rattle.std.specs.Prelude.{ℕ, ◌≡◌, List, [], ◌∷◌, ◌⊎◌}
-use Rattle.fb_tree.specs.declared.network.Sort.{Sort}
+use Rattle.fb_network.specs.Tree.declared.network.Sort.{Sort}
 use Rattle.fb_network.specs.declared.network.End.{End}
 use Rattle.fb_network.specs.declared.network.End.TheVariants.{Own, Of}
 use Rattle.fb_network.specs.Plain.{PlainNetwork}

@@ -9,9 +9,9 @@ ghost use Rattle.fb_compose.specs.Composed.{adapter_links, plug_links, port_link
 
 use crate::look_up::Networks;
 use crate::table::Table;
+use fb_network::tree::{Side, Sort};
 use fb_network::{End, Link, Network, Path, Port, is_same_sort};
 use fb_text::{Name, same_name};
-use fb_tree::{Side, Sort};
 use std::alloc::{AllocError, Global};
 
 /// The links of an adapter's ports between a plug and a socket: its outputs lead from the plug to the socket, its inputs from the socket

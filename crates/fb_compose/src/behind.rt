@@ -6,9 +6,9 @@ ghost use Rattle.fb_compose.specs.Composed.{behind_instance, behind_of, belongs,
 
 use crate::look_up::Nets;
 use crate::table::Table;
+use fb_network::tree::Sort;
 use fb_network::{Border, End, Flat, Instance, InstanceKind, Path, is_same_sort};
 use fb_text::{Name, same_name};
-use fb_tree::Sort;
 use std::alloc::{AllocError, Global};
 
 fn is_border_of(border: &Border, sort: Sort, port: &Name) -> bool

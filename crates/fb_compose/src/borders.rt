@@ -7,8 +7,8 @@ ghost use Rattle.fb_compose.specs.Composed.{composed_borders, connection_borders
 use crate::behind::behind;
 use crate::look_up::Nets;
 use crate::table::Table;
+use fb_network::tree::Sort;
 use fb_network::{Border, Connection, End, Network, Path};
-use fb_tree::Sort;
 use std::alloc::{AllocError, Global};
 
 /// The borders of an end that is an own port, at the places behind the other end.

@@ -25,6 +25,3 @@ pub use laws::{chains_are_composed, flat_is_one, system_is_one};
 pub use look_up::{Nets, Networks};
 pub use sorted::sort_once;
 pub use system::join;
-
-#[cfg(test)]
-mod tests;

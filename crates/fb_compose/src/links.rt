@@ -10,9 +10,9 @@ use crate::adapters::{find_adapter, push_adapter_links};
 use crate::behind::behind;
 use crate::look_up::{Nets, Networks};
 use crate::table::Table;
+use fb_network::tree::Sort;
 use fb_network::{Connection, Flat, Instance, InstanceKind, Link, Network, Path};
 use fb_text::Name;
-use fb_tree::Sort;
 use std::alloc::{AllocError, Global};
 
 fn push_links_from(

@@ -4,15 +4,15 @@ use Rattle.std.specs.Prelude.{unwrap_or}
 use Rattle.std.specs.FinMap.{get}
 use Rattle.std.specs.List.{flat_map}
 use Rattle.fb_text.specs.Order.{in_order}
-use Rattle.fb_tree.specs.Tree.{ApplicationTree, DeclTree}
-use Rattle.fb_library.specs.View.{Sources, tree_at}
-use Rattle.fb_library.specs.Rests.{Rests, itself}
-use Rattle.fb_library.specs.Local.{AgreeFar}
-use Rattle.fb_network.specs.PlainFlat.{PlainFlat}
-use Rattle.fb_flatten.specs.Net.{PlainNet, blocked, recursive, too_large, flat_net}
-use Rattle.fb_flatten.proofs.NetLocal.{net_local}
-use Rattle.fb_flatten.proofs.OneNet.{one_net_only}
-use Rattle.fb_netcheck.specs.Spellings.{text_at}
+use Rattle.fb_mapping.specs.Tree.Tree.{ApplicationTree, DeclTree}
+use Rattle.fb_mapping.specs.Library.View.{Sources, tree_at}
+use Rattle.fb_mapping.specs.Library.Rests.{Rests, itself}
+use Rattle.fb_mapping.specs.Library.Local.{AgreeFar}
+use Rattle.fb_mapping.specs.Network.PlainFlat.{PlainFlat}
+use Rattle.fb_mapping.specs.Flatten.Net.{PlainNet, blocked, recursive, too_large, flat_net}
+use Rattle.fb_mapping.proofs.Flatten.NetLocal.{net_local}
+use Rattle.fb_mapping.proofs.Flatten.OneNet.{one_net_only}
+use Rattle.fb_mapping.specs.Netcheck.Spellings.{text_at}
 use Rattle.fb_mapping.specs.Cuts.{cuts_of, home_at}
 use Rattle.fb_mapping.specs.Homes.{PlainHomes, faulty_homes, all_homes, homes_of}
 use Rattle.fb_mapping.specs.Standing.{PlainStanding, path_names, standing_at}

@@ -2,8 +2,8 @@
 use Rattle.std.proofs.Common.{ℕ, ◌≡◌, ◌<◌, ◌+◌, List, [], ◌∷◌, ◌++◌, Option, refl, sym, ◌∙◌, ap, take, get_or, length, map, append_assoc, append-nil}
 use Rattle.std.specs.List.{cons_option, filter_map}
 use Rattle.std.proofs.lemmas.Grind.{flat_map-append}
-use Rattle.fb_tree.specs.Tree.{device_tree}
-use Rattle.fb_tree.specs.declared.system.Device.{Device}
+use Rattle.fb_mapping.specs.Tree.Tree.{device_tree}
+use Rattle.fb_mapping.specs.Tree.declared.system.Device.{Device}
 use Rattle.fb_mapping.proofs.ListLemmas.{filter_map_step, map-push, one_more}
 use Rattle.fb_deploy.specs.Resources.{device_resources, resources_of}
 

@@ -1,10 +1,10 @@
 -- The plan of a system: what is to be done on each of its resources (IEC 61499-1, clause 7: system configurations).
 use Rattle.std.specs.Prelude.{ℕ, ◌≡◌, List, Option}
-use Rattle.fb_tree.specs.Tree.{DeclTree}
-use Rattle.fb_library.specs.View.{Sources, tree_at}
-use Rattle.fb_network.specs.PlainFlat.{PlainFlat}
-use Rattle.fb_network.specs.declared.flat.Link.{Link}
-use Rattle.fb_flatten.specs.Net.{PlainNet, IsNet, blocked, recursive, too_large, flat_net, plain_net}
+use Rattle.fb_mapping.specs.Tree.Tree.{DeclTree}
+use Rattle.fb_mapping.specs.Library.View.{Sources, tree_at}
+use Rattle.fb_mapping.specs.Network.PlainFlat.{PlainFlat}
+use Rattle.fb_mapping.specs.Network.declared.flat.Link.{Link}
+use Rattle.fb_mapping.specs.Flatten.Net.{PlainNet, IsNet, blocked, recursive, too_large, flat_net, plain_net}
 use Rattle.fb_mapping.specs.Cuts.{cuts_of, home_at}
 use Rattle.fb_mapping.specs.Homes.{PlainHomes, faulty_homes, all_homes, homes_of}
 use Rattle.fb_mapping.specs.Systems.{applications_in, devices_in}

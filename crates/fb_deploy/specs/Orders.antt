@@ -1,10 +1,10 @@
 -- The commands of a system, each with the resource that it is for.
 use Rattle.std.specs.Prelude.{ℕ, Bool, List, ◌∷◌, ◌++◌, map, Option, Some, None, option_map, if◌then◌else◌, codes}
 use Rattle.std.specs.List.{filter_map}
-use Rattle.fb_tree.specs.Tree.{ApplicationTree}
-use Rattle.fb_library.specs.View.{Sources}
-use Rattle.fb_network.specs.PlainFlat.{PlainFlat}
-use Rattle.fb_network.specs.declared.flat.Link.{Link}
+use Rattle.fb_mapping.specs.Tree.Tree.{ApplicationTree}
+use Rattle.fb_mapping.specs.Library.View.{Sources}
+use Rattle.fb_mapping.specs.Network.PlainFlat.{PlainFlat}
+use Rattle.fb_mapping.specs.Network.declared.flat.Link.{Link}
 use Rattle.fb_mapping.specs.Cuts.{home_at, same_home}
 use Rattle.fb_mapping.specs.Fronts.{nearest}
 use Rattle.fb_mapping.specs.declared.homes.Home.{Home}

@@ -2,8 +2,8 @@
 use Rattle.std.specs.Prelude.{ℕ, List, map, filter}
 use Rattle.std.specs.List.{flat_map}
 use Rattle.std.specs.Str.{bytes_eq}
-use Rattle.fb_tree.specs.Tree.{DeviceTree}
-use Rattle.fb_network.specs.Places.{dotted}
+use Rattle.fb_mapping.specs.Tree.Tree.{DeviceTree}
+use Rattle.fb_mapping.specs.Network.Places.{dotted}
 use Rattle.fb_deploy.specs.PlainResource.{PlainResource}
 use Rattle.fb_deploy.specs.declared.orders.Order.{Order}
 

@@ -4,10 +4,10 @@ use Rattle.std.specs.List.{flat_map}
 use Rattle.fb_text.specs.Tokens.{tokens_of}
 use Rattle.fb_text.specs.declared.token.Span.{Span}
 use Rattle.fb_text.specs.declared.token.Token.{Token}
-use Rattle.fb_tree.specs.Tree.{ConstantTree, one_value, value_list}
-use Rattle.fb_tree.specs.declared.constant.Simple.{Simple}
-use Rattle.fb_tree.specs.declared.constant.Simple.TheVariants.{Literal, Name}
-use Rattle.fb_netcheck.specs.Spellings.{part}
+use Rattle.fb_mapping.specs.Tree.Tree.{ConstantTree, one_value, value_list}
+use Rattle.fb_mapping.specs.Tree.declared.constant.Simple.{Simple}
+use Rattle.fb_mapping.specs.Tree.declared.constant.Simple.TheVariants.{Literal, Name}
+use Rattle.fb_mapping.specs.Netcheck.Spellings.{part}
 
 abbrev pub token_text : List ℕ → Token → List ℕ
 token_text text t = slice_range text t.span.start t.span.end

@@ -13,6 +13,3 @@ pub use command::Command;
 pub use laws::{one_plan, plan_is_local};
 pub use planning::{Deploy, plan};
 pub use resources::ResourcePlan;
-
-#[cfg(test)]
-mod tests;

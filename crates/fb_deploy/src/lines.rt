@@ -5,20 +5,20 @@ ghost use Rattle.std.specs.List.{filter_map, flat_map};
 ghost use Rattle.std.specs.Ordering.{eq_by_cmp, as_partial_cmp};
 ghost use Rattle.std.specs.Cmp.{eq_by_cmp_equiv, partial_equiv_from_equiv, partial_order_from_total};
 ghost use Rattle.fb_text.specs.Order.{in_order};
-ghost use Rattle.fb_tree.specs.Tree.{parameter_tree};
-ghost use Rattle.fb_library.specs.View.{tree_at};
+ghost use Rattle.fb_mapping.specs.Tree.Tree.{parameter_tree};
+ghost use Rattle.fb_mapping.specs.Library.View.{tree_at};
 ghost use Rattle.fb_mapping.specs.Standing.{plain_standing};
 ghost use Rattle.fb_mapping.specs.Systems.{applications_in};
 ghost use Rattle.fb_deploy.specs.Lines.{create_line, create_lines, home_lines, line_cmp, line_cmp_total, lines_at, write_line, write_lines};
 
 use crate::command::Command;
 use crate::written::{text_by_name, written};
-use fb_compose::sort_once;
-use fb_library::View;
+use fb_mapping::compose::sort_once;
+use fb_mapping::library::View;
+use fb_mapping::network::{FlatBlock, Path};
+use fb_mapping::tree::Parameter;
 use fb_mapping::{Home, PathTable, Standing, path_names, standing_at};
-use fb_network::{FlatBlock, Path};
 use fb_text::Name;
-use fb_tree::Parameter;
 use std::alloc::{AllocError, Global};
 use std::cmp::Ordering;
 

@@ -1,16 +1,16 @@
 //! The commands of a system, each with the resource that it is for.
 ghost use Rattle.std.specs.Prelude.{◌≡◌, ◌++◌, IfOk, OnOk, map, option_copied};
 ghost use Rattle.std.specs.BTreeMap.{get_by_text};
-ghost use Rattle.fb_library.specs.View.{tree_at};
+ghost use Rattle.fb_mapping.specs.Library.View.{tree_at};
 ghost use Rattle.fb_mapping.specs.Cuts.{home_at};
 ghost use Rattle.fb_mapping.specs.Systems.{applications_in};
 ghost use Rattle.fb_deploy.specs.Orders.{connection_order, connection_orders, line_order, link_resource, orders_of, start_order};
 
 use crate::command::Command;
 use crate::lines::{Line, create_lines, write_lines};
-use fb_library::View;
+use fb_mapping::library::View;
+use fb_mapping::network::{Flat, Link, Path};
 use fb_mapping::{Home, PathTable, is_cut, nearest};
-use fb_network::{Flat, Link, Path};
 use fb_text::Name;
 use std::alloc::{AllocError, Global};
 

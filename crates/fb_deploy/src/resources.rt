@@ -2,18 +2,18 @@
 ghost use Rattle.std.specs.Prelude.{◌≡◌, ◌++◌, ℕ, List, [], map, IfOk, OnOk};
 ghost use Rattle.std.specs.BTreeMap.{get_by_text};
 ghost use Rattle.std.specs.Option.{option_map_or};
-ghost use Rattle.fb_tree.specs.Tree.{device_tree, resource_tree};
-ghost use Rattle.fb_library.specs.View.{tree_at};
-ghost use Rattle.fb_network.specs.Places.{dotted};
+ghost use Rattle.fb_mapping.specs.Tree.Tree.{device_tree, resource_tree};
+ghost use Rattle.fb_mapping.specs.Library.View.{tree_at};
+ghost use Rattle.fb_mapping.specs.Network.Places.{dotted};
 ghost use Rattle.fb_mapping.specs.Systems.{devices_in};
 ghost use Rattle.fb_deploy.specs.Resources.{commands_for, resource_plans, resources_of};
 
 use crate::command::Command;
 use crate::orders::Order;
-use fb_library::{View, tree_by_name};
-use fb_network::Path;
+use fb_mapping::library::{View, tree_by_name};
+use fb_mapping::network::Path;
+use fb_mapping::tree::{Decl, Device, Resource};
 use fb_text::Name;
-use fb_tree::{Decl, Device, Resource};
 use std::alloc::{AllocError, Global};
 use std::collections::BTreeMap;
 use std::marker::Model;

@@ -2,13 +2,13 @@
 ghost use Rattle.std.specs.Prelude.{◌≡◌, All, IfOk, string_bytes};
 ghost use Rattle.std.specs.List.{flat_map};
 ghost use Rattle.fb_text.specs.Tokens.{LiesIn};
-ghost use Rattle.fb_tree.specs.Tree.{constant_tree};
-ghost use Rattle.fb_netcheck.specs.Spellings.{is_boundary, part, text_at};
+ghost use Rattle.fb_mapping.specs.Tree.Tree.{constant_tree};
+ghost use Rattle.fb_mapping.specs.Netcheck.Spellings.{is_boundary, part, text_at};
 ghost use Rattle.fb_deploy.specs.Written.{constant_span, simple_span, token_text, without_gaps, written};
 
-use fb_library::View;
+use fb_mapping::library::View;
+use fb_mapping::tree::{Constant, Simple};
 use fb_text::{Name, Span, Token, TokenFault, tokens};
-use fb_tree::{Constant, Simple};
 use std::alloc::{AllocError, Global};
 
 /// The text of a unit, empty where it is absent.

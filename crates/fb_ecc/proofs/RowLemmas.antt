@@ -4,14 +4,14 @@ use Rattle.std.specs.List.{Contains, flat_map}
 use Rattle.std.specs.Option.{option_map_or}
 use Rattle.std.proofs.lemmas.List.Elements.{Contains-append_left, Contains-append_right, Contains-append_cases}
 use Rattle.fb_text.specs.declared.name.NameUse.{NameUse}
-use Rattle.fb_tree.specs.Tree.{AlgorithmTree, ChartTree, DeclTree, StateTree, TransitionTree, TypeTree, block_type, adapter_type, subapplication_type, system_configuration}
-use Rattle.fb_tree.specs.declared.chart.Action.{Action}
-use Rattle.fb_tree.specs.declared.interface.Side.{Side}
-use Rattle.fb_tree.specs.declared.interface.Side.TheVariants.{Input, Output}
-use Rattle.fb_tree.specs.declared.network.End.{End}
-use Rattle.fb_tree.specs.declared.network.Role.{Role}
-use Rattle.fb_tree.specs.declared.network.Role.TheVariants.{Plug, Socket, Block, Subapplication}
-use Rattle.fb_library.specs.View.{Sources, tree_at}
+use Rattle.fb_iface.specs.Tree.Tree.{AlgorithmTree, ChartTree, DeclTree, StateTree, TransitionTree, TypeTree, block_type, adapter_type, subapplication_type, system_configuration}
+use Rattle.fb_iface.specs.Tree.declared.chart.Action.{Action}
+use Rattle.fb_iface.specs.Tree.declared.interface.Side.{Side}
+use Rattle.fb_iface.specs.Tree.declared.interface.Side.TheVariants.{Input, Output}
+use Rattle.fb_iface.specs.Tree.declared.network.End.{End}
+use Rattle.fb_iface.specs.Tree.declared.network.Role.{Role}
+use Rattle.fb_iface.specs.Tree.declared.network.Role.TheVariants.{Plug, Socket, Block, Subapplication}
+use Rattle.fb_iface.specs.Library.View.{Sources, tree_at}
 use Rattle.fb_iface.specs.declared.code.Code.{Code}
 use Rattle.fb_iface.specs.declared.code.Code.TheVariants.{AlgorithmUnknown, EventUnknown, StateUnknown}
 use Rattle.fb_iface.specs.declared.fault.Fault.{Fault}

@@ -2,8 +2,8 @@
 use Rattle.std.proofs.Common.{◌≡◌, ℕ, Bool, List, ◌++◌, ◌∙◌, map, sym, ap}
 use Rattle.std.specs.List.{flat_map}
 use Rattle.std.proofs.lemmas.List.Folds.{flat_map-map}
-use Rattle.fb_tree.specs.Tree.{algorithm_tree, chart_tree, state_tree, transition_tree}
-use Rattle.fb_tree.specs.declared.chart.Chart.{Chart}
+use Rattle.fb_iface.specs.Tree.Tree.{algorithm_tree, chart_tree, state_tree, transition_tree}
+use Rattle.fb_iface.specs.Tree.declared.chart.Chart.{Chart}
 use Rattle.fb_iface.specs.Names.{has_name}
 use Rattle.fb_iface.specs.Scope.{Scope}
 use Rattle.fb_iface.proofs.TreeLemmas.{same_items}

@@ -3,8 +3,8 @@ use Rattle.std.specs.Prelude.{ℕ, Bool, List, [], ◌∷◌, map, if◌then◌e
 use Rattle.std.specs.List.{flat_map}
 use Rattle.std.specs.Option.{option_map_or}
 use Rattle.fb_text.specs.declared.name.NameUse.{NameUse}
-use Rattle.fb_tree.specs.Tree.{ChartTree}
-use Rattle.fb_tree.specs.declared.chart.Action.{Action}
+use Rattle.fb_iface.specs.Tree.Tree.{ChartTree}
+use Rattle.fb_iface.specs.Tree.declared.chart.Action.{Action}
 use Rattle.fb_iface.specs.declared.code.Code.TheVariants.{AlgorithmUnknown}
 use Rattle.fb_iface.specs.declared.fault.Fault.{Fault}
 use Rattle.fb_iface.specs.Fault.{fault_at}

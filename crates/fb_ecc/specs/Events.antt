@@ -4,13 +4,13 @@ use Rattle.std.specs.List.{flat_map}
 use Rattle.std.specs.Option.{option_map_or}
 use Rattle.fb_text.specs.declared.token.Span.{Span}
 use Rattle.fb_text.specs.declared.name.NameUse.{NameUse}
-use Rattle.fb_tree.specs.Tree.{ChartTree, ConditionTree, TransitionTree, always, on_event, guarded, guard}
-use Rattle.fb_tree.specs.declared.chart.Action.{Action}
-use Rattle.fb_tree.specs.declared.interface.Side.{Side}
-use Rattle.fb_tree.specs.declared.interface.Side.TheVariants as sides
-use Rattle.fb_tree.specs.declared.network.End.{End}
-use Rattle.fb_tree.specs.declared.network.Role.{Role}
-use Rattle.fb_tree.specs.declared.network.Role.TheVariants as roles
+use Rattle.fb_iface.specs.Tree.Tree.{ChartTree, ConditionTree, TransitionTree, always, on_event, guarded, guard}
+use Rattle.fb_iface.specs.Tree.declared.chart.Action.{Action}
+use Rattle.fb_iface.specs.Tree.declared.interface.Side.{Side}
+use Rattle.fb_iface.specs.Tree.declared.interface.Side.TheVariants as sides
+use Rattle.fb_iface.specs.Tree.declared.network.End.{End}
+use Rattle.fb_iface.specs.Tree.declared.network.Role.{Role}
+use Rattle.fb_iface.specs.Tree.declared.network.Role.TheVariants as roles
 use Rattle.fb_iface.specs.declared.code.Code.TheVariants.{EventUnknown}
 use Rattle.fb_iface.specs.declared.fault.Fault.{Fault}
 use Rattle.fb_iface.specs.declared.ports.DeclaredEvent.{DeclaredEvent}

@@ -2,13 +2,13 @@
 use Rattle.std.specs.Prelude.{◌≡◌, ◌≢◌, ℕ, List, [], ◌∷◌, Option, Some, None, Contains, ◌↔◌, ◌⊎◌}
 use Rattle.fb_text.specs.declared.token.Span.{Span}
 use Rattle.fb_text.specs.declared.name.NameUse.{NameUse}
-use Rattle.fb_tree.specs.Tree.{AlgorithmTree, StateTree, TransitionTree, TypeTree, block_type}
-use Rattle.fb_tree.specs.declared.chart.Action.{Action}
-use Rattle.fb_tree.specs.declared.interface.Side.{Side}
-use Rattle.fb_tree.specs.declared.interface.Side.TheVariants.{Input, Output}
-use Rattle.fb_tree.specs.declared.network.End.{End}
-use Rattle.fb_tree.specs.declared.network.Role.TheVariants.{Plug, Socket}
-use Rattle.fb_library.specs.View.{Sources, tree_at}
+use Rattle.fb_iface.specs.Tree.Tree.{AlgorithmTree, StateTree, TransitionTree, TypeTree, block_type}
+use Rattle.fb_iface.specs.Tree.declared.chart.Action.{Action}
+use Rattle.fb_iface.specs.Tree.declared.interface.Side.{Side}
+use Rattle.fb_iface.specs.Tree.declared.interface.Side.TheVariants.{Input, Output}
+use Rattle.fb_iface.specs.Tree.declared.network.End.{End}
+use Rattle.fb_iface.specs.Tree.declared.network.Role.TheVariants.{Plug, Socket}
+use Rattle.fb_iface.specs.Library.View.{Sources, tree_at}
 use Rattle.fb_iface.specs.declared.code.Code.TheVariants.{AlgorithmUnknown, EventUnknown, StateUnknown}
 use Rattle.fb_iface.specs.declared.ports.DeclaredEvent.{DeclaredEvent}
 use Rattle.fb_iface.specs.declared.ports.DeclaredInstance.{DeclaredInstance}

@@ -2,7 +2,7 @@
 use Rattle.std.specs.Prelude.{ℕ, Bool, List, [], ◌∷◌, ◌++◌, map, if◌then◌else◌}
 use Rattle.std.specs.List.{flat_map}
 use Rattle.fb_text.specs.declared.name.NameUse.{NameUse}
-use Rattle.fb_tree.specs.Tree.{ChartTree, TransitionTree}
+use Rattle.fb_iface.specs.Tree.Tree.{ChartTree, TransitionTree}
 use Rattle.fb_iface.specs.declared.code.Code.TheVariants.{StateUnknown}
 use Rattle.fb_iface.specs.declared.fault.Fault.{Fault}
 use Rattle.fb_iface.specs.Fault.{fault_at}

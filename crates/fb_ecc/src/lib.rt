@@ -9,6 +9,3 @@ mod states;
 
 pub use charts::ecc_faults;
 pub use laws::{algorithms_are_declared, ecc_is_local, events_are_known, states_are_listed};
-
-#[cfg(test)]
-mod tests;

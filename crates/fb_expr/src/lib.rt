@@ -12,6 +12,3 @@ mod statements;
 
 pub use charts::expr_faults;
 pub use laws::{expr_faults_are_local, expr_faults_are_unmet};
-
-#[cfg(test)]
-mod tests;

@@ -10,8 +10,8 @@ use Rattle.std.specs.declared.cmp.Ordering.TheVariants.{Less, Equal, Greater}
 use Rattle.fb_text.specs.Order.{name_cmp}
 use Rattle.fb_text.specs.declared.name.NameUse.{NameUse}
 use Rattle.fb_text.proofs.OrderLemmas.{same_name}
-use Rattle.fb_iface.specs.Names.{has_name, is_same, stands_for}
-use Rattle.fb_iface.proofs.TableLemmas.{is_it, known-new, known-old, none}
+use Rattle.fb_netcheck.specs.Iface.Names.{has_name, is_same, stands_for}
+use Rattle.fb_netcheck.proofs.Iface.TableLemmas.{is_it, known-new, known-old, none}
 use Rattle.fb_faults.specs.Pairs.{pair_cmp}
 
 both_equal : (r s : Ordering) → is_eq (ordering_then r s) ≡ (is_eq r && is_eq s)

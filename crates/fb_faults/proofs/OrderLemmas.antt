@@ -2,12 +2,12 @@
 use Rattle.std.proofs.Common.{ℕ, List, Option, ◌++◌, ◌∙◌}
 use Rattle.std.specs.Option.{option_and_then}
 use Rattle.fb_text.proofs.OrderLemmas.{in_order-members, in_order-sorted}
-use Rattle.fb_tree.specs.Tree.{DeclTree}
-use Rattle.fb_library.specs.View.{Sources, tree_in, tree_of}
-use Rattle.fb_iface.specs.Declarations.{declaration_faults}
-use Rattle.fb_iface.specs.Fault.{fault_cmp, fault_cmp_total, faults_in_order}
-use Rattle.fb_iface.proofs.FaultLemmas.{fault_cmp-exact}
-use Rattle.fb_iface.specs.declared.fault.Fault.{Fault}
+use Rattle.fb_netcheck.specs.Tree.Tree.{DeclTree}
+use Rattle.fb_netcheck.specs.Library.View.{Sources, tree_in, tree_of}
+use Rattle.fb_netcheck.specs.Iface.Declarations.{declaration_faults}
+use Rattle.fb_netcheck.specs.Iface.Fault.{fault_cmp, fault_cmp_total, faults_in_order}
+use Rattle.fb_netcheck.proofs.Iface.FaultLemmas.{fault_cmp-exact}
+use Rattle.fb_netcheck.specs.Iface.declared.fault.Fault.{Fault}
 use Rattle.fb_ecc.specs.Charts.{chart_faults_in}
 use Rattle.fb_expr.specs.Charts.{faults_in_unit}
 use Rattle.fb_netcheck.specs.Networks.{tree_faults}

@@ -4,13 +4,13 @@ use Rattle.std.specs.Option.{option_map_or}
 use Rattle.std.specs.FinMap.{get}
 use Rattle.std.specs.List.Sorted.{IsStrictlySortedBy}
 use Rattle.fb_text.specs.declared.token.Span.{Span}
-use Rattle.fb_parse.specs.Body.{BodyTree, Whole, BrokenAt, body_of}
-use Rattle.fb_library.specs.Local.{Agree}
-use Rattle.fb_library.specs.View.{Sources, near_of}
-use Rattle.fb_iface.specs.declared.code.Code.TheVariants.{Syntax}
-use Rattle.fb_iface.specs.declared.fault.Fault.{Fault}
-use Rattle.fb_iface.specs.Fault.{fault_cmp, faults_in_order}
-use Rattle.fb_iface.specs.Declarations.{iface_faults_of}
+use Rattle.fb_netcheck.specs.Parse.Body.{BodyTree, Whole, BrokenAt, body_of}
+use Rattle.fb_netcheck.specs.Library.Local.{Agree}
+use Rattle.fb_netcheck.specs.Library.View.{Sources, near_of}
+use Rattle.fb_netcheck.specs.Iface.declared.code.Code.TheVariants.{Syntax}
+use Rattle.fb_netcheck.specs.Iface.declared.fault.Fault.{Fault}
+use Rattle.fb_netcheck.specs.Iface.Fault.{fault_cmp, faults_in_order}
+use Rattle.fb_netcheck.specs.Iface.Declarations.{iface_faults_of}
 use Rattle.fb_expr.specs.Charts.{expr_faults_of}
 use Rattle.fb_ecc.specs.Charts.{ecc_faults_of}
 use Rattle.fb_netcheck.specs.Networks.{net_faults_of}

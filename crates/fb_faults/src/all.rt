@@ -5,10 +5,10 @@ ghost use Rattle.fb_faults.specs.Faults.{faults_of, found_in_turn, syntax_faults
 use crate::mappings::mapping_faults;
 use fb_ecc::ecc_faults;
 use fb_expr::expr_faults;
-use fb_iface::{Code, Fault, iface_faults, sorted_faults};
-use fb_library::View;
+use fb_netcheck::iface::{Code, Fault, iface_faults, sorted_faults};
+use fb_netcheck::library::View;
 use fb_netcheck::net_faults;
-use fb_parse::Body;
+use fb_netcheck::parse::Body;
 use fb_text::Name;
 use std::alloc::{AllocError, Global};
 

@@ -6,11 +6,7 @@ mod laws;
 mod mappings;
 
 pub use all::faults;
+pub use fb_netcheck::{iface, library, parse, tree};
 pub use laws::{
     broken_texts_have_one_fault, faults_are_in_order, faults_are_local, faults_are_those_reported,
 };
-
-#[cfg(test)]
-mod tests;
-#[cfg(test)]
-mod texts;

@@ -3,15 +3,15 @@ use Rattle.std.proofs.Common.{ℕ, ◌≡◌, List, Option, Some, None, refl, sy
 use Rattle.std.specs.Prelude.{Contains, option_and_then, option_map}
 use Rattle.std.specs.BTreeMap.{is_at}
 use Rattle.fb_text.specs.Order.{name_cmp}
-use Rattle.fb_tree.specs.declared.network.Sort.{Sort}
-use Rattle.fb_tree.specs.declared.network.Sort.TheVariants.{Adapter}
-use Rattle.fb_network.specs.declared.network.Port.{Port}
-use Rattle.fb_network.specs.declared.network.Instance.{Instance}
-use Rattle.fb_network.specs.declared.network.End.{End}
-use Rattle.fb_network.specs.declared.network.End.TheVariants.{Own, Of}
-use Rattle.fb_network.specs.Plain.{PlainNetwork}
-use Rattle.fb_network.specs.Network.{View, place_of, instance_named}
-use Rattle.fb_network.specs.Clean.{port_named, type_of, adapter_name_at, IsSource, IsDestination, IsDeclared, IsClean}
+use Rattle.fb_wiring.specs.Tree.declared.network.Sort.{Sort}
+use Rattle.fb_wiring.specs.Tree.declared.network.Sort.TheVariants.{Adapter}
+use Rattle.fb_wiring.specs.Network.declared.network.Port.{Port}
+use Rattle.fb_wiring.specs.Network.declared.network.Instance.{Instance}
+use Rattle.fb_wiring.specs.Network.declared.network.End.{End}
+use Rattle.fb_wiring.specs.Network.declared.network.End.TheVariants.{Own, Of}
+use Rattle.fb_wiring.specs.Network.Plain.{PlainNetwork}
+use Rattle.fb_wiring.specs.Network.Network.{View, place_of, instance_named}
+use Rattle.fb_wiring.specs.Network.Clean.{port_named, type_of, adapter_name_at, IsSource, IsDestination, IsDeclared, IsClean}
 use Rattle.fb_flatten.specs.Locality.{Within, SameNetworks}
 use Rattle.fb_flatten.proofs.LocalLemmas.{found}
 

@@ -6,21 +6,21 @@ use Rattle.std.specs.Ordering.{is_eq}
 use Rattle.std.specs.declared.cmp.Ordering.TheVariants.{Equal}
 use Rattle.fb_text.specs.Order.{in_order}
 use Rattle.fb_text.proofs.OrderLemmas.{in_order-members, in_order-sorted}
-use Rattle.fb_library.specs.View.{Sources, mentions_at}
-use Rattle.fb_library.specs.Rests.{Rests, itself, through}
-use Rattle.fb_iface.proofs.Members.{contains_here, contains_later}
-use Rattle.fb_faults.specs.Faults.{faults_of}
-use Rattle.fb_network.specs.declared.network.InstanceKind.{InstanceKind}
-use Rattle.fb_network.specs.declared.network.InstanceKind.TheVariants.{Block, Subapplication}
-use Rattle.fb_network.specs.declared.network.Instance.{Instance}
-use Rattle.fb_network.specs.declared.flat.Link.{Link}
-use Rattle.fb_network.specs.declared.flat.Border.{Border}
-use Rattle.fb_network.specs.Plain.{PlainNetwork}
-use Rattle.fb_network.specs.LinkOrder.{link_cmp, link_cmp_total, border_cmp, border_cmp_total}
-use Rattle.fb_network.specs.Network.{View, IsInner, instance_named}
-use Rattle.fb_network.specs.Clean.{IsClean, IsCleanThroughout, CleanThroughout}
-use Rattle.fb_network.specs.Instances.{Held, held_as, AreInstances, NoInstance, ThenBlock, ThenSubapplication}
-use Rattle.fb_network.specs.FlatNet.{IsFlat}
+use Rattle.fb_wiring.specs.Library.View.{Sources, mentions_at}
+use Rattle.fb_wiring.specs.Library.Rests.{Rests, itself, through}
+use Rattle.fb_wiring.proofs.Iface.Members.{contains_here, contains_later}
+use Rattle.fb_wiring.specs.Faults.Faults.{faults_of}
+use Rattle.fb_wiring.specs.Network.declared.network.InstanceKind.{InstanceKind}
+use Rattle.fb_wiring.specs.Network.declared.network.InstanceKind.TheVariants.{Block, Subapplication}
+use Rattle.fb_wiring.specs.Network.declared.network.Instance.{Instance}
+use Rattle.fb_wiring.specs.Network.declared.flat.Link.{Link}
+use Rattle.fb_wiring.specs.Network.declared.flat.Border.{Border}
+use Rattle.fb_wiring.specs.Network.Plain.{PlainNetwork}
+use Rattle.fb_wiring.specs.Network.LinkOrder.{link_cmp, link_cmp_total, border_cmp, border_cmp_total}
+use Rattle.fb_wiring.specs.Network.Network.{View, IsInner, instance_named}
+use Rattle.fb_wiring.specs.Network.Clean.{IsClean, IsCleanThroughout, CleanThroughout}
+use Rattle.fb_wiring.specs.Network.Instances.{Held, held_as, AreInstances, NoInstance, ThenBlock, ThenSubapplication}
+use Rattle.fb_wiring.specs.Network.FlatNet.{IsFlat}
 use Rattle.fb_compose.specs.Composed.{composed_blocks, composed_borders, composed_links}
 use Rattle.fb_compose.specs.Ready.{Nets, IsFinished, AreFinished}
 use Rattle.fb_compose.proofs.Composing.{found_by_name}

@@ -9,23 +9,23 @@ use Rattle.std.specs.FinMap.{get}
 use Rattle.std.proofs.lemmas.List.Kept.{IsStrictlySortedBy-filter}
 use Rattle.fb_text.specs.Order.{name_cmp, in_order}
 use Rattle.fb_text.proofs.OrderLemmas.{in_order-sorted}
-use Rattle.fb_tree.specs.Tree.{DeclTree, SystemTree, TypeTree, block_type, adapter_type, subapplication_type, system_configuration}
-use Rattle.fb_tree.specs.Mentions.{kind_of}
-use Rattle.fb_tree.specs.declared.kinds.UnitKind.TheVariants as kinds
-use Rattle.fb_library.specs.View.{Sources, mentions_at, tree_at, tree_of}
-use Rattle.fb_library.specs.Rests.{Rests, itself, through}
-use Rattle.fb_library.specs.Local.{AgreeFar}
-use Rattle.fb_library.proofs.LocalLemmas.{far_local}
-use Rattle.fb_iface.proofs.Members.{contains_nothing, contains_filter, passes_in_filter, contains_here, contains_later}
-use Rattle.fb_iface.specs.declared.fault.Fault.{Fault}
-use Rattle.fb_faults.specs.Faults.{faults_of}
+use Rattle.fb_wiring.specs.Tree.Tree.{DeclTree, SystemTree, TypeTree, block_type, adapter_type, subapplication_type, system_configuration}
+use Rattle.fb_wiring.specs.Tree.Mentions.{kind_of}
+use Rattle.fb_wiring.specs.Tree.declared.kinds.UnitKind.TheVariants as kinds
+use Rattle.fb_wiring.specs.Library.View.{Sources, mentions_at, tree_at, tree_of}
+use Rattle.fb_wiring.specs.Library.Rests.{Rests, itself, through}
+use Rattle.fb_wiring.specs.Library.Local.{AgreeFar}
+use Rattle.fb_wiring.proofs.Library.LocalLemmas.{far_local}
+use Rattle.fb_wiring.proofs.Iface.Members.{contains_nothing, contains_filter, passes_in_filter, contains_here, contains_later}
+use Rattle.fb_wiring.specs.Iface.declared.fault.Fault.{Fault}
+use Rattle.fb_wiring.specs.Faults.Faults.{faults_of}
 use Rattle.fb_order.specs.Reaches.{IsRecursive}
-use Rattle.fb_network.specs.declared.count.TheConstants.{INSTANCE_LIMIT}
-use Rattle.fb_network.specs.PlainFlat.{PlainFlat}
-use Rattle.fb_network.specs.LinkOrder.{link_cmp, link_cmp_total}
-use Rattle.fb_network.specs.Network.{View}
-use Rattle.fb_network.specs.FlatNet.{IsFlat}
-use Rattle.fb_network.specs.Instances.{Held}
+use Rattle.fb_wiring.specs.Network.declared.count.TheConstants.{INSTANCE_LIMIT}
+use Rattle.fb_wiring.specs.Network.PlainFlat.{PlainFlat}
+use Rattle.fb_wiring.specs.Network.LinkOrder.{link_cmp, link_cmp_total}
+use Rattle.fb_wiring.specs.Network.Network.{View}
+use Rattle.fb_wiring.specs.Network.FlatNet.{IsFlat}
+use Rattle.fb_wiring.specs.Network.Instances.{Held}
 use Rattle.fb_compose.specs.SystemFlat.{IsSystemFlat, application_links}
 use Rattle.fb_compose.specs.declared.application.FlatApplication.{FlatApplication}
 use Rattle.fb_compose.proofs.SystemLemmas.{system_links_are}

@@ -1,10 +1,10 @@
 -- Subapplications and systems have nets.
 use Rattle.std.proofs.Common.{ℕ, ◌≡◌, Bool, true, false, List, Some, None, inl, inr, ap}
 use Rattle.std.specs.Prelude.{◌↔◌, option_map}
-use Rattle.fb_tree.specs.Mentions.{kind_of}
-use Rattle.fb_tree.specs.Tree.{DeclTree, block_type, adapter_type, subapplication_type, system_configuration}
-use Rattle.fb_tree.specs.declared.kinds.UnitKind.TheVariants as kinds
-use Rattle.fb_library.specs.View.{Sources, tree_at}
+use Rattle.fb_wiring.specs.Tree.Mentions.{kind_of}
+use Rattle.fb_wiring.specs.Tree.Tree.{DeclTree, block_type, adapter_type, subapplication_type, system_configuration}
+use Rattle.fb_wiring.specs.Tree.declared.kinds.UnitKind.TheVariants as kinds
+use Rattle.fb_wiring.specs.Library.View.{Sources, tree_at}
 use Rattle.fb_wiring.specs.ByName.{kind_at}
 use Rattle.fb_flatten.specs.Units.{HasNet, has_net_tree}
 

@@ -13,3 +13,9 @@ pub mod FarNames
 pub mod Depths
 pub mod ComputedFlats
 pub mod ComputedNets
+-- Passed on to the crates above, which do not list these libraries.
+pub use Rattle.fb_wiring.proofs.Tree as Tree
+pub use Rattle.fb_wiring.proofs.Library as Library
+pub use Rattle.fb_wiring.proofs.Iface as Iface
+pub use Rattle.fb_wiring.proofs.Faults as Faults
+pub use Rattle.fb_compose.proofs as Compose

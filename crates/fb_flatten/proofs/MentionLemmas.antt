@@ -8,20 +8,20 @@ use Rattle.std.proofs.lemmas.List.Elements.{Contains-append_cases}
 use Rattle.fb_text.specs.Order.{name_cmp}
 use Rattle.fb_text.proofs.OrderLemmas.{in_order-members}
 use Rattle.fb_text.specs.declared.name.NameUse.{NameUse}
-use Rattle.fb_tree.specs.Tree.{ApplicationTree, DeclTree, InstanceTree, TypeTree, block_type, adapter_type, subapplication_type, system_configuration}
-use Rattle.fb_tree.specs.Mentions.{mentioned_in, mentions_of, types_in}
-use Rattle.fb_tree.specs.declared.interface.Side.{Side}
-use Rattle.fb_tree.specs.declared.interface.Side.TheVariants.{Input, Output}
-use Rattle.fb_tree.specs.declared.network.Role.{Role}
-use Rattle.fb_tree.specs.declared.network.Role.TheVariants as roles
-use Rattle.fb_library.specs.View.{Sources, tree_at, mentions_at, mentions_in}
-use Rattle.fb_iface.specs.Names.{first_ones, stands_for}
-use Rattle.fb_iface.specs.Ports.{meanings_in_type, events_on, data_on, instances_as, instances_in as declared_instances, same_role}
-use Rattle.fb_iface.specs.declared.ports.DeclaredInstance.{DeclaredInstance}
-use Rattle.fb_iface.proofs.Members.{contains_nothing, contains_here, contains_later, contains_cases, contains_map, origin_in_map, contains_flat_map, origin_in_flat_map, passes_in_filter}
-use Rattle.fb_network.specs.declared.network.Instance.{Instance}
-use Rattle.fb_network.specs.declared.network.Port.{Port}
-use Rattle.fb_network.specs.Plain.{PlainNetwork}
+use Rattle.fb_wiring.specs.Tree.Tree.{ApplicationTree, DeclTree, InstanceTree, TypeTree, block_type, adapter_type, subapplication_type, system_configuration}
+use Rattle.fb_wiring.specs.Tree.Mentions.{mentioned_in, mentions_of, types_in}
+use Rattle.fb_wiring.specs.Tree.declared.interface.Side.{Side}
+use Rattle.fb_wiring.specs.Tree.declared.interface.Side.TheVariants.{Input, Output}
+use Rattle.fb_wiring.specs.Tree.declared.network.Role.{Role}
+use Rattle.fb_wiring.specs.Tree.declared.network.Role.TheVariants as roles
+use Rattle.fb_wiring.specs.Library.View.{Sources, tree_at, mentions_at, mentions_in}
+use Rattle.fb_wiring.specs.Iface.Names.{first_ones, stands_for}
+use Rattle.fb_wiring.specs.Iface.Ports.{meanings_in_type, events_on, data_on, instances_as, instances_in as declared_instances, same_role}
+use Rattle.fb_wiring.specs.Iface.declared.ports.DeclaredInstance.{DeclaredInstance}
+use Rattle.fb_wiring.proofs.Iface.Members.{contains_nothing, contains_here, contains_later, contains_cases, contains_map, origin_in_map, contains_flat_map, origin_in_flat_map, passes_in_filter}
+use Rattle.fb_wiring.specs.Network.declared.network.Instance.{Instance}
+use Rattle.fb_wiring.specs.Network.declared.network.Port.{Port}
+use Rattle.fb_wiring.specs.Network.Plain.{PlainNetwork}
 use Rattle.fb_wiring.specs.Applications.{applications_of, plain_application}
 use Rattle.fb_wiring.specs.ByName.{applications_at, declared}
 use Rattle.fb_wiring.specs.Networks.{instance_in_role, plain_instance, network_of, leaf}

@@ -7,16 +7,16 @@ use Rattle.std.specs.Cmp.Lexicographic.{nat_list_cmp_total}
 use Rattle.std.proofs.lemmas.List.Elements.{Contains-append_cases}
 use Rattle.fb_text.specs.Order.{name_cmp}
 use Rattle.fb_text.proofs.OrderLemmas.{in_order-members}
-use Rattle.fb_library.specs.View.{Sources, tree_at, tree_of, mentions_at, near_of}
-use Rattle.fb_library.specs.Rests.{Rests, itself}
-use Rattle.fb_library.specs.Local.{AgreeFar}
-use Rattle.fb_library.proofs.LocalLemmas.{far_local}
-use Rattle.fb_faults.specs.Faults.{faults_of}
-use Rattle.fb_faults.proofs.LocalLemmas.{faults_local}
+use Rattle.fb_wiring.specs.Library.View.{Sources, tree_at, tree_of, mentions_at, near_of}
+use Rattle.fb_wiring.specs.Library.Rests.{Rests, itself}
+use Rattle.fb_wiring.specs.Library.Local.{AgreeFar}
+use Rattle.fb_wiring.proofs.Library.LocalLemmas.{far_local}
+use Rattle.fb_wiring.specs.Faults.Faults.{faults_of}
+use Rattle.fb_wiring.proofs.Faults.LocalLemmas.{faults_local}
 use Rattle.fb_order.specs.Reaches.{IsRecursive}
 use Rattle.fb_order.proofs.LocalLemmas.{recursion_local}
-use Rattle.fb_network.specs.PlainFlat.{PlainFlat}
-use Rattle.fb_network.specs.Instances.{Held}
+use Rattle.fb_wiring.specs.Network.PlainFlat.{PlainFlat}
+use Rattle.fb_wiring.specs.Network.Instances.{Held}
 use Rattle.fb_compose.proofs.Members.{contains_nothing, contains_here, contains_later, contains_cases}
 use Rattle.fb_compose.specs.declared.application.FlatApplication.{FlatApplication}
 use Rattle.fb_wiring.specs.ByName.{declared}

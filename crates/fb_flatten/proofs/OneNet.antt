@@ -1,14 +1,14 @@
 -- A unit has one net only.
 use Rattle.std.proofs.Common.{ℕ, ◌≡◌, List, [], ◌∷◌, refl, sym, ◌∙◌, ap, subst, arith, length}
 use Rattle.std.specs.Cmp.Lexicographic.{nat_list_cmp_total}
-use Rattle.fb_tree.specs.Tree.{DeclTree}
-use Rattle.fb_library.specs.View.{Sources}
-use Rattle.fb_network.specs.LinkOrder.{link_cmp_total}
-use Rattle.fb_network.specs.Plain.{PlainNetwork}
-use Rattle.fb_network.specs.PlainFlat.{PlainFlat}
-use Rattle.fb_network.specs.Network.{View}
-use Rattle.fb_network.specs.Instances.{Held, AreInstances}
-use Rattle.fb_network.specs.FlatNet.{IsFlat}
+use Rattle.fb_wiring.specs.Tree.Tree.{DeclTree}
+use Rattle.fb_wiring.specs.Library.View.{Sources}
+use Rattle.fb_wiring.specs.Network.LinkOrder.{link_cmp_total}
+use Rattle.fb_wiring.specs.Network.Plain.{PlainNetwork}
+use Rattle.fb_wiring.specs.Network.PlainFlat.{PlainFlat}
+use Rattle.fb_wiring.specs.Network.Network.{View}
+use Rattle.fb_wiring.specs.Network.Instances.{Held, AreInstances}
+use Rattle.fb_wiring.specs.Network.FlatNet.{IsFlat}
 use Rattle.fb_compose.specs.SystemFlat.{IsSystemFlat}
 use Rattle.fb_compose.specs.declared.application.FlatApplication.{FlatApplication}
 use Rattle.fb_compose.proofs.BlockLemmas.{same_instances}

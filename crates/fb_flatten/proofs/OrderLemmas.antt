@@ -4,16 +4,16 @@ use Rattle.std.specs.Prelude.{Contains, ◌≢◌, option_map}
 use Rattle.std.specs.Option.{option_and_then}
 use Rattle.std.specs.FinMap.{get}
 use Rattle.std.proofs.lemmas.List.{get_or_default}
-use Rattle.fb_tree.specs.Tree.{DeclTree}
-use Rattle.fb_parse.specs.Body.{BodyTree, Whole, BrokenAt, body_of}
-use Rattle.fb_library.specs.View.{Sources, tree_at, tree_in, tree_of, mentions_at}
-use Rattle.fb_library.specs.Rests.{Rests, itself, through}
-use Rattle.fb_iface.specs.declared.code.Code.TheVariants.{Syntax}
-use Rattle.fb_iface.specs.declared.fault.Fault.{Fault}
-use Rattle.fb_faults.specs.Faults.{faults_of, syntax_faults_of, text_faults, body_faults}
-use Rattle.fb_network.specs.declared.network.Instance.{Instance}
-use Rattle.fb_network.specs.Network.{View}
-use Rattle.fb_network.specs.Clean.{IsDeclared}
+use Rattle.fb_wiring.specs.Tree.Tree.{DeclTree}
+use Rattle.fb_wiring.specs.Parse.Body.{BodyTree, Whole, BrokenAt, body_of}
+use Rattle.fb_wiring.specs.Library.View.{Sources, tree_at, tree_in, tree_of, mentions_at}
+use Rattle.fb_wiring.specs.Library.Rests.{Rests, itself, through}
+use Rattle.fb_wiring.specs.Iface.declared.code.Code.TheVariants.{Syntax}
+use Rattle.fb_wiring.specs.Iface.declared.fault.Fault.{Fault}
+use Rattle.fb_wiring.specs.Faults.Faults.{faults_of, syntax_faults_of, text_faults, body_faults}
+use Rattle.fb_wiring.specs.Network.declared.network.Instance.{Instance}
+use Rattle.fb_wiring.specs.Network.Network.{View}
+use Rattle.fb_wiring.specs.Network.Clean.{IsDeclared}
 use Rattle.fb_compose.specs.Ordered.{IsOrdered, AreClean}
 use Rattle.fb_wiring.specs.ByName.{declared}
 use Rattle.fb_wiring.specs.Networks.{network_of}

@@ -5,10 +5,10 @@ use Rattle.std.specs.BTreeMap.{is_at}
 use Rattle.std.proofs.lemmas.List.Elements.{Contains-push_cases}
 use Rattle.std.proofs.Math.Seq.{take-suc}
 use Rattle.fb_text.specs.Order.{name_cmp}
-use Rattle.fb_library.specs.View.{Sources}
-use Rattle.fb_network.specs.Plain.{PlainNetwork}
-use Rattle.fb_network.specs.Network.{View}
-use Rattle.fb_network.specs.Count.{IsCount}
+use Rattle.fb_wiring.specs.Library.View.{Sources}
+use Rattle.fb_wiring.specs.Network.Plain.{PlainNetwork}
+use Rattle.fb_wiring.specs.Network.Network.{View}
+use Rattle.fb_wiring.specs.Network.Count.{IsCount}
 use Rattle.fb_compose.proofs.Equals.{same_bytes, not_at, at_not}
 use Rattle.fb_compose.proofs.Members.{contains_nothing}
 use Rattle.fb_compose.specs.Counts.{IsCounted}

@@ -4,29 +4,29 @@ use Rattle.std.specs.Prelude.{Contains, IfOk, option_map}
 use Rattle.std.proofs.Math.Seq.{take-suc}
 use Rattle.std.specs.List.Sorted.{IsStrictlySortedBy}
 use Rattle.fb_text.specs.Order.{name_cmp}
-use Rattle.fb_tree.specs.Mentions.{kind_of}
-use Rattle.fb_tree.specs.Tree.{DeclTree, block_type, adapter_type, subapplication_type, system_configuration}
-use Rattle.fb_tree.specs.declared.kinds.UnitKind.{UnitKind}
-use Rattle.fb_tree.specs.declared.kinds.UnitKind.TheVariants as kinds
-use Rattle.fb_library.specs.View.{Sources, tree_at}
-use Rattle.fb_library.specs.Rests.{Rests, itself}
+use Rattle.fb_wiring.specs.Tree.Mentions.{kind_of}
+use Rattle.fb_wiring.specs.Tree.Tree.{DeclTree, block_type, adapter_type, subapplication_type, system_configuration}
+use Rattle.fb_wiring.specs.Tree.declared.kinds.UnitKind.{UnitKind}
+use Rattle.fb_wiring.specs.Tree.declared.kinds.UnitKind.TheVariants as kinds
+use Rattle.fb_wiring.specs.Library.View.{Sources, tree_at}
+use Rattle.fb_wiring.specs.Library.Rests.{Rests, itself}
 use Rattle.fb_order.proofs.OrderLemmas.{ordered_not_recursive}
-use Rattle.fb_network.specs.declared.count.TheConstants.{INSTANCE_LIMIT}
-use Rattle.fb_network.specs.declared.network.Instance.{Instance}
-use Rattle.fb_network.specs.declared.network.Port.{Port}
-use Rattle.fb_network.specs.Plain.{PlainNetwork}
-use Rattle.fb_network.specs.PlainFlat.{PlainFlat}
-use Rattle.fb_network.specs.Network.{View, IsInner}
-use Rattle.fb_network.specs.Instances.{AreInstances}
-use Rattle.fb_network.specs.Count.{IsCount}
-use Rattle.fb_network.specs.Clean.{IsCleanThroughout, CleanThroughout}
-use Rattle.fb_network.specs.FlatNet.{IsFlat}
+use Rattle.fb_wiring.specs.Network.declared.count.TheConstants.{INSTANCE_LIMIT}
+use Rattle.fb_wiring.specs.Network.declared.network.Instance.{Instance}
+use Rattle.fb_wiring.specs.Network.declared.network.Port.{Port}
+use Rattle.fb_wiring.specs.Network.Plain.{PlainNetwork}
+use Rattle.fb_wiring.specs.Network.PlainFlat.{PlainFlat}
+use Rattle.fb_wiring.specs.Network.Network.{View, IsInner}
+use Rattle.fb_wiring.specs.Network.Instances.{AreInstances}
+use Rattle.fb_wiring.specs.Network.Count.{IsCount}
+use Rattle.fb_wiring.specs.Network.Clean.{IsCleanThroughout, CleanThroughout}
+use Rattle.fb_wiring.specs.Network.FlatNet.{IsFlat}
 use Rattle.fb_compose.proofs.Composing.{found_by_name}
 use Rattle.fb_compose.specs.Counts.{AreCounted}
 use Rattle.fb_compose.specs.Ready.{Nets}
 use Rattle.fb_compose.specs.Ordered.{AreFlat}
 use Rattle.fb_compose.specs.declared.application.FlatApplication.{FlatApplication}
-use Rattle.fb_iface.proofs.Members.{contains_nothing, contains_here, contains_later, origin_in_map, contains_flat_map}
+use Rattle.fb_wiring.proofs.Iface.Members.{contains_nothing, contains_here, contains_later, origin_in_map, contains_flat_map}
 use Rattle.fb_wiring.specs.Applications.{applications_of, plain_application}
 use Rattle.fb_wiring.specs.Networks.{network_of}
 use Rattle.fb_wiring.specs.ByName.{applications_at, declared, kind_at}

@@ -7,3 +7,12 @@ pub mod Tables
 pub mod Laws
 pub mod Far
 pub mod Nets
+-- Passed on to the crates above, which do not list these libraries.
+pub use Rattle.fb_wiring.specs.Tree as Tree
+pub use Rattle.fb_wiring.specs.Parse as Parse
+pub use Rattle.fb_wiring.specs.Library as Library
+pub use Rattle.fb_wiring.specs.Iface as Iface
+pub use Rattle.fb_wiring.specs.Netcheck as Netcheck
+pub use Rattle.fb_wiring.specs.Faults as Faults
+pub use Rattle.fb_wiring.specs.Network as Network
+pub use Rattle.fb_wiring.specs as Wiring

@@ -1,19 +1,19 @@
 -- Networks, counts and flat networks of the names of an order.
 use Rattle.std.specs.Prelude.{ℕ, ◌≡◌, ◌≢◌, ◌↔◌, ◌+◌, Bool, true, false, List, [], Option, Some, None, Contains, length, min}
 use Rattle.std.specs.FinMap.{get}
-use Rattle.fb_tree.specs.Tree.{DeclTree, block_type, adapter_type, subapplication_type, system_configuration}
-use Rattle.fb_library.specs.View.{Sources}
-use Rattle.fb_library.specs.Rests.{Rests}
-use Rattle.fb_faults.specs.Faults.{faults_of}
+use Rattle.fb_wiring.specs.Tree.Tree.{DeclTree, block_type, adapter_type, subapplication_type, system_configuration}
+use Rattle.fb_wiring.specs.Library.View.{Sources}
+use Rattle.fb_wiring.specs.Library.Rests.{Rests}
+use Rattle.fb_wiring.specs.Faults.Faults.{faults_of}
 use Rattle.fb_order.specs.Order.{IsOrdered}
-use Rattle.fb_network.specs.declared.count.TheConstants.{INSTANCE_LIMIT}
-use Rattle.fb_network.specs.declared.network.Instance.{Instance}
-use Rattle.fb_network.specs.Plain.{PlainNetwork}
-use Rattle.fb_network.specs.PlainFlat.{PlainFlat}
-use Rattle.fb_network.specs.Network.{View}
-use Rattle.fb_network.specs.Instances.{Held}
-use Rattle.fb_network.specs.Clean.{IsClean, IsCleanThroughout}
-use Rattle.fb_network.specs.FlatNet.{IsFlat}
+use Rattle.fb_wiring.specs.Network.declared.count.TheConstants.{INSTANCE_LIMIT}
+use Rattle.fb_wiring.specs.Network.declared.network.Instance.{Instance}
+use Rattle.fb_wiring.specs.Network.Plain.{PlainNetwork}
+use Rattle.fb_wiring.specs.Network.PlainFlat.{PlainFlat}
+use Rattle.fb_wiring.specs.Network.Network.{View}
+use Rattle.fb_wiring.specs.Network.Instances.{Held}
+use Rattle.fb_wiring.specs.Network.Clean.{IsClean, IsCleanThroughout}
+use Rattle.fb_wiring.specs.Network.FlatNet.{IsFlat}
 use Rattle.fb_compose.specs.Counts.{IsCounted, AreCounted}
 use Rattle.fb_compose.specs.Ready.{Nets, AreFinished}
 use Rattle.fb_compose.specs.SystemFlat.{IsSystemFlat}

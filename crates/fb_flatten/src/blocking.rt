@@ -2,9 +2,9 @@
 ghost use Rattle.std.specs.Prelude.{◌≡◌, IfOk, filter};
 ghost use Rattle.fb_flatten.specs.Blocking.{is_blocking, is_some_name};
 
-use fb_faults::faults;
-use fb_library::View;
 use fb_text::Name;
+use fb_wiring::faults::faults;
+use fb_wiring::library::View;
 use std::alloc::{AllocError, Global};
 
 /// Whether the name is that of no unit, or of one with faults.

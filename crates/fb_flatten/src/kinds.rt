@@ -1,11 +1,11 @@
 //! Which units have nets.
 ghost use Rattle.std.specs.Prelude.{◌≡◌, ◌↔◌, IsTrue};
-ghost use Rattle.fb_tree.specs.Tree.{decl_tree};
+ghost use Rattle.fb_wiring.specs.Tree.Tree.{decl_tree};
 ghost use Rattle.fb_flatten.specs.Units.{HasNet, has_net_tree};
 
-use fb_library::{View, tree_by_name};
 use fb_text::Name;
-use fb_tree::Decl;
+use fb_wiring::library::{View, tree_by_name};
+use fb_wiring::tree::Decl;
 
 fn is_of_net(decl: &Decl) -> bool
     ensures { result ≡ has_net_tree (decl_tree decl.now) }

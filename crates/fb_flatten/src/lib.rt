@@ -10,12 +10,11 @@ mod tables;
 mod units;
 
 pub use computed::{all_far, is_of_net, net_of_unit};
+pub use fb_compose as compose;
+pub use fb_wiring::{faults, iface, library, network, parse, tree};
 pub use kinds::has_net;
 pub use laws::{
     far_is_all, far_of_is_local, flat_networks_are_local, has_net_by_text, net_at_is_local,
     net_at_is_net, net_is_local, one_net,
 };
 pub use net::{Net, net_of};
-
-#[cfg(test)]
-mod tests;

@@ -6,10 +6,10 @@ ghost use Rattle.fb_compose.specs.Ordered.{IsOrdered};
 ghost use Rattle.fb_flatten.specs.Tables.{AddsCount, AllCounted, IsCountable, IsTable};
 
 use fb_compose::count_instances;
-use fb_library::{View, tree_by_name};
-use fb_network::Network;
 use fb_text::Name;
+use fb_wiring::library::{View, tree_by_name};
 use fb_wiring::network;
+use fb_wiring::network::Network;
 use std::alloc::{AllocError, Global};
 use std::collections::BTreeMap;
 

@@ -2,7 +2,7 @@
 ghost use Rattle.std.specs.Prelude.{◌≡◌, List, Contains, IfOk};
 ghost use Rattle.std.specs.BTreeMap.{get};
 ghost use Rattle.fb_text.specs.Order.{name_cmp};
-ghost use Rattle.fb_tree.specs.Tree.{decl_tree};
+ghost use Rattle.fb_wiring.specs.Tree.Tree.{decl_tree};
 ghost use Rattle.fb_compose.specs.Ordered.{AreClean, IsOrdered};
 ghost use Rattle.fb_wiring.specs.declared.systems.Application.{Application as ApplicationValue};
 ghost use Rattle.fb_flatten.specs.Tables.{IsComposable, IsFitting, IsFlatTogether, IsFlatUnder, IsSoundOrder, IsTable, IsUnitCount, is_system_tree};
@@ -10,10 +10,10 @@ ghost use Rattle.fb_flatten.specs.Units.{AreFlatApplications, HasNet, IsFlatAppl
 
 use crate::tables::{Table, counts_in_order};
 use fb_compose::{FlatApplication, compose, compose_in_order, count_instances, join};
-use fb_library::{View, tree_by_name};
-use fb_network::{Flat, Instance, Network};
 use fb_text::Name;
-use fb_tree::Decl;
+use fb_wiring::library::{View, tree_by_name};
+use fb_wiring::network::{Flat, Instance, Network};
+use fb_wiring::tree::Decl;
 use fb_wiring::{Application, applications, network};
 use std::alloc::{AllocError, Global};
 use std::collections::BTreeMap;

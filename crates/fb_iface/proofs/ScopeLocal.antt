@@ -9,8 +9,8 @@ use Rattle.std.proofs.lemmas.Simd.{map-map}
 use Rattle.fb_text.specs.Order.{name_cmp, names_in_order}
 use Rattle.fb_text.specs.declared.name.NameUse.{NameUse}
 use Rattle.fb_text.proofs.OrderLemmas.{in_order-members}
-use Rattle.fb_tree.specs.Mentions.{types_in}
-use Rattle.fb_tree.specs.Tree.{InstanceTree, NetworkTree, TypeTree}
+use Rattle.fb_library.specs.Tree.Mentions.{types_in}
+use Rattle.fb_library.specs.Tree.Tree.{InstanceTree, NetworkTree, TypeTree}
 use Rattle.fb_library.specs.View.{Sources, mentions_at, near_of, tree_at, tree_of}
 use Rattle.fb_iface.proofs.TableLemmas.{is_it}
 use Rattle.fb_iface.specs.Names.{first_ones, has_name, is_same}

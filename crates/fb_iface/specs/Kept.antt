@@ -2,9 +2,9 @@
 use Rattle.std.specs.Prelude.{ℕ, List, Option, Some, None, cond, if◌then◌else◌, nat_eq, option_map}
 use Rattle.std.specs.Option.{option_or}
 use Rattle.std.specs.Cmp.Lexicographic.{pointwise}
-use Rattle.fb_tree.specs.Tree.{DeclTree}
-use Rattle.fb_tree.specs.Mentions.{kind_of}
-use Rattle.fb_tree.specs.declared.network.Role.{Role}
+use Rattle.fb_library.specs.Tree.Tree.{DeclTree}
+use Rattle.fb_library.specs.Tree.Mentions.{kind_of}
+use Rattle.fb_library.specs.Tree.declared.network.Role.{Role}
 use Rattle.fb_iface.specs.Ports.{Meanings, meanings_in}
 use Rattle.fb_iface.specs.Types.{suits}
 use Rattle.indexmap.specs.IndexMap.{get}

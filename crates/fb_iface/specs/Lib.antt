@@ -13,3 +13,10 @@ pub mod Scope
 pub mod Kept
 pub mod Declarations
 pub mod Rows
+-- Passed on to the crates above, which do not list these libraries.
+pub use Rattle.fb_library.specs.Lexemes as Lexemes
+pub use Rattle.fb_library.specs.Tree as Tree
+pub use Rattle.fb_library.specs.Forms as Forms
+pub use Rattle.fb_library.specs.Sections as Sections
+pub use Rattle.fb_library.specs.Parse as Parse
+pub use Rattle.fb_library.specs as Library

@@ -1,9 +1,9 @@
 -- What names stand for in a network: the unit's own names, and the ports of the types of its instances.
 use Rattle.std.specs.Prelude.{ℕ, [], List, map, Option, Some, None, if◌then◌else◌}
 use Rattle.std.specs.Option.{option_and_then}
-use Rattle.fb_tree.specs.Tree.{DeclTree, InstanceTree, NetworkTree, TypeTree}
-use Rattle.fb_tree.specs.Mentions.{kind_of}
-use Rattle.fb_tree.specs.declared.network.Role.{Role}
+use Rattle.fb_library.specs.Tree.Tree.{DeclTree, InstanceTree, NetworkTree, TypeTree}
+use Rattle.fb_library.specs.Tree.Mentions.{kind_of}
+use Rattle.fb_library.specs.Tree.declared.network.Role.{Role}
 use Rattle.fb_library.specs.View.{Sources, tree_at}
 use Rattle.fb_iface.specs.Names.{first_ones, has_name, stands_for}
 use Rattle.fb_iface.specs.Ports.{Meanings, instances_in, meanings_in, meanings_in_type}

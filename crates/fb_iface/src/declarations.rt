@@ -1,6 +1,6 @@
 //! The check of what a unit declares.
 ghost use Rattle.std.specs.Prelude.{◌≡◌, ◌++◌, IfOk, OnOk};
-ghost use Rattle.fb_tree.specs.Tree.{decl_tree};
+ghost use Rattle.fb_library.specs.Tree.Tree.{decl_tree};
 ghost use Rattle.fb_library.specs.View.{tree_at};
 ghost use Rattle.fb_iface.specs.Declarations.{declaration_faults, declared_name, iface_faults_of, mixed_faults, name_faults};
 ghost use Rattle.fb_iface.specs.Fault.{faults_in_order};
@@ -11,9 +11,9 @@ use crate::instances::report_types;
 use crate::literals::report_literals;
 use crate::repeats::report_duplicates;
 use crate::withs::report_withs;
+use fb_library::tree::Decl;
 use fb_library::{View, tree_by_name};
 use fb_text::{Name, NameUse, same_name};
-use fb_tree::Decl;
 use std::alloc::{AllocError, Global};
 
 /// The faults of what a unit declares, in order, each once.

@@ -1,13 +1,13 @@
 //! The types of instances, plugs and sockets.
 ghost use Rattle.std.specs.Prelude.{◌≡◌, ◌++◌, OnOk};
 ghost use Rattle.std.specs.List.{flat_map};
-ghost use Rattle.fb_tree.specs.Tree.{decl_tree, instance_tree, network_tree};
+ghost use Rattle.fb_library.specs.Tree.Tree.{decl_tree, instance_tree, network_tree};
 ghost use Rattle.fb_iface.specs.Types.{instance_faults, suits, type_faults};
 
 use crate::code::Code;
 use crate::fault::Fault;
+use fb_library::tree::{Application, Decl, Instance, Network, Role, UnitKind, kind};
 use fb_library::{View, tree_by_name};
-use fb_tree::{Application, Decl, Instance, Network, Role, UnitKind, kind};
 use std::alloc::AllocError;
 
 /// Reports the types that are absent, broken or of another kind.

@@ -20,6 +20,8 @@ pub use classes::{Class, class_by_form, class_by_name, class_of, class_of_consta
 pub use code::Code;
 pub use declarations::iface_faults;
 pub use fault::{Fault, sorted_faults};
+pub use fb_library as library;
+pub use fb_library::{parse, tree};
 pub use instances::is_suited;
 pub use interfaces::{interface, ports_of};
 pub use laws::{
@@ -33,6 +35,3 @@ pub use ports::{
     DeclaredEvent, DeclaredInstance, DeclaredVariable, Ports, is_beside, is_same_side,
 };
 pub use scope::Scope;
-
-#[cfg(test)]
-mod tests;

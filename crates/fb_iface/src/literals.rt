@@ -1,14 +1,14 @@
 //! Constants that do not fit their type.
 ghost use Rattle.std.specs.Prelude.{◌≡◌, ◌++◌, OnOk};
-ghost use Rattle.fb_tree.specs.Tree.{one_value, constant_tree, decl_tree, interface_tree, variables_tree};
+ghost use Rattle.fb_library.specs.Tree.Tree.{one_value, constant_tree, decl_tree, interface_tree, variables_tree};
 ghost use Rattle.fb_iface.specs.Declarations.{literal_faults_of};
 ghost use Rattle.fb_iface.specs.Literals.{constant_faults, fits_alone, initial_faults, list_faults, literal_fault, literal_faults, misfits, simple_span};
 
 use crate::classes::{Class, class_by_name, class_of, class_of_constant, is_taken};
 use crate::code::Code;
 use crate::fault::Fault;
+use fb_library::tree::{Constant, Decl, Interface, Simple, TypeForm, TypeUse, Variables};
 use fb_text::Span;
-use fb_tree::{Constant, Decl, Interface, Simple, TypeForm, TypeUse, Variables};
 use std::alloc::AllocError;
 
 /// Reports the initial values that do not fit their type.

@@ -2,8 +2,10 @@
 ghost use Rattle.std.specs.Prelude.{◌≡◌};
 ghost use Rattle.fb_text.specs.declared.name.NameUse.{NameUse};
 
+use fb_library::tree::{
+    Algorithm, Application, Device, Event, Instance, Parameter, Resource, State,
+};
 use fb_text::NameUse;
-use fb_tree::{Algorithm, Application, Device, Event, Instance, Parameter, Resource, State};
 
 /// What declares a name.
 pub trait Named {

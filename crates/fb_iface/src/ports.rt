@@ -1,14 +1,14 @@
 //! The ports of a unit (IEC 61499-1, 5.2: interfaces of function block types; 5.5: adapters).
 ghost use Rattle.std.specs.Prelude.{◌≡◌, ◌++◌, IfOk, OnOk};
-ghost use Rattle.fb_tree.specs.Tree.{interface_tree, network_tree, variables_tree};
+ghost use Rattle.fb_library.specs.Tree.Tree.{interface_tree, network_tree, variables_tree};
 ghost use Rattle.fb_iface.specs.Ports.{events_in, instances_in, same_role, same_side, variables_in, variables_together};
 ghost use Rattle.fb_iface.specs.Sides.{goes_with};
 
 use crate::names::first_declared;
-use fb_text::{Name, NameUse};
-use fb_tree::{
+use fb_library::tree::{
     Event, Instance, Interface, Network, Role, Section, Side, TypeDeclaration, TypeUse, Variables,
 };
+use fb_text::{Name, NameUse};
 use indexmap::IndexMap;
 use std::alloc::{AllocError, Global};
 use std::marker::Model;
@@ -54,9 +54,9 @@ impl Model for Ports {
 impl Ports {
     ghost use Rattle.std.specs.Prelude.{[]};
     ghost use Rattle.std.specs.Option.{option_copied};
-    ghost use Rattle.fb_tree.specs.Tree.{type_tree};
-    ghost use Rattle.fb_tree.specs.declared.interface.Side.TheVariants as sides;
-    ghost use Rattle.fb_tree.specs.declared.network.Role.TheVariants as roles;
+    ghost use Rattle.fb_library.specs.Tree.Tree.{type_tree};
+    ghost use Rattle.fb_library.specs.Tree.declared.interface.Side.TheVariants as sides;
+    ghost use Rattle.fb_library.specs.Tree.declared.network.Role.TheVariants as roles;
     ghost use Rattle.fb_iface.specs.Names.{first_ones, stands_for};
     ghost use Rattle.fb_iface.specs.Ports.{data_on, events_on, instances_as, meanings_in_type};
 

@@ -1,18 +1,18 @@
 //! Names that are declared again in their name space.
 ghost use Rattle.std.specs.Prelude.{◌≡◌, ◌++◌, map, IfOk, OnOk};
 ghost use Rattle.std.specs.List.{flat_map};
-ghost use Rattle.fb_tree.specs.Tree.{chart_tree, decl_tree, device_tree, instance_tree, interface_tree, network_tree, system_tree, type_tree};
+ghost use Rattle.fb_library.specs.Tree.Tree.{chart_tree, decl_tree, device_tree, instance_tree, interface_tree, network_tree, system_tree, type_tree};
 ghost use Rattle.fb_iface.specs.Declarations.{duplicate_faults, space_duplicates};
 ghost use Rattle.fb_iface.specs.Spaces.{chart_spaces, interface_spaces, network_spaces, parameter_names, resource_names, system_spaces, type_spaces};
 
 use crate::code::Code;
 use crate::fault::Fault;
 use crate::named::Named;
-use fb_text::NameUse;
-use fb_tree::{
+use fb_library::tree::{
     Application, Chart, Decl, Device, Instance, Interface, Network, Role, System, TypeDeclaration,
     Variables,
 };
+use fb_text::NameUse;
 use std::alloc::{AllocError, Global};
 use std::collections::BTreeSet;
 

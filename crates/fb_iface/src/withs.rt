@@ -3,7 +3,7 @@ ghost use Rattle.std.specs.Prelude.{◌≡◌, ◌++◌, OnOk, nat_eq};
 ghost use Rattle.std.specs.List.{flat_map};
 ghost use Rattle.std.specs.Cmp.Lexicographic.{pointwise};
 ghost use Rattle.indexmap.specs.IndexMap.{get};
-ghost use Rattle.fb_tree.specs.Tree.{decl_tree, event_tree, interface_tree};
+ghost use Rattle.fb_library.specs.Tree.Tree.{decl_tree, event_tree, interface_tree};
 ghost use Rattle.fb_iface.specs.Declarations.{with_faults_of};
 ghost use Rattle.fb_iface.specs.Withs.{carries, event_withs, with_faults};
 
@@ -11,8 +11,8 @@ use crate::code::Code;
 use crate::fault::Fault;
 use crate::names::first_declared;
 use crate::ports::{DeclaredVariable, declared_variables, is_beside};
+use fb_library::tree::{Decl, Event, Interface, Side};
 use fb_text::Name;
-use fb_tree::{Decl, Event, Interface, Side};
 use indexmap::IndexMap;
 use std::alloc::{AllocError, Global};
 

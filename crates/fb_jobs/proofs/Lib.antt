@@ -2,3 +2,7 @@ pub mod Currents
 pub mod KeyLemmas
 pub mod SameNeeds
 pub mod Sources
+-- Passed on to the crates above, which do not list these libraries.
+pub use Rattle.fb_flatten.proofs.Tree as Tree
+pub use Rattle.fb_flatten.proofs.Library as Library
+pub use Rattle.fb_flatten.proofs.Iface as Iface

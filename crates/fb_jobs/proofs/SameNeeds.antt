@@ -9,14 +9,14 @@ use Rattle.std.specs.declared.cmp.Ordering.TheVariants.{Less, Equal, Greater}
 use Rattle.std.proofs.lemmas.Cmp.{tied_itself}
 use Rattle.fb_text.specs.Order.{name_cmp}
 use Rattle.fb_text.proofs.OrderLemmas.{in_order-sorted}
-use Rattle.fb_library.specs.Texts.{Texts, sources_of}
-use Rattle.fb_library.specs.View.{Sources, near_of, mentions_at}
-use Rattle.fb_library.specs.Local as local
-use Rattle.fb_library.proofs.Names.{name_total, exact_name}
-use Rattle.fb_library.proofs.Sources.{get_source}
-use Rattle.fb_library.proofs.WalkLemmas.{has-Contains}
-use Rattle.fb_library.proofs.LocalLemmas.{near_unit, near_local}
-use Rattle.fb_faults.proofs.LocalLemmas.{faults_local}
+use Rattle.fb_flatten.specs.Library.Texts.{Texts, sources_of}
+use Rattle.fb_flatten.specs.Library.View.{Sources, near_of, mentions_at}
+use Rattle.fb_flatten.specs.Library.Local as local
+use Rattle.fb_flatten.proofs.Library.Names.{name_total, exact_name}
+use Rattle.fb_flatten.proofs.Library.Sources.{get_source}
+use Rattle.fb_flatten.proofs.Library.WalkLemmas.{has-Contains}
+use Rattle.fb_flatten.proofs.Library.LocalLemmas.{near_unit, near_local}
+use Rattle.fb_flatten.proofs.Faults.LocalLemmas.{faults_local}
 use Rattle.fb_flatten.specs.Far.{far_of}
 use Rattle.fb_flatten.proofs.FarNames.{far_is_all, far_of_local, far_unit}
 use Rattle.fb_flatten.proofs.ComputedNets.{net_at_local}

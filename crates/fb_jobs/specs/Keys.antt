@@ -1,10 +1,10 @@
 -- Which keys texts have, what a key needs, and what reading it from scratch gives.
 use Rattle.std.specs.Prelude.{ℕ, Bool, false, List, Option, Some, None, is_some}
 use Rattle.std.specs.Option.{option_and_then}
-use Rattle.fb_library.specs.Texts.{Texts, text_at, sources_of}
-use Rattle.fb_library.specs.View.{Sources, near_of, tree_of}
-use Rattle.fb_iface.specs.declared.fault.Fault.{Fault}
-use Rattle.fb_faults.specs.Faults.{faults_of}
+use Rattle.fb_flatten.specs.Library.Texts.{Texts, text_at, sources_of}
+use Rattle.fb_flatten.specs.Library.View.{Sources, near_of, tree_of}
+use Rattle.fb_flatten.specs.Iface.declared.fault.Fault.{Fault}
+use Rattle.fb_flatten.specs.Faults.Faults.{faults_of}
 use Rattle.fb_flatten.specs.Net.{PlainNet}
 use Rattle.fb_flatten.specs.Far.{far_of}
 use Rattle.fb_flatten.specs.Nets.{has_net_in, net_at}

@@ -3,8 +3,8 @@ use Rattle.std.specs.Prelude.{◌≡◌, ℕ, List, map, Option, Some, None}
 use Rattle.std.specs.Option.{MatchOption}
 use Rattle.std.specs.declared.sync.Arc.{Arc}
 use Rattle.std.specs.declared.alloc.Global.{Global}
-use Rattle.fb_library.specs.Texts.{Held}
-use Rattle.fb_parse.specs.Source.{Written}
+use Rattle.fb_flatten.specs.Library.Texts.{Held}
+use Rattle.fb_flatten.specs.Parse.Source.{Written}
 use Rattle.fb_flatten.specs.Net.{plain_net}
 use Rattle.fb_jobs.specs.Keys.{Finding, FaultsFound, NetFound}
 use Rattle.fb_jobs.specs.Reads.{Seen}

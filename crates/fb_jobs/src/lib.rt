@@ -9,12 +9,11 @@ mod reads;
 mod result;
 mod value;
 
+pub use fb_flatten as flatten;
+pub use fb_flatten::{iface, library, network, parse, tree};
 pub use job::Job;
 pub use key::{Key, Kind};
 pub use laws::{current_reads, least_stale, locality, needs_in_order};
 pub use read::{Read, has_key, needed};
 pub use result::Finished;
 pub use value::Value;
-
-#[cfg(test)]
-mod tests;

@@ -3,9 +3,9 @@ ghost use Rattle.std.specs.Prelude.{◌≡◌, IfOk, All};
 ghost use Rattle.fb_jobs.specs.Keys.{needs, has_key};
 
 use crate::key::{Key, Kind};
+use fb_flatten::library::{Library, near};
+use fb_flatten::parse::Source;
 use fb_flatten::{all_far, is_of_net};
-use fb_library::{Library, near};
-use fb_parse::Source;
 use fb_text::Name;
 use std::alloc::{AllocError, Global};
 use std::sync::Arc;

@@ -5,10 +5,10 @@ ghost use Rattle.fb_jobs.specs.Keys.{has_kind_at, scratch_of};
 ghost use Rattle.fb_jobs.specs.Values.{finding_of};
 
 use crate::key::{Key, Kind};
-use fb_faults::faults;
+use fb_flatten::faults::faults;
+use fb_flatten::iface::Fault;
+use fb_flatten::library::View;
 use fb_flatten::{Net, net_of_unit};
-use fb_iface::Fault;
-use fb_library::View;
 use std::alloc::{AllocError, Global};
 
 /// What an entry holds once it is not pending.

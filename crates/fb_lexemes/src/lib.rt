@@ -7,6 +7,3 @@ mod lexeme;
 
 pub use kind::{Kind, own_numbers};
 pub use lexeme::{Lexeme, lexemes, names_are_words};
-
-#[cfg(test)]
-mod tests;

@@ -7,3 +7,9 @@ pub mod Texts
 pub mod Changes
 pub mod Place
 pub mod Shelf
+-- Passed on to the crates above, which do not list these libraries.
+pub use Rattle.fb_parse.specs.Lexemes as Lexemes
+pub use Rattle.fb_parse.specs.Tree as Tree
+pub use Rattle.fb_parse.specs.Forms as Forms
+pub use Rattle.fb_parse.specs.Sections as Sections
+pub use Rattle.fb_parse.specs as Parse

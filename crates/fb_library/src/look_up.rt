@@ -2,12 +2,12 @@
 ghost use Rattle.std.specs.Prelude.{◌≡◌};
 ghost use Rattle.std.specs.Option.{option_map};
 ghost use Rattle.std.specs.FinMap as map;
-ghost use Rattle.fb_tree.specs.Tree.{decl_tree, type_tree};
+ghost use Rattle.fb_parse.specs.Tree.Tree.{decl_tree, type_tree};
 ghost use Rattle.fb_library.specs.View.{Sources, tree_of, type_in, tree_at, declaration_at};
 
+use fb_parse::tree::{Decl, TypeDeclaration};
 use fb_parse::{Body, Source};
 use fb_text::Name;
-use fb_tree::{Decl, TypeDeclaration};
 
 /// Sources by the names of their units: a library, or what a job has read of one.
 pub trait View {

@@ -1,12 +1,12 @@
 -- Systems are told by the kind of their trees.
 use Rattle.std.proofs.Common.{ℕ, ◌≡◌, Bool, true, false, List, Some, None, ap}
 use Rattle.std.specs.Prelude.{◌↔◌, option_map}
-use Rattle.fb_tree.specs.Mentions.{kind_of}
-use Rattle.fb_tree.specs.Tree.{DeclTree, block_type, adapter_type, subapplication_type, system_configuration}
-use Rattle.fb_tree.specs.declared.kinds.UnitKind.{UnitKind}
-use Rattle.fb_tree.specs.declared.kinds.UnitKind.TheVariants as kinds
-use Rattle.fb_library.specs.View.{Sources, tree_at}
-use Rattle.fb_wiring.specs.ByName.{kind_at}
+use Rattle.fb_flatten.specs.Tree.Mentions.{kind_of}
+use Rattle.fb_flatten.specs.Tree.Tree.{DeclTree, block_type, adapter_type, subapplication_type, system_configuration}
+use Rattle.fb_flatten.specs.Tree.declared.kinds.UnitKind.{UnitKind}
+use Rattle.fb_flatten.specs.Tree.declared.kinds.UnitKind.TheVariants as kinds
+use Rattle.fb_flatten.specs.Library.View.{Sources, tree_at}
+use Rattle.fb_flatten.specs.Wiring.ByName.{kind_at}
 use Rattle.fb_flatten.specs.Tables.{is_system_tree}
 use Rattle.fb_mapping.specs.Placed.{IsSystem}
 

@@ -11,3 +11,6 @@ pub mod StandingLocal
 pub mod PlaceLocal
 pub mod OnePlacement
 pub mod KindLemmas
+-- Passed on to the crates above, which do not list these libraries.
+pub use Rattle.fb_flatten.proofs.Compose as Compose
+pub use Rattle.fb_flatten.proofs as Flatten

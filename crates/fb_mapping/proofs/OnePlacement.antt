@@ -1,6 +1,6 @@
 -- A system has one placement only.
 use Rattle.std.proofs.Common.{ℕ, ◌≡◌, List, sym, ◌∙◌, ap}
-use Rattle.fb_library.specs.View.{Sources}
+use Rattle.fb_flatten.specs.Library.View.{Sources}
 use Rattle.fb_flatten.proofs.OneNet.{one_net_only}
 use Rattle.fb_mapping.specs.Laws.{OnePlace}
 use Rattle.fb_mapping.specs.Placed.{PlainPlaced, IsPlaced, placed_by}

@@ -1,12 +1,12 @@
 -- The placement of a system depends on the texts alone that the system rests on.
 use Rattle.std.proofs.Common.{ℕ, ◌≡◌, ◌++◌, Bool, List, Option, Some, None, refl, sym, ◌∙◌, ap, map}
 use Rattle.fb_text.specs.Order.{names_in_order}
-use Rattle.fb_tree.specs.Tree.{DeclTree, MappingTree}
-use Rattle.fb_library.specs.View.{Sources, tree_at}
-use Rattle.fb_library.specs.Rests.{itself}
-use Rattle.fb_library.specs.Local.{AgreeFar}
-use Rattle.fb_network.specs.PlainFlat.{PlainFlat}
-use Rattle.fb_network.specs.declared.flat.FlatBlock.{FlatBlock}
+use Rattle.fb_flatten.specs.Tree.Tree.{DeclTree, MappingTree}
+use Rattle.fb_flatten.specs.Library.View.{Sources, tree_at}
+use Rattle.fb_flatten.specs.Library.Rests.{itself}
+use Rattle.fb_flatten.specs.Library.Local.{AgreeFar}
+use Rattle.fb_flatten.specs.Network.PlainFlat.{PlainFlat}
+use Rattle.fb_flatten.specs.Network.declared.flat.FlatBlock.{FlatBlock}
 use Rattle.fb_flatten.specs.Net.{PlainNet, blocked, recursive, too_large, flat_net}
 use Rattle.fb_flatten.proofs.NetLocal.{net_local}
 use Rattle.fb_mapping.specs.Homes.{PlainHomes, astray, block_homes, homeless, homes_of, misplaced, unless_faulty}

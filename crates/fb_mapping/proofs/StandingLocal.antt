@@ -8,12 +8,12 @@ use Rattle.std.specs.FinMap.{slice_cmp-IsAntisymmetric, nat_cmp-IsAntisymmetric}
 use Rattle.std.specs.Cmp.Lexicographic.{nat_list_cmp_total}
 use Rattle.fb_text.specs.Order.{name_cmp}
 use Rattle.fb_text.proofs.OrderLemmas.{in_order-members}
-use Rattle.fb_tree.specs.Tree.{ApplicationTree, DeclTree, InstanceTree, block_type, adapter_type, subapplication_type, system_configuration}
-use Rattle.fb_tree.specs.Mentions.{mentioned_in, types_in}
-use Rattle.fb_library.specs.View.{Sources, tree_at, tree_of, mentions_at, mentions_in}
-use Rattle.fb_library.specs.Rests.{Rests, itself}
-use Rattle.fb_library.specs.Local.{AgreeFar}
-use Rattle.fb_compose.proofs.Members.{contains_nothing, contains_here, contains_later, contains_flat_map, contains_map}
+use Rattle.fb_flatten.specs.Tree.Tree.{ApplicationTree, DeclTree, InstanceTree, block_type, adapter_type, subapplication_type, system_configuration}
+use Rattle.fb_flatten.specs.Tree.Mentions.{mentioned_in, types_in}
+use Rattle.fb_flatten.specs.Library.View.{Sources, tree_at, tree_of, mentions_at, mentions_in}
+use Rattle.fb_flatten.specs.Library.Rests.{Rests, itself}
+use Rattle.fb_flatten.specs.Library.Local.{AgreeFar}
+use Rattle.fb_flatten.proofs.Compose.Members.{contains_nothing, contains_here, contains_later, contains_flat_map, contains_map}
 use Rattle.fb_flatten.proofs.OrderLemmas.{rests_on}
 use Rattle.fb_mapping.specs.Firsts.{first_at}
 use Rattle.fb_mapping.specs.Standing.{PlainStanding, application_called, inner_instances, is_placed, leads_nowhere, standing_among, standing_at, standing_beyond, standing_from, standing_inside}

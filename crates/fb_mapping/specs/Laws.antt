@@ -1,8 +1,8 @@
 -- Laws of placements.
 use Rattle.std.specs.Prelude.{ℕ, ◌≡◌, List}
-use Rattle.fb_tree.specs.Tree.{MappingTree}
-use Rattle.fb_library.specs.View.{Sources}
-use Rattle.fb_library.specs.Local.{AgreeFar}
+use Rattle.fb_flatten.specs.Tree.Tree.{MappingTree}
+use Rattle.fb_flatten.specs.Library.View.{Sources}
+use Rattle.fb_flatten.specs.Library.Local.{AgreeFar}
 use Rattle.fb_mapping.specs.Fronts.{IsNearest}
 use Rattle.fb_mapping.specs.Mappings.{home_of, resource_at}
 use Rattle.fb_mapping.specs.Placed.{PlainPlaced, IsPlaced}

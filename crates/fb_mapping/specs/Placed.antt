@@ -1,10 +1,10 @@
 -- The placement of a system on its resources (IEC 61499-1, clause 7: system configurations).
 use Rattle.std.specs.Prelude.{ℕ, ◌≡◌, List, Some}
-use Rattle.fb_tree.specs.declared.kinds.UnitKind.TheVariants.{System}
-use Rattle.fb_library.specs.View.{Sources}
-use Rattle.fb_wiring.specs.ByName.{kind_at}
-use Rattle.fb_network.specs.declared.flat.Link.{Link}
-use Rattle.fb_network.specs.PlainFlat.{PlainFlat}
+use Rattle.fb_flatten.specs.Tree.declared.kinds.UnitKind.TheVariants.{System}
+use Rattle.fb_flatten.specs.Library.View.{Sources}
+use Rattle.fb_flatten.specs.Wiring.ByName.{kind_at}
+use Rattle.fb_flatten.specs.Network.declared.flat.Link.{Link}
+use Rattle.fb_flatten.specs.Network.PlainFlat.{PlainFlat}
 use Rattle.fb_flatten.specs.Net.{PlainNet, IsNet, blocked, recursive, too_large, flat_net, plain_net}
 use Rattle.fb_mapping.specs.declared.homes.Home.{Home}
 use Rattle.fb_mapping.specs.declared.homes.Misplaced.{Misplaced}

@@ -4,9 +4,9 @@ ghost use Rattle.fb_mapping.specs.Placed.{IsPlaced, IsSystem, flat_placed, plain
 
 use crate::cuts::{cuts_of, home_table};
 use crate::homes::{Home, Homes, Misplaced, homes_of};
+use fb_flatten::library::View;
+use fb_flatten::network::{Flat, Link};
 use fb_flatten::{Net, net_of};
-use fb_library::View;
-use fb_network::{Flat, Link};
 use fb_text::Name;
 use std::alloc::{AllocError, Global};
 

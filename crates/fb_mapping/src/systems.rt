@@ -1,12 +1,12 @@
 //! Which units are systems.
 ghost use Rattle.std.specs.Prelude.{◌≡◌, ◌↔◌, IsTrue};
-ghost use Rattle.fb_tree.specs.Tree.{decl_tree};
+ghost use Rattle.fb_flatten.specs.Tree.Tree.{decl_tree};
 ghost use Rattle.fb_flatten.specs.Tables.{is_system_tree};
 ghost use Rattle.fb_mapping.specs.Placed.{IsSystem};
 
-use fb_library::{View, tree_by_name};
+use fb_flatten::library::{View, tree_by_name};
+use fb_flatten::tree::Decl;
 use fb_text::Name;
-use fb_tree::Decl;
 
 fn is_of_system(decl: &Decl) -> bool
     ensures { result ≡ is_system_tree (decl_tree decl.now) }

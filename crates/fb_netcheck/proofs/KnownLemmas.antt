@@ -7,7 +7,7 @@ use Rattle.std.specs.declared.alloc.Global.{Global}
 use Rattle.std.specs.declared.cmp.Ordering.{Ordering}
 use Rattle.std.specs.declared.cmp.Ordering.TheVariants.{Less, Equal, Greater}
 use Rattle.fb_text.specs.Order.{name_cmp}
-use Rattle.fb_library.specs.View.{Sources}
+use Rattle.fb_iface.specs.Library.View.{Sources}
 use Rattle.fb_netcheck.specs.Known.{AreSpellings, PartKey, part_cmp}
 use Rattle.fb_netcheck.specs.Spellings.{words_at}
 

@@ -4,3 +4,8 @@ pub mod KnownLemmas
 pub mod LocalLemmas
 pub mod RepeatLemmas
 pub mod RightLemmas
+-- Passed on to the crates above, which do not list these libraries.
+pub use Rattle.fb_iface.proofs.Tree as Tree
+pub use Rattle.fb_iface.proofs.Parse as Parse
+pub use Rattle.fb_iface.proofs.Library as Library
+pub use Rattle.fb_iface.proofs as Iface

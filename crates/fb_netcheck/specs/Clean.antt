@@ -1,12 +1,12 @@
 -- What networks without faults are like.
 use Rattle.std.specs.Prelude.{◌≡◌, ℕ, Bool, true, false, ◌&&◌, List, [], ◌∷◌, map, Option, Some, None}
 use Rattle.std.specs.List.{All}
-use Rattle.fb_tree.specs.Tree.{ApplicationTree, DeclTree, NetworkTree, TypeTree, block_type, adapter_type, subapplication_type, system_configuration}
-use Rattle.fb_tree.specs.declared.interface.TypeUse.{TypeUse}
-use Rattle.fb_tree.specs.declared.kinds.UnitKind.{UnitKind}
-use Rattle.fb_tree.specs.declared.kinds.UnitKind.TheVariants.{Block, Subapplication, System}
-use Rattle.fb_tree.specs.declared.network.Connection.{Connection}
-use Rattle.fb_library.specs.View.{Sources, tree_at}
+use Rattle.fb_iface.specs.Tree.Tree.{ApplicationTree, DeclTree, NetworkTree, TypeTree, block_type, adapter_type, subapplication_type, system_configuration}
+use Rattle.fb_iface.specs.Tree.declared.interface.TypeUse.{TypeUse}
+use Rattle.fb_iface.specs.Tree.declared.kinds.UnitKind.{UnitKind}
+use Rattle.fb_iface.specs.Tree.declared.kinds.UnitKind.TheVariants.{Block, Subapplication, System}
+use Rattle.fb_iface.specs.Tree.declared.network.Connection.{Connection}
+use Rattle.fb_iface.specs.Library.View.{Sources, tree_at}
 use Rattle.fb_iface.specs.Declarations.{iface_faults_of}
 use Rattle.fb_iface.specs.Ports.{same_side}
 use Rattle.fb_iface.specs.Scope.{scope_of_network, scope_of_type}

@@ -7,10 +7,10 @@ use Rattle.std.specs.Str.{str_to_ascii_uppercase}
 use Rattle.fb_text.specs.Tokens.{tokens_of}
 use Rattle.fb_text.specs.declared.token.Span.{Span}
 use Rattle.fb_text.specs.declared.token.Token.{Token}
-use Rattle.fb_tree.specs.declared.interface.TypeForm.{TypeForm}
-use Rattle.fb_tree.specs.declared.interface.TypeForm.TheVariants.{Plain, Sized, Array}
-use Rattle.fb_tree.specs.declared.interface.TypeUse.{TypeUse}
-use Rattle.fb_library.specs.View.{Sources}
+use Rattle.fb_iface.specs.Tree.declared.interface.TypeForm.{TypeForm}
+use Rattle.fb_iface.specs.Tree.declared.interface.TypeForm.TheVariants.{Plain, Sized, Array}
+use Rattle.fb_iface.specs.Tree.declared.interface.TypeUse.{TypeUse}
+use Rattle.fb_iface.specs.Library.View.{Sources}
 use Rattle.fb_iface.specs.Names.{is_same}
 
 -- whether a place in a text is between two characters, at its start or at its end

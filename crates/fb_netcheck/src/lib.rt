@@ -14,9 +14,8 @@ mod sides;
 mod spellings;
 mod types;
 
+pub use fb_iface as iface;
+pub use fb_iface::{library, parse, tree};
 pub use laws::{connections_are_right, net_faults_are_local, networks_are_fine};
 pub use networks::net_faults;
 pub use paths::{Placed, report_repeated};
-
-#[cfg(test)]
-mod tests;

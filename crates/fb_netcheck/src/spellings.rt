@@ -7,9 +7,9 @@ ghost use Rattle.std.specs.BTreeMap.{get};
 ghost use Rattle.fb_netcheck.specs.Known.{AreSpellings, part_cmp};
 ghost use Rattle.fb_netcheck.specs.Spellings.{is_boundary, part, same_type, same_words, text_at, word, words, words_at};
 
-use fb_library::View;
+use fb_iface::library::View;
+use fb_iface::tree::{TypeForm, TypeUse};
 use fb_text::{Name, Span, Token, TokenFault, same_name, tokens};
-use fb_tree::{TypeForm, TypeUse};
 use std::alloc::{AllocError, Global};
 use std::collections::BTreeMap;
 

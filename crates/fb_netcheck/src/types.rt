@@ -11,10 +11,10 @@ use crate::ends::{Flow, Position, Target, is_right_target, target_at};
 use crate::setting::Setting;
 use crate::sides::fault_at;
 use crate::spellings::{Spellings, is_same_type};
+use fb_iface::library::View;
+use fb_iface::tree::{Connection, End};
 use fb_iface::{Code, Fault, class_of};
-use fb_library::View;
 use fb_text::{Name, same_name};
-use fb_tree::{Connection, End};
 use std::alloc::{AllocError, Global};
 use std::collections::BTreeMap;
 

@@ -12,3 +12,5 @@ pub mod Flat
 pub mod Instances
 pub mod FlatNet
 pub mod Count
+-- Passed on to the crates above, which do not list these libraries.
+pub use Rattle.fb_tree.specs as Tree

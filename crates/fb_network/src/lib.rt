@@ -10,11 +10,9 @@ mod network;
 mod path;
 
 pub use count::INSTANCE_LIMIT;
+pub use fb_tree as tree;
 pub use flat::{Border, Flat, FlatBlock, Link};
 pub use network::{
     Connection, End, Instance, InstanceKind, Network, Port, is_same_sort, sort_number,
 };
 pub use path::Path;
-
-#[cfg(test)]
-mod tests;

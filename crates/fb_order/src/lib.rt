@@ -8,6 +8,3 @@ mod search;
 pub use laws::{ordered_is_not_recursive, recursion_is_local};
 pub use loops::recursive;
 pub use search::inner_first;
-
-#[cfg(test)]
-mod tests;

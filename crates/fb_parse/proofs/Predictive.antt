@@ -1,14 +1,14 @@
 -- One token tells how to go on in the grammar of units.
 use Rattle.std.proofs.Common.{◌≡◌, true, List, [], ◌∷◌, ◌++◌, refl, inl, inr}
-use Rattle.fb_lexemes.specs.Kind.{name_kinds}
-use Rattle.fb_lexemes.specs.declared.kind.Kind.{Kind}
-use Rattle.fb_lexemes.specs.declared.kind.Kind.TheVariants.{One, Point, OpenBracket, CloseBracket, Semicolon, Ampersand, And, FunctionBlock, EndFunctionBlock, Adapter, EndAdapter, Subapplication, EndSubapplication, System, EndSystem, Application, EndApplication, Device, Mappings, EventInput, EventOutput, VarInput, VarOutput, Var, Plugs, Sockets, Fbs, Subapps, EventConnections, DataConnections, AdapterConnections, EcStates, EcTransitions, Algorithm, Service}
+use Rattle.fb_sections.specs.Lexemes.Kind.{name_kinds}
+use Rattle.fb_sections.specs.Lexemes.declared.kind.Kind.{Kind}
+use Rattle.fb_sections.specs.Lexemes.declared.kind.Kind.TheVariants.{One, Point, OpenBracket, CloseBracket, Semicolon, Ampersand, And, FunctionBlock, EndFunctionBlock, Adapter, EndAdapter, Subapplication, EndSubapplication, System, EndSystem, Application, EndApplication, Device, Mappings, EventInput, EventOutput, VarInput, VarOutput, Var, Plugs, Sockets, Fbs, Subapps, EventConnections, DataConnections, AdapterConnections, EcStates, EcTransitions, Algorithm, Service}
 use Rattle.fb_text.specs.declared.name.NameUse.{NameUse}
-use Rattle.fb_forms.specs.Form.{Form, both, many, as_value}
-use Rattle.fb_forms.specs.Reading.{is_predictive, first, after, are_apart}
-use Rattle.fb_forms.specs.Words.{key, before, behind, name}
-use Rattle.fb_forms.proofs.Forms.{among_left, among_right}
-use Rattle.fb_forms.proofs.Shapes.{Closed, Shape, among_append, apart_within, closed_either}
+use Rattle.fb_sections.specs.Forms.Form.{Form, both, many, as_value}
+use Rattle.fb_sections.specs.Forms.Reading.{is_predictive, first, after, are_apart}
+use Rattle.fb_sections.specs.Forms.Words.{key, before, behind, name}
+use Rattle.fb_sections.proofs.Forms.Forms.{among_left, among_right}
+use Rattle.fb_sections.proofs.Forms.Shapes.{Closed, Shape, among_append, apart_within, closed_either}
 use Rattle.fb_sections.specs.Skipped.{all_kinds, others, skipped}
 use Rattle.fb_sections.specs.Network.{end}
 use Rattle.fb_sections.specs.Sections.{optional_name}

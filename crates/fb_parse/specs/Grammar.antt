@@ -1,15 +1,15 @@
 -- The grammar of the texts of units.
 use Rattle.fb_text.specs.declared.name.NameUse.{NameUse}
-use Rattle.fb_lexemes.specs.declared.kind.Kind.{Kind}
-use Rattle.fb_lexemes.specs.declared.kind.Kind.TheVariants.{FunctionBlock, EndFunctionBlock, Adapter, EndAdapter, Subapplication, EndSubapplication, Application, EndApplication, System, EndSystem}
-use Rattle.fb_forms.specs.Form.{Form, both, either, many, as_value}
-use Rattle.fb_forms.specs.Words.{key, before, behind, name}
+use Rattle.fb_sections.specs.Lexemes.declared.kind.Kind.{Kind}
+use Rattle.fb_sections.specs.Lexemes.declared.kind.Kind.TheVariants.{FunctionBlock, EndFunctionBlock, Adapter, EndAdapter, Subapplication, EndSubapplication, Application, EndApplication, System, EndSystem}
+use Rattle.fb_sections.specs.Forms.Form.{Form, both, either, many, as_value}
+use Rattle.fb_sections.specs.Forms.Words.{key, before, behind, name}
 use Rattle.fb_sections.specs.Chart.{states}
 use Rattle.fb_sections.specs.Interface.{events, data_variables, internal_variables}
 use Rattle.fb_sections.specs.Network.{plugs, sockets, blocks, subapplications, connections}
 use Rattle.fb_sections.specs.Skipped.{service}
 use Rattle.fb_sections.specs.SystemParts.{device, mappings}
-use Rattle.fb_tree.specs.Tree.{TypeTree, ApplicationTree, SystemTree, DeclTree, block_type, adapter_type, subapplication_type, system_configuration}
+use Rattle.fb_sections.specs.Tree.Tree.{TypeTree, ApplicationTree, SystemTree, DeclTree, block_type, adapter_type, subapplication_type, system_configuration}
 use Rattle.fb_parse.specs.Chart.{transitions, algorithm}
 use Rattle.fb_parse.specs.Contents.{ContentsTree, nothing, of_events, of_variables, of_adapters, of_instances, of_connections, of_states, of_transitions, of_algorithm, joined}
 use Rattle.fb_parse.specs.SystemContents.{SystemContentsTree, of_application, of_device, of_mappings, system_joined}

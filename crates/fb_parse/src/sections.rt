@@ -1,8 +1,8 @@
 //! The sections of declarations, each as what it holds.
 
-ghost use Rattle.fb_forms.specs.Form.{as_value};
-ghost use Rattle.fb_forms.specs.Gives.{Gives};
-ghost use Rattle.fb_forms.specs.Reading.{read};
+ghost use Rattle.fb_sections.specs.Forms.Form.{as_value};
+ghost use Rattle.fb_sections.specs.Forms.Gives.{Gives};
+ghost use Rattle.fb_sections.specs.Forms.Reading.{read};
 ghost use Rattle.fb_parse.specs.Contents.{contents_tree, of_instances, of_variables};
 ghost use Rattle.fb_parse.specs.Grammar.{adapter_section, application_section, block_section, chart_section, data_section, interface_section, network_section, service_section, subapplication_section};
 ghost use Rattle.fb_sections.specs.Interface.{internal_variables};
@@ -11,8 +11,8 @@ ghost use Rattle.std.specs.Prelude.{◌≡◌};
 
 use crate::chart::{algorithm, transitions};
 use crate::contents::Contents;
-use fb_forms::{Stop, is_next};
-use fb_lexemes::{Kind, Lexeme};
+use fb_sections::forms::{Stop, is_next};
+use fb_sections::lexemes::{Kind, Lexeme};
 use fb_sections::{
     blocks, connections, data_variables, events, internal_variables, plugs, service, sockets,
     states, subapplications,

@@ -1,7 +1,7 @@
 -- One token tells how to go on in each section.
 use Rattle.std.proofs.Common.{[], ◌∷◌, refl}
-use Rattle.fb_lexemes.specs.Kind.{name_kinds}
-use Rattle.fb_lexemes.specs.declared.kind.Kind.TheVariants.{EventInput, EventOutput, VarInput, VarOutput, Var, Plugs, Sockets, Fbs, Subapps, EventConnections, DataConnections, AdapterConnections, EcStates, Service, Resource, Device, Mappings, Point}
+use Rattle.fb_forms.specs.Lexemes.Kind.{name_kinds}
+use Rattle.fb_forms.specs.Lexemes.declared.kind.Kind.TheVariants.{EventInput, EventOutput, VarInput, VarOutput, Var, Plugs, Sockets, Fbs, Subapps, EventConnections, DataConnections, AdapterConnections, EcStates, Service, Resource, Device, Mappings, Point}
 use Rattle.fb_forms.specs.Words.{name, names}
 use Rattle.fb_forms.proofs.Shapes.{Closed, Shape}
 use Rattle.fb_sections.specs.Constants.{number, range, ranges, length_of_string, plain_type, array_type, type_use, simple, constant_list, constant}

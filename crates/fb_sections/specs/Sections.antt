@@ -1,9 +1,9 @@
 -- What sections have in common.
 use Rattle.std.specs.Prelude.{List, [], ◌∷◌, length, Option}
 use Rattle.fb_text.specs.declared.name.NameUse.{NameUse}
-use Rattle.fb_lexemes.specs.Kind.{name_kinds}
-use Rattle.fb_lexemes.specs.declared.kind.Kind.{Kind}
-use Rattle.fb_lexemes.specs.declared.lexeme.Lexeme.{Lexeme}
+use Rattle.fb_forms.specs.Lexemes.Kind.{name_kinds}
+use Rattle.fb_forms.specs.Lexemes.declared.kind.Kind.{Kind}
+use Rattle.fb_forms.specs.Lexemes.declared.lexeme.Lexeme.{Lexeme}
 use Rattle.fb_forms.specs.Form.{Form, option, many}
 use Rattle.fb_forms.specs.Reading.{Outcome, read_one, read_each}
 use Rattle.fb_forms.specs.Repetition.{read_both, read_as}

@@ -1,10 +1,10 @@
 -- The forms of mappings, resources and devices.
 use Rattle.std.specs.Prelude.{List}
 use Rattle.fb_text.specs.declared.name.NameUse.{NameUse}
-use Rattle.fb_lexemes.specs.declared.kind.Kind.TheVariants.{Mappings, EndMappings, Resource, EndResource, Device, EndDevice, NameOn, Colon, Semicolon, Point}
+use Rattle.fb_forms.specs.Lexemes.declared.kind.Kind.TheVariants.{Mappings, EndMappings, Resource, EndResource, Device, EndDevice, NameOn, Colon, Semicolon, Point}
 use Rattle.fb_forms.specs.Form.{Form, both, option, many, as_value}
 use Rattle.fb_forms.specs.Words.{key, before, behind, passed, separated, name}
-use Rattle.fb_tree.specs.Tree.{ParameterTree, MappingTree, ResourceTree, DeviceTree}
+use Rattle.fb_forms.specs.Tree.Tree.{ParameterTree, MappingTree, ResourceTree, DeviceTree}
 use Rattle.fb_sections.specs.Network.{optional_parameters}
 use Rattle.fb_sections.specs.Sections.{section}
 

@@ -4,15 +4,15 @@ ghost use Rattle.fb_forms.specs.Gives.{Gives};
 ghost use Rattle.fb_forms.specs.Reading.{read};
 ghost use Rattle.fb_sections.specs.Chart.{action, actions, sent_event, state, states};
 ghost use Rattle.fb_sections.specs.Network.{end_in};
-ghost use Rattle.fb_tree.specs.Tree.{StateTree, state_tree};
-ghost use Rattle.fb_tree.specs.declared.chart.Action.{Action};
+ghost use Rattle.fb_forms.specs.Tree.Tree.{StateTree, state_tree};
+ghost use Rattle.fb_forms.specs.Tree.declared.chart.Action.{Action};
 ghost use Rattle.std.specs.Prelude.{◌≡◌, map};
 
 use crate::connecting::{EndTokens, end};
 use crate::frame::section;
+use fb_forms::lexemes::{Kind, Lexeme};
+use fb_forms::tree::{Action, State};
 use fb_forms::{NAMES, Reader, Stop, is_next, key, listed, name};
-use fb_lexemes::{Kind, Lexeme};
-use fb_tree::{Action, State};
 use std::alloc::Global;
 
 /// An arrow and the event that is sent.

@@ -3,13 +3,13 @@
 ghost use Rattle.fb_forms.specs.Gives.{Gives};
 ghost use Rattle.fb_forms.specs.Reading.{read};
 ghost use Rattle.fb_sections.specs.Network.{connection, connections, end, end_in};
-ghost use Rattle.fb_tree.specs.declared.network.Connection.{Connection};
+ghost use Rattle.fb_forms.specs.Tree.declared.network.Connection.{Connection};
 ghost use Rattle.std.specs.Prelude.{◌≡◌};
 
 use crate::frame::{name_in, optional_name, section};
+use fb_forms::lexemes::{Kind, Lexeme};
+use fb_forms::tree::{Connection, End, Sort};
 use fb_forms::{Reader, Stop, is_next, key, name};
-use fb_lexemes::{Kind, Lexeme};
-use fb_tree::{Connection, End, Sort};
 use std::alloc::Global;
 
 /// The tokens of an end. An end itself, with its copied names, is nothing that `?` takes beside a reference.

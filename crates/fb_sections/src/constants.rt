@@ -3,16 +3,16 @@
 ghost use Rattle.fb_forms.specs.Gives.{Gives};
 ghost use Rattle.fb_forms.specs.Reading.{read};
 ghost use Rattle.fb_sections.specs.Constants.{array_type, constant, constant_list, length_of_string, number, plain_type, range, ranges, signed_form, simple, type_use};
-ghost use Rattle.fb_tree.specs.Tree.{constant_tree};
-ghost use Rattle.fb_tree.specs.declared.constant.Simple.{Simple};
+ghost use Rattle.fb_forms.specs.Tree.Tree.{constant_tree};
+ghost use Rattle.fb_forms.specs.Tree.declared.constant.Simple.{Simple};
 ghost use Rattle.std.specs.Prelude.{◌≡◌};
 
+use fb_forms::lexemes::{Kind, Lexeme};
+use fb_forms::tree::{Constant, Literal, LiteralForm, Simple, TypeForm, TypeUse};
 use fb_forms::{
     NAMES, NUMBERS, Reader, Stop, across, is_next, key, listed, literal_form, literal_use, name,
     one_of,
 };
-use fb_lexemes::{Kind, Lexeme};
-use fb_tree::{Constant, Literal, LiteralForm, Simple, TypeForm, TypeUse};
 use std::alloc::Global;
 
 const SIGNS: [Kind; 2] = [Kind::Plus, Kind::Minus];

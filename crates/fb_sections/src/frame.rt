@@ -2,12 +2,12 @@
 
 ghost use Rattle.fb_forms.specs.Gives.{Gives};
 ghost use Rattle.fb_forms.specs.Reading.{read};
-ghost use Rattle.fb_lexemes.specs.Lexemes.{name_use};
+ghost use Rattle.fb_forms.specs.Lexemes.Lexemes.{name_use};
 ghost use Rattle.fb_sections.specs.Sections.{optional_name, read_section};
 ghost use Rattle.std.specs.Prelude.{◌≡◌, map, option_map};
 
+use fb_forms::lexemes::{Kind, Lexeme};
 use fb_forms::{NAMES, Reader, Stop, is_next, key, name, several};
-use fb_lexemes::{Kind, Lexeme};
 use fb_text::NameUse;
 use std::alloc::Global;
 

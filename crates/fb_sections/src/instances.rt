@@ -3,14 +3,14 @@
 ghost use Rattle.fb_forms.specs.Gives.{Gives};
 ghost use Rattle.fb_forms.specs.Reading.{read};
 ghost use Rattle.fb_sections.specs.Network.{blocks, instance, listed_parameters, optional_parameters, parameter, parameters, plugs, sockets, subapplication, subapplications};
-ghost use Rattle.fb_tree.specs.Tree.{InstanceTree, ParameterTree, instance_tree, parameter_tree};
+ghost use Rattle.fb_forms.specs.Tree.Tree.{InstanceTree, ParameterTree, instance_tree, parameter_tree};
 ghost use Rattle.std.specs.Prelude.{◌≡◌, map};
 
 use crate::constants::constant;
 use crate::frame::section;
+use fb_forms::lexemes::{Kind, Lexeme};
+use fb_forms::tree::{Instance, Parameter, Role};
 use fb_forms::{NAMES, Reader, Stop, is_next, key, listed, name};
-use fb_lexemes::{Kind, Lexeme};
-use fb_tree::{Instance, Parameter, Role};
 use std::alloc::Global;
 
 /// Reads parameters.

@@ -3,15 +3,15 @@
 ghost use Rattle.fb_forms.specs.Gives.{Gives};
 ghost use Rattle.fb_forms.specs.Reading.{read};
 ghost use Rattle.fb_sections.specs.Interface.{data_variables, event, events, initial, internal_variables, variables, with_names};
-ghost use Rattle.fb_tree.specs.Tree.{EventTree, VariablesTree, constant_tree, event_tree, variables_tree};
+ghost use Rattle.fb_forms.specs.Tree.Tree.{EventTree, VariablesTree, constant_tree, event_tree, variables_tree};
 ghost use Rattle.std.specs.Prelude.{◌≡◌, map, option_map};
 
 use crate::constants::{constant, type_use};
 use crate::frame::{name_in, optional_name, section};
+use fb_forms::lexemes::{Kind, Lexeme};
+use fb_forms::tree::{Constant, Event, Section, Side, Variables};
 use fb_forms::{Reader, Stop, is_next, key, name, names};
-use fb_lexemes::{Kind, Lexeme};
 use fb_text::NameUse;
-use fb_tree::{Constant, Event, Section, Side, Variables};
 use std::alloc::Global;
 
 /// The names behind WITH, where it is written.

@@ -15,11 +15,10 @@ mod system_parts;
 
 pub use chart::states;
 pub use connecting::{EndTokens, connections, end};
+pub use fb_forms as forms;
+pub use fb_forms::{lexemes, tree};
 pub use frame::section;
 pub use instances::{blocks, plugs, sockets, subapplications};
 pub use interface::{data_variables, events, internal_variables};
 pub use skipped::{service, skip};
 pub use system_parts::{device, mappings};
-
-#[cfg(test)]
-mod tests;

@@ -5,8 +5,8 @@ ghost use Rattle.fb_forms.specs.Reading.{read};
 ghost use Rattle.fb_sections.specs.Skipped.{service, skipped};
 ghost use Rattle.std.specs.Prelude.{◌≡◌, Ok};
 
+use fb_forms::lexemes::{Kind, Lexeme};
 use fb_forms::{Stop, key};
-use fb_lexemes::{Kind, Lexeme};
 
 /// The tokens from the first of this kind on.
 #[tactic(auto, using(crate::proofs::Skipping::skip_more, crate::proofs::Skipping::skip_done, crate::proofs::Skipping::skip_none))]

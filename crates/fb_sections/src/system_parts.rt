@@ -2,17 +2,17 @@
 
 ghost use Rattle.fb_forms.specs.Gives.{Gives};
 ghost use Rattle.fb_forms.specs.Reading.{read};
-ghost use Rattle.fb_lexemes.specs.Lexemes.{name_use};
+ghost use Rattle.fb_forms.specs.Lexemes.Lexemes.{name_use};
 ghost use Rattle.fb_sections.specs.SystemParts.{device, header, mapping, mappings, optional_semicolon, path, resource};
-ghost use Rattle.fb_tree.specs.Tree.{MappingTree, ResourceTree, device_tree, mapping_tree, parameter_tree, resource_tree};
+ghost use Rattle.fb_forms.specs.Tree.Tree.{MappingTree, ResourceTree, device_tree, mapping_tree, parameter_tree, resource_tree};
 ghost use Rattle.std.specs.Prelude.{◌≡◌, Ok, map};
 
 use crate::frame::section;
 use crate::instances::optional_parameters;
+use fb_forms::lexemes::{Kind, Lexeme};
+use fb_forms::tree::{Device, Mapping, Parameter, Resource};
 use fb_forms::{NameReader, Reader, Stop, key, name, separated, several};
-use fb_lexemes::{Kind, Lexeme};
 use fb_text::NameUse;
-use fb_tree::{Device, Mapping, Parameter, Resource};
 use std::alloc::Global;
 
 /// Names with points between them.

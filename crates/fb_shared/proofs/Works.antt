@@ -1,6 +1,6 @@
 -- Calls of a worker, one list after another.
 use Rattle.std.proofs.Common.{ℕ, ◌+◌, ◌*◌, ◌≤◌, List, [], ◌∷◌, ◌++◌, Option, None, sym, ap, ◌∙◌, subst, arith, append_assoc, append-nil, length-append, refl}
-use Rattle.fb_jobs.specs.Reads.{Order}
+use Rattle.fb_bench.specs.Jobs.Reads.{Order}
 use Rattle.fb_bench.specs.Machine.{Call, ToCommit, ToTake, ToDeliver, ToGiveBack, ToAsk}
 use Rattle.fb_bench.specs.Requests.{job_of}
 use Rattle.fb_shared.specs.Seats.{Place, Claim, seat_after}

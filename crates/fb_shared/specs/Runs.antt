@@ -1,7 +1,7 @@
 -- Calls with one seat, one after another, and those that a worker makes.
 use Rattle.std.specs.Prelude.{◌≡◌, ℕ, ◌≤◌, ◌<◌, ◌++◌, [], ◌∷◌, List, Option, Some, None, length}
 use Rattle.std.specs.Option.{option_map}
-use Rattle.fb_jobs.specs.Reads.{Order}
+use Rattle.fb_bench.specs.Jobs.Reads.{Order}
 use Rattle.fb_bench.specs.Machine.{Call, ToCommit, ToTake, ToDeliver, ToGiveBack, ToAsk}
 use Rattle.fb_bench.specs.Requests.{job_of}
 use Rattle.fb_shared.specs.declared.work.Look.{Look}

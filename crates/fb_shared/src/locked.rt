@@ -12,9 +12,9 @@ ghost use Rattle.fb_shared.specs.Seats.{hall_after, next_claim, seat_after, AreF
 use crate::book;
 use crate::seat::{Receipt, Seat};
 use crate::work::WorkEnd;
+use fb_bench::jobs::{Finished, Job, Key};
+use fb_bench::library::Change;
 use fb_bench::{Answered, Asked, Bench, Limits, Request, Taken};
-use fb_jobs::{Finished, Job, Key};
-use fb_library::Change;
 use std::alloc::{AllocError, Global};
 use std::collections::BTreeMap;
 use std::marker::Model;

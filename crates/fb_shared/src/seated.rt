@@ -7,9 +7,9 @@ ghost use Rattle.fb_shared.specs.Sitting.{desk_refused};
 use crate::locked::SharedRefused;
 use crate::seat::{Receipt, Seat};
 use crate::shared::Shared;
+use fb_bench::jobs::{Finished, Job, Key};
+use fb_bench::library::Change;
 use fb_bench::{Asked, Committed, Delivered, Desk, DeskRefused, GivenBack, Reply, Taken};
-use fb_jobs::{Finished, Job, Key};
-use fb_library::Change;
 use std::marker::Model;
 use std::sync::Wait;
 

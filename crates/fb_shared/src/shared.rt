@@ -10,9 +10,9 @@ ghost use Rattle.fb_shared.specs.Seats.{Hall, AreFirstSeats};
 use crate::close::{Closed, NotClosed};
 use crate::locked::{Locked, SharedRefused};
 use crate::seat::{Receipt, Seat};
+use fb_bench::jobs::{Finished, Job, Key};
+use fb_bench::library::Change;
 use fb_bench::{Asked, Limits};
-use fb_jobs::{Finished, Job, Key};
-use fb_library::Change;
 use std::alloc::{AllocError, Global};
 use std::sync::{Condvar, Mutex, Wait};
 

@@ -6,7 +6,7 @@ ghost use Rattle.fb_shared.specs.declared.work.WorkEnd.TheVariants.{TurnsOver};
 use crate::locked::SharedRefused;
 use crate::seat::{Receipt, Seat};
 use crate::shared::Shared;
-use fb_jobs::{Finished, Job};
+use fb_bench::jobs::{Finished, Job};
 use std::alloc::{AllocError, Global};
 use std::sync::Wait;
 

@@ -2,10 +2,10 @@
 use Rattle.std.proofs.Common.{◌≡◌, ℕ, zero, suc, ◌-◌, ◌<◌, Bool, true, false, ◌||◌, List, [], ◌∷◌, ◌++◌, Ok, Err, refl, sym, ap, ◌∙◌, append_assoc, arith}
 use Rattle.std.proofs.lemmas.List.{append-nil}
 use Rattle.std.specs.List.{flat_map}
-use Rattle.fb_lexemes.specs.declared.kind.Kind.{Kind}
-use Rattle.fb_lexemes.specs.declared.kind.Kind.TheVariants.{If, Case, For, While}
-use Rattle.fb_lexemes.specs.declared.lexeme.Lexeme.{Lexeme}
-use Rattle.fb_lexemes.specs.Kind.{is_among, same_kind}
+use Rattle.fb_forms.specs.Lexemes.declared.kind.Kind.{Kind}
+use Rattle.fb_forms.specs.Lexemes.declared.kind.Kind.TheVariants.{If, Case, For, While}
+use Rattle.fb_forms.specs.Lexemes.declared.lexeme.Lexeme.{Lexeme}
+use Rattle.fb_forms.specs.Lexemes.Kind.{is_among, same_kind}
 use Rattle.fb_forms.specs.declared.stop.Stop.{Stop}
 use Rattle.fb_forms.specs.declared.stop.Stop.TheVariants.{Memory, Broken}
 use Rattle.fb_forms.specs.Form.{Form, both, either, many, as_value}
@@ -14,8 +14,8 @@ use Rattle.fb_forms.specs.Words.{further, cons}
 use Rattle.fb_forms.specs.Reading.{Outcome, ◌>>=◌, is_next, first, read}
 use Rattle.fb_forms.specs.Repetition.{with_front}
 use Rattle.fb_forms.proofs.Loops.{many_more, many_fails, many_none, Begins}
-use Rattle.fb_tree.specs.Expression.{Expression}
-use Rattle.fb_tree.specs.Statement.{Statement}
+use Rattle.fb_forms.specs.Tree.Expression.{Expression}
+use Rattle.fb_forms.specs.Tree.Statement.{Statement}
 use Rattle.fb_structured_text.specs.Expression.{expression}
 use Rattle.fb_structured_text.specs.Statement.{statement, simple_firsts, simple_statement, nested_statement, if_statement, arms, arm, announced, case_statement, case, cases, for_statement, while_statement, repeat_statement, labels, label, int}
 use Rattle.fb_structured_text.proofs.StatementLevels.{closed-simple, closed-statement, nested_firsts, statement_firsts}

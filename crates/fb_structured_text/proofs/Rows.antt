@@ -1,20 +1,20 @@
 -- Reading rows of operands.
 use Rattle.std.proofs.Common.{◌≡◌, ℕ, zero, suc, ◌+◌, ◌-◌, ◌<◌, ◌≤◌, Bool, true, false, nat_eq, List, [], ◌∷◌, length, drop, Ok, Err, refl, sym, ap, subst, ◌∙◌, add-one, arith, eq-eqb}
 use Rattle.std.proofs.Math.Seq.{drop-cons}
-use Rattle.fb_lexemes.specs.declared.kind.Kind.{Kind}
-use Rattle.fb_lexemes.specs.declared.kind.Kind.TheVariants.{Or}
-use Rattle.fb_lexemes.specs.declared.lexeme.Lexeme.{Lexeme}
+use Rattle.fb_forms.specs.Lexemes.declared.kind.Kind.{Kind}
+use Rattle.fb_forms.specs.Lexemes.declared.kind.Kind.TheVariants.{Or}
+use Rattle.fb_forms.specs.Lexemes.declared.lexeme.Lexeme.{Lexeme}
 use Rattle.fb_forms.specs.declared.stop.Stop.{Stop}
 use Rattle.fb_forms.specs.declared.stop.Stop.TheVariants.{Memory, Broken}
 use Rattle.fb_forms.specs.Form.{Form, many, as_value}
 use Rattle.fb_forms.specs.Gives.{Fails}
 use Rattle.std.proofs.lemmas.Bool.Decides.{nat_tests}
-use Rattle.fb_lexemes.specs.Kind.{is_among, name_kinds}
+use Rattle.fb_forms.specs.Lexemes.Kind.{is_among, name_kinds}
 use Rattle.fb_forms.specs.Words.{name}
 use Rattle.fb_forms.specs.Reading.{Outcome, ◌>>=◌, is_next, first, read_each, read}
 use Rattle.fb_forms.proofs.Loops.{many_none, Begins}
-use Rattle.fb_tree.specs.declared.expression.BinaryUse.{BinaryUse}
-use Rattle.fb_tree.specs.Expression.{Expression, row_expression, operands_of}
+use Rattle.fb_forms.specs.Tree.declared.expression.BinaryUse.{BinaryUse}
+use Rattle.fb_forms.specs.Tree.Expression.{Expression, row_expression, operands_of}
 use Rattle.fb_structured_text.specs.Operators.{next_strength, operators, strength_of, strengths}
 use Rattle.fb_structured_text.specs.Expression.{expression, rows, unary, primary, row, operand, row_of, literal, reference_value, deep_reference, deep_primary, member_name, parenthesized}
 

@@ -5,8 +5,8 @@ ghost use Rattle.fb_forms.specs.Words.{further};
 ghost use Rattle.fb_structured_text.specs.Statement.{int, label, labels};
 ghost use Rattle.std.specs.Prelude.{◌≡◌};
 
+use fb_forms::lexemes::{Kind, Lexeme};
 use fb_forms::{NUMBERS, Stop, is_next, key, one_of};
-use fb_lexemes::{Kind, Lexeme};
 
 const PLUS_OR_MINUS: [Kind; 2] = [Kind::Plus, Kind::Minus];
 

@@ -11,6 +11,3 @@ mod statement_reader;
 pub use expression_reader::{LEVELS, expression};
 pub use laws::{one_expression, one_statement};
 pub use statement_reader::statements;
-
-#[cfg(test)]
-mod tests;

@@ -16,6 +16,3 @@ pub use name::{Name, NameFault, NameUse};
 pub use order::{names_once_and_in_order, once_and_in_order, same_name, sorted_names, sorted_once};
 pub use scan::same_word;
 pub use token::{Span, Token, TokenFault, TokenKind};
-
-#[cfg(test)]
-mod tests;

@@ -5,7 +5,7 @@ use Rattle.std.proofs.lemmas.List.{take_more, take-append-drop, map-append}
 use Rattle.serde_json.specs.Data.{Data}
 use Rattle.serde_json.specs.View.{view, items_of}
 use Rattle.serde_json.specs.declared.value.Value.{Value}
-use Rattle.fb_library.specs.Texts.{Edit}
+use Rattle.fb_bench.specs.Library.Texts.{Edit}
 use Rattle.fb_wire.specs.Requests.{Change, change_in, changes_of}
 use Rattle.fb_wire.specs.Talk.{edit_in, edits_in, edits_from}
 

@@ -1,14 +1,14 @@
 -- No reply has a float.
 use Rattle.std.proofs.Common.{◌≡◌, ℕ, List, [], ◌∷◌, false, refl}
-use Rattle.fb_iface.specs.declared.fault.Fault.{Fault}
+use Rattle.fb_bench.specs.Iface.declared.fault.Fault.{Fault}
 use Rattle.serde_json.specs.Written.{has_float, items_have_float}
-use Rattle.fb_network.specs.declared.flat.FlatBlock.{FlatBlock}
-use Rattle.fb_network.specs.declared.flat.Link.{Link}
-use Rattle.fb_network.specs.declared.flat.Border.{Border}
-use Rattle.fb_network.specs.PlainFlat.{PlainFlat}
-use Rattle.fb_flatten.specs.Net.{PlainNet, blocked, recursive, too_large, flat_net}
-use Rattle.fb_jobs.specs.Keys.{Finding, FaultsFound, NetFound, NothingFound}
-use Rattle.fb_jobs.specs.Values.{finding_of}
+use Rattle.fb_bench.specs.Network.declared.flat.FlatBlock.{FlatBlock}
+use Rattle.fb_bench.specs.Network.declared.flat.Link.{Link}
+use Rattle.fb_bench.specs.Network.declared.flat.Border.{Border}
+use Rattle.fb_bench.specs.Network.PlainFlat.{PlainFlat}
+use Rattle.fb_bench.specs.Flatten.Net.{PlainNet, blocked, recursive, too_large, flat_net}
+use Rattle.fb_bench.specs.Jobs.Keys.{Finding, FaultsFound, NetFound, NothingFound}
+use Rattle.fb_bench.specs.Jobs.Values.{finding_of}
 use Rattle.fb_wire.specs.NetReplies.{name_items, block_items, border_items, link_items, flat_said, net_said}
 use Rattle.fb_wire.specs.Replies.{fault_items, value_said}
 use Rattle.fb_wire.specs.ReplyView.{data_of}

@@ -5,7 +5,7 @@ use Rattle.fb_bench.specs.Machine.{Call, ToTake, ToDeliver, OfTake, OfDeliver, R
 use Rattle.fb_bench.specs.Solo.{IsStep, SoloStep}
 use Rattle.fb_bench.specs.declared.desk.Solo.{Solo}
 use Rattle.fb_bench.specs.Calls.{Answer, Replied, FullHistory, BehindHistory, Serves, take_reply}
-use Rattle.fb_jobs.specs.Reads.{Order}
+use Rattle.fb_bench.specs.Jobs.Reads.{Order}
 use Rattle.std.specs.Result.{result_ok}
 use Rattle.fb_bench.specs.declared.answers.Taken.{Taken}
 use Rattle.fb_bench.specs.declared.answers.Delivered.{Delivered}

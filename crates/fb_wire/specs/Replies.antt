@@ -3,13 +3,13 @@ use Rattle.std.specs.Prelude.{ℕ, List, [], ◌∷◌, ◌++◌, map, codes, Bo
 use Rattle.serde_json.specs.Data.{Data, boolean, number, unsigned, string, array, object, Items, no_items, item, no_members, member}
 use Rattle.serde_json.specs.View.{items_of}
 use Rattle.serde_json.specs.Written.{compact_text}
-use Rattle.fb_iface.specs.declared.fault.Fault.{Fault}
-use Rattle.fb_iface.specs.Code.{code_word}
-use Rattle.fb_jobs.specs.declared.key.Kind.{Kind}
-use Rattle.fb_jobs.specs.declared.key.Kind.TheVariants.{Faults, Net, Deploy}
-use Rattle.fb_jobs.specs.declared.key.Key.{Key}
-use Rattle.fb_jobs.specs.Keys.{Finding, FaultsFound, NetFound, NothingFound}
-use Rattle.fb_jobs.specs.Reads.{Order}
+use Rattle.fb_bench.specs.Iface.declared.fault.Fault.{Fault}
+use Rattle.fb_bench.specs.Iface.Code.{code_word}
+use Rattle.fb_bench.specs.Jobs.declared.key.Kind.{Kind}
+use Rattle.fb_bench.specs.Jobs.declared.key.Kind.TheVariants.{Faults, Net, Deploy}
+use Rattle.fb_bench.specs.Jobs.declared.key.Key.{Key}
+use Rattle.fb_bench.specs.Jobs.Keys.{Finding, FaultsFound, NetFound, NothingFound}
+use Rattle.fb_bench.specs.Jobs.Reads.{Order}
 use Rattle.fb_bench.specs.Machine.{Reply, OfCommit, OfTake, OfDeliver, OfGiveBack, OfAsk, Shown, Finds, Waits, Unknown}
 use Rattle.fb_bench.specs.Calls.{Answer, Replied, FullHistory, BehindHistory}
 use Rattle.fb_bench.specs.declared.answers.Committed.{Committed}

@@ -7,9 +7,9 @@ use Rattle.fb_bench.specs.Calls.{Answer, Replied, FullHistory, BehindHistory}
 use Rattle.fb_bench.specs.declared.desk.DeskRefused.{DeskRefused}
 use Rattle.fb_bench.specs.declared.desk.DeskRefused.TheVariants.{HistoryFull, Behind, Memory}
 use Rattle.std.specs.declared.alloc.Global.{Global}
-use Rattle.fb_library.specs.Texts.{Edit}
-use Rattle.fb_library.specs.Changes.{edit_of, edits_of}
-use Rattle.fb_library.specs.declared.change.Change.{Change}
+use Rattle.fb_bench.specs.Library.Texts.{Edit}
+use Rattle.fb_bench.specs.Library.Changes.{edit_of, edits_of}
+use Rattle.fb_bench.specs.Library.declared.change.Change.{Change}
 use Rattle.fb_wire.specs.declared.change.ChangeFault.{ChangeFault}
 use Rattle.fb_wire.specs.declared.change.ChangeFault.TheVariants as fault
 use Rattle.fb_wire.specs.Lines.{Fits, IsTooLong, lines_of, is_blank}

@@ -3,8 +3,8 @@ use Rattle.std.specs.Prelude.{◌≡◌, ℕ, zero, suc, ◌+◌, List, [], ◌�
 use Rattle.serde_json.specs.Data.{Data}
 use Rattle.fb_text.specs.Name.{name_of}
 use Rattle.fb_text.specs.declared.name.NameFault.{NameFault}
-use Rattle.fb_library.specs.Texts.{Edit, Puts, Removes}
-use Rattle.fb_jobs.specs.Reads.{Order}
+use Rattle.fb_bench.specs.Library.Texts.{Edit, Puts, Removes}
+use Rattle.fb_bench.specs.Jobs.Reads.{Order}
 use Rattle.fb_bench.specs.Machine.{Call, ToCommit, ToTake, ToDeliver, ToGiveBack, ToAsk, OfTake, OfDeliver}
 use Rattle.fb_bench.specs.Calls.{Answer, Replied, FullHistory, BehindHistory}
 use Rattle.fb_bench.specs.declared.answers.Delivered.TheVariants.{Accepted}

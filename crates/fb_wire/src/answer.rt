@@ -14,9 +14,9 @@ ghost use Rattle.fb_wire.specs.Talk.{plan_of, with_name, commit_plan, edits_in, 
 use crate::change::{ChangeFault, changes_of};
 use crate::reply::{Refusal, Reply};
 use crate::request::{AskedChange, Request};
+use fb_bench::jobs::{Finished, Job, Key, Kind};
+use fb_bench::library::Change;
 use fb_bench::{Asked, Committed, Delivered, Desk, DeskRefused, GivenBack, Taken};
-use fb_jobs::{Finished, Job, Key, Kind};
-use fb_library::Change;
 use fb_text::Name;
 use std::alloc::{AllocError, Global};
 

@@ -7,8 +7,8 @@ ghost use Rattle.fb_wire.specs.Talk.{edit_in, edits_in};
 
 use crate::reply::Refusal;
 use crate::request::AskedChange;
-use fb_library::Change;
-use fb_parse::{ReadFault, Source};
+use fb_bench::library::Change;
+use fb_bench::parse::{ReadFault, Source};
 use fb_text::Name;
 use std::alloc::Global;
 

@@ -17,10 +17,9 @@ mod reply;
 mod request;
 mod run;
 mod tape;
-#[cfg(test)]
-mod tests;
 
 pub use end::RunEnd;
+pub use fb_bench as bench;
 pub use feed::{Failed, Feed, Sink};
 pub use from_read::FromRead;
 pub use into_write::IntoWrite;

@@ -13,7 +13,7 @@ use crate::feed::{Failed, Sink};
 use crate::reply::Reply;
 use crate::request::request_in;
 use fb_bench::Desk;
-use fb_jobs::Job;
+use fb_bench::jobs::Job;
 use serde_json::Value;
 use std::alloc::{AllocError, Global};
 

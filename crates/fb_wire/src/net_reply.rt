@@ -2,13 +2,13 @@
 ghost use Rattle.std.specs.Prelude.{◌≡◌, IfOk};
 ghost use Rattle.serde_json.specs.View.{view, items_view};
 ghost use Rattle.serde_json.specs.Data.{array};
-ghost use Rattle.fb_flatten.specs.Net.{plain_net};
+ghost use Rattle.fb_bench.specs.Flatten.Net.{plain_net};
 ghost use Rattle.fb_wire.specs.NetReplies.{block_item, block_items, border_item, border_items, flat_said, link_item, link_items, name_items, net_found, net_said, sort_text};
 
-use fb_flatten::Net;
-use fb_network::{Border, Flat, FlatBlock, Link};
+use fb_bench::flatten::Net;
+use fb_bench::network::{Border, Flat, FlatBlock, Link};
+use fb_bench::tree::Sort;
 use fb_text::Name;
-use fb_tree::Sort;
 use serde_json::{Value, json};
 use std::alloc::{AllocError, Global};
 

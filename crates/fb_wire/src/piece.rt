@@ -7,7 +7,7 @@ use crate::end::RunEnd;
 use crate::feed::Sink;
 use crate::line::say_line;
 use fb_bench::Desk;
-use fb_jobs::Job;
+use fb_bench::jobs::Job;
 use std::alloc::Global;
 
 /// How long a line may be.

@@ -2,13 +2,13 @@
 ghost use Rattle.std.specs.Prelude.{◌≡◌, IfOk};
 ghost use Rattle.serde_json.specs.View.{view, items_view};
 ghost use Rattle.serde_json.specs.Data.{array};
-ghost use Rattle.fb_jobs.specs.Values.{finding_of};
+ghost use Rattle.fb_bench.specs.Jobs.Values.{finding_of};
 ghost use Rattle.fb_wire.specs.Replies.{fault_items, fault_item, kind_text, reply_line, value_said};
 ghost use Rattle.fb_wire.specs.ReplyView.{refusal_text, data_of};
 
 use crate::net_reply::net_value;
-use fb_iface::Fault;
-use fb_jobs::{Key, Kind, Value as EntryValue};
+use fb_bench::iface::Fault;
+use fb_bench::jobs::{Key, Kind, Value as EntryValue};
 use fb_text::Name;
 use serde_json::{Value, json};
 use std::alloc::{AllocError, Global};

@@ -4,7 +4,7 @@ ghost use Rattle.serde_json.specs.View.{view, items_view};
 ghost use Rattle.fb_wire.specs.Requests.{text_at, number_at, kind_of, kind_at, put_in, remove_in, change_in, changes_of, request_in, request_by, commit_in, ask_in, give_back_in, work_of, deliver};
 ghost use Rattle.fb_wire.specs.RequestView.{change_view, request_view};
 
-use fb_jobs::Kind;
+use fb_bench::jobs::Kind;
 use serde_json::Value;
 use std::alloc::{AllocError, Global};
 

@@ -2,9 +2,9 @@
 use Rattle.std.proofs.Common.{◌≡◌, ℕ, Bool, true, false, cond, List, [], ◌∷◌, map, Option, Some, None, refl, sym, ap, ◌∙◌}
 use Rattle.std.specs.List.{cons_option, filter_map, find}
 use Rattle.std.specs.Option.{option_and_then}
-use Rattle.fb_iface.specs.Names.{is_same, stands_for}
+use Rattle.fb_faults.specs.Iface.Names.{is_same, stands_for}
 use Rattle.fb_wiring.proofs.FirstOnes.{Distinct}
-use Rattle.fb_iface.proofs.NameLemmas.{same_exact}
+use Rattle.fb_faults.proofs.Iface.NameLemmas.{same_exact}
 
 module _ {P : Type 0} (test : P → Bool) where
   pub found_nowhere : {X : Type 0} (item : X → P) → ((x : X) → test (item x) ≡ false) → (xs : List X) → find test (map item xs) ≡ None

@@ -4,8 +4,8 @@ use Rattle.std.proofs.Math.Seq.{take-append_seam}
 use Rattle.std.proofs.lemmas.List.{length_push}
 use Rattle.std.specs.List.{enumerate_from, filter}
 use Rattle.std.specs.Option.{option_or}
-use Rattle.fb_iface.specs.Names.{first_ones, is_same, stands_for}
-use Rattle.fb_iface.proofs.NameLemmas.{same_exact, same_itself}
+use Rattle.fb_faults.specs.Iface.Names.{first_ones, is_same, stands_for}
+use Rattle.fb_faults.proofs.Iface.NameLemmas.{same_exact, same_itself}
 
 module _ {D : Type 0} where
   -- no name is declared twice

@@ -3,26 +3,26 @@ use Rattle.std.proofs.Common.{◌≡◌, ℕ, Bool, true, false, List, [], ◌�
 use Rattle.std.specs.FinMap.{get}
 use Rattle.std.specs.Option.{option_and_then}
 use Rattle.fb_text.specs.declared.token.Span.{Span}
-use Rattle.fb_lexemes.specs.Lexemes.{lexemes_of}
-use Rattle.fb_lexemes.specs.declared.kind.Kind.{Kind}
-use Rattle.fb_lexemes.specs.declared.kind.Kind.TheVariants as kinds
-use Rattle.fb_lexemes.specs.declared.lexeme.Lexeme.{Lexeme}
-use Rattle.fb_forms.specs.Form.{Form, Spells, both, either, many, as_value}
-use Rattle.fb_forms.specs.Words.{before, behind, key, name}
-use Rattle.fb_sections.specs.Network.{blocks, connections, instance, subapplication, subapplications}
-use Rattle.fb_sections.specs.Sections.{section}
-use Rattle.fb_sections.specs.SystemParts.{device, mappings}
-use Rattle.fb_tree.specs.Tree.{ApplicationTree, DeclTree, DeviceTree, InstanceTree, MappingTree, SystemTree, block_type, adapter_type, subapplication_type, system_configuration}
-use Rattle.fb_tree.specs.declared.network.Connection.{Connection}
-use Rattle.fb_tree.specs.declared.network.Role.{Role}
-use Rattle.fb_tree.specs.declared.network.Role.TheVariants as roles
-use Rattle.fb_parse.specs.Body.{BodyTree, Whole, BrokenAt, IsBodyIn, body_of}
-use Rattle.fb_parse.specs.Contents.{ContentsTree, joined, of_connections, of_instances}
-use Rattle.fb_parse.specs.Grammar.{application, application_of, application_section, network_section, system, system_of, system_section, unit}
-use Rattle.fb_parse.specs.SystemContents.{SystemContentsTree, of_application, of_device, of_mappings, system_joined}
-use Rattle.fb_parse.proofs.Bodies.{told}
-use Rattle.fb_library.specs.View.{Sources, tree_at, tree_in, tree_of}
-use Rattle.fb_netcheck.proofs.LocalLemmas.{Each}
+use Rattle.fb_faults.specs.Lexemes.Lexemes.{lexemes_of}
+use Rattle.fb_faults.specs.Lexemes.declared.kind.Kind.{Kind}
+use Rattle.fb_faults.specs.Lexemes.declared.kind.Kind.TheVariants as kinds
+use Rattle.fb_faults.specs.Lexemes.declared.lexeme.Lexeme.{Lexeme}
+use Rattle.fb_faults.specs.Forms.Form.{Form, Spells, both, either, many, as_value}
+use Rattle.fb_faults.specs.Forms.Words.{before, behind, key, name}
+use Rattle.fb_faults.specs.Sections.Network.{blocks, connections, instance, subapplication, subapplications}
+use Rattle.fb_faults.specs.Sections.Sections.{section}
+use Rattle.fb_faults.specs.Sections.SystemParts.{device, mappings}
+use Rattle.fb_faults.specs.Tree.Tree.{ApplicationTree, DeclTree, DeviceTree, InstanceTree, MappingTree, SystemTree, block_type, adapter_type, subapplication_type, system_configuration}
+use Rattle.fb_faults.specs.Tree.declared.network.Connection.{Connection}
+use Rattle.fb_faults.specs.Tree.declared.network.Role.{Role}
+use Rattle.fb_faults.specs.Tree.declared.network.Role.TheVariants as roles
+use Rattle.fb_faults.specs.Parse.Body.{BodyTree, Whole, BrokenAt, IsBodyIn, body_of}
+use Rattle.fb_faults.specs.Parse.Contents.{ContentsTree, joined, of_connections, of_instances}
+use Rattle.fb_faults.specs.Parse.Grammar.{application, application_of, application_section, network_section, system, system_of, system_section, unit}
+use Rattle.fb_faults.specs.Parse.SystemContents.{SystemContentsTree, of_application, of_device, of_mappings, system_joined}
+use Rattle.fb_faults.proofs.Parse.Bodies.{told}
+use Rattle.fb_faults.specs.Library.View.{Sources, tree_at, tree_in, tree_of}
+use Rattle.fb_faults.proofs.Netcheck.LocalLemmas.{Each}
 
 -- each value that tokens spell by the form has the fact
 abbrev Gives : {A : Type 0} → Form A → (A → Type 0) → Type 0

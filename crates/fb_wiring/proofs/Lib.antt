@@ -7,3 +7,8 @@ pub mod NetworkLemmas
 pub mod NothingLemmas
 pub mod PortLemmas
 pub mod UnitLemmas
+-- Passed on to the crates above, which do not list these libraries.
+pub use Rattle.fb_faults.proofs.Tree as Tree
+pub use Rattle.fb_faults.proofs.Library as Library
+pub use Rattle.fb_faults.proofs.Iface as Iface
+pub use Rattle.fb_faults.proofs as Faults

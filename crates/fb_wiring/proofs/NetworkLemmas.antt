@@ -4,42 +4,42 @@ use Rattle.std.proofs.lemmas.List.Elements.{All-contains}
 use Rattle.std.specs.List.{All, Contains, cons_option, filter_map}
 use Rattle.std.specs.Option.{option_and_then}
 use Rattle.fb_text.specs.declared.name.NameUse.{NameUse}
-use Rattle.fb_tree.specs.Mentions.{kind_of}
-use Rattle.fb_tree.specs.Tree.{DeclTree, InstanceTree, NetworkTree}
-use Rattle.fb_tree.specs.declared.interface.Side.{Side}
-use Rattle.fb_tree.specs.declared.interface.Side.TheVariants.{Input, Output}
-use Rattle.fb_tree.specs.declared.interface.TypeUse.{TypeUse}
-use Rattle.fb_tree.specs.declared.kinds.UnitKind.{UnitKind}
-use Rattle.fb_tree.specs.declared.kinds.UnitKind.TheVariants as kinds
-use Rattle.fb_tree.specs.declared.network.Connection.{Connection as ConnectionTree}
-use Rattle.fb_tree.specs.declared.network.End.{End as EndTree}
-use Rattle.fb_tree.specs.declared.network.Role.{Role}
-use Rattle.fb_tree.specs.declared.network.Role.TheVariants as roles
-use Rattle.fb_tree.specs.declared.network.Sort.{Sort}
-use Rattle.fb_tree.specs.declared.network.Sort.TheVariants as sorts
-use Rattle.fb_library.specs.View.{Sources, tree_at}
-use Rattle.fb_iface.specs.Names.{first_ones, has_name, is_same, stands_for}
-use Rattle.fb_iface.specs.Ports.{Meanings, instances_in, meanings_in, same_side}
-use Rattle.fb_iface.specs.Scope.{ports_of, type_ports_of, usable}
-use Rattle.fb_iface.specs.Types.{instance_faults, suits, type_fault}
-use Rattle.fb_iface.specs.declared.fault.Fault.{Fault}
-use Rattle.fb_iface.specs.declared.ports.DeclaredInstance.{DeclaredInstance}
-use Rattle.fb_iface.proofs.Members.{contains_cases, contains_here, contains_later, contains_nothing, origin_in_map}
-use Rattle.fb_iface.proofs.NameLemmas.{same_exact}
-use Rattle.fb_netcheck.specs.Clean.{AreRight, IsFineConnection, IsFineNetwork}
-use Rattle.fb_netcheck.specs.Ends.{adapter_port, holder_of, is_right, port_in, port_in_role, right_side, target, target_held, target_in, target_named, target_of, target_of_instance}
-use Rattle.fb_netcheck.specs.Settings.{Place}
-use Rattle.fb_netcheck.specs.Sides.{is_own_port}
-use Rattle.fb_netcheck.specs.Types.{flows_agree, same_at_ends, targets_agree}
-use Rattle.fb_netcheck.specs.declared.ends.Flow.{Flow}
-use Rattle.fb_netcheck.specs.declared.ends.Flow.TheVariants as flows
-use Rattle.fb_netcheck.specs.declared.ends.Holder.{Holder}
-use Rattle.fb_netcheck.specs.declared.ends.Holder.TheVariants as holders
-use Rattle.fb_netcheck.specs.declared.ends.Port.{Port as JudgedPort}
-use Rattle.fb_netcheck.specs.declared.ends.Position.{Position}
-use Rattle.fb_netcheck.specs.declared.ends.Position.TheVariants.{Source, Destination}
-use Rattle.fb_netcheck.specs.declared.ends.Target.{Target}
-use Rattle.fb_netcheck.specs.declared.ends.Target.TheVariants.{Found}
+use Rattle.fb_faults.specs.Tree.Mentions.{kind_of}
+use Rattle.fb_faults.specs.Tree.Tree.{DeclTree, InstanceTree, NetworkTree}
+use Rattle.fb_faults.specs.Tree.declared.interface.Side.{Side}
+use Rattle.fb_faults.specs.Tree.declared.interface.Side.TheVariants.{Input, Output}
+use Rattle.fb_faults.specs.Tree.declared.interface.TypeUse.{TypeUse}
+use Rattle.fb_faults.specs.Tree.declared.kinds.UnitKind.{UnitKind}
+use Rattle.fb_faults.specs.Tree.declared.kinds.UnitKind.TheVariants as kinds
+use Rattle.fb_faults.specs.Tree.declared.network.Connection.{Connection as ConnectionTree}
+use Rattle.fb_faults.specs.Tree.declared.network.End.{End as EndTree}
+use Rattle.fb_faults.specs.Tree.declared.network.Role.{Role}
+use Rattle.fb_faults.specs.Tree.declared.network.Role.TheVariants as roles
+use Rattle.fb_faults.specs.Tree.declared.network.Sort.{Sort}
+use Rattle.fb_faults.specs.Tree.declared.network.Sort.TheVariants as sorts
+use Rattle.fb_faults.specs.Library.View.{Sources, tree_at}
+use Rattle.fb_faults.specs.Iface.Names.{first_ones, has_name, is_same, stands_for}
+use Rattle.fb_faults.specs.Iface.Ports.{Meanings, instances_in, meanings_in, same_side}
+use Rattle.fb_faults.specs.Iface.Scope.{ports_of, type_ports_of, usable}
+use Rattle.fb_faults.specs.Iface.Types.{instance_faults, suits, type_fault}
+use Rattle.fb_faults.specs.Iface.declared.fault.Fault.{Fault}
+use Rattle.fb_faults.specs.Iface.declared.ports.DeclaredInstance.{DeclaredInstance}
+use Rattle.fb_faults.proofs.Iface.Members.{contains_cases, contains_here, contains_later, contains_nothing, origin_in_map}
+use Rattle.fb_faults.proofs.Iface.NameLemmas.{same_exact}
+use Rattle.fb_faults.specs.Netcheck.Clean.{AreRight, IsFineConnection, IsFineNetwork}
+use Rattle.fb_faults.specs.Netcheck.Ends.{adapter_port, holder_of, is_right, port_in, port_in_role, right_side, target, target_held, target_in, target_named, target_of, target_of_instance}
+use Rattle.fb_faults.specs.Netcheck.Settings.{Place}
+use Rattle.fb_faults.specs.Netcheck.Sides.{is_own_port}
+use Rattle.fb_faults.specs.Netcheck.Types.{flows_agree, same_at_ends, targets_agree}
+use Rattle.fb_faults.specs.Netcheck.declared.ends.Flow.{Flow}
+use Rattle.fb_faults.specs.Netcheck.declared.ends.Flow.TheVariants as flows
+use Rattle.fb_faults.specs.Netcheck.declared.ends.Holder.{Holder}
+use Rattle.fb_faults.specs.Netcheck.declared.ends.Holder.TheVariants as holders
+use Rattle.fb_faults.specs.Netcheck.declared.ends.Port.{Port as JudgedPort}
+use Rattle.fb_faults.specs.Netcheck.declared.ends.Position.{Position}
+use Rattle.fb_faults.specs.Netcheck.declared.ends.Position.TheVariants.{Source, Destination}
+use Rattle.fb_faults.specs.Netcheck.declared.ends.Target.{Target}
+use Rattle.fb_faults.specs.Netcheck.declared.ends.Target.TheVariants.{Found}
 use Rattle.fb_network.specs.Clean.{IsDeclared, IsDestination, IsSource, adapter_name_at, port_named, side_at, type_of}
 use Rattle.fb_network.specs.Network.{IsConnected, View, instance_named, place_of}
 use Rattle.fb_network.specs.Plain.{PlainNetwork}

@@ -1,13 +1,13 @@
 -- Without faults, no check reports any.
 use Rattle.std.proofs.Common.{◌≡◌, List, [], ◌∷◌, ◌++◌, refl, subst}
 use Rattle.std.specs.List.{Contains}
-use Rattle.fb_iface.proofs.Members.{contains_here, contains_nothing}
-use Rattle.fb_iface.specs.Declarations.{iface_faults_of}
-use Rattle.fb_iface.specs.declared.fault.Fault.{Fault}
-use Rattle.fb_expr.specs.Charts.{expr_faults_of}
-use Rattle.fb_ecc.specs.Charts.{ecc_faults_of}
-use Rattle.fb_netcheck.specs.Networks.{net_faults_of}
-use Rattle.fb_netcheck.proofs.CleanLemmas.{left_none, right_none}
+use Rattle.fb_faults.proofs.Iface.Members.{contains_here, contains_nothing}
+use Rattle.fb_faults.specs.Iface.Declarations.{iface_faults_of}
+use Rattle.fb_faults.specs.Iface.declared.fault.Fault.{Fault}
+use Rattle.fb_faults.specs.Expr.Charts.{expr_faults_of}
+use Rattle.fb_faults.specs.Ecc.Charts.{ecc_faults_of}
+use Rattle.fb_faults.specs.Netcheck.Networks.{net_faults_of}
+use Rattle.fb_faults.proofs.Netcheck.CleanLemmas.{left_none, right_none}
 use Rattle.fb_faults.specs.Faults.{reported_of, syntax_faults_of}
 use Rattle.fb_faults.specs.Mappings.{mapping_faults_of}
 use Rattle.fb_faults.proofs.OrderLemmas.{those_reported}

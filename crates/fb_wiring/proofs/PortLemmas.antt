@@ -3,26 +3,26 @@ use Rattle.std.proofs.Common.{◌≡◌, ℕ, Bool, true, false, cond, ◌&&◌,
 use Rattle.std.proofs.lemmas.List.Folds.{find-append}
 use Rattle.std.specs.List.{cons_option, filter, filter_map, find}
 use Rattle.std.specs.Option.{option_and_then, option_or}
-use Rattle.fb_tree.specs.Tree.{DeclTree, block_type, adapter_type, subapplication_type, system_configuration}
-use Rattle.fb_tree.specs.declared.interface.Section.{Section}
-use Rattle.fb_tree.specs.declared.interface.Section.TheVariants as sections
-use Rattle.fb_tree.specs.declared.interface.Side.{Side}
-use Rattle.fb_tree.specs.declared.interface.Side.TheVariants.{Input, Output}
-use Rattle.fb_tree.specs.declared.network.Role.{Role}
-use Rattle.fb_tree.specs.declared.network.Role.TheVariants as roles
-use Rattle.fb_tree.specs.declared.network.Sort.{Sort}
-use Rattle.fb_tree.specs.declared.network.Sort.TheVariants as sorts
-use Rattle.fb_iface.specs.Names.{is_same, stands_for}
-use Rattle.fb_iface.specs.Ports.{Meanings, data_on, events_in, events_on, instances_as, instances_in, meanings_in, same_role, same_side, variables_in}
-use Rattle.fb_iface.specs.Sides.{goes_with}
-use Rattle.fb_iface.specs.declared.ports.DeclaredEvent.{DeclaredEvent}
-use Rattle.fb_iface.specs.declared.ports.DeclaredInstance.{DeclaredInstance}
-use Rattle.fb_iface.specs.declared.ports.DeclaredVariable.{DeclaredVariable}
-use Rattle.fb_iface.proofs.TreeLemmas.{map_itself}
-use Rattle.fb_netcheck.specs.Ends.{adapter_port, data_port, event_port, port_in, port_in_role, port_in_section}
-use Rattle.fb_netcheck.specs.declared.ends.Flow.{Flow}
-use Rattle.fb_netcheck.specs.declared.ends.Flow.TheVariants as flows
-use Rattle.fb_netcheck.specs.declared.ends.Port.{Port as JudgedPort}
+use Rattle.fb_faults.specs.Tree.Tree.{DeclTree, block_type, adapter_type, subapplication_type, system_configuration}
+use Rattle.fb_faults.specs.Tree.declared.interface.Section.{Section}
+use Rattle.fb_faults.specs.Tree.declared.interface.Section.TheVariants as sections
+use Rattle.fb_faults.specs.Tree.declared.interface.Side.{Side}
+use Rattle.fb_faults.specs.Tree.declared.interface.Side.TheVariants.{Input, Output}
+use Rattle.fb_faults.specs.Tree.declared.network.Role.{Role}
+use Rattle.fb_faults.specs.Tree.declared.network.Role.TheVariants as roles
+use Rattle.fb_faults.specs.Tree.declared.network.Sort.{Sort}
+use Rattle.fb_faults.specs.Tree.declared.network.Sort.TheVariants as sorts
+use Rattle.fb_faults.specs.Iface.Names.{is_same, stands_for}
+use Rattle.fb_faults.specs.Iface.Ports.{Meanings, data_on, events_in, events_on, instances_as, instances_in, meanings_in, same_role, same_side, variables_in}
+use Rattle.fb_faults.specs.Iface.Sides.{goes_with}
+use Rattle.fb_faults.specs.Iface.declared.ports.DeclaredEvent.{DeclaredEvent}
+use Rattle.fb_faults.specs.Iface.declared.ports.DeclaredInstance.{DeclaredInstance}
+use Rattle.fb_faults.specs.Iface.declared.ports.DeclaredVariable.{DeclaredVariable}
+use Rattle.fb_faults.proofs.Iface.TreeLemmas.{map_itself}
+use Rattle.fb_faults.specs.Netcheck.Ends.{adapter_port, data_port, event_port, port_in, port_in_role, port_in_section}
+use Rattle.fb_faults.specs.Netcheck.declared.ends.Flow.{Flow}
+use Rattle.fb_faults.specs.Netcheck.declared.ends.Flow.TheVariants as flows
+use Rattle.fb_faults.specs.Netcheck.declared.ends.Port.{Port as JudgedPort}
 use Rattle.fb_network.specs.Clean.{port_named}
 use Rattle.fb_network.specs.Sorts.{same_sort}
 use Rattle.fb_network.specs.declared.network.Port.{Port}

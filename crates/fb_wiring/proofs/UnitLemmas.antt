@@ -4,29 +4,29 @@ use Rattle.std.proofs.lemmas.List.Elements.{All-contains, All-head, Contains-app
 use Rattle.std.specs.List.{All, Contains, filter_map, find, flat_map, slice_get}
 use Rattle.std.specs.Option.{option_and_then}
 use Rattle.fb_text.specs.declared.name.NameUse.{NameUse}
-use Rattle.fb_tree.specs.Tree.{ApplicationTree, DeclTree, InstanceTree, NetworkTree, SystemTree, TypeTree, block_type, adapter_type, subapplication_type, system_configuration}
-use Rattle.fb_tree.specs.declared.kinds.UnitKind.TheVariants as kinds
-use Rattle.fb_tree.specs.declared.network.Role.{Role}
-use Rattle.fb_tree.specs.declared.network.Role.TheVariants as roles
-use Rattle.fb_tree.specs.declared.network.Sort.{Sort}
-use Rattle.fb_tree.specs.declared.network.Sort.TheVariants as sorts
-use Rattle.fb_library.specs.View.{Sources, tree_at}
-use Rattle.fb_iface.specs.Declarations.{declaration_faults, duplicate_faults, literal_faults_of, mixed_faults, name_faults, with_faults_of}
-use Rattle.fb_iface.specs.Names.{first_ones, is_same, stands_for}
-use Rattle.fb_iface.specs.Ports.{events_in, instances_in, meanings_in_type, variables_in}
-use Rattle.fb_iface.specs.Spaces.{chart_spaces, interface_spaces, network_spaces, resource_names, spaces_of}
-use Rattle.fb_iface.specs.Types.{instance_faults, instances_of, type_faults}
-use Rattle.fb_iface.specs.declared.ports.DeclaredInstance.{DeclaredInstance}
-use Rattle.fb_iface.proofs.Members.{contains_cases, contains_flat_map, contains_here, contains_later, contains_map, contains_nothing, origin_in_map}
-use Rattle.fb_netcheck.specs.Clean.{AreRight, IsFineConnection, IsFineNetwork, application_place, networks_in, type_place}
-use Rattle.fb_netcheck.specs.Ends.{adapter_port, holder_of, port_in, port_in_role, target, target_named, target_of}
-use Rattle.fb_netcheck.specs.Settings.{Place}
-use Rattle.fb_netcheck.specs.Sides.{is_own_port}
-use Rattle.fb_netcheck.specs.declared.ends.Holder.TheVariants as holders
-use Rattle.fb_netcheck.specs.declared.ends.Position.TheVariants.{Source, Destination}
-use Rattle.fb_netcheck.proofs.CleanLemmas.{left_none, networks_fine, none_of_each, right_none}
-use Rattle.fb_netcheck.proofs.LocalLemmas.{Each, instance_stands}
-use Rattle.fb_netcheck.proofs.RightLemmas.{connections_right}
+use Rattle.fb_faults.specs.Tree.Tree.{ApplicationTree, DeclTree, InstanceTree, NetworkTree, SystemTree, TypeTree, block_type, adapter_type, subapplication_type, system_configuration}
+use Rattle.fb_faults.specs.Tree.declared.kinds.UnitKind.TheVariants as kinds
+use Rattle.fb_faults.specs.Tree.declared.network.Role.{Role}
+use Rattle.fb_faults.specs.Tree.declared.network.Role.TheVariants as roles
+use Rattle.fb_faults.specs.Tree.declared.network.Sort.{Sort}
+use Rattle.fb_faults.specs.Tree.declared.network.Sort.TheVariants as sorts
+use Rattle.fb_faults.specs.Library.View.{Sources, tree_at}
+use Rattle.fb_faults.specs.Iface.Declarations.{declaration_faults, duplicate_faults, literal_faults_of, mixed_faults, name_faults, with_faults_of}
+use Rattle.fb_faults.specs.Iface.Names.{first_ones, is_same, stands_for}
+use Rattle.fb_faults.specs.Iface.Ports.{events_in, instances_in, meanings_in_type, variables_in}
+use Rattle.fb_faults.specs.Iface.Spaces.{chart_spaces, interface_spaces, network_spaces, resource_names, spaces_of}
+use Rattle.fb_faults.specs.Iface.Types.{instance_faults, instances_of, type_faults}
+use Rattle.fb_faults.specs.Iface.declared.ports.DeclaredInstance.{DeclaredInstance}
+use Rattle.fb_faults.proofs.Iface.Members.{contains_cases, contains_flat_map, contains_here, contains_later, contains_map, contains_nothing, origin_in_map}
+use Rattle.fb_faults.specs.Netcheck.Clean.{AreRight, IsFineConnection, IsFineNetwork, application_place, networks_in, type_place}
+use Rattle.fb_faults.specs.Netcheck.Ends.{adapter_port, holder_of, port_in, port_in_role, target, target_named, target_of}
+use Rattle.fb_faults.specs.Netcheck.Settings.{Place}
+use Rattle.fb_faults.specs.Netcheck.Sides.{is_own_port}
+use Rattle.fb_faults.specs.Netcheck.declared.ends.Holder.TheVariants as holders
+use Rattle.fb_faults.specs.Netcheck.declared.ends.Position.TheVariants.{Source, Destination}
+use Rattle.fb_faults.proofs.Netcheck.CleanLemmas.{left_none, networks_fine, none_of_each, right_none}
+use Rattle.fb_faults.proofs.Netcheck.LocalLemmas.{Each, instance_stands}
+use Rattle.fb_faults.proofs.Netcheck.RightLemmas.{connections_right}
 use Rattle.fb_network.specs.Plain.{PlainNetwork}
 use Rattle.fb_network.specs.declared.network.End.TheVariants.{Own}
 use Rattle.fb_network.specs.declared.network.Port.{Port}

@@ -1,9 +1,9 @@
 -- What units without faults keep of their networks.
 use Rattle.std.specs.Prelude.{◌≡◌, ℕ, ◌<◌, List, [], Option, Some, Contains, find, slice_get}
-use Rattle.fb_tree.specs.declared.kinds.UnitKind.{UnitKind}
-use Rattle.fb_tree.specs.declared.kinds.UnitKind.TheVariants as kinds
-use Rattle.fb_library.specs.View.{Sources}
-use Rattle.fb_iface.specs.Names.{is_same}
+use Rattle.fb_faults.specs.Tree.declared.kinds.UnitKind.{UnitKind}
+use Rattle.fb_faults.specs.Tree.declared.kinds.UnitKind.TheVariants as kinds
+use Rattle.fb_faults.specs.Library.View.{Sources}
+use Rattle.fb_faults.specs.Iface.Names.{is_same}
 use Rattle.fb_faults.specs.Faults.{faults_of}
 use Rattle.fb_network.specs.Clean.{IsClean}
 use Rattle.fb_network.specs.Plain.{PlainNetwork}

@@ -1,10 +1,10 @@
 -- A unit without faults is one of which no check reports any.
 use Rattle.std.specs.Prelude.{◌≡◌, ℕ, List, []}
-use Rattle.fb_library.specs.View.{Sources}
-use Rattle.fb_iface.specs.Declarations.{iface_faults_of}
-use Rattle.fb_expr.specs.Charts.{expr_faults_of}
-use Rattle.fb_ecc.specs.Charts.{ecc_faults_of}
-use Rattle.fb_netcheck.specs.Networks.{net_faults_of}
+use Rattle.fb_faults.specs.Library.View.{Sources}
+use Rattle.fb_faults.specs.Iface.Declarations.{iface_faults_of}
+use Rattle.fb_faults.specs.Expr.Charts.{expr_faults_of}
+use Rattle.fb_faults.specs.Ecc.Charts.{ecc_faults_of}
+use Rattle.fb_faults.specs.Netcheck.Networks.{net_faults_of}
 use Rattle.fb_faults.specs.Faults.{faults_of, syntax_faults_of}
 use Rattle.fb_faults.specs.Mappings.{mapping_faults_of}
 

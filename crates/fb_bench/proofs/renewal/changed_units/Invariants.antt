@@ -1,6 +1,6 @@
 use Rattle.std.proofs.Common.{◌≡◌, take, map}
-use Rattle.fb_library.specs.Texts.{unit_of}
-use Rattle.fb_library.specs.Changes.{edits_of}
+use Rattle.fb_jobs.specs.Library.Texts.{unit_of}
+use Rattle.fb_jobs.specs.Library.Changes.{edits_of}
 use Rattle.fb_bench.proofs.renewal.changed_units.Given as goal
 
 abbrev pub invariant-loop-change : goal.invariant-loop-change

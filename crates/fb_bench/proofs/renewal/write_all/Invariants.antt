@@ -1,6 +1,6 @@
 use Rattle.std.proofs.Common.{vec_len, Option}
 use Rattle.std.specs.BTreeMap as tree
-use Rattle.fb_library.specs.Texts.{Texts}
+use Rattle.fb_jobs.specs.Library.Texts.{Texts}
 use Rattle.fb_jobs.specs.declared.key.Key.{Key}
 use Rattle.fb_jobs.specs.KeyOrder.{key_cmp}
 use Rattle.fb_bench.specs.declared.entry.Entry.{Entry}

@@ -1,5 +1,5 @@
 use Rattle.std.proofs.Common.{◌≡◌, length}
-use Rattle.fb_library.specs.Changes.{edit_of}
+use Rattle.fb_jobs.specs.Library.Changes.{edit_of}
 use Rattle.fb_bench.proofs.Alike.{SameLeft}
 use Rattle.fb_bench.proofs.same.are_same_changes.Given as goal
 

@@ -1,4 +1,4 @@
-use Rattle.fb_iface.specs.declared.fault.Fault.{Fault}
+use Rattle.fb_jobs.specs.Iface.declared.fault.Fault.{Fault}
 use Rattle.fb_bench.proofs.Alike.{SameLeft}
 use Rattle.fb_bench.proofs.same.are_same_faults.Given as goal
 

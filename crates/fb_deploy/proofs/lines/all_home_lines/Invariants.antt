@@ -1,6 +1,6 @@
 use Rattle.std.proofs.Common.{◌≡◌, take}
 use Rattle.std.specs.List.{flat_map}
-use Rattle.fb_library.specs.View.{tree_at}
+use Rattle.fb_mapping.specs.Library.View.{tree_at}
 use Rattle.fb_mapping.specs.Systems.{applications_in}
 use Rattle.fb_deploy.specs.Lines.{home_lines}
 use Rattle.fb_deploy.proofs.lines.all_home_lines.Given as goal

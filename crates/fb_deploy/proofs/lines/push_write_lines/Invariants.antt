@@ -1,5 +1,5 @@
 use Rattle.std.proofs.Common.{◌≡◌, ◌++◌, take, map}
-use Rattle.fb_tree.specs.Tree.{parameter_tree}
+use Rattle.fb_mapping.specs.Tree.Tree.{parameter_tree}
 use Rattle.fb_deploy.specs.Lines.{write_line}
 use Rattle.fb_deploy.proofs.lines.push_write_lines.Given as goal
 

@@ -1,6 +1,6 @@
 -- Two strictly sorted lists with the same members are one.
 use Rattle.fb_text.proofs.OrderLemmas.{in_order-members, in_order-sorted}
-use Rattle.fb_compose.proofs.SameSorted.{same_sorted}
+use Rattle.fb_mapping.proofs.Compose.SameSorted.{same_sorted}
 use Rattle.fb_deploy.specs.Lines.{line_cmp, line_cmp_total}
 use Rattle.fb_deploy.proofs.LineLemmas.{exact_line, line_cmp-IsAntisymmetric}
 use Rattle.fb_deploy.proofs.lines.sorted_lines.Goals as goal

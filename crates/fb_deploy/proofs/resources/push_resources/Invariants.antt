@@ -1,6 +1,6 @@
 use Rattle.std.proofs.Common.{◌≡◌, ◌++◌, take, map}
-use Rattle.fb_tree.specs.Tree.{resource_tree}
-use Rattle.fb_network.specs.Places.{dotted}
+use Rattle.fb_mapping.specs.Tree.Tree.{resource_tree}
+use Rattle.fb_mapping.specs.Network.Places.{dotted}
 use Rattle.fb_deploy.proofs.resources.push_resources.Given as goal
 
 abbrev pub invariant-loop-resource : goal.invariant-loop-resource

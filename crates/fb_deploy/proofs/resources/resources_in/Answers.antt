@@ -1,7 +1,7 @@
 use Rattle.std.proofs.Common.{ℕ, List, ◌++◌, ◌∙◌, ap, map}
-use Rattle.fb_tree.specs.Tree.{device_tree, resource_tree}
-use Rattle.fb_tree.specs.declared.system.Resource.{Resource}
-use Rattle.fb_network.specs.Places.{dotted}
+use Rattle.fb_mapping.specs.Tree.Tree.{device_tree, resource_tree}
+use Rattle.fb_mapping.specs.Tree.declared.system.Resource.{Resource}
+use Rattle.fb_mapping.specs.Network.Places.{dotted}
 use Rattle.fb_deploy.specs.Resources.{device_resources}
 use Rattle.fb_deploy.proofs.StepLemmas.{resources_step}
 use Rattle.fb_deploy.proofs.resources.resources_in.Goals as goal

@@ -1,5 +1,5 @@
 use Rattle.std.proofs.Common.{◌≡◌, take, map}
-use Rattle.fb_tree.specs.Tree.{device_tree}
+use Rattle.fb_mapping.specs.Tree.Tree.{device_tree}
 use Rattle.fb_deploy.specs.Resources.{resources_of}
 use Rattle.fb_deploy.proofs.resources.resources_in.Given as goal
 

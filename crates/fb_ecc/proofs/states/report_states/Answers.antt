@@ -3,7 +3,7 @@ use Rattle.std.specs.BTreeSet.{contains}
 use Rattle.std.specs.List.{flat_map}
 use Rattle.std.proofs.lemmas.Result.{on_ok_weaker}
 use Rattle.fb_text.specs.Order.{name_cmp}
-use Rattle.fb_tree.specs.Tree.{transition_tree}
+use Rattle.fb_iface.specs.Tree.Tree.{transition_tree}
 use Rattle.fb_iface.specs.Names.{has_name}
 use Rattle.fb_ecc.specs.States.{end_faults}
 use Rattle.fb_ecc.proofs.TreeLemmas.{states_joined}

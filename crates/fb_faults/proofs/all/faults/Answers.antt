@@ -1,7 +1,7 @@
 use Rattle.std.proofs.Common.{◌≡◌, ap, ◌∙◌}
 use Rattle.std.proofs.lemmas.Result.{IfOk-weaker}
-use Rattle.fb_iface.specs.Declarations.{iface_faults_of}
-use Rattle.fb_iface.specs.Fault.{faults_in_order}
+use Rattle.fb_netcheck.specs.Iface.Declarations.{iface_faults_of}
+use Rattle.fb_netcheck.specs.Iface.Fault.{faults_in_order}
 use Rattle.fb_expr.specs.Charts.{expr_faults_of}
 use Rattle.fb_ecc.specs.Charts.{ecc_faults_of}
 use Rattle.fb_netcheck.specs.Networks.{net_faults_of}

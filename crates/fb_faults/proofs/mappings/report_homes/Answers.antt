@@ -1,7 +1,7 @@
 use Rattle.std.proofs.Common.{◌++◌, ◌<◌, ◌∙◌, arith, length}
 use Rattle.std.specs.BTreeSet.{contains}
-use Rattle.fb_tree.specs.Tree.{mapping_tree}
-use Rattle.fb_tree.specs.declared.system.Mapping.{Mapping}
+use Rattle.fb_netcheck.specs.Tree.Tree.{mapping_tree}
+use Rattle.fb_netcheck.specs.Tree.declared.system.Mapping.{Mapping}
 use Rattle.fb_netcheck.proofs.JoinLemmas.{flat_map_next}
 use Rattle.fb_faults.specs.Mappings.{home_faults}
 use Rattle.fb_faults.specs.Pairs.{pair_cmp}

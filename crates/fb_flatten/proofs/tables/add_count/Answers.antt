@@ -3,7 +3,7 @@ use Rattle.std.proofs.Common.{◌≡◌, Some, sym, ap, ◌∙◌, subst}
 use Rattle.std.specs.Option.{option_copied}
 use Rattle.std.specs.BTreeMap.{get}
 use Rattle.fb_text.specs.Order.{name_cmp}
-use Rattle.fb_network.specs.Plain.{PlainNetwork}
+use Rattle.fb_wiring.specs.Network.Plain.{PlainNetwork}
 use Rattle.fb_compose.specs.Counts.{AreCounted}
 use Rattle.fb_flatten.proofs.TableLemmas.{adds_count}
 use Rattle.fb_flatten.proofs.tables.add_count.Goals as goal

@@ -1,7 +1,7 @@
 -- Where the unit has a tree, its network is added; where it has none, none is.
 use Rattle.std.proofs.Common.{◌≡◌, Some, None, sym, ap, ◌∙◌}
 use Rattle.std.specs.Prelude.{option_map}
-use Rattle.fb_network.specs.Plain.{PlainNetwork}
+use Rattle.fb_wiring.specs.Network.Plain.{PlainNetwork}
 use Rattle.fb_wiring.specs.ByName.{declared}
 use Rattle.fb_wiring.specs.Networks.{network_of}
 use Rattle.fb_flatten.proofs.TableLemmas.{table_more, table_without}

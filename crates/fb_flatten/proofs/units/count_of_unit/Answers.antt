@@ -2,8 +2,8 @@
 use Rattle.std.proofs.Common.{◌≡◌, Some, ◌∙◌}
 use Rattle.std.specs.BTreeMap.{get}
 use Rattle.fb_text.specs.Order.{name_cmp}
-use Rattle.fb_tree.specs.Tree.{decl_tree}
-use Rattle.fb_library.specs.View.{tree_at}
+use Rattle.fb_wiring.specs.Tree.Tree.{decl_tree}
+use Rattle.fb_wiring.specs.Library.View.{tree_at}
 use Rattle.fb_flatten.proofs.OrderLemmas.{ordered_in_order, tree_in_order}
 use Rattle.fb_flatten.proofs.UnitLemmas.{present_of, some_of_map, unit_counted, unit_in_order}
 use Rattle.fb_flatten.proofs.units.count_of_unit.Goals as goal

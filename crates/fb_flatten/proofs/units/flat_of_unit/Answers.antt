@@ -3,8 +3,8 @@ use Rattle.std.proofs.Common.{◌≡◌, List, Some, sym, subst, ◌∙◌}
 use Rattle.std.specs.Prelude.{Contains}
 use Rattle.std.specs.BTreeMap.{get}
 use Rattle.fb_text.specs.Order.{name_cmp}
-use Rattle.fb_tree.specs.Tree.{decl_tree}
-use Rattle.fb_library.specs.View.{tree_at}
+use Rattle.fb_wiring.specs.Tree.Tree.{decl_tree}
+use Rattle.fb_wiring.specs.Library.View.{tree_at}
 use Rattle.fb_wiring.specs.declared.systems.Application.{Application}
 use Rattle.fb_flatten.specs.Tables.{IsFlatTogether}
 use Rattle.fb_flatten.proofs.OrderLemmas.{clean_in_order, ordered_in_order, tree_in_order}

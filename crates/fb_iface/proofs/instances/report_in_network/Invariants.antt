@@ -1,6 +1,6 @@
 use Rattle.std.proofs.Common.{◌≡◌, ◌++◌, take}
 use Rattle.std.specs.List.{flat_map}
-use Rattle.fb_tree.specs.Tree.{instance_tree}
+use Rattle.fb_library.specs.Tree.Tree.{instance_tree}
 use Rattle.fb_iface.specs.Types.{instance_faults}
 use Rattle.fb_iface.proofs.instances.report_in_network.Given as goal
 

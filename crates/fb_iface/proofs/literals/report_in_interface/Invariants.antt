@@ -1,6 +1,6 @@
 use Rattle.std.proofs.Common.{◌≡◌, ◌++◌, take}
 use Rattle.std.specs.List.{flat_map}
-use Rattle.fb_tree.specs.Tree.{variables_tree}
+use Rattle.fb_library.specs.Tree.Tree.{variables_tree}
 use Rattle.fb_iface.specs.Literals.{initial_faults}
 use Rattle.fb_iface.proofs.literals.report_in_interface.Given as goal
 

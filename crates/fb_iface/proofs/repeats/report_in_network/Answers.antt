@@ -1,7 +1,7 @@
 use Rattle.std.proofs.Common.{◌≡◌, ◌++◌, ◌∙◌, ap, map, arith}
 use Rattle.std.proofs.lemmas.Grind.{common_steps}
 use Rattle.std.specs.List.{flat_map}
-use Rattle.fb_tree.specs.Tree.{instance_tree}
+use Rattle.fb_library.specs.Tree.Tree.{instance_tree}
 use Rattle.fb_iface.specs.Declarations.{space_duplicates}
 use Rattle.fb_iface.specs.Spaces.{parameter_names}
 use Rattle.fb_iface.proofs.TreeLemmas.{network_joined}

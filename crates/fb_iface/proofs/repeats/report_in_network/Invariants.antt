@@ -1,6 +1,6 @@
 use Rattle.std.proofs.Common.{◌≡◌, ◌++◌, take}
 use Rattle.std.specs.List.{flat_map}
-use Rattle.fb_tree.specs.Tree.{instance_tree}
+use Rattle.fb_library.specs.Tree.Tree.{instance_tree}
 use Rattle.fb_iface.specs.Declarations.{space_duplicates}
 use Rattle.fb_iface.specs.Spaces.{parameter_names}
 use Rattle.fb_iface.proofs.repeats.report_in_network.Given as goal

@@ -1,7 +1,7 @@
 use Rattle.std.proofs.Common.{◌≡◌, ◌++◌, ◌∙◌, ap, map}
 use Rattle.std.proofs.lemmas.Result.{on_ok_weaker}
 use Rattle.std.specs.List.{flat_map}
-use Rattle.fb_tree.specs.Tree.{network_tree}
+use Rattle.fb_library.specs.Tree.Tree.{network_tree}
 use Rattle.fb_iface.specs.Declarations.{space_duplicates}
 use Rattle.fb_iface.specs.Spaces.{network_spaces}
 use Rattle.fb_iface.proofs.TreeLemmas.{system_joined}

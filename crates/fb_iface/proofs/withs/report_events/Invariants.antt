@@ -2,7 +2,7 @@ use Rattle.std.proofs.Common.{◌≡◌, ◌++◌, take, nat_eq}
 use Rattle.std.specs.List.{flat_map}
 use Rattle.std.specs.Cmp.Lexicographic.{pointwise}
 use Rattle.indexmap.specs.IndexMap.{get}
-use Rattle.fb_tree.specs.Tree.{event_tree}
+use Rattle.fb_library.specs.Tree.Tree.{event_tree}
 use Rattle.fb_iface.specs.Withs.{event_withs}
 use Rattle.fb_iface.proofs.withs.report_events.Given as goal
 

@@ -4,7 +4,7 @@ use Rattle.std.proofs.lemmas.Result.{on_ok_weaker}
 use Rattle.std.specs.Cmp.Lexicographic.{pointwise}
 use Rattle.std.specs.List.{flat_map}
 use Rattle.indexmap.specs.IndexMap.{get}
-use Rattle.fb_tree.specs.Tree.{event_tree, interface_tree}
+use Rattle.fb_library.specs.Tree.Tree.{event_tree, interface_tree}
 use Rattle.fb_iface.specs.Names.{stands_for}
 use Rattle.fb_iface.specs.Ports.{variables_in}
 use Rattle.fb_iface.specs.Withs.{event_withs}

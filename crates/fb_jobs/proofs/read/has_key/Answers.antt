@@ -1,8 +1,8 @@
 -- A unit has a net by its own text.
 use Rattle.std.proofs.Common.{ℕ, List, Option, ap, sym, ◌∙◌}
 use Rattle.std.specs.Option.{option_and_then}
-use Rattle.fb_library.specs.Texts.{text_at}
-use Rattle.fb_library.specs.View.{tree_of}
+use Rattle.fb_flatten.specs.Library.Texts.{text_at}
+use Rattle.fb_flatten.specs.Library.View.{tree_of}
 use Rattle.fb_jobs.specs.Keys.{has_key, has_kind_at}
 use Rattle.fb_jobs.specs.declared.key.Kind.{Kind}
 use Rattle.fb_flatten.specs.Nets.{has_net_in}

@@ -1,6 +1,6 @@
 -- By the kind of the tree.
 use Rattle.std.proofs.Common.{sym}
-use Rattle.fb_tree.specs.Tree.{decl_tree}
+use Rattle.fb_flatten.specs.Tree.Tree.{decl_tree}
 use Rattle.fb_mapping.proofs.KindLemmas.{no_system, system_kind}
 use Rattle.fb_mapping.proofs.systems.is_system.Goals as goal
 

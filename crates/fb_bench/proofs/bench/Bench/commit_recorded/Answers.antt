@@ -1,7 +1,7 @@
 -- A commit is recorded with the machine's answer; where it is done, what is kept is that of the new texts.
 use Rattle.std.proofs.Common.{◌≡◌, ℕ, ◌≤◌, ◌<◌, ◌+◌, List, length, sym, ap, subst, ◌∙◌, arith, rules}
-use Rattle.fb_library.specs.Texts.{Edit}
-use Rattle.fb_library.specs.Changes.{edits_of}
+use Rattle.fb_jobs.specs.Library.Texts.{Edit}
+use Rattle.fb_jobs.specs.Library.Changes.{edits_of}
 use Rattle.fb_bench.specs.declared.answers.Committed.TheVariants.{Done, TooManyUnits}
 use Rattle.fb_bench.specs.Machine.{State, ToCommit, commit_answer, reply}
 use Rattle.fb_bench.specs.Story.{Story, state_of, recorded, record_of}

@@ -2,7 +2,7 @@
 use Rattle.std.proofs.Common.{◌≡◌, ◌++◌, filter, not, is_none, ap, ◌∙◌, rules}
 use Rattle.std.specs.BTreeMap as tree
 use Rattle.std.specs.BTreeSet as set
-use Rattle.fb_library.specs.Changes.{edits_of}
+use Rattle.fb_jobs.specs.Library.Changes.{edits_of}
 use Rattle.fb_jobs.specs.Keys.{has_key}
 use Rattle.fb_jobs.specs.KeyOrder.{key_cmp}
 use Rattle.fb_jobs.specs.Reads.{is_among}
