@@ -10,7 +10,7 @@ use std::test::Fail;
 #[derive(Clone, Copy)]
 enum Step<'a> {
     /// A run of this caller. The numbers of its jobs begin at 1.
-    Lines(u32, &'a [(&'a str, &'a str)]),
+    Lines(u32, &'a str),
     /// The faults of the unit are known.
     Value(&'a str),
     /// The faults of the unit are pending.
@@ -65,7 +65,7 @@ fn is_answer(bench: &Bench, number: u64, turn: u64) -> bool {
 // Whether the step goes as it says.
 fn goes(alloc: Global, bench: &mut Bench, step: Step<'_>) -> Result<bool, Fail> {
     match step {
-        Step::Lines(caller, rows) => Ok(talk(alloc, bench, caller, rows)?.is_none()),
+        Step::Lines(caller, text) => Ok(talk(alloc, bench, caller, text)?.is_none()),
         Step::Value(unit) => peeks_a_value(bench, unit),
         Step::Pending(unit) => peeks_pending(bench, unit),
         Step::Out(unit) => is_out(bench, unit),
@@ -94,32 +94,25 @@ fn first_wrong_step(
 const OLD_BASE: &[Step<'static>] = &[
     Step::Lines(
         1,
-        &[
-            (
-                r#"{"op":"commit","changes":[{"put":"A","base":0,"text":"FUNCTION_BLOCK A END_FUNCTION_BLOCK"}]}"#,
-                r#"{"commit":1}"#,
-            ),
-            (
-                r#"{"op":"commit","changes":[{"put":"A","base":1,"text":"FUNCTION_BLOCK A END_FUNCTION_BLOCK"}]}"#,
-                r#"{"commit":2}"#,
-            ),
-            (
-                r#"{"op":"take"}"#,
-                r#"{"job":1,"kind":"faults","unit":"A"}"#,
-            ),
-            (r#"{"op":"deliver","job":1}"#, r#"{"delivered":"accepted"}"#),
-            (
-                r#"{"op":"commit","changes":[{"put":"A","base":1,"text":"FUNCTION_BLOCK A FBS X:B; END_FBS END_FUNCTION_BLOCK"}]}"#,
-                r#"{"current":2,"refused":"StaleBase","unit":"A"}"#,
-            ),
-        ],
+        r#"
+> {"op":"commit","changes":[{"put":"A","base":0,"text":"FUNCTION_BLOCK A END_FUNCTION_BLOCK"}]}
+< {"commit":1}
+> {"op":"commit","changes":[{"put":"A","base":1,"text":"FUNCTION_BLOCK A END_FUNCTION_BLOCK"}]}
+< {"commit":2}
+> {"op":"take"}
+< {"job":1,"kind":"faults","unit":"A"}
+> {"op":"deliver","job":1}
+< {"delivered":"accepted"}
+> {"op":"commit","changes":[{"put":"A","base":1,"text":"FUNCTION_BLOCK A FBS X:B; END_FBS END_FUNCTION_BLOCK"}]}
+< {"current":2,"refused":"StaleBase","unit":"A"}
+"#,
     ),
     Step::Lines(
         2,
-        &[(
-            r#"{"op":"ask","kind":"faults","unit":"A"}"#,
-            r#"{"faults":[]}"#,
-        )],
+        r#"
+> {"op":"ask","kind":"faults","unit":"A"}
+< {"faults":[]}
+"#,
     ),
     Step::Value("A"),
     Step::Answer(6, 1),
@@ -131,30 +124,23 @@ const OLD_BASE: &[Step<'static>] = &[
 const FULL: &[Step<'static>] = &[
     Step::Lines(
         2,
-        &[
-            (
-                r#"{"op":"ask","kind":"faults","unit":"A"}"#,
-                r#"{"refused":"NoSuchKey"}"#,
-            ),
-            (
-                r#"{"op":"ask","kind":"faults","unit":"A"}"#,
-                r#"{"refused":"NoSuchKey"}"#,
-            ),
-            (
-                r#"{"op":"ask","kind":"faults","unit":"A"}"#,
-                r#"{"refused":"NoSuchKey"}"#,
-            ),
-        ],
+        r#"
+> {"op":"ask","kind":"faults","unit":"A"}
+< {"refused":"NoSuchKey"}
+> {"op":"ask","kind":"faults","unit":"A"}
+< {"refused":"NoSuchKey"}
+> {"op":"ask","kind":"faults","unit":"A"}
+< {"refused":"NoSuchKey"}
+"#,
     ),
     Step::Lines(
         1,
-        &[
-            (
-                r#"{"op":"ask","kind":"faults","unit":"A"}"#,
-                r#"{"refused":"HistoryFull"}"#,
-            ),
-            (r#"{"op":"take"}"#, r#"{"refused":"HistoryFull"}"#),
-        ],
+        r#"
+> {"op":"ask","kind":"faults","unit":"A"}
+< {"refused":"HistoryFull"}
+> {"op":"take"}
+< {"refused":"HistoryFull"}
+"#,
     ),
     Step::Records(3),
 ];
@@ -163,20 +149,14 @@ const FULL: &[Step<'static>] = &[
 const CROWDED: &[Step<'static>] = &[
     Step::Lines(
         1,
-        &[
-            (
-                r#"{"op":"commit","changes":[{"put":"A","base":0,"text":"FUNCTION_BLOCK A END_FUNCTION_BLOCK"}]}"#,
-                r#"{"commit":1}"#,
-            ),
-            (
-                r#"{"op":"commit","changes":[{"put":"B","base":0,"text":"FUNCTION_BLOCK A END_FUNCTION_BLOCK"}]}"#,
-                r#"{"refused":"TooManyUnits"}"#,
-            ),
-            (
-                r#"{"op":"commit","changes":[{"put":"B","base":0,"text":"FUNCTION_BLOCK A END_FUNCTION_BLOCK"},{"remove":"A","base":1}]}"#,
-                r#"{"commit":2}"#,
-            ),
-        ],
+        r#"
+> {"op":"commit","changes":[{"put":"A","base":0,"text":"FUNCTION_BLOCK A END_FUNCTION_BLOCK"}]}
+< {"commit":1}
+> {"op":"commit","changes":[{"put":"B","base":0,"text":"FUNCTION_BLOCK A END_FUNCTION_BLOCK"}]}
+< {"refused":"TooManyUnits"}
+> {"op":"commit","changes":[{"put":"B","base":0,"text":"FUNCTION_BLOCK A END_FUNCTION_BLOCK"},{"remove":"A","base":1}]}
+< {"commit":2}
+"#,
     ),
     Step::Revision("A", 0),
     Step::Revision("B", 2),
@@ -186,51 +166,53 @@ const CROWDED: &[Step<'static>] = &[
 const GIVEN_BACK: &[Step<'static>] = &[
     Step::Lines(
         1,
-        &[
-            (
-                r#"{"op":"commit","changes":[{"put":"A","base":0,"text":"FUNCTION_BLOCK A END_FUNCTION_BLOCK"}]}"#,
-                r#"{"commit":1}"#,
-            ),
-            (
-                r#"{"op":"take"}"#,
-                r#"{"job":1,"kind":"faults","unit":"A"}"#,
-            ),
-        ],
+        r#"
+> {"op":"commit","changes":[{"put":"A","base":0,"text":"FUNCTION_BLOCK A END_FUNCTION_BLOCK"}]}
+< {"commit":1}
+> {"op":"take"}
+< {"job":1,"kind":"faults","unit":"A"}
+"#,
     ),
-    Step::Lines(2, &[(r#"{"op":"take"}"#, r#"{"job":0}"#)]),
+    Step::Lines(
+        2,
+        r#"
+> {"op":"take"}
+< {"job":0}
+"#,
+    ),
     Step::Out("A"),
     Step::Lines(
         2,
-        &[(
-            r#"{"op":"ask","kind":"faults","unit":"A"}"#,
-            r#"{"answer":"pending"}"#,
-        )],
+        r#"
+> {"op":"ask","kind":"faults","unit":"A"}
+< {"answer":"pending"}
+"#,
     ),
     Step::Pending("A"),
     Step::Lines(
         2,
-        &[(
-            r#"{"op":"give_back","kind":"faults","unit":"A"}"#,
-            r#"{"returned":true}"#,
-        )],
+        r#"
+> {"op":"give_back","kind":"faults","unit":"A"}
+< {"returned":true}
+"#,
     ),
     Step::Lines(
         1,
-        &[
-            (
-                r#"{"op":"take"}"#,
-                r#"{"job":1,"kind":"faults","unit":"A"}"#,
-            ),
-            (r#"{"op":"deliver","job":1}"#, r#"{"delivered":"accepted"}"#),
-            (r#"{"op":"deliver","job":1}"#, r#"{"refused":"NotPending"}"#),
-        ],
+        r#"
+> {"op":"take"}
+< {"job":1,"kind":"faults","unit":"A"}
+> {"op":"deliver","job":1}
+< {"delivered":"accepted"}
+> {"op":"deliver","job":1}
+< {"refused":"NotPending"}
+"#,
     ),
     Step::Lines(
         2,
-        &[(
-            r#"{"op":"give_back","kind":"faults","unit":"A"}"#,
-            r#"{"returned":false}"#,
-        )],
+        r#"
+> {"op":"give_back","kind":"faults","unit":"A"}
+< {"returned":false}
+"#,
     ),
 ];
 
@@ -238,110 +220,88 @@ const GIVEN_BACK: &[Step<'static>] = &[
 const MEANWHILE: &[Step<'static>] = &[
     Step::Lines(
         1,
-        &[
-            (
-                r#"{"op":"commit","changes":[{"put":"A","base":0,"text":"FUNCTION_BLOCK A FBS X:B; END_FBS END_FUNCTION_BLOCK"}]}"#,
-                r#"{"commit":1}"#,
-            ),
-            (
-                r#"{"op":"take"}"#,
-                r#"{"job":1,"kind":"faults","unit":"A"}"#,
-            ),
-            (
-                r#"{"op":"commit","changes":[{"put":"B","base":0,"text":"FUNCTION_BLOCK A END_FUNCTION_BLOCK"}]}"#,
-                r#"{"commit":2}"#,
-            ),
-            (
-                r#"{"op":"deliver","job":1}"#,
-                r#"{"refused":"Stale","unit":"B"}"#,
-            ),
-            (
-                r#"{"op":"take"}"#,
-                r#"{"job":2,"kind":"faults","unit":"A"}"#,
-            ),
-            (
-                r#"{"op":"take"}"#,
-                r#"{"job":3,"kind":"faults","unit":"B"}"#,
-            ),
-            (r#"{"op":"deliver","job":3}"#, r#"{"delivered":"accepted"}"#),
-            (r#"{"op":"deliver","job":2}"#, r#"{"delivered":"accepted"}"#),
-            (r#"{"op":"deliver","job":2}"#, r#"{"refused":"NotPending"}"#),
-        ],
+        r#"
+> {"op":"commit","changes":[{"put":"A","base":0,"text":"FUNCTION_BLOCK A FBS X:B; END_FBS END_FUNCTION_BLOCK"}]}
+< {"commit":1}
+> {"op":"take"}
+< {"job":1,"kind":"faults","unit":"A"}
+> {"op":"commit","changes":[{"put":"B","base":0,"text":"FUNCTION_BLOCK A END_FUNCTION_BLOCK"}]}
+< {"commit":2}
+> {"op":"deliver","job":1}
+< {"refused":"Stale","unit":"B"}
+> {"op":"take"}
+< {"job":2,"kind":"faults","unit":"A"}
+> {"op":"take"}
+< {"job":3,"kind":"faults","unit":"B"}
+> {"op":"deliver","job":3}
+< {"delivered":"accepted"}
+> {"op":"deliver","job":2}
+< {"delivered":"accepted"}
+> {"op":"deliver","job":2}
+< {"refused":"NotPending"}
+"#,
     ),
     Step::Lines(
         2,
-        &[
-            (
-                r#"{"op":"ask","kind":"faults","unit":"A"}"#,
-                r#"{"faults":[]}"#,
-            ),
-            (
-                r#"{"op":"ask","kind":"faults","unit":"B"}"#,
-                r#"{"faults":[["NAME_DIFFERS",15,16]]}"#,
-            ),
-        ],
+        r#"
+> {"op":"ask","kind":"faults","unit":"A"}
+< {"faults":[]}
+> {"op":"ask","kind":"faults","unit":"B"}
+< {"faults":[["NAME_DIFFERS",15,16]]}
+"#,
     ),
     Step::Value("A"),
     Step::Value("B"),
     Step::Lines(
         1,
-        &[(
-            r#"{"op":"commit","changes":[{"put":"B","base":2,"text":"FUNCTION_BLOCK A END_FUNCTION_BLOCK"}]}"#,
-            r#"{"commit":3}"#,
-        )],
+        r#"
+> {"op":"commit","changes":[{"put":"B","base":2,"text":"FUNCTION_BLOCK A END_FUNCTION_BLOCK"}]}
+< {"commit":3}
+"#,
     ),
     Step::Lines(
         2,
-        &[(
-            r#"{"op":"ask","kind":"faults","unit":"A"}"#,
-            r#"{"answer":"pending"}"#,
-        )],
+        r#"
+> {"op":"ask","kind":"faults","unit":"A"}
+< {"answer":"pending"}
+"#,
     ),
     Step::Pending("A"),
     Step::Lines(
         1,
-        &[
-            (
-                r#"{"op":"take"}"#,
-                r#"{"job":1,"kind":"faults","unit":"A"}"#,
-            ),
-            (
-                r#"{"op":"take"}"#,
-                r#"{"job":2,"kind":"faults","unit":"B"}"#,
-            ),
-            (
-                r#"{"op":"commit","changes":[{"remove":"B","base":3}]}"#,
-                r#"{"commit":4}"#,
-            ),
-            (
-                r#"{"op":"deliver","job":1}"#,
-                r#"{"refused":"Stale","unit":"B"}"#,
-            ),
-            (r#"{"op":"deliver","job":2}"#, r#"{"refused":"NoSuchKey"}"#),
-            (
-                r#"{"op":"take"}"#,
-                r#"{"job":3,"kind":"faults","unit":"A"}"#,
-            ),
-            (r#"{"op":"deliver","job":3}"#, r#"{"delivered":"accepted"}"#),
-        ],
+        r#"
+> {"op":"take"}
+< {"job":1,"kind":"faults","unit":"A"}
+> {"op":"take"}
+< {"job":2,"kind":"faults","unit":"B"}
+> {"op":"commit","changes":[{"remove":"B","base":3}]}
+< {"commit":4}
+> {"op":"deliver","job":1}
+< {"refused":"Stale","unit":"B"}
+> {"op":"deliver","job":2}
+< {"refused":"NoSuchKey"}
+> {"op":"take"}
+< {"job":3,"kind":"faults","unit":"A"}
+> {"op":"deliver","job":3}
+< {"delivered":"accepted"}
+"#,
     ),
     Step::Lines(
         2,
-        &[(
-            r#"{"op":"ask","kind":"faults","unit":"A"}"#,
-            r#"{"faults":[["UNKNOWN_TYPE",23,24]]}"#,
-        )],
+        r#"
+> {"op":"ask","kind":"faults","unit":"A"}
+< {"faults":[["UNKNOWN_TYPE",23,24]]}
+"#,
     ),
     Step::Value("A"),
     Step::Lines(
         2,
-        &[
-            (
-                r#"{"op":"ask","kind":"faults","unit":"B"}"#,
-                r#"{"refused":"NoSuchKey"}"#,
-            ),
-            (r#"{"op":"take"}"#, r#"{"job":0}"#),
-        ],
+        r#"
+> {"op":"ask","kind":"faults","unit":"B"}
+< {"refused":"NoSuchKey"}
+> {"op":"take"}
+< {"job":0}
+"#,
     ),
 ];
 
@@ -349,35 +309,25 @@ const MEANWHILE: &[Step<'static>] = &[
 const PUT_AGAIN: &[Step<'static>] = &[
     Step::Lines(
         1,
-        &[
-            (
-                r#"{"op":"commit","changes":[{"put":"A","base":0,"text":"FUNCTION_BLOCK A END_FUNCTION_BLOCK"}]}"#,
-                r#"{"commit":1}"#,
-            ),
-            (
-                r#"{"op":"take"}"#,
-                r#"{"job":1,"kind":"faults","unit":"A"}"#,
-            ),
-            (
-                r#"{"op":"commit","changes":[{"put":"A","base":1,"text":"FUNCTION_BLOCK A FBS X:B; END_FBS END_FUNCTION_BLOCK"}]}"#,
-                r#"{"commit":2}"#,
-            ),
-            (
-                r#"{"op":"commit","changes":[{"put":"A","base":2,"text":"FUNCTION_BLOCK A END_FUNCTION_BLOCK"}]}"#,
-                r#"{"commit":3}"#,
-            ),
-            (
-                r#"{"op":"deliver","job":1}"#,
-                r#"{"refused":"Stale","unit":"A"}"#,
-            ),
-        ],
+        r#"
+> {"op":"commit","changes":[{"put":"A","base":0,"text":"FUNCTION_BLOCK A END_FUNCTION_BLOCK"}]}
+< {"commit":1}
+> {"op":"take"}
+< {"job":1,"kind":"faults","unit":"A"}
+> {"op":"commit","changes":[{"put":"A","base":1,"text":"FUNCTION_BLOCK A FBS X:B; END_FBS END_FUNCTION_BLOCK"}]}
+< {"commit":2}
+> {"op":"commit","changes":[{"put":"A","base":2,"text":"FUNCTION_BLOCK A END_FUNCTION_BLOCK"}]}
+< {"commit":3}
+> {"op":"deliver","job":1}
+< {"refused":"Stale","unit":"A"}
+"#,
     ),
     Step::Lines(
         2,
-        &[(
-            r#"{"op":"ask","kind":"faults","unit":"A"}"#,
-            r#"{"answer":"pending"}"#,
-        )],
+        r#"
+> {"op":"ask","kind":"faults","unit":"A"}
+< {"answer":"pending"}
+"#,
     ),
     Step::Pending("A"),
 ];
@@ -386,24 +336,16 @@ const PUT_AGAIN: &[Step<'static>] = &[
 const REFUSED: &[Step<'static>] = &[
     Step::Lines(
         1,
-        &[
-            (
-                r#"{"op":"commit","changes":[]}"#,
-                r#"{"refused":"NoChange"}"#,
-            ),
-            (
-                r#"{"op":"commit","changes":[{"remove":"A","base":1}]}"#,
-                r#"{"refused":"NoSuchUnit","unit":"A"}"#,
-            ),
-            (
-                r#"{"op":"commit","changes":[{"remove":"A","base":1},{"put":"A","base":0,"text":"FUNCTION_BLOCK A END_FUNCTION_BLOCK"}]}"#,
-                r#"{"refused":"SameUnitTwice","unit":"A"}"#,
-            ),
-            (
-                r#"{"op":"commit","changes":[{"put":"A","base":0,"text":"FUNCTION_BLOCK A END_FUNCTION_BLOCK"},{"put":"A","base":0,"text":"FUNCTION_BLOCK A END_FUNCTION_BLOCK"},{"put":"A","base":0,"text":"FUNCTION_BLOCK A END_FUNCTION_BLOCK"},{"put":"A","base":0,"text":"FUNCTION_BLOCK A END_FUNCTION_BLOCK"},{"put":"A","base":0,"text":"FUNCTION_BLOCK A END_FUNCTION_BLOCK"},{"put":"A","base":0,"text":"FUNCTION_BLOCK A END_FUNCTION_BLOCK"},{"put":"A","base":0,"text":"FUNCTION_BLOCK A END_FUNCTION_BLOCK"},{"put":"A","base":0,"text":"FUNCTION_BLOCK A END_FUNCTION_BLOCK"},{"put":"A","base":0,"text":"FUNCTION_BLOCK A END_FUNCTION_BLOCK"},{"put":"A","base":0,"text":"FUNCTION_BLOCK A END_FUNCTION_BLOCK"},{"put":"A","base":0,"text":"FUNCTION_BLOCK A END_FUNCTION_BLOCK"},{"put":"A","base":0,"text":"FUNCTION_BLOCK A END_FUNCTION_BLOCK"},{"put":"A","base":0,"text":"FUNCTION_BLOCK A END_FUNCTION_BLOCK"},{"put":"A","base":0,"text":"FUNCTION_BLOCK A END_FUNCTION_BLOCK"},{"put":"A","base":0,"text":"FUNCTION_BLOCK A END_FUNCTION_BLOCK"},{"put":"A","base":0,"text":"FUNCTION_BLOCK A END_FUNCTION_BLOCK"},{"put":"A","base":0,"text":"FUNCTION_BLOCK A END_FUNCTION_BLOCK"}]}"#,
-                r#"{"refused":"TooManyChanges"}"#,
-            ),
-        ],
+        r#"
+> {"op":"commit","changes":[]}
+< {"refused":"NoChange"}
+> {"op":"commit","changes":[{"remove":"A","base":1}]}
+< {"refused":"NoSuchUnit","unit":"A"}
+> {"op":"commit","changes":[{"remove":"A","base":1},{"put":"A","base":0,"text":"FUNCTION_BLOCK A END_FUNCTION_BLOCK"}]}
+< {"refused":"SameUnitTwice","unit":"A"}
+> {"op":"commit","changes":[{"put":"A","base":0,"text":"FUNCTION_BLOCK A END_FUNCTION_BLOCK"},{"put":"A","base":0,"text":"FUNCTION_BLOCK A END_FUNCTION_BLOCK"},{"put":"A","base":0,"text":"FUNCTION_BLOCK A END_FUNCTION_BLOCK"},{"put":"A","base":0,"text":"FUNCTION_BLOCK A END_FUNCTION_BLOCK"},{"put":"A","base":0,"text":"FUNCTION_BLOCK A END_FUNCTION_BLOCK"},{"put":"A","base":0,"text":"FUNCTION_BLOCK A END_FUNCTION_BLOCK"},{"put":"A","base":0,"text":"FUNCTION_BLOCK A END_FUNCTION_BLOCK"},{"put":"A","base":0,"text":"FUNCTION_BLOCK A END_FUNCTION_BLOCK"},{"put":"A","base":0,"text":"FUNCTION_BLOCK A END_FUNCTION_BLOCK"},{"put":"A","base":0,"text":"FUNCTION_BLOCK A END_FUNCTION_BLOCK"},{"put":"A","base":0,"text":"FUNCTION_BLOCK A END_FUNCTION_BLOCK"},{"put":"A","base":0,"text":"FUNCTION_BLOCK A END_FUNCTION_BLOCK"},{"put":"A","base":0,"text":"FUNCTION_BLOCK A END_FUNCTION_BLOCK"},{"put":"A","base":0,"text":"FUNCTION_BLOCK A END_FUNCTION_BLOCK"},{"put":"A","base":0,"text":"FUNCTION_BLOCK A END_FUNCTION_BLOCK"},{"put":"A","base":0,"text":"FUNCTION_BLOCK A END_FUNCTION_BLOCK"},{"put":"A","base":0,"text":"FUNCTION_BLOCK A END_FUNCTION_BLOCK"}]}
+< {"refused":"TooManyChanges"}
+"#,
     ),
     Step::Records(4),
 ];

@@ -161,19 +161,17 @@ fn a_result_of_another_text(rt: HostRuntime) -> Result<(), Fail> {
     let mut bench = bench_with(alloc, PLAIN)?;
     let stale = Delivered::Stale(Name::read("A")?);
     assert!(rt; bench.deliver(1, &strange)? == stale);
-    let rows = [
-        (
-            r#"{"op":"take"}"#,
-            r#"{"job":1,"kind":"faults","unit":"A"}"#,
-        ),
-        (r#"{"op":"deliver","job":1}"#, r#"{"delivered":"accepted"}"#),
-        (r#"{"op":"deliver","job":1}"#, r#"{"refused":"NotPending"}"#),
-        (
-            r#"{"op":"ask","kind":"faults","unit":"A"}"#,
-            r#"{"faults":[]}"#,
-        ),
-    ];
-    assert_eq!(rt; talk(alloc, &mut bench, 1, &rows)?, None);
+    let text = r#"
+> {"op":"take"}
+< {"job":1,"kind":"faults","unit":"A"}
+> {"op":"deliver","job":1}
+< {"delivered":"accepted"}
+> {"op":"deliver","job":1}
+< {"refused":"NotPending"}
+> {"op":"ask","kind":"faults","unit":"A"}
+< {"faults":[]}
+"#;
+    assert_eq!(rt; talk(alloc, &mut bench, 1, text)?, None);
     assert!(rt; has_value(&bench, faults_of_a()?));
     Ok(())
 }
@@ -199,11 +197,11 @@ fn calls_as_requests(rt: HostRuntime) -> Result<(), Fail> {
         let is_job = matches!(&answer, Answered::Take(Taken::Job(_)));
         assert!(rt; is_job == (place == 1));
     }
-    let rows = [(
-        r#"{"op":"ask","kind":"faults","unit":"A"}"#,
-        r#"{"faults":[]}"#,
-    )];
-    assert_eq!(rt; talk(alloc, &mut bench, 2, &rows)?, None);
+    let text = r#"
+> {"op":"ask","kind":"faults","unit":"A"}
+< {"faults":[]}
+"#;
+    assert_eq!(rt; talk(alloc, &mut bench, 2, text)?, None);
     assert!(rt; has_value(&bench, key));
     Ok(())
 }

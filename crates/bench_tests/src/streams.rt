@@ -1,7 +1,9 @@
 //! Runs over streams that come to their end, stop or fail.
-use crate::talk::{ALWAYS, GOOD, Run, Streams, first_wrong, lines_of, new_bench, run_over};
+use crate::talk::{
+    ALWAYS, GOOD, Run, Streams, new_bench, replies_in, replies_within, requests_in, run_over,
+};
 use fb_wire::{Feed, FromRead, IntoWrite, RunEnd, Sink, run_script};
-use std::alloc::{AllocError, Global};
+use std::alloc::Global;
 use std::test::Fail;
 
 const TAKE: &[u8] = b"{\"op\":\"take\"}\n";
@@ -9,52 +11,20 @@ const TAKE: &[u8] = b"{\"op\":\"take\"}\n";
 const NO_JOB: &[u8] = b"{\"job\":0}\n";
 
 // A result that comes late, on streams of which a read or a write fails.
-const LATE: &[(&str, &str)] = &[
-    (
-        r#"{"op":"commit","changes":[{"put":"C","base":0,"text":"FUNCTION_BLOCK C FBS S:E_SPLIT; END_FBS END_FUNCTION_BLOCK"},{"put":"E_SPLIT","base":0,"text":"FUNCTION_BLOCK E_SPLIT EVENT_INPUT EI; END_EVENT EVENT_OUTPUT EO1; EO2; END_EVENT END_FUNCTION_BLOCK"}]}"#,
-        r#"{"commit":1}"#,
-    ),
-    (
-        r#"{"op":"take"}"#,
-        r#"{"job":1,"kind":"faults","unit":"C"}"#,
-    ),
-    (
-        r#"{"op":"commit","changes":[{"put":"E_SPLIT","base":1,"text":"FUNCTION_BLOCK E_SPLIT EVENT_INPUT EI; END_EVENT EVENT_OUTPUT EO1; EO2; END_EVENT END_FUNCTION_BLOCK"}]}"#,
-        r#"{"commit":2}"#,
-    ),
-    (
-        r#"{"op":"deliver","job":1}"#,
-        r#"{"refused":"Stale","unit":"E_SPLIT"}"#,
-    ),
-    (
-        r#"{"op":"ask","kind":"faults","unit":"C"}"#,
-        r#"{"answer":"pending"}"#,
-    ),
-    (r#"{"op":"work","turns":9}"#, r#"{"accepted":2}"#),
-];
-
-// The front of the rows whose lines end within the first bytes.
-fn rows_within<'a>(rows: &'a [(&'a str, &'a str)], bytes: usize) -> &'a [(&'a str, &'a str)] {
-    let mut left = bytes;
-    for place in 0..rows.len() {
-        let (line, _) = rows[place];
-        if left <= line.len() {
-            return &rows[..place];
-        }
-        left -= line.len() + 1;
-    }
-    rows
-}
-
-// The replies of the rows.
-fn replies_of(alloc: Global, rows: &[(&str, &str)]) -> Result<String, AllocError> {
-    let mut replies = String::new(alloc);
-    for (_, reply) in rows {
-        replies.push_str(reply)?;
-        replies.push_str("\n")?;
-    }
-    Ok(replies)
-}
+const LATE: &str = r#"
+> {"op":"commit","changes":[{"put":"C","base":0,"text":"FUNCTION_BLOCK C FBS S:E_SPLIT; END_FBS END_FUNCTION_BLOCK"},{"put":"E_SPLIT","base":0,"text":"FUNCTION_BLOCK E_SPLIT EVENT_INPUT EI; END_EVENT EVENT_OUTPUT EO1; EO2; END_EVENT END_FUNCTION_BLOCK"}]}
+< {"commit":1}
+> {"op":"take"}
+< {"job":1,"kind":"faults","unit":"C"}
+> {"op":"commit","changes":[{"put":"E_SPLIT","base":1,"text":"FUNCTION_BLOCK E_SPLIT EVENT_INPUT EI; END_EVENT EVENT_OUTPUT EO1; EO2; END_EVENT END_FUNCTION_BLOCK"}]}
+< {"commit":2}
+> {"op":"deliver","job":1}
+< {"refused":"Stale","unit":"E_SPLIT"}
+> {"op":"ask","kind":"faults","unit":"C"}
+< {"answer":"pending"}
+> {"op":"work","turns":9}
+< {"accepted":2}
+"#;
 
 // A run over these bytes on a new workbench.
 fn run_alone(alloc: Global, input: &[u8], streams: Streams) -> Result<Run, Fail> {
@@ -66,17 +36,17 @@ fn run_alone(alloc: Global, input: &[u8], streams: Streams) -> Result<Run, Fail>
 #[test]
 fn failing_reads(rt: HostRuntime) -> Result<(), Fail> {
     let alloc = rt.alloc();
-    let lines = lines_of(alloc, LATE)?;
+    let requests = requests_in(alloc, LATE)?;
     for good in 0..12u8 {
         let streams = Streams {
             read: (50, u64::from(good)),
             write: (50, ALWAYS),
             turns: 1_000_000,
         };
-        let run = run_alone(alloc, lines.as_bytes(), streams)?;
+        let run = run_alone(alloc, requests.as_bytes(), streams)?;
         assert_eq!(rt; run.end, RunEnd::ReadFailed);
-        let whole = rows_within(LATE, 50 * usize::from(good));
-        assert_eq!(rt; first_wrong(&run.output, whole), None, "at {good}");
+        let replies = replies_within(alloc, LATE, 50 * usize::from(good))?;
+        assert!(rt; run.output.as_slice() == replies.as_bytes(), "at {good}");
     }
     Ok(())
 }
@@ -85,15 +55,15 @@ fn failing_reads(rt: HostRuntime) -> Result<(), Fail> {
 #[test]
 fn failing_writes(rt: HostRuntime) -> Result<(), Fail> {
     let alloc = rt.alloc();
-    let lines = lines_of(alloc, LATE)?;
-    let replies = replies_of(alloc, LATE)?;
+    let requests = requests_in(alloc, LATE)?;
+    let replies = replies_in(alloc, LATE)?;
     for good in 0..14u8 {
         let streams = Streams {
             read: (10, ALWAYS),
             write: (10, u64::from(good)),
             turns: 1_000_000,
         };
-        let run = run_alone(alloc, lines.as_bytes(), streams)?;
+        let run = run_alone(alloc, requests.as_bytes(), streams)?;
         assert_eq!(rt; run.end, RunEnd::WriteFailed);
         assert!(rt; run.output.len() <= 10 * usize::from(good), "at {good}");
         assert!(rt; replies.as_bytes().starts_with(&run.output), "at {good}");
@@ -164,6 +134,9 @@ const RUNS: &[(&[u8], Pace, Pace, u64, RunEnd, &[u8])] = &[
         b"{\"refused\":\"BadRequest\"}\n",
     ),
     (b"", WIDE, WIDE, 1000, RunEnd::End, b""),
+    // A line of blanks is passed over.
+    (b"  \n", WIDE, WIDE, 1000, RunEnd::End, b""),
+    (b" \t\r\n", WIDE, WIDE, 1000, RunEnd::End, b""),
 ];
 
 #[test]

@@ -1,4 +1,4 @@
-//! Runs of request lines over a workbench, and whether their replies are those wanted.
+//! Conversations with a workbench, and whether its replies are those wanted.
 ghost use Rattle.std.specs.Prelude.{◌<◌};
 
 use fb_wire::bench::{Bench, Limits};
@@ -59,54 +59,79 @@ pub(crate) fn run_over(
     })
 }
 
-/// The request lines of the rows.
-pub(crate) fn lines_of(alloc: Global, rows: &[(&str, &str)]) -> Result<String, AllocError> {
-    let mut lines = String::new(alloc);
-    for (line, _) in rows {
-        lines.push_str(line)?;
-        lines.push_str("\n")?;
-    }
-    Ok(lines)
-}
-
-// What follows this reply and its line feed, if they come first.
-fn after<'a>(output: &'a [u8], reply: &str) -> Option<&'a [u8]> {
-    output.strip_prefix(reply.as_bytes())?.strip_prefix(b"\n")
-}
-
-/// The place of the first row whose reply does not come next in the output, or the number of rows where the output
-/// goes on after all replies. A row with no reply has none in the output.
-pub(crate) fn first_wrong(output: &[u8], rows: &[(&str, &str)]) -> Option<usize> {
-    let mut rest = output;
-    for place in 0..rows.len() {
-        let (_, reply) = rows[place];
-        if !reply.is_empty() {
-            match after(rest, reply) {
-                Some(left) => rest = left,
-                None => return Some(place),
-            }
+/// The request lines of a conversation. It is a text in which `> ` comes before a request, `< ` before the reply to
+/// it and `// ` before a remark; other lines are empty.
+pub(crate) fn requests_in(alloc: Global, text: &str) -> Result<String, Fail> {
+    let mut requests = String::new(alloc);
+    for line in text.split('\n') {
+        if let Some(request) = line.strip_prefix("> ") {
+            requests.push_str(request)?;
+            requests.push_str("\n")?;
+        } else if !(line.is_empty() || line.starts_with("< ") || line.starts_with("// ")) {
+            return Err(Fail::from("a line of no kind"));
         }
     }
-    if rest.is_empty() {
-        None
-    } else {
-        Some(rows.len())
-    }
+    Ok(requests)
 }
 
-/// Has a caller say the lines of the rows. Gives the place of the first row that is answered by another reply.
+/// The replies of a conversation to the request lines that end within the first bytes of these.
+pub(crate) fn replies_within(
+    alloc: Global,
+    text: &str,
+    bytes: usize,
+) -> Result<String, AllocError> {
+    let mut replies = String::new(alloc);
+    let mut left = bytes;
+    for line in text.split('\n') {
+        if let Some(request) = line.strip_prefix("> ") {
+            if left <= request.len() {
+                return Ok(replies);
+            }
+            left -= request.len() + 1;
+        } else if let Some(reply) = line.strip_prefix("< ") {
+            replies.push_str(reply)?;
+            replies.push_str("\n")?;
+        }
+    }
+    Ok(replies)
+}
+
+/// All replies of a conversation.
+pub(crate) fn replies_in(alloc: Global, text: &str) -> Result<String, AllocError> {
+    replies_within(alloc, text, usize::MAX)
+}
+
+// The number of the first line, counted from 1, that is not the same in both texts.
+fn first_difference(a: &str, b: &str) -> Option<usize> {
+    if a == b {
+        return None;
+    }
+    let mut number = 1;
+    for (a, b) in a.split('\n').zip(b.split('\n')) {
+        if a != b {
+            return Some(number);
+        }
+        number += 1;
+    }
+    Some(number)
+}
+
+/// Has a caller say the requests of a conversation. Gives the number of the first reply, counted from 1, that is
+/// another one than there.
 pub(crate) fn talk(
     alloc: Global,
     bench: &mut Bench,
     caller: u32,
-    rows: &[(&str, &str)],
+    text: &str,
 ) -> Result<Option<usize>, Fail> {
-    let lines = lines_of(alloc, rows)?;
-    let run = run_over(alloc, bench, caller, lines.as_bytes(), GOOD)?;
+    let requests = requests_in(alloc, text)?;
+    let run = run_over(alloc, bench, caller, requests.as_bytes(), GOOD)?;
     if run.end != RunEnd::End {
         return Err(Fail::from("the run did not come to its end"));
     }
-    Ok(first_wrong(&run.output, rows))
+    let said = String::from_utf8(run.output)?;
+    let wanted = replies_in(alloc, text)?;
+    Ok(first_difference(said.as_str(), wanted.as_str()))
 }
 
 /// The same with a new workbench of these limits.
@@ -114,13 +139,13 @@ pub(crate) fn talk_within(
     alloc: Global,
     units: u64,
     history: u64,
-    rows: &[(&str, &str)],
+    text: &str,
 ) -> Result<Option<usize>, Fail> {
     let mut bench = new_bench(alloc, units, history)?;
-    talk(alloc, &mut bench, 1, rows)
+    talk(alloc, &mut bench, 1, text)
 }
 
 /// The same with a new workbench of the program's own limits.
-pub(crate) fn talk_alone(alloc: Global, rows: &[(&str, &str)]) -> Result<Option<usize>, Fail> {
-    talk_within(alloc, 1024, 100_000, rows)
+pub(crate) fn talk_alone(alloc: Global, text: &str) -> Result<Option<usize>, Fail> {
+    talk_within(alloc, 1024, 100_000, text)
 }
