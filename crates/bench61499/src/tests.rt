@@ -40,47 +40,54 @@ fn run_over(
     })
 }
 
-// The words after the program's name, and the most units and records that they ask for.
-const ASKED: &[(&[&str], u64, u64)] = &[
-    (&["bench61499", "script"], 1024, 100_000),
-    (&["bench61499", "script", "--history", "3"], 1024, 3),
-    (&["bench61499", "script", "--history", "5"], 1024, 5),
-    (&["bench61499", "script", "--history", "129"], 1024, 129),
-    (&["bench61499", "script", "--units", "1"], 1, 100_000),
-    (&["bench61499", "script", "--units=4096"], 4096, 100_000),
+fn words_of<'a>(alloc: Global, line: &'a str) -> Result<Vec<&'a str>, AllocError> {
+    line.split_whitespace().collect(alloc)
+}
+
+// Words, and the most units and records that they ask for.
+const ASKED: &[(&str, u64, u64)] = &[
+    ("bench61499 script", 1024, 100_000),
+    ("bench61499 script --history 3", 1024, 3),
+    ("bench61499 script --history 5", 1024, 5),
+    ("bench61499 script --history 129", 1024, 129),
+    ("bench61499 script --units 1", 1, 100_000),
+    ("bench61499 script --units=4096", 4096, 100_000),
 ];
 
 #[test]
 fn words_give_settings(rt: HostRuntime) -> Result<(), Fail> {
-    for (words, units, history) in ASKED {
-        let found = settings(rt.alloc(), words)?;
+    for (line, units, history) in ASKED {
+        let words = words_of(rt.alloc(), line)?;
+        let found = settings(rt.alloc(), &words)?;
         let (units, history) = (*units, *history);
-        assert_eq!(rt; found, Settings::Script { units, history });
+        assert_eq!(rt; found, Settings::Script { units, history }, "{line}");
     }
     Ok(())
 }
 
 // Words that ask for nothing that the program does, or for help.
-const REFUSED: &[&[&str]] = &[
-    &["bench61499"],
-    &["bench61499", "scripts"],
-    &["bench61499", "--help"],
-    &["bench61499", "script", "--history", "0"],
-    &["bench61499", "script", "--history", "1000001"],
-    &["bench61499", "script", "--units", "4097"],
-    &["bench61499", "script", "--units", "x"],
-    &["bench61499", "script", "--units"],
-    &["bench61499", "script", "--unit", "5"],
-    &["bench61499", "script", "--port", "1"],
+const REFUSED: &[&str] = &[
+    "bench61499",
+    "bench61499 scripts",
+    "bench61499 --help",
+    "bench61499 script --history 0",
+    "bench61499 script --history 1000001",
+    "bench61499 script --units 4097",
+    "bench61499 script --units x",
+    "bench61499 script --units",
+    "bench61499 script --unit 5",
+    "bench61499 script --port 1",
 ];
 
 #[test]
 fn refused_words(rt: HostRuntime) -> Result<(), Fail> {
-    for words in REFUSED {
-        assert!(rt; settings(rt.alloc(), words).is_err());
-        let ended = run_over(rt.alloc(), words, TAKE, ALWAYS, ALWAYS, 1000)?;
-        assert_eq!(rt; ended.status, 2);
-        assert!(rt; ended.output.is_empty() && !ended.errors.is_empty());
+    for line in REFUSED {
+        let words = words_of(rt.alloc(), line)?;
+        assert!(rt; settings(rt.alloc(), &words).is_err(), "{line}");
+        let ended = run_over(rt.alloc(), &words, TAKE, ALWAYS, ALWAYS, 1000)?;
+        assert_eq!(rt; ended.status, 2, "{line}");
+        let is_said = !ended.errors.is_empty();
+        assert!(rt; is_said && ended.output.is_empty(), "{line}");
     }
     Ok(())
 }

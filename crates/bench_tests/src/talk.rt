@@ -101,23 +101,17 @@ pub(crate) fn replies_in(alloc: Global, text: &str) -> Result<String, AllocError
     replies_within(alloc, text, usize::MAX)
 }
 
-// The number of the first line, counted from 1, that is not the same in both texts.
-fn first_difference(a: &str, b: &str) -> Option<usize> {
+// How many lines at the front are the same in both texts, where these differ.
+fn alike(a: &str, b: &str) -> Option<usize> {
     if a == b {
         return None;
     }
-    let mut number = 1;
-    for (a, b) in a.split('\n').zip(b.split('\n')) {
-        if a != b {
-            return Some(number);
-        }
-        number += 1;
-    }
-    Some(number)
+    let place = a.split('\n').zip(b.split('\n')).position(|(a, b)| a != b);
+    Some(place.unwrap_or(0))
 }
 
-/// Has a caller say the requests of a conversation. Gives the number of the first reply, counted from 1, that is
-/// another one than there.
+/// Has a caller say the requests of a conversation. Where the replies are not those that stand there, it gives how many at
+/// the front are.
 pub(crate) fn talk(
     alloc: Global,
     bench: &mut Bench,
@@ -131,7 +125,7 @@ pub(crate) fn talk(
     }
     let said = String::from_utf8(run.output)?;
     let wanted = replies_in(alloc, text)?;
-    Ok(first_difference(said.as_str(), wanted.as_str()))
+    Ok(alike(said.as_str(), wanted.as_str()))
 }
 
 /// The same with a new workbench of these limits.
