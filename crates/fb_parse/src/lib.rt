@@ -11,5 +11,5 @@ mod system;
 mod units;
 
 pub use body::{Body, one_body, one_tree};
-pub use fb_sections::tree;
+pub use fb_tree as tree;
 pub use source::{ReadFault, Source};

@@ -16,7 +16,7 @@ mod system_parts;
 pub use chart::states;
 pub use connecting::{EndTokens, connections, end};
 pub use fb_forms as forms;
-pub use fb_forms::{lexemes, tree};
+pub use fb_forms::lexemes;
 pub use frame::section;
 pub use instances::{blocks, plugs, sockets, subapplications};
 pub use interface::{data_variables, events, internal_variables};
