@@ -2,20 +2,20 @@
 use Rattle.std.proofs.Common.{◌≡◌, Box, List, Vec, map, option_map, ap, ◌∙◌}
 use Rattle.std.proofs.lemmas.Simd.{map-map}
 use Rattle.std.specs.declared.alloc.Global.{Global}
-use Rattle.fb_iface.specs.Tree.Expression.{Expression, expression_step, expression_tree, operands_of, row_expression}
-use Rattle.fb_iface.specs.Tree.Statement.{Statement, arms_of, choice, count, repeat_loop, selection, statement_step, statement_tree, statements_of, while_loop}
-use Rattle.fb_iface.specs.Tree.declared.expression.BinaryUse.{BinaryUse}
-use Rattle.fb_iface.specs.Tree.declared.expression.Expr.{Expr}
-use Rattle.fb_iface.specs.Tree.declared.expression.Expr as Expr
-use Rattle.fb_iface.specs.Tree.declared.expression.Expr.TheFolds.{fold-roll-Expr}
-use Rattle.fb_iface.specs.Tree.declared.expression.Expr.TheOpen.{Row as RowF}
-use Rattle.fb_iface.specs.Tree.declared.expression.Expr.TheViews.{roll-Expr}
-use Rattle.fb_iface.specs.Tree.declared.statement.Counting.{Counting}
-use Rattle.fb_iface.specs.Tree.declared.statement.Stmt.{Stmt}
-use Rattle.fb_iface.specs.Tree.declared.statement.Stmt as Stmt
-use Rattle.fb_iface.specs.Tree.declared.statement.Stmt.TheFolds.{fold-roll-Stmt}
-use Rattle.fb_iface.specs.Tree.declared.statement.Stmt.TheOpen.{Case as CaseF, For as ForF, If as IfF, Repeat as RepeatF, While as WhileF}
-use Rattle.fb_iface.specs.Tree.declared.statement.Stmt.TheViews.{roll-Stmt}
+use Rattle.fb_tree.specs.Expression.{Expression, expression_step, expression_tree, operands_of, row_expression}
+use Rattle.fb_tree.specs.Statement.{Statement, arms_of, choice, count, repeat_loop, selection, statement_step, statement_tree, statements_of, while_loop}
+use Rattle.fb_tree.specs.declared.expression.BinaryUse.{BinaryUse}
+use Rattle.fb_tree.specs.declared.expression.Expr.{Expr}
+use Rattle.fb_tree.specs.declared.expression.Expr as Expr
+use Rattle.fb_tree.specs.declared.expression.Expr.TheFolds.{fold-roll-Expr}
+use Rattle.fb_tree.specs.declared.expression.Expr.TheOpen.{Row as RowF}
+use Rattle.fb_tree.specs.declared.expression.Expr.TheViews.{roll-Expr}
+use Rattle.fb_tree.specs.declared.statement.Counting.{Counting}
+use Rattle.fb_tree.specs.declared.statement.Stmt.{Stmt}
+use Rattle.fb_tree.specs.declared.statement.Stmt as Stmt
+use Rattle.fb_tree.specs.declared.statement.Stmt.TheFolds.{fold-roll-Stmt}
+use Rattle.fb_tree.specs.declared.statement.Stmt.TheOpen.{Case as CaseF, For as ForF, If as IfF, Repeat as RepeatF, While as WhileF}
+use Rattle.fb_tree.specs.declared.statement.Stmt.TheViews.{roll-Stmt}
 use denote.Hole.Carrier.{roll}
 
 abbrev pub operand_tree : BinaryUse × Expr → BinaryUse × Expression

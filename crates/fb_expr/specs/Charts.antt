@@ -1,8 +1,8 @@
 -- The faults of the expressions and statements of a unit (IEC 61499-1, 5.2.1 and 5.2.2: execution control charts and algorithms).
 use Rattle.std.specs.Prelude.{◌≡◌, ℕ, List, [], ◌++◌, Option, Some, None}
 use Rattle.std.specs.List.{flat_map}
-use Rattle.fb_iface.specs.Tree.Statement.{statements_of}
-use Rattle.fb_iface.specs.Tree.Tree.{AlgorithmTree, ChartTree, ConditionTree, always, on_event, guarded, guard, DeclTree, TransitionTree, block_type, adapter_type, subapplication_type, system_configuration}
+use Rattle.fb_tree.specs.Statement.{statements_of}
+use Rattle.fb_tree.specs.Tree.{AlgorithmTree, ChartTree, ConditionTree, always, on_event, guarded, guard, DeclTree, TransitionTree, block_type, adapter_type, subapplication_type, system_configuration}
 use Rattle.fb_iface.specs.Library.Local.{Agree}
 use Rattle.fb_iface.specs.Library.View.{Sources, near_of, tree_at}
 use Rattle.fb_iface.specs.Scope.{Scope, scope_of_type}

@@ -1,6 +1,6 @@
 -- The class of each expression, and the faults in it.
 use Rattle.std.specs.Prelude.{List, [], ◌++◌, is_some}
-use Rattle.fb_iface.specs.Tree.Expression.{Expression, literal_expression, reference_expression, unary_expression, row_expression, parentheses, Expressions, no_expressions, expression_then, Operands, no_operands, operand_then}
+use Rattle.fb_tree.specs.Expression.{Expression, literal_expression, reference_expression, unary_expression, row_expression, parentheses, Expressions, no_expressions, expression_then, Operands, no_operands, operand_then}
 use Rattle.fb_iface.specs.Class.{class_of_literal}
 use Rattle.fb_iface.specs.Scope.{Scope}
 use Rattle.fb_iface.specs.declared.classes.Class.{Class}

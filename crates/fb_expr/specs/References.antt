@@ -2,15 +2,15 @@
 use Rattle.std.specs.Prelude.{ℕ, Bool, true, false, List, [], ◌∷◌, Option, Some, None, if◌then◌else◌}
 use Rattle.std.specs.Option.{option_map_or}
 use Rattle.fb_text.specs.declared.token.Span.{Span}
-use Rattle.fb_iface.specs.Tree.declared.expression.Reference.{Reference}
-use Rattle.fb_iface.specs.Tree.declared.interface.Section.{Section}
-use Rattle.fb_iface.specs.Tree.declared.interface.Section.TheVariants as sections
-use Rattle.fb_iface.specs.Tree.declared.interface.TypeForm.{TypeForm}
-use Rattle.fb_iface.specs.Tree.declared.interface.TypeForm.TheVariants as forms
-use Rattle.fb_iface.specs.Tree.declared.interface.TypeUse.{TypeUse}
-use Rattle.fb_iface.specs.Tree.declared.network.Role.{Role}
-use Rattle.fb_iface.specs.Tree.declared.network.Role.TheVariants as roles
-use Rattle.fb_iface.specs.Tree.Expression.{Expressions, no_expressions, expression_then}
+use Rattle.fb_tree.specs.declared.expression.Reference.{Reference}
+use Rattle.fb_tree.specs.declared.interface.Section.{Section}
+use Rattle.fb_tree.specs.declared.interface.Section.TheVariants as sections
+use Rattle.fb_tree.specs.declared.interface.TypeForm.{TypeForm}
+use Rattle.fb_tree.specs.declared.interface.TypeForm.TheVariants as forms
+use Rattle.fb_tree.specs.declared.interface.TypeUse.{TypeUse}
+use Rattle.fb_tree.specs.declared.network.Role.{Role}
+use Rattle.fb_tree.specs.declared.network.Role.TheVariants as roles
+use Rattle.fb_tree.specs.Expression.{Expressions, no_expressions, expression_then}
 use Rattle.fb_iface.specs.Class.{class_of_name, class_of_type}
 use Rattle.fb_iface.specs.Names.{stands_for}
 use Rattle.fb_iface.specs.Ports.{Meanings}

@@ -1,8 +1,8 @@
 -- Where references and expressions stand.
 use Rattle.fb_text.specs.declared.token.Span.{Span}
 use Rattle.std.specs.Option.{option_map_or}
-use Rattle.fb_iface.specs.Tree.declared.expression.Reference.{Reference}
-use Rattle.fb_iface.specs.Tree.Expression.{Expression, literal_expression, reference_expression, unary_expression, row_expression, parentheses, Operands, no_operands, operand_then}
+use Rattle.fb_tree.specs.declared.expression.Reference.{Reference}
+use Rattle.fb_tree.specs.Expression.{Expression, literal_expression, reference_expression, unary_expression, row_expression, parentheses, Operands, no_operands, operand_then}
 
 -- from the start of one to the end of the other
 abbrev pub across : Span → Span → Span

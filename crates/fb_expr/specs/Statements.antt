@@ -3,8 +3,8 @@ use Rattle.std.specs.Prelude.{List, [], ◌++◌, Option, is_some}
 use Rattle.std.specs.Option.{option_map_or}
 use Rattle.fb_text.specs.declared.name.NameUse.{NameUse}
 use Rattle.fb_text.specs.declared.token.Span.{Span}
-use Rattle.fb_iface.specs.Tree.Expression.{Expression, no_expressions, reference_expression}
-use Rattle.fb_iface.specs.Tree.Statement.{Statement, empty, assignment, exit, return, choice, selection, count, while_loop, repeat_loop, Statements, no_statements, statement_then, Arms, no_arms, arm_then}
+use Rattle.fb_tree.specs.Expression.{Expression, no_expressions, reference_expression}
+use Rattle.fb_tree.specs.Statement.{Statement, empty, assignment, exit, return, choice, selection, count, while_loop, repeat_loop, Statements, no_statements, statement_then, Arms, no_arms, arm_then}
 use Rattle.fb_iface.specs.Scope.{Scope}
 use Rattle.fb_iface.specs.declared.fault.Fault.{Fault}
 use Rattle.fb_expr.specs.Classes.{join}

@@ -1,7 +1,7 @@
 //! The check of the expressions and statements of a unit (IEC 61499-1, 5.2.1 and 5.2.2: execution control charts and algorithms).
 ghost use Rattle.std.specs.Prelude.{◌≡◌, ◌++◌, IfOk, OnOk};
 ghost use Rattle.std.specs.List.{flat_map};
-ghost use Rattle.fb_iface.specs.Tree.Tree.{algorithm_tree, chart_tree, condition_tree, decl_tree, transition_tree, type_tree};
+ghost use Rattle.fb_tree.specs.Tree.{algorithm_tree, chart_tree, condition_tree, decl_tree, transition_tree, type_tree};
 ghost use Rattle.fb_iface.specs.Library.View.{tree_at};
 ghost use Rattle.fb_iface.specs.Fault.{faults_in_order};
 ghost use Rattle.fb_iface.specs.Scope.{scope_of_type};
@@ -12,9 +12,9 @@ use crate::expressions::judge_at;
 use crate::rules::Place;
 use crate::statements::report_statements;
 use fb_iface::library::{View, tree_by_name};
-use fb_iface::tree::{Algorithm, Chart, Condition, Decl, Transition, TypeDeclaration};
 use fb_iface::{Fault, Scope, sorted_faults};
 use fb_text::Name;
+use fb_tree::{Algorithm, Chart, Condition, Decl, Transition, TypeDeclaration};
 use std::alloc::{AllocError, Global};
 
 /// The faults of the expressions and statements of a unit, in order, each once: names that are no variables, and values that do not suit

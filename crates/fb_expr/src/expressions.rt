@@ -1,6 +1,6 @@
 //! The classes of expressions.
 ghost use Rattle.std.specs.Prelude.{◌≡◌, ◌++◌, IfOk, OnOk, is_some, map};
-ghost use Rattle.fb_iface.specs.Tree.Expression.{expression_tree, expressions_of, operands_of, reference_expression};
+ghost use Rattle.fb_tree.specs.Expression.{expression_tree, expressions_of, operands_of, reference_expression};
 ghost use Rattle.fb_iface.specs.Kept.{scope_in};
 ghost use Rattle.fb_expr.specs.Classes.{change, combined, pair_class, unary_class};
 ghost use Rattle.fb_expr.specs.Expressions.{class_in, faults_in, row_class, row_faults, subscript_faults};
@@ -11,8 +11,8 @@ use crate::classes::{broken, changed, operated};
 use crate::references::{referred, report_unknown};
 use crate::rules::{Place, report_class};
 use crate::spans::{span_of, span_of_names};
-use fb_iface::tree::{BinaryUse, Expr, Reference, UnaryUse};
 use fb_iface::{Class, Fault, Scope, class_by_form};
+use fb_tree::{BinaryUse, Expr, Reference, UnaryUse};
 use std::alloc::AllocError;
 
 /// The class of an expression. The faults in it are reported.

@@ -1,7 +1,7 @@
 //! What references stand for (IEC 61499-1, 5.2.2: algorithms; 5.5: adapters).
 ghost use Rattle.std.specs.Prelude.{◌≡◌, ◌++◌, OnOk, map};
 ghost use Rattle.std.specs.Option.{option_copied, option_map};
-ghost use Rattle.fb_iface.specs.Tree.Expression.{expressions_of, expression_tree};
+ghost use Rattle.fb_tree.specs.Expression.{expressions_of, expression_tree};
 ghost use Rattle.fb_iface.specs.Names.{stands_for};
 ghost use Rattle.fb_iface.specs.Kept.{scope_in};
 ghost use Rattle.fb_expr.specs.References.{
@@ -20,9 +20,9 @@ ghost use Rattle.fb_expr.specs.References.{
   variable_named,
 };
 
-use fb_iface::tree::{Expr, Reference, Role, Section, TypeForm, TypeUse};
 use fb_iface::{Class, Code, DeclaredVariable, Fault, Ports, Scope, class_by_name, class_of};
 use fb_text::{Name, Span};
+use fb_tree::{Expr, Reference, Role, Section, TypeForm, TypeUse};
 use std::alloc::AllocError;
 
 /// What a reference stands for.

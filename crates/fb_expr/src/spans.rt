@@ -1,10 +1,10 @@
 //! Where references and expressions stand.
 ghost use Rattle.std.specs.Prelude.{◌≡◌};
-ghost use Rattle.fb_iface.specs.Tree.Expression.{expression_tree};
+ghost use Rattle.fb_tree.specs.Expression.{expression_tree};
 ghost use Rattle.fb_expr.specs.Spans.{across, names_span, span_of};
 
-use fb_iface::tree::{Expr, Reference};
 use fb_text::Span;
+use fb_tree::{Expr, Reference};
 
 /// From the start of one to the end of the other.
 fn across(first: Span, last: Span) -> Span

@@ -1,7 +1,7 @@
 //! The check of statements.
 ghost use Rattle.std.specs.Prelude.{◌≡◌, ◌++◌, OnOk, map, option_map};
-ghost use Rattle.fb_iface.specs.Tree.Expression.{expression_tree, expressions_of, reference_expression};
-ghost use Rattle.fb_iface.specs.Tree.Statement.{statement_tree, statements_of};
+ghost use Rattle.fb_tree.specs.Expression.{expression_tree, expressions_of, reference_expression};
+ghost use Rattle.fb_tree.specs.Statement.{statement_tree, statements_of};
 ghost use Rattle.fb_iface.specs.Kept.{scope_in};
 ghost use Rattle.fb_expr.specs.Statements.{assignment_faults, counter_faults, range_faults, statement_faults, statements_faults};
 
@@ -9,9 +9,9 @@ use crate::classes::joined;
 use crate::expressions::{judge, judge_at, judge_reference};
 use crate::references::{referred_variable, report_unknown};
 use crate::rules::{Place, report_class};
-use fb_iface::tree::{Counting, Expr, Reference, Stmt};
 use fb_iface::{Fault, Scope};
 use fb_text::{NameUse, Span};
+use fb_tree::{Counting, Expr, Reference, Stmt};
 use std::alloc::AllocError;
 
 /// Reports the faults of statements.

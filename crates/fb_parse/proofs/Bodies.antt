@@ -1,7 +1,7 @@
 -- Each text has one body, that which is computed.
 use Rattle.std.proofs.Common.{◌≡◌, ℕ, ◌≤◌, ◌<◌, List, [], ◌∷◌, ◌++◌, length, Result, Ok, Err, refl, sym, ap, ap₂, ◌∙◌, subst, arith}
 use Rattle.fb_text.specs.declared.token.Span.{Span}
-use Rattle.fb_sections.specs.Tree.Tree.{DeclTree}
+use Rattle.fb_tree.specs.Tree.{DeclTree}
 use Rattle.fb_sections.specs.Lexemes.declared.lexeme.Lexeme.{Lexeme}
 use Rattle.fb_parse.specs.Body.{BodyTree, Whole, BrokenAt, place, IsBodyIn, IsBody, whole_or_broken, body_read, body_in, body_of}
 use Rattle.fb_sections.specs.Forms.Fault.{IsStuck, IsFault}

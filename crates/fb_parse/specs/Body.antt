@@ -1,7 +1,7 @@
 -- The body of a text: the tree that its tokens spell, or the place where they spell none.
 use Rattle.std.specs.Prelude.{◌≡◌, ℕ, List, [], ◌∷◌, length, Result, Ok, Err}
 use Rattle.fb_text.specs.declared.token.Span.{Span}
-use Rattle.fb_sections.specs.Tree.Tree.{DeclTree, decl_tree}
+use Rattle.fb_tree.specs.Tree.{DeclTree, decl_tree}
 use Rattle.fb_sections.specs.Lexemes.declared.lexeme.Lexeme.{Lexeme}
 use Rattle.fb_parse.specs.declared.body.Body.{Body}
 use Rattle.fb_parse.specs.declared.body.Body.TheVariants.{Tree as IsTree, Broken}

@@ -6,10 +6,10 @@ use Rattle.fb_sections.specs.Lexemes.Lexemes.{name_use}
 use Rattle.fb_sections.specs.Forms.Form.{Form, one, both, either, option, many, as_value}
 use Rattle.fb_sections.specs.Forms.Words.{key, before, behind, passed}
 unfoldable pub use Rattle.fb_sections.specs.Forms.Words.{name}
-use Rattle.fb_sections.specs.Tree.Expression.{Expression}
-use Rattle.fb_sections.specs.Tree.Statement.{Statement}
-use Rattle.fb_sections.specs.Tree.Tree.{ConditionTree, always, on_event, guarded, guard, TransitionTree, AlgorithmTree}
-use Rattle.fb_sections.specs.Tree.declared.network.End.{End}
+use Rattle.fb_tree.specs.Expression.{Expression}
+use Rattle.fb_tree.specs.Statement.{Statement}
+use Rattle.fb_tree.specs.Tree.{ConditionTree, always, on_event, guarded, guard, TransitionTree, AlgorithmTree}
+use Rattle.fb_tree.specs.declared.network.End.{End}
 use Rattle.fb_sections.specs.Network.{end}
 use Rattle.fb_sections.specs.Sections.{section}
 use Rattle.fb_sections.specs.Skipped.{skipped}

@@ -1,7 +1,7 @@
 -- What the sections of a declaration hold, joined in the order of the text.
 use Rattle.std.specs.Prelude.{Bool, true, false, ◌||◌, List, [], ◌∷◌, ◌++◌}
-use Rattle.fb_sections.specs.Tree.Tree.{EventTree, VariablesTree, InterfaceTree, InstanceTree, NetworkTree, StateTree, TransitionTree, AlgorithmTree, ChartTree, interface_tree, network_tree, chart_tree}
-use Rattle.fb_sections.specs.Tree.declared.network.Connection.{Connection}
+use Rattle.fb_tree.specs.Tree.{EventTree, VariablesTree, InterfaceTree, InstanceTree, NetworkTree, StateTree, TransitionTree, AlgorithmTree, ChartTree, interface_tree, network_tree, chart_tree}
+use Rattle.fb_tree.specs.declared.network.Connection.{Connection}
 use Rattle.fb_parse.specs.declared.contents.Contents.{Contents}
 
 pub record ContentsTree : Type 0 where

@@ -9,7 +9,7 @@ use Rattle.fb_sections.specs.Interface.{events, data_variables, internal_variabl
 use Rattle.fb_sections.specs.Network.{plugs, sockets, blocks, subapplications, connections}
 use Rattle.fb_sections.specs.Skipped.{service}
 use Rattle.fb_sections.specs.SystemParts.{device, mappings}
-use Rattle.fb_sections.specs.Tree.Tree.{TypeTree, ApplicationTree, SystemTree, DeclTree, block_type, adapter_type, subapplication_type, system_configuration}
+use Rattle.fb_tree.specs.Tree.{TypeTree, ApplicationTree, SystemTree, DeclTree, block_type, adapter_type, subapplication_type, system_configuration}
 use Rattle.fb_parse.specs.Chart.{transitions, algorithm}
 use Rattle.fb_parse.specs.Contents.{ContentsTree, nothing, of_events, of_variables, of_adapters, of_instances, of_connections, of_states, of_transitions, of_algorithm, joined}
 use Rattle.fb_parse.specs.SystemContents.{SystemContentsTree, of_application, of_device, of_mappings, system_joined}

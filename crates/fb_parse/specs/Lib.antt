@@ -9,6 +9,6 @@ pub mod Source
 pub mod Read
 -- Passed on to the crates above, which do not list these libraries.
 pub use Rattle.fb_sections.specs.Lexemes as Lexemes
-pub use Rattle.fb_sections.specs.Tree as Tree
+pub use Rattle.fb_tree.specs as Tree
 pub use Rattle.fb_sections.specs.Forms as Forms
 pub use Rattle.fb_sections.specs as Sections

@@ -1,6 +1,6 @@
 -- What the sections of a system hold, joined in the order of the text.
 use Rattle.std.specs.Prelude.{List, [], ◌∷◌, ◌++◌, map}
-use Rattle.fb_sections.specs.Tree.Tree.{ApplicationTree, DeviceTree, MappingTree, application_tree, device_tree, mapping_tree}
+use Rattle.fb_tree.specs.Tree.{ApplicationTree, DeviceTree, MappingTree, application_tree, device_tree, mapping_tree}
 use Rattle.fb_parse.specs.declared.system.SystemContents.{SystemContents}
 
 pub record SystemContentsTree : Type 0 where

@@ -4,14 +4,14 @@ ghost use Rattle.fb_sections.specs.Forms.Form.{Spells};
 ghost use Rattle.fb_sections.specs.Lexemes.declared.lexeme.Lexeme.{Lexeme};
 ghost use Rattle.fb_parse.specs.Body.{BodyTree, IsBody, body_of};
 ghost use Rattle.fb_parse.specs.Grammar.{unit};
-ghost use Rattle.fb_sections.specs.Tree.Tree.{DeclTree};
+ghost use Rattle.fb_tree.specs.Tree.{DeclTree};
 ghost use Rattle.std.specs.Prelude.{◌≡◌, ℕ, IfOk, List};
 
 use crate::units::unit;
 use fb_sections::forms::Stop;
 use fb_sections::lexemes::{Lexeme, lexemes};
-use fb_sections::tree::Decl;
 use fb_text::{Span, TokenFault};
+use fb_tree::Decl;
 use std::alloc::{AllocError, Global};
 
 /// The declaration that a text spells, or the place where it stops to spell one.
@@ -24,7 +24,7 @@ pub enum Body {
 impl Body {
     ghost use Rattle.fb_sections.specs.Forms.Reading.{read};
     ghost use Rattle.fb_parse.specs.Body.{body_read, body_tree, place, whole_or_broken};
-    ghost use Rattle.fb_sections.specs.Tree.Tree.{decl_tree};
+    ghost use Rattle.fb_tree.specs.Tree.{decl_tree};
 
     /// The body of a text.
     #[tactic(auto, unfolding(crate::specs::Body::body_of))]

@@ -3,17 +3,17 @@
 ghost use Rattle.fb_sections.specs.Forms.Gives.{Gives};
 ghost use Rattle.fb_sections.specs.Forms.Reading.{read};
 ghost use Rattle.fb_parse.specs.Chart.{algorithm, algorithm_body, bracketed, condition, event_condition, joined_test, optional_colon, optional_test, other_language, structured_text, transition, transitions};
-ghost use Rattle.fb_sections.specs.Tree.Expression.{expression_tree};
-ghost use Rattle.fb_sections.specs.Tree.Statement.{statement_tree};
-ghost use Rattle.fb_sections.specs.Tree.Tree.{TransitionTree, algorithm_tree, condition_tree, transition_tree};
+ghost use Rattle.fb_tree.specs.Expression.{expression_tree};
+ghost use Rattle.fb_tree.specs.Statement.{statement_tree};
+ghost use Rattle.fb_tree.specs.Tree.{TransitionTree, algorithm_tree, condition_tree, transition_tree};
 ghost use Rattle.std.specs.Prelude.{◌≡◌, Ok, map, option_map};
 
 use fb_sections::forms::{Reader, Stop, is_next, key, name, one_of};
 use fb_sections::lexemes::{Kind, Lexeme};
-use fb_sections::tree::{Algorithm, Condition, Expr, Stmt, Transition};
 use fb_sections::{end, section, skip};
 use fb_structured_text::{LEVELS, expression, statements};
 use fb_text::NameUse;
+use fb_tree::{Algorithm, Condition, Expr, Stmt, Transition};
 use std::alloc::Global;
 
 /// An expression in brackets.

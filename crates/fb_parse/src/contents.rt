@@ -1,10 +1,10 @@
 //! What the sections of a declaration hold.
 
 ghost use Rattle.fb_parse.specs.Contents.{charts_merged, contents_tree, interfaces_merged, joined, merged, networks_merged, nothing, of_adapters, of_algorithm, of_connections, of_events, of_instances, of_states, of_transitions, of_variables};
-ghost use Rattle.fb_sections.specs.Tree.Tree.{algorithm_tree, chart_tree, event_tree, instance_tree, interface_tree, network_tree, state_tree, transition_tree, variables_tree};
+ghost use Rattle.fb_tree.specs.Tree.{algorithm_tree, chart_tree, event_tree, instance_tree, interface_tree, network_tree, state_tree, transition_tree, variables_tree};
 ghost use Rattle.std.specs.Prelude.{◌≡◌, IfOk, map};
 
-use fb_sections::tree::{
+use fb_tree::{
     Algorithm, Chart, Connection, Event, Instance, Interface, Network, State, Transition, Variables,
 };
 use std::alloc::{AllocError, Global};

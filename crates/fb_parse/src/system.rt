@@ -5,14 +5,14 @@ ghost use Rattle.fb_sections.specs.Forms.Gives.{Gives};
 ghost use Rattle.fb_sections.specs.Forms.Reading.{read};
 ghost use Rattle.fb_parse.specs.Grammar.{system, system_section};
 ghost use Rattle.fb_parse.specs.SystemContents.{SystemContentsTree, of_application, of_device, of_mappings, system_contents_tree, system_joined, systems_merged};
-ghost use Rattle.fb_sections.specs.Tree.Tree.{application_tree, device_tree, mapping_tree, system_tree};
+ghost use Rattle.fb_tree.specs.Tree.{application_tree, device_tree, mapping_tree, system_tree};
 ghost use Rattle.std.specs.Prelude.{◌≡◌, IfOk, map};
 
 use crate::units::application;
 use fb_sections::forms::{Reader, Stop, is_next, key, name, several};
 use fb_sections::lexemes::{Kind, Lexeme};
-use fb_sections::tree::{Application, Device, Mapping, System};
 use fb_sections::{device, mappings};
+use fb_tree::{Application, Device, Mapping, System};
 use std::alloc::{AllocError, Global};
 
 /// What the sections of a system hold, in the order of the text.

@@ -4,14 +4,14 @@ ghost use Rattle.fb_sections.specs.Forms.Gives.{Gives};
 ghost use Rattle.fb_sections.specs.Forms.Reading.{read};
 ghost use Rattle.fb_parse.specs.Contents.{contents_tree};
 ghost use Rattle.fb_parse.specs.Grammar.{adapter, application, block, subapplication, type_of, unit};
-ghost use Rattle.fb_sections.specs.Tree.Tree.{application_tree, decl_tree, type_tree};
+ghost use Rattle.fb_tree.specs.Tree.{application_tree, decl_tree, type_tree};
 ghost use Rattle.std.specs.Prelude.{◌≡◌};
 
 use crate::frame::{Frame, Named, framed};
 use crate::system::system;
 use fb_sections::forms::{Stop, is_next};
 use fb_sections::lexemes::{Kind, Lexeme};
-use fb_sections::tree::{Application, Decl, TypeDeclaration};
+use fb_tree::{Application, Decl, TypeDeclaration};
 use std::alloc::Global;
 
 /// What begins a section of a block type.

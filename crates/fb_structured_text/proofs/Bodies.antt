@@ -14,8 +14,8 @@ use Rattle.fb_forms.specs.Words.{further, cons}
 use Rattle.fb_forms.specs.Reading.{Outcome, ◌>>=◌, is_next, first, read}
 use Rattle.fb_forms.specs.Repetition.{with_front}
 use Rattle.fb_forms.proofs.Loops.{many_more, many_fails, many_none, Begins}
-use Rattle.fb_forms.specs.Tree.Expression.{Expression}
-use Rattle.fb_forms.specs.Tree.Statement.{Statement}
+use Rattle.fb_tree.specs.Expression.{Expression}
+use Rattle.fb_tree.specs.Statement.{Statement}
 use Rattle.fb_structured_text.specs.Expression.{expression}
 use Rattle.fb_structured_text.specs.Statement.{statement, simple_firsts, simple_statement, nested_statement, if_statement, arms, arm, announced, case_statement, case, cases, for_statement, while_statement, repeat_statement, labels, label, int}
 use Rattle.fb_structured_text.proofs.StatementLevels.{closed-simple, closed-statement, nested_firsts, statement_firsts}

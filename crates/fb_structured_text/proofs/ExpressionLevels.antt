@@ -8,7 +8,7 @@ use Rattle.fb_forms.specs.Reading.{after, are_apart}
 use Rattle.fb_forms.specs.Words.{name}
 use Rattle.fb_forms.proofs.Forms.{among_left, among_right}
 use Rattle.fb_forms.proofs.Shapes.{Shape, IsWithin, among_append, apart_within}
-use Rattle.fb_forms.specs.Tree.Expression.{Expression}
+use Rattle.fb_tree.specs.Expression.{Expression}
 use Rattle.fb_structured_text.specs.Operators.{signs, strengths, literal_kinds}
 use Rattle.fb_structured_text.specs.Expression.{expression, rows, unary, flat_primary, deep_primary, literal, flat_reference, deep_reference, reference, parenthesized, member_name, expressions, subscripts, row, operand}
 

@@ -13,8 +13,8 @@ use Rattle.fb_forms.specs.Lexemes.Kind.{is_among, name_kinds}
 use Rattle.fb_forms.specs.Words.{name}
 use Rattle.fb_forms.specs.Reading.{Outcome, ◌>>=◌, is_next, first, read_each, read}
 use Rattle.fb_forms.proofs.Loops.{many_none, Begins}
-use Rattle.fb_forms.specs.Tree.declared.expression.BinaryUse.{BinaryUse}
-use Rattle.fb_forms.specs.Tree.Expression.{Expression, row_expression, operands_of}
+use Rattle.fb_tree.specs.declared.expression.BinaryUse.{BinaryUse}
+use Rattle.fb_tree.specs.Expression.{Expression, row_expression, operands_of}
 use Rattle.fb_structured_text.specs.Operators.{next_strength, operators, strength_of, strengths}
 use Rattle.fb_structured_text.specs.Expression.{expression, rows, unary, primary, row, operand, row_of, literal, reference_value, deep_reference, deep_primary, member_name, parenthesized}
 

@@ -7,8 +7,8 @@ use Rattle.fb_forms.specs.Form.{Form, many}
 use Rattle.fb_forms.specs.Reading.{is_predictive, after}
 use Rattle.fb_forms.specs.Words.{name}
 use Rattle.fb_forms.proofs.Shapes.{Shape, Closed, apart_within, closed_either}
-use Rattle.fb_forms.specs.Tree.Expression.{Expression}
-use Rattle.fb_forms.specs.Tree.Statement.{Statement}
+use Rattle.fb_tree.specs.Expression.{Expression}
+use Rattle.fb_tree.specs.Statement.{Statement}
 use Rattle.fb_structured_text.specs.Expression.{expression, reference}
 use Rattle.fb_structured_text.specs.Statement.{statement, simple_firsts, simple_statement, assignment_statement, ended, nested_statement, if_statement, arms, arm, announced, enclosed, case_statement, cases, case, for_statement, while_statement, repeat_statement, otherwise, labels, label, int}
 use Rattle.fb_structured_text.proofs.ExpressionLevels.{base_afters, expression_afters, expression_firsts, shape-expression, shape-reference}

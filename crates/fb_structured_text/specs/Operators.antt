@@ -4,12 +4,12 @@ use Rattle.fb_forms.specs.Lexemes.declared.kind.Kind.{Kind}
 use Rattle.fb_forms.specs.Lexemes.declared.kind.Kind.TheVariants.{Or, Xor, Ampersand, And, Equal, NotEqual, Less, Greater, LessEqual, GreaterEqual, Plus, Minus, Times, Divide, Mod, Power, Not, Text, True, False}
 use Rattle.fb_forms.specs.Lexemes.declared.lexeme.Lexeme.{Lexeme}
 use Rattle.fb_forms.specs.Literals.{number_kinds, typed_kinds}
-use Rattle.fb_forms.specs.Tree.declared.expression.BinaryOperator.{BinaryOperator}
-use Rattle.fb_forms.specs.Tree.declared.expression.BinaryOperator.TheVariants as between
-use Rattle.fb_forms.specs.Tree.declared.expression.BinaryUse.{BinaryUse}
-use Rattle.fb_forms.specs.Tree.declared.expression.UnaryOperator.{UnaryOperator}
-use Rattle.fb_forms.specs.Tree.declared.expression.UnaryOperator.TheVariants as before
-use Rattle.fb_forms.specs.Tree.declared.expression.UnaryUse.{UnaryUse}
+use Rattle.fb_tree.specs.declared.expression.BinaryOperator.{BinaryOperator}
+use Rattle.fb_tree.specs.declared.expression.BinaryOperator.TheVariants as between
+use Rattle.fb_tree.specs.declared.expression.BinaryUse.{BinaryUse}
+use Rattle.fb_tree.specs.declared.expression.UnaryOperator.{UnaryOperator}
+use Rattle.fb_tree.specs.declared.expression.UnaryOperator.TheVariants as before
+use Rattle.fb_tree.specs.declared.expression.UnaryUse.{UnaryUse}
 
 -- the operators before an operand
 abbrev pub signs : List Kind

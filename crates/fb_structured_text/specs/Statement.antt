@@ -8,8 +8,8 @@ use Rattle.fb_forms.specs.Lexemes.Kind.{name_kinds}
 use Rattle.fb_forms.specs.Form.{Form, one, both, either, option, many, as_value}
 use Rattle.fb_forms.specs.Literals.{number_kinds, typed_kinds}
 use Rattle.fb_forms.specs.Words.{key, before, behind, passed, optional_list, list, cons, name}
-use Rattle.fb_forms.specs.Tree.Expression.{Expression}
-use Rattle.fb_forms.specs.Tree.Statement.{Statement, empty, assignment, exit, return, choice, selection, count, while_loop, repeat_loop, statements_of, arms_of}
+use Rattle.fb_tree.specs.Expression.{Expression}
+use Rattle.fb_tree.specs.Statement.{Statement, empty, assignment, exit, return, choice, selection, count, while_loop, repeat_loop, statements_of, arms_of}
 use Rattle.fb_structured_text.specs.Expression.{expression, reference}
 
 -- TYPED | ['+' | '-'] NUMBER

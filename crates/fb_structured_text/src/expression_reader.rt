@@ -19,14 +19,14 @@ ghost use Rattle.fb_structured_text.specs.Expression.{
   unary,
 };
 ghost use Rattle.fb_structured_text.specs.Operators.{operators, strengths};
-ghost use Rattle.fb_forms.specs.Tree.Expression.{expression_tree, expressions_of};
+ghost use Rattle.fb_tree.specs.Expression.{expression_tree, expressions_of};
 ghost use Rattle.std.specs.Prelude.{◌≡◌, ◌≤◌, ◌<◌, ◌+◌, drop, map};
 
 use crate::operators::{SIGNS, is_literal, literal, next_strength, operator, operators, sign};
 use crate::references::{flat_reference, member_name, variable};
 use fb_forms::lexemes::{Kind, Lexeme};
-use fb_forms::tree::{BinaryUse, Expr, Reference};
 use fb_forms::{NAMES, Stop, across, is_next, key};
+use fb_tree::{BinaryUse, Expr, Reference};
 use std::alloc::Global;
 
 /// How many levels there are below the outermost expressions and statements.

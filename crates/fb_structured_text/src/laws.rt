@@ -3,8 +3,8 @@ ghost use Rattle.fb_forms.specs.Form.{Spells, many};
 ghost use Rattle.fb_forms.specs.Lexemes.declared.lexeme.Lexeme.{Lexeme};
 ghost use Rattle.fb_structured_text.specs.Expression.{expression};
 ghost use Rattle.fb_structured_text.specs.Statement.{statement};
-ghost use Rattle.fb_forms.specs.Tree.Expression.{Expression};
-ghost use Rattle.fb_forms.specs.Tree.Statement.{Statement};
+ghost use Rattle.fb_tree.specs.Expression.{Expression};
+ghost use Rattle.fb_tree.specs.Statement.{Statement};
 ghost use Rattle.std.specs.Prelude.{◌≡◌, ℕ, List};
 
 /// At each level tokens spell one expression at most.

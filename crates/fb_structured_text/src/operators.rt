@@ -4,12 +4,12 @@ ghost use Rattle.fb_forms.specs.Gives.{Gives};
 ghost use Rattle.fb_forms.specs.Reading.{first, is_next, read};
 ghost use Rattle.fb_structured_text.specs.Expression.{literal};
 ghost use Rattle.fb_structured_text.specs.Operators.{binary_operator, binary_use, next_strength, operators, signs, strength_of, unary_operator, unary_use};
-ghost use Rattle.fb_forms.specs.Tree.Expression.{expression_tree};
+ghost use Rattle.fb_tree.specs.Expression.{expression_tree};
 ghost use Rattle.std.specs.Prelude.{◌≡◌, ◌<◌};
 
 use fb_forms::lexemes::{Kind, Lexeme};
-use fb_forms::tree::{BinaryOperator, BinaryUse, Expr, UnaryOperator, UnaryUse};
 use fb_forms::{Stop, is_next, literal_use, one_of};
+use fb_tree::{BinaryOperator, BinaryUse, Expr, UnaryOperator, UnaryUse};
 
 /// The operators before an operand.
 pub const SIGNS: [Kind; 3] = [Kind::Plus, Kind::Minus, Kind::Not];

@@ -3,12 +3,12 @@ ghost use Rattle.fb_forms.specs.Gives.{Gives};
 ghost use Rattle.fb_forms.specs.Reading.{read};
 ghost use Rattle.fb_forms.specs.Lexemes.Lexemes.{name_use};
 ghost use Rattle.fb_structured_text.specs.Expression.{flat_reference, member_name, variable_of};
-ghost use Rattle.fb_forms.specs.Tree.Expression.{expression_tree, expressions_of};
+ghost use Rattle.fb_tree.specs.Expression.{expression_tree, expressions_of};
 ghost use Rattle.std.specs.Prelude.{◌≡◌, IfOk, map, option_map};
 
 use fb_forms::lexemes::{Kind, Lexeme};
-use fb_forms::tree::{Expr, Reference};
 use fb_forms::{Stop, across, is_next, key, name};
+use fb_tree::{Expr, Reference};
 use std::alloc::{AllocError, Global};
 
 /// A name, and the name behind a point where one is written.

@@ -24,15 +24,15 @@ ghost use Rattle.fb_structured_text.specs.Statement.{
   while_statement,
 };
 ghost use Rattle.fb_forms.specs.Lexemes.declared.kind.Kind.TheVariants.{By};
-ghost use Rattle.fb_forms.specs.Tree.Expression.{expression_tree, expressions_of};
-ghost use Rattle.fb_forms.specs.Tree.Statement.{statement_tree};
+ghost use Rattle.fb_tree.specs.Expression.{expression_tree, expressions_of};
+ghost use Rattle.fb_tree.specs.Statement.{statement_tree};
 ghost use Rattle.std.specs.Prelude.{◌≡◌, ◌<◌, ◌-◌, map, option_map};
 
 use crate::expression_reader::{LEVELS, expression, reference};
 use crate::labels::{begins_label, labels};
 use fb_forms::lexemes::{Kind, Lexeme};
-use fb_forms::tree::{Counting, Expr, Stmt};
 use fb_forms::{Stop, is_next, key, name};
+use fb_tree::{Counting, Expr, Stmt};
 use std::alloc::Global;
 
 /// A word with `;` behind it.

@@ -4,26 +4,23 @@
 mod answer;
 mod change;
 mod end;
-mod feed;
-mod from_read;
-mod into_write;
 mod laws;
 mod line;
-mod memory_feed;
-mod memory_sink;
 mod net_reply;
 mod piece;
 mod reply;
 mod request;
 mod run;
-mod tape;
 
 pub use end::RunEnd;
-pub use fb_bench as bench;
-pub use feed::{Failed, Feed, Sink};
-pub use from_read::FromRead;
-pub use into_write::IntoWrite;
+pub use fb_streams::{Failed, Feed, FromRead, IntoWrite, MemoryFeed, MemorySink, Sink};
 pub use laws::{one_script, one_talk};
-pub use memory_feed::MemoryFeed;
-pub use memory_sink::MemorySink;
 pub use run::{run_lines, run_script};
+
+/// Of `fb_bench`, for the crates above.
+pub mod bench {
+    pub use fb_bench::{
+        Answered, Asked, Bench, Call, Committed, Delivered, Limits, Reply, Request, Shown, Taken,
+        flatten, iface, jobs, library, parse,
+    };
+}

@@ -2,7 +2,7 @@ use Rattle.std.proofs.Common.{◌≡◌, ◌++◌, ◌∙◌, ap, sym, append_as
 use Rattle.std.proofs.lemmas.List.Folds.{flat_map-map}
 use Rattle.std.proofs.lemmas.Result.{on_ok_weaker}
 use Rattle.std.specs.List.{flat_map}
-use Rattle.fb_iface.specs.Tree.Tree.{algorithm_tree, transition_tree}
+use Rattle.fb_tree.specs.Tree.{algorithm_tree, transition_tree}
 use Rattle.fb_iface.specs.Kept.{scope_in}
 use Rattle.fb_expr.specs.Charts.{algorithm_faults, transition_faults}
 use Rattle.fb_expr.proofs.charts.report_chart.Goals as goal

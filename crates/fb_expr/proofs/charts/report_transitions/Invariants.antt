@@ -1,6 +1,6 @@
 use Rattle.std.proofs.Common.{◌≡◌, ◌++◌, take}
 use Rattle.std.specs.List.{flat_map}
-use Rattle.fb_iface.specs.Tree.Tree.{transition_tree}
+use Rattle.fb_tree.specs.Tree.{transition_tree}
 use Rattle.fb_iface.specs.Kept.{scope_in}
 use Rattle.fb_expr.specs.Charts.{transition_faults}
 use Rattle.fb_expr.proofs.charts.report_transitions.Given as goal

@@ -1,5 +1,5 @@
 use Rattle.std.proofs.Common.{◌≡◌, drop, map}
-use Rattle.fb_iface.specs.Tree.Expression.{expression_tree, operands_of}
+use Rattle.fb_tree.specs.Expression.{expression_tree, operands_of}
 use Rattle.fb_expr.specs.Spans.{span_of, span_through}
 use Rattle.fb_expr.proofs.spans.+span_of.Given as goal
 

@@ -2,10 +2,10 @@ use Rattle.std.proofs.Common.{◌≡◌, ◌++◌, ◌∙◌, List, ap, map, opt
 use Rattle.std.proofs.lemmas.Grind.{common_steps}
 use Rattle.std.proofs.lemmas.Result.{on_ok_weaker}
 use Rattle.fb_iface.specs.declared.fault.Fault.{Fault}
-use Rattle.fb_iface.specs.Tree.Expression.{expression_tree}
-use Rattle.fb_iface.specs.Tree.declared.statement.Counting.{Counting}
-use Rattle.fb_iface.specs.Tree.declared.statement.Stmt.{Stmt}
-use Rattle.fb_iface.specs.Tree.Statement.{arms_of, statement_tree, statements_of}
+use Rattle.fb_tree.specs.Expression.{expression_tree}
+use Rattle.fb_tree.specs.declared.statement.Counting.{Counting}
+use Rattle.fb_tree.specs.declared.statement.Stmt.{Stmt}
+use Rattle.fb_tree.specs.Statement.{arms_of, statement_tree, statements_of}
 use Rattle.fb_iface.specs.Kept.{scope_in}
 use Rattle.fb_expr.specs.Statements.{arms_faults, counter_faults, faults_at_place, range_faults, statement_faults, statements_faults}
 use Rattle.fb_expr.specs.declared.rules.Place.TheVariants.{Condition, Selector}

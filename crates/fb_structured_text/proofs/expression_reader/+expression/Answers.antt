@@ -2,13 +2,13 @@ use Rattle.std.proofs.Common.{◌≡◌, ◌+◌, ◌∷◌, [], true, false, Ok
 use Rattle.std.proofs.lemmas.Result.{err_from_is_err_and}
 use Rattle.fb_forms.specs.Lexemes.declared.kind.Kind.{Kind}
 use Rattle.fb_forms.specs.Lexemes.declared.kind.Kind.TheVariants.{Comma}
-use Rattle.fb_forms.specs.Tree.declared.expression.BinaryUse.{BinaryUse}
-use Rattle.fb_forms.specs.Tree.declared.expression.Expr.{Expr}
-use Rattle.fb_forms.specs.Tree.declared.expression.Expr.TheOpen.{Row as RowF}
+use Rattle.fb_tree.specs.declared.expression.BinaryUse.{BinaryUse}
+use Rattle.fb_tree.specs.declared.expression.Expr.{Expr}
+use Rattle.fb_tree.specs.declared.expression.Expr.TheOpen.{Row as RowF}
 use denote.Hole.Carrier.{roll}
-use Rattle.fb_forms.specs.Tree.declared.expression.Expr.TheViews.{roll-Expr}
-use Rattle.fb_forms.specs.Tree.declared.expression.Expr.TheFolds.{fold-roll-Expr}
-use Rattle.fb_forms.specs.Tree.Expression.{Expression, row_expression, operands_of, expression_step, expression_tree}
+use Rattle.fb_tree.specs.declared.expression.Expr.TheViews.{roll-Expr}
+use Rattle.fb_tree.specs.declared.expression.Expr.TheFolds.{fold-roll-Expr}
+use Rattle.fb_tree.specs.Expression.{Expression, row_expression, operands_of, expression_step, expression_tree}
 use Rattle.fb_structured_text.specs.Expression.{expression, expressions, operand, primary, rows, unary}
 use Rattle.fb_structured_text.specs.Operators.{operators, strengths}
 use Rattle.fb_structured_text.proofs.Rows.{begins-operand, level_passed, level_read, level_fails, rows_first_fails, rows_none, expression_is, primary_reference, primary_parentheses}

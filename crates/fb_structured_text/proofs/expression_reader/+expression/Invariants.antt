@@ -1,5 +1,5 @@
 use Rattle.std.proofs.Common.{◌≡◌, ◌≤◌, ◌+◌, ◌-◌, ◌*◌, Ok, length, map, drop}
-use Rattle.fb_forms.specs.Tree.Expression.{expression_tree}
+use Rattle.fb_tree.specs.Expression.{expression_tree}
 use Rattle.fb_structured_text.specs.Expression.{expression, expressions, operand, primary, rows, unary}
 use Rattle.fb_structured_text.specs.Operators.{operators, strengths}
 use Rattle.fb_forms.specs.Form.{many}

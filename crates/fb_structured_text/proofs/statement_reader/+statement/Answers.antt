@@ -8,15 +8,15 @@ use Rattle.fb_forms.specs.Lexemes.declared.kind.Kind.TheVariants.{Elsif}
 use Rattle.fb_forms.specs.Form.{many}
 use Rattle.fb_forms.specs.Reading.{first, read}
 use Rattle.fb_forms.proofs.Loops.{shorter, push_more, push_fails, push_done}
-use Rattle.fb_forms.specs.Tree.declared.expression.Expr.{Expr}
-use Rattle.fb_forms.specs.Tree.declared.statement.Stmt.{Stmt}
-use Rattle.fb_forms.specs.Tree.declared.statement.Stmt as Stmt
-use Rattle.fb_forms.specs.Tree.declared.statement.Stmt.TheOpen.{If as IfF}
-use Rattle.fb_forms.specs.Tree.declared.statement.Stmt.TheViews.{roll-Stmt}
-use Rattle.fb_forms.specs.Tree.declared.statement.Stmt.TheFolds.{fold-roll-Stmt}
-use Rattle.fb_forms.specs.Tree.Expression.{Expression, expression_tree}
+use Rattle.fb_tree.specs.declared.expression.Expr.{Expr}
+use Rattle.fb_tree.specs.declared.statement.Stmt.{Stmt}
+use Rattle.fb_tree.specs.declared.statement.Stmt as Stmt
+use Rattle.fb_tree.specs.declared.statement.Stmt.TheOpen.{If as IfF}
+use Rattle.fb_tree.specs.declared.statement.Stmt.TheViews.{roll-Stmt}
+use Rattle.fb_tree.specs.declared.statement.Stmt.TheFolds.{fold-roll-Stmt}
+use Rattle.fb_tree.specs.Expression.{Expression, expression_tree}
 use denote.Hole.Carrier.{roll}
-use Rattle.fb_forms.specs.Tree.Statement.{Statement, choice, arms_of, statements_of, statement_step, statement_tree}
+use Rattle.fb_tree.specs.Statement.{Statement, choice, arms_of, statements_of, statement_step, statement_tree}
 use Rattle.fb_structured_text.specs.Expression.{expression}
 use Rattle.fb_structured_text.specs.Statement.{arm, arms, case, cases, if_statement, nested_statement, simple_statement, statement}
 use Rattle.fb_structured_text.proofs.Bodies.{begins-statement, begins-arm, begins-case, cases_more, cases_fails, cases_done, statement_zero, statement_simple, statement_nested, nested_if, nested_case, nested_for, nested_while, nested_repeat}

@@ -3,8 +3,8 @@ use Rattle.fb_forms.specs.Lexemes.declared.kind.Kind.TheVariants.{Elsif}
 use Rattle.fb_forms.specs.Form.{many}
 use Rattle.fb_forms.specs.Reading.{read}
 use Rattle.fb_forms.specs.Repetition.{with_front}
-use Rattle.fb_forms.specs.Tree.Expression.{expression_tree}
-use Rattle.fb_forms.specs.Tree.Statement.{statement_tree}
+use Rattle.fb_tree.specs.Expression.{expression_tree}
+use Rattle.fb_tree.specs.Statement.{statement_tree}
 use Rattle.fb_structured_text.specs.Expression.{expression}
 use Rattle.fb_structured_text.specs.Statement.{arm, arms, case, cases, statement}
 use Rattle.fb_structured_text.proofs.Bodies.{flat}
