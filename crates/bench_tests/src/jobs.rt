@@ -1,13 +1,12 @@
 //! Jobs with what they read, results that come from another workbench, and calls that are made as requests.
 use crate::talk::{new_bench, talk};
+use fb_jobs::flatten::Net;
+use fb_jobs::library::{Change, Library};
+use fb_jobs::parse::Source;
+use fb_jobs::{Finished, Job, Key, Kind, Read, Value, has_key};
 use fb_text::Name;
-use fb_wire::bench::flatten::Net;
-use fb_wire::bench::iface::Code;
-use fb_wire::bench::jobs::{Finished, Job, Key, Kind, Read, Value, has_key};
-use fb_wire::bench::library::{Change, Library};
-use fb_wire::bench::parse::Source;
 use fb_wire::bench::{Answered, Bench, Committed, Delivered, Request, Shown, Taken};
-use std::alloc::Global;
+use std::alloc::{AllocError, Global};
 use std::test::Fail;
 
 fn changes_of(alloc: Global, unit: Name, text: &str) -> Result<Vec<Change>, Fail> {
@@ -50,15 +49,18 @@ fn are_names(names: &[Name], wanted: &[&str]) -> bool {
 // What a job is to find.
 #[derive(Clone, Copy)]
 enum Found<'a> {
-    Fault(Code),
+    /// One fault of this code.
+    Fault(&'a str),
     Blocked(&'a [&'a str]),
 }
 
-fn is_found(value: &Value, wanted: Found<'_>) -> bool {
+fn is_found(alloc: Global, value: &Value, wanted: Found<'_>) -> Result<bool, AllocError> {
     match (value, wanted) {
-        (Value::Faults(faults), Found::Fault(code)) => faults.len() == 1 && faults[0].code == code,
-        (Value::Net(Net::Blocked(names)), Found::Blocked(wanted)) => are_names(names, wanted),
-        _ => false,
+        (Value::Faults(faults), Found::Fault(code)) if faults.len() == 1 => {
+            Ok(format!(in alloc; "{:?}", faults[0].code)?.as_str() == code)
+        }
+        (Value::Net(Net::Blocked(names)), Found::Blocked(wanted)) => Ok(are_names(names, wanted)),
+        _ => Ok(false),
     }
 }
 
@@ -69,7 +71,7 @@ const JOBS: &[(&str, &str, Kind, &[(&str, u64)], Found<'static>)] = &[
         "FUNCTION_BLOCK A EVENT_INPUT",
         Kind::Faults,
         &[("A", 1)],
-        Found::Fault(Code::Syntax),
+        Found::Fault("Syntax"),
     ),
     (
         "S",
@@ -93,7 +95,7 @@ fn jobs_of_one_text(rt: HostRuntime) -> Result<(), Fail> {
         assert!(rt; finished.key() == key);
         assert!(rt; are_reads(job.reads(), reads)?);
         assert!(rt; are_reads(finished.reads(), reads)?);
-        assert!(rt; is_found(finished.value(), *found));
+        assert!(rt; is_found(alloc, finished.value(), *found)?);
     }
     Ok(())
 }
