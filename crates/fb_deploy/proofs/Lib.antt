@@ -2,3 +2,4 @@
 pub mod LineLemmas
 pub mod PlanLocal
 pub mod StepLemmas
+pub mod ComputedPlans

@@ -6,3 +6,4 @@ pub mod PlainResource
 pub mod Resources
 pub mod Deploy
 pub mod Laws
+pub mod Plans
