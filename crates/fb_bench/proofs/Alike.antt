@@ -1,6 +1,9 @@
 -- Tests of equality that are right, of single values and of lists.
 use Rattle.std.proofs.Common.{◌≡◌, ◌↔◌, ℕ, ◌≤◌, List, true, IsTrue, map, length, drop, sym, ap, ◌∙◌, subst, arith}
-use Rattle.std.specs.Ordering.{is_eq}
+use Rattle.std.specs.declared.cmp.Ordering.{Ordering}
+use Rattle.std.specs.declared.cmp.Ordering.TheVariants.{Equal}
+use Rattle.std.specs.Ordering.{eq_by_cmp, is_eq}
+use Rattle.std.specs.Cmp.{IsTotalOrder}
 use Rattle.std.specs.BTreeMap.{is_at}
 use Rattle.std.proofs.lemmas.Cmp.{tied_itself}
 use Rattle.std.proofs.lemmas.List.{drop_all, map-id}
@@ -9,24 +12,35 @@ use Rattle.fb_jobs.proofs.Library.Names.{name_total, exact_name}
 use Rattle.fb_jobs.specs.Iface.declared.fault.Fault.{Fault}
 use Rattle.fb_jobs.specs.Iface.Fault.{fault_cmp, fault_cmp_total}
 use Rattle.fb_jobs.proofs.Iface.FaultLemmas.{fault_cmp-exact}
+use Rattle.fb_jobs.specs.Network.declared.flat.Link.{Link}
+use Rattle.fb_jobs.specs.Network.declared.flat.Border.{Border}
+use Rattle.fb_jobs.specs.Network.LinkOrder.{border_cmp, border_cmp_total, link_cmp, link_cmp_total}
+use Rattle.fb_jobs.proofs.Compose.Equals.{exact_border, exact_link}
 use Rattle.fb_jobs.specs.declared.key.Key.{Key}
 use Rattle.fb_jobs.specs.KeyOrder.{same_key}
-use Rattle.fb_bench.proofs.Order.{is_equal, keys_equal, same_itself}
+use Rattle.fb_bench.proofs.Order.{is_equal, key_total, same_keys}
+
+-- what is told by an order in which only equal items are equal
+told_by : {X : Type 0} {order : X → X → Ordering} → IsTotalOrder order → ((a b : X) → order a b ≡ Equal → a ≡ b) → (a b : X) → IsTrue (eq_by_cmp order a b) ↔ (a ≡ b)
+told_by {order = order} total exact a b = (
+  (λ same. exact a b (is_equal (order a b) same)),
+  (λ e. subst (λ c. eq_by_cmp order a c ≡ true) e (ap is_eq (tied_itself total a))),
+)
 
 pub one_name : (a b : List ℕ) → IsTrue (is_at (name_cmp a) b) ↔ (a ≡ b)
-one_name a b = (
-  (λ same. exact_name a b (is_equal (name_cmp a b) same)),
-  (λ e. subst (λ n. is_at (name_cmp a) n ≡ true) e (ap is_eq (tied_itself name_total a))),
-)
+one_name = told_by name_total exact_name
 
 pub one_key : (a b : Key) → IsTrue (same_key a b) ↔ (a ≡ b)
-one_key a b = ((λ same. keys_equal a b same), (λ e. subst (λ k. same_key a k ≡ true) e (same_itself a)))
+one_key = told_by key_total same_keys
 
-pub one_fault : (a b : Fault) → IsTrue (is_eq (fault_cmp a b)) ↔ (a ≡ b)
-one_fault a b = (
-  (λ same. fault_cmp-exact a b (is_equal (fault_cmp a b) same)),
-  (λ e. subst (λ f. is_eq (fault_cmp a f) ≡ true) e (ap is_eq (tied_itself fault_cmp_total a))),
-)
+pub one_fault : (a b : Fault) → IsTrue (eq_by_cmp fault_cmp a b) ↔ (a ≡ b)
+one_fault = told_by fault_cmp_total fault_cmp-exact
+
+pub one_link : (a b : Link) → IsTrue (eq_by_cmp link_cmp a b) ↔ (a ≡ b)
+one_link = told_by link_cmp_total (λ a b e. exact_link a b (ap is_eq e))
+
+pub one_border : (a b : Border) → IsTrue (eq_by_cmp border_cmp a b) ↔ (a ≡ b)
+one_border = told_by border_cmp_total (λ a b e. exact_border a b (ap is_eq e))
 
 -- ---- lists, item by item
 

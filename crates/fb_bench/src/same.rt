@@ -2,12 +2,14 @@
 ghost use Rattle.std.specs.Prelude.{◌≡◌, ◌↔◌, IsTrue};
 ghost use Rattle.fb_jobs.specs.Library.Changes.{edit_of, edits_of};
 ghost use Rattle.fb_jobs.specs.Values.{all_seen, found_in, seen_of, finding_of};
+ghost use Rattle.fb_jobs.specs.Flatten.Net.{plain_net};
 ghost use Rattle.fb_bench.specs.Records.{order_of, order_in, call_of, shown_in, reply_of};
 
 use crate::answers::{Asked, Committed, Delivered, GivenBack};
 use crate::record::{Call, Reply, Wanted};
-use fb_jobs::iface::Fault;
+use fb_jobs::flatten::Net;
 use fb_jobs::library::Change;
+use fb_jobs::network::{Flat, FlatBlock};
 use fb_jobs::parse::Source;
 use fb_jobs::{Key, Read, Value};
 use fb_text::{Name, same_name};
@@ -144,31 +146,61 @@ fn is_same_wanted(a: &Wanted, b: &Wanted) -> bool
     is_one_key(&a.key, &b.key) && are_same_reads(&a.reads, &b.reads)
 }
 
-fn is_same_fault(a: &Fault, b: &Fault) -> bool
+// the same items, where items that compare equal are one
+fn are_equal<T: PartialEq>(a: &[T], b: &[T]) -> bool
+    requires { (x y : T) → IsTrue (T.eq x y) ↔ (x ≡ y) }
     ensures { IsTrue result ↔ (a.now ≡ b.now) }
 {
-    *a == *b
+    a == b
 }
 
-fn are_same_faults(a: &[Fault], b: &[Fault]) -> bool
+fn is_same_block(a: &FlatBlock, b: &FlatBlock) -> bool
+    ensures { IsTrue result ↔ (a.now ≡ b.now) }
+{
+    a.path == b.path && is_one_name(&a.type_name, &b.type_name)
+}
+
+fn are_same_blocks(a: &[FlatBlock], b: &[FlatBlock]) -> bool
     ensures { IsTrue result ↔ (a.now ≡ b.now) }
 {
     if a.len() != b.len() {
         return false;
     }
     for place in 0..a.len() {
-        if !is_same_fault(&a[place], &b[place]) {
+        if !is_same_block(&a[place], &b[place]) {
             return false;
         }
     }
     true
 }
 
+fn is_same_flat(a: &Flat, b: &Flat) -> bool
+    ensures { IsTrue result ↔ (a.now ≡ b.now) }
+{
+    are_same_blocks(a.blocks(), b.blocks())
+        && are_equal(a.links(), b.links())
+        && are_equal(a.borders(), b.borders())
+}
+
+fn is_same_net(a: &Net, b: &Net) -> bool
+    ensures { IsTrue result ↔ (plain_net a.now ≡ plain_net b.now) }
+{
+    match (a, b) {
+        (Net::Blocked(a), Net::Blocked(b)) => are_equal(a, b),
+        (Net::Recursive(a), Net::Recursive(b)) => are_equal(a, b),
+        (Net::TooLarge, Net::TooLarge) => true,
+        (Net::Flat(a), Net::Flat(b)) => is_same_flat(a, b),
+        _ => false,
+    }
+}
+
 fn is_same_value(a: &Value, b: &Value) -> bool
     ensures { IsTrue result ↔ (finding_of a.now ≡ finding_of b.now) }
 {
     match (a, b) {
-        (Value::Faults(a), Value::Faults(b)) => are_same_faults(a, b),
+        (Value::Faults(a), Value::Faults(b)) => are_equal(a, b),
+        (Value::Net(a), Value::Net(b)) => is_same_net(a, b),
+        _ => false,
     }
 }
 

@@ -6,3 +6,4 @@ pub mod Sources
 pub use Rattle.fb_flatten.proofs.Tree as Tree
 pub use Rattle.fb_flatten.proofs.Library as Library
 pub use Rattle.fb_flatten.proofs.Iface as Iface
+pub use Rattle.fb_flatten.proofs.Compose as Compose
