@@ -26,6 +26,12 @@ use Rattle.fb_bench.specs.Parse.contracts.source.Source as Source
 use Rattle.fb_bench.specs.Jobs.contracts.read.Read as Read
 use Rattle.fb_bench.specs.contracts.record.Wanted as Wanted
 use Rattle.fb_bench.specs.Iface.contracts.fault.Fault as Fault
+use Rattle.fb_bench.specs.Network.contracts.path.Path as Path
+use Rattle.fb_bench.specs.Network.contracts.flat.FlatBlock as FlatBlock
+use Rattle.fb_bench.specs.Network.contracts.flat.Link as Link
+use Rattle.fb_bench.specs.Network.contracts.flat.Border as Border
+use Rattle.fb_bench.specs.Network.contracts.flat.Flat as Flat
+use Rattle.fb_bench.specs.Flatten.contracts.net.Net as Net
 use Rattle.fb_bench.specs.Jobs.contracts.value.Value as Value
 use Rattle.fb_bench.specs.Library.contracts.change.Change as Change
 use Rattle.fb_bench.specs.contracts.record.Call as Call
@@ -52,100 +58,100 @@ pub constant_sync : IsSync Constant.the_row
 constant_sync = search (constant_field_sync, crosses, maps.crosses, sendable) depth 60 fits 20000
 
 pub variables_field_send : IsSend (Variables.the_field).row
-variables_field_send = search (constant_field_send, constant_send, constant_field_sync, constant_sync, crosses, maps.crosses, sendable) depth 60 fits 20000
+variables_field_send = search (constant_send, crosses, maps.crosses, sendable) depth 60 fits 20000
 
 pub variables_send : IsSend Variables.the_row
-variables_send = search (variables_field_send, constant_field_send, constant_send, constant_field_sync, constant_sync, crosses, maps.crosses, sendable) depth 60 fits 20000
+variables_send = search (variables_field_send, crosses, maps.crosses, sendable) depth 60 fits 20000
 
 pub variables_field_sync : IsSync (Variables.the_field).row
-variables_field_sync = search (constant_field_send, constant_send, constant_field_sync, constant_sync, crosses, maps.crosses, sendable) depth 60 fits 20000
+variables_field_sync = search (constant_sync, crosses, maps.crosses, sendable) depth 60 fits 20000
 
 pub variables_sync : IsSync Variables.the_row
-variables_sync = search (variables_field_sync, constant_field_send, constant_send, constant_field_sync, constant_sync, crosses, maps.crosses, sendable) depth 60 fits 20000
+variables_sync = search (variables_field_sync, crosses, maps.crosses, sendable) depth 60 fits 20000
 
 pub interface_field_send : IsSend (Interface.the_field).row
-interface_field_send = search (variables_field_send, variables_send, variables_field_sync, variables_sync, crosses, maps.crosses, sendable) depth 60 fits 20000
+interface_field_send = search (variables_send, crosses, maps.crosses, sendable) depth 60 fits 20000
 
 pub interface_send : IsSend Interface.the_row
-interface_send = search (interface_field_send, variables_field_send, variables_send, variables_field_sync, variables_sync, crosses, maps.crosses, sendable) depth 60 fits 20000
+interface_send = search (interface_field_send, crosses, maps.crosses, sendable) depth 60 fits 20000
 
 pub interface_field_sync : IsSync (Interface.the_field).row
-interface_field_sync = search (variables_field_send, variables_send, variables_field_sync, variables_sync, crosses, maps.crosses, sendable) depth 60 fits 20000
+interface_field_sync = search (variables_sync, crosses, maps.crosses, sendable) depth 60 fits 20000
 
 pub interface_sync : IsSync Interface.the_row
-interface_sync = search (interface_field_sync, variables_field_send, variables_send, variables_field_sync, variables_sync, crosses, maps.crosses, sendable) depth 60 fits 20000
+interface_sync = search (interface_field_sync, crosses, maps.crosses, sendable) depth 60 fits 20000
 
 pub parameter_field_send : IsSend (Parameter.the_field).row
-parameter_field_send = search (constant_field_send, constant_send, constant_field_sync, constant_sync, crosses, maps.crosses, sendable) depth 60 fits 20000
+parameter_field_send = search (constant_field_send, crosses, maps.crosses, sendable) depth 60 fits 20000
 
 pub parameter_send : IsSend Parameter.the_row
-parameter_send = search (parameter_field_send, constant_field_send, constant_send, constant_field_sync, constant_sync, crosses, maps.crosses, sendable) depth 60 fits 20000
+parameter_send = search (parameter_field_send, crosses, maps.crosses, sendable) depth 60 fits 20000
 
 pub parameter_field_sync : IsSync (Parameter.the_field).row
-parameter_field_sync = search (constant_field_send, constant_send, constant_field_sync, constant_sync, crosses, maps.crosses, sendable) depth 60 fits 20000
+parameter_field_sync = search (constant_field_sync, crosses, maps.crosses, sendable) depth 60 fits 20000
 
 pub parameter_sync : IsSync Parameter.the_row
-parameter_sync = search (parameter_field_sync, constant_field_send, constant_send, constant_field_sync, constant_sync, crosses, maps.crosses, sendable) depth 60 fits 20000
+parameter_sync = search (parameter_field_sync, crosses, maps.crosses, sendable) depth 60 fits 20000
 
 pub instance_field_send : IsSend (Instance.the_field).row
-instance_field_send = search (parameter_field_send, parameter_send, parameter_field_sync, parameter_sync, crosses, maps.crosses, sendable) depth 60 fits 20000
+instance_field_send = search (parameter_send, crosses, maps.crosses, sendable) depth 60 fits 20000
 
 pub instance_send : IsSend Instance.the_row
-instance_send = search (instance_field_send, parameter_field_send, parameter_send, parameter_field_sync, parameter_sync, crosses, maps.crosses, sendable) depth 60 fits 20000
+instance_send = search (instance_field_send, crosses, maps.crosses, sendable) depth 60 fits 20000
 
 pub instance_field_sync : IsSync (Instance.the_field).row
-instance_field_sync = search (parameter_field_send, parameter_send, parameter_field_sync, parameter_sync, crosses, maps.crosses, sendable) depth 60 fits 20000
+instance_field_sync = search (parameter_sync, crosses, maps.crosses, sendable) depth 60 fits 20000
 
 pub instance_sync : IsSync Instance.the_row
-instance_sync = search (instance_field_sync, parameter_field_send, parameter_send, parameter_field_sync, parameter_sync, crosses, maps.crosses, sendable) depth 60 fits 20000
+instance_sync = search (instance_field_sync, crosses, maps.crosses, sendable) depth 60 fits 20000
 
 pub network_field_send : IsSend (Network.the_field).row
-network_field_send = search (instance_field_send, instance_send, instance_field_sync, instance_sync, crosses, maps.crosses, sendable) depth 60 fits 20000
+network_field_send = search (instance_send, crosses, maps.crosses, sendable) depth 60 fits 20000
 
 pub network_send : IsSend Network.the_row
-network_send = search (network_field_send, instance_field_send, instance_send, instance_field_sync, instance_sync, crosses, maps.crosses, sendable) depth 60 fits 20000
+network_send = search (network_field_send, crosses, maps.crosses, sendable) depth 60 fits 20000
 
 pub network_field_sync : IsSync (Network.the_field).row
-network_field_sync = search (instance_field_send, instance_send, instance_field_sync, instance_sync, crosses, maps.crosses, sendable) depth 60 fits 20000
+network_field_sync = search (instance_sync, crosses, maps.crosses, sendable) depth 60 fits 20000
 
 pub network_sync : IsSync Network.the_row
-network_sync = search (network_field_sync, instance_field_send, instance_send, instance_field_sync, instance_sync, crosses, maps.crosses, sendable) depth 60 fits 20000
+network_sync = search (network_field_sync, crosses, maps.crosses, sendable) depth 60 fits 20000
 
 pub application_field_send : IsSend (Application.the_field).row
-application_field_send = search (network_field_send, network_send, network_field_sync, network_sync, crosses, maps.crosses, sendable) depth 60 fits 20000
+application_field_send = search (network_field_send, crosses, maps.crosses, sendable) depth 60 fits 20000
 
 pub application_send : IsSend Application.the_row
-application_send = search (application_field_send, network_field_send, network_send, network_field_sync, network_sync, crosses, maps.crosses, sendable) depth 60 fits 20000
+application_send = search (application_field_send, crosses, maps.crosses, sendable) depth 60 fits 20000
 
 pub application_field_sync : IsSync (Application.the_field).row
-application_field_sync = search (network_field_send, network_send, network_field_sync, network_sync, crosses, maps.crosses, sendable) depth 60 fits 20000
+application_field_sync = search (network_field_sync, crosses, maps.crosses, sendable) depth 60 fits 20000
 
 pub application_sync : IsSync Application.the_row
-application_sync = search (application_field_sync, network_field_send, network_send, network_field_sync, network_sync, crosses, maps.crosses, sendable) depth 60 fits 20000
+application_sync = search (application_field_sync, crosses, maps.crosses, sendable) depth 60 fits 20000
 
 pub device_field_send : IsSend (Device.the_field).row
-device_field_send = search (parameter_field_send, parameter_send, parameter_field_sync, parameter_sync, instance_field_send, instance_send, instance_field_sync, instance_sync, crosses, maps.crosses, sendable) depth 60 fits 20000
+device_field_send = search (parameter_send, crosses, maps.crosses, sendable) depth 60 fits 20000
 
 pub device_send : IsSend Device.the_row
-device_send = search (device_field_send, parameter_field_send, parameter_send, parameter_field_sync, parameter_sync, instance_field_send, instance_send, instance_field_sync, instance_sync, crosses, maps.crosses, sendable) depth 60 fits 20000
+device_send = search (device_field_send, crosses, maps.crosses, sendable) depth 60 fits 20000
 
 pub device_field_sync : IsSync (Device.the_field).row
-device_field_sync = search (parameter_field_send, parameter_send, parameter_field_sync, parameter_sync, instance_field_send, instance_send, instance_field_sync, instance_sync, crosses, maps.crosses, sendable) depth 60 fits 20000
+device_field_sync = search (parameter_sync, crosses, maps.crosses, sendable) depth 60 fits 20000
 
 pub device_sync : IsSync Device.the_row
-device_sync = search (device_field_sync, parameter_field_send, parameter_send, parameter_field_sync, parameter_sync, instance_field_send, instance_send, instance_field_sync, instance_sync, crosses, maps.crosses, sendable) depth 60 fits 20000
+device_sync = search (device_field_sync, crosses, maps.crosses, sendable) depth 60 fits 20000
 
 pub system_field_send : IsSend (System.the_field).row
-system_field_send = search (application_field_send, application_send, application_field_sync, application_sync, device_field_send, device_send, device_field_sync, device_sync, crosses, maps.crosses, sendable) depth 60 fits 20000
+system_field_send = search (application_send, device_send, crosses, maps.crosses, sendable) depth 60 fits 20000
 
 pub system_send : IsSend System.the_row
-system_send = search (system_field_send, application_field_send, application_send, application_field_sync, application_sync, device_field_send, device_send, device_field_sync, device_sync, crosses, maps.crosses, sendable) depth 60 fits 20000
+system_send = search (system_field_send, crosses, maps.crosses, sendable) depth 60 fits 20000
 
 pub system_field_sync : IsSync (System.the_field).row
-system_field_sync = search (application_field_send, application_send, application_field_sync, application_sync, device_field_send, device_send, device_field_sync, device_sync, crosses, maps.crosses, sendable) depth 60 fits 20000
+system_field_sync = search (application_sync, device_sync, crosses, maps.crosses, sendable) depth 60 fits 20000
 
 pub system_sync : IsSync System.the_row
-system_sync = search (system_field_sync, application_field_send, application_send, application_field_sync, application_sync, device_field_send, device_send, device_field_sync, device_sync, crosses, maps.crosses, sendable) depth 60 fits 20000
+system_sync = search (system_field_sync, crosses, maps.crosses, sendable) depth 60 fits 20000
 
 pub expr_field_send : IsSend (Expr.the_field).row
 expr_field_send = search (crosses, maps.crosses, expressions.crosses, sendable) depth 60 fits 20000
@@ -160,88 +166,88 @@ pub expr_sync : IsSync Expr.the_row
 expr_sync = search (expr_field_sync, crosses, maps.crosses, expressions.crosses, sendable) depth 60 fits 20000
 
 pub stmt_field_send : IsSend (Stmt.the_field).row
-stmt_field_send = search (expr_field_send, expr_send, expr_field_sync, expr_sync, crosses, maps.crosses, expressions.crosses, statements.crosses, sendable) depth 60 fits 20000
+stmt_field_send = search (expr_field_send, expr_send, crosses, maps.crosses, expressions.crosses, statements.crosses, sendable) depth 60 fits 20000
 
 pub stmt_send : IsSend Stmt.the_row
-stmt_send = search (stmt_field_send, expr_field_send, expr_send, expr_field_sync, expr_sync, crosses, maps.crosses, expressions.crosses, statements.crosses, sendable) depth 60 fits 20000
+stmt_send = search (stmt_field_send, crosses, maps.crosses, expressions.crosses, statements.crosses, sendable) depth 60 fits 20000
 
 pub stmt_field_sync : IsSync (Stmt.the_field).row
-stmt_field_sync = search (expr_field_send, expr_send, expr_field_sync, expr_sync, crosses, maps.crosses, expressions.crosses, statements.crosses, sendable) depth 60 fits 20000
+stmt_field_sync = search (expr_field_sync, expr_sync, crosses, maps.crosses, expressions.crosses, statements.crosses, sendable) depth 60 fits 20000
 
 pub stmt_sync : IsSync Stmt.the_row
-stmt_sync = search (stmt_field_sync, expr_field_send, expr_send, expr_field_sync, expr_sync, crosses, maps.crosses, expressions.crosses, statements.crosses, sendable) depth 60 fits 20000
+stmt_sync = search (stmt_field_sync, crosses, maps.crosses, expressions.crosses, statements.crosses, sendable) depth 60 fits 20000
 
 pub condition_field_send : IsSend (Condition.the_field).row
-condition_field_send = search (expr_field_send, expr_send, expr_field_sync, expr_sync, crosses, maps.crosses, sendable) depth 60 fits 20000
+condition_field_send = search (expr_field_send, crosses, maps.crosses, sendable) depth 60 fits 20000
 
 pub condition_send : IsSend Condition.the_row
-condition_send = search (condition_field_send, expr_field_send, expr_send, expr_field_sync, expr_sync, crosses, maps.crosses, sendable) depth 60 fits 20000
+condition_send = search (condition_field_send, crosses, maps.crosses, sendable) depth 60 fits 20000
 
 pub condition_field_sync : IsSync (Condition.the_field).row
-condition_field_sync = search (expr_field_send, expr_send, expr_field_sync, expr_sync, crosses, maps.crosses, sendable) depth 60 fits 20000
+condition_field_sync = search (expr_field_sync, crosses, maps.crosses, sendable) depth 60 fits 20000
 
 pub condition_sync : IsSync Condition.the_row
-condition_sync = search (condition_field_sync, expr_field_send, expr_send, expr_field_sync, expr_sync, crosses, maps.crosses, sendable) depth 60 fits 20000
+condition_sync = search (condition_field_sync, crosses, maps.crosses, sendable) depth 60 fits 20000
 
 pub transition_field_send : IsSend (Transition.the_field).row
-transition_field_send = search (condition_field_send, condition_send, condition_field_sync, condition_sync, crosses, maps.crosses, sendable) depth 60 fits 20000
+transition_field_send = search (condition_field_send, crosses, maps.crosses, sendable) depth 60 fits 20000
 
 pub transition_send : IsSend Transition.the_row
-transition_send = search (transition_field_send, condition_field_send, condition_send, condition_field_sync, condition_sync, crosses, maps.crosses, sendable) depth 60 fits 20000
+transition_send = search (transition_field_send, crosses, maps.crosses, sendable) depth 60 fits 20000
 
 pub transition_field_sync : IsSync (Transition.the_field).row
-transition_field_sync = search (condition_field_send, condition_send, condition_field_sync, condition_sync, crosses, maps.crosses, sendable) depth 60 fits 20000
+transition_field_sync = search (condition_field_sync, crosses, maps.crosses, sendable) depth 60 fits 20000
 
 pub transition_sync : IsSync Transition.the_row
-transition_sync = search (transition_field_sync, condition_field_send, condition_send, condition_field_sync, condition_sync, crosses, maps.crosses, sendable) depth 60 fits 20000
+transition_sync = search (transition_field_sync, crosses, maps.crosses, sendable) depth 60 fits 20000
 
 pub algorithm_field_send : IsSend (Algorithm.the_field).row
-algorithm_field_send = search (stmt_field_send, stmt_send, stmt_field_sync, stmt_sync, crosses, maps.crosses, sendable) depth 60 fits 20000
+algorithm_field_send = search (stmt_send, crosses, maps.crosses, sendable) depth 60 fits 20000
 
 pub algorithm_send : IsSend Algorithm.the_row
-algorithm_send = search (algorithm_field_send, stmt_field_send, stmt_send, stmt_field_sync, stmt_sync, crosses, maps.crosses, sendable) depth 60 fits 20000
+algorithm_send = search (algorithm_field_send, crosses, maps.crosses, sendable) depth 60 fits 20000
 
 pub algorithm_field_sync : IsSync (Algorithm.the_field).row
-algorithm_field_sync = search (stmt_field_send, stmt_send, stmt_field_sync, stmt_sync, crosses, maps.crosses, sendable) depth 60 fits 20000
+algorithm_field_sync = search (stmt_sync, crosses, maps.crosses, sendable) depth 60 fits 20000
 
 pub algorithm_sync : IsSync Algorithm.the_row
-algorithm_sync = search (algorithm_field_sync, stmt_field_send, stmt_send, stmt_field_sync, stmt_sync, crosses, maps.crosses, sendable) depth 60 fits 20000
+algorithm_sync = search (algorithm_field_sync, crosses, maps.crosses, sendable) depth 60 fits 20000
 
 pub chart_field_send : IsSend (Chart.the_field).row
-chart_field_send = search (transition_field_send, transition_send, transition_field_sync, transition_sync, algorithm_field_send, algorithm_send, algorithm_field_sync, algorithm_sync, crosses, maps.crosses, sendable) depth 60 fits 20000
+chart_field_send = search (transition_send, algorithm_send, crosses, maps.crosses, sendable) depth 60 fits 20000
 
 pub chart_send : IsSend Chart.the_row
-chart_send = search (chart_field_send, transition_field_send, transition_send, transition_field_sync, transition_sync, algorithm_field_send, algorithm_send, algorithm_field_sync, algorithm_sync, crosses, maps.crosses, sendable) depth 60 fits 20000
+chart_send = search (chart_field_send, crosses, maps.crosses, sendable) depth 60 fits 20000
 
 pub chart_field_sync : IsSync (Chart.the_field).row
-chart_field_sync = search (transition_field_send, transition_send, transition_field_sync, transition_sync, algorithm_field_send, algorithm_send, algorithm_field_sync, algorithm_sync, crosses, maps.crosses, sendable) depth 60 fits 20000
+chart_field_sync = search (transition_sync, algorithm_sync, crosses, maps.crosses, sendable) depth 60 fits 20000
 
 pub chart_sync : IsSync Chart.the_row
-chart_sync = search (chart_field_sync, transition_field_send, transition_send, transition_field_sync, transition_sync, algorithm_field_send, algorithm_send, algorithm_field_sync, algorithm_sync, crosses, maps.crosses, sendable) depth 60 fits 20000
+chart_sync = search (chart_field_sync, crosses, maps.crosses, sendable) depth 60 fits 20000
 
 pub typedeclaration_field_send : IsSend (TypeDeclaration.the_field).row
-typedeclaration_field_send = search (interface_field_send, interface_send, interface_field_sync, interface_sync, instance_field_send, instance_send, instance_field_sync, instance_sync, network_field_send, network_send, network_field_sync, network_sync, chart_field_send, chart_send, chart_field_sync, chart_sync, crosses, maps.crosses, sendable) depth 60 fits 20000
+typedeclaration_field_send = search (interface_field_send, network_field_send, chart_field_send, crosses, maps.crosses, sendable) depth 60 fits 20000
 
 pub typedeclaration_send : IsSend TypeDeclaration.the_row
-typedeclaration_send = search (typedeclaration_field_send, interface_field_send, interface_send, interface_field_sync, interface_sync, instance_field_send, instance_send, instance_field_sync, instance_sync, network_field_send, network_send, network_field_sync, network_sync, chart_field_send, chart_send, chart_field_sync, chart_sync, crosses, maps.crosses, sendable) depth 60 fits 20000
+typedeclaration_send = search (typedeclaration_field_send, crosses, maps.crosses, sendable) depth 60 fits 20000
 
 pub typedeclaration_field_sync : IsSync (TypeDeclaration.the_field).row
-typedeclaration_field_sync = search (interface_field_send, interface_send, interface_field_sync, interface_sync, instance_field_send, instance_send, instance_field_sync, instance_sync, network_field_send, network_send, network_field_sync, network_sync, chart_field_send, chart_send, chart_field_sync, chart_sync, crosses, maps.crosses, sendable) depth 60 fits 20000
+typedeclaration_field_sync = search (interface_field_sync, network_field_sync, chart_field_sync, crosses, maps.crosses, sendable) depth 60 fits 20000
 
 pub typedeclaration_sync : IsSync TypeDeclaration.the_row
-typedeclaration_sync = search (typedeclaration_field_sync, interface_field_send, interface_send, interface_field_sync, interface_sync, instance_field_send, instance_send, instance_field_sync, instance_sync, network_field_send, network_send, network_field_sync, network_sync, chart_field_send, chart_send, chart_field_sync, chart_sync, crosses, maps.crosses, sendable) depth 60 fits 20000
+typedeclaration_sync = search (typedeclaration_field_sync, crosses, maps.crosses, sendable) depth 60 fits 20000
 
 pub decl_field_send : IsSend (Decl.the_field).row
-decl_field_send = search (typedeclaration_field_send, typedeclaration_send, typedeclaration_field_sync, typedeclaration_sync, system_field_send, system_send, system_field_sync, system_sync, crosses, maps.crosses, sendable) depth 60 fits 20000
+decl_field_send = search (typedeclaration_field_send, system_field_send, crosses, maps.crosses, sendable) depth 60 fits 20000
 
 pub decl_send : IsSend Decl.the_row
-decl_send = search (decl_field_send, typedeclaration_field_send, typedeclaration_send, typedeclaration_field_sync, typedeclaration_sync, system_field_send, system_send, system_field_sync, system_sync, crosses, maps.crosses, sendable) depth 60 fits 20000
+decl_send = search (decl_field_send, crosses, maps.crosses, sendable) depth 60 fits 20000
 
 pub decl_field_sync : IsSync (Decl.the_field).row
-decl_field_sync = search (typedeclaration_field_send, typedeclaration_send, typedeclaration_field_sync, typedeclaration_sync, system_field_send, system_send, system_field_sync, system_sync, crosses, maps.crosses, sendable) depth 60 fits 20000
+decl_field_sync = search (typedeclaration_field_sync, system_field_sync, crosses, maps.crosses, sendable) depth 60 fits 20000
 
 pub decl_sync : IsSync Decl.the_row
-decl_sync = search (decl_field_sync, typedeclaration_field_send, typedeclaration_send, typedeclaration_field_sync, typedeclaration_sync, system_field_send, system_send, system_field_sync, system_sync, crosses, maps.crosses, sendable) depth 60 fits 20000
+decl_sync = search (decl_field_sync, crosses, maps.crosses, sendable) depth 60 fits 20000
 
 pub body_field_send : IsSend (Body.the_field).row
 body_field_send = search (decl_field_send, decl_send, decl_field_sync, decl_sync, crosses, maps.crosses, sendable) depth 60 fits 20000
@@ -303,17 +309,89 @@ fault_field_sync = search (crosses, maps.crosses, sendable) depth 60 fits 20000
 pub fault_sync : IsSync Fault.the_row
 fault_sync = search (fault_field_sync, crosses, maps.crosses, sendable) depth 60 fits 20000
 
+pub path_field_send : IsSend (Path.the_field).row
+path_field_send = search (crosses, maps.crosses, sendable) depth 60 fits 20000
+
+pub path_send : IsSend Path.the_row
+path_send = search (path_field_send, crosses, maps.crosses, sendable) depth 60 fits 20000
+
+pub path_field_sync : IsSync (Path.the_field).row
+path_field_sync = search (crosses, maps.crosses, sendable) depth 60 fits 20000
+
+pub path_sync : IsSync Path.the_row
+path_sync = search (path_field_sync, crosses, maps.crosses, sendable) depth 60 fits 20000
+
+pub flat_block_field_send : IsSend (FlatBlock.the_field).row
+flat_block_field_send = search (path_field_send, crosses, maps.crosses, sendable) depth 60 fits 20000
+
+pub flat_block_send : IsSend FlatBlock.the_row
+flat_block_send = search (flat_block_field_send, crosses, maps.crosses, sendable) depth 60 fits 20000
+
+pub flat_block_field_sync : IsSync (FlatBlock.the_field).row
+flat_block_field_sync = search (path_field_sync, crosses, maps.crosses, sendable) depth 60 fits 20000
+
+pub flat_block_sync : IsSync FlatBlock.the_row
+flat_block_sync = search (flat_block_field_sync, crosses, maps.crosses, sendable) depth 60 fits 20000
+
+pub link_field_send : IsSend (Link.the_field).row
+link_field_send = search (path_field_send, crosses, maps.crosses, sendable) depth 60 fits 20000
+
+pub link_send : IsSend Link.the_row
+link_send = search (link_field_send, crosses, maps.crosses, sendable) depth 60 fits 20000
+
+pub link_field_sync : IsSync (Link.the_field).row
+link_field_sync = search (path_field_sync, crosses, maps.crosses, sendable) depth 60 fits 20000
+
+pub link_sync : IsSync Link.the_row
+link_sync = search (link_field_sync, crosses, maps.crosses, sendable) depth 60 fits 20000
+
+pub border_field_send : IsSend (Border.the_field).row
+border_field_send = search (path_field_send, crosses, maps.crosses, sendable) depth 60 fits 20000
+
+pub border_send : IsSend Border.the_row
+border_send = search (border_field_send, crosses, maps.crosses, sendable) depth 60 fits 20000
+
+pub border_field_sync : IsSync (Border.the_field).row
+border_field_sync = search (path_field_sync, crosses, maps.crosses, sendable) depth 60 fits 20000
+
+pub border_sync : IsSync Border.the_row
+border_sync = search (border_field_sync, crosses, maps.crosses, sendable) depth 60 fits 20000
+
+pub flat_field_send : IsSend (Flat.the_field).row
+flat_field_send = search (flat_block_send, link_send, border_send, crosses, maps.crosses, sendable) depth 60 fits 20000
+
+pub flat_send : IsSend Flat.the_row
+flat_send = search (flat_field_send, crosses, maps.crosses, sendable) depth 60 fits 20000
+
+pub flat_field_sync : IsSync (Flat.the_field).row
+flat_field_sync = search (flat_block_sync, link_sync, border_sync, crosses, maps.crosses, sendable) depth 60 fits 20000
+
+pub flat_sync : IsSync Flat.the_row
+flat_sync = search (flat_field_sync, crosses, maps.crosses, sendable) depth 60 fits 20000
+
+pub net_field_send : IsSend (Net.the_field).row
+net_field_send = search (flat_field_send, crosses, maps.crosses, sendable) depth 60 fits 20000
+
+pub net_send : IsSend Net.the_row
+net_send = search (net_field_send, crosses, maps.crosses, sendable) depth 60 fits 20000
+
+pub net_field_sync : IsSync (Net.the_field).row
+net_field_sync = search (flat_field_sync, crosses, maps.crosses, sendable) depth 60 fits 20000
+
+pub net_sync : IsSync Net.the_row
+net_sync = search (net_field_sync, crosses, maps.crosses, sendable) depth 60 fits 20000
+
 pub value_field_send : IsSend (Value.the_field).row
-value_field_send = search (fault_field_send, fault_send, fault_field_sync, fault_sync, crosses, maps.crosses, sendable) depth 60 fits 20000
+value_field_send = search (fault_field_send, fault_send, fault_field_sync, fault_sync, net_field_send, net_send, net_field_sync, net_sync, crosses, maps.crosses, sendable) depth 60 fits 20000
 
 pub value_send : IsSend Value.the_row
-value_send = search (value_field_send, fault_field_send, fault_send, fault_field_sync, fault_sync, crosses, maps.crosses, sendable) depth 60 fits 20000
+value_send = search (value_field_send, fault_field_send, fault_send, fault_field_sync, fault_sync, net_field_send, net_send, net_field_sync, net_sync, crosses, maps.crosses, sendable) depth 60 fits 20000
 
 pub value_field_sync : IsSync (Value.the_field).row
-value_field_sync = search (fault_field_send, fault_send, fault_field_sync, fault_sync, crosses, maps.crosses, sendable) depth 60 fits 20000
+value_field_sync = search (fault_field_send, fault_send, fault_field_sync, fault_sync, net_field_send, net_send, net_field_sync, net_sync, crosses, maps.crosses, sendable) depth 60 fits 20000
 
 pub value_sync : IsSync Value.the_row
-value_sync = search (value_field_sync, fault_field_send, fault_send, fault_field_sync, fault_sync, crosses, maps.crosses, sendable) depth 60 fits 20000
+value_sync = search (value_field_sync, fault_field_send, fault_send, fault_field_sync, fault_sync, net_field_send, net_send, net_field_sync, net_sync, crosses, maps.crosses, sendable) depth 60 fits 20000
 
 pub change_field_send : IsSend (Change.the_field).row
 change_field_send = search (source_field_send, source_send, source_field_sync, source_sync, crosses, maps.crosses, sendable) depth 60 fits 20000
