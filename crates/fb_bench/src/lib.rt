@@ -19,7 +19,7 @@ pub use answers::{Answered, Asked, Committed, Delivered, GivenBack, Refused, Tak
 pub use bench::Bench;
 pub use desk::{Desk, DeskRefused, Solo};
 pub use fb_jobs as jobs;
-pub use fb_jobs::{flatten, iface, library, network, parse, tree};
+pub use fb_jobs::{deploy, flatten, iface, library, mapping, network, parse, tree};
 pub use laws::{entries_follow_the_texts, reach_before_and_after};
 pub use limits::Limits;
 pub use peek::Shown;

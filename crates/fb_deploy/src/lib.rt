@@ -2,6 +2,7 @@
 #![tactic(auto)]
 
 mod command;
+mod computed;
 mod laws;
 mod lines;
 mod orders;
@@ -10,6 +11,13 @@ mod resources;
 mod written;
 
 pub use command::Command;
-pub use laws::{one_plan, plan_is_local};
+pub use computed::{is_of_plan, plan_of_unit};
+pub use fb_mapping as mapping;
+pub use fb_mapping::flatten::{faults, iface};
+pub use fb_mapping::{flatten, library, network, parse, tree};
+pub use laws::{
+    has_plan_by_text, one_plan, plan_at_is_local, plan_at_is_plan, plan_at_of_systems,
+    plan_is_local,
+};
 pub use planning::{Deploy, plan};
 pub use resources::ResourcePlan;

@@ -9,8 +9,8 @@ mod reads;
 mod result;
 mod value;
 
-pub use fb_flatten as flatten;
-pub use fb_flatten::{iface, library, network, parse, tree};
+pub use fb_deploy as deploy;
+pub use fb_deploy::{flatten, iface, library, mapping, network, parse, tree};
 pub use job::Job;
 pub use key::{Key, Kind};
 pub use laws::{current_reads, least_stale, locality, needs_in_order};
