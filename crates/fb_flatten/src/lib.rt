@@ -11,7 +11,7 @@ mod units;
 
 pub use computed::{all_far, is_of_net, net_of_unit};
 pub use fb_compose as compose;
-pub use fb_wiring::{faults, iface, library, network, parse, tree};
+pub use fb_wiring::{faults, iface, library, parse, plain as network, tree};
 pub use kinds::has_net;
 pub use laws::{
     far_is_all, far_of_is_local, flat_networks_are_local, has_net_by_text, net_at_is_local,

@@ -9,7 +9,7 @@ use fb_compose::count_instances;
 use fb_text::Name;
 use fb_wiring::library::{View, tree_by_name};
 use fb_wiring::network;
-use fb_wiring::network::Network;
+use fb_wiring::plain::Network;
 use std::alloc::{AllocError, Global};
 use std::collections::BTreeMap;
 

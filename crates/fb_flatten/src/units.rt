@@ -12,7 +12,7 @@ use crate::tables::{Table, counts_in_order};
 use fb_compose::{FlatApplication, compose, compose_in_order, count_instances, join};
 use fb_text::Name;
 use fb_wiring::library::{View, tree_by_name};
-use fb_wiring::network::{Flat, Instance, Network};
+use fb_wiring::plain::{Flat, Instance, Network};
 use fb_wiring::tree::Decl;
 use fb_wiring::{Application, applications, network};
 use std::alloc::{AllocError, Global};

@@ -8,5 +8,3 @@ pub mod RequestReads
 pub mod Scripts
 pub mod Takings
 pub mod Talks
-pub mod TapeSteps
-pub mod Tapes

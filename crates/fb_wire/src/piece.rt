@@ -4,10 +4,10 @@ ghost use Rattle.fb_wire.specs.Lines.{IsLine};
 ghost use Rattle.fb_wire.specs.Served.{PieceTaken, Extends, StopsInside};
 
 use crate::end::RunEnd;
-use crate::feed::Sink;
 use crate::line::say_line;
 use fb_bench::Desk;
 use fb_bench::jobs::Job;
+use fb_streams::Sink;
 use std::alloc::Global;
 
 /// How long a line may be.

@@ -7,10 +7,10 @@ ghost use Rattle.fb_wire.specs.Script.{SaysBy};
 ghost use Rattle.fb_wire.specs.Talk.{Pair, Runs};
 
 use crate::end::RunEnd;
-use crate::feed::{Feed, Sink};
 use crate::line::say_line;
 use crate::piece::take_piece;
 use fb_bench::{Bench, Desk, Solo};
+use fb_streams::{Feed, Sink};
 use std::alloc::Global;
 
 // How many bytes one read may give.

@@ -8,7 +8,7 @@ mod systems;
 
 pub use fb_faults as faults;
 pub use fb_faults::{iface, library, parse, tree};
-pub use fb_network as network;
+pub use fb_network as plain;
 pub use laws::{
     applications_are_clean, networks_are_clean, networks_are_local,
     without_faults_nothing_is_reported,

@@ -23,12 +23,12 @@ use denote.Triple.Entry.{alive}
 use denote.Triple.Spec.{Meets, triple_of}
 use denote.Triple.Table.{entered}
 use denote.Triple.Walked.{says, Stays, walk_of, ends_at, walk_Meets}
-use Rattle.fb_wire.proofs.TapeSteps.{none, none_made}
-use Rattle.fb_wire.specs.contracts.tape.Tape as Tape
-use Rattle.fb_wire.specs.contracts.tape.Tape.new as F
-use Rattle.fb_wire.specs.contracts.tape.Tape.new.Key.{name as #self}
-use Rattle.fb_wire.proofs.tape.Tape.new.Statement as stated
-use Rattle.fb_wire.proofs.tape.Tape.new.Code as code
+use Rattle.fb_streams.proofs.TapeSteps.{none, none_made}
+use Rattle.fb_streams.specs.contracts.tape.Tape as Tape
+use Rattle.fb_streams.specs.contracts.tape.Tape.new as F
+use Rattle.fb_streams.specs.contracts.tape.Tape.new.Key.{name as #self}
+use Rattle.fb_streams.proofs.tape.Tape.new.Statement as stated
+use Rattle.fb_streams.proofs.tape.Tape.new.Code as code
 
 abbrev function : Fn
 function = code.function

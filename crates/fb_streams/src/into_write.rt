@@ -2,7 +2,7 @@
 ghost use Rattle.std.specs.Prelude.{◌≡◌, ◌++◌, ◌≤◌, ◌<◌, [], length, false, IfOk, is_err};
 ghost use Rattle.std.specs.Io.KnownBytes.{Appends, Keeps};
 ghost use Rattle.std.specs.List.{concat};
-ghost use Rattle.fb_wire.specs.Streams.{bytes_in};
+ghost use Rattle.fb_streams.specs.Streams.{bytes_in};
 
 use crate::feed::{Failed, Sink};
 use crate::tape::{Piece, Tape};

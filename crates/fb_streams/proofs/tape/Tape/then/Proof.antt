@@ -25,13 +25,13 @@ use denote.Triple.Entry.{alive}
 use denote.Triple.Spec.{Meets, triple_of}
 use denote.Triple.Table.{entered}
 use denote.Triple.Walked.{says, Stays, stay_dropped, walk_of, ends_at, walk_Meets, Goes-dropped}
-use Rattle.fb_wire.proofs.TapeSteps.{none, none_made}
-use Rattle.fb_wire.specs.contracts.tape.Tape as Tape
-use Rattle.fb_wire.specs.contracts.tape.Piece as Piece
-use Rattle.fb_wire.specs.contracts.tape.Tape.then as F
-use Rattle.fb_wire.specs.contracts.tape.Tape.then.Key.{name as #self}
-use Rattle.fb_wire.proofs.tape.Tape.then.Statement as stated
-use Rattle.fb_wire.proofs.tape.Tape.then.Code as code
+use Rattle.fb_streams.proofs.TapeSteps.{none, none_made}
+use Rattle.fb_streams.specs.contracts.tape.Tape as Tape
+use Rattle.fb_streams.specs.contracts.tape.Piece as Piece
+use Rattle.fb_streams.specs.contracts.tape.Tape.then as F
+use Rattle.fb_streams.specs.contracts.tape.Tape.then.Key.{name as #self}
+use Rattle.fb_streams.proofs.tape.Tape.then.Statement as stated
+use Rattle.fb_streams.proofs.tape.Tape.then.Code as code
 
 abbrev function : Fn
 function = code.function

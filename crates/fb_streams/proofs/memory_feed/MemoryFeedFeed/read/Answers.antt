@@ -1,7 +1,7 @@
 use Rattle.std.proofs.Common.{◌+◌, take, drop, ◌∙◌, ◌++◌, sym, ap, arith}
 use Rattle.std.proofs.Math.Seq.{take-add}
-use Rattle.fb_wire.proofs.Pieces.{drop-by, copied_is}
-use Rattle.fb_wire.proofs.memory_feed.MemoryFeedFeed.read.Goals as goal
+use Rattle.fb_streams.proofs.Pieces.{drop-by, copied_is}
+use Rattle.fb_streams.proofs.memory_feed.MemoryFeedFeed.read.Goals as goal
 
 pub returns-clause-given : goal.returns-clause-given
 returns-clause-given c =

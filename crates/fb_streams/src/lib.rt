@@ -1,0 +1,15 @@
+//! Where the bytes of lines come from and where they go: readers and writers that tell what they gave and took.
+#![tactic(auto)]
+
+mod feed;
+mod from_read;
+mod into_write;
+mod memory_feed;
+mod memory_sink;
+mod tape;
+
+pub use feed::{Failed, Feed, Sink};
+pub use from_read::FromRead;
+pub use into_write::IntoWrite;
+pub use memory_feed::MemoryFeed;
+pub use memory_sink::MemorySink;
