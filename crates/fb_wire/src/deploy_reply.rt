@@ -58,11 +58,7 @@ fn resource_values(alloc: Global, resources: &[ResourcePlan]) -> Result<Vec<Valu
     Ok(values)
 }
 
-fn plan_value(
-    alloc: Global,
-    cuts: &[Link],
-    resources: &[ResourcePlan],
-) -> Result<Value, AllocError>
+fn plan_value(alloc: Global, cuts: &[Link], resources: &[ResourcePlan]) -> Result<Value, AllocError>
     ensures { IfOk result (λ v. view v ≡ plan_said cuts.now resources.now) }
 {
     let cuts = Value::Array(link_values(alloc, cuts)?);
