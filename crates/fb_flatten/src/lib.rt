@@ -10,11 +10,54 @@ mod tables;
 mod units;
 
 pub use computed::{all_far, is_of_net, net_of_unit};
-pub use fb_compose as compose;
-pub use fb_wiring::{faults, iface, library, parse, plain as network, tree};
 pub use kinds::has_net;
 pub use laws::{
     far_is_all, far_of_is_local, flat_networks_are_local, has_net_by_text, net_at_is_local,
     net_at_is_net, net_is_local, one_net,
 };
 pub use net::{Net, net_of};
+
+/// Of `fb_compose`, for the crates above.
+pub mod compose {
+    pub use fb_compose::{
+        FlatApplication, chains_are_composed, compose, compose_in_order, count_instances,
+        flat_is_one, join, sort_once, system_is_one,
+    };
+}
+
+/// Of `fb_wiring::faults`, for the crates above.
+pub mod faults {
+    pub use fb_wiring::faults::faults;
+}
+
+/// Of `fb_wiring::iface`, for the crates above.
+pub mod iface {
+    pub use fb_wiring::iface::Fault;
+}
+
+/// Of `fb_wiring::library`, for the crates above.
+pub mod library {
+    pub use fb_wiring::library::{
+        Change, Library, View, far, mentions_by_name, near, tree_by_name,
+    };
+}
+
+/// Of `fb_wiring::plain`, for the crates above.
+pub mod network {
+    pub use fb_wiring::plain::{
+        Border, End, Flat, FlatBlock, Link, Network, Path, Port, is_same_sort, sort_number,
+    };
+}
+
+/// Of `fb_wiring::parse`, for the crates above.
+pub mod parse {
+    pub use fb_wiring::parse::{ReadFault, Source};
+}
+
+/// Of `fb_wiring::tree`, for the crates above.
+pub mod tree {
+    pub use fb_wiring::tree::{
+        Application, Constant, Decl, Device, Instance, Mapping, Parameter, Resource, Role, Side,
+        Simple, Sort,
+    };
+}

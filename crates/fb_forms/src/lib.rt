@@ -6,9 +6,21 @@ mod naming;
 mod repetition;
 mod stop;
 
-pub use fb_lexemes as lexemes;
-pub use fb_tree as tree;
 pub use literals::{NUMBERS, across, literal_form, literal_use};
 pub use naming::{NAMES, NameReader, is_next, key, name, names, one_of};
 pub use repetition::{Reader, listed, separated, several};
 pub use stop::Stop;
+
+/// Of `fb_lexemes`, for the crates above.
+pub mod lexemes {
+    pub use fb_lexemes::{Kind, Lexeme, lexemes};
+}
+
+/// Of `fb_tree`, for the crates above.
+pub mod tree {
+    pub use fb_tree::{
+        Action, Connection, Constant, Device, End, Event, Instance, Literal, LiteralForm, Mapping,
+        Parameter, Resource, Role, Section, Side, Simple, Sort, State, TypeForm, TypeUse,
+        Variables,
+    };
+}

@@ -20,8 +20,6 @@ pub use classes::{Class, class_by_form, class_by_name, class_of, class_of_consta
 pub use code::Code;
 pub use declarations::iface_faults;
 pub use fault::{Fault, sorted_faults};
-pub use fb_library as library;
-pub use fb_library::{parse, tree};
 pub use instances::is_suited;
 pub use interfaces::{interface, ports_of};
 pub use laws::{
@@ -35,3 +33,22 @@ pub use ports::{
     DeclaredEvent, DeclaredInstance, DeclaredVariable, Ports, is_beside, is_same_side,
 };
 pub use scope::Scope;
+
+/// Of `fb_library`, for the crates above.
+pub mod library {
+    pub use fb_library::{Change, Library, View, far, mentions_by_name, near, tree_by_name};
+}
+
+/// Of `fb_library::parse`, for the crates above.
+pub mod parse {
+    pub use fb_library::parse::{Body, ReadFault, Source};
+}
+
+/// Of `fb_library::tree`, for the crates above.
+pub mod tree {
+    pub use fb_library::tree::{
+        Action, Algorithm, Application, Chart, Condition, Connection, Constant, Decl, Device, End,
+        Instance, Mapping, Network, Parameter, Resource, Role, Section, Side, Simple, Sort, State,
+        System, Transition, TypeDeclaration, TypeForm, TypeUse, UnitKind,
+    };
+}

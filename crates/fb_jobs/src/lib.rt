@@ -9,11 +9,49 @@ mod reads;
 mod result;
 mod value;
 
-pub use fb_deploy as deploy;
-pub use fb_deploy::{flatten, iface, library, mapping, network, parse, tree};
 pub use job::Job;
 pub use key::{Key, Kind};
 pub use laws::{current_reads, least_stale, locality, needs_in_order};
 pub use read::{Read, has_key, needed};
 pub use result::Finished;
 pub use value::Value;
+
+/// Of `fb_deploy`, for the crates above.
+pub mod deploy {
+    pub use fb_deploy::{Command, Deploy, ResourcePlan};
+}
+
+/// Of `fb_deploy::flatten`, for the crates above.
+pub mod flatten {
+    pub use fb_deploy::flatten::Net;
+}
+
+/// Of `fb_deploy::iface`, for the crates above.
+pub mod iface {
+    pub use fb_deploy::iface::Fault;
+}
+
+/// Of `fb_deploy::library`, for the crates above.
+pub mod library {
+    pub use fb_deploy::library::{Change, Library, near};
+}
+
+/// Of `fb_deploy::mapping`, for the crates above.
+pub mod mapping {
+    pub use fb_deploy::mapping::Misplaced;
+}
+
+/// Of `fb_deploy::network`, for the crates above.
+pub mod network {
+    pub use fb_deploy::network::{Border, Flat, FlatBlock, Link};
+}
+
+/// Of `fb_deploy::parse`, for the crates above.
+pub mod parse {
+    pub use fb_deploy::parse::{ReadFault, Source};
+}
+
+/// Of `fb_deploy::tree`, for the crates above.
+pub mod tree {
+    pub use fb_deploy::tree::Sort;
+}

@@ -14,8 +14,29 @@ mod sides;
 mod spellings;
 mod types;
 
-pub use fb_iface as iface;
-pub use fb_iface::{library, parse, tree};
 pub use laws::{connections_are_right, net_faults_are_local, networks_are_fine};
 pub use networks::net_faults;
 pub use paths::{Placed, report_repeated};
+
+/// Of `fb_iface`, for the crates above.
+pub mod iface {
+    pub use fb_iface::{Code, Fault, Ports, iface_faults, sorted_faults};
+}
+
+/// Of `fb_iface::library`, for the crates above.
+pub mod library {
+    pub use fb_iface::library::{Change, Library, View, far, mentions_by_name, near, tree_by_name};
+}
+
+/// Of `fb_iface::parse`, for the crates above.
+pub mod parse {
+    pub use fb_iface::parse::{Body, ReadFault, Source};
+}
+
+/// Of `fb_iface::tree`, for the crates above.
+pub mod tree {
+    pub use fb_iface::tree::{
+        Application, Connection, Constant, Decl, Device, End, Instance, Mapping, Network,
+        Parameter, Resource, Role, Side, Simple, Sort, System, TypeDeclaration, TypeUse,
+    };
+}

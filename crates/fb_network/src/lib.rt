@@ -10,9 +10,13 @@ mod network;
 mod path;
 
 pub use count::INSTANCE_LIMIT;
-pub use fb_tree as tree;
 pub use flat::{Border, Flat, FlatBlock, Link};
 pub use network::{
     Connection, End, Instance, InstanceKind, Network, Port, is_same_sort, sort_number,
 };
 pub use path::Path;
+
+/// Of `fb_tree`, for the crates above.
+pub mod tree {
+    pub use fb_tree::{Side, Sort};
+}

@@ -11,5 +11,14 @@ mod system;
 mod units;
 
 pub use body::{Body, one_body, one_tree};
-pub use fb_tree as tree;
 pub use source::{ReadFault, Source};
+
+/// Of `fb_tree`, for the crates above.
+pub mod tree {
+    pub use fb_tree::{
+        Action, Algorithm, Application, Chart, Condition, Connection, Constant, Counting, Decl,
+        Device, End, Event, Expr, Instance, Interface, LiteralForm, Mapping, Network, Parameter,
+        Reference, Resource, Role, Section, Side, Simple, Sort, State, Stmt, System, Transition,
+        TypeDeclaration, TypeForm, TypeUse, UnitKind, Variables, kind, mentions,
+    };
+}

@@ -15,10 +15,21 @@ mod system_parts;
 
 pub use chart::states;
 pub use connecting::{EndTokens, connections, end};
-pub use fb_forms as forms;
-pub use fb_forms::lexemes;
 pub use frame::section;
 pub use instances::{blocks, plugs, sockets, subapplications};
 pub use interface::{data_variables, events, internal_variables};
 pub use skipped::{service, skip};
 pub use system_parts::{device, mappings};
+
+/// Of `fb_forms`, for the crates above.
+pub mod forms {
+    pub use fb_forms::{
+        NAMES, NameReader, Reader, Stop, is_next, key, literal_use, name, names, one_of, separated,
+        several,
+    };
+}
+
+/// Of `fb_forms::lexemes`, for the crates above.
+pub mod lexemes {
+    pub use fb_forms::lexemes::{Kind, Lexeme, lexemes};
+}

@@ -14,8 +14,14 @@ mod request;
 mod run;
 
 pub use end::RunEnd;
-pub use fb_bench as bench;
-pub use fb_streams as streams;
 pub use fb_streams::{Failed, Feed, FromRead, IntoWrite, MemoryFeed, MemorySink, Sink};
 pub use laws::{one_script, one_talk};
 pub use run::{run_lines, run_script};
+
+/// Of `fb_bench`, for the crates above.
+pub mod bench {
+    pub use fb_bench::{
+        Answered, Asked, Bench, Call, Committed, Delivered, Limits, Reply, Request, Shown, Taken,
+        flatten, iface, jobs, library, parse,
+    };
+}
