@@ -1,0 +1,378 @@
+//! What a workbench shows after the calls of its callers: its records, keys, revisions and what is known of a key.
+use crate::talk::{new_bench, talk};
+use fb_jobs::{Key, Kind};
+use fb_text::Name;
+use fb_wire::bench::{Asked, Bench, Call, Limits, Reply, Shown};
+use std::alloc::Global;
+use std::test::Fail;
+
+/// A step of a conversation: lines of a caller, or what the workbench then shows.
+#[derive(Clone, Copy)]
+enum Step<'a> {
+    /// A run of this caller. The numbers of its jobs begin at 1.
+    Lines(u32, &'a str),
+    /// The faults of the unit are known.
+    Value(&'a str),
+    /// The faults of the unit are pending.
+    Pending(&'a str),
+    /// The only key, pending and handed out, is that of the unit's faults.
+    Out(&'a str),
+    Revision(&'a str, u64),
+    /// How many records there are.
+    Records(usize),
+    /// The record of this number is of this turn of caller 2, who asked and was given a value.
+    Answer(u64, u64),
+    NoRecord(u64),
+}
+
+fn faults_of(unit: &str) -> Result<Key, Fail> {
+    let unit = Name::read(unit)?;
+    Ok(Key {
+        kind: Kind::Faults,
+        unit,
+    })
+}
+
+fn peeks_a_value(bench: &Bench, unit: &str) -> Result<bool, Fail> {
+    let key = faults_of(unit)?;
+    let shown = bench.peek(&key);
+    Ok(matches!(&shown, Shown::Value(_)))
+}
+
+fn peeks_pending(bench: &Bench, unit: &str) -> Result<bool, Fail> {
+    let key = faults_of(unit)?;
+    let shown = bench.peek(&key);
+    Ok(matches!(&shown, Shown::Pending))
+}
+
+fn is_out(bench: &Bench, unit: &str) -> Result<bool, Fail> {
+    let key = faults_of(unit)?;
+    let is_alone = bench.key_count() == 1 && bench.pending_count() == 1;
+    Ok(is_alone && bench.key_at(0) == Some(key) && bench.is_out(&key))
+}
+
+fn is_answer(bench: &Bench, number: u64, turn: u64) -> bool {
+    match bench.record(number) {
+        None => false,
+        Some(record) => {
+            let is_ask = matches!(record.call(), Call::Ask(_));
+            let is_value = matches!(record.reply(), Reply::Asking(Asked::Value(_)));
+            record.caller() == 2 && record.turn() == turn && is_ask && is_value
+        }
+    }
+}
+
+// Whether the step goes as it says.
+fn goes(alloc: Global, bench: &mut Bench, step: Step<'_>) -> Result<bool, Fail> {
+    match step {
+        Step::Lines(caller, text) => Ok(talk(alloc, bench, caller, text)?.is_none()),
+        Step::Value(unit) => peeks_a_value(bench, unit),
+        Step::Pending(unit) => peeks_pending(bench, unit),
+        Step::Out(unit) => is_out(bench, unit),
+        Step::Revision(unit, revision) => Ok(bench.revision(&Name::read(unit)?) == revision),
+        Step::Records(count) => Ok(bench.len() == count),
+        Step::Answer(number, turn) => Ok(is_answer(bench, number, turn)),
+        Step::NoRecord(number) => Ok(bench.record(number).is_none()),
+    }
+}
+
+// The place of the first step that does not go as it says.
+fn first_wrong_step(
+    alloc: Global,
+    bench: &mut Bench,
+    steps: &[Step<'_>],
+) -> Result<Option<usize>, Fail> {
+    for place in 0..steps.len() {
+        if !goes(alloc, bench, steps[place])? {
+            return Ok(Some(place));
+        }
+    }
+    Ok(None)
+}
+
+// A commit on an old base is refused.
+const OLD_BASE: &[Step<'static>] = &[
+    Step::Lines(
+        1,
+        r#"
+> {"op":"commit","changes":[{"put":"A","base":0,"text":"FUNCTION_BLOCK A END_FUNCTION_BLOCK"}]}
+< {"commit":1}
+> {"op":"commit","changes":[{"put":"A","base":1,"text":"FUNCTION_BLOCK A END_FUNCTION_BLOCK"}]}
+< {"commit":2}
+> {"op":"take"}
+< {"job":1,"kind":"faults","unit":"A"}
+> {"op":"deliver","job":1}
+< {"delivered":"accepted"}
+> {"op":"commit","changes":[{"put":"A","base":1,"text":"FUNCTION_BLOCK A FBS X:B; END_FBS END_FUNCTION_BLOCK"}]}
+< {"current":2,"refused":"StaleBase","unit":"A"}
+"#,
+    ),
+    Step::Lines(
+        2,
+        r#"
+> {"op":"ask","kind":"faults","unit":"A"}
+< {"faults":[]}
+"#,
+    ),
+    Step::Value("A"),
+    Step::Answer(6, 1),
+    Step::NoRecord(0),
+    Step::NoRecord(7),
+];
+
+// No call is recorded past the limit.
+const FULL: &[Step<'static>] = &[
+    Step::Lines(
+        2,
+        r#"
+> {"op":"ask","kind":"faults","unit":"A"}
+< {"refused":"NoSuchKey"}
+> {"op":"ask","kind":"faults","unit":"A"}
+< {"refused":"NoSuchKey"}
+> {"op":"ask","kind":"faults","unit":"A"}
+< {"refused":"NoSuchKey"}
+"#,
+    ),
+    Step::Lines(
+        1,
+        r#"
+> {"op":"ask","kind":"faults","unit":"A"}
+< {"refused":"HistoryFull"}
+> {"op":"take"}
+< {"refused":"HistoryFull"}
+"#,
+    ),
+    Step::Records(3),
+];
+
+// A unit too many is refused.
+const CROWDED: &[Step<'static>] = &[
+    Step::Lines(
+        1,
+        r#"
+> {"op":"commit","changes":[{"put":"A","base":0,"text":"FUNCTION_BLOCK A END_FUNCTION_BLOCK"}]}
+< {"commit":1}
+> {"op":"commit","changes":[{"put":"B","base":0,"text":"FUNCTION_BLOCK A END_FUNCTION_BLOCK"}]}
+< {"refused":"TooManyUnits"}
+> {"op":"commit","changes":[{"put":"B","base":0,"text":"FUNCTION_BLOCK A END_FUNCTION_BLOCK"},{"remove":"A","base":1}]}
+< {"commit":2}
+"#,
+    ),
+    Step::Revision("A", 0),
+    Step::Revision("B", 2),
+];
+
+// A key that is given back is taken again.
+const GIVEN_BACK: &[Step<'static>] = &[
+    Step::Lines(
+        1,
+        r#"
+> {"op":"commit","changes":[{"put":"A","base":0,"text":"FUNCTION_BLOCK A END_FUNCTION_BLOCK"}]}
+< {"commit":1}
+> {"op":"take"}
+< {"job":1,"kind":"faults","unit":"A"}
+"#,
+    ),
+    Step::Lines(
+        2,
+        r#"
+> {"op":"take"}
+< {"job":0}
+"#,
+    ),
+    Step::Out("A"),
+    Step::Lines(
+        2,
+        r#"
+> {"op":"ask","kind":"faults","unit":"A"}
+< {"answer":"pending"}
+"#,
+    ),
+    Step::Pending("A"),
+    Step::Lines(
+        2,
+        r#"
+> {"op":"give_back","kind":"faults","unit":"A"}
+< {"returned":true}
+"#,
+    ),
+    Step::Lines(
+        1,
+        r#"
+> {"op":"take"}
+< {"job":1,"kind":"faults","unit":"A"}
+> {"op":"deliver","job":1}
+< {"delivered":"accepted"}
+> {"op":"deliver","job":1}
+< {"refused":"NotPending"}
+"#,
+    ),
+    Step::Lines(
+        2,
+        r#"
+> {"op":"give_back","kind":"faults","unit":"A"}
+< {"returned":false}
+"#,
+    ),
+];
+
+// A type is added, changed and removed while jobs run for it and for a unit that uses it.
+const MEANWHILE: &[Step<'static>] = &[
+    Step::Lines(
+        1,
+        r#"
+> {"op":"commit","changes":[{"put":"A","base":0,"text":"FUNCTION_BLOCK A FBS X:B; END_FBS END_FUNCTION_BLOCK"}]}
+< {"commit":1}
+> {"op":"take"}
+< {"job":1,"kind":"faults","unit":"A"}
+> {"op":"commit","changes":[{"put":"B","base":0,"text":"FUNCTION_BLOCK A END_FUNCTION_BLOCK"}]}
+< {"commit":2}
+> {"op":"deliver","job":1}
+< {"refused":"Stale","unit":"B"}
+> {"op":"take"}
+< {"job":2,"kind":"faults","unit":"A"}
+> {"op":"take"}
+< {"job":3,"kind":"faults","unit":"B"}
+> {"op":"deliver","job":3}
+< {"delivered":"accepted"}
+> {"op":"deliver","job":2}
+< {"delivered":"accepted"}
+> {"op":"deliver","job":2}
+< {"refused":"NotPending"}
+"#,
+    ),
+    Step::Lines(
+        2,
+        r#"
+> {"op":"ask","kind":"faults","unit":"A"}
+< {"faults":[]}
+> {"op":"ask","kind":"faults","unit":"B"}
+< {"faults":[["NAME_DIFFERS",15,16]]}
+"#,
+    ),
+    Step::Value("A"),
+    Step::Value("B"),
+    Step::Lines(
+        1,
+        r#"
+> {"op":"commit","changes":[{"put":"B","base":2,"text":"FUNCTION_BLOCK A END_FUNCTION_BLOCK"}]}
+< {"commit":3}
+"#,
+    ),
+    Step::Lines(
+        2,
+        r#"
+> {"op":"ask","kind":"faults","unit":"A"}
+< {"answer":"pending"}
+"#,
+    ),
+    Step::Pending("A"),
+    Step::Lines(
+        1,
+        r#"
+> {"op":"take"}
+< {"job":1,"kind":"faults","unit":"A"}
+> {"op":"take"}
+< {"job":2,"kind":"faults","unit":"B"}
+> {"op":"commit","changes":[{"remove":"B","base":3}]}
+< {"commit":4}
+> {"op":"deliver","job":1}
+< {"refused":"Stale","unit":"B"}
+> {"op":"deliver","job":2}
+< {"refused":"NoSuchKey"}
+> {"op":"take"}
+< {"job":3,"kind":"faults","unit":"A"}
+> {"op":"deliver","job":3}
+< {"delivered":"accepted"}
+"#,
+    ),
+    Step::Lines(
+        2,
+        r#"
+> {"op":"ask","kind":"faults","unit":"A"}
+< {"faults":[["UNKNOWN_TYPE",23,24]]}
+"#,
+    ),
+    Step::Value("A"),
+    Step::Lines(
+        2,
+        r#"
+> {"op":"ask","kind":"faults","unit":"B"}
+< {"refused":"NoSuchKey"}
+> {"op":"take"}
+< {"job":0}
+"#,
+    ),
+];
+
+// A text that is put again is another revision.
+const PUT_AGAIN: &[Step<'static>] = &[
+    Step::Lines(
+        1,
+        r#"
+> {"op":"commit","changes":[{"put":"A","base":0,"text":"FUNCTION_BLOCK A END_FUNCTION_BLOCK"}]}
+< {"commit":1}
+> {"op":"take"}
+< {"job":1,"kind":"faults","unit":"A"}
+> {"op":"commit","changes":[{"put":"A","base":1,"text":"FUNCTION_BLOCK A FBS X:B; END_FBS END_FUNCTION_BLOCK"}]}
+< {"commit":2}
+> {"op":"commit","changes":[{"put":"A","base":2,"text":"FUNCTION_BLOCK A END_FUNCTION_BLOCK"}]}
+< {"commit":3}
+> {"op":"deliver","job":1}
+< {"refused":"Stale","unit":"A"}
+"#,
+    ),
+    Step::Lines(
+        2,
+        r#"
+> {"op":"ask","kind":"faults","unit":"A"}
+< {"answer":"pending"}
+"#,
+    ),
+    Step::Pending("A"),
+];
+
+// Refused commits are recorded.
+const REFUSED: &[Step<'static>] = &[
+    Step::Lines(
+        1,
+        r#"
+> {"op":"commit","changes":[]}
+< {"refused":"NoChange"}
+> {"op":"commit","changes":[{"remove":"A","base":1}]}
+< {"refused":"NoSuchUnit","unit":"A"}
+> {"op":"commit","changes":[{"remove":"A","base":1},{"put":"A","base":0,"text":"FUNCTION_BLOCK A END_FUNCTION_BLOCK"}]}
+< {"refused":"SameUnitTwice","unit":"A"}
+> {"op":"commit","changes":[{"put":"A","base":0,"text":"FUNCTION_BLOCK A END_FUNCTION_BLOCK"},{"put":"A","base":0,"text":"FUNCTION_BLOCK A END_FUNCTION_BLOCK"},{"put":"A","base":0,"text":"FUNCTION_BLOCK A END_FUNCTION_BLOCK"},{"put":"A","base":0,"text":"FUNCTION_BLOCK A END_FUNCTION_BLOCK"},{"put":"A","base":0,"text":"FUNCTION_BLOCK A END_FUNCTION_BLOCK"},{"put":"A","base":0,"text":"FUNCTION_BLOCK A END_FUNCTION_BLOCK"},{"put":"A","base":0,"text":"FUNCTION_BLOCK A END_FUNCTION_BLOCK"},{"put":"A","base":0,"text":"FUNCTION_BLOCK A END_FUNCTION_BLOCK"},{"put":"A","base":0,"text":"FUNCTION_BLOCK A END_FUNCTION_BLOCK"},{"put":"A","base":0,"text":"FUNCTION_BLOCK A END_FUNCTION_BLOCK"},{"put":"A","base":0,"text":"FUNCTION_BLOCK A END_FUNCTION_BLOCK"},{"put":"A","base":0,"text":"FUNCTION_BLOCK A END_FUNCTION_BLOCK"},{"put":"A","base":0,"text":"FUNCTION_BLOCK A END_FUNCTION_BLOCK"},{"put":"A","base":0,"text":"FUNCTION_BLOCK A END_FUNCTION_BLOCK"},{"put":"A","base":0,"text":"FUNCTION_BLOCK A END_FUNCTION_BLOCK"},{"put":"A","base":0,"text":"FUNCTION_BLOCK A END_FUNCTION_BLOCK"},{"put":"A","base":0,"text":"FUNCTION_BLOCK A END_FUNCTION_BLOCK"}]}
+< {"refused":"TooManyChanges"}
+"#,
+    ),
+    Step::Records(4),
+];
+
+// With the most units and the most records.
+const TALKS: &[(&str, u64, u64, &[Step<'static>])] = &[
+    ("old base", 4, 100, OLD_BASE),
+    ("full", 1, 3, FULL),
+    ("crowded", 1, 100, CROWDED),
+    ("given back", 4, 100, GIVEN_BACK),
+    ("meanwhile", 4, 100, MEANWHILE),
+    ("put again", 4, 100, PUT_AGAIN),
+    ("refused", 4, 100, REFUSED),
+];
+
+#[test]
+fn talks(rt: HostRuntime) -> Result<(), Fail> {
+    for (about, units, history, steps) in TALKS {
+        let mut bench = new_bench(rt.alloc(), *units, *history)?;
+        let wrong = first_wrong_step(rt.alloc(), &mut bench, steps)?;
+        assert_eq!(rt; wrong, None, "{about}");
+    }
+    Ok(())
+}
+
+#[test]
+fn limits_have_ranges() {
+    prove!(Limits::new(0, 1).is_none());
+    prove!(Limits::new(1, 1_000_001).is_none());
+}

@@ -1,0 +1,18 @@
+//! Tests of the machine's and the lines' public calls: conversations of request lines and replies, streams that
+//! fail, what a workbench shows after its calls, and jobs with what they read.
+#![tactic(auto)]
+
+#[cfg(test)]
+mod calls;
+#[cfg(test)]
+mod jobs;
+#[cfg(test)]
+mod nets;
+#[cfg(test)]
+mod refusals;
+#[cfg(test)]
+mod streams;
+#[cfg(test)]
+mod talk;
+#[cfg(test)]
+mod units;

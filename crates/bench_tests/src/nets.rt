@@ -1,0 +1,219 @@
+//! Flat networks of subapplications and systems.
+use crate::talk::talk_alone;
+use std::alloc::{AllocError, Global};
+use std::test::Fail;
+
+// A subapplication that rests on two types that hold each other.
+const RECURSIVE: &str = r#"
+> {"op":"commit","changes":[{"put":"A","base":0,"text":"FUNCTION_BLOCK A FBS X:B; END_FBS END_FUNCTION_BLOCK"},{"put":"B","base":0,"text":"FUNCTION_BLOCK B FBS Y:A; END_FBS END_FUNCTION_BLOCK"},{"put":"S","base":0,"text":"SUBAPPLICATION S FBS Z:A; END_FBS END_SUBAPPLICATION"}]}
+< {"commit":1}
+> {"op":"ask","kind":"net","unit":"S"}
+< {"answer":"pending"}
+> {"op":"ask","kind":"net","unit":"A"}
+< {"refused":"NoSuchKey"}
+> {"op":"work","turns":9}
+< {"accepted":4}
+> {"op":"ask","kind":"faults","unit":"A"}
+< {"faults":[]}
+> {"op":"ask","kind":"net","unit":"S"}
+< {"net":{"recursive":["A","B"]}}
+"#;
+
+// An event through two borders to two blocks; and then a type that all of it rests on is taken away and comes back.
+const NESTED: &str = r#"
+> {"op":"commit","changes":[{"put":"T","base":0,"text":"FUNCTION_BLOCK T EVENT_INPUT I; END_EVENT EVENT_OUTPUT O; END_EVENT END_FUNCTION_BLOCK"},{"put":"INNER","base":0,"text":"SUBAPPLICATION INNER EVENT_INPUT E; END_EVENT FBS F1:T; F2:T; END_FBS EVENT_CONNECTIONS E TO F1.I; E TO F2.I; END_CONNECTIONS END_SUBAPPLICATION"},{"put":"MID","base":0,"text":"SUBAPPLICATION MID EVENT_INPUT E; END_EVENT SUBAPPS K:INNER; END_SUBAPPS EVENT_CONNECTIONS E TO K.E; END_CONNECTIONS END_SUBAPPLICATION"},{"put":"OUTER","base":0,"text":"SUBAPPLICATION OUTER FBS G:T; END_FBS SUBAPPS N:MID; END_SUBAPPS EVENT_CONNECTIONS G.O TO N.E; END_CONNECTIONS END_SUBAPPLICATION"}]}
+< {"commit":1}
+> {"op":"work","turns":9}
+< {"accepted":7}
+> {"op":"ask","kind":"net","unit":"OUTER"}
+< {"net":{"blocks":[["G","T"],["N.K.F1","T"],["N.K.F2","T"]],"borders":[],"links":[["event","G.O","N.K.F1.I"],["event","G.O","N.K.F2.I"]]}}
+> {"op":"ask","kind":"net","unit":"INNER"}
+< {"net":{"blocks":[["F1","T"],["F2","T"]],"borders":[["event","E","F1.I"],["event","E","F2.I"]],"links":[]}}
+// T decides the nets of all that rest on it, though OUTER alone mentions it beside INNER.
+> {"op":"commit","changes":[{"remove":"T","base":1}]}
+< {"commit":2}
+> {"op":"ask","kind":"net","unit":"MID"}
+< {"answer":"pending"}
+> {"op":"ask","kind":"faults","unit":"MID"}
+< {"faults":[]}
+> {"op":"work","turns":9}
+< {"accepted":5}
+> {"op":"ask","kind":"net","unit":"MID"}
+< {"net":{"blocked":["INNER","T"]}}
+// MID is no longer a subapplication: its net is gone, and OUTER's waits.
+> {"op":"commit","changes":[{"put":"MID","base":1,"text":"FUNCTION_BLOCK MID EVENT_INPUT E; END_EVENT END_FUNCTION_BLOCK"}]}
+< {"commit":3}
+> {"op":"ask","kind":"net","unit":"MID"}
+< {"refused":"NoSuchKey"}
+> {"op":"ask","kind":"net","unit":"INNER"}
+< {"net":{"blocked":["INNER","T"]}}
+> {"op":"work","turns":9}
+< {"accepted":3}
+> {"op":"ask","kind":"net","unit":"OUTER"}
+< {"net":{"blocked":["OUTER","T"]}}
+"#;
+
+// A plug and a socket, one of them inside a subapplication.
+const ADAPTERS: &str = r#"
+> {"op":"commit","changes":[{"put":"AD","base":0,"text":"ADAPTER AD EVENT_INPUT CF; END_EVENT EVENT_OUTPUT RQ; END_EVENT VAR_OUTPUT V:INT; END_VAR END_ADAPTER"},{"put":"PP","base":0,"text":"FUNCTION_BLOCK PP PLUGS P:AD; END_PLUGS END_FUNCTION_BLOCK"},{"put":"QQ","base":0,"text":"FUNCTION_BLOCK QQ SOCKETS Q:AD; END_SOCKETS END_FUNCTION_BLOCK"},{"put":"SB","base":0,"text":"SUBAPPLICATION SB SOCKETS K:AD; END_SOCKETS FBS R:QQ; END_FBS ADAPTER_CONNECTIONS K TO R.Q; END_CONNECTIONS END_SUBAPPLICATION"},{"put":"TP","base":0,"text":"SUBAPPLICATION TP FBS L:PP; END_FBS SUBAPPS M:SB; END_SUBAPPS ADAPTER_CONNECTIONS L.P TO M.K; END_CONNECTIONS END_SUBAPPLICATION"}]}
+< {"commit":1}
+> {"op":"work","turns":9}
+< {"accepted":7}
+> {"op":"ask","kind":"net","unit":"TP"}
+< {"net":{"blocks":[["L","PP"],["M.R","QQ"]],"borders":[],"links":[["event","L.P.RQ","M.R.Q.RQ"],["event","M.R.Q.CF","L.P.CF"],["data","L.P.V","M.R.Q.V"]]}}
+> {"op":"ask","kind":"net","unit":"SB"}
+< {"net":{"blocks":[["R","QQ"]],"borders":[["adapter","K","R.Q"]],"links":[]}}
+> {"op":"ask","kind":"deploy","unit":"SB"}
+< {"refused":"NoSuchKey"}
+"#;
+
+// A system with one application. Its own change reaches its own net alone.
+const SYSTEM: &str = r#"
+> {"op":"commit","changes":[{"put":"TN","base":0,"text":"FUNCTION_BLOCK TN EVENT_INPUT I; END_EVENT EVENT_OUTPUT O; END_EVENT VAR_INPUT DT:TIME; END_VAR END_FUNCTION_BLOCK"},{"put":"SA","base":0,"text":"SUBAPPLICATION SA FBS F:TN; G:TN(DT:=T#250ms); H:TN; END_FBS EVENT_CONNECTIONS F.O TO G.I; G.O TO H.I; END_CONNECTIONS END_SUBAPPLICATION"},{"put":"Y","base":0,"text":"SYSTEM Y APPLICATION APP SUBAPPS SUB:SA; END_SUBAPPS END_APPLICATION DEVICE D:DT RESOURCE R1:RT END_RESOURCE RESOURCE R2:RT END_RESOURCE END_DEVICE MAPPINGS APP.SUB ON D.R1; APP.SUB.F ON D.R2; END_MAPPINGS END_SYSTEM"}]}
+< {"commit":1}
+> {"op":"work","turns":9}
+< {"accepted":5}
+> {"op":"ask","kind":"net","unit":"Y"}
+< {"net":{"blocks":[["APP.SUB.F","TN"],["APP.SUB.G","TN"],["APP.SUB.H","TN"]],"borders":[],"links":[["event","APP.SUB.F.O","APP.SUB.G.I"],["event","APP.SUB.G.O","APP.SUB.H.I"]]}}
+> {"op":"commit","changes":[{"put":"Y","base":1,"text":"SYSTEM Y APPLICATION APP SUBAPPS SUB:SA; END_SUBAPPS END_APPLICATION DEVICE D:DT RESOURCE R1:RT END_RESOURCE RESOURCE R2:RT END_RESOURCE END_DEVICE MAPPINGS APP.Z ON D.R1; APP.SUB.F ON D.R2; END_MAPPINGS END_SYSTEM"}]}
+< {"commit":2}
+> {"op":"ask","kind":"net","unit":"SA"}
+< {"net":{"blocks":[["F","TN"],["G","TN"],["H","TN"]],"borders":[],"links":[["event","F.O","G.I"],["event","G.O","H.I"]]}}
+> {"op":"ask","kind":"net","unit":"Y"}
+< {"answer":"pending"}
+> {"op":"work","turns":9}
+< {"accepted":2}
+> {"op":"take"}
+< {"job":0}
+"#;
+
+// A result for a net is late where a type that the unit rests on has changed, though the unit does not mention it.
+const LATE: &str = r#"
+> {"op":"commit","changes":[{"put":"T","base":0,"text":"FUNCTION_BLOCK T END_FUNCTION_BLOCK"},{"put":"P","base":0,"text":"SUBAPPLICATION P FBS X:T; END_FBS END_SUBAPPLICATION"},{"put":"Q","base":0,"text":"SUBAPPLICATION Q SUBAPPS Y:P; END_SUBAPPS END_SUBAPPLICATION"}]}
+< {"commit":1}
+> {"op":"work","turns":4}
+< {"accepted":4}
+> {"op":"take"}
+< {"job":1,"kind":"net","unit":"Q"}
+> {"op":"commit","changes":[{"put":"T","base":1,"text":"FUNCTION_BLOCK T EVENT_INPUT I; END_EVENT END_FUNCTION_BLOCK"}]}
+< {"commit":2}
+> {"op":"deliver","job":1}
+< {"refused":"Stale","unit":"T"}
+> {"op":"ask","kind":"net","unit":"Q"}
+< {"answer":"pending"}
+> {"op":"work","turns":9}
+< {"accepted":4}
+> {"op":"ask","kind":"net","unit":"Q"}
+< {"net":{"blocks":[["Y.X","T"]],"borders":[],"links":[]}}
+"#;
+
+const TALKS: &[(&str, &str)] = &[
+    ("recursive types", RECURSIVE),
+    ("events through borders", NESTED),
+    ("adapters through a subapplication", ADAPTERS),
+    ("a system", SYSTEM),
+    ("a late net", LATE),
+];
+
+#[test]
+fn talks(rt: HostRuntime) -> Result<(), Fail> {
+    for (about, text) in TALKS {
+        assert_eq!(rt; talk_alone(rt.alloc(), text)?, None, "{about}");
+    }
+    Ok(())
+}
+
+// A type, and a subapplication that holds it so many times.
+fn holding(alloc: Global, instances: u32) -> Result<String, AllocError> {
+    let mut line = String::from_str(
+        alloc,
+        r#"> {"op":"commit","changes":[{"put":"T","base":0,"text":"FUNCTION_BLOCK T END_FUNCTION_BLOCK"},{"put":"S","base":0,"text":"SUBAPPLICATION S FBS "#,
+    )?;
+    for i in 0..instances {
+        line.push_str(format!(in alloc; "B{i}:T; ")?.as_str())?;
+    }
+    line.push_str(r#"END_FBS END_SUBAPPLICATION"}]}"#)?;
+    Ok(line)
+}
+
+// The flat network of so many blocks.
+fn flat_of(alloc: Global, blocks: u32) -> Result<String, AllocError> {
+    let mut reply = String::from_str(alloc, r#"< {"net":{"blocks":["#)?;
+    let mut comma = "";
+    for i in 0..blocks {
+        reply.push_str(format!(in alloc; r#"{comma}["B{i}","T"]"#)?.as_str())?;
+        comma = ",";
+    }
+    reply.push_str(r#"],"borders":[],"links":[]}}"#)?;
+    Ok(reply)
+}
+
+// As many blocks as a network may have, and one more.
+#[test]
+fn many_instances(rt: HostRuntime) -> Result<(), Fail> {
+    let alloc = rt.alloc();
+    let flat = flat_of(alloc, 4096)?;
+    for (instances, reply) in [(4096, flat.as_str()), (4097, r#"< {"net":"too_large"}"#)] {
+        let mut text = holding(alloc, instances)?;
+        text.push_str(
+            r#"
+< {"commit":1}
+> {"op":"work","turns":9}
+< {"accepted":3}
+> {"op":"ask","kind":"net","unit":"S"}
+"#,
+        )?;
+        text.push_str(reply)?;
+        assert_eq!(rt; talk_alone(alloc, text.as_str())?, None, "{instances}");
+    }
+    Ok(())
+}
+
+// A commit of subapplications from one number to before another, each of which holds the next one twice.
+fn doubling(alloc: Global, from: u32, to: u32) -> Result<String, AllocError> {
+    let mut line = String::from_str(alloc, r#"> {"op":"commit","changes":["#)?;
+    let mut comma = "";
+    for i in from..to {
+        let next = i + 1;
+        line.push_str(format!(in alloc;
+            r#"{comma}{{"put":"S{i}","base":0,"text":"SUBAPPLICATION S{i} SUBAPPS X:S{next}; Y:S{next}; END_SUBAPPS END_SUBAPPLICATION"}}"#
+        )?.as_str())?;
+        comma = ",";
+    }
+    line.push_str("]}\n")?;
+    Ok(line)
+}
+
+// Forty subapplications in a chain.
+#[test]
+fn a_chain_that_doubles(rt: HostRuntime) -> Result<(), Fail> {
+    let alloc = rt.alloc();
+    let mut text = String::from_str(
+        alloc,
+        r#"
+> {"op":"commit","changes":[{"put":"S39","base":0,"text":"SUBAPPLICATION S39 END_SUBAPPLICATION"}]}
+< {"commit":1}
+"#,
+    )?;
+    for (from, to, reply) in [
+        (0, 14, r#"< {"commit":2}"#),
+        (14, 28, r#"< {"commit":3}"#),
+        (28, 39, r#"< {"commit":4}"#),
+    ] {
+        text.push_str(doubling(alloc, from, to)?.as_str())?;
+        text.push_str(reply)?;
+        text.push_str("\n")?;
+    }
+    text.push_str(
+        r#"
+> {"op":"work","turns":1000}
+< {"accepted":80}
+> {"op":"ask","kind":"net","unit":"S0"}
+< {"net":"too_large"}
+> {"op":"ask","kind":"net","unit":"S38"}
+< {"net":{"blocks":[],"borders":[],"links":[]}}
+"#,
+    )?;
+    assert_eq!(rt; talk_alone(alloc, text.as_str())?, None);
+    Ok(())
+}

@@ -1,0 +1,189 @@
+//! Runs over streams that come to their end, stop or fail.
+use crate::talk::{
+    ALWAYS, GOOD, Run, Streams, new_bench, replies_in, replies_within, requests_in, run_over,
+};
+use fb_wire::{Feed, FromRead, IntoWrite, RunEnd, Sink, run_script};
+use std::alloc::Global;
+use std::test::Fail;
+
+const TAKE: &[u8] = b"{\"op\":\"take\"}\n";
+
+const NO_JOB: &[u8] = b"{\"job\":0}\n";
+
+// A result that comes late, on streams of which a read or a write fails.
+const LATE: &str = r#"
+> {"op":"commit","changes":[{"put":"C","base":0,"text":"FUNCTION_BLOCK C FBS S:E_SPLIT; END_FBS END_FUNCTION_BLOCK"},{"put":"E_SPLIT","base":0,"text":"FUNCTION_BLOCK E_SPLIT EVENT_INPUT EI; END_EVENT EVENT_OUTPUT EO1; EO2; END_EVENT END_FUNCTION_BLOCK"}]}
+< {"commit":1}
+> {"op":"take"}
+< {"job":1,"kind":"faults","unit":"C"}
+> {"op":"commit","changes":[{"put":"E_SPLIT","base":1,"text":"FUNCTION_BLOCK E_SPLIT EVENT_INPUT EI; END_EVENT EVENT_OUTPUT EO1; EO2; END_EVENT END_FUNCTION_BLOCK"}]}
+< {"commit":2}
+> {"op":"deliver","job":1}
+< {"refused":"Stale","unit":"E_SPLIT"}
+> {"op":"ask","kind":"faults","unit":"C"}
+< {"answer":"pending"}
+> {"op":"work","turns":9}
+< {"accepted":2}
+"#;
+
+// A run over these bytes on a new workbench.
+fn run_alone(alloc: Global, input: &[u8], streams: Streams) -> Result<Run, Fail> {
+    let mut bench = new_bench(alloc, 10, 1000)?;
+    Ok(run_over(alloc, &mut bench, 1, input, streams)?)
+}
+
+// A run whose reads of 50 bytes are good so many times answers the lines that have come whole.
+#[test]
+fn failing_reads(rt: HostRuntime) -> Result<(), Fail> {
+    let alloc = rt.alloc();
+    let requests = requests_in(alloc, LATE)?;
+    for good in 0..12u8 {
+        let streams = Streams {
+            read: (50, u64::from(good)),
+            write: (50, ALWAYS),
+            turns: 1_000_000,
+        };
+        let run = run_alone(alloc, requests.as_bytes(), streams)?;
+        assert_eq!(rt; run.end, RunEnd::ReadFailed);
+        let replies = replies_within(alloc, LATE, 50 * usize::from(good))?;
+        assert!(rt; run.output.as_slice() == replies.as_bytes(), "at {good}");
+    }
+    Ok(())
+}
+
+// A run whose writes of 10 bytes are good so many times writes a front of the replies.
+#[test]
+fn failing_writes(rt: HostRuntime) -> Result<(), Fail> {
+    let alloc = rt.alloc();
+    let requests = requests_in(alloc, LATE)?;
+    let replies = replies_in(alloc, LATE)?;
+    for good in 0..14u8 {
+        let streams = Streams {
+            read: (10, ALWAYS),
+            write: (10, u64::from(good)),
+            turns: 1_000_000,
+        };
+        let run = run_alone(alloc, requests.as_bytes(), streams)?;
+        assert_eq!(rt; run.end, RunEnd::WriteFailed);
+        assert!(rt; run.output.len() <= 10 * usize::from(good), "at {good}");
+        assert!(rt; replies.as_bytes().starts_with(&run.output), "at {good}");
+    }
+    Ok(())
+}
+
+// A stream's bytes a call and its good calls.
+type Pace = (usize, u64);
+
+// One byte a read, and three a write.
+const SLOW: Pace = (1, ALWAYS);
+
+const WIDE: Pace = (100, ALWAYS);
+
+// The input, its reads, the writes, and the turns; then the end and what is written.
+const RUNS: &[(&[u8], Pace, Pace, u64, RunEnd, &[u8])] = &[
+    (TAKE, SLOW, (3, ALWAYS), 13, RunEnd::TurnsOver, b""),
+    (TAKE, SLOW, (3, ALWAYS), 14, RunEnd::TurnsOver, NO_JOB),
+    (TAKE, SLOW, (3, ALWAYS), 15, RunEnd::End, NO_JOB),
+    (
+        b"{\"op\":\"take\"}",
+        SLOW,
+        (3, ALWAYS),
+        14,
+        RunEnd::End,
+        NO_JOB,
+    ),
+    (b"", SLOW, (3, ALWAYS), 1, RunEnd::End, b""),
+    // The fourth read of five bytes fails.
+    (TAKE, (5, 3), WIDE, 100, RunEnd::ReadFailed, NO_JOB),
+    // The second write of six bytes fails.
+    (
+        TAKE,
+        (5, ALWAYS),
+        (6, 1),
+        100,
+        RunEnd::WriteFailed,
+        b"{\"job\"",
+    ),
+    // All in one read, and then the next read, the first write or the turns are at fault.
+    (TAKE, (8192, 1), WIDE, 1000, RunEnd::ReadFailed, NO_JOB),
+    (
+        TAKE,
+        (8192, ALWAYS),
+        (8192, 0),
+        1000,
+        RunEnd::WriteFailed,
+        b"",
+    ),
+    (TAKE, (8192, ALWAYS), WIDE, 1, RunEnd::TurnsOver, NO_JOB),
+    // The input ends in a line, and a line is no text.
+    (
+        b"{\"op\":\"take\"}\n{\"op\":\"ta",
+        WIDE,
+        WIDE,
+        1000,
+        RunEnd::End,
+        b"{\"job\":0}\n{\"refused\":\"BadRequest\"}\n",
+    ),
+    (b"{\"op\":\"take\"}", WIDE, WIDE, 1000, RunEnd::End, NO_JOB),
+    (
+        b"\xff\n",
+        WIDE,
+        WIDE,
+        1000,
+        RunEnd::End,
+        b"{\"refused\":\"BadRequest\"}\n",
+    ),
+    (b"", WIDE, WIDE, 1000, RunEnd::End, b""),
+    // A line of blanks is passed over.
+    (b"  \n", WIDE, WIDE, 1000, RunEnd::End, b""),
+    (b" \t\r\n", WIDE, WIDE, 1000, RunEnd::End, b""),
+];
+
+#[test]
+fn runs(rt: HostRuntime) -> Result<(), Fail> {
+    for (input, read, write, turns, end, output) in RUNS {
+        let streams = Streams {
+            read: *read,
+            write: *write,
+            turns: *turns,
+        };
+        let run = run_alone(rt.alloc(), input, streams)?;
+        assert_eq!(rt; run.end, *end);
+        assert!(rt; run.output.as_slice() == *output);
+        assert!(rt; run.read_failed == (*end == RunEnd::ReadFailed));
+        assert!(rt; run.write_failed == (*end == RunEnd::WriteFailed));
+    }
+    Ok(())
+}
+
+// Spaces as long as a line may be are passed over, and a byte more is too long.
+#[test]
+fn long_lines(rt: HostRuntime) -> Result<(), Fail> {
+    let alloc = rt.alloc();
+    let spaces = vec![in alloc; b' '; 1_048_576]?;
+    let run = run_alone(alloc, &spaces, GOOD)?;
+    assert_eq!(rt; run.end, RunEnd::End);
+    assert!(rt; run.output.is_empty());
+    let mut long = TAKE.to_vec(alloc)?;
+    long.extend_from_slice(&spaces)?;
+    long.push(b' ')?;
+    let run = run_alone(alloc, &long, GOOD)?;
+    assert_eq!(rt; run.end, RunEnd::LineTooLong);
+    assert!(rt; run.output.as_slice() == NO_JOB);
+    Ok(())
+}
+
+// Std's readers and writers.
+#[test]
+fn streams_of_std(rt: HostRuntime) -> Result<(), Fail> {
+    let alloc = rt.alloc();
+    let mut bench = new_bench(alloc, 10, 1000)?;
+    let mut output = Vec::new(alloc);
+    let mut feed = FromRead::new(TAKE);
+    let mut sink = IntoWrite::new(&mut output);
+    let end = run_script(alloc, &mut feed, &mut sink, &mut bench, 1, 2);
+    assert_eq!(rt; end, RunEnd::End);
+    assert!(rt; !feed.failed() && !sink.failed());
+    assert!(rt; output.as_slice() == NO_JOB);
+    Ok(())
+}

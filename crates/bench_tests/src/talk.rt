@@ -1,0 +1,145 @@
+//! Conversations with a workbench, and whether its replies are those wanted.
+ghost use Rattle.std.specs.Prelude.{◌<◌};
+
+use fb_wire::bench::{Bench, Limits};
+use fb_wire::{Feed, MemoryFeed, MemorySink, RunEnd, Sink, run_script};
+use std::alloc::{AllocError, Global};
+use std::test::Fail;
+
+/// A number that nothing reaches.
+pub(crate) const ALWAYS: u64 = u64::MAX;
+
+/// How bytes come and go: how many a read or a write moves and how many of them are good; and how many turns there are.
+#[derive(Clone, Copy)]
+pub(crate) struct Streams {
+    pub(crate) read: (usize, u64),
+    pub(crate) write: (usize, u64),
+    pub(crate) turns: u64,
+}
+
+/// Streams that do not fail.
+pub(crate) const GOOD: Streams = Streams {
+    read: (100, ALWAYS),
+    write: (100, ALWAYS),
+    turns: 1_000_000,
+};
+
+/// How a run ended, what it wrote, and whether a read or a write has failed.
+#[derive(Drop)]
+pub(crate) struct Run {
+    pub(crate) end: RunEnd,
+    pub(crate) output: Vec<u8>,
+    pub(crate) read_failed: bool,
+    pub(crate) write_failed: bool,
+}
+
+pub(crate) fn new_bench(alloc: Global, units: u64, history: u64) -> Result<Bench, Fail> {
+    let limits = Limits::new(units, history).ok_or("limits")?;
+    Ok(Bench::new(alloc, limits))
+}
+
+/// A run of this caller over the streams.
+pub(crate) fn run_over(
+    alloc: Global,
+    bench: &mut Bench,
+    caller: u32,
+    input: &[u8],
+    streams: Streams,
+) -> Result<Run, AllocError> {
+    let (read, good_reads) = streams.read;
+    let (write, good_writes) = streams.write;
+    let mut feed = MemoryFeed::new(input, read.max(1), good_reads);
+    let mut sink = MemorySink::new(alloc, write.max(1), good_writes);
+    let end = run_script(alloc, &mut feed, &mut sink, bench, caller, streams.turns);
+    Ok(Run {
+        end,
+        output: sink.as_slice().to_vec(alloc)?,
+        read_failed: feed.failed(),
+        write_failed: sink.failed(),
+    })
+}
+
+/// The request lines of a conversation. It is a text in which `> ` comes before a request, `< ` before the reply to
+/// it and `// ` before a remark; other lines are empty.
+pub(crate) fn requests_in(alloc: Global, text: &str) -> Result<String, Fail> {
+    let mut requests = String::new(alloc);
+    for line in text.split('\n') {
+        if let Some(request) = line.strip_prefix("> ") {
+            requests.push_str(request)?;
+            requests.push_str("\n")?;
+        } else if !(line.is_empty() || line.starts_with("< ") || line.starts_with("// ")) {
+            return Err(Fail::from("a line of no kind"));
+        }
+    }
+    Ok(requests)
+}
+
+/// The replies of a conversation to the request lines that end within the first bytes of these.
+pub(crate) fn replies_within(
+    alloc: Global,
+    text: &str,
+    bytes: usize,
+) -> Result<String, AllocError> {
+    let mut replies = String::new(alloc);
+    let mut left = bytes;
+    for line in text.split('\n') {
+        if let Some(request) = line.strip_prefix("> ") {
+            if left <= request.len() {
+                return Ok(replies);
+            }
+            left -= request.len() + 1;
+        } else if let Some(reply) = line.strip_prefix("< ") {
+            replies.push_str(reply)?;
+            replies.push_str("\n")?;
+        }
+    }
+    Ok(replies)
+}
+
+/// All replies of a conversation.
+pub(crate) fn replies_in(alloc: Global, text: &str) -> Result<String, AllocError> {
+    replies_within(alloc, text, usize::MAX)
+}
+
+// How many lines at the front are the same in both texts, where these differ.
+fn alike(a: &str, b: &str) -> Option<usize> {
+    if a == b {
+        return None;
+    }
+    let place = a.split('\n').zip(b.split('\n')).position(|(a, b)| a != b);
+    Some(place.unwrap_or(0))
+}
+
+/// Has a caller say the requests of a conversation. Where the replies are not those that stand there, it gives how many at
+/// the front are.
+pub(crate) fn talk(
+    alloc: Global,
+    bench: &mut Bench,
+    caller: u32,
+    text: &str,
+) -> Result<Option<usize>, Fail> {
+    let requests = requests_in(alloc, text)?;
+    let run = run_over(alloc, bench, caller, requests.as_bytes(), GOOD)?;
+    if run.end != RunEnd::End {
+        return Err(Fail::from("the run did not come to its end"));
+    }
+    let said = String::from_utf8(run.output)?;
+    let wanted = replies_in(alloc, text)?;
+    Ok(alike(said.as_str(), wanted.as_str()))
+}
+
+/// The same with a new workbench of these limits.
+pub(crate) fn talk_within(
+    alloc: Global,
+    units: u64,
+    history: u64,
+    text: &str,
+) -> Result<Option<usize>, Fail> {
+    let mut bench = new_bench(alloc, units, history)?;
+    talk(alloc, &mut bench, 1, text)
+}
+
+/// The same with a new workbench of the program's own limits.
+pub(crate) fn talk_alone(alloc: Global, text: &str) -> Result<Option<usize>, Fail> {
+    talk_within(alloc, 1024, 100_000, text)
+}
