@@ -1,7 +1,7 @@
 //! What a workbench shows after the calls of its callers: its records, keys, revisions and what is known of a key.
 use crate::talk::{new_bench, talk};
-use fb_jobs::{Key, Kind};
 use fb_text::Name;
+use fb_wire::bench::jobs::{Key, Kind};
 use fb_wire::bench::{Asked, Bench, Call, Limits, Reply, Shown};
 use std::alloc::Global;
 use std::test::Fail;

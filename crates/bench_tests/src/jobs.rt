@@ -1,153 +1,56 @@
 //! Jobs with what they read, results that come from another workbench, and calls that are made as requests.
 use crate::talk::{new_bench, talk};
-use fb_jobs::flatten::Net;
-use fb_jobs::library::{Change, Library};
-use fb_jobs::parse::Source;
-use fb_jobs::{Finished, Job, Key, Kind, Read, Value, has_key};
 use fb_text::Name;
-use fb_wire::bench::{Answered, Bench, Committed, Delivered, Request, Shown, Taken};
-use std::alloc::{AllocError, Global};
+use fb_wire::bench::jobs::{Finished, Job, Key, Kind};
+use fb_wire::bench::library::Change;
+use fb_wire::bench::{Answered, Bench, Call, Delivered, Request, Shown, Taken};
+use std::alloc::Global;
 use std::test::Fail;
 
-fn changes_of(alloc: Global, unit: Name, text: &str) -> Result<Vec<Change>, Fail> {
-    let source = Source::read(alloc, unit, text)?;
-    let mut changes = Vec::new(alloc);
-    changes.push(Change::Put { base: 0, source })?;
-    Ok(changes)
-}
-
-fn library_of(alloc: Global, unit: Name, text: &str) -> Result<Library, Fail> {
-    let mut library = Library::new(alloc);
-    library.apply(1, &changes_of(alloc, unit, text)?)?;
-    Ok(library)
-}
-
-// Whether these are the names and revisions that were read, with a source for each revision but 0.
-fn are_reads(reads: &[Read], wanted: &[(&str, u64)]) -> Result<bool, Fail> {
-    if reads.len() != wanted.len() {
-        return Ok(false);
-    }
-    for place in 0..reads.len() {
-        let read = &reads[place];
-        let (name, revision) = wanted[place];
-        let is_there = read.source.is_some() == (revision > 0);
-        if read.name != Name::read(name)? || read.revision != revision || !is_there {
-            return Ok(false);
-        }
-    }
-    Ok(true)
-}
-
-fn are_names(names: &[Name], wanted: &[&str]) -> bool {
-    names.len() == wanted.len()
-        && names
-            .iter()
-            .zip(wanted.iter())
-            .all(|(a, b)| a.as_str() == *b)
-}
-
-// What a job is to find.
-#[derive(Clone, Copy)]
-enum Found<'a> {
-    /// One fault of this code.
-    Fault(&'a str),
-    Blocked(&'a [&'a str]),
-}
-
-fn is_found(alloc: Global, value: &Value, wanted: Found<'_>) -> Result<bool, AllocError> {
-    match (value, wanted) {
-        (Value::Faults(faults), Found::Fault(code)) if faults.len() == 1 => {
-            Ok(format!(in alloc; "{:?}", faults[0].code)?.as_str() == code)
-        }
-        (Value::Net(Net::Blocked(names)), Found::Blocked(wanted)) => Ok(are_names(names, wanted)),
-        _ => Ok(false),
-    }
-}
-
-// A unit alone in a library, its text, a kind of key, what a job for it reads and what it finds.
-const JOBS: &[(&str, &str, Kind, &[(&str, u64)], Found<'static>)] = &[
-    (
-        "A",
-        "FUNCTION_BLOCK A EVENT_INPUT",
-        Kind::Faults,
-        &[("A", 1)],
-        Found::Fault("Syntax"),
-    ),
-    (
-        "S",
-        "SUBAPPLICATION S FBS X:T; END_FBS END_SUBAPPLICATION",
-        Kind::Net,
-        &[("S", 1), ("T", 0)],
-        Found::Blocked(&["S", "T"]),
-    ),
-];
-
-#[test]
-fn jobs_of_one_text(rt: HostRuntime) -> Result<(), Fail> {
-    let alloc = rt.alloc();
-    for (unit, text, kind, reads, found) in JOBS {
-        let unit = Name::read(unit)?;
-        let key = Key { kind: *kind, unit };
-        let library = library_of(alloc, unit, text)?;
-        assert!(rt; has_key(&library, key));
-        let job = Job::make(alloc, &library, key)?;
-        let finished = job.run(alloc)?;
-        assert!(rt; finished.key() == key);
-        assert!(rt; are_reads(job.reads(), reads)?);
-        assert!(rt; are_reads(finished.reads(), reads)?);
-        assert!(rt; is_found(alloc, finished.value(), *found)?);
-    }
-    Ok(())
-}
-
-#[test]
-fn keys_go_by_kind_and_then_by_unit(rt: HostRuntime) -> Result<(), Fail> {
-    let [a, b] = [Name::read("A")?, Name::read("B")?];
-    let library = library_of(rt.alloc(), b, "")?;
-    let mut last = None;
-    for kind in [Kind::Faults, Kind::Net, Kind::Deploy] {
-        for unit in [a, b] {
-            let key = Key { kind, unit };
-            assert!(rt; last < Some(key));
-            last = Some(key);
-            let is_there = kind == Kind::Faults && unit == b;
-            assert!(rt; has_key(&library, key) == is_there);
-        }
-    }
-    Ok(())
-}
-
-const PLAIN: &str = "FUNCTION_BLOCK A END_FUNCTION_BLOCK";
+const PLAIN: &str = r#"
+> {"op":"commit","changes":[{"put":"A","base":0,"text":"FUNCTION_BLOCK A END_FUNCTION_BLOCK"}]}
+< {"commit":1}
+"#;
 
 // Rests on B.
-const USER: &str = "FUNCTION_BLOCK A FBS X:B; END_FBS END_FUNCTION_BLOCK";
+const USER: &str = r#"
+> {"op":"commit","changes":[{"put":"A","base":0,"text":"FUNCTION_BLOCK A FBS X:B; END_FBS END_FUNCTION_BLOCK"}]}
+< {"commit":1}
+"#;
+
+const EMPTY: &str = r#"
+> {"op":"commit","changes":[{"put":"B","base":0,"text":""}]}
+< {"commit":1}
+"#;
+
+fn key_of(kind: Kind, unit: &str) -> Result<Key, Fail> {
+    let unit = Name::read(unit)?;
+    Ok(Key { kind, unit })
+}
 
 fn faults_of_a() -> Result<Key, Fail> {
-    let unit = Name::read("A")?;
-    Ok(Key {
-        kind: Kind::Faults,
-        unit,
-    })
+    key_of(Kind::Faults, "A")
 }
 
-// A new workbench with A, which has this text.
-fn bench_with(alloc: Global, text: &str) -> Result<Bench, Fail> {
+// A new workbench after a conversation.
+fn bench_after(alloc: Global, text: &str) -> Result<Bench, Fail> {
     let mut bench = new_bench(alloc, 4, 100)?;
-    let changes = changes_of(alloc, Name::read("A")?, text)?;
-    if bench.commit(1, &changes)? == Committed::Done(1) {
-        Ok(bench)
-    } else {
-        Err(Fail::from("no first commit"))
+    match talk(alloc, &mut bench, 1, text)? {
+        None => Ok(bench),
+        Some(_) => Err(Fail::from("another reply")),
     }
 }
 
-// The result of such a workbench for the faults of A.
-fn result_for(alloc: Global, text: &str) -> Result<Finished, Fail> {
-    let mut bench = bench_with(alloc, text)?;
-    match bench.take(1)? {
-        Taken::Job(job) if job.key() == faults_of_a()? => Ok(job.run(alloc)?),
-        _ => Err(Fail::from("another key, or nothing to take")),
+// The job for a key, which is the next one or the one after it.
+fn job_for(bench: &mut Bench, key: Key) -> Result<Job, Fail> {
+    for _ in 0..2u8 {
+        if let Taken::Job(job) = bench.take(1)? {
+            if job.key() == key {
+                return Ok(job);
+            }
+        }
     }
+    Err(Fail::from("no such job"))
 }
 
 fn has_value(bench: &Bench, key: Key) -> bool {
@@ -155,12 +58,120 @@ fn has_value(bench: &Bench, key: Key) -> bool {
     matches!(&shown, Shown::Value(_))
 }
 
+fn is_pending(bench: &Bench, key: Key) -> bool {
+    let shown = bench.peek(&key);
+    matches!(&shown, Shown::Pending)
+}
+
+fn is_no_key(bench: &Bench, key: Key) -> bool {
+    let shown = bench.peek(&key);
+    matches!(&shown, Shown::NoSuchKey)
+}
+
+// Whether a job and its result are for the key and have read these names at these revisions, with a source for each
+// revision but 0.
+fn have_read(
+    job: &Job,
+    finished: &Finished,
+    key: Key,
+    wanted: &[(&str, u64)],
+) -> Result<bool, Fail> {
+    for reads in [job.reads(), finished.reads()] {
+        if reads.len() != wanted.len() {
+            return Ok(false);
+        }
+        for place in 0..wanted.len() {
+            let (name, revision) = wanted[place];
+            let read = &reads[place];
+            let is_there = read.source.is_some() == (revision > 0);
+            if read.name != Name::read(name)? || read.revision != revision || !is_there {
+                return Ok(false);
+            }
+        }
+    }
+    Ok(job.key() == key && finished.key() == key)
+}
+
+// A commit, a key, what a job for it reads, and what is said of it then.
+const JOBS: &[(&str, Kind, &str, &[(&str, u64)], &str)] = &[
+    (
+        r#"
+> {"op":"commit","changes":[{"put":"A","base":0,"text":"FUNCTION_BLOCK A EVENT_INPUT"}]}
+< {"commit":1}
+"#,
+        Kind::Faults,
+        "A",
+        &[("A", 1)],
+        r#"
+> {"op":"ask","kind":"faults","unit":"A"}
+< {"faults":[["SYNTAX",28,28]]}
+"#,
+    ),
+    (
+        r#"
+> {"op":"commit","changes":[{"put":"S","base":0,"text":"SUBAPPLICATION S FBS X:T; END_FBS END_SUBAPPLICATION"}]}
+< {"commit":1}
+"#,
+        Kind::Net,
+        "S",
+        &[("S", 1), ("T", 0)],
+        r#"
+> {"op":"ask","kind":"net","unit":"S"}
+< {"net":{"blocked":["S","T"]}}
+"#,
+    ),
+];
+
+#[test]
+fn jobs_of_one_text(rt: HostRuntime) -> Result<(), Fail> {
+    let alloc = rt.alloc();
+    for (before, kind, unit, reads, after) in JOBS {
+        let key = key_of(*kind, unit)?;
+        let mut bench = bench_after(alloc, before)?;
+        assert!(rt; is_pending(&bench, key), "{unit}");
+        let job = job_for(&mut bench, key)?;
+        let finished = job.run(alloc)?;
+        assert!(rt; have_read(&job, &finished, key, reads)?, "{unit}");
+        assert!(rt;
+            bench.deliver(1, &finished)? == Delivered::Accepted,
+            "{unit}"
+        );
+        assert_eq!(rt; talk(alloc, &mut bench, 1, after)?, None, "{unit}");
+    }
+    Ok(())
+}
+
+// Keys go by kind and then by unit, and an empty text has the key of its faults alone.
+#[test]
+fn keys_in_order(rt: HostRuntime) -> Result<(), Fail> {
+    let bench = bench_after(rt.alloc(), EMPTY)?;
+    let mut last = None;
+    for kind in [Kind::Faults, Kind::Net, Kind::Deploy] {
+        for unit in ["A", "B"] {
+            let key = key_of(kind, unit)?;
+            assert!(rt; last < Some(key), "{unit}");
+            last = Some(key);
+            let is_there = kind == Kind::Faults && unit == "B";
+            assert!(rt; is_pending(&bench, key) == is_there, "{unit}");
+            assert!(rt; is_no_key(&bench, key) != is_there, "{unit}");
+        }
+    }
+    Ok(())
+}
+
+// The result of a new workbench for the faults of A, after a conversation.
+fn result_after(alloc: Global, text: &str) -> Result<Finished, Fail> {
+    let mut bench = bench_after(alloc, text)?;
+    let job = job_for(&mut bench, faults_of_a()?)?;
+    Ok(job.run(alloc)?)
+}
+
 // A result of another workbench, which holds another text at the same revision, is stale.
 #[test]
 fn a_result_of_another_text(rt: HostRuntime) -> Result<(), Fail> {
     let alloc = rt.alloc();
-    let strange = result_for(alloc, USER)?;
-    let mut bench = bench_with(alloc, PLAIN)?;
+    let strange = result_after(alloc, USER)?;
+    let mut bench = bench_after(alloc, PLAIN)?;
     let stale = Delivered::Stale(Name::read("A")?);
     assert!(rt; bench.deliver(1, &strange)? == stale);
     let text = r#"
@@ -178,32 +189,61 @@ fn a_result_of_another_text(rt: HostRuntime) -> Result<(), Fail> {
     Ok(())
 }
 
-// Any call is made as a request, a delivery with the result of another workbench that holds the same text at the same revision.
-#[test]
-fn calls_as_requests(rt: HostRuntime) -> Result<(), Fail> {
-    let alloc = rt.alloc();
+// Whether a call of caller 3 is its call of this number, and hands out a job or not.
+fn is_made(
+    bench: &mut Bench,
+    request: &Request<'_>,
+    turn: u64,
+    has_job: bool,
+) -> Result<bool, Fail> {
+    let (record, answer) = bench.perform(3, request)?;
+    let is_job = matches!(&answer, Answered::Take(Taken::Job(_)));
+    Ok(record.turn() == turn && is_job == has_job)
+}
+
+// Whether each call is made as a request, with a result of another workbench.
+fn are_made<'a>(
+    bench: &mut Bench,
+    changes: &'a [Change],
+    finished: &'a Finished,
+) -> Result<bool, Fail> {
     let key = faults_of_a()?;
-    let changes = changes_of(alloc, key.unit, PLAIN)?;
-    let finished = result_for(alloc, PLAIN)?;
     let requests = [
-        Request::Commit(&changes),
+        Request::Commit(changes),
         Request::Take,
-        Request::Deliver(&finished),
+        Request::Deliver(finished),
         Request::GiveBack(key),
         Request::Ask(key),
     ];
-    let mut bench = new_bench(alloc, 4, 100)?;
     for place in 0..requests.len() {
-        let (record, answer) = bench.perform(3, &requests[place])?;
-        assert_eq!(rt; record.turn(), place as u64 + 1);
-        let is_job = matches!(&answer, Answered::Take(Taken::Job(_)));
-        assert!(rt; is_job == (place == 1));
+        if !is_made(bench, &requests[place], place as u64 + 1, place == 1)? {
+            return Ok(false);
+        }
     }
+    Ok(true)
+}
+
+// The same on a new workbench, by the commit that another one has recorded.
+fn are_made_as_there(bench: &mut Bench, other: &Bench, finished: &Finished) -> Result<bool, Fail> {
+    let record = other.record(1).ok_or("a record")?;
+    match record.call() {
+        Call::Commit(changes) => are_made(bench, changes, finished),
+        _ => Ok(false),
+    }
+}
+
+#[test]
+fn calls_as_requests(rt: HostRuntime) -> Result<(), Fail> {
+    let alloc = rt.alloc();
+    let other = bench_after(alloc, PLAIN)?;
+    let finished = result_after(alloc, PLAIN)?;
+    let mut bench = new_bench(alloc, 4, 100)?;
+    assert!(rt; are_made_as_there(&mut bench, &other, &finished)?);
     let text = r#"
 > {"op":"ask","kind":"faults","unit":"A"}
 < {"faults":[]}
 "#;
     assert_eq!(rt; talk(alloc, &mut bench, 2, text)?, None);
-    assert!(rt; has_value(&bench, key));
+    assert!(rt; has_value(&bench, faults_of_a()?));
     Ok(())
 }

@@ -119,11 +119,11 @@ fn tell(text: &str, from: usize, fault: &Fault, told: &mut String) -> Result<(),
         return told.push_str("the end");
     }
     told.push_str(words)?;
-    let count = (from..=start)
+    let earlier = (from..start)
         .filter(|at| stands_at(text.as_bytes(), *at, words.as_bytes()))
         .count();
-    if count > 1 {
-        write!(told, " #{count}")?;
+    if earlier > 0 {
+        write!(told, " #{}", earlier.saturating_add(1))?;
     }
     Ok(())
 }
