@@ -1,12 +1,9 @@
 //! Sorts, paths, links and borders, and the lists of networks and of flat networks.
-use crate::told::{flat_told, say_borders, say_links, say_network};
-use fb_mapping::network::{
-    Border, Flat, FlatBlock, Link, Network, Path, Port, is_same_sort, sort_number,
-};
+use crate::told::{say_borders, say_links, say_network};
 use fb_mapping::path_names;
-use fb_mapping::tree::{Side, Sort};
+use fb_network::tree::{Side, Sort};
+use fb_network::{Border, Flat, FlatBlock, Link, Network, Path, Port, is_same_sort, sort_number};
 use fb_text::Name;
-use std::alloc::Global;
 use std::test::Fail;
 
 #[test]
@@ -38,10 +35,6 @@ fn paths_are_names_joined_by_points(rt: HostRuntime) -> Result<(), Fail> {
     Ok(())
 }
 
-fn path_in(alloc: Global, text: &str) -> Result<Path, Fail> {
-    Ok(Path::of(alloc, &Name::read(text)?)?)
-}
-
 #[test]
 fn links_and_borders_stand_in_their_order(rt: HostRuntime) -> Result<(), Fail> {
     let alloc = rt.alloc();
@@ -53,9 +46,10 @@ fn links_and_borders_stand_in_their_order(rt: HostRuntime) -> Result<(), Fail> {
         (Sort::Event, "B", "A"),
         (Sort::Event, "A", "B"),
     ] {
-        let (from, to) = (path_in(alloc, first)?, path_in(alloc, second)?);
+        let [first, second] = [Name::read(first)?, Name::read(second)?];
+        let (from, to) = (Path::of(alloc, &first)?, Path::of(alloc, &second)?);
         links.push(Link { sort, from, to })?;
-        let (port, place) = (Name::read(first)?, path_in(alloc, second)?);
+        let (port, place) = (first, Path::of(alloc, &second)?);
         borders.push(Border { sort, port, place })?;
     }
     links.sort()?;
@@ -84,34 +78,5 @@ fn networks_have_their_lists(rt: HostRuntime) -> Result<(), Fail> {
     let mut told = String::new(alloc);
     say_network(alloc, &mut told, &network)?;
     assert_eq!(rt; told.as_str(), "Event Input E");
-    Ok(())
-}
-
-#[test]
-fn flat_networks_have_their_lists(rt: HostRuntime) -> Result<(), Fail> {
-    let alloc = rt.alloc();
-    let [block, port] = [Name::read("F")?, Name::read("I")?];
-    let mut blocks = Vec::new(alloc);
-    blocks.push(FlatBlock {
-        path: Path::of(alloc, &block)?,
-        type_name: Name::read("B")?,
-    })?;
-    let mut links = Vec::new(alloc);
-    links.push(Link {
-        sort: Sort::Event,
-        from: Path::of_two(alloc, &block, &Name::read("O")?)?,
-        to: Path::of_two(alloc, &block, &port)?,
-    })?;
-    let mut borders = Vec::new(alloc);
-    borders.push(Border {
-        sort: Sort::Event,
-        port,
-        place: Path::of_two(alloc, &block, &port)?,
-    })?;
-    let flat = Flat::new(blocks, links, borders);
-    assert_eq!(rt;
-        flat_told(alloc, &flat)?.as_str(),
-        "F:B; Event F.O TO F.I; Event I AT F.I"
-    );
     Ok(())
 }

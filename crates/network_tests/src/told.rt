@@ -2,9 +2,9 @@
 use fb_deploy::{Deploy, ResourcePlan, plan};
 use fb_mapping::flatten::{Net, has_net, net_of};
 use fb_mapping::library::{Change, Library, tree_by_name};
-use fb_mapping::network::{Border, End, Flat, FlatBlock, Link, Network};
 use fb_mapping::parse::Source;
 use fb_mapping::{Home, Misplaced, Placed, is_system, place};
+use fb_network::{Border, End, Flat, FlatBlock, Link, Network};
 use fb_order::inner_first;
 use fb_text::Name;
 use fb_wiring::{applications, network};
