@@ -9,6 +9,8 @@ mod jobs;
 #[cfg(test)]
 mod nets;
 #[cfg(test)]
+mod plans;
+#[cfg(test)]
 mod refusals;
 #[cfg(test)]
 mod streams;

@@ -72,7 +72,7 @@ const SYSTEM: &str = r#"
 > {"op":"commit","changes":[{"put":"TN","base":0,"text":"FUNCTION_BLOCK TN EVENT_INPUT I; END_EVENT EVENT_OUTPUT O; END_EVENT VAR_INPUT DT:TIME; END_VAR END_FUNCTION_BLOCK"},{"put":"SA","base":0,"text":"SUBAPPLICATION SA FBS F:TN; G:TN(DT:=T#250ms); H:TN; END_FBS EVENT_CONNECTIONS F.O TO G.I; G.O TO H.I; END_CONNECTIONS END_SUBAPPLICATION"},{"put":"Y","base":0,"text":"SYSTEM Y APPLICATION APP SUBAPPS SUB:SA; END_SUBAPPS END_APPLICATION DEVICE D:DT RESOURCE R1:RT END_RESOURCE RESOURCE R2:RT END_RESOURCE END_DEVICE MAPPINGS APP.SUB ON D.R1; APP.SUB.F ON D.R2; END_MAPPINGS END_SYSTEM"}]}
 < {"commit":1}
 > {"op":"work","turns":9}
-< {"accepted":5}
+< {"accepted":6}
 > {"op":"ask","kind":"net","unit":"Y"}
 < {"net":{"blocks":[["APP.SUB.F","TN"],["APP.SUB.G","TN"],["APP.SUB.H","TN"]],"borders":[],"links":[["event","APP.SUB.F.O","APP.SUB.G.I"],["event","APP.SUB.G.O","APP.SUB.H.I"]]}}
 > {"op":"commit","changes":[{"put":"Y","base":1,"text":"SYSTEM Y APPLICATION APP SUBAPPS SUB:SA; END_SUBAPPS END_APPLICATION DEVICE D:DT RESOURCE R1:RT END_RESOURCE RESOURCE R2:RT END_RESOURCE END_DEVICE MAPPINGS APP.Z ON D.R1; APP.SUB.F ON D.R2; END_MAPPINGS END_SYSTEM"}]}
@@ -82,7 +82,7 @@ const SYSTEM: &str = r#"
 > {"op":"ask","kind":"net","unit":"Y"}
 < {"answer":"pending"}
 > {"op":"work","turns":9}
-< {"accepted":2}
+< {"accepted":3}
 > {"op":"take"}
 < {"job":0}
 "#;

@@ -19,4 +19,6 @@ pub use Rattle.fb_jobs.specs.Library as Library
 pub use Rattle.fb_jobs.specs.Iface as Iface
 pub use Rattle.fb_jobs.specs.Network as Network
 pub use Rattle.fb_jobs.specs.Flatten as Flatten
+pub use Rattle.fb_jobs.specs.Mapping as Mapping
+pub use Rattle.fb_jobs.specs.Deploy as Deploy
 pub use Rattle.fb_jobs.specs as Jobs

@@ -23,6 +23,11 @@ pub use limits::Limits;
 pub use peek::Shown;
 pub use record::{Call, Record, Reply, Request, Wanted};
 
+/// Of `fb_jobs::deploy`, for the crates above.
+pub mod deploy {
+    pub use fb_jobs::deploy::{Command, Deploy, ResourcePlan};
+}
+
 /// Of `fb_jobs::flatten`, for the crates above.
 pub mod flatten {
     pub use fb_jobs::flatten::Net;
@@ -41,6 +46,11 @@ pub mod jobs {
 /// Of `fb_jobs::library`, for the crates above.
 pub mod library {
     pub use fb_jobs::library::Change;
+}
+
+/// Of `fb_jobs::mapping`, for the crates above.
+pub mod mapping {
+    pub use fb_jobs::mapping::Misplaced;
 }
 
 /// Of `fb_jobs::network`, for the crates above.

@@ -3,12 +3,15 @@ ghost use Rattle.std.specs.Prelude.{◌≡◌, ◌↔◌, IsTrue};
 ghost use Rattle.fb_jobs.specs.Library.Changes.{edit_of, edits_of};
 ghost use Rattle.fb_jobs.specs.Values.{all_seen, found_in, seen_of, finding_of};
 ghost use Rattle.fb_jobs.specs.Flatten.Net.{plain_net};
+ghost use Rattle.fb_jobs.specs.Deploy.Deploy.{plain_deploy};
 ghost use Rattle.fb_bench.specs.Records.{order_of, order_in, call_of, shown_in, reply_of};
 
 use crate::answers::{Asked, Committed, Delivered, GivenBack};
 use crate::record::{Call, Reply, Wanted};
+use fb_jobs::deploy::{Deploy, ResourcePlan};
 use fb_jobs::flatten::Net;
 use fb_jobs::library::Change;
+use fb_jobs::mapping::Misplaced;
 use fb_jobs::network::{Flat, FlatBlock};
 use fb_jobs::parse::Source;
 use fb_jobs::{Key, Read, Value};
@@ -194,12 +197,77 @@ fn is_same_net(a: &Net, b: &Net) -> bool
     }
 }
 
+fn is_same_misplaced(a: &Misplaced, b: &Misplaced) -> bool
+    ensures { IsTrue result ↔ (a.now ≡ b.now) }
+{
+    match (a, b) {
+        (Misplaced::Unmapped(a), Misplaced::Unmapped(b)) => a == b,
+        (Misplaced::NoSuchBlock(a), Misplaced::NoSuchBlock(b)) => a == b,
+        _ => false,
+    }
+}
+
+fn are_same_misplaced(a: &[Misplaced], b: &[Misplaced]) -> bool
+    ensures { IsTrue result ↔ (a.now ≡ b.now) }
+{
+    if a.len() != b.len() {
+        return false;
+    }
+    for place in 0..a.len() {
+        if !is_same_misplaced(&a[place], &b[place]) {
+            return false;
+        }
+    }
+    true
+}
+
+fn is_same_resource(a: &ResourcePlan, b: &ResourcePlan) -> bool
+    ensures { IsTrue result ↔ (a.now ≡ b.now) }
+{
+    a.name() == b.name() && are_equal(a.commands(), b.commands())
+}
+
+fn are_same_resources(a: &[ResourcePlan], b: &[ResourcePlan]) -> bool
+    ensures { IsTrue result ↔ (a.now ≡ b.now) }
+{
+    if a.len() != b.len() {
+        return false;
+    }
+    for place in 0..a.len() {
+        if !is_same_resource(&a[place], &b[place]) {
+            return false;
+        }
+    }
+    true
+}
+
+fn is_same_deploy(a: &Deploy, b: &Deploy) -> bool
+    ensures { IsTrue result ↔ (plain_deploy a.now ≡ plain_deploy b.now) }
+{
+    match (a, b) {
+        (Deploy::Stopped(a), Deploy::Stopped(b)) => is_same_net(a, b),
+        (Deploy::Faulty(a), Deploy::Faulty(b)) => are_same_misplaced(a, b),
+        (
+            Deploy::Plan {
+                cuts: a,
+                resources: of_a,
+            },
+            Deploy::Plan {
+                cuts: b,
+                resources: of_b,
+            },
+        ) => are_equal(a, b) && are_same_resources(of_a, of_b),
+        _ => false,
+    }
+}
+
 fn is_same_value(a: &Value, b: &Value) -> bool
     ensures { IsTrue result ↔ (finding_of a.now ≡ finding_of b.now) }
 {
     match (a, b) {
         (Value::Faults(a), Value::Faults(b)) => are_equal(a, b),
         (Value::Net(a), Value::Net(b)) => is_same_net(a, b),
+        (Value::Deploy(a), Value::Deploy(b)) => is_same_deploy(a, b),
         _ => false,
     }
 }

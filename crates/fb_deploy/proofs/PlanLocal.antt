@@ -64,7 +64,7 @@ module _ (a b : Sources) (system : List ℕ) (agree : AgreeFar system a b) where
   with_homes_same flat (all_homes homes) =
       tree_plan_same flat homes ∙ ap (λ (t : Option DeclTree). tree_plan b system t flat homes) (tree_same a b system agree system itself)
 
-  planned_same : (net : PlainNet) → planned_by a system net ≡ planned_by b system net
+  pub planned_same : (net : PlainNet) → planned_by a system net ≡ planned_by b system net
   planned_same (blocked names) = refl
   planned_same (recursive names) = refl
   planned_same too_large = refl

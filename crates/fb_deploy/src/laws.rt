@@ -1,5 +1,6 @@
 //! Laws of plans.
 ghost use Rattle.fb_deploy.specs.Laws.{OnePlan, PlanIsLocal};
+ghost use Rattle.fb_deploy.specs.Plans.{HasPlanByText, PlanAtIsLocal, PlanAtIsPlan, PlanAtOfSystems};
 
 /// A system has one plan only.
 pub fn one_plan()
@@ -9,4 +10,24 @@ pub fn one_plan()
 /// The plan of a system depends on the texts alone that the system rests on.
 pub fn plan_is_local()
     ensures { PlanIsLocal }
+{}
+
+/// Whether a unit has a plan is told by its own text.
+pub fn has_plan_by_text()
+    ensures { HasPlanByText }
+{}
+
+/// A plan is computed for systems, and for them alone.
+pub fn plan_at_of_systems()
+    ensures { PlanAtOfSystems }
+{}
+
+/// The computed plan is the one plan of the system.
+pub fn plan_at_is_plan()
+    ensures { PlanAtIsPlan }
+{}
+
+/// It depends on the texts alone that the unit rests on.
+pub fn plan_at_is_local()
+    ensures { PlanAtIsLocal }
 {}

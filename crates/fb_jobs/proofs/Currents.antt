@@ -7,12 +7,12 @@ use Rattle.std.specs.Ordering.{is_gt}
 use Rattle.std.specs.declared.cmp.Ordering.TheVariants.{Less}
 use Rattle.std.proofs.lemmas.Cmp.{tied_itself}
 use Rattle.std.proofs.lemmas.List.Elements.{All-nil, All-cons}
-use Rattle.fb_flatten.proofs.Library.Names.{name_total}
+use Rattle.fb_deploy.proofs.Library.Names.{name_total}
 use Rattle.std.specs.Cmp.Lexicographic.{pointwise}
 use Rattle.std.specs.BTreeMap.{is_at}
 use Rattle.std.specs.Option.{option_map}
 use Rattle.fb_text.specs.Order.{name_cmp}
-use Rattle.fb_flatten.specs.Library.Texts.{Texts, Held, held, text_in}
+use Rattle.fb_deploy.specs.Library.Texts.{Texts, Held, held, text_in}
 use Rattle.fb_jobs.specs.declared.key.Key.{Key}
 use Rattle.fb_jobs.specs.Keys.{needs, has_key, scratch}
 use Rattle.fb_jobs.specs.Reads.{Seen, Order, IsRight, is_among, Agree, read_names, read_texts, put_found, reads_under, reads_for, same_found, same_held, is_current, stale, IsLeastStale}

@@ -9,21 +9,22 @@ use Rattle.std.specs.declared.cmp.Ordering.TheVariants.{Less, Equal, Greater}
 use Rattle.std.proofs.lemmas.Cmp.{tied_itself}
 use Rattle.fb_text.specs.Order.{name_cmp}
 use Rattle.fb_text.proofs.OrderLemmas.{in_order-sorted}
-use Rattle.fb_flatten.specs.Library.Texts.{Texts, sources_of}
-use Rattle.fb_flatten.specs.Library.View.{Sources, near_of, mentions_at}
-use Rattle.fb_flatten.specs.Library.Local as local
-use Rattle.fb_flatten.proofs.Library.Names.{name_total, exact_name}
-use Rattle.fb_flatten.proofs.Library.Sources.{get_source}
-use Rattle.fb_flatten.proofs.Library.WalkLemmas.{has-Contains}
-use Rattle.fb_flatten.proofs.Library.LocalLemmas.{near_unit, near_local}
-use Rattle.fb_flatten.proofs.Faults.LocalLemmas.{faults_local}
-use Rattle.fb_flatten.specs.Far.{far_of}
-use Rattle.fb_flatten.proofs.FarNames.{far_is_all, far_of_local, far_unit}
-use Rattle.fb_flatten.proofs.ComputedNets.{net_at_local}
+use Rattle.fb_deploy.specs.Library.Texts.{Texts, sources_of}
+use Rattle.fb_deploy.specs.Library.View.{Sources, near_of, mentions_at}
+use Rattle.fb_deploy.specs.Library.Local as local
+use Rattle.fb_deploy.proofs.Library.Names.{name_total, exact_name}
+use Rattle.fb_deploy.proofs.Library.Sources.{get_source}
+use Rattle.fb_deploy.proofs.Library.WalkLemmas.{has-Contains}
+use Rattle.fb_deploy.proofs.Library.LocalLemmas.{near_unit, near_local}
+use Rattle.fb_deploy.proofs.Faults.LocalLemmas.{faults_local}
+use Rattle.fb_deploy.specs.Flatten.Far.{far_of}
+use Rattle.fb_deploy.proofs.Flatten.FarNames.{far_is_all, far_of_local, far_unit}
+use Rattle.fb_deploy.proofs.Flatten.ComputedNets.{net_at_local}
+use Rattle.fb_deploy.proofs.ComputedPlans.{plan_at_local}
 use Rattle.fb_jobs.specs.declared.key.Kind.{Kind}
 use Rattle.fb_jobs.specs.declared.key.Kind.TheVariants.{Faults, Net, Deploy}
 use Rattle.fb_jobs.specs.declared.key.Key.{Key}
-use Rattle.fb_jobs.specs.Keys.{needs, needs_of, has_key, has_kind_at, scratch, scratch_of, net_finding, FaultsFound}
+use Rattle.fb_jobs.specs.Keys.{needs, needs_of, has_key, has_kind_at, scratch, scratch_of, net_finding, plan_finding, FaultsFound}
 use Rattle.fb_jobs.specs.Reads.{is_among, Agree}
 
 pub at_itself : (n : List ℕ) → is_at (name_cmp n) n ≡ true
@@ -73,7 +74,7 @@ same_scratch : (T T' : Texts) (kind : Kind) (u : List ℕ) → Agree T T' (needs
 same_scratch T T' Faults u agree =
     ap FaultsFound (sym (faults_local (sources_of T) (sources_of T') u (same_sources T T' (near_of (sources_of T) u) agree)))
 same_scratch T T' Net u agree = ap net_finding (sym (net_at_local (sources_of T) (sources_of T') u (agree_far T T' u agree)))
-same_scratch T T' Deploy u agree = refl
+same_scratch T T' Deploy u agree = ap plan_finding (sym (plan_at_local (sources_of T) (sources_of T') u (agree_far T T' u agree)))
 
 pub scratch_local : (T T' : Texts) (k : Key) → Agree T T' (needs T k) → scratch T' k ≡ scratch T k
 unfolding needs scratch

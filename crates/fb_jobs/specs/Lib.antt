@@ -5,9 +5,11 @@ pub mod Reads
 pub mod Values
 pub mod Finished
 -- Passed on to the crates above, which do not list these libraries.
-pub use Rattle.fb_flatten.specs.Tree as Tree
-pub use Rattle.fb_flatten.specs.Parse as Parse
-pub use Rattle.fb_flatten.specs.Library as Library
-pub use Rattle.fb_flatten.specs.Iface as Iface
-pub use Rattle.fb_flatten.specs.Network as Network
-pub use Rattle.fb_flatten.specs as Flatten
+pub use Rattle.fb_deploy.specs.Tree as Tree
+pub use Rattle.fb_deploy.specs.Parse as Parse
+pub use Rattle.fb_deploy.specs.Library as Library
+pub use Rattle.fb_deploy.specs.Iface as Iface
+pub use Rattle.fb_deploy.specs.Network as Network
+pub use Rattle.fb_deploy.specs.Flatten as Flatten
+pub use Rattle.fb_deploy.specs.Mapping as Mapping
+pub use Rattle.fb_deploy.specs as Deploy

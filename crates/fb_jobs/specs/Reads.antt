@@ -6,7 +6,7 @@ use Rattle.std.specs.List.{list_any}
 use Rattle.std.specs.Ordering.{is_gt}
 use Rattle.std.specs.BTreeMap.{is_at}
 use Rattle.fb_text.specs.Order.{name_cmp}
-use Rattle.fb_flatten.specs.Library.Texts.{Texts, Held, held, text_at}
+use Rattle.fb_deploy.specs.Library.Texts.{Texts, Held, held, text_at}
 use Rattle.fb_jobs.specs.declared.key.Key.{Key}
 use Rattle.fb_jobs.specs.Keys.{has_key, needs}
 

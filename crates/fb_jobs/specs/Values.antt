@@ -3,14 +3,15 @@ use Rattle.std.specs.Prelude.{◌≡◌, ℕ, List, map, Option, Some, None}
 use Rattle.std.specs.Option.{MatchOption}
 use Rattle.std.specs.declared.sync.Arc.{Arc}
 use Rattle.std.specs.declared.alloc.Global.{Global}
-use Rattle.fb_flatten.specs.Library.Texts.{Held}
-use Rattle.fb_flatten.specs.Parse.Source.{Written}
-use Rattle.fb_flatten.specs.Net.{plain_net}
-use Rattle.fb_jobs.specs.Keys.{Finding, FaultsFound, NetFound}
+use Rattle.fb_deploy.specs.Library.Texts.{Held}
+use Rattle.fb_deploy.specs.Parse.Source.{Written}
+use Rattle.fb_deploy.specs.Flatten.Net.{plain_net}
+use Rattle.fb_deploy.specs.Deploy.{plain_deploy}
+use Rattle.fb_jobs.specs.Keys.{Finding, FaultsFound, NetFound, DeployFound}
 use Rattle.fb_jobs.specs.Reads.{Seen}
 use Rattle.fb_jobs.specs.declared.read.Read.{Read}
 use Rattle.fb_jobs.specs.declared.value.Value.{Value}
-use Rattle.fb_jobs.specs.declared.value.Value.TheVariants.{Faults, Net}
+use Rattle.fb_jobs.specs.declared.value.Value.TheVariants.{Faults, Net, Deploy}
 
 abbrev pub found_in : ℕ → Option (Arc Written Global) → Option Held
 found_in revision None = None
@@ -29,3 +30,4 @@ IsOwn it = MatchOption it.source (it.revision ≡ 0) (λ source. source.value.un
 abbrev pub finding_of : Value → Finding
 finding_of (Faults faults) = FaultsFound faults.items
 finding_of (Net net) = NetFound (plain_net net)
+finding_of (Deploy deploy) = DeployFound (plain_deploy deploy)

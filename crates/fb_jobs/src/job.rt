@@ -4,7 +4,7 @@ ghost use Rattle.std.specs.Option.{option_map};
 ghost use Rattle.std.specs.FinMap as map;
 ghost use Rattle.std.specs.List.Sorted.{IsStrictlySortedBy};
 ghost use Rattle.fb_text.specs.Order.{name_cmp};
-ghost use Rattle.fb_flatten.specs.Library.Texts.{text_at, sources_of};
+ghost use Rattle.fb_deploy.specs.Library.Texts.{text_at, sources_of};
 ghost use Rattle.fb_jobs.specs.Keys.{has_key};
 ghost use Rattle.fb_jobs.specs.Reads.{IsRight, read_names, read_texts, reads_for};
 ghost use Rattle.fb_jobs.specs.Values.{all_seen, IsOwn};
@@ -14,8 +14,8 @@ use crate::read::Read;
 use crate::reads::reads_of;
 use crate::result::Finished;
 use crate::value::value_of;
-use fb_flatten::library::{Library, View};
-use fb_flatten::parse::Source;
+use fb_deploy::library::{Library, View};
+use fb_deploy::parse::Source;
 use fb_text::{Name, same_name};
 use std::alloc::{AllocError, Global};
 use std::marker::Model;
@@ -90,7 +90,7 @@ impl Job {
 }
 
 impl View for Job {
-    ghost use Rattle.fb_flatten.specs.Library.Texts.{sources_of};
+    ghost use Rattle.fb_deploy.specs.Library.Texts.{sources_of};
     ghost use Rattle.fb_jobs.specs.Reads.{read_texts};
 
     ghost sources = { λ job. sources_of (read_texts job.reads) };

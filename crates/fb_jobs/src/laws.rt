@@ -2,7 +2,7 @@
 ghost use Rattle.std.specs.Prelude.{◌≡◌, ℕ, List, None, Some};
 ghost use Rattle.std.specs.List.Sorted.{IsStrictlySortedBy};
 ghost use Rattle.fb_text.specs.Order.{name_cmp};
-ghost use Rattle.fb_flatten.specs.Library.Texts.{Texts};
+ghost use Rattle.fb_deploy.specs.Library.Texts.{Texts};
 ghost use Rattle.fb_jobs.specs.declared.key.Key.{Key};
 ghost use Rattle.fb_jobs.specs.Keys.{has_key, needs, scratch};
 ghost use Rattle.fb_jobs.specs.Reads.{Agree, Order, IsLeastStale, IsRight, read_names, read_texts, stale};

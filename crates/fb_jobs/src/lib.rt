@@ -16,32 +16,42 @@ pub use read::{Read, has_key, needed};
 pub use result::Finished;
 pub use value::Value;
 
-/// Of `fb_flatten`, for the crates above.
+/// Of `fb_deploy`, for the crates above.
+pub mod deploy {
+    pub use fb_deploy::{Command, Deploy, ResourcePlan};
+}
+
+/// Of `fb_deploy::flatten`, for the crates above.
 pub mod flatten {
-    pub use fb_flatten::Net;
+    pub use fb_deploy::flatten::Net;
 }
 
-/// Of `fb_flatten::iface`, for the crates above.
+/// Of `fb_deploy::iface`, for the crates above.
 pub mod iface {
-    pub use fb_flatten::iface::Fault;
+    pub use fb_deploy::iface::Fault;
 }
 
-/// Of `fb_flatten::library`, for the crates above.
+/// Of `fb_deploy::library`, for the crates above.
 pub mod library {
-    pub use fb_flatten::library::{Change, Library, near};
+    pub use fb_deploy::library::{Change, Library, near};
 }
 
-/// Of `fb_flatten::network`, for the crates above.
+/// Of `fb_deploy::mapping`, for the crates above.
+pub mod mapping {
+    pub use fb_deploy::mapping::Misplaced;
+}
+
+/// Of `fb_deploy::network`, for the crates above.
 pub mod network {
-    pub use fb_flatten::network::{Border, Flat, FlatBlock, Link};
+    pub use fb_deploy::network::{Border, Flat, FlatBlock, Link};
 }
 
-/// Of `fb_flatten::parse`, for the crates above.
+/// Of `fb_deploy::parse`, for the crates above.
 pub mod parse {
-    pub use fb_flatten::parse::{ReadFault, Source};
+    pub use fb_deploy::parse::{ReadFault, Source};
 }
 
-/// Of `fb_flatten::tree`, for the crates above.
+/// Of `fb_deploy::tree`, for the crates above.
 pub mod tree {
-    pub use fb_flatten::tree::Sort;
+    pub use fb_deploy::tree::Sort;
 }

@@ -3,9 +3,10 @@ ghost use Rattle.std.specs.Prelude.{◌≡◌, IfOk, All};
 ghost use Rattle.fb_jobs.specs.Keys.{needs, has_key};
 
 use crate::key::{Key, Kind};
-use fb_flatten::library::{Library, near};
-use fb_flatten::parse::Source;
-use fb_flatten::{all_far, is_of_net};
+use fb_deploy::flatten::{all_far, is_of_net};
+use fb_deploy::is_of_plan;
+use fb_deploy::library::{Library, near};
+use fb_deploy::parse::Source;
 use fb_text::Name;
 use std::alloc::{AllocError, Global};
 use std::sync::Arc;
@@ -29,7 +30,7 @@ pub fn needed(alloc: Global, library: &Library, key: Key) -> Result<Vec<Name>, A
     }
 }
 
-/// Whether the library has the key: each unit has its faults, a subapplication and a system have a net.
+/// Whether the library has the key: each unit has its faults, a subapplication and a system have a net, a system has a plan.
 #[tactic(auto, unfolding(crate::specs::Keys::has_key))]
 pub fn has_key(library: &Library, key: Key) -> bool
     ensures { result ≡ has_key library.now key }
@@ -37,7 +38,7 @@ pub fn has_key(library: &Library, key: Key) -> bool
     match key.kind {
         Kind::Faults => library.source(&key.unit).is_some(),
         Kind::Net => is_of_net(library, &key.unit),
-        Kind::Deploy => false,
+        Kind::Deploy => is_of_plan(library, &key.unit),
     }
 }
 

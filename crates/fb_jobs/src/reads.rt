@@ -1,12 +1,12 @@
 //! The reads of a library for a key.
 ghost use Rattle.std.specs.Prelude.{◌≡◌, IfOk, All};
-ghost use Rattle.fb_flatten.specs.Library.Texts.{held};
+ghost use Rattle.fb_deploy.specs.Library.Texts.{held};
 ghost use Rattle.fb_jobs.specs.Reads.{reads_for};
 ghost use Rattle.fb_jobs.specs.Values.{all_seen, seen_of, IsOwn};
 
 use crate::key::Key;
 use crate::read::{Read, needed};
-use fb_flatten::library::Library;
+use fb_deploy::library::Library;
 use fb_text::Name;
 use std::alloc::{AllocError, Global};
 

@@ -5,10 +5,11 @@ ghost use Rattle.fb_jobs.specs.Keys.{has_kind_at, scratch_of};
 ghost use Rattle.fb_jobs.specs.Values.{finding_of};
 
 use crate::key::{Key, Kind};
-use fb_flatten::faults::faults;
-use fb_flatten::iface::Fault;
-use fb_flatten::library::View;
-use fb_flatten::{Net, net_of_unit};
+use fb_deploy::faults::faults;
+use fb_deploy::flatten::{Net, net_of_unit};
+use fb_deploy::iface::Fault;
+use fb_deploy::library::View;
+use fb_deploy::{Deploy, plan_of_unit};
 use std::alloc::{AllocError, Global};
 
 /// What an entry holds once it is not pending.
@@ -16,6 +17,7 @@ use std::alloc::{AllocError, Global};
 pub enum Value {
     Faults(Vec<Fault>),
     Net(Net),
+    Deploy(Deploy),
 }
 
 /// The key's value, computed afresh.
@@ -26,6 +28,6 @@ pub(crate) fn value_of<V: View>(alloc: Global, view: &V, key: Key) -> Result<Val
     match key.kind {
         Kind::Faults => Ok(Value::Faults(faults(alloc, view, &key.unit)?)),
         Kind::Net => Ok(Value::Net(net_of_unit(alloc, view, key.unit)?)),
-        Kind::Deploy => unreachable!(),
+        Kind::Deploy => Ok(Value::Deploy(plan_of_unit(alloc, view, key.unit)?)),
     }
 }

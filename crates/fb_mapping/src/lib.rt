@@ -27,6 +27,11 @@ pub mod compose {
     };
 }
 
+/// Of `fb_flatten::faults`, for the crates above.
+pub mod faults {
+    pub use fb_flatten::faults::faults;
+}
+
 /// Of `fb_flatten`, for the crates above.
 pub mod flatten {
     pub use fb_flatten::{
@@ -36,9 +41,16 @@ pub mod flatten {
     };
 }
 
+/// Of `fb_flatten::iface`, for the crates above.
+pub mod iface {
+    pub use fb_flatten::iface::Fault;
+}
+
 /// Of `fb_flatten::library`, for the crates above.
 pub mod library {
-    pub use fb_flatten::library::{Change, Library, View, far, tree_by_name};
+    pub use fb_flatten::library::{
+        Change, Library, View, far, mentions_by_name, near, tree_by_name,
+    };
 }
 
 /// Of `fb_flatten::network`, for the crates above.
@@ -50,7 +62,7 @@ pub mod network {
 
 /// Of `fb_flatten::parse`, for the crates above.
 pub mod parse {
-    pub use fb_flatten::parse::Source;
+    pub use fb_flatten::parse::{ReadFault, Source};
 }
 
 /// Of `fb_flatten::tree`, for the crates above.

@@ -32,6 +32,10 @@ use Rattle.fb_bench.specs.Network.contracts.flat.Link as Link
 use Rattle.fb_bench.specs.Network.contracts.flat.Border as Border
 use Rattle.fb_bench.specs.Network.contracts.flat.Flat as Flat
 use Rattle.fb_bench.specs.Flatten.contracts.net.Net as Net
+use Rattle.fb_bench.specs.Mapping.contracts.homes.Misplaced as Misplaced
+use Rattle.fb_bench.specs.Deploy.contracts.command.Command as Command
+use Rattle.fb_bench.specs.Deploy.contracts.resources.ResourcePlan as ResourcePlan
+use Rattle.fb_bench.specs.Deploy.contracts.planning.Deploy as Deploy
 use Rattle.fb_bench.specs.Jobs.contracts.value.Value as Value
 use Rattle.fb_bench.specs.Library.contracts.change.Change as Change
 use Rattle.fb_bench.specs.contracts.record.Call as Call
@@ -381,17 +385,65 @@ net_field_sync = search (flat_field_sync, crosses, maps.crosses, sendable) depth
 pub net_sync : IsSync Net.the_row
 net_sync = search (net_field_sync, crosses, maps.crosses, sendable) depth 60 fits 20000
 
+pub misplaced_field_send : IsSend (Misplaced.the_field).row
+misplaced_field_send = search (path_field_send, crosses, maps.crosses, sendable) depth 60 fits 20000
+
+pub misplaced_send : IsSend Misplaced.the_row
+misplaced_send = search (misplaced_field_send, crosses, maps.crosses, sendable) depth 60 fits 20000
+
+pub misplaced_field_sync : IsSync (Misplaced.the_field).row
+misplaced_field_sync = search (path_field_sync, crosses, maps.crosses, sendable) depth 60 fits 20000
+
+pub misplaced_sync : IsSync Misplaced.the_row
+misplaced_sync = search (misplaced_field_sync, crosses, maps.crosses, sendable) depth 60 fits 20000
+
+pub command_field_send : IsSend (Command.the_field).row
+command_field_send = search (crosses, maps.crosses, sendable) depth 60 fits 20000
+
+pub command_send : IsSend Command.the_row
+command_send = search (command_field_send, crosses, maps.crosses, sendable) depth 60 fits 20000
+
+pub command_field_sync : IsSync (Command.the_field).row
+command_field_sync = search (crosses, maps.crosses, sendable) depth 60 fits 20000
+
+pub command_sync : IsSync Command.the_row
+command_sync = search (command_field_sync, crosses, maps.crosses, sendable) depth 60 fits 20000
+
+pub resource_plan_field_send : IsSend (ResourcePlan.the_field).row
+resource_plan_field_send = search (path_field_send, command_send, crosses, maps.crosses, sendable) depth 60 fits 20000
+
+pub resource_plan_send : IsSend ResourcePlan.the_row
+resource_plan_send = search (resource_plan_field_send, crosses, maps.crosses, sendable) depth 60 fits 20000
+
+pub resource_plan_field_sync : IsSync (ResourcePlan.the_field).row
+resource_plan_field_sync = search (path_field_sync, command_sync, crosses, maps.crosses, sendable) depth 60 fits 20000
+
+pub resource_plan_sync : IsSync ResourcePlan.the_row
+resource_plan_sync = search (resource_plan_field_sync, crosses, maps.crosses, sendable) depth 60 fits 20000
+
+pub deploy_field_send : IsSend (Deploy.the_field).row
+deploy_field_send = search (net_field_send, misplaced_send, link_send, resource_plan_send, crosses, maps.crosses, sendable) depth 60 fits 20000
+
+pub deploy_send : IsSend Deploy.the_row
+deploy_send = search (deploy_field_send, crosses, maps.crosses, sendable) depth 60 fits 20000
+
+pub deploy_field_sync : IsSync (Deploy.the_field).row
+deploy_field_sync = search (net_field_sync, misplaced_sync, link_sync, resource_plan_sync, crosses, maps.crosses, sendable) depth 60 fits 20000
+
+pub deploy_sync : IsSync Deploy.the_row
+deploy_sync = search (deploy_field_sync, crosses, maps.crosses, sendable) depth 60 fits 20000
+
 pub value_field_send : IsSend (Value.the_field).row
-value_field_send = search (fault_field_send, fault_send, fault_field_sync, fault_sync, net_field_send, net_send, net_field_sync, net_sync, crosses, maps.crosses, sendable) depth 60 fits 20000
+value_field_send = search (fault_send, net_field_send, deploy_field_send, crosses, maps.crosses, sendable) depth 60 fits 20000
 
 pub value_send : IsSend Value.the_row
-value_send = search (value_field_send, fault_field_send, fault_send, fault_field_sync, fault_sync, net_field_send, net_send, net_field_sync, net_sync, crosses, maps.crosses, sendable) depth 60 fits 20000
+value_send = search (value_field_send, crosses, maps.crosses, sendable) depth 60 fits 20000
 
 pub value_field_sync : IsSync (Value.the_field).row
-value_field_sync = search (fault_field_send, fault_send, fault_field_sync, fault_sync, net_field_send, net_send, net_field_sync, net_sync, crosses, maps.crosses, sendable) depth 60 fits 20000
+value_field_sync = search (fault_sync, net_field_sync, deploy_field_sync, crosses, maps.crosses, sendable) depth 60 fits 20000
 
 pub value_sync : IsSync Value.the_row
-value_sync = search (value_field_sync, fault_field_send, fault_send, fault_field_sync, fault_sync, net_field_send, net_send, net_field_sync, net_sync, crosses, maps.crosses, sendable) depth 60 fits 20000
+value_sync = search (value_field_sync, crosses, maps.crosses, sendable) depth 60 fits 20000
 
 pub change_field_send : IsSend (Change.the_field).row
 change_field_send = search (source_field_send, source_send, source_field_sync, source_sync, crosses, maps.crosses, sendable) depth 60 fits 20000

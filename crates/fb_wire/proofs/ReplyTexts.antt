@@ -7,9 +7,14 @@ use Rattle.fb_bench.specs.Network.declared.flat.Link.{Link}
 use Rattle.fb_bench.specs.Network.declared.flat.Border.{Border}
 use Rattle.fb_bench.specs.Network.PlainFlat.{PlainFlat}
 use Rattle.fb_bench.specs.Flatten.Net.{PlainNet, blocked, recursive, too_large, flat_net}
-use Rattle.fb_bench.specs.Jobs.Keys.{Finding, FaultsFound, NetFound, NothingFound}
+use Rattle.fb_bench.specs.Mapping.declared.homes.Misplaced.{Misplaced}
+use Rattle.fb_bench.specs.Mapping.declared.homes.Misplaced.TheVariants.{Unmapped, NoSuchBlock}
+use Rattle.fb_bench.specs.Deploy.PlainResource.{PlainResource}
+use Rattle.fb_bench.specs.Deploy.Deploy.{PlainDeploy, stopped, faulty, planned}
+use Rattle.fb_bench.specs.Jobs.Keys.{Finding, FaultsFound, NetFound, DeployFound, NothingFound}
 use Rattle.fb_bench.specs.Jobs.Values.{finding_of}
 use Rattle.fb_wire.specs.NetReplies.{name_items, block_items, border_items, link_items, flat_said, net_said}
+use Rattle.fb_wire.specs.DeployReplies.{command_items, deploy_said, misplaced_item, misplaced_items, resource_items}
 use Rattle.fb_wire.specs.Replies.{fault_items, value_said}
 use Rattle.fb_wire.specs.ReplyView.{data_of}
 use Rattle.fb_wire.specs.declared.reply.Reply.{Reply}
@@ -45,9 +50,31 @@ has_float-net_said (recursive names) = rw (items_have_float-name_items names) re
 has_float-net_said too_large = refl
 has_float-net_said (flat_net flat) = has_float-flat_said flat
 
+has_float-misplaced : (m : Misplaced) → has_float (misplaced_item m) ≡ false
+has_float-misplaced (Unmapped path) = refl
+has_float-misplaced (NoSuchBlock path) = refl
+
+items_have_float-misplaced_items : (found : List Misplaced) → items_have_float (misplaced_items found) ≡ false
+items_have_float-misplaced_items [] = refl
+items_have_float-misplaced_items (m ∷ ms) = rw (has_float-misplaced m) (items_have_float-misplaced_items ms)
+
+items_have_float-command_items : (commands : List (List ℕ)) → items_have_float (command_items commands) ≡ false
+items_have_float-command_items [] = refl
+items_have_float-command_items (c ∷ cs) = items_have_float-command_items cs
+
+items_have_float-resource_items : (resources : List PlainResource) → items_have_float (resource_items resources) ≡ false
+items_have_float-resource_items [] = refl
+items_have_float-resource_items (r ∷ rs) = rw (items_have_float-command_items r.commands) (items_have_float-resource_items rs)
+
+has_float-deploy_said : (plan : PlainDeploy) → has_float (deploy_said plan) ≡ false
+has_float-deploy_said (stopped net) = rw (has_float-net_said net) refl
+has_float-deploy_said (faulty found) = rw (items_have_float-misplaced_items found) refl
+has_float-deploy_said (planned cuts resources) = rw (items_have_float-link_items cuts, items_have_float-resource_items resources) refl
+
 has_float-value_said : (f : Finding) → has_float (value_said f) ≡ false
 has_float-value_said (FaultsFound faults) = rw (items_have_float-fault_items faults) refl
 has_float-value_said (NetFound net) = rw (has_float-net_said net) refl
+has_float-value_said (DeployFound plan) = rw (has_float-deploy_said plan) refl
 has_float-value_said NothingFound = refl
 
 pub has_float-data_of : (r : Reply) → has_float (data_of r) ≡ false

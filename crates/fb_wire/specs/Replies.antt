@@ -8,7 +8,7 @@ use Rattle.fb_bench.specs.Iface.Code.{code_word}
 use Rattle.fb_bench.specs.Jobs.declared.key.Kind.{Kind}
 use Rattle.fb_bench.specs.Jobs.declared.key.Kind.TheVariants.{Faults, Net, Deploy}
 use Rattle.fb_bench.specs.Jobs.declared.key.Key.{Key}
-use Rattle.fb_bench.specs.Jobs.Keys.{Finding, FaultsFound, NetFound, NothingFound}
+use Rattle.fb_bench.specs.Jobs.Keys.{Finding, FaultsFound, NetFound, DeployFound, NothingFound}
 use Rattle.fb_bench.specs.Jobs.Reads.{Order}
 use Rattle.fb_bench.specs.Machine.{Reply, OfCommit, OfTake, OfDeliver, OfGiveBack, OfAsk, Shown, Finds, Waits, Unknown}
 use Rattle.fb_bench.specs.Calls.{Answer, Replied, FullHistory, BehindHistory}
@@ -19,6 +19,7 @@ use Rattle.fb_bench.specs.declared.answers.Delivered.TheVariants.{Accepted, NoSu
 use Rattle.fb_bench.specs.declared.answers.GivenBack.{GivenBack}
 use Rattle.fb_bench.specs.declared.answers.GivenBack.TheVariants.{Returned, NothingOut}
 use Rattle.fb_wire.specs.NetReplies.{net_found}
+use Rattle.fb_wire.specs.DeployReplies.{deploy_found}
 
 abbrev pub count : ℕ → Data
 count n = number (unsigned n)
@@ -99,6 +100,7 @@ faults_found fs = one_member (codes "faults") (array (fault_items fs))
 abbrev pub value_said : Finding → Data
 value_said (FaultsFound faults) = faults_found faults
 value_said (NetFound net) = net_found net
+value_said (DeployFound plan) = deploy_found plan
 -- no entry holds this
 value_said NothingFound = refused (codes "NoSuchKey")
 

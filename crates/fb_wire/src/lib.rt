@@ -3,6 +3,7 @@
 
 mod answer;
 mod change;
+mod deploy_reply;
 mod end;
 mod laws;
 mod line;

@@ -70,7 +70,7 @@ fn link_value(alloc: Global, link: &Link) -> Result<Value, AllocError>
     json!(in alloc; [sort_text(link.sort), link.from.as_str(), link.to.as_str()])
 }
 
-fn link_values(alloc: Global, links: &[Link]) -> Result<Vec<Value>, AllocError>
+pub(crate) fn link_values(alloc: Global, links: &[Link]) -> Result<Vec<Value>, AllocError>
     ensures { IfOk result (λ v. items_view v.items ≡ link_items links.now) }
 {
     let mut values = Vec::new(alloc);
@@ -95,7 +95,8 @@ fn flat_value(alloc: Global, flat: &Flat) -> Result<Value, AllocError>
     json!(in alloc; {"blocks": blocks, "borders": borders, "links": links})
 }
 
-fn said(alloc: Global, net: &Net) -> Result<Value, AllocError>
+/// A net, as it is said.
+pub(crate) fn net_said(alloc: Global, net: &Net) -> Result<Value, AllocError>
     ensures { IfOk result (λ v. view v ≡ net_said (plain_net net.now)) }
 {
     match net {
@@ -112,10 +113,10 @@ fn said(alloc: Global, net: &Net) -> Result<Value, AllocError>
     }
 }
 
-/// A net, as it is shown.
+/// A net, as the value of a key.
 pub(crate) fn net_value(alloc: Global, net: &Net) -> Result<Value, AllocError>
     ensures { IfOk result (λ v. view v ≡ net_found (plain_net net.now)) }
 {
-    let said = said(alloc, net)?;
+    let said = net_said(alloc, net)?;
     json!(in alloc; {"net": said})
 }

@@ -6,6 +6,7 @@ ghost use Rattle.fb_bench.specs.Jobs.Values.{finding_of};
 ghost use Rattle.fb_wire.specs.Replies.{fault_items, fault_item, kind_text, reply_line, value_said};
 ghost use Rattle.fb_wire.specs.ReplyView.{refusal_text, data_of};
 
+use crate::deploy_reply::deploy_value;
 use crate::net_reply::net_value;
 use fb_bench::iface::Fault;
 use fb_bench::jobs::{Key, Kind, Value as EntryValue};
@@ -118,6 +119,7 @@ fn entry_value(alloc: Global, value: &EntryValue) -> Result<Value, AllocError>
             json!(in alloc; {"faults": items})
         }
         EntryValue::Net(net) => net_value(alloc, net),
+        EntryValue::Deploy(deploy) => deploy_value(alloc, deploy),
     }
 }
 

@@ -1,7 +1,7 @@
 -- The job is right in its reads, so the value from them is that of the key.
 use Rattle.std.proofs.Common.{◌≡◌, true, ap, sym, subst, ◌∙◌, All}
 use Rattle.std.specs.FinMap.{get}
-use Rattle.fb_flatten.specs.Library.Texts.{sources_of}
+use Rattle.fb_deploy.specs.Library.Texts.{sources_of}
 use Rattle.fb_jobs.specs.Keys.{has_kind_at, scratch, scratch_of}
 use Rattle.fb_jobs.specs.Reads.{Order, IsRight, read_texts}
 use Rattle.fb_jobs.specs.Values.{all_seen, finding_of, IsOwn}

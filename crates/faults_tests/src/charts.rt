@@ -1,0 +1,62 @@
+//! Charts: their states, events and algorithms.
+use crate::plant::compare;
+use std::test::Fail;
+
+// STATE_UNKNOWN, EVENT_UNKNOWN and ALGORITHM_UNKNOWN, among what else is wrong with these texts.
+static CHARTS: [(&str, &str); 10] = [
+    // A state that is not listed.
+    (
+        "FUNCTION_BLOCK U EVENT_INPUT E; END_EVENT VAR X:INT; B:BOOL; END_VAR EC_STATES S0; S1: G; END_STATES EC_TRANSITIONS S0 TO S1 := E[X]; S1 TO S2 := 1; END_TRANSITIONS ALGORITHM G IN ST: B := X + TRUE; END_ALGORITHM END_FUNCTION_BLOCK",
+        "CLASS X #2; STATE_UNKNOWN S2; CLASS +",
+    ),
+    // Nothing is declared.
+    (
+        "FUNCTION_BLOCK U EC_STATES S: H -> O; END_STATES EC_TRANSITIONS S TO S := E; END_TRANSITIONS ALGORITHM G IN ST: X := 1; END_ALGORITHM END_FUNCTION_BLOCK",
+        "ALGORITHM_UNKNOWN H; EVENT_UNKNOWN O; EVENT_UNKNOWN E; VARIABLE_UNKNOWN X",
+    ),
+    // Through a plug come the adapter's inputs, and through a socket its outputs.
+    (
+        "FUNCTION_BLOCK U EVENT_INPUT E; END_EVENT EVENT_OUTPUT O; END_EVENT PLUGS P:AD; END_PLUGS SOCKETS S:AD; END_SOCKETS EC_STATES A: -> O, -> P.RQ, -> S.CF, -> E, -> P.CF, -> S.RQ, -> P.Z; END_STATES EC_TRANSITIONS A TO A := E; A TO A := P.CF; A TO A := S.RQ; A TO A := O; A TO A := P.RQ; A TO A := S.CF & TRUE; A TO A := S . Z; END_TRANSITIONS END_FUNCTION_BLOCK",
+        "EVENT_UNKNOWN E #2; EVENT_UNKNOWN P.CF; EVENT_UNKNOWN S.RQ; EVENT_UNKNOWN P.Z; EVENT_UNKNOWN O #3; EVENT_UNKNOWN P.RQ #2; EVENT_UNKNOWN S.CF #2; EVENT_UNKNOWN S . Z",
+    ),
+    // Adapter types that are absent, broken and of another kind are not judged.
+    (
+        "FUNCTION_BLOCK U PLUGS P1:NO; P2:BAD; P3:T; END_PLUGS SOCKETS S1:NO; S2:BAD; S3:T; END_SOCKETS EC_STATES A: -> P1.X, -> P2.X, -> P3.O, -> S1.X, -> S2.X, -> S3.O; END_STATES EC_TRANSITIONS A TO A := P1.X; A TO A := P2.X; A TO A := P3.O; A TO A := S1.X; A TO A := S2.X; A TO A := S3.I; END_TRANSITIONS END_FUNCTION_BLOCK",
+        "UNKNOWN_TYPE NO; UNKNOWN_TYPE BAD; WRONG_KIND T; UNKNOWN_TYPE NO #2; UNKNOWN_TYPE BAD #2; WRONG_KIND T #2",
+    ),
+    // What is no plug and no socket has no events of the chart.
+    (
+        "FUNCTION_BLOCK U EVENT_INPUT E; END_EVENT VAR P:INT; END_VAR FBS B:T; C:NO; D:AD; END_FBS EC_STATES A: -> B.O, -> C.O, -> P.RQ, -> E.O; END_STATES EC_TRANSITIONS A TO A := B.I; A TO A := D.CF; A TO A := N.I; A TO A := B; END_TRANSITIONS END_FUNCTION_BLOCK",
+        "MIXED_KIND U; UNKNOWN_TYPE NO; WRONG_KIND AD; EVENT_UNKNOWN B.O; EVENT_UNKNOWN C.O; EVENT_UNKNOWN P.RQ; EVENT_UNKNOWN E.O; EVENT_UNKNOWN B.I; EVENT_UNKNOWN D.CF; EVENT_UNKNOWN N.I; EVENT_UNKNOWN B #4",
+    ),
+    // A name stands for its first declaration.
+    (
+        "FUNCTION_BLOCK U EVENT_INPUT E; END_EVENT EVENT_OUTPUT E; END_EVENT FBS P:T; END_FBS PLUGS P:AD; Q:AD; Q:NO; R:NO; R:AD; END_PLUGS SOCKETS Q:AD; END_SOCKETS EC_STATES A: -> E, -> P.RQ, -> Q.RQ, -> Q.CF, -> R.CF; A; END_STATES EC_TRANSITIONS A TO A := E; A TO A := P.CF; A TO A := Q.CF; A TO A := Q.RQ; END_TRANSITIONS END_FUNCTION_BLOCK",
+        "MIXED_KIND U; DUPLICATE E #2; DUPLICATE P #2; DUPLICATE Q #2; UNKNOWN_TYPE NO; UNKNOWN_TYPE NO #2; DUPLICATE R #2; DUPLICATE Q #3; EVENT_UNKNOWN E #3; EVENT_UNKNOWN P.RQ; EVENT_UNKNOWN Q.CF; DUPLICATE A #2; EVENT_UNKNOWN P.CF; EVENT_UNKNOWN Q.RQ #2",
+    ),
+    // In an adapter too.
+    (
+        "FUNCTION_BLOCK U PLUGS P:AA; END_PLUGS EC_STATES A: -> P.X, -> P.Y; END_STATES EC_TRANSITIONS A TO A := P.X; END_TRANSITIONS END_FUNCTION_BLOCK",
+        "EVENT_UNKNOWN P.X; EVENT_UNKNOWN P.Y",
+    ),
+    // Names in any case, each in its own space, and each form of a condition.
+    (
+        "FUNCTION_BLOCK U EVENT_INPUT g; END_EVENT EVENT_OUTPUT O; END_EVENT VAR V:BOOL; W:INT; END_VAR EC_STATES St; G: Alg -> o, alg, W, St; END_STATES EC_TRANSITIONS ST TO g := 1; Alg TO st := [V]; ST TO V := G[V]; G TO G := V; G TO H := O & V; END_TRANSITIONS ALGORITHM ALG IN ST END_ALGORITHM ALGORITHM alg IN C END_ALGORITHM END_FUNCTION_BLOCK",
+        "ALGORITHM_UNKNOWN W #2; ALGORITHM_UNKNOWN St #2; STATE_UNKNOWN Alg #2; STATE_UNKNOWN V #3; EVENT_UNKNOWN V #5; STATE_UNKNOWN H; EVENT_UNKNOWN O #2; DUPLICATE alg #2",
+    ),
+    // Transitions without states, and states in two sections.
+    (
+        "FUNCTION_BLOCK U EC_TRANSITIONS S TO S := 1; A TO B := 1; END_TRANSITIONS EC_STATES A; END_STATES EC_STATES B; END_STATES END_FUNCTION_BLOCK",
+        "STATE_UNKNOWN S; STATE_UNKNOWN S #2",
+    ),
+    // A subapplication has no chart.
+    (
+        "SUBAPPLICATION U EVENT_INPUT E; END_EVENT END_SUBAPPLICATION",
+        "",
+    ),
+];
+
+#[test]
+fn faults_of_charts(rt: HostRuntime) -> Result<(), Fail> {
+    compare(&rt, rt.alloc(), ("", ""), "", &CHARTS)
+}

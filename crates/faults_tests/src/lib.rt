@@ -1,0 +1,23 @@
+//! Tests of libraries and of the faults of units.
+//!
+//! A row of a table is a text, or a part of one, with its faults, as `plant` tells them.
+#![tactic(auto)]
+
+#[cfg(test)]
+mod charts;
+#[cfg(test)]
+mod declarations;
+#[cfg(test)]
+mod expressions;
+#[cfg(test)]
+mod laws;
+#[cfg(test)]
+mod libraries;
+#[cfg(test)]
+mod mappings;
+#[cfg(test)]
+mod networks;
+#[cfg(test)]
+mod operators;
+#[cfg(test)]
+mod plant;

@@ -1,0 +1,118 @@
+//! CLASS at operators: what each makes of all pairs of classes.
+//!
+//! The class of an expression shows in the statements where it may stand: B and Any as a truth value, I, Num and Any as a subscript, W, Num
+//! and Any as a string of bits, and what is not judged before `MOD TRUE` too.
+use crate::plant::{faults_of, library};
+use fb_iface::Code;
+use fb_library::Library;
+use std::alloc::Global;
+use std::test::Fail;
+
+const HEAD: &str =
+    "FUNCTION_BLOCK U VAR B:BOOL; X:INT; W:WORD; R:REAL; F:ANY; A:ARRAY[0..9] OF INT; END_VAR ALGORITHM G IN ST: ";
+
+// Operands of the classes B, I, W, O, Free, Num and Any.
+static OPERANDS: [&str; 7] = ["B", "X", "W", "R", "F", "2", "1"];
+
+// What each operator makes of the pairs of classes, by the left one. `-` stands where its rule is broken.
+const LOGICAL: &str = "B---F-B ----F-- --W-FWW ----F-- FFFFFFF --W-FNN B-W-FNA ";
+
+const COMPARED: &str = "B---B-B -B-BBBB --B-BBB -B-BBBB BBBBBBB -BBBBBB BBBBBBB ";
+
+const ARITHMETICAL: &str = "----F-- -I-OFII ----F-- -O-OFOO FFFFFFF -I-OFNN -I-OFNN ";
+
+const WHOLE: &str = "----F-- -I--FII ----F-- ----F-- FFFFFFF -I--FNN -I--FNN ";
+
+static PAIRS: [(&str, &str); 15] = [
+    ("OR", LOGICAL),
+    ("XOR", LOGICAL),
+    ("AND", LOGICAL),
+    ("=", COMPARED),
+    ("<>", COMPARED),
+    ("<", COMPARED),
+    (">", COMPARED),
+    ("<=", COMPARED),
+    (">=", COMPARED),
+    ("+", ARITHMETICAL),
+    ("-", ARITHMETICAL),
+    ("*", ARITHMETICAL),
+    ("/", ARITHMETICAL),
+    ("**", ARITHMETICAL),
+    ("MOD", WHOLE),
+];
+
+static SINGLES: [(&str, &str); 3] = [("NOT", "B-W-FNA"), ("+", "-I-OFNN"), ("-", "-I-OFNN")];
+
+/// Whether an expression may stand in a statement. Where it may not, a rule of classes is the one fault.
+fn may_stand(
+    alloc: Global,
+    none: &Library,
+    (open, expression, close): (&str, &str, &str),
+) -> Result<bool, Fail> {
+    let text = format!(in alloc;
+        "{HEAD}{open}{expression}{close} END_ALGORITHM END_FUNCTION_BLOCK"
+    )?;
+    match faults_of(alloc, none, text.as_str())?.as_slice() {
+        [] => Ok(true),
+        [fault] if fault.code == Code::Class => Ok(false),
+        _ => Err(Fail::from("one fault of classes at most")),
+    }
+}
+
+/// The letter of the class of an expression.
+fn letter(alloc: Global, none: &Library, expression: &str) -> Result<&'static str, Fail> {
+    if !may_stand(alloc, none, ("F := (", expression, ");"))? {
+        return Ok("-");
+    }
+    let is_truth = may_stand(alloc, none, ("B := (", expression, ");"))?;
+    let is_number = may_stand(alloc, none, ("F := A[(", expression, ")];"))?;
+    let is_bits = may_stand(alloc, none, ("W := (", expression, ");"))?;
+    let is_free = may_stand(alloc, none, ("F := (", expression, ") MOD TRUE;"))?;
+    match (is_truth, is_number, is_bits, is_free) {
+        (true, false, false, false) => Ok("B"),
+        (false, true, false, false) => Ok("I"),
+        (false, false, true, false) => Ok("W"),
+        (false, false, false, false) => Ok("O"),
+        (true, true, true, true) => Ok("F"),
+        (false, true, true, false) => Ok("N"),
+        (true, true, true, false) => Ok("A"),
+        _ => Ok("?"),
+    }
+}
+
+/// What an operator makes of all pairs of classes.
+fn pairs(alloc: Global, none: &Library, operator: &str) -> Result<String, Fail> {
+    let mut table = String::new(alloc);
+    for left in &OPERANDS {
+        for right in &OPERANDS {
+            let expression = format!(in alloc; "{left} {operator} {right}")?;
+            table.push_str(letter(alloc, none, expression.as_str())?)?;
+        }
+        table.push_str(" ")?;
+    }
+    Ok(table)
+}
+
+/// What an operator makes of each class.
+fn singles(alloc: Global, none: &Library, operator: &str) -> Result<String, Fail> {
+    let mut table = String::new(alloc);
+    for operand in &OPERANDS {
+        let expression = format!(in alloc; "{operator} {operand}")?;
+        table.push_str(letter(alloc, none, expression.as_str())?)?;
+    }
+    Ok(table)
+}
+
+#[test]
+fn operators_on_all_classes(rt: HostRuntime) -> Result<(), Fail> {
+    let none = library(rt.alloc(), [].as_slice())?;
+    for (operator, expected) in &PAIRS {
+        let found = pairs(rt.alloc(), &none, operator)?;
+        assert_eq!(rt; found.as_str(), *expected, "of {operator}");
+    }
+    for (operator, expected) in &SINGLES {
+        let found = singles(rt.alloc(), &none, operator)?;
+        assert_eq!(rt; found.as_str(), *expected, "of {operator}");
+    }
+    Ok(())
+}

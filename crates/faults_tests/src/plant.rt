@@ -1,0 +1,156 @@
+//! The units that the texts of the tables speak of, and the notation of faults.
+//!
+//! Faults are told as `CODE words; CODE words`, the words being those at the place of the fault. Where they stand there for the second time
+//! in the text, `#2` follows, and so on.
+use fb_faults::faults;
+use fb_iface::Fault;
+use fb_library::parse::Source;
+use fb_library::{Change, Library};
+use fb_text::{Name, Span};
+use std::alloc::{AllocError, Global};
+use std::process::Abort;
+use std::test::Fail;
+
+static UNITS: [(&str, &str); 14] = [
+    (
+        "A",
+        "ADAPTER A EVENT_INPUT E; END_EVENT VAR_INPUT V:INT; END_VAR END_ADAPTER",
+    ),
+    (
+        "AA",
+        "ADAPTER AA EVENT_INPUT X; END_EVENT EVENT_OUTPUT X; END_EVENT VAR_INPUT Y:INT; END_VAR END_ADAPTER",
+    ),
+    (
+        "AD",
+        "ADAPTER AD EVENT_INPUT CF; E; END_EVENT EVENT_OUTPUT RQ; END_EVENT VAR_INPUT U:BOOL; W:INT; END_VAR VAR_OUTPUT V:INT; L:ARRAY[0..3] OF WORD; END_VAR END_ADAPTER",
+    ),
+    (
+        "B",
+        "FUNCTION_BLOCK B EVENT_INPUT I; END_EVENT EVENT_OUTPUT O; END_EVENT VAR_INPUT X:INT; X1:DINT; END_VAR VAR_OUTPUT Y:INT; END_VAR VAR L:INT; END_VAR PLUGS P:AD; END_PLUGS SOCKETS Q:AD; END_SOCKETS END_FUNCTION_BLOCK",
+    ),
+    ("BAD", "ADAPTER BAD"),
+    (
+        "C",
+        "SUBAPPLICATION C EVENT_INPUT I; END_EVENT EVENT_OUTPUT O; END_EVENT VAR_INPUT X:INT; END_VAR VAR_OUTPUT Y:INT; END_VAR PLUGS P:AD; END_PLUGS SOCKETS Q:AD; END_SOCKETS END_SUBAPPLICATION",
+    ),
+    (
+        "LENGTHS",
+        "FUNCTION_BLOCK LENGTHS VAR_INPUT A:ARRAY[0..9]OF INT; B:STRING[10]; B1:STRING[1_0]; D:ARRAY[0..8] OF INT; E:string; F:ANY[3]; O:ANY; END_VAR END_FUNCTION_BLOCK",
+    ),
+    (
+        "M",
+        "FUNCTION_BLOCK M VAR_INPUT X:BOOL; END_VAR END_FUNCTION_BLOCK",
+    ),
+    (
+        "PP",
+        "FUNCTION_BLOCK PP PLUGS P:AD; END_PLUGS END_FUNCTION_BLOCK",
+    ),
+    (
+        "QQ",
+        "FUNCTION_BLOCK QQ SOCKETS Q:AD; END_SOCKETS END_FUNCTION_BLOCK",
+    ),
+    ("S", "SUBAPPLICATION S END_SUBAPPLICATION"),
+    (
+        "T",
+        "FUNCTION_BLOCK T EVENT_INPUT I; END_EVENT EVENT_OUTPUT O; END_EVENT END_FUNCTION_BLOCK",
+    ),
+    (
+        "TU",
+        "FUNCTION_BLOCK TU VAR_INPUT V:INT; END_VAR END_FUNCTION_BLOCK",
+    ),
+    ("Y", "SYSTEM Y END_SYSTEM"),
+];
+
+/// The change that puts a text under a name.
+pub fn put(alloc: Global, unit: &str, base: u64, text: &str) -> Result<Change, Fail> {
+    let source = Source::read(alloc, Name::read(unit)?, text)?;
+    Ok(Change::Put { base, source })
+}
+
+/// A library of these units.
+pub fn library(alloc: Global, units: &[(&str, &str)]) -> Result<Library, Fail> {
+    let mut changes = Vec::new(alloc);
+    for (unit, text) in units {
+        changes.push(put(alloc, unit, 0, text)?)?;
+    }
+    Ok(Library::new(alloc).edited(1, changes.as_slice())?)
+}
+
+/// The faults of this text as the unit `U`, beside the units of a library.
+pub fn faults_of(alloc: Global, library: &Library, text: &str) -> Result<Vec<Fault>, Fail> {
+    let changed = library.edited(2, [put(alloc, "U", 0, text)?].as_slice())?;
+    Ok(faults(alloc, &changed, &Name::read("U")?)?)
+}
+
+/// Whether both are bytes of one word.
+fn are_joined(left: Option<&u8>, right: Option<&u8>) -> bool {
+    match (left, right) {
+        (Some(left), Some(right)) => is_in_word(*left) && is_in_word(*right),
+        _ => false,
+    }
+}
+
+fn is_in_word(b: u8) -> bool {
+    b.is_ascii_alphanumeric() || b == b'_'
+}
+
+/// Whether these words stand at a place of the text, and are no part of longer ones.
+fn stands_at(text: &[u8], at: usize, words: &[u8]) -> bool {
+    let (Some(before), Some(rest)) = (text.get(..at), text.get(at..)) else {
+        return false;
+    };
+    match rest.strip_prefix(words) {
+        Some(behind) => {
+            !are_joined(before.last(), words.first()) && !are_joined(words.last(), behind.first())
+        }
+        None => false,
+    }
+}
+
+/// Adds a fault to what has been told. Its words are counted from a place of the text.
+fn tell(text: &str, from: usize, fault: &Fault, told: &mut String) -> Result<(), AllocError> {
+    let Span { start, end } = fault.span;
+    let words = text.get(start..end).unwrap_or("?");
+    if !told.is_empty() {
+        told.push_str("; ")?;
+    }
+    write!(told, "{} ", fault.code)?;
+    if words.is_empty() {
+        return told.push_str("the end");
+    }
+    told.push_str(words)?;
+    let earlier = (from..start)
+        .filter(|at| stands_at(text.as_bytes(), *at, words.as_bytes()))
+        .count();
+    if earlier > 0 {
+        write!(told, " #{}", earlier.saturating_add(1))?;
+    }
+    Ok(())
+}
+
+/// Compares the faults of each row of a table, with what stands before and behind it, with those that it names. What stands before it has
+/// the faults that are known.
+pub fn compare(
+    rt: &impl Abort,
+    alloc: Global,
+    (head, foot): (&str, &str),
+    known: &str,
+    rows: &[(&str, &str)],
+) -> Result<(), Fail> {
+    let plant = library(alloc, UNITS.as_slice())?;
+    for (row, expected) in rows {
+        let text = format!(in alloc; "{head}{row}{foot}")?;
+        let mut in_head = String::new(alloc);
+        let mut in_row = String::new(alloc);
+        for fault in &faults_of(alloc, &plant, text.as_str())? {
+            if fault.span.start < head.len() {
+                tell(text.as_str(), 0, fault, &mut in_head)?;
+            } else {
+                tell(text.as_str(), head.len(), fault, &mut in_row)?;
+            }
+        }
+        assert_eq!(rt; in_head.as_str(), known, "before {row}");
+        assert_eq!(rt; in_row.as_str(), *expected, "in {row}");
+    }
+    Ok(())
+}

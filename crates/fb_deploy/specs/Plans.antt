@@ -1,0 +1,37 @@
+-- The plan of a unit, computed from the texts.
+use Rattle.std.specs.Prelude.{◌≡◌, ◌↔◌, ℕ, Bool, true, false, if◌then◌else◌, IsTrue, List, Option, Some, None, is_some, option_map}
+use Rattle.fb_mapping.specs.Tree.Tree.{DeclTree}
+use Rattle.fb_mapping.specs.Library.View.{Sources, tree_at}
+use Rattle.fb_mapping.specs.Library.Local.{AgreeFar}
+use Rattle.fb_mapping.specs.Flatten.Nets.{net_at}
+use Rattle.fb_mapping.specs.Flatten.Tables.{is_system_tree}
+use Rattle.fb_mapping.specs.Placed.{IsSystem}
+use Rattle.fb_deploy.specs.Deploy.{PlainDeploy, IsPlan, planned_by}
+
+-- whether a unit with this tree, or with none, has a plan
+abbrev pub has_plan_in : Option DeclTree → Bool
+has_plan_in None = false
+has_plan_in (Some tree) = is_system_tree tree
+
+abbrev pub plan_in : Sources → List ℕ → Option DeclTree → Option PlainDeploy
+plan_in sources unit tree = if has_plan_in tree then option_map (planned_by sources unit) (net_at sources unit) else None
+
+-- the plan of a system; other units have none
+unfoldable pub plan_at : Sources → List ℕ → Option PlainDeploy
+plan_at sources unit = plan_in sources unit (tree_at sources unit)
+
+-- a unit has its plan by its own text
+abbrev pub HasPlanByText : Type 0
+HasPlanByText = (sources : Sources) (unit : List ℕ) → (has_plan_in (tree_at sources unit) ≡ true) ↔ IsSystem sources unit
+
+-- systems have a plan, and they alone
+abbrev pub PlanAtOfSystems : Type 0
+PlanAtOfSystems = (sources : Sources) (unit : List ℕ) → IsTrue (is_some (plan_at sources unit)) ↔ IsSystem sources unit
+
+-- it is the one plan of the system
+abbrev pub PlanAtIsPlan : Type 0
+PlanAtIsPlan = (sources : Sources) (unit : List ℕ) (plan : PlainDeploy) → (plan_at sources unit ≡ Some plan) ↔ (IsSystem sources unit × IsPlan sources unit plan)
+
+-- it depends on the texts alone that the unit rests on
+abbrev pub PlanAtIsLocal : Type 0
+PlanAtIsLocal = (a b : Sources) (unit : List ℕ) → AgreeFar unit a b → plan_at a unit ≡ plan_at b unit

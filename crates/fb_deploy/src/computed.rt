@@ -1,0 +1,26 @@
+//! The plan of a unit, by the function of the specs.
+ghost use Rattle.std.specs.Prelude.{◌≡◌, true, Some, IfOk};
+ghost use Rattle.fb_mapping.specs.Library.View.{tree_at};
+ghost use Rattle.fb_deploy.specs.Deploy.{plain_deploy};
+ghost use Rattle.fb_deploy.specs.Plans.{has_plan_in, plan_at};
+
+use crate::planning::{Deploy, plan};
+use fb_mapping::is_system;
+use fb_mapping::library::View;
+use fb_text::Name;
+use std::alloc::{AllocError, Global};
+
+/// Whether the unit is a system, and so has a plan.
+pub fn is_of_plan<V: View>(view: &V, unit: &Name) -> bool
+    ensures { result ≡ has_plan_in (tree_at (V.sources view.now) unit.now) }
+{
+    is_system(view, unit)
+}
+
+/// The plan of a system.
+pub fn plan_of_unit<V: View>(alloc: Global, view: &V, unit: Name) -> Result<Deploy, AllocError>
+    requires { has_plan_in (tree_at (V.sources view.now) unit) ≡ true }
+    ensures { IfOk result (λ deploy. plan_at (V.sources view.now) unit ≡ Some (plain_deploy deploy)) }
+{
+    plan(alloc, view, unit)
+}

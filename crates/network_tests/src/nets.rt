@@ -1,0 +1,141 @@
+//! The nets of units.
+use crate::told::{library_of, names_told, net_told, put, unit_net_told};
+use fb_mapping::flatten::{
+    all_far, far_is_all, far_of_is_local, flat_networks_are_local, has_net_by_text, is_of_net,
+    net_at_is_local, net_at_is_net, net_is_local, net_of_unit, one_net,
+};
+use fb_mapping::library::Library;
+use fb_text::Name;
+use std::test::Fail;
+
+const B: &str =
+    "FUNCTION_BLOCK B EVENT_INPUT I; END_EVENT EVENT_OUTPUT O; END_EVENT END_FUNCTION_BLOCK";
+
+// A border with two inner targets.
+const TWO_TARGETS: &[&str] = &[
+    B,
+    "SUBAPPLICATION S EVENT_INPUT I; END_EVENT FBS F:B; G:B; END_FBS EVENT_CONNECTIONS I TO G.I; I TO F.I; F.O TO G.I; END_CONNECTIONS END_SUBAPPLICATION",
+    "SUBAPPLICATION T FBS K:B; END_FBS SUBAPPS X:S; END_SUBAPPS EVENT_CONNECTIONS K.O TO X.I; END_CONNECTIONS END_SUBAPPLICATION",
+];
+
+// An adapter through a subapplication.
+const ADAPTERS: &[&str] = &[
+    "ADAPTER A EVENT_INPUT R; END_EVENT EVENT_OUTPUT Q; END_EVENT END_ADAPTER",
+    "FUNCTION_BLOCK P PLUGS X:A; END_PLUGS END_FUNCTION_BLOCK",
+    "FUNCTION_BLOCK K SOCKETS Y:A; END_SOCKETS END_FUNCTION_BLOCK",
+    "SUBAPPLICATION T PLUGS Z:A; END_PLUGS FBS F:P; END_FBS ADAPTER_CONNECTIONS F.X TO Z; END_CONNECTIONS END_SUBAPPLICATION",
+    "SUBAPPLICATION S FBS G:K; END_FBS SUBAPPS H:T; END_SUBAPPS ADAPTER_CONNECTIONS H.Z TO G.Y; END_CONNECTIONS END_SUBAPPLICATION",
+];
+
+const TWO_APPLICATIONS: &[&str] = &[
+    B,
+    "SUBAPPLICATION C EVENT_INPUT I; END_EVENT FBS F:B; END_FBS EVENT_CONNECTIONS I TO F.I; END_CONNECTIONS END_SUBAPPLICATION",
+    "SYSTEM Z APPLICATION A2 FBS F:B; END_FBS END_APPLICATION APPLICATION A1 FBS K:B; END_FBS SUBAPPS G:C; END_SUBAPPS EVENT_CONNECTIONS K.O TO G.I; END_CONNECTIONS END_APPLICATION END_SYSTEM",
+];
+
+// NO is absent, and BAD has a fault.
+const FAULTY: &[&str] = &[
+    B,
+    "SUBAPPLICATION S FBS F:NO; G:B; END_FBS SUBAPPS H:BAD; END_SUBAPPS END_SUBAPPLICATION",
+    "SUBAPPLICATION BAD FBS F:B; F:B; END_FBS END_SUBAPPLICATION",
+];
+
+const CYCLE: &[&str] = &[
+    "SUBAPPLICATION S FBS F:M; END_FBS END_SUBAPPLICATION",
+    "FUNCTION_BLOCK M FBS F:N; END_FBS END_FUNCTION_BLOCK",
+    "FUNCTION_BLOCK N FBS F:M; END_FBS END_FUNCTION_BLOCK",
+];
+
+// Units, one of them, all that it rests on, and its net.
+const NETS: &[(&[&str], &str, &str, &str)] = &[
+    (
+        TWO_TARGETS,
+        "S",
+        "B S",
+        "F:B; G:B; Event F.O TO G.I; Event I AT F.I; Event I AT G.I",
+    ),
+    (
+        TWO_TARGETS,
+        "T",
+        "B S T",
+        "K:B; X.F:B; X.G:B; Event K.O TO X.F.I; Event K.O TO X.G.I; Event X.F.O TO X.G.I",
+    ),
+    (
+        ADAPTERS,
+        "S",
+        "A K P S T",
+        "G:K; H.F:P; Event G.Y.R TO H.F.X.R; Event H.F.X.Q TO G.Y.Q",
+    ),
+    (
+        TWO_APPLICATIONS,
+        "Z",
+        "B C Z",
+        "A2.F:B; A1.K:B; A1.G.F:B; Event A1.K.O TO A1.G.F.I",
+    ),
+    (FAULTY, "S", "B BAD NO S", "blocked BAD NO S"),
+    (CYCLE, "S", "M N S", "recursive M N"),
+    (CYCLE, "M", "M N", "no net"),
+];
+
+#[test]
+fn units_have_their_nets(rt: HostRuntime) -> Result<(), Fail> {
+    let alloc = rt.alloc();
+    for (texts, unit, far, net) in NETS {
+        let library = library_of(alloc, texts)?;
+        assert_eq!(rt;
+            unit_net_told(alloc, &library, unit)?.as_str(),
+            *net,
+            "of {unit}"
+        );
+        let name = Name::read(unit)?;
+        let names = all_far(alloc, &library, name)?;
+        assert_eq!(rt;
+            names_told(alloc, names.as_slice())?.as_str(),
+            *far,
+            "of {unit}"
+        );
+        if is_of_net(&library, &name) {
+            let found = net_of_unit(alloc, &library, name)?;
+            assert_eq!(rt; net_told(alloc, &found)?.as_str(), *net, "of {unit}");
+        }
+    }
+    Ok(())
+}
+
+#[test]
+fn a_chain_that_doubles(rt: HostRuntime) -> Result<(), Fail> {
+    let alloc = rt.alloc();
+    let mut changes = Vec::new(alloc);
+    put(alloc, &mut changes, B)?;
+    let first = "SUBAPPLICATION S1 FBS X:B; Y:B; END_FBS END_SUBAPPLICATION";
+    put(alloc, &mut changes, first)?;
+    for i in 1..13u32 {
+        let outer = i + 1;
+        let text = format!(in alloc;
+            "SUBAPPLICATION S{outer} SUBAPPS X:S{i}; Y:S{i}; END_SUBAPPS END_SUBAPPLICATION"
+        )?;
+        put(alloc, &mut changes, text.as_str())?;
+    }
+    let library = Library::new(alloc).edited(1, changes.as_slice())?;
+    // S13 holds 2 + 4 + .. + 8192 instances
+    for (unit, net) in [("S2", "X.X:B; X.Y:B; Y.X:B; Y.Y:B"), ("S13", "too large")] {
+        assert_eq!(rt;
+            unit_net_told(alloc, &library, unit)?.as_str(),
+            net,
+            "of {unit}"
+        );
+    }
+    Ok(())
+}
+
+#[test]
+fn laws(_rt: HostRuntime) {
+    flat_networks_are_local();
+    one_net();
+    net_is_local();
+    far_is_all();
+    far_of_is_local();
+    has_net_by_text();
+    net_at_is_net();
+    net_at_is_local();
+}

@@ -1,0 +1,188 @@
+//! Placements and plans of systems.
+use crate::told::{library_of, placement_told, plan_told};
+use fb_deploy::{one_plan, plan_is_local};
+use fb_mapping::{homes_are_nearest, one_place, place_is_local};
+use std::alloc::Global;
+use std::test::Fail;
+
+const TN: &str =
+    "FUNCTION_BLOCK TN EVENT_INPUT I; END_EVENT EVENT_OUTPUT O; END_EVENT VAR_INPUT DT:TIME; END_VAR END_FUNCTION_BLOCK";
+
+const SA: &str =
+    "SUBAPPLICATION SA FBS F:TN; G:TN(DT:=T#250ms); H:TN; END_FBS EVENT_CONNECTIONS F.O TO G.I; G.O TO H.I; END_CONNECTIONS END_SUBAPPLICATION";
+
+// The system Y with one mapping.
+const Y: &str =
+    "SYSTEM Y APPLICATION APP SUBAPPS SUB:SA; END_SUBAPPS END_APPLICATION DEVICE D:DT RESOURCE R1:RT END_RESOURCE RESOURCE R2:RT END_RESOURCE END_DEVICE MAPPINGS APP ON D.R1; END_MAPPINGS END_SYSTEM";
+
+/// The system Y with these mappings.
+fn system_of(alloc: Global, mappings: &str) -> Result<String, Fail> {
+    Ok(format!(in alloc;
+        "SYSTEM Y APPLICATION APP SUBAPPS SUB:SA; END_SUBAPPS END_APPLICATION DEVICE D:DT RESOURCE R1:RT END_RESOURCE RESOURCE R2:RT END_RESOURCE END_DEVICE MAPPINGS {mappings} END_MAPPINGS END_SYSTEM"
+    )?)
+}
+
+// The mappings of Y, and its placement.
+const HOMES: &[(&str, &str)] = &[
+    // the longest path counts
+    (
+        "APP.SUB ON D.R1; APP.SUB.F ON D.R2;",
+        "APP.SUB.F ON D.R2; APP.SUB.G ON D.R1; APP.SUB.H ON D.R1; Event APP.SUB.F.O TO APP.SUB.G.I",
+    ),
+    (
+        "app.sub.g ON D.R2; APP ON D.R1;",
+        "APP.SUB.F ON D.R1; APP.SUB.G ON D.R2; APP.SUB.H ON D.R1; Event APP.SUB.F.O TO APP.SUB.G.I; Event APP.SUB.G.O TO APP.SUB.H.I",
+    ),
+    (
+        "APP ON D.R1;",
+        "APP.SUB.F ON D.R1; APP.SUB.G ON D.R1; APP.SUB.H ON D.R1",
+    ),
+    // blocks and mappings do not meet
+    (
+        "APP.Z ON D.R1; APP.SUB.F ON D.R2;",
+        "UNMAPPED APP.SUB.G; UNMAPPED APP.SUB.H; NO_SUCH_BLOCK APP.Z",
+    ),
+    // a port, a name inside a block, another application, in the order of their bytes
+    (
+        "APP ON D.R1; NO ON D.R1; APP.SUB.F.O ON D.R1; AP ON D.R1; APP.SU ON D.R1; APP.SUB.F.X.Y ON D.R2;",
+        "NO_SUCH_BLOCK AP; NO_SUCH_BLOCK APP.SU; NO_SUCH_BLOCK APP.SUB.F.O; NO_SUCH_BLOCK APP.SUB.F.X.Y; NO_SUCH_BLOCK NO",
+    ),
+];
+
+// The inside of a composite block and a plug are not placed.
+const COMPOSITE: &[&str] = &[
+    "FUNCTION_BLOCK C FBS F:TN; END_FBS END_FUNCTION_BLOCK",
+    "SUBAPPLICATION E END_SUBAPPLICATION",
+    "SUBAPPLICATION K PLUGS P:AD; END_PLUGS FBS F:C; END_FBS SUBAPPS N:E; END_SUBAPPS END_SUBAPPLICATION",
+    "ADAPTER AD END_ADAPTER",
+    TN,
+    "SYSTEM Z APPLICATION A FBS B:C; END_FBS SUBAPPS S:K; END_SUBAPPS END_APPLICATION APPLICATION V END_APPLICATION DEVICE D:DT RESOURCE R:RT END_RESOURCE END_DEVICE MAPPINGS A ON D.R; V ON D.R; A.S.N ON D.R; A.B.F ON D.R; A.S.P ON D.R; A.S.F.F ON D.R; END_MAPPINGS END_SYSTEM",
+];
+
+// Two systems, which stand apart.
+const TWO_SYSTEMS: &[&str] = &[
+    TN,
+    SA,
+    Y,
+    "SYSTEM Z APPLICATION A FBS B:TN; END_FBS END_APPLICATION DEVICE E:DT RESOURCE R:RT END_RESOURCE END_DEVICE MAPPINGS A.B ON E.R; END_MAPPINGS END_SYSTEM",
+];
+
+// Units, one of them, and its placement.
+const PLACEMENTS: &[(&[&str], &str, &str)] = &[
+    (&[Y], "Y", "blocked SA Y"),
+    (
+        COMPOSITE,
+        "Z",
+        "NO_SUCH_BLOCK A.B.F; NO_SUCH_BLOCK A.S.F.F; NO_SUCH_BLOCK A.S.P",
+    ),
+    (TWO_SYSTEMS, "Z", "A.B ON E.R"),
+    (TWO_SYSTEMS, "SA", "no system"),
+    (
+        TWO_SYSTEMS,
+        "Y",
+        "APP.SUB.F ON D.R1; APP.SUB.G ON D.R1; APP.SUB.H ON D.R1",
+    ),
+];
+
+#[test]
+fn systems_have_their_placements(rt: HostRuntime) -> Result<(), Fail> {
+    let alloc = rt.alloc();
+    for (mappings, homes) in HOMES {
+        let system = system_of(alloc, mappings)?;
+        let library = library_of(alloc, &[TN, SA, system.as_str()])?;
+        assert_eq!(rt;
+            placement_told(alloc, &library, "Y")?.as_str(),
+            *homes,
+            "by {mappings}"
+        );
+    }
+    for (texts, system, placement) in PLACEMENTS {
+        let library = library_of(alloc, texts)?;
+        assert_eq!(rt;
+            placement_told(alloc, &library, system)?.as_str(),
+            *placement,
+            "of {system}"
+        );
+    }
+    Ok(())
+}
+
+// The mappings of Y, and its plan.
+const COMMANDS: &[(&str, &str)] = &[
+    (
+        "APP.SUB ON D.R1; APP.SUB.F ON D.R2;",
+        "Event APP.SUB.F.O TO APP.SUB.G.I; RESOURCE D.R1; CREATE FB APP.SUB.G TN; CREATE FB APP.SUB.H TN; WRITE APP.SUB.G.DT T#250ms; CREATE CONNECTION APP.SUB.G.O APP.SUB.H.I; START D.R1; RESOURCE D.R2; CREATE FB APP.SUB.F TN; START D.R2",
+    ),
+    // a resource without blocks is started
+    (
+        "APP ON D.R2;",
+        "RESOURCE D.R1; START D.R1; RESOURCE D.R2; CREATE FB APP.SUB.F TN; CREATE FB APP.SUB.G TN; CREATE FB APP.SUB.H TN; WRITE APP.SUB.G.DT T#250ms; CREATE CONNECTION APP.SUB.F.O APP.SUB.G.I; CREATE CONNECTION APP.SUB.G.O APP.SUB.H.I; START D.R2",
+    ),
+    // blocks and mappings do not meet
+    (
+        "APP.Z ON D.R1; APP.SUB.F ON D.R2;",
+        "UNMAPPED APP.SUB.G; UNMAPPED APP.SUB.H; NO_SUCH_BLOCK APP.Z",
+    ),
+];
+
+// Constants are printed as they are written.
+const CONSTANTS: &[&str] = &[
+    "FUNCTION_BLOCK B VAR_INPUT A:INT; C:BOOL; D:ANY; E:ARRAY [0..3] OF INT; F:STRING; END_VAR END_FUNCTION_BLOCK",
+    "SYSTEM Z APPLICATION A FBS X10:B; X1:B(F:='a  (* b *)', d:= name, A:= - (* minus *) 1_0, c := true, E:=[ 1 , 2, // three\n 16#0F ]); X:B; END_FBS END_APPLICATION DEVICE D:DT END_DEVICE DEVICE E:DT RESOURCE R:RT(P:=1) END_RESOURCE END_DEVICE MAPPINGS A ON E.R; END_MAPPINGS END_SYSTEM",
+];
+
+// A system with two applications beside another system.
+const TWO_APPLICATIONS: &[&str] = &[
+    TN,
+    SA,
+    Y,
+    "SYSTEM Z APPLICATION V FBS B:TN(DT:=T#1s); END_FBS END_APPLICATION APPLICATION A FBS B:TN(DT:=T#2s); END_FBS END_APPLICATION DEVICE E:DT RESOURCE R:RT END_RESOURCE RESOURCE Q:RT END_RESOURCE END_DEVICE MAPPINGS V ON E.Q; A ON E.Q; END_MAPPINGS END_SYSTEM",
+];
+
+// Units, one of them, and its plan.
+const PLANS: &[(&[&str], &str, &str)] = &[
+    (&[Y], "Y", "blocked SA Y"),
+    (&[SA], "SA", "no system"),
+    (
+        CONSTANTS,
+        "Z",
+        "RESOURCE E.R; CREATE FB A.X B; CREATE FB A.X1 B; CREATE FB A.X10 B; WRITE A.X1.A -1_0; WRITE A.X1.C true; WRITE A.X1.D name; WRITE A.X1.E [1,2,16#0F]; WRITE A.X1.F 'a  (* b *)'; START E.R",
+    ),
+    (
+        TWO_APPLICATIONS,
+        "Z",
+        "RESOURCE E.R; START E.R; RESOURCE E.Q; CREATE FB A.B TN; CREATE FB V.B TN; WRITE A.B.DT T#2s; WRITE V.B.DT T#1s; START E.Q",
+    ),
+];
+
+#[test]
+fn systems_have_their_plans(rt: HostRuntime) -> Result<(), Fail> {
+    let alloc = rt.alloc();
+    for (mappings, commands) in COMMANDS {
+        let system = system_of(alloc, mappings)?;
+        let library = library_of(alloc, &[TN, SA, system.as_str()])?;
+        assert_eq!(rt;
+            plan_told(alloc, &library, "Y")?.as_str(),
+            *commands,
+            "by {mappings}"
+        );
+    }
+    for (texts, system, plan) in PLANS {
+        let library = library_of(alloc, texts)?;
+        assert_eq!(rt;
+            plan_told(alloc, &library, system)?.as_str(),
+            *plan,
+            "of {system}"
+        );
+    }
+    Ok(())
+}
+
+#[test]
+fn laws(_rt: HostRuntime) {
+    one_place();
+    place_is_local();
+    homes_are_nearest();
+    one_plan();
+    plan_is_local();
+}

@@ -1,0 +1,315 @@
+//! Texts that are broken, and the places where they are. These were worked out by another reader, one that follows all spellings at once.
+use fb_parse::{Body, ReadFault, Source};
+use fb_text::Name;
+use std::alloc::Global;
+use std::process::Abort;
+use std::test::Fail;
+
+/// The place where a text is broken, or `whole`.
+fn place(alloc: Global, text: &str) -> Result<String, Fail> {
+    let source = Source::read(alloc, Name::underscore(), text)?;
+    match source.body() {
+        Body::Tree(_) => Ok("whole".to_string(alloc)?),
+        Body::Broken(span) => Ok(format!(in alloc; "{}..{}", span.start, span.end)?),
+    }
+}
+
+// Broken texts with their places.
+static BROKEN: [(&str, &str); 11] = [
+    // the end of a text that goes no further
+    ("FUNCTION_BLOCK A EVENT_INPUT", "28..28"),
+    // two names in a row
+    (
+        "FUNCTION_BLOCK A EVENT_INPUT E F; END_EVENT END_FUNCTION_BLOCK",
+        "31..32",
+    ),
+    // a comment that is never closed
+    ("FUNCTION_BLOCK A (* x", "17..21"),
+    // the end, behind blanks and comments
+    ("FUNCTION_BLOCK A // x", "21..21"),
+    ("", "0..0"),
+    // a reserved word is no name, in any case
+    ("FUNCTION_BLOCK With END_FUNCTION_BLOCK", "15..19"),
+    // what stands behind a whole unit
+    ("FUNCTION_BLOCK A END_FUNCTION_BLOCK ;", "36..37"),
+    // no section of such a unit
+    ("ADAPTER A VAR X:INT; END_VAR END_ADAPTER", "10..13"),
+    (
+        "FUNCTION_BLOCK A SUBAPPS END_SUBAPPS END_FUNCTION_BLOCK",
+        "17..24",
+    ),
+    (
+        "SUBAPPLICATION A EC_STATES END_STATES END_SUBAPPLICATION",
+        "17..26",
+    ),
+    ("SYSTEM A FBS END_FBS END_SYSTEM", "9..12"),
+];
+
+#[test]
+fn broken_texts(rt: HostRuntime) -> Result<(), Fail> {
+    for (text, expected) in &BROKEN {
+        assert_eq!(rt; place(rt.alloc(), text)?.as_str(), *expected, "{text}");
+    }
+    Ok(())
+}
+
+#[test]
+fn the_longest_texts(rt: HostRuntime) -> Result<(), Fail> {
+    let mut text = " ".repeat(rt.alloc(), 65_536)?;
+    assert_eq!(rt; place(rt.alloc(), text.as_str())?.as_str(), "65536..65536");
+    text.push(' ')?;
+    let fault = Source::read(rt.alloc(), Name::underscore(), text.as_str()).err();
+    assert_eq!(rt; fault, Some(ReadFault::TextTooLong));
+    Ok(())
+}
+
+/// A whole text, and what breaks it: words that stand in it once, what is written in their place, and where it is broken then.
+type Breaks = (
+    &'static str,
+    &'static [(&'static str, &'static str, &'static str)],
+);
+
+static EVENTS: Breaks = (
+    "FUNCTION_BLOCK A EVENT_INPUT E: EV WITH X, Y; END_EVENT VAR_INPUT X, Y: INT := 5; END_VAR END_FUNCTION_BLOCK",
+    &[
+        ("Y:", "With:", "69..73"),
+        ("WITH", "", "36..37"),
+        ("END_VAR", "END_CASE", "82..90"),
+        ("END_FUNCTION_BLOCK", "END_CASE", "90..98"),
+        ("WITH X", "WITH (* X", "40..111"),
+        ("WITH X", "WITH to", "40..42"),
+        ("Y;", "Y", "45..54"),
+        ("END_EVENT", "END_CASE", "46..54"),
+        ("5;", "5", "81..88"),
+    ],
+);
+
+static VARIABLES: Breaks = (
+    "FUNCTION_BLOCK A EVENT_OUTPUT G; END_EVENT VAR I: ARRAY [0..9, -1..3] OF BOOL := [TRUE, 1]; S: STRING[80] := 'a'; END_VAR END_FUNCTION_BLOCK",
+    &[
+        ("END_VAR", "", "115..133"),
+        ("END_FUNCTION_BLOCK", "", "122..122"),
+        ("'a';", "'a'", "113..120"),
+        ("80", "80% ", "104..105"),
+        ("; S", "; to", "92..94"),
+        ("EVENT_OUTPUT G", "EVENT_OUTPUT MOD", "30..33"),
+        ("FUNCTION_BLOCK A", "FUNCTION_BLOCK With", "15..19"),
+    ],
+);
+
+static ADAPTER: Breaks = (
+    "ADAPTER AD EVENT_INPUT CF; END_EVENT VAR_OUTPUT V:INT; END_VAR SERVICE any END_VAR ' ( END_SERVICE END_ADAPTER",
+    &[
+        ("VAR_OUTPUT V", "VAR_OUTPUT MOD", "48..51"),
+        ("; END_VAR", "; END_CASE", "55..63"),
+        ("VAR_OUTPUT", "", "38..39"),
+        ("END_EVENT", "END_CASE", "27..35"),
+        ("END_EVENT", "(* END_EVENT", "27..113"),
+        ("any", "(* any", "71..113"),
+        ("END_EVENT", "", "28..38"),
+        ("END_ADAPTER", "", "99..99"),
+    ],
+);
+
+static INSTANCES: Breaks = (
+    "FUNCTION_BLOCK C PLUGS P: AD(Q := 1); END_PLUGS SOCKETS S: AD; END_SOCKETS FBS F: T(DT := T#250ms, X := [1, 2]); G: T(); END_FBS END_FUNCTION_BLOCK",
+    &[
+        ("FBS F", "FBS MOD", "79..82"),
+        ("AD;", "With;", "59..63"),
+        ("[", "(* [", "104..150"),
+        ("END_FUNCTION_BLOCK", "", "129..129"),
+        ("END_FUNCTION_BLOCK", "END_CASE", "129..137"),
+        ("DT :=", "DT (* :=", "87..150"),
+        ("END_FBS", "END_CASE", "121..129"),
+        ("END_SOCKETS FBS", "END_SOCKETS ", "76..77"),
+        ("DT", "to", "84..86"),
+        ("; END_PLUGS", " END_PLUGS", "37..46"),
+        ("END_FBS", "", "122..140"),
+        ("; G", "; on", "whole"),
+        ("END_SOCKETS", "", "64..67"),
+        ("END_PLUGS", "END_CASE", "38..46"),
+    ],
+);
+
+static CONNECTIONS: Breaks = (
+    "SUBAPPLICATION SA SUBAPPS N:MID; END_SUBAPPS EVENT_CONNECTIONS F.O TO G.I; IN TO N.E; END_CONNECTIONS DATA_CONNECTIONS A TO F.X; END_CONNECTIONS END_SUBAPPLICATION",
+    &[
+        ("SA SUBAPPS", "SA ", "19..20"),
+        ("I;", "I(* ;", "73..166"),
+        (
+            "END_CONNECTIONS DATA_CONNECTIONS",
+            "(* END_CONNECTIONS DATA_CONNECTIONS",
+            "86..166",
+        ),
+        ("G", "to", "70..72"),
+        ("I;", "I", "74..76"),
+        ("END_SUBAPPLICATION", "END_CASE", "145..153"),
+        ("SUBAPPLICATION SA", " SA", "1..3"),
+        ("TO N", "TO With", "81..85"),
+        ("EVENT_CONNECTIONS", "", "46..47"),
+        ("E;", "E(* ;", "84..166"),
+    ],
+);
+
+static STATES: Breaks = (
+    "FUNCTION_BLOCK B EC_STATES S0; S1: G -> O, H, -> P.X; END_STATES END_FUNCTION_BLOCK",
+    &[
+        ("X;", "X", "53..63"),
+        (".", "(* .", "50..86"),
+        ("END_FUNCTION_BLOCK", "", "65..65"),
+        ("G", "(* G", "35..86"),
+        ("FUNCTION_BLOCK B", "FUNCTION_BLOCK In", "whole"),
+        ("S0;", "S0", "30..32"),
+        ("END_FUNCTION_BLOCK", "END_CASE", "65..73"),
+        ("END_STATES", "END_CASE", "54..62"),
+        (":", "(* :", "33..86"),
+    ],
+);
+
+static TRANSITIONS: Breaks = (
+    "FUNCTION_BLOCK B EC_TRANSITIONS S0 TO S1 := 1; S1 TO S0 := E[X > 3]; S1 TO S1 := P.E & NOT B; S0 TO S0 := [A OR B]; END_TRANSITIONS END_FUNCTION_BLOCK",
+    &[
+        ("; S0", "; resource", "94..102"),
+        ("END_FUNCTION_BLOCK", "", "132..132"),
+        ("; END_TRANSITIONS", " END_TRANSITIONS", "115..130"),
+        ("OR", "", "110..111"),
+        ("1;", "1(* ;", "45..153"),
+        ("B;", "B", "93..95"),
+        ("END_TRANSITIONS", "END_CASE", "116..124"),
+    ],
+);
+
+static ALGORITHMS: Breaks = (
+    "FUNCTION_BLOCK B ALGORITHM G IN ST: B := X; END_ALGORITHM ALGORITHM H IN LD ( * ; END_VAR IN ST é END_ALGORITHM END_FUNCTION_BLOCK",
+    &[
+        ("B ALGORITHM", "B ", "18..19"),
+        ("END_ALGORITHM ALGORITHM", "END_ALGORITHM ", "59..60"),
+        ("G IN", "G to", "29..31"),
+        ("END_FUNCTION_BLOCK", "", "113..113"),
+        ("* ;", "* ", "whole"),
+        ("ALGORITHM H", "ALGORITHM With", "68..72"),
+        ("LD", "to", "73..75"),
+        ("X", "X% ", "42..43"),
+    ],
+);
+
+static CHOICES: Breaks = (
+    "FUNCTION_BLOCK D ALGORITHM G IN ST IF A THEN B := 1; ELSIF C = D THEN E := 2; ELSE ; END_IF; CASE X OF 1, 2..3: A := 1; INT#4: ; ELSE C := 3; END_CASE END_ALGORITHM END_FUNCTION_BLOCK",
+    &[
+        ("; CASE", "; ", "96..98"),
+        (":= 2", "(* := 2", "72..186"),
+        ("END_CASE", "END_IF", "142..148"),
+        ("ELSE ;", "ELSE ", "whole"),
+        ("ELSE C", "(* ELSE C", "129..186"),
+        ("END_CASE", "", "143..156"),
+        ("END_FUNCTION_BLOCK", "END_CASE", "165..173"),
+        ("ELSE C", "ELSE With", "134..138"),
+        (": A", ": on", "whole"),
+        ("ST", "In", "whole"),
+        ("END_IF", "END_CASE", "85..93"),
+        ("ELSIF C", "ELSIF resource", "59..67"),
+    ],
+);
+
+static LOOPS: Breaks = (
+    "FUNCTION_BLOCK D ALGORITHM G IN ST FOR I := 1 TO 10 BY 2 DO X := X + I; END_FOR; WHILE A AND B DO EXIT; END_WHILE REPEAT A := NOT A; UNTIL A END_REPEAT RETURN; END_ALGORITHM END_FUNCTION_BLOCK",
+    &[
+        ("IN", "MOD", "29..32"),
+        ("END_FOR", "% END_FOR", "72..73"),
+        ("BY", "", "53..54"),
+        ("I;", "I", "71..78"),
+        ("EXIT;", "EXIT", "103..112"),
+        ("ST", "resource", "32..40"),
+        ("ST FOR", "ST ", "43..45"),
+        ("AND", "", "90..91"),
+        ("END_WHILE", "", "151..164"),
+        ("UNTIL", "", "136..146"),
+        (":= X", ":= on", "whole"),
+        ("END_FOR", "END_CASE", "72..80"),
+    ],
+);
+
+static EXPRESSION: Breaks = (
+    "FUNCTION_BLOCK D ALGORITHM G IN ST X[1, Y] := -(3 * 4) ** 2 MOD P.Q + REAL#1.5E-3 - 'a' <> B & TRUE XOR (C >= D) OR NOT E; END_ALGORITHM END_FUNCTION_BLOCK",
+    &[
+        ("END_FUNCTION_BLOCK", "END_CASE", "137..145"),
+        ("FUNCTION_BLOCK D", " D", "1..2"),
+        ("NOT", "", "whole"),
+        ("XOR", "", "101..102"),
+        (";", "", "122..135"),
+        ("IN", "With", "29..33"),
+        ("FUNCTION_BLOCK D", "FUNCTION_BLOCK In", "whole"),
+        ("END_ALGORITHM", "END_CASE", "123..131"),
+        ("-(", "% -(", "46..47"),
+        ("FUNCTION_BLOCK D", "FUNCTION_BLOCK to", "15..17"),
+        ("XOR", "(* XOR", "100..158"),
+        ("D ALGORITHM", "D ", "18..19"),
+        ("ST X", "ST In", "whole"),
+        ("NOT", "(* NOT", "116..158"),
+        ("TRUE", "", "96..99"),
+        (") OR", ") ", "114..117"),
+        ("**", "(* **", "55..158"),
+        ("(C", "(to", "105..107"),
+    ],
+);
+
+static SYSTEM: Breaks = (
+    "SYSTEM Y APPLICATION APP SUBAPPS SUB:SA; END_SUBAPPS FBS B:T; END_FBS END_APPLICATION DEVICE D:DT(ADDR := 'x'); RESOURCE R1:RT END_RESOURCE END_DEVICE MAPPINGS APP.SUB ON D.R1; END_MAPPINGS END_SYSTEM",
+    &[
+        ("END_FBS", "END_CASE", "62..70"),
+        ("END_DEVICE", "", "141..149"),
+        ("FBS B", "(* FBS B", "53..203"),
+        (":T", ":With", "59..63"),
+        ("R1;", "R1", "176..188"),
+        ("T;", "T", "61..68"),
+        ("APP SUBAPPS", "(* APP SUBAPPS", "21..203"),
+        ("END_MAPPINGS", "", "178..188"),
+        ("END_APPLICATION", "END_CASE", "70..78"),
+        ("END_SUBAPPS", "", "42..45"),
+        ("DEVICE D", "DEVICE to", "93..95"),
+        ("END_APPLICATION", "", "71..77"),
+        ("FBS B", "FBS With", "57..61"),
+        ("Y APPLICATION", "Y ", "10..13"),
+        ("RT", "on", "whole"),
+        ("END_APPLICATION DEVICE", "END_APPLICATION ", "87..88"),
+        ("; RESOURCE", "; (* RESOURCE", "112..203"),
+        (");", ")", "whole"),
+        ("SA;", "SA", "40..51"),
+        ("SUBAPPS SUB", "SUBAPPS ST", "whole"),
+        ("END_SYSTEM", "END_CASE", "190..198"),
+        ("SUB:", "% SUB:", "33..34"),
+    ],
+);
+
+/// Breaks a text in each of these ways.
+fn compare(
+    rt: &impl Abort,
+    alloc: Global,
+    whole: &str,
+    breaks: &[(&str, &str, &str)],
+) -> Result<(), Fail> {
+    assert_eq!(rt; place(alloc, whole)?.as_str(), "whole", "{whole}");
+    for (old, new, expected) in breaks {
+        assert_eq!(rt; whole.matches(*old).count(), 1, "{old} in {whole}");
+        let text = whole.replace(alloc, *old, new)?;
+        assert_eq!(rt; place(alloc, text.as_str())?.as_str(), *expected, "{text}");
+    }
+    Ok(())
+}
+
+#[test]
+fn texts_with_one_thing_wrong(rt: HostRuntime) -> Result<(), Fail> {
+    let alloc = rt.alloc();
+    compare(&rt, alloc, EVENTS.0, EVENTS.1)?;
+    compare(&rt, alloc, VARIABLES.0, VARIABLES.1)?;
+    compare(&rt, alloc, ADAPTER.0, ADAPTER.1)?;
+    compare(&rt, alloc, INSTANCES.0, INSTANCES.1)?;
+    compare(&rt, alloc, CONNECTIONS.0, CONNECTIONS.1)?;
+    compare(&rt, alloc, STATES.0, STATES.1)?;
+    compare(&rt, alloc, TRANSITIONS.0, TRANSITIONS.1)?;
+    compare(&rt, alloc, ALGORITHMS.0, ALGORITHMS.1)?;
+    compare(&rt, alloc, CHOICES.0, CHOICES.1)?;
+    compare(&rt, alloc, LOOPS.0, LOOPS.1)?;
+    compare(&rt, alloc, EXPRESSION.0, EXPRESSION.1)?;
+    compare(&rt, alloc, SYSTEM.0, SYSTEM.1)
+}

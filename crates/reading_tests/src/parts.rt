@@ -1,0 +1,293 @@
+//! The parts of declarations.
+use crate::readers::{Part, read};
+use fb_parse::tree::LiteralForm;
+use fb_sections::forms::{literal_use, one_of};
+use fb_sections::lexemes::{Kind, lexemes};
+use std::alloc::{AllocError, Global};
+use std::test::Fail;
+
+// Texts with the part that is read at their front, and how many tokens stand behind it, or from the one that does not go on.
+static SECTIONS: [(Part, &str, &str, usize); 25] = [
+    (
+        Part::Listed,
+        "A, in ,B_1 ; C",
+        "A 0..1; IN 3..5; B_1 7..10",
+        2,
+    ),
+    (Part::Listed, "A, ,B", "stops", 2),
+    (Part::Listed, "A,", "stops", 0),
+    (Part::Listed, "1 A", "stops", 2),
+    (Part::Listed, "WITH", "stops", 1),
+    (Part::Path, "A.B.C,D", "A 0..1; B 2..3; C 4..5", 2),
+    (Part::Several, "A ON 1 B", "A 0..1; ON 2..4", 2),
+    (
+        Part::Events,
+        "EVENT_OUTPUT EO1; EO2:T WITH X,Y; END_EVENT VAR",
+        "Output EO1; Output EO2:T WITH X,Y",
+        1,
+    ),
+    (Part::Events, "EVENT_INPUT E F; END_EVENT", "stops", 3),
+    (Part::Events, "EVENT_INPUT E: END_EVENT", "stops", 1),
+    (Part::Events, "EVENT_INPUT E;", "stops", 0),
+    (Part::Events, "EVENT_INPUT 1; END_EVENT", "stops", 3),
+    (
+        Part::Data,
+        "VAR_INPUT X,Y:STRING[80]:=-1; END_VAR",
+        "Input X,Y:Sized STRING 14..24 := Whole 26..28",
+        0,
+    ),
+    (
+        Part::Internal,
+        "VAR A: ARRAY[0..9,1..2] OF INT := [1, T#250ms, X]; END_VAR",
+        "Internal A:Array INT 7..30 := [Bit 35..36, Typed(Other) 38..45, X 47..48] 34..49",
+        0,
+    ),
+    (
+        Part::Blocks,
+        "FBS F:TN; G:TN(DT:=T#250ms); H:TN; END_FBS PLUGS P:AD; END_PLUGS",
+        "Block F:TN; Block G:TN(DT := Typed(Other) 19..26); Block H:TN",
+        6,
+    ),
+    (
+        Part::Plugs,
+        "PLUGS P:AD; END_PLUGS SOCKETS Q:AD(); END_SOCKETS",
+        "Plug P:AD",
+        8,
+    ),
+    (
+        Part::Sockets,
+        "SOCKETS Q:AD(); END_SOCKETS SUBAPPS K:INNER; END_SUBAPPS",
+        "Socket Q:AD",
+        6,
+    ),
+    (
+        Part::Subapplications,
+        "SUBAPPS K:INNER; END_SUBAPPS",
+        "Subapplication K:INNER",
+        0,
+    ),
+    (
+        Part::Connections,
+        "EVENT_CONNECTIONS G.O TO N.E; END_CONNECTIONS",
+        "Event G.O TO N.E",
+        0,
+    ),
+    (
+        Part::Connections,
+        "DATA_CONNECTIONS A TO F; END_CONNECTIONS",
+        "Data A TO F",
+        0,
+    ),
+    (
+        Part::Connections,
+        "ADAPTER_CONNECTIONS K TO R.Q; END_CONNECTIONS",
+        "Adapter K TO R.Q",
+        0,
+    ),
+    (
+        Part::States,
+        "EC_STATES S0; S1: G, ->CNF, H->P.E; END_STATES",
+        "S0; S1: G, ->CNF, H->P.E",
+        0,
+    ),
+    (
+        Part::Device,
+        "DEVICE D:DT RESOURCE R1:RT END_RESOURCE RESOURCE R2:RT(N:=1); END_RESOURCE END_DEVICE MAPPINGS",
+        "DEVICE D:DT R1:RT R2:RT(N := Bit 58..59)",
+        1,
+    ),
+    (
+        Part::Mappings,
+        "MAPPINGS APP.SUB.F ON D.R1; END_MAPPINGS SERVICE",
+        "APP.SUB.F ON D.R1",
+        1,
+    ),
+    (Part::Service, "SERVICE a ; -> END_SERVICE", "", 0),
+];
+
+static EXPRESSIONS: [(Part, &str, &str, usize); 10] = [
+    (Part::Expression, "A", "A", 0),
+    (
+        Part::Expression,
+        "P.X[1, I + 1] = T#5s;",
+        "{P.X[Bit][{I Add 9..10 Bit}] Equal 14..15 Typed(Other)}",
+        1,
+    ),
+    (
+        Part::Expression,
+        "-1 ** 2",
+        "{Minus 0..1 Bit Power 3..5 Whole}",
+        0,
+    ),
+    (Part::Expression, "- - 1", "stops", 2),
+    (
+        Part::Expression,
+        "NOT (A OR B)",
+        "Not 0..3 ({A Or 7..9 B})",
+        0,
+    ),
+    (Part::Expression, "A AND", "stops", 0),
+    (Part::Expression, "A[1][2]", "A[Bit]", 3),
+    (Part::Expression, "(A", "stops", 0),
+    (Part::Expression, "IF", "stops", 1),
+    // stronger operators bind first
+    (
+        Part::Expression,
+        "A OR B & -C OR D <> 1.5",
+        "{A Or 2..4 {B And 7..8 Minus 9..10 C} Or 12..14 {D NotEqual 17..19 Real}}",
+        0,
+    ),
+];
+
+static STATEMENTS: [(Part, &str, &str, usize); 14] = [
+    (Part::Statements, "", "", 0),
+    (
+        Part::Statements,
+        "; A := 1; EXIT; RETURN; END_ALGORITHM",
+        "EMPTY; A := Bit; EXIT; RETURN",
+        1,
+    ),
+    (Part::Statements, "A := 1", "stops", 0),
+    (Part::Statements, "A[1].X := 2;", "stops", 5),
+    (
+        Part::Statements,
+        "IF A THEN ; ELSIF B THEN ; ELSE ; END_IF;",
+        "IF A (EMPTY) IF B (EMPTY) ELSE (EMPTY); EMPTY",
+        0,
+    ),
+    (
+        Part::Statements,
+        "IF A THEN ELSE ; ELSIF B THEN END_IF",
+        "stops",
+        4,
+    ),
+    (
+        Part::Statements,
+        "CASE A OF -1, 2..INT#3: ; 4: END_CASE",
+        "CASE A (EMPTY) ELSE ()",
+        0,
+    ),
+    (Part::Statements, "CASE A OF ELSE ; END_CASE", "stops", 3),
+    (
+        Part::Statements,
+        "FOR I := 1 TO 10 DO END_FOR",
+        "FOR I := Bit TO Whole ()",
+        0,
+    ),
+    (
+        Part::Statements,
+        "FOR I := 1 BY 2 TO 10 DO END_FOR",
+        "stops",
+        6,
+    ),
+    (
+        Part::Statements,
+        "FOR A[1] := 1 TO 10 DO END_FOR",
+        "stops",
+        9,
+    ),
+    (
+        Part::Statements,
+        "WHILE A DO ; END_WHILE REPEAT ; UNTIL B END_REPEAT",
+        "WHILE A (EMPTY); REPEAT (EMPTY) UNTIL B",
+        0,
+    ),
+    (Part::Statements, "REPEAT ; UNTIL B; END_REPEAT", "stops", 2),
+    (
+        Part::Statements,
+        "CASE A OF 1: ; ; 2, 3: EXIT; ELSE RETURN; END_CASE IF A THEN ; ELSIF B THEN END_IF FOR I := 1 TO 9 BY 2 DO ; END_FOR",
+        "CASE A (EMPTY; EMPTY; EXIT) ELSE (RETURN); IF A (EMPTY) IF B () ELSE (); FOR I := Bit TO Whole BY Whole (EMPTY)",
+        0,
+    ),
+];
+
+#[test]
+fn parts_of_texts(rt: HostRuntime) -> Result<(), Fail> {
+    for rows in [
+        SECTIONS.as_slice(),
+        EXPRESSIONS.as_slice(),
+        STATEMENTS.as_slice(),
+    ] {
+        for (part, text, expected, left) in rows {
+            let (words, behind) = read(rt.alloc(), *part, text)?;
+            assert_eq!(rt; words.as_str(), *expected, "{part:?} of {text}");
+            assert_eq!(rt; behind, *left, "{part:?} of {text}");
+        }
+    }
+    Ok(())
+}
+
+// What stands so many times before a middle, the middle, and what stands as often behind it; whether it is read, and what is left.
+static NESTED: [(Part, &str, &str, &str, usize, bool, usize); 8] = [
+    // the last level is 64
+    (Part::Expression, "(", "1", ")", 64, true, 0),
+    (Part::Expression, "(", "1", ")", 65, false, 67),
+    (Part::Expression, "A[", "1", "]", 64, true, 0),
+    (Part::Expression, "A[", "1", "]", 65, false, 67),
+    (Part::Statements, "IF A THEN ", ";", " END_IF", 64, true, 0),
+    (
+        Part::Statements,
+        "IF A THEN ",
+        ";",
+        " END_IF",
+        65,
+        false,
+        69,
+    ),
+    // long rows and bodies
+    (Part::Expression, "1+", "1", "*1", 15_000, true, 0),
+    (Part::Statements, ";", "A:=1;", ";", 30_000, true, 0),
+];
+
+fn around(
+    alloc: Global,
+    before: &str,
+    middle: &str,
+    behind: &str,
+    count: usize,
+) -> Result<String, AllocError> {
+    let mut text = before.repeat(alloc, count)?;
+    text.push_str(middle)?;
+    text.push_str(behind.repeat(alloc, count)?.as_str())?;
+    Ok(text)
+}
+
+#[test]
+fn nested_parts(rt: HostRuntime) -> Result<(), Fail> {
+    for (part, before, middle, behind, count, is_read, left) in &NESTED {
+        let text = around(rt.alloc(), before, middle, behind, *count)?;
+        let (words, rest) = read(rt.alloc(), *part, text.as_str())?;
+        assert_eq!(rt;
+            words.as_str() != "stops",
+            *is_read,
+            "{count} times {before}"
+        );
+        assert_eq!(rt; rest, *left, "{count} times {before}");
+    }
+    Ok(())
+}
+
+static LITERALS: [(&str, LiteralForm); 5] = [
+    ("0", LiteralForm::Bit),
+    ("16#FF", LiteralForm::Whole),
+    ("1.5", LiteralForm::Real),
+    ("'A'", LiteralForm::Text),
+    ("false", LiteralForm::Truth),
+];
+
+#[test]
+fn literals(rt: HostRuntime) -> Result<(), Fail> {
+    let kinds = [
+        Kind::Zero,
+        Kind::Number,
+        Kind::RealNumber,
+        Kind::Text,
+        Kind::False,
+    ];
+    for (text, form) in &LITERALS {
+        let tokens = lexemes(rt.alloc(), text)?;
+        let (token, _) = one_of(tokens.as_slice(), &kinds)?;
+        assert_eq!(rt; literal_use(token).form, *form, "{text}");
+    }
+    Ok(())
+}

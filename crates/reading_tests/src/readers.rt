@@ -1,0 +1,73 @@
+//! The readers of the parts of declarations, each over a text of its own.
+use crate::told::{Tell, words};
+use fb_sections::forms::{NAMES, NameReader, Stop, names, separated, several};
+use fb_sections::lexemes::{Kind, Lexeme, lexemes};
+use fb_sections::{
+    blocks, connections, data_variables, device, events, internal_variables, mappings, plugs,
+    service, sockets, states, subapplications,
+};
+use fb_structured_text::{LEVELS, expression, statements};
+use std::alloc::Global;
+use std::test::Fail;
+
+/// What a reader reads.
+#[derive(Clone, Copy, Debug)]
+pub enum Part {
+    /// Names with commas between them.
+    Listed,
+    /// Names with points between them.
+    Path,
+    /// Names with nothing between them.
+    Several,
+    Events,
+    Data,
+    Internal,
+    Plugs,
+    Sockets,
+    Blocks,
+    Subapplications,
+    Connections,
+    States,
+    Device,
+    Mappings,
+    Service,
+    Expression,
+    Statements,
+}
+
+/// What was read, or `stops`, and how many tokens stand behind it, or from the one that does not go on.
+fn told<T: Tell + Drop>(
+    alloc: Global,
+    read: Result<(T, &[Lexeme]), Stop>,
+) -> Result<(String, usize), Fail> {
+    match read {
+        Ok((found, rest)) => Ok((words(alloc, &found)?, rest.len())),
+        Err(Stop::Broken(rest)) => Ok(("stops".to_string(alloc)?, rest.len())),
+        Err(Stop::Memory) => Err(Fail::from("no memory")),
+    }
+}
+
+/// What is read of this part at the front of the text, and how many tokens are left.
+pub fn read(alloc: Global, part: Part, text: &str) -> Result<(String, usize), Fail> {
+    let tokens = lexemes(alloc, text)?;
+    let tokens = tokens.as_slice();
+    match part {
+        Part::Listed => told(alloc, names(alloc, tokens)),
+        Part::Path => told(alloc, separated(&NameReader, Kind::Point, alloc, tokens)),
+        Part::Several => told(alloc, several(&NameReader, alloc, &NAMES, tokens)),
+        Part::Events => told(alloc, events(alloc, tokens)),
+        Part::Data => told(alloc, data_variables(alloc, tokens)),
+        Part::Internal => told(alloc, internal_variables(alloc, tokens)),
+        Part::Plugs => told(alloc, plugs(alloc, tokens)),
+        Part::Sockets => told(alloc, sockets(alloc, tokens)),
+        Part::Blocks => told(alloc, blocks(alloc, tokens)),
+        Part::Subapplications => told(alloc, subapplications(alloc, tokens)),
+        Part::Connections => told(alloc, connections(alloc, tokens)),
+        Part::States => told(alloc, states(alloc, tokens)),
+        Part::Device => told(alloc, device(alloc, tokens)),
+        Part::Mappings => told(alloc, mappings(alloc, tokens)),
+        Part::Service => Ok((String::new(alloc), service(tokens)?.len())),
+        Part::Expression => told(alloc, expression(alloc, LEVELS, tokens)),
+        Part::Statements => told(alloc, statements(alloc, tokens)),
+    }
+}

@@ -1,0 +1,163 @@
+//! Names and tokens.
+use crate::told::words;
+use fb_sections::lexemes::{Kind, lexemes};
+use fb_text::{Name, NameFault, Span, TypeClass, same_name, sorted_names, tokens, type_class};
+use std::test::Fail;
+
+// Texts with their tokens.
+static TOKENS: [(&str, &str); 19] = [
+    ("A:=1", "Word 0..1; Symbol 1..3; Number 3..4"),
+    (
+        "X:=INT#1..5;",
+        "Word 0..1; Symbol 1..3; Typed 3..8; Symbol 8..10; Number 10..11; Symbol 11..12",
+    ),
+    // comments that are never closed, and such as do not nest
+    ("(* x", "never closed 0..4"),
+    ("(*)", "never closed 0..3"),
+    ("(* a (* b *)", ""),
+    // a carriage return does not end a line comment
+    ("// a\r b\nc", "Word 8..9"),
+    ("T#250ms", "Typed 0..7"),
+    ("TO#1", "Typed 0..4"),
+    ("D#2020-01-31", "Typed 0..12"),
+    ("REAL#-1.5e+3", "Typed 0..12"),
+    ("1.5E-3", "Number 0..6"),
+    ("16#FF", "Number 0..5"),
+    ("1_000", "Number 0..5"),
+    ("'it$'s'", "String 0..7"),
+    ("\"é\"", "String 0..4"),
+    ("é", "Other 0..2"),
+    ("€", "Other 0..3"),
+    // a quote that is not closed is a token of one byte
+    (
+        "'$'a\n''",
+        "Other 0..1; Other 1..2; Other 2..3; Word 3..4; String 5..7",
+    ),
+    ("'\"a\"", "Other 0..1; String 1..4"),
+];
+
+#[test]
+fn tokens_of_texts(rt: HostRuntime) -> Result<(), Fail> {
+    for (text, expected) in &TOKENS {
+        let found = tokens(rt.alloc(), text);
+        assert_eq!(rt; words(rt.alloc(), &found)?.as_str(), *expected, "{text}");
+    }
+    let found = tokens(rt.alloc(), "A:=1")?;
+    assert_eq!(rt; found.len(), 3);
+    assert_eq!(rt; found[1].text("A:=1"), ":=");
+    Ok(())
+}
+
+#[test]
+fn quotes_are_read_in_one_pass(rt: HostRuntime) -> Result<(), Fail> {
+    let text = "'$".repeat(rt.alloc(), 32_768)?;
+    assert_eq!(rt; tokens(rt.alloc(), text.as_str())?.len(), 65_536);
+    Ok(())
+}
+
+const LONGEST: &str = "ABCDEFGHABCDEFGHABCDEFGHABCDEFGHABCDEFGHABCDEFGHABCDEFGHABCDEFGH";
+
+const TOO_LONG: &str = "ABCDEFGHABCDEFGHABCDEFGHABCDEFGHABCDEFGHABCDEFGHABCDEFGHABCDEFGHI";
+
+// Texts of one token, with its kind.
+static KINDS: [(&str, Kind); 30] = [
+    ("FUNCTION_BLOCK", Kind::FunctionBlock),
+    ("end_Function_Block", Kind::EndFunctionBlock),
+    ("adapter_connections", Kind::AdapterConnections),
+    ("or", Kind::Or),
+    ("in", Kind::NameIn),
+    ("On", Kind::NameOn),
+    ("ST", Kind::NameSt),
+    ("T", Kind::Name),
+    ("END", Kind::Name),
+    (LONGEST, Kind::Name),
+    (TOO_LONG, Kind::Other),
+    ("0", Kind::Zero),
+    ("1", Kind::One),
+    ("00", Kind::Number),
+    ("1_", Kind::Number),
+    ("16#FF", Kind::Number),
+    ("1.5E-3", Kind::RealNumber),
+    ("bool#1", Kind::TypedTruth),
+    ("INT#16#FF", Kind::TypedInteger),
+    ("byte#1", Kind::TypedBits),
+    ("any_bit#1", Kind::TypedFree),
+    ("ANY#1", Kind::TypedFree),
+    ("ANYTHING#1", Kind::TypedOther),
+    ("T#250ms", Kind::TypedOther),
+    ("TO#1", Kind::TypedOther),
+    ("'INT#1'", Kind::Text),
+    (":=", Kind::Assign),
+    ("&", Kind::Ampersand),
+    ("é", Kind::Other),
+    ("'", Kind::Other),
+];
+
+#[test]
+fn kinds_of_tokens(rt: HostRuntime) -> Result<(), Fail> {
+    for (text, expected) in &KINDS {
+        let found = lexemes(rt.alloc(), text)?;
+        assert_eq!(rt; found.len(), 1, "{text}");
+        assert_eq!(rt; found[0].kind, *expected, "{text}");
+    }
+    Ok(())
+}
+
+#[test]
+fn names_and_places(rt: HostRuntime) -> Result<(), Fail> {
+    let found = lexemes(rt.alloc(), "a_1 := 5;")?;
+    let names = [Kind::NameIn, Kind::Name];
+    assert_eq!(rt; found.len(), 4);
+    assert!(rt; found[0].kind.is_among(names.as_slice()));
+    assert!(rt; !found[1].kind.is_among(names.as_slice()));
+    let used = found[0].name_use();
+    assert_eq!(rt; used.name.as_str(), "A_1");
+    assert_eq!(rt; used.span, Span { start: 0, end: 3 });
+    assert_eq!(rt; found[2].name.as_str(), "_");
+    Ok(())
+}
+
+// Texts that are no names, and why.
+static NO_NAMES: [(&str, NameFault); 3] = [
+    ("", NameFault::Empty),
+    ("1a", NameFault::BadByte(0)),
+    (TOO_LONG, NameFault::TooLong),
+];
+
+#[test]
+fn names(rt: HostRuntime) -> Result<(), Fail> {
+    assert_eq!(rt; Name::read("ab_1")?.as_str(), "AB_1");
+    assert_eq!(rt; TOO_LONG.len(), 65);
+    for (text, fault) in &NO_NAMES {
+        assert_eq!(rt; Name::read(text).err(), Some(*fault), "{text}");
+    }
+    let [b, a_, b_again] = [Name::read("b")?, Name::read("a_")?, Name::read("B")?];
+    assert!(rt; same_name(&b, &b_again));
+    assert!(rt; !same_name(&b, &a_));
+    let names = [b, a_, b_again, Name::read("ab")?, Name::read("a")?];
+    let mut spelled = String::new(rt.alloc());
+    for name in &sorted_names(rt.alloc(), names.as_slice())? {
+        write!(spelled, "{name} ")?;
+    }
+    assert_eq!(rt; spelled.as_str(), "A AB A_ B ");
+    Ok(())
+}
+
+static CLASSES: [(&str, TypeClass); 9] = [
+    ("bool", TypeClass::Truth),
+    ("USINT", TypeClass::Integer),
+    ("LWord", TypeClass::Bits),
+    ("ANY", TypeClass::Free),
+    ("any_", TypeClass::Free),
+    ("ANY_NUM", TypeClass::Free),
+    ("ANYTHING", TypeClass::Other),
+    ("REAL", TypeClass::Other),
+    ("T", TypeClass::Other),
+];
+
+#[test]
+fn classes_of_types(rt: HostRuntime) {
+    for (word, class) in &CLASSES {
+        assert_eq!(rt; type_class(word.as_bytes()), *class, "{word}");
+    }
+}

@@ -1,0 +1,460 @@
+//! What is read, told in words: of a list one part after the other, and a place as `3..5`, from the first byte up to the one behind.
+use fb_parse::tree::{
+    Algorithm, Application, Chart, Condition, Connection, Constant, Counting, Decl, Device, End,
+    Event, Expr, Instance, Mapping, Network, Parameter, Reference, Simple, State, Stmt, System,
+    Transition, TypeDeclaration, Variables,
+};
+use fb_parse::{Body, Source};
+use fb_text::{NameUse, Span, Token, TokenFault};
+use std::alloc::{AllocError, Global};
+
+/// What can be told in words.
+pub trait Tell {
+    /// Adds the words to what has been told.
+    fn tell(&self, told: &mut String) -> Result<(), AllocError>;
+}
+
+/// The words for it.
+pub fn words<T: Tell>(alloc: Global, found: &T) -> Result<String, AllocError> {
+    let mut told = String::new(alloc);
+    found.tell(&mut told)?;
+    Ok(told)
+}
+
+impl<T: Tell> Tell for Vec<T> {
+    fn tell(&self, told: &mut String) -> Result<(), AllocError> {
+        for item in self {
+            if !told.is_empty() {
+                told.push_str("; ")?;
+            }
+            item.tell(told)?;
+        }
+        Ok(())
+    }
+}
+
+impl Tell for Span {
+    fn tell(&self, told: &mut String) -> Result<(), AllocError> {
+        write!(told, " {}..{}", self.start, self.end)
+    }
+}
+
+impl Tell for Token {
+    fn tell(&self, told: &mut String) -> Result<(), AllocError> {
+        write!(told, "{:?}", self.kind)?;
+        self.span.tell(told)
+    }
+}
+
+impl Tell for Result<Vec<Token>, TokenFault> {
+    fn tell(&self, told: &mut String) -> Result<(), AllocError> {
+        match self {
+            Ok(tokens) => tokens.tell(told),
+            Err(TokenFault::BadToken(span)) => {
+                told.push_str("never closed")?;
+                span.tell(told)
+            }
+            Err(TokenFault::Memory) => told.push_str("no memory"),
+        }
+    }
+}
+
+impl Tell for NameUse {
+    fn tell(&self, told: &mut String) -> Result<(), AllocError> {
+        told.push_str(self.name.as_str())?;
+        self.span.tell(told)
+    }
+}
+
+/// Names with a mark before the first, and one between any two.
+fn tell_names(
+    mark: &str,
+    between: &str,
+    names: &[NameUse],
+    told: &mut String,
+) -> Result<(), AllocError> {
+    for (i, name) in names.iter().enumerate() {
+        told.push_str(if i == 0 { mark } else { between })?;
+        told.push_str(name.name.as_str())?;
+    }
+    Ok(())
+}
+
+/// A name, where there is one, with a mark before it.
+fn tell_name(mark: &str, name: &Option<NameUse>, told: &mut String) -> Result<(), AllocError> {
+    if let Some(name) = name {
+        told.push_str(mark)?;
+        told.push_str(name.name.as_str())?;
+    }
+    Ok(())
+}
+
+impl Tell for Event {
+    fn tell(&self, told: &mut String) -> Result<(), AllocError> {
+        write!(told, "{:?} {}", self.side, self.name.name)?;
+        tell_name(":", &self.type_name, told)?;
+        tell_names(" WITH ", ",", self.with.as_slice(), told)
+    }
+}
+
+impl Tell for Simple {
+    fn tell(&self, told: &mut String) -> Result<(), AllocError> {
+        match self {
+            Simple::Literal(literal) => {
+                write!(told, "{:?}", literal.form)?;
+                literal.span.tell(told)
+            }
+            Simple::Name(name) => name.tell(told),
+        }
+    }
+}
+
+impl Tell for Constant {
+    fn tell(&self, told: &mut String) -> Result<(), AllocError> {
+        match self {
+            Constant::One(value) => value.tell(told),
+            Constant::List(values, span) => {
+                for (i, value) in values.iter().enumerate() {
+                    told.push_str(if i == 0 { "[" } else { ", " })?;
+                    value.tell(told)?;
+                }
+                told.push_str("]")?;
+                span.tell(told)
+            }
+        }
+    }
+}
+
+impl Tell for Variables {
+    fn tell(&self, told: &mut String) -> Result<(), AllocError> {
+        write!(told, "{:?}", self.section)?;
+        tell_names(" ", ",", self.names.as_slice(), told)?;
+        let used = &self.type_use;
+        write!(told, ":{:?} {}", used.form, used.name.name)?;
+        used.span.tell(told)?;
+        if let Some(value) = &self.initial {
+            told.push_str(" := ")?;
+            value.tell(told)?;
+        }
+        Ok(())
+    }
+}
+
+fn tell_parameters(parameters: &[Parameter], told: &mut String) -> Result<(), AllocError> {
+    for parameter in parameters {
+        write!(told, "({} := ", parameter.name.name)?;
+        parameter.value.tell(told)?;
+        told.push_str(")")?;
+    }
+    Ok(())
+}
+
+impl Tell for Instance {
+    fn tell(&self, told: &mut String) -> Result<(), AllocError> {
+        write!(
+            told,
+            "{:?} {}:{}",
+            self.role, self.name.name, self.type_name.name
+        )?;
+        tell_parameters(self.parameters.as_slice(), told)
+    }
+}
+
+impl Tell for End {
+    fn tell(&self, told: &mut String) -> Result<(), AllocError> {
+        told.push_str(self.name.name.as_str())?;
+        tell_name(".", &self.port, told)
+    }
+}
+
+impl Tell for Connection {
+    fn tell(&self, told: &mut String) -> Result<(), AllocError> {
+        write!(told, "{:?} ", self.sort)?;
+        self.source.tell(told)?;
+        told.push_str(" TO ")?;
+        self.destination.tell(told)
+    }
+}
+
+impl Tell for Network {
+    fn tell(&self, told: &mut String) -> Result<(), AllocError> {
+        self.instances.tell(told)?;
+        self.connections.tell(told)?;
+        told.push_str(if self.is_written { "; a network" } else { "" })
+    }
+}
+
+impl Tell for State {
+    fn tell(&self, told: &mut String) -> Result<(), AllocError> {
+        told.push_str(self.name.name.as_str())?;
+        for (i, action) in self.actions.iter().enumerate() {
+            told.push_str(if i == 0 { ": " } else { ", " })?;
+            tell_name("", &action.algorithm, told)?;
+            if let Some(event) = &action.event {
+                told.push_str("->")?;
+                event.tell(told)?;
+            }
+        }
+        Ok(())
+    }
+}
+
+impl Tell for Condition {
+    fn tell(&self, told: &mut String) -> Result<(), AllocError> {
+        match self {
+            Condition::Always(_) => told.push_str("1"),
+            Condition::Event(event) => event.tell(told),
+            Condition::Guarded(event, test) => {
+                event.tell(told)?;
+                told.push_str(" & ")?;
+                test.tell(told)
+            }
+            Condition::Guard(test) => test.tell(told),
+        }
+    }
+}
+
+impl Tell for Transition {
+    fn tell(&self, told: &mut String) -> Result<(), AllocError> {
+        write!(
+            told,
+            "{} TO {} := ",
+            self.source.name, self.destination.name
+        )?;
+        self.condition.tell(told)
+    }
+}
+
+impl Tell for Algorithm {
+    fn tell(&self, told: &mut String) -> Result<(), AllocError> {
+        write!(
+            told,
+            "{} IN {} {}",
+            self.name.name,
+            self.language.name,
+            self.statements.len()
+        )
+    }
+}
+
+impl Tell for Chart {
+    fn tell(&self, told: &mut String) -> Result<(), AllocError> {
+        self.states.tell(told)?;
+        self.transitions.tell(told)?;
+        self.algorithms.tell(told)?;
+        told.push_str(if self.is_written { "; a chart" } else { "" })
+    }
+}
+
+impl Tell for Application {
+    fn tell(&self, told: &mut String) -> Result<(), AllocError> {
+        write!(told, "APPLICATION {}", self.name.name)?;
+        self.network.tell(told)
+    }
+}
+
+impl Tell for Device {
+    fn tell(&self, told: &mut String) -> Result<(), AllocError> {
+        write!(told, "DEVICE {}:{}", self.name.name, self.type_name.name)?;
+        tell_parameters(self.parameters.as_slice(), told)?;
+        for resource in &self.resources {
+            write!(told, " {}:{}", resource.name.name, resource.type_name.name)?;
+            tell_parameters(resource.parameters.as_slice(), told)?;
+        }
+        Ok(())
+    }
+}
+
+impl Tell for Mapping {
+    fn tell(&self, told: &mut String) -> Result<(), AllocError> {
+        tell_names("", ".", self.path.as_slice(), told)?;
+        write!(told, " ON {}.{}", self.device.name, self.resource.name)
+    }
+}
+
+impl Tell for TypeDeclaration {
+    fn tell(&self, told: &mut String) -> Result<(), AllocError> {
+        self.name.tell(told)?;
+        self.interface.events.tell(told)?;
+        self.interface.variables.tell(told)?;
+        self.network.tell(told)?;
+        self.chart.tell(told)
+    }
+}
+
+impl Tell for System {
+    fn tell(&self, told: &mut String) -> Result<(), AllocError> {
+        self.name.tell(told)?;
+        self.applications.tell(told)?;
+        self.devices.tell(told)?;
+        self.mappings.tell(told)
+    }
+}
+
+impl Tell for Decl {
+    fn tell(&self, told: &mut String) -> Result<(), AllocError> {
+        match self {
+            Decl::Block(declared) => {
+                told.push_str("block ")?;
+                declared.tell(told)
+            }
+            Decl::Adapter(declared) => {
+                told.push_str("adapter ")?;
+                declared.tell(told)
+            }
+            Decl::Subapplication(declared) => {
+                told.push_str("subapplication ")?;
+                declared.tell(told)
+            }
+            Decl::System(system) => {
+                told.push_str("system ")?;
+                system.tell(told)
+            }
+        }
+    }
+}
+
+impl Tell for Source {
+    fn tell(&self, told: &mut String) -> Result<(), AllocError> {
+        write!(told, "{} is ", self.unit())?;
+        match self.body() {
+            Body::Tree(declared) => declared.tell(told),
+            Body::Broken(span) => {
+                told.push_str("broken")?;
+                span.tell(told)
+            }
+        }
+    }
+}
+
+impl Tell for Expr {
+    fn tell(&self, told: &mut String) -> Result<(), AllocError> {
+        tell_expression(self, told)
+    }
+}
+
+impl Tell for Stmt {
+    fn tell(&self, told: &mut String) -> Result<(), AllocError> {
+        tell_statement(self, told)
+    }
+}
+
+/// A literal by its form, an operator with its place, and a row of operators of one strength in braces.
+#[cycle(tell_expression)]
+fn tell_expression(expression: &Expr, told: &mut String) -> Result<(), AllocError> {
+    match expression {
+        Expr::Literal(literal) => write!(told, "{:?}", literal.form),
+        Expr::Reference(reference, subscripts) => {
+            tell_reference(reference, subscripts.as_slice(), told)
+        }
+        Expr::Unary(operator, operand) => {
+            write!(told, "{:?}", operator.operator)?;
+            operator.span.tell(told)?;
+            told.push_str(" ")?;
+            tell_expression(operand, told)
+        }
+        Expr::Row(first, operands) => {
+            told.push_str("{")?;
+            tell_expression(first, told)?;
+            for (operator, operand) in operands {
+                write!(told, " {:?}", operator.operator)?;
+                operator.span.tell(told)?;
+                told.push_str(" ")?;
+                tell_expression(operand, told)?;
+            }
+            told.push_str("}")
+        }
+        Expr::Parentheses(inner, _) => {
+            told.push_str("(")?;
+            tell_expression(inner, told)?;
+            told.push_str(")")
+        }
+    }
+}
+
+/// A variable with its subscripts, each in brackets.
+#[cycle(tell_expression)]
+fn tell_reference(
+    reference: &Reference,
+    subscripts: &[Expr],
+    told: &mut String,
+) -> Result<(), AllocError> {
+    told.push_str(reference.name.name.as_str())?;
+    tell_name(".", &reference.member, told)?;
+    for subscript in subscripts {
+        told.push_str("[")?;
+        tell_expression(subscript, told)?;
+        told.push_str("]")?;
+    }
+    Ok(())
+}
+
+/// What is done stands in parentheses behind the condition.
+#[cycle(tell_statement)]
+fn tell_statement(statement: &Stmt, told: &mut String) -> Result<(), AllocError> {
+    match statement {
+        Stmt::Empty => told.push_str("EMPTY"),
+        Stmt::Assign(variable, subscripts, _, value) => {
+            tell_reference(variable, subscripts.as_slice(), told)?;
+            told.push_str(" := ")?;
+            tell_expression(value, told)
+        }
+        Stmt::Exit => told.push_str("EXIT"),
+        Stmt::Return => told.push_str("RETURN"),
+        Stmt::If(arms, otherwise) => {
+            for (condition, body) in arms {
+                told.push_str("IF ")?;
+                tell_expression(condition, told)?;
+                tell_body(body.as_slice(), told)?;
+                told.push_str(" ")?;
+            }
+            told.push_str("ELSE")?;
+            tell_body(otherwise.as_slice(), told)
+        }
+        Stmt::Case(selector, cases, otherwise) => {
+            told.push_str("CASE ")?;
+            tell_expression(selector, told)?;
+            tell_body(cases.as_slice(), told)?;
+            told.push_str(" ELSE")?;
+            tell_body(otherwise.as_slice(), told)
+        }
+        Stmt::For(counting, body) => {
+            tell_counting(counting, told)?;
+            tell_body(body.as_slice(), told)
+        }
+        Stmt::While(condition, body) => {
+            told.push_str("WHILE ")?;
+            tell_expression(condition, told)?;
+            tell_body(body.as_slice(), told)
+        }
+        Stmt::Repeat(body, condition) => {
+            told.push_str("REPEAT")?;
+            tell_body(body.as_slice(), told)?;
+            told.push_str(" UNTIL ")?;
+            tell_expression(condition, told)
+        }
+    }
+}
+
+/// Statements in parentheses.
+#[cycle(tell_statement)]
+fn tell_body(body: &[Stmt], told: &mut String) -> Result<(), AllocError> {
+    told.push_str(" (")?;
+    for (i, statement) in body.iter().enumerate() {
+        told.push_str(if i == 0 { "" } else { "; " })?;
+        tell_statement(statement, told)?;
+    }
+    told.push_str(")")
+}
+
+fn tell_counting(counting: &Counting, told: &mut String) -> Result<(), AllocError> {
+    write!(told, "FOR {} := ", counting.variable.name)?;
+    tell_expression(&counting.from, told)?;
+    told.push_str(" TO ")?;
+    tell_expression(&counting.to, told)?;
+    if let Some(by) = &counting.by {
+        told.push_str(" BY ")?;
+        tell_expression(by, told)?;
+    }
+    Ok(())
+}

@@ -1,0 +1,96 @@
+//! The texts of units that are whole.
+use crate::told::words;
+use fb_parse::tree::mentions;
+use fb_parse::{Body, Source};
+use fb_text::Name;
+use std::test::Fail;
+
+// Units with their texts, and what these declare.
+static UNITS: [(&str, &str, &str); 8] = [
+    (
+        "q",
+        "function_block a_1 EVENT_INPUT E:T WITH X,y; END_EVENT VAR_OUTPUT Z:INT; END_VAR EVENT_OUTPUT O; END_EVENT VAR_INPUT X,Y:ARRAY [0..9] OF INT; END_VAR End_Function_Block // done",
+        "Q is block A_1 15..18; Input E:T WITH X,Y; Output O; Output Z:Plain INT 68..71; Input X,Y:Array INT 121..140",
+    ),
+    (
+        "K",
+        "FUNCTION_BLOCK K EVENT_INPUT E; END_EVENT VAR X:INT; B:BOOL; END_VAR EC_STATES S0; S1: G; END_STATES EC_TRANSITIONS S0 TO S1 := E[X]; S1 TO S2 := 1; END_TRANSITIONS ALGORITHM G IN ST: B := X + TRUE; END_ALGORITHM ALGORITHM H IN LD | 1 ( END_ALGORITHM SERVICE ? END_SERVICE END_FUNCTION_BLOCK",
+        "K is block K 15..16; Input E; Internal X:Plain INT 48..51; Internal B:Plain BOOL 55..59; S0; S1: G; S0 TO S1 := E & X; S1 TO S2 := 1; G IN ST 1; H IN LD 0; a chart",
+    ),
+    (
+        "TP",
+        "SUBAPPLICATION TP PLUGS P:AD; END_PLUGS FBS L:PP(DT:=T#250ms); END_FBS SUBAPPS M:SB; END_SUBAPPS ADAPTER_CONNECTIONS L.P TO M.K; END_CONNECTIONS SOCKETS S:AD; END_SOCKETS SERVICE END_SERVICE END_SUBAPPLICATION",
+        "TP is subapplication TP 15..17; Plug P:AD; Block L:PP(DT := Typed(Other) 53..60); Subapplication M:SB; Socket S:AD; Adapter L.P TO M.K; a network",
+    ),
+    (
+        "AD",
+        "ADAPTER AD EVENT_INPUT CF; END_EVENT EVENT_OUTPUT RQ; END_EVENT VAR_OUTPUT V:INT; END_VAR END_ADAPTER",
+        "AD is adapter AD 8..10; Input CF; Output RQ; Output V:Plain INT 77..80",
+    ),
+    (
+        "Y",
+        "SYSTEM Y APPLICATION APP SUBAPPS SUB:SA; END_SUBAPPS END_APPLICATION DEVICE D:DT RESOURCE R1:RT END_RESOURCE RESOURCE R2:RT END_RESOURCE END_DEVICE MAPPINGS APP ON D.R1; APP.SUB.F ON D.R2; END_MAPPINGS END_SYSTEM",
+        "Y is system Y 7..8; APPLICATION APP; Subapplication SUB:SA; a network; DEVICE D:DT R1:RT R2:RT; APP ON D.R1; APP.SUB.F ON D.R2",
+    ),
+    // empty sections
+    (
+        "_",
+        "FUNCTION_BLOCK A FBS END_FBS EC_STATES END_STATES END_FUNCTION_BLOCK",
+        "_ is block A 15..16; a network; a chart",
+    ),
+    (
+        "_",
+        "FUNCTION_BLOCK A DATA_CONNECTIONS END_CONNECTIONS END_FUNCTION_BLOCK",
+        "_ is block A 15..16; a network",
+    ),
+    (
+        "_",
+        "FUNCTION_BLOCK A PLUGS P:AD; END_PLUGS SOCKETS END_SOCKETS EC_TRANSITIONS END_TRANSITIONS END_FUNCTION_BLOCK",
+        "_ is block A 15..16; Plug P:AD",
+    ),
+];
+
+#[test]
+fn texts_of_units(rt: HostRuntime) -> Result<(), Fail> {
+    for (unit, text, expected) in &UNITS {
+        let source = Source::read(rt.alloc(), Name::read(unit)?, text)?;
+        assert_eq!(rt; source.text(), *text);
+        assert_eq!(rt;
+            words(rt.alloc(), source.as_ref())?.as_str(),
+            *expected,
+            "{text}"
+        );
+    }
+    Ok(())
+}
+
+// Texts with the types that they mention.
+static MENTIONS: [(&str, &str); 3] = [
+    (
+        "SUBAPPLICATION SA FBS F:TN; G:TN(DT:=T#250ms); H:TN; END_FBS EVENT_CONNECTIONS F.O TO G.I; G.O TO H.I; END_CONNECTIONS END_SUBAPPLICATION",
+        "TN ",
+    ),
+    (
+        "SYSTEM Y APPLICATION APP SUBAPPS SUB:SA; END_SUBAPPS END_APPLICATION DEVICE D:DT RESOURCE R1:RT END_RESOURCE END_DEVICE END_SYSTEM",
+        "SA ",
+    ),
+    (
+        "FUNCTION_BLOCK B SOCKETS S:Z; END_SOCKETS FBS F:Y; G:Z; END_FBS PLUGS P:X; END_PLUGS END_FUNCTION_BLOCK",
+        "X Y Z ",
+    ),
+];
+
+#[test]
+fn mentioned_types(rt: HostRuntime) -> Result<(), Fail> {
+    for (text, expected) in &MENTIONS {
+        let source = Source::read(rt.alloc(), Name::underscore(), text)?;
+        let mut found = String::new(rt.alloc());
+        if let Body::Tree(declared) = source.body() {
+            for name in &mentions(rt.alloc(), declared)? {
+                write!(found, "{name} ")?;
+            }
+        }
+        assert_eq!(rt; found.as_str(), *expected, "{text}");
+    }
+    Ok(())
+}
