@@ -64,7 +64,7 @@ fn plays_locked(
 fn has_no_faults(value: &Value) -> bool {
     match value {
         Value::Faults(faults) => faults.is_empty(),
-        Value::Net(_) => false,
+        _ => false,
     }
 }
 
