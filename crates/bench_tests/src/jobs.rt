@@ -141,22 +141,41 @@ fn jobs_of_one_text(rt: HostRuntime) -> Result<(), Fail> {
     Ok(())
 }
 
-// Whether a key comes after the last one, and is there or not.
-fn is_next(bench: &Bench, last: Option<Key>, key: Key, is_there: bool) -> bool {
-    last < Some(key) && is_pending(bench, key) == is_there && is_no_key(bench, key) != is_there
+// Whether the first key comes before the second.
+fn is_before(first: Key, second: Key) -> bool {
+    first < second
 }
 
-// Keys go by kind and then by unit, and an empty text has the key of its faults alone.
+// Keys that follow each other: by kind, and then by unit.
+const KEYS: &[(Kind, &str, Kind, &str)] = &[
+    (Kind::Faults, "A", Kind::Faults, "B"),
+    (Kind::Faults, "B", Kind::Net, "A"),
+    (Kind::Net, "A", Kind::Net, "B"),
+    (Kind::Net, "B", Kind::Deploy, "A"),
+    (Kind::Deploy, "A", Kind::Deploy, "B"),
+];
+
 #[test]
 fn keys_in_order(rt: HostRuntime) -> Result<(), Fail> {
+    for (kind, unit, next_kind, next_unit) in KEYS {
+        let first = key_of(*kind, unit)?;
+        let second = key_of(*next_kind, next_unit)?;
+        assert!(rt; is_before(first, second), "{unit} {next_unit}");
+    }
+    Ok(())
+}
+
+// An empty text has the key of its faults alone.
+#[test]
+fn keys_of_an_empty_text(rt: HostRuntime) -> Result<(), Fail> {
     let bench = bench_after(rt.alloc(), EMPTY)?;
-    let mut last = None;
     for kind in [Kind::Faults, Kind::Net, Kind::Deploy] {
         for unit in ["A", "B"] {
-            let key = key_of(kind, unit)?;
             let is_there = kind == Kind::Faults && unit == "B";
-            assert!(rt; is_next(&bench, last, key, is_there), "{unit}");
-            last = Some(key);
+            let pending = is_pending(&bench, key_of(kind, unit)?);
+            assert_eq!(rt; pending, is_there, "{unit}");
+            let unknown = is_no_key(&bench, key_of(kind, unit)?);
+            assert_eq!(rt; unknown, !is_there, "{unit}");
         }
     }
     Ok(())
