@@ -18,11 +18,6 @@ const USER: &str = r#"
 < {"commit":1}
 "#;
 
-const EMPTY: &str = r#"
-> {"op":"commit","changes":[{"put":"B","base":0,"text":""}]}
-< {"commit":1}
-"#;
-
 fn key_of(kind: Kind, unit: &str) -> Result<Key, Fail> {
     let unit = Name::read(unit)?;
     Ok(Key { kind, unit })
@@ -61,11 +56,6 @@ fn has_value(bench: &Bench, key: Key) -> bool {
 fn is_pending(bench: &Bench, key: Key) -> bool {
     let shown = bench.peek(&key);
     matches!(&shown, Shown::Pending)
-}
-
-fn is_no_key(bench: &Bench, key: Key) -> bool {
-    let shown = bench.peek(&key);
-    matches!(&shown, Shown::NoSuchKey)
 }
 
 // Whether a job and its result are for the key and have read these names at these revisions, with a source for each
@@ -161,22 +151,6 @@ fn keys_in_order(rt: HostRuntime) -> Result<(), Fail> {
         let first = key_of(*kind, unit)?;
         let second = key_of(*next_kind, next_unit)?;
         assert!(rt; is_before(first, second), "{unit} {next_unit}");
-    }
-    Ok(())
-}
-
-// An empty text has the key of its faults alone.
-#[test]
-fn keys_of_an_empty_text(rt: HostRuntime) -> Result<(), Fail> {
-    let bench = bench_after(rt.alloc(), EMPTY)?;
-    for kind in [Kind::Faults, Kind::Net, Kind::Deploy] {
-        for unit in ["A", "B"] {
-            let is_there = kind == Kind::Faults && unit == "B";
-            let pending = is_pending(&bench, key_of(kind, unit)?);
-            assert_eq!(rt; pending, is_there, "{unit}");
-            let unknown = is_no_key(&bench, key_of(kind, unit)?);
-            assert_eq!(rt; unknown, !is_there, "{unit}");
-        }
     }
     Ok(())
 }
