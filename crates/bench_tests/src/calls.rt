@@ -18,6 +18,8 @@ enum Step<'a> {
     /// The only key, pending and handed out, is that of the unit's faults.
     Out(&'a str),
     Revision(&'a str, u64),
+    /// The keys, in order.
+    Keys(&'a [(Kind, &'a str)]),
     /// How many records there are.
     Records(usize),
     /// The record of this number is of this turn of caller 2, who asked and was given a value.
@@ -62,6 +64,17 @@ fn is_answer(bench: &Bench, number: u64, turn: u64) -> bool {
     }
 }
 
+fn are_keys(bench: &Bench, wanted: &[(Kind, &str)]) -> Result<bool, Fail> {
+    for place in 0..wanted.len() {
+        let (kind, unit) = wanted[place];
+        let unit = Name::read(unit)?;
+        if bench.key_at(place) != Some(Key { kind, unit }) {
+            return Ok(false);
+        }
+    }
+    Ok(bench.key_count() == wanted.len())
+}
+
 // Whether the step goes as it says.
 fn goes(alloc: Global, bench: &mut Bench, step: Step<'_>) -> Result<bool, Fail> {
     match step {
@@ -70,6 +83,7 @@ fn goes(alloc: Global, bench: &mut Bench, step: Step<'_>) -> Result<bool, Fail> 
         Step::Pending(unit) => peeks_pending(bench, unit),
         Step::Out(unit) => is_out(bench, unit),
         Step::Revision(unit, revision) => Ok(bench.revision(&Name::read(unit)?) == revision),
+        Step::Keys(wanted) => are_keys(bench, wanted),
         Step::Records(count) => Ok(bench.len() == count),
         Step::Answer(number, turn) => Ok(is_answer(bench, number, turn)),
         Step::NoRecord(number) => Ok(bench.record(number).is_none()),
@@ -350,6 +364,57 @@ const REFUSED: &[Step<'static>] = &[
     Step::Records(4),
 ];
 
+// Keys of all three kinds; the plan of a system is taken, given back and delivered, and then the system is removed.
+const PLANNED: &[Step<'static>] = &[
+    Step::Lines(
+        1,
+        r#"
+> {"op":"commit","changes":[{"put":"TN","base":0,"text":"FUNCTION_BLOCK TN EVENT_INPUT I; END_EVENT EVENT_OUTPUT O; END_EVENT VAR_INPUT DT:TIME; END_VAR END_FUNCTION_BLOCK"},{"put":"SA","base":0,"text":"SUBAPPLICATION SA FBS F:TN; G:TN(DT:=T#250ms); H:TN; END_FBS EVENT_CONNECTIONS F.O TO G.I; G.O TO H.I; END_CONNECTIONS END_SUBAPPLICATION"},{"put":"Y","base":0,"text":"SYSTEM Y APPLICATION APP SUBAPPS SUB:SA; END_SUBAPPS END_APPLICATION DEVICE D:DT RESOURCE R1:RT END_RESOURCE RESOURCE R2:RT END_RESOURCE END_DEVICE MAPPINGS APP.SUB ON D.R1; APP.SUB.F ON D.R2; END_MAPPINGS END_SYSTEM"}]}
+< {"commit":1}
+> {"op":"work","turns":5}
+< {"accepted":5}
+> {"op":"take"}
+< {"job":1,"kind":"deploy","unit":"Y"}
+"#,
+    ),
+    Step::Keys(&[
+        (Kind::Faults, "SA"),
+        (Kind::Faults, "TN"),
+        (Kind::Faults, "Y"),
+        (Kind::Net, "SA"),
+        (Kind::Net, "Y"),
+        (Kind::Deploy, "Y"),
+    ]),
+    Step::Lines(
+        2,
+        r#"
+> {"op":"give_back","kind":"deploy","unit":"Y"}
+< {"returned":true}
+> {"op":"give_back","kind":"deploy","unit":"Y"}
+< {"returned":false}
+> {"op":"give_back","kind":"net","unit":"TN"}
+< {"returned":false}
+> {"op":"take"}
+< {"job":1,"kind":"deploy","unit":"Y"}
+> {"op":"deliver","job":1}
+< {"delivered":"accepted"}
+> {"op":"deliver","job":1}
+< {"refused":"NotPending"}
+> {"op":"commit","changes":[{"remove":"Y","base":1}]}
+< {"commit":2}
+> {"op":"deliver","job":1}
+< {"refused":"NoSuchKey"}
+> {"op":"ask","kind":"net","unit":"Y"}
+< {"refused":"NoSuchKey"}
+"#,
+    ),
+    Step::Keys(&[
+        (Kind::Faults, "SA"),
+        (Kind::Faults, "TN"),
+        (Kind::Net, "SA"),
+    ]),
+];
+
 // With the most units and the most records.
 const TALKS: &[(&str, u64, u64, &[Step<'static>])] = &[
     ("old base", 4, 100, OLD_BASE),
@@ -359,6 +424,7 @@ const TALKS: &[(&str, u64, u64, &[Step<'static>])] = &[
     ("meanwhile", 4, 100, MEANWHILE),
     ("put again", 4, 100, PUT_AGAIN),
     ("refused", 4, 100, REFUSED),
+    ("planned", 4, 100, PLANNED),
 ];
 
 #[test]

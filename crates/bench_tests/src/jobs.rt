@@ -12,6 +12,17 @@ const PLAIN: &str = r#"
 < {"commit":1}
 "#;
 
+const EMPTY: &str = r#"
+> {"op":"commit","changes":[{"put":"B","base":0,"text":""}]}
+< {"commit":1}
+"#;
+
+// Mentions as little as the plain text does.
+const OTHER: &str = r#"
+> {"op":"commit","changes":[{"put":"A","base":0,"text":"FUNCTION_BLOCK A EVENT_INPUT E; END_EVENT END_FUNCTION_BLOCK"}]}
+< {"commit":1}
+"#;
+
 // Rests on B.
 const USER: &str = r#"
 > {"op":"commit","changes":[{"put":"A","base":0,"text":"FUNCTION_BLOCK A FBS X:B; END_FBS END_FUNCTION_BLOCK"}]}
@@ -36,9 +47,9 @@ fn bench_after(alloc: Global, text: &str) -> Result<Bench, Fail> {
     }
 }
 
-// The job for a key, which is the next one or the one after it.
+// The job for a key, which is one of the next eight.
 fn job_for(bench: &mut Bench, key: Key) -> Result<Job, Fail> {
-    for _ in 0..2u8 {
+    for _ in 0..8u8 {
         if let Taken::Job(job) = bench.take(1)? {
             if job.key() == key {
                 return Ok(job);
@@ -56,6 +67,11 @@ fn has_value(bench: &Bench, key: Key) -> bool {
 fn is_pending(bench: &Bench, key: Key) -> bool {
     let shown = bench.peek(&key);
     matches!(&shown, Shown::Pending)
+}
+
+fn is_no_key(bench: &Bench, key: Key) -> bool {
+    let shown = bench.peek(&key);
+    matches!(&shown, Shown::NoSuchKey)
 }
 
 // Whether a job and its result are for the key and have read these names at these revisions, with a source for each
@@ -110,6 +126,19 @@ const JOBS: &[(&str, Kind, &str, &[(&str, u64)], &str)] = &[
 < {"net":{"blocked":["S","T"]}}
 "#,
     ),
+    (
+        r#"
+> {"op":"commit","changes":[{"put":"TN","base":0,"text":"FUNCTION_BLOCK TN EVENT_INPUT I; END_EVENT EVENT_OUTPUT O; END_EVENT VAR_INPUT DT:TIME; END_VAR END_FUNCTION_BLOCK"},{"put":"SA","base":0,"text":"SUBAPPLICATION SA FBS F:TN; G:TN(DT:=T#250ms); H:TN; END_FBS EVENT_CONNECTIONS F.O TO G.I; G.O TO H.I; END_CONNECTIONS END_SUBAPPLICATION"},{"put":"Y","base":0,"text":"SYSTEM Y APPLICATION APP SUBAPPS SUB:SA; END_SUBAPPS END_APPLICATION DEVICE D:DT RESOURCE R1:RT END_RESOURCE RESOURCE R2:RT END_RESOURCE END_DEVICE MAPPINGS APP.SUB ON D.R1; APP.SUB.F ON D.R2; END_MAPPINGS END_SYSTEM"}]}
+< {"commit":1}
+"#,
+        Kind::Deploy,
+        "Y",
+        &[("SA", 1), ("TN", 1), ("Y", 1)],
+        r#"
+> {"op":"ask","kind":"deploy","unit":"Y"}
+< {"deploy":{"cuts":[["event","APP.SUB.F.O","APP.SUB.G.I"]],"resources":[["D.R1",["CREATE FB APP.SUB.G TN","CREATE FB APP.SUB.H TN","WRITE APP.SUB.G.DT T#250ms","CREATE CONNECTION APP.SUB.G.O APP.SUB.H.I","START D.R1"]],["D.R2",["CREATE FB APP.SUB.F TN","START D.R2"]]]}}
+"#,
+    ),
 ];
 
 #[test]
@@ -127,6 +156,26 @@ fn jobs_of_one_text(rt: HostRuntime) -> Result<(), Fail> {
             "{unit}"
         );
         assert_eq!(rt; talk(alloc, &mut bench, 1, after)?, None, "{unit}");
+    }
+    Ok(())
+}
+
+// What is no key where B alone is a unit, and its text is empty.
+const NO_KEYS: &[(Kind, &str)] = &[
+    (Kind::Faults, "A"),
+    (Kind::Net, "A"),
+    (Kind::Net, "B"),
+    (Kind::Deploy, "A"),
+    (Kind::Deploy, "B"),
+];
+
+// An empty text has the key of its faults alone.
+#[test]
+fn keys_of_an_empty_text(rt: HostRuntime) -> Result<(), Fail> {
+    let bench = bench_after(rt.alloc(), EMPTY)?;
+    assert!(rt; is_pending(&bench, key_of(Kind::Faults, "B")?));
+    for (kind, unit) in NO_KEYS {
+        assert!(rt; is_no_key(&bench, key_of(*kind, unit)?), "{unit}");
     }
     Ok(())
 }
@@ -166,10 +215,12 @@ fn result_after(alloc: Global, text: &str) -> Result<Finished, Fail> {
 #[test]
 fn a_result_of_another_text(rt: HostRuntime) -> Result<(), Fail> {
     let alloc = rt.alloc();
-    let strange = result_after(alloc, USER)?;
     let mut bench = bench_after(alloc, PLAIN)?;
     let stale = Delivered::Stale(Name::read("A")?);
-    assert!(rt; bench.deliver(1, &strange)? == stale);
+    for text in [USER, OTHER] {
+        let strange = result_after(alloc, text)?;
+        assert!(rt; bench.deliver(1, &strange)? == stale);
+    }
     let text = r#"
 > {"op":"take"}
 < {"job":1,"kind":"faults","unit":"A"}

@@ -1,16 +1,16 @@
 //! The laws of these crates are functions that do nothing, which each crate above may cite.
-use fb_ecc::{algorithms_are_declared, ecc_is_local, events_are_known, states_are_listed};
-use fb_expr::{expr_faults_are_local, expr_faults_are_unmet};
-use fb_faults::{
-    broken_texts_have_one_fault, faults_are_in_order, faults_are_local, faults_are_those_reported,
-};
-use fb_iface::{
+use fb_faults::ecc::{algorithms_are_declared, ecc_is_local, events_are_known, states_are_listed};
+use fb_faults::expr::{expr_faults_are_local, expr_faults_are_unmet};
+use fb_faults::iface::{
     duplicates_are_reported, misfits_are_reported, mixed_kinds_are_reported,
     other_names_are_reported, unknown_types_are_reported, unknown_withs_are_reported,
     wrong_kinds_are_reported,
 };
-use fb_library::{far_is_local, far_is_one_list, near_is_local};
-use fb_netcheck::{connections_are_right, net_faults_are_local, networks_are_fine};
+use fb_faults::library::{far_is_local, far_is_one_list, near_is_local};
+use fb_faults::netcheck::{connections_are_right, net_faults_are_local, networks_are_fine};
+use fb_faults::{
+    broken_texts_have_one_fault, faults_are_in_order, faults_are_local, faults_are_those_reported,
+};
 
 #[test]
 fn laws_ask_for_nothing(_rt: HostRuntime) {

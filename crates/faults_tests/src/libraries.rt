@@ -1,9 +1,9 @@
 //! Libraries of units, and the parts of faults and interfaces.
 use crate::plant::{library, put};
 use fb_faults::faults;
-use fb_iface::{Code, Fault, first_declared, interface, sorted_faults};
-use fb_library::parse::{Body, Source};
-use fb_library::{Change, Library, View, declaration_by_name, far, near, tree_by_name};
+use fb_faults::iface::{Code, Fault, first_declared, interface, sorted_faults};
+use fb_faults::library::{Change, Library, View, declaration_by_name, far, near, tree_by_name};
+use fb_faults::parse::{Body, Source};
 use fb_text::{Name, Span};
 use std::test::Fail;
 

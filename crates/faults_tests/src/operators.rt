@@ -3,8 +3,8 @@
 //! The class of an expression shows in the statements where it may stand: B and Any as a truth value, I, Num and Any as a subscript, W, Num
 //! and Any as a string of bits, and what is not judged before `MOD TRUE` too.
 use crate::plant::{faults_of, library};
-use fb_iface::Code;
-use fb_library::Library;
+use fb_faults::iface::Code;
+use fb_faults::library::Library;
 use std::alloc::Global;
 use std::test::Fail;
 

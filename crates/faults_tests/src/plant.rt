@@ -3,9 +3,9 @@
 //! Faults are told as `CODE words; CODE words`, the words being those at the place of the fault. Where they stand there for the second time
 //! in the text, `#2` follows, and so on.
 use fb_faults::faults;
-use fb_iface::Fault;
-use fb_library::parse::Source;
-use fb_library::{Change, Library};
+use fb_faults::iface::Fault;
+use fb_faults::library::{Change, Library};
+use fb_faults::parse::Source;
 use fb_text::{Name, Span};
 use std::alloc::{AllocError, Global};
 use std::process::Abort;

@@ -421,7 +421,7 @@ impl Bench {
         }
     }
 
-    /// Ends that a key is handed out.
+    /// Clears the mark that a key is handed out.
     pub fn give_back(&mut self, caller: u32, key: Key) -> Result<GivenBack, Refused>
         ensures step { IfOk result (λ _. self.new ≡ recorded self.old caller (ToGiveBack key)) }
         ensures answer { IfOk result (λ answer. OfGiveBack answer ≡ reply (state_of self.old) (ToGiveBack key)) }

@@ -38,7 +38,7 @@ pub trait Desk {
     fn deliver(&mut self, finished: &Finished) -> Result<Delivered, DeskRefused>
         ensures { Serves step self.old (ToDeliver finished.now) OfDeliver result self.new };
 
-    /// Ends that a key is handed out.
+    /// Clears the mark that a key is handed out.
     fn give_back(&mut self, key: Key) -> Result<GivenBack, DeskRefused>
         ensures { Serves step self.old (ToGiveBack key) OfGiveBack result self.new };
 

@@ -154,7 +154,7 @@ fn all_renewed(alloc: Global, library: &Library, keys: &[Key]) -> Result<Vec<Ren
 }
 
 impl Renewal {
-    /// What these changes come to, which have led to the library.
+    /// What the changes alter; `library` is the library after them.
     pub(crate) fn find(
         alloc: Global,
         library: &Library,

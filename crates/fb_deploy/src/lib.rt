@@ -26,7 +26,11 @@ pub mod faults {
 
 /// Of `fb_mapping::flatten`, for the crates above.
 pub mod flatten {
-    pub use fb_mapping::flatten::{Net, all_far, is_of_net, net_of_unit};
+    pub use fb_mapping::flatten::{
+        Net, all_far, far_is_all, far_of_is_local, flat_networks_are_local, has_net,
+        has_net_by_text, is_of_net, net_at_is_local, net_at_is_net, net_is_local, net_of,
+        net_of_unit, one_net,
+    };
 }
 
 /// Of `fb_mapping::iface`, for the crates above.
@@ -36,12 +40,17 @@ pub mod iface {
 
 /// Of `fb_mapping::library`, for the crates above.
 pub mod library {
-    pub use fb_mapping::library::{Change, Library, View, mentions_by_name, near};
+    pub use fb_mapping::library::{
+        Change, Library, View, far, mentions_by_name, near, tree_by_name,
+    };
 }
 
 /// Of `fb_mapping`, for the crates above.
 pub mod mapping {
-    pub use fb_mapping::Misplaced;
+    pub use fb_mapping::{
+        Home, Misplaced, Placed, homes_are_nearest, is_system, one_place, path_names, place,
+        place_is_local,
+    };
 }
 
 /// Of `fb_mapping::network`, for the crates above.
@@ -57,4 +66,12 @@ pub mod parse {
 /// Of `fb_mapping::tree`, for the crates above.
 pub mod tree {
     pub use fb_mapping::tree::Sort;
+}
+
+/// Of `fb_mapping::wiring`, for the crates above.
+pub mod wiring {
+    pub use fb_mapping::wiring::{
+        applications, applications_are_clean, network, networks_are_clean, networks_are_local,
+        without_faults_nothing_is_reported,
+    };
 }

@@ -10,21 +10,41 @@ pub use laws::{
     broken_texts_have_one_fault, faults_are_in_order, faults_are_local, faults_are_those_reported,
 };
 
+/// Of `fb_ecc`, for the crates above.
+pub mod ecc {
+    pub use fb_ecc::{algorithms_are_declared, ecc_is_local, events_are_known, states_are_listed};
+}
+
+/// Of `fb_expr`, for the crates above.
+pub mod expr {
+    pub use fb_expr::{expr_faults_are_local, expr_faults_are_unmet};
+}
+
 /// Of `fb_netcheck::iface`, for the crates above.
 pub mod iface {
-    pub use fb_netcheck::iface::{Fault, Ports};
+    pub use fb_netcheck::iface::{
+        Code, Fault, Ports, duplicates_are_reported, first_declared, interface,
+        misfits_are_reported, mixed_kinds_are_reported, other_names_are_reported, sorted_faults,
+        unknown_types_are_reported, unknown_withs_are_reported, wrong_kinds_are_reported,
+    };
 }
 
 /// Of `fb_netcheck::library`, for the crates above.
 pub mod library {
     pub use fb_netcheck::library::{
-        Change, Library, View, far, mentions_by_name, near, tree_by_name,
+        Change, Library, View, declaration_by_name, far, far_is_local, far_is_one_list,
+        mentions_by_name, near, near_is_local, tree_by_name,
     };
+}
+
+/// Of `fb_netcheck`, for the crates above.
+pub mod netcheck {
+    pub use fb_netcheck::{connections_are_right, net_faults_are_local, networks_are_fine};
 }
 
 /// Of `fb_netcheck::parse`, for the crates above.
 pub mod parse {
-    pub use fb_netcheck::parse::{ReadFault, Source};
+    pub use fb_netcheck::parse::{Body, ReadFault, Source};
 }
 
 /// Of `fb_netcheck::tree`, for the crates above.

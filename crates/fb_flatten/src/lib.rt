@@ -19,10 +19,7 @@ pub use net::{Net, net_of};
 
 /// Of `fb_compose`, for the crates above.
 pub mod compose {
-    pub use fb_compose::{
-        FlatApplication, chains_are_composed, compose, compose_in_order, count_instances,
-        flat_is_one, join, sort_once, system_is_one,
-    };
+    pub use fb_compose::sort_once;
 }
 
 /// Of `fb_wiring::faults`, for the crates above.
@@ -59,5 +56,13 @@ pub mod tree {
     pub use fb_wiring::tree::{
         Application, Constant, Decl, Device, Instance, Mapping, Parameter, Resource, Role, Side,
         Simple, Sort,
+    };
+}
+
+/// Of `fb_wiring`, for the crates above.
+pub mod wiring {
+    pub use fb_wiring::{
+        applications, applications_are_clean, network, networks_are_clean, networks_are_local,
+        without_faults_nothing_is_reported,
     };
 }

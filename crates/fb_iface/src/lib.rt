@@ -36,7 +36,10 @@ pub use scope::Scope;
 
 /// Of `fb_library`, for the crates above.
 pub mod library {
-    pub use fb_library::{Change, Library, View, far, mentions_by_name, near, tree_by_name};
+    pub use fb_library::{
+        Change, Library, View, declaration_by_name, far, far_is_local, far_is_one_list,
+        mentions_by_name, near, near_is_local, tree_by_name,
+    };
 }
 
 /// Of `fb_library::parse`, for the crates above.

@@ -21,10 +21,7 @@ pub use systems::is_system;
 
 /// Of `fb_flatten::compose`, for the crates above.
 pub mod compose {
-    pub use fb_flatten::compose::{
-        FlatApplication, chains_are_composed, compose, compose_in_order, count_instances,
-        flat_is_one, join, sort_once, system_is_one,
-    };
+    pub use fb_flatten::compose::sort_once;
 }
 
 /// Of `fb_flatten::faults`, for the crates above.
@@ -68,4 +65,12 @@ pub mod parse {
 /// Of `fb_flatten::tree`, for the crates above.
 pub mod tree {
     pub use fb_flatten::tree::{Constant, Decl, Device, Parameter, Resource, Side, Simple, Sort};
+}
+
+/// Of `fb_flatten::wiring`, for the crates above.
+pub mod wiring {
+    pub use fb_flatten::wiring::{
+        applications, applications_are_clean, network, networks_are_clean, networks_are_local,
+        without_faults_nothing_is_reported,
+    };
 }

@@ -20,12 +20,19 @@ pub use paths::{Placed, report_repeated};
 
 /// Of `fb_iface`, for the crates above.
 pub mod iface {
-    pub use fb_iface::{Code, Fault, Ports, iface_faults, sorted_faults};
+    pub use fb_iface::{
+        Code, Fault, Ports, duplicates_are_reported, first_declared, iface_faults, interface,
+        misfits_are_reported, mixed_kinds_are_reported, other_names_are_reported, sorted_faults,
+        unknown_types_are_reported, unknown_withs_are_reported, wrong_kinds_are_reported,
+    };
 }
 
 /// Of `fb_iface::library`, for the crates above.
 pub mod library {
-    pub use fb_iface::library::{Change, Library, View, far, mentions_by_name, near, tree_by_name};
+    pub use fb_iface::library::{
+        Change, Library, View, declaration_by_name, far, far_is_local, far_is_one_list,
+        mentions_by_name, near, near_is_local, tree_by_name,
+    };
 }
 
 /// Of `fb_iface::parse`, for the crates above.

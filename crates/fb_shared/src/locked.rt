@@ -209,7 +209,7 @@ impl Locked {
         Ok(self.perform(seat, &Request::Deliver(finished))?.0)
     }
 
-    /// Ends that a key is handed out.
+    /// Clears the mark that a key is handed out.
     pub fn give_back(&mut self, seat: &mut Seat, key: Key) -> Result<Receipt, SharedRefused>
         ensures performs { Performs self.old seat.old (ToGiveBack key) (λ claim. claim) result self.new seat.new }
         ensures answers { Answers seat.old (ToGiveBack key) (λ claim. claim) result seat.new }

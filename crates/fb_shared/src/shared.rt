@@ -92,7 +92,7 @@ impl Shared {
         answer
     }
 
-    /// Ends that a key is handed out.
+    /// Clears the mark that a key is handed out.
     pub fn give_back<R: Wait>(
         &self,
         rt: &R,

@@ -1,5 +1,5 @@
 // Std's writers as sinks.
-ghost use Rattle.std.specs.Prelude.{◌≡◌, ◌++◌, ◌≤◌, ◌<◌, [], length, false, IfOk, is_err};
+ghost use Rattle.std.specs.Prelude.{◌≡◌, ◌++◌, ◌≤◌, ◌<◌, [], length, true, false, IfOk, is_err};
 ghost use Rattle.std.specs.Io.KnownBytes.{Appends, Keeps};
 ghost use Rattle.std.specs.List.{concat};
 ghost use Rattle.fb_streams.specs.Streams.{bytes_in};
@@ -14,6 +14,7 @@ use std::io::Write;
 pub struct IntoWrite<W> {
     inner: W,
     has_failed: bool,
+    is_flushed: bool,
     tape: Tape,
 }
 
@@ -22,11 +23,13 @@ impl<W: Write> IntoWrite<W> {
     pub fn new(inner: W) -> IntoWrite<W>
         ensures failed { ⟦<IntoWrite<W> as Sink>⟧.has_failed result ≡ false }
         ensures held { ⟦<IntoWrite<W> as Sink>⟧.held result ≡ [] }
+        ensures flushed { ⟦<IntoWrite<W> as Sink>⟧.is_flushed result ≡ true }
         ensures inner { W.contents result.inner ≡ W.contents inner }
     {
         IntoWrite {
             inner,
             has_failed: false,
+            is_flushed: true,
             tape: Tape::new(),
         }
     }
@@ -34,6 +37,8 @@ impl<W: Write> IntoWrite<W> {
 
 impl<W: Write> Sink for IntoWrite<W> {
     ghost held = { λ s. concat s.tape.pieces };
+
+    ghost is_flushed = { λ s. s.is_flushed };
 
     ghost has_failed = { λ s. s.has_failed };
 
@@ -43,6 +48,7 @@ impl<W: Write> Sink for IntoWrite<W> {
         ensures within { IfOk result (λ n. n ≤ length bytes.now) }
         ensures some { IfOk result (λ n. 0 < length bytes.now → 0 < n) }
         ensures held { concat self.new.tape.pieces ≡ concat self.old.tape.pieces ++ bytes_in result bytes.now }
+        ensures unflushed { IfOk result (λ n. 0 < n → self.new.is_flushed ≡ false) }
         ensures failed { self.new.has_failed ≡ is_err result }
         // Where the writer's bytes are known, they have grown by those that were taken.
         ensures contents { Appends (W.contents self.old.inner) (W.contents self.new.inner) (bytes_in result bytes.now) }
@@ -54,6 +60,7 @@ impl<W: Write> Sink for IntoWrite<W> {
                     return Err(Failed);
                 }
                 let taken = &bytes[..count];
+                self.is_flushed = false;
                 self.tape = self.tape.then(&Piece { bytes: taken });
                 Ok(count)
             }
@@ -67,11 +74,15 @@ impl<W: Write> Sink for IntoWrite<W> {
     fn flush(&mut self) -> Result<(), Failed>
         requires { self.old.has_failed ≡ false }
         ensures held { concat self.new.tape.pieces ≡ concat self.old.tape.pieces }
+        ensures flushed { IfOk result (λ _. self.new.is_flushed ≡ true) }
         ensures failed { self.new.has_failed ≡ is_err result }
         ensures contents { Keeps (W.contents self.old.inner) (W.contents self.new.inner) }
     {
         match self.inner.flush() {
-            Ok(()) => Ok(()),
+            Ok(()) => {
+                self.is_flushed = true;
+                Ok(())
+            }
             Err(_) => {
                 self.has_failed = true;
                 Err(Failed)

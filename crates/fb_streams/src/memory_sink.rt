@@ -1,5 +1,5 @@
 // A sink in memory, which fails when it is told to.
-ghost use Rattle.std.specs.Prelude.{◌≡◌, ◌≤◌, ◌<◌, [], false};
+ghost use Rattle.std.specs.Prelude.{◌≡◌, ◌≤◌, ◌<◌, [], true, false};
 
 use crate::feed::{Failed, Sink};
 use std::alloc::Global;
@@ -12,6 +12,7 @@ pub struct MemorySink {
     good_writes: u64,
     made: u64,
     failed: bool,
+    flushed: bool,
     ghost some: { 0 < piece },
     ghost counted: { made ≤ good_writes },
 }
@@ -21,6 +22,7 @@ impl MemorySink {
     pub fn new(alloc: Global, piece: usize, good_writes: u64) -> MemorySink
         requires { 0 < piece }
         ensures held { ⟦<MemorySink as Sink>⟧.held result ≡ [] }
+        ensures flushed { ⟦<MemorySink as Sink>⟧.is_flushed result ≡ true }
         ensures failed { ⟦<MemorySink as Sink>⟧.has_failed result ≡ false }
     {
         MemorySink {
@@ -29,6 +31,7 @@ impl MemorySink {
             good_writes,
             made: 0,
             failed: false,
+            flushed: true,
         }
     }
 
@@ -43,6 +46,8 @@ impl MemorySink {
 impl Sink for MemorySink {
     ghost held = { λ s. s.held.items };
 
+    ghost is_flushed = { λ s. s.flushed };
+
     ghost has_failed = { λ s. s.failed };
 
     fn write(&mut self, bytes: &[u8]) -> Result<usize, Failed> {
@@ -52,10 +57,12 @@ impl Sink for MemorySink {
             return Err(Failed);
         }
         self.made += 1;
+        self.flushed = false;
         Ok(count)
     }
 
     fn flush(&mut self) -> Result<(), Failed> {
+        self.flushed = true;
         Ok(())
     }
 

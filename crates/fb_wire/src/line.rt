@@ -1,10 +1,10 @@
 // What is said to one line.
-ghost use Rattle.std.specs.Prelude.{◌≡◌, ◌↔◌, IsTrue, true, false, is_err};
+ghost use Rattle.std.specs.Prelude.{◌≡◌, ◌↔◌, IsTrue, IfOk, true, false, is_err};
 ghost use Rattle.fb_wire.specs.Lines.{is_blank};
 ghost use Rattle.serde_json.specs.View.{view};
 ghost use Rattle.fb_wire.specs.Requests.{request_in, request_of};
 ghost use Rattle.fb_wire.specs.Served.{Served, LineServed, LineSaid};
-ghost use Rattle.fb_streams.specs.Streams.{WritesAll};
+ghost use Rattle.fb_streams.specs.Streams.{WritesAll, StaysFlushed};
 ghost use Rattle.fb_wire.specs.Talk.{plan_of};
 
 use crate::answer::answer;
@@ -83,6 +83,7 @@ fn answer_line<D: Desk>(
 fn write_all<S: Sink>(writer: &mut S, bytes: &[u8]) -> Result<(), Failed>
     requires { S.has_failed writer.old ≡ false }
     ensures held { WritesAll (S.held writer.old) bytes.now result (S.held writer.new) }
+    ensures flushed { IfOk result (λ _. S.is_flushed writer.new ≡ true) }
     ensures failed { S.has_failed writer.new ≡ is_err result }
 {
     let mut at = 0;
@@ -105,6 +106,7 @@ pub(crate) fn say_line<D: Desk, S: Sink>(
 ) -> Result<(), RunEnd>
     requires { S.has_failed writer.old ≡ false }
     ensures said { LineSaid D.step line.now held.old.items desk.old (S.held writer.old) result held.new.items desk.new (S.held writer.new) }
+    ensures flushed { StaysFlushed (S.is_flushed writer.old) (S.has_failed writer.new) (S.is_flushed writer.new) }
     ensures failed { IsTrue (S.has_failed writer.new) ↔ (result ≡ Err RunEnd.WriteFailed) }
 {
     match answer_line(alloc, desk, held, line) {

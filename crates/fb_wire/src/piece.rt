@@ -1,5 +1,6 @@
 // Bytes as they come, and the lines in them.
 ghost use Rattle.std.specs.Prelude.{◌≡◌, ◌↔◌, ◌≤◌, ◌<◌, ◌+◌, ◌==◌, ℕ, List, ◌∷◌, [], ◌++◌, length, take, IsTrue, false, MatchOption, MatchResult, IfErr};
+ghost use Rattle.fb_streams.specs.Streams.{StaysFlushed};
 ghost use Rattle.fb_wire.specs.Lines.{IsLine};
 ghost use Rattle.fb_wire.specs.Served.{PieceTaken, Extends, StopsInside};
 
@@ -54,6 +55,7 @@ fn end_line<D: Desk, S: Sink>(
     requires line { IsLine front.now }
     // whatever comes behind them
     ensures taken { (behind : List ℕ) → PieceTaken D.step desk.old line.old.items held.old.items (S.held writer.old) (front.now ++ 10 ∷ []) behind result desk.new line.new.items held.new.items (S.held writer.new) }
+    ensures flushed { StaysFlushed (S.is_flushed writer.old) (S.has_failed writer.new) (S.is_flushed writer.new) }
     ensures failed { IsTrue (S.has_failed writer.new) ↔ (result ≡ Err RunEnd.WriteFailed) }
     ensures inside { IfErr result StopsInside }
 {
@@ -81,6 +83,7 @@ pub(crate) fn take_piece<D: Desk, S: Sink>(
 ) -> Result<(), RunEnd>
     requires { S.has_failed writer.old ≡ false }
     ensures taken { PieceTaken D.step desk.old line.old.items held.old.items (S.held writer.old) piece.now [] result desk.new line.new.items held.new.items (S.held writer.new) }
+    ensures flushed { StaysFlushed (S.is_flushed writer.old) (S.has_failed writer.new) (S.is_flushed writer.new) }
     ensures failed { IsTrue (S.has_failed writer.new) ↔ (result ≡ Err RunEnd.WriteFailed) }
     ensures inside { IfErr result StopsInside }
 {

@@ -2,6 +2,7 @@
 ghost use Rattle.std.specs.Prelude.{◌≡◌, ◌↔◌, ◌≤◌, ◌+◌, ℕ, List, [], ◌++◌, IsTrue, false};
 ghost use Rattle.std.specs.Io.KnownBytes.{Consumes, IsAtEnd};
 ghost use Rattle.fb_bench.specs.Solo.{IsStep};
+ghost use Rattle.fb_streams.specs.Streams.{StaysFlushed};
 ghost use Rattle.fb_wire.specs.Ends.{Stands};
 ghost use Rattle.fb_wire.specs.Script.{SaysBy};
 ghost use Rattle.fb_wire.specs.Talk.{Pair, Runs};
@@ -38,6 +39,7 @@ pub fn run_lines<F: Feed, S: Sink, D: Desk>(
     ensures turns { F.reads reader.new ≤ F.reads reader.old + turns }
     ensures all_turns { result ≡ RunEnd.TurnsOver → F.reads reader.new ≡ F.reads reader.old + turns }
     ensures read_failed { IsTrue (F.has_failed reader.new) ↔ (result ≡ RunEnd.ReadFailed) }
+    ensures flushed { StaysFlushed (S.is_flushed writer.old) (S.has_failed writer.new) (S.is_flushed writer.new) }
     ensures write_failed { IsTrue (S.has_failed writer.new) ↔ (result ≡ RunEnd.WriteFailed) }
 {
     let mut held = Vec::new(alloc);
@@ -84,6 +86,7 @@ fn run_solo<F: Feed, S: Sink>(
     ensures turns { F.reads reader.new ≤ F.reads reader.old + turns }
     ensures all_turns { result ≡ RunEnd.TurnsOver → F.reads reader.new ≡ F.reads reader.old + turns }
     ensures read_failed { IsTrue (F.has_failed reader.new) ↔ (result ≡ RunEnd.ReadFailed) }
+    ensures flushed { StaysFlushed (S.is_flushed writer.old) (S.has_failed writer.new) (S.is_flushed writer.new) }
     ensures write_failed { IsTrue (S.has_failed writer.new) ↔ (result ≡ RunEnd.WriteFailed) }
 {
     run_lines(alloc, reader, writer, solo, turns)
@@ -112,6 +115,7 @@ pub fn run_script<F: Feed, S: Sink>(
     ensures turns { F.reads reader.new ≤ F.reads reader.old + turns }
     ensures all_turns { result ≡ RunEnd.TurnsOver → F.reads reader.new ≡ F.reads reader.old + turns }
     ensures read_failed { IsTrue (F.has_failed reader.new) ↔ (result ≡ RunEnd.ReadFailed) }
+    ensures flushed { StaysFlushed (S.is_flushed writer.old) (S.has_failed writer.new) (S.is_flushed writer.new) }
     ensures write_failed { IsTrue (S.has_failed writer.new) ↔ (result ≡ RunEnd.WriteFailed) }
 {
     let mut solo = Solo::new(bench, caller);

@@ -13,9 +13,9 @@ use Rattle.fb_network.specs.declared.network.Connection.{Connection}
 use Rattle.fb_network.specs.Plain.{PlainNetwork}
 use Rattle.fb_network.specs.Network.{View, place_of, instance_named, IsConnected, IsInner}
 use Rattle.fb_network.specs.Clean.{IsClean, IsCleanThroughout, CleanThroughout, IsDeclared, IsSource, IsDestination, port_named, type_of, side_at, adapter_name_at}
-use Rattle.fb_mapping.proofs.Compose.Equals.{bytes_same}
-use Rattle.fb_mapping.proofs.Compose.Members.{contains_nothing, contains_cases}
-use Rattle.fb_mapping.proofs.Compose.Composing.{found_by_name}
+use Rattle.fb_compose.proofs.Equals.{bytes_same}
+use Rattle.fb_compose.proofs.Members.{contains_nothing, contains_cases}
+use Rattle.fb_compose.proofs.Composing.{found_by_name}
 
 only : {X : Type 0} (x y : X) → Contains (x ∷ []) y → x ≡ y
 only {X = X} x y c = by_case (contains_cases x [] y c)

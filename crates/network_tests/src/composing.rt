@@ -1,6 +1,6 @@
 //! Flat networks, composed of those of inner types.
 use crate::told::flat_told;
-use fb_mapping::compose::{
+use fb_compose::{
     FlatApplication, chains_are_composed, compose, compose_in_order, count_instances, flat_is_one,
     join, system_is_one,
 };

@@ -1,10 +1,10 @@
 //! The nets of units.
 use crate::told::{library_of, names_told, net_told, put, unit_net_told};
-use fb_mapping::flatten::{
+use fb_deploy::flatten::{
     all_far, far_is_all, far_of_is_local, flat_networks_are_local, has_net_by_text, is_of_net,
     net_at_is_local, net_at_is_net, net_is_local, net_of_unit, one_net,
 };
-use fb_mapping::library::Library;
+use fb_deploy::library::Library;
 use fb_text::Name;
 use std::test::Fail;
 

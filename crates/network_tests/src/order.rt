@@ -1,6 +1,6 @@
 //! An order with inner types first, and types that reach themselves.
 use crate::told::{library_of, names_in, names_told, order_told, put};
-use fb_mapping::library::{Library, far};
+use fb_deploy::library::{Library, far};
 use fb_order::{inner_first, ordered_is_not_recursive, recursion_is_local, recursive};
 use fb_text::Name;
 use std::alloc::Global;

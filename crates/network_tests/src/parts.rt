@@ -1,6 +1,6 @@
 //! Sorts, paths, links and borders, and the lists of networks and of flat networks.
 use crate::told::{say_borders, say_links, say_network};
-use fb_mapping::path_names;
+use fb_deploy::mapping::path_names;
 use fb_network::tree::{Side, Sort};
 use fb_network::{Border, Flat, FlatBlock, Link, Network, Path, Port, is_same_sort, sort_number};
 use fb_text::Name;

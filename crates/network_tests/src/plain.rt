@@ -1,6 +1,6 @@
 //! What units say as networks in plain.
 use crate::told::{library_of, plain_told};
-use fb_wiring::{
+use fb_deploy::wiring::{
     applications_are_clean, networks_are_clean, networks_are_local,
     without_faults_nothing_is_reported,
 };

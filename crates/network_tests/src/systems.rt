@@ -1,7 +1,7 @@
 //! Placements and plans of systems.
 use crate::told::{library_of, placement_told, plan_told};
+use fb_deploy::mapping::{homes_are_nearest, one_place, place_is_local};
 use fb_deploy::{one_plan, plan_is_local};
-use fb_mapping::{homes_are_nearest, one_place, place_is_local};
 use std::alloc::Global;
 use std::test::Fail;
 

@@ -1,13 +1,13 @@
 //! Texts of units in, and what is made of them out, as phrases with `; ` between.
+use fb_deploy::flatten::{Net, has_net, net_of};
+use fb_deploy::library::{Change, Library, tree_by_name};
+use fb_deploy::mapping::{Home, Misplaced, Placed, is_system, place};
+use fb_deploy::parse::Source;
+use fb_deploy::wiring::{applications, network};
 use fb_deploy::{Deploy, ResourcePlan, plan};
-use fb_mapping::flatten::{Net, has_net, net_of};
-use fb_mapping::library::{Change, Library, tree_by_name};
-use fb_mapping::parse::Source;
-use fb_mapping::{Home, Misplaced, Placed, is_system, place};
 use fb_network::{Border, End, Flat, FlatBlock, Link, Network};
 use fb_order::inner_first;
 use fb_text::Name;
-use fb_wiring::{applications, network};
 use std::alloc::Global;
 use std::test::Fail;
 

@@ -22,6 +22,7 @@ loop-at-preserved g c =
       grind (arith, common_steps, c.line_len-len.ensures.within, c.if-len-rest.false),
       not_failed _ c.end_line.result c.end_line.ensures.failed c.in-Ok.is,
       rw (taken_on c.args.piece.now c.loop-at.at c.line_len-len.result (c.line_len-len.ensures.end short)) at both,
+      λ was. c.end_line.ensures.flushed (c.loop-at.invariant.3 was) (not_failed _ c.end_line.result c.end_line.ensures.failed c.in-Ok.is),
     )
 
 pub returns-in-Err-clause-taken : goal.returns-in-Err-clause-taken

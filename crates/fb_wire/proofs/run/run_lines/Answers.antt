@@ -63,4 +63,5 @@ loop-turn-preserved g c =
       c.in-Ok.ensures.given ∙ ap (λ xs. xs ++ piece) inv.4 ∙ append_assoc _ inv.3 piece,
       left,
       both,
+      λ was. c.take_piece.ensures.flushed (inv.7 was) (not_failed _ c.take_piece.result c.take_piece.ensures.failed c.in-Ok-take_piece.is),
     )

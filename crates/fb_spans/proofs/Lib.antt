@@ -1,0 +1,13 @@
+pub mod Tokens
+pub mod Filling
+pub mod Sound
+pub mod Sections
+pub mod Expressions
+pub mod Statements
+pub mod Charts
+pub mod Units
+pub mod Reading
+pub mod Standing
+pub mod Cutting
+pub mod Alone
+pub mod Constants
