@@ -1,0 +1,10 @@
+pub mod SplitLemmas
+pub mod PlaceLemmas
+pub mod ConstantLemmas
+pub mod NetworkLemmas
+pub mod TypeLemmas
+pub mod EndLemmas
+pub mod RepeatRows
+pub mod EndRows
+pub mod ConnectionRows
+pub mod ParameterRows

@@ -1,0 +1,449 @@
+-- Ends that stand twice, by what the list of faults has.
+use Rattle.std.proofs.Common.{◌≡◌, ℕ, ◌+◌, Bool, true, false, ◌||◌, length, List, [], ◌∷◌, ◌++◌, map, take, Option, Some, None, option_map, ◌⊎◌, inl, inr, refl, sym, ap, ◌∙◌, subst, true≢false, arith}
+use Rattle.std.specs.FinMap.{nat_cmp-IsAntisymmetric, slice_cmp-IsAntisymmetric}
+use Rattle.std.specs.List.{Contains, enumerate_from, filter, flat_map}
+use Rattle.std.specs.Ordering.{is_eq}
+use Rattle.std.proofs.Math.Seq.{take-append_seam}
+use Rattle.std.proofs.lemmas.Cmp.{lists_total, nat_list_cmp_total, tied_itself}
+use Rattle.std.proofs.lemmas.List.Elements.{Contains-append_left, Contains-append_right, Contains-append_cases}
+use Rattle.std.proofs.lemmas.Map.Views.{tells_apart}
+use Rattle.fb_text.specs.declared.name.NameUse.{NameUse}
+use Rattle.fb_netcheck.specs.Tree.Tree.{NetworkTree}
+use Rattle.fb_netcheck.specs.Tree.declared.network.Connection.{Connection}
+use Rattle.fb_netcheck.specs.Tree.declared.network.End.{End}
+use Rattle.fb_netcheck.specs.Tree.declared.network.Sort.{Sort}
+use Rattle.fb_netcheck.specs.Tree.declared.network.Sort.TheVariants as sorts
+use Rattle.fb_netcheck.specs.Library.View.{tree_at}
+use Rattle.fb_netcheck.specs.Iface.declared.code.Code.{Code}
+use Rattle.fb_netcheck.specs.Iface.declared.code.Code.TheVariants.{SecondAdapter, SecondSource}
+use Rattle.fb_netcheck.specs.Iface.declared.fault.Fault.{Fault}
+use Rattle.fb_netcheck.proofs.Iface.EarlierLemmas.{at_place, in_places}
+use Rattle.fb_netcheck.proofs.Iface.Members.{ComesFrom, ComesThrough, contains_cases, contains_filter, contains_flat_map, contains_here, contains_later, contains_map, contains_nothing, contains_single, origin_in_flat_map, origin_in_map, passes_in_filter}
+use Rattle.fb_netcheck.specs.declared.ends.Position.{Position}
+use Rattle.fb_netcheck.specs.declared.ends.Position.TheVariants.{Source, Destination}
+use Rattle.fb_netcheck.specs.Networks.{tree_faults}
+use Rattle.fb_netcheck.specs.Paths.{Path, PathUse, fault_at_path, has_path, is_repeated, repeated, repeated_faults, same_path}
+use Rattle.fb_netcheck.specs.Repeats.{adapter_ends, data_destination, end_path, path_named, second_adapters, second_sources}
+use Rattle.fb_network_rows.specs.Ends.{HaveSameNames, IsEndOf, IsNetworkOf, Site, place_of, source, destination}
+use Rattle.fb_network_rows.specs.Rows.{AdaptersHaveOneEnd, DestinationsHaveOneSource, HasSecondAdapter, HasSecondSource, IsTaken, by_earlier, by_source}
+use Rattle.fb_network_rows.proofs.NetworkLemmas.{in_part, network_origin, network_reported, place_at, whole_adapters, whole_sources}
+use Rattle.fb_network_rows.proofs.PlaceLemmas.{end_place, fault_at_end}
+use Rattle.fb_network_rows.proofs.SplitLemmas.{SplitImages, SplitThrough, at_split, images_split, split_at, split_images, split_through, through_split}
+
+-- paths
+
+path_exact : (a b : Path) → same_path a b ≡ true → a ≡ b
+path_exact a b e = tells_apart (slice_cmp-IsAntisymmetric (slice_cmp-IsAntisymmetric nat_cmp-IsAntisymmetric)) a b e
+
+path_itself : (a b : Path) → a ≡ b → same_path a b ≡ true
+path_itself a b e = ap (same_path a) (sym e) ∙ ap is_eq (tied_itself (lists_total nat_list_cmp_total) a)
+
+path_among : (paths : List PathUse) (q : Path) → has_path paths q ≡ true → (p : PathUse) × Contains paths p × (p.names ≡ q)
+path_among [] q e = absurd (true≢false (sym e))
+path_among (x ∷ xs) q e = by (same_path x.names q) refl e (path_among xs q)
+  where
+    by : (b : Bool) → same_path x.names q ≡ b → (b || has_path xs q) ≡ true → (has_path xs q ≡ true → (p : PathUse) × Contains xs p × (p.names ≡ q)) → (p : PathUse) × Contains (x ∷ xs) p × (p.names ≡ q)
+    by true s h more = (x, contains_here x xs, path_exact x.names q s)
+    by false s h more = let o = more h in (o.0, contains_later x xs o.0 o.1, o.2)
+
+or_true : (b : Bool) → (b || true) ≡ true
+or_true true = refl
+or_true false = refl
+
+among_paths : (paths : List PathUse) (q : Path) (p : PathUse) → Contains paths p → p.names ≡ q → has_path paths q ≡ true
+among_paths [] q p c e = absurd (contains_nothing p c)
+among_paths (x ∷ xs) q p c e = by (contains_cases x xs p c) (λ d. among_paths xs q p d e)
+  where
+    by : (x ≡ p) ⊎ Contains xs p → (Contains xs p → has_path xs q ≡ true) → (same_path x.names q || has_path xs q) ≡ true
+    by (inl s) more = ap (λ b. b || has_path xs q) (path_itself x.names q (ap (λ (m : PathUse). m.names) s ∙ e))
+    by (inr d) more = ap (λ b. same_path x.names q || b) (more d) ∙ or_true (same_path x.names q)
+
+-- a path that stands before its place too
+record IsAgain (paths : List PathUse) (x : PathUse) : Type 0 where
+  before : List PathUse
+  after : List PathUse
+  split : paths ≡ before ++ x ∷ after
+  seen : has_path before x.names ≡ true
+
+is_again : (paths : List PathUse) (x : PathUse) → Contains (repeated paths) x → IsAgain paths x
+is_again paths x c =
+    let p = origin_in_map (λ (placed : ℕ × PathUse). placed.1) (filter (is_repeated paths) (enumerate_from 0 paths)) x c in
+    let r = passes_in_filter (is_repeated paths) (enumerate_from 0 paths) p.origin p.among in
+    let j = in_places 0 paths p.origin r.among in
+    let number : p.origin.0 ≡ j.0 = j.1 ∙ (let e : 0 + j.0 ≡ j.0 = omega arith in e) in
+    let s = split_at paths j.0 x (j.2 ∙ ap Some p.gives) in
+    record {
+      before = take j.0 paths;
+      after = s.0;
+      split = s.1;
+      seen = (λ i. has_path (take (sym number i) paths) (sym p.gives i).names) ∙ r.passes;
+    }
+
+again_is : (paths : List PathUse) (x : PathUse) → IsAgain paths x → Contains (repeated paths) x
+again_is paths x h = subst (λ (l : List PathUse). Contains (repeated l) x) (sym h.split) (contains_map (λ (placed : ℕ × PathUse). placed.1) (filter (is_repeated whole) (enumerate_from 0 whole)) (length h.before, x) placed)
+  where
+    whole : List PathUse
+    whole = h.before ++ x ∷ h.after
+
+    start : 0 + length h.before ≡ length h.before
+    start = omega arith
+
+    there : Contains (enumerate_from 0 whole) (length h.before, x)
+    there = subst (λ (k : ℕ). Contains (enumerate_from 0 whole) (k, x)) start (at_place 0 whole (length h.before) x (at_split h.before x h.after))
+
+    placed : Contains (filter (is_repeated whole) (enumerate_from 0 whole)) (length h.before, x)
+    placed = contains_filter (is_repeated whole) (enumerate_from 0 whole) (length h.before, x) there (ap (λ l. has_path l x.names) (take-append_seam h.before (x ∷ h.after)) ∙ h.seen)
+
+-- ends of connections
+
+abbrev names_of : End → Path
+names_of e = path_named e.name e.port
+
+same_ends : (a b : End) → names_of a ≡ names_of b → HaveSameNames a b
+same_ends a b e = by a.port b.port e
+  where
+    by : (p q : Option NameUse) → path_named a.name p ≡ path_named b.name q → (a.name.name ≡ b.name.name) × (option_map (λ n. n.name) p ≡ option_map (λ n. n.name) q)
+    by None None e = (cc, refl)
+    by None (Some q) e = absurd (let fails : ⊥ = cc in fails)
+    by (Some p) None e = absurd (let fails : ⊥ = cc in fails)
+    by (Some p) (Some q) e = let same : p.name ≡ q.name = cc in (cc, ap Some same)
+
+ends_same : (a b : End) → HaveSameNames a b → names_of a ≡ names_of b
+ends_same a b e = by a.port b.port e.1
+  where
+    by : (p q : Option NameUse) → option_map (λ (n : NameUse). n.name) p ≡ option_map (λ (n : NameUse). n.name) q → path_named a.name p ≡ path_named b.name q
+    by None None s = ap (λ n. n ∷ []) e.0
+    by None (Some q) s = absurd (let fails : ⊥ = cc in fails)
+    by (Some p) None s = absurd (let fails : ⊥ = cc in fails)
+    by (Some p) (Some q) s = let same : p.name ≡ q.name = cc in λ i. e.0 i ∷ same i ∷ []
+
+-- an end of those that each connection has, with one of the same names before it
+record IsSecond (f : Connection → List End) (connections : List Connection) (e : End) : Type 0 where
+  earlier : List Connection
+  again : Connection
+  later : List Connection
+  listed : connections ≡ earlier ++ again ∷ later
+  inside : List End
+  rest : List End
+  parts : f again ≡ inside ++ e ∷ rest
+  other : End
+  same : HaveSameNames other e
+  taken : ComesThrough f earlier other ⊎ Contains inside other
+
+path_fault : (code : Code) (e : End) → fault_at_path code (end_path e) ≡ fault_at_end code e
+path_fault code e = λ i. record { code = code; span = end_place e i }
+
+record SecondOrigin (code : Code) (f : Connection → List End) (connections : List Connection) (fault : Fault) : Type 0 where
+  end : End
+  second : IsSecond f connections end
+  is : fault_at_end code end ≡ fault
+
+taken_in : (f : Connection → List End) (earlier : List Connection) (inside : List End) (other : End) → Contains (flat_map f earlier ++ inside) other → ComesThrough f earlier other ⊎ Contains inside other
+taken_in f earlier inside other c = by (Contains-append_cases (flat_map f earlier) inside other c)
+  where
+    by : Contains (flat_map f earlier) other ⊎ Contains inside other → ComesThrough f earlier other ⊎ Contains inside other
+    by (inl h) = inl (origin_in_flat_map f earlier other h)
+    by (inr h) = inr h
+
+-- an end with one of the same names before it
+record IsEndAgain (ends : List End) (x : PathUse) : Type 0 where
+  end : End
+  is : end_path end ≡ x
+  before : List End
+  after : List End
+  split : ends ≡ before ++ end ∷ after
+  other : End
+  seen : Contains before other
+  same : HaveSameNames other end
+
+end_again : (ends : List End) (x : PathUse) → IsAgain (map end_path ends) x → IsEndAgain ends x
+end_again ends x a = by (split_images end_path ends a.before a.after x a.split) (path_among a.before x.names a.seen)
+  where
+    name : (b c : PathUse) → b ≡ c → b.names ≡ c.names
+    name b c e = ap (λ (p : PathUse). p.names) e
+
+    by : SplitImages end_path ends a.before x → (p : PathUse) × Contains a.before p × (p.names ≡ x.names) → IsEndAgain ends x
+    by e p =
+        let o = origin_in_map end_path e.earlier p.0 (subst (λ (l : List PathUse). Contains l p.0) e.passed p.1) in
+        record {
+          end = e.origin;
+          is = e.gives;
+          before = e.earlier;
+          after = e.later;
+          split = e.split;
+          other = o.origin;
+          seen = o.among;
+          same = same_ends o.origin e.origin (name (end_path o.origin) p.0 o.gives ∙ p.2 ∙ name x (end_path e.origin) (sym e.gives));
+        }
+
+second_of : (f : Connection → List End) (connections : List Connection) (x : PathUse) → (e : IsEndAgain (flat_map f connections) x) → SplitThrough f connections e.before e.end → IsSecond f connections e.end
+second_of f connections x e t = record {
+  earlier = t.earlier;
+  again = t.origin;
+  later = t.later;
+  listed = t.split;
+  inside = t.inside;
+  rest = t.rest;
+  parts = t.parts;
+  other = e.other;
+  same = e.same;
+  taken = taken_in f t.earlier t.inside e.other (subst (λ (l : List End). Contains l e.other) t.passed e.seen);
+}
+
+second_origin : (code : Code) (f : Connection → List End) (connections : List Connection) (fault : Fault) → Contains (repeated_faults code (map end_path (flat_map f connections))) fault → SecondOrigin code f connections fault
+second_origin code f connections fault c = by (origin_in_map (fault_at_path code) (repeated (map end_path (flat_map f connections))) fault c)
+  where
+    fault_is : (x : PathUse) (e : End) → end_path e ≡ x → fault_at_path code x ≡ fault → fault_at_end code e ≡ fault
+    fault_is x e is gives = sym (path_fault code e) ∙ ap (fault_at_path code) is ∙ gives
+
+    by : ComesFrom (fault_at_path code) (repeated (map end_path (flat_map f connections))) fault → SecondOrigin code f connections fault
+    by n =
+        let e = end_again (flat_map f connections) n.origin (is_again (map end_path (flat_map f connections)) n.origin n.among) in
+        record { end = e.end; second = second_of f connections n.origin e (split_through f connections e.before e.after e.end e.split); is = fault_is n.origin e.end e.is n.gives }
+
+second_reported : (code : Code) (f : Connection → List End) (connections : List Connection) (e : End) → IsSecond f connections e → Contains (repeated_faults code (map end_path (flat_map f connections))) (fault_at_end code e)
+second_reported code f connections e h =
+    subst (λ (g : Fault). Contains (repeated_faults code paths) g) (path_fault code e)
+    (contains_map (fault_at_path code) (repeated paths) (end_path e) (again_is paths (end_path e) (record { before = map end_path front; after = map end_path back; split = split; seen = seen })))
+  where
+    paths : List PathUse
+    paths = map end_path (flat_map f connections)
+
+    front : List End
+    front = flat_map f h.earlier ++ h.inside
+
+    back : List End
+    back = h.rest ++ flat_map f h.later
+
+    split : map end_path (flat_map f connections) ≡ map end_path front ++ end_path e ∷ map end_path back
+    split =
+        ap (λ l. map end_path (flat_map f l)) h.listed
+        ∙ ap (map end_path) (through_split f h.earlier h.later h.again h.inside h.rest e h.parts)
+        ∙ images_split end_path front e back
+
+    among : ComesThrough f h.earlier h.other ⊎ Contains h.inside h.other → Contains (flat_map f h.earlier ++ h.inside) h.other
+    among (inl o) = Contains-append_left (flat_map f h.earlier) h.inside h.other (contains_flat_map f h.earlier o.origin h.other o.among o.has)
+    among (inr c) = Contains-append_right (flat_map f h.earlier) h.inside h.other c
+
+    seen : has_path (map end_path front) (names_of e) ≡ true
+    seen = among_paths (map end_path front) (names_of e) (end_path h.other) (contains_map end_path front h.other (among h.taken)) (ends_same h.other e h.same)
+
+nothing_split : {A : Type 0} (before : List A) (x : A) (after : List A) → [] ≡ before ++ x ∷ after → ⊥
+nothing_split [] x after e = let fails : ⊥ = cc in fails
+nothing_split (y ∷ before) x after e = let fails : ⊥ = cc in fails
+
+-- destinations of data
+
+abbrev destinations : Connection → List End
+destinations c = data_destination c.sort c.destination
+
+data_parts : (sort : Sort) (d : End) (inside rest : List End) (e : End) → data_destination sort d ≡ inside ++ e ∷ rest → (sort ≡ sorts.Data) × (d ≡ e) × (inside ≡ [])
+data_parts sorts.Data d [] rest e p = (refl, cc, refl)
+data_parts sorts.Data d (x ∷ inside) rest e p = let tails : [] ≡ inside ++ e ∷ rest = cc in absurd (nothing_split inside e rest tails)
+data_parts sorts.Event d inside rest e p = absurd (nothing_split inside e rest p)
+data_parts sorts.Adapter d inside rest e p = absurd (nothing_split inside e rest p)
+
+in_data : (sort : Sort) (d e : End) → Contains (data_destination sort d) e → (sort ≡ sorts.Data) × (d ≡ e)
+in_data sorts.Data d e c = (refl, contains_single d e c)
+in_data sorts.Event d e c = absurd (contains_nothing e c)
+in_data sorts.Adapter d e c = absurd (contains_nothing e c)
+
+data_is : (sort : Sort) (d : End) → sort ≡ sorts.Data → data_destination sort d ≡ d ∷ []
+data_is sort d e = ap (λ s. data_destination s d) e
+
+pub one_source : DestinationsHaveOneSource
+one_source sources unit span = (to, from)
+  where
+    it : Fault
+    it = record { code = SecondSource; span = span }
+
+    in_earlier : (here : Site) (n : NetworkTree) → IsNetworkOf sources unit here n → (e : End) → fault_at_end SecondSource e ≡ it → (s : IsSecond destinations n.connections e) → ComesThrough destinations s.earlier s.other → HasSecondSource sources unit span
+    in_earlier here n stands e is s o =
+        let again = data_parts s.again.sort s.again.destination s.inside s.rest e s.parts in
+        let first = in_data o.origin.sort o.origin.destination s.other o.has in
+        record {
+          here = here;
+          network = n;
+          stands = stands;
+          before = s.earlier;
+          again = s.again;
+          after = s.later;
+          listed = s.listed;
+          of_data = again.0;
+          first = o.origin;
+          earlier = o.among;
+          first_of_data = first.0;
+          same = subst (λ (x : End). HaveSameNames x s.again.destination) (sym first.1) (subst (λ (x : End). HaveSameNames s.other x) (sym again.1) s.same);
+          place = sym (ap (λ (g : Fault). g.span) is) ∙ ap place_of (sym again.1);
+        }
+
+    by : (here : Site) (n : NetworkTree) → IsNetworkOf sources unit here n → (e : End) → fault_at_end SecondSource e ≡ it → (s : IsSecond destinations n.connections e) → ComesThrough destinations s.earlier s.other ⊎ Contains s.inside s.other → HasSecondSource sources unit span
+    by here n stands e is s (inl o) = in_earlier here n stands e is s o
+    by here n stands e is s (inr c) = absurd (contains_nothing s.other (subst (λ (l : List End). Contains l s.other) (data_parts s.again.sort s.again.destination s.inside s.rest e s.parts).2 c))
+
+    to : Contains (tree_faults sources unit (tree_at sources unit)) it → HasSecondSource sources unit span
+    to c =
+        let o = network_origin sources unit it c in
+        let s = second_origin SecondSource destinations o.network.connections it (in_part sources (place_at sources o.here o.network) o.network it o.has) in
+        by o.here o.network o.stands s.end s.is s.second s.second.taken
+
+    from : HasSecondSource sources unit span → Contains (tree_faults sources unit (tree_at sources unit)) it
+    from h =
+        let second : IsSecond destinations h.network.connections h.again.destination = record {
+          earlier = h.before;
+          again = h.again;
+          later = h.after;
+          listed = h.listed;
+          inside = [];
+          rest = [];
+          parts = data_is h.again.sort h.again.destination h.of_data;
+          other = h.first.destination;
+          same = h.same;
+          taken = inl (record { origin = h.first; among = h.earlier; has = subst (λ (l : List End). Contains l h.first.destination) (sym (data_is h.first.sort h.first.destination h.first_of_data)) (contains_here h.first.destination []) });
+        } in
+        let is : fault_at_end SecondSource h.again.destination ≡ it = λ i. record { code = SecondSource; span = sym h.place i } in
+        network_reported sources unit h.here h.network it h.stands
+        (whole_sources sources (place_at sources h.here h.network) h.network it (subst (λ (g : Fault). Contains (second_sources h.network.connections) g) is (second_reported SecondSource destinations h.network.connections h.again.destination second)))
+
+-- ends of adapter connections
+
+abbrev both_ends : Connection → List End
+both_ends c = adapter_ends c.sort c.source c.destination
+
+-- an end in the list of both, by what stands before it
+data IsPart (s d : End) (inside : List End) (e : End) : Type 0 where
+  at_source : inside ≡ [] → s ≡ e → IsPart s d inside e
+  at_destination : inside ≡ s ∷ [] → d ≡ e → IsPart s d inside e
+
+adapter_parts : (sort : Sort) (s d : End) (inside rest : List End) (e : End) → adapter_ends sort s d ≡ inside ++ e ∷ rest → (sort ≡ sorts.Adapter) × IsPart s d inside e
+adapter_parts sorts.Adapter s d [] rest e p = (refl, at_source refl cc)
+adapter_parts sorts.Adapter s d (x ∷ []) rest e p = let first : x ≡ s = cc in (refl, at_destination (ap (λ y. y ∷ []) first) cc)
+adapter_parts sorts.Adapter s d (x ∷ y ∷ inside) rest e p = let tails : [] ≡ inside ++ e ∷ rest = cc in absurd (nothing_split inside e rest tails)
+adapter_parts sorts.Data s d inside rest e p = absurd (nothing_split inside e rest p)
+adapter_parts sorts.Event s d inside rest e p = absurd (nothing_split inside e rest p)
+
+-- an end of an adapter connection
+record IsAdapterEnd (c : Connection) (e : End) : Type 0 where
+  of_adapter : c.sort ≡ sorts.Adapter
+  position : Position
+  is_end : IsEndOf c position e
+
+is_source : (c : Connection) (e : End) → c.source ≡ e → IsEndOf c Source e
+is_source c e same = subst (IsEndOf c Source) same source
+
+is_destination : (c : Connection) (e : End) → c.destination ≡ e → IsEndOf c Destination e
+is_destination c e same = subst (IsEndOf c Destination) same destination
+
+in_both : (c : Connection) (e : End) → Contains (both_ends c) e → IsAdapterEnd c e
+in_both c e h = by c.sort refl h
+  where
+    by_case : c.sort ≡ sorts.Adapter → (c.source ≡ e) ⊎ Contains (c.destination ∷ []) e → IsAdapterEnd c e
+    by_case is (inl same) = record { of_adapter = is; position = Source; is_end = is_source c e same }
+    by_case is (inr d) = record { of_adapter = is; position = Destination; is_end = is_destination c e (contains_single c.destination e d) }
+
+    by : (sort : Sort) → c.sort ≡ sort → Contains (adapter_ends sort c.source c.destination) e → IsAdapterEnd c e
+    by sorts.Adapter is h = by_case is (contains_cases c.source (c.destination ∷ []) e h)
+    by sorts.Data is h = absurd (contains_nothing e h)
+    by sorts.Event is h = absurd (contains_nothing e h)
+
+both_is : (c : Connection) → c.sort ≡ sorts.Adapter → both_ends c ≡ c.source ∷ c.destination ∷ []
+both_is c e = ap (λ s. adapter_ends s c.source c.destination) e
+
+both_have : (c : Connection) (position : Position) (e : End) → c.sort ≡ sorts.Adapter → IsEndOf c position e → Contains (both_ends c) e
+both_have c position e is end = subst (λ (l : List End). Contains l e) (sym (both_is c is)) (by position e end)
+  where
+    by : (position : Position) (e : End) → IsEndOf c position e → Contains (c.source ∷ c.destination ∷ []) e
+    by Source e source = contains_here c.source (c.destination ∷ [])
+    by Destination e destination = contains_later c.source (c.destination ∷ []) c.destination (contains_here c.destination [])
+
+-- what stands around an end in the list of both
+around : (c : Connection) (position : Position) (e : End) → IsEndOf c position e → (inside : List End) × (rest : List End) × (c.source ∷ c.destination ∷ [] ≡ inside ++ e ∷ rest)
+around c Source e source = ([], c.destination ∷ [], refl)
+around c Destination e destination = (c.source ∷ [], [], refl)
+
+pub one_end : AdaptersHaveOneEnd
+one_end sources unit span = (to, from)
+  where
+    it : Fault
+    it = record { code = SecondAdapter; span = span }
+
+    made : (here : Site) (n : NetworkTree) → IsNetworkOf sources unit here n → (e : End) → fault_at_end SecondAdapter e ≡ it → (s : IsSecond both_ends n.connections e) → (position : Position) → s.again.sort ≡ sorts.Adapter → IsEndOf s.again position e → IsTaken s.earlier s.again position e → HasSecondAdapter sources unit span
+    made here n stands e is s position sort end taken = record {
+      here = here;
+      network = n;
+      stands = stands;
+      before = s.earlier;
+      again = s.again;
+      after = s.later;
+      listed = s.listed;
+      of_adapter = sort;
+      position = position;
+      end = e;
+      is_end = end;
+      taken = taken;
+      place = sym (ap (λ (g : Fault). g.span) is);
+    }
+
+    position_of : (c : Connection) (inside : List End) (e : End) → IsPart c.source c.destination inside e → (position : Position) × IsEndOf c position e
+    position_of c inside e (at_source none same) = (Source, is_source c e same)
+    position_of c inside e (at_destination one same) = (Destination, is_destination c e same)
+
+    -- the source of its own connection
+    own : (earlier : List Connection) (c : Connection) (inside : List End) (e other : End) → IsPart c.source c.destination inside e → Contains inside other → HaveSameNames other e → (position : Position) × IsEndOf c position e × IsTaken earlier c position e
+    own earlier c inside e other (at_source none same) h names = absurd (contains_nothing other (subst (λ (l : List End). Contains l other) none h))
+    own earlier c inside e other (at_destination one same) h names =
+        let first = contains_single c.source other (subst (λ (l : List End). Contains l other) one h) in
+        let alike : HaveSameNames c.source c.destination = subst (λ (x : End). HaveSameNames x c.destination) (sym first) (subst (λ (x : End). HaveSameNames other x) (sym same) names) in
+        (Destination, is_destination c e same, subst (IsTaken earlier c Destination) same (by_source alike))
+
+    by : (here : Site) (n : NetworkTree) → IsNetworkOf sources unit here n → (e : End) → fault_at_end SecondAdapter e ≡ it → (s : IsSecond both_ends n.connections e) → ComesThrough both_ends s.earlier s.other ⊎ Contains s.inside s.other → HasSecondAdapter sources unit span
+    by here n stands e is s (inl o) =
+        let again = adapter_parts s.again.sort s.again.source s.again.destination s.inside s.rest e s.parts in
+        let at = position_of s.again s.inside e again.1 in
+        let first = in_both o.origin s.other o.has in
+        made here n stands e is s at.0 again.0 at.1 (by_earlier o.origin first.position s.other o.among first.of_adapter first.is_end s.same)
+    by here n stands e is s (inr c) =
+        let again = adapter_parts s.again.sort s.again.source s.again.destination s.inside s.rest e s.parts in
+        let at = own s.earlier s.again s.inside e s.other again.1 c s.same in
+        made here n stands e is s at.0 again.0 at.1 at.2
+
+    to : Contains (tree_faults sources unit (tree_at sources unit)) it → HasSecondAdapter sources unit span
+    to c =
+        let o = network_origin sources unit it c in
+        let s = second_origin SecondAdapter both_ends o.network.connections it (in_part sources (place_at sources o.here o.network) o.network it o.has) in
+        by o.here o.network o.stands s.end s.is s.second s.second.taken
+
+    second : (connections before after : List Connection) (c : Connection) (position : Position) (e : End) → connections ≡ before ++ c ∷ after → c.sort ≡ sorts.Adapter → IsEndOf c position e → IsTaken before c position e → IsSecond both_ends connections e
+    second connections before after c position e listed sort end (by_earlier first other taken among first_sort first_end same) =
+        let parts = around c position e end in
+        record {
+          earlier = before;
+          again = c;
+          later = after;
+          listed = listed;
+          inside = parts.0;
+          rest = parts.1;
+          parts = both_is c sort ∙ parts.2;
+          other = taken;
+          same = same;
+          taken = inl (record { origin = first; among = among; has = both_have first other taken first_sort first_end });
+        }
+    second connections before after c position e listed sort end (by_source same) = record {
+      earlier = before;
+      again = c;
+      later = after;
+      listed = listed;
+      inside = c.source ∷ [];
+      rest = [];
+      parts = both_is c sort;
+      other = c.source;
+      same = same;
+      taken = inr (contains_here c.source []);
+    }
+
+    from : HasSecondAdapter sources unit span → Contains (tree_faults sources unit (tree_at sources unit)) it
+    from h =
+        let it_is : fault_at_end SecondAdapter h.end ≡ it = λ i. record { code = SecondAdapter; span = sym h.place i } in
+        let again = second h.network.connections h.before h.after h.again h.position h.end h.listed h.of_adapter h.is_end h.taken in
+        network_reported sources unit h.here h.network it h.stands
+        (whole_adapters sources (place_at sources h.here h.network) h.network it (subst (λ (g : Fault). Contains (second_adapters h.network.connections) g) it_is (second_reported SecondAdapter both_ends h.network.connections h.end again)))
