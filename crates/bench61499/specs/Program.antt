@@ -1,10 +1,12 @@
 -- What a run of the program has said.
-use Rattle.std.specs.Prelude.{◌≡◌, ◌⊎◌, ℕ, List, []}
+use Rattle.std.specs.Prelude.{◌≡◌, ◌≤◌, ◌⊎◌, ℕ, List, []}
 use Rattle.clap.specs.Words.{Text}
-use Rattle.fb_wire.specs.Bench.Story.{Story}
-use Rattle.fb_wire.specs.Script.{IsFrontOf, script}
+use Rattle.fb_serve.specs.Wire.Bench.Story.{Story}
+use Rattle.fb_serve.specs.Wire.Script.{IsFrontOf, script}
 use Rattle.bench61499.specs.Words.{Asks}
-use Rattle.bench61499.specs.declared.asked.Settings.TheVariants.{Script}
+use Rattle.bench61499.specs.declared.asked.Settings.TheVariants.{Script, Serve}
+use Rattle.bench61499.specs.declared.program.Outcome.{Outcome}
+use Rattle.bench61499.specs.declared.program.Outcome.TheVariants.{Ended, Serves}
 
 -- a workbench with no calls yet
 abbrev pub new_bench : ℕ → ℕ → Story
@@ -31,3 +33,9 @@ DoesNothing bytes out = (bytes ≡ []) × (out ≡ [])
 abbrev pub HasSaid : List Text → ℕ → List ℕ → List ℕ → Type 0
 HasSaid words status bytes out =
     (status ≡ 0 → ScriptSays words 0 bytes out) × (status ≡ 1 → ScriptSays words 1 bytes out ⊎ DoesNothing bytes out) × (status ≡ 2 → DoesNothing bytes out)
+
+-- a script was run, or the words were refused; or they ask for this server, and nothing was done
+abbrev pub HasDone : List Text → Outcome → List ℕ → List ℕ → Type 0
+HasDone words (Ended status) bytes out = (status ≤ 2) × HasSaid words status bytes out
+HasDone words (Serves port numbers) bytes out =
+    Asks words (Serve port numbers.workers numbers.sessions numbers.limits.units numbers.limits.history) × DoesNothing bytes out

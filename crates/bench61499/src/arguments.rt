@@ -1,12 +1,18 @@
 // The program's words.
-ghost use Rattle.std.specs.Prelude.{◌≡◌, ◌≤◌, List, map, IfOk, IfSome, false, codes};
+ghost use Rattle.std.specs.Prelude.{◌≡◌, ◌≤◌, List, map, IfOk, IfSome, false, true, codes};
 ghost use Rattle.clap.specs.Words.{app_of, found_of, rows_of, rule_of, subcommand_rows_of};
-ghost use Rattle.bench61499.specs.Words.{IsNumberUpTo, IsAsked, Asks, bench_app, number_option};
+ghost use Rattle.bench61499.specs.Words.{IsNumberIn, IsAsked, Asks, IsScript, IsServe, bench_app, number_option, port_option};
 
 use crate::asked;
 use clap::error::ErrorKind;
 use clap::{Arg, ArgMatches, Command, Error, value_parser};
 use std::alloc::{AllocError, Global};
+
+const MOST_PORT: u64 = 65_535;
+
+const MOST_WORKERS: u64 = 16;
+
+const MOST_SESSIONS: u64 = 64;
 
 const MOST_UNITS: u64 = 4096;
 
@@ -32,35 +38,99 @@ fn history_option<'a>(alloc: Global) -> Arg<'a>
         .default_value("100000")
 }
 
+fn port_option<'a>(alloc: Global) -> Arg<'a>
+    ensures rule { rule_of result ≡ port_option }
+    ensures local { result.global ≡ false }
+{
+    Arg::new(alloc, "port")
+        .long("port")
+        .value_parser(value_parser!(u64).range(0..=65_535))
+        .required(true)
+}
+
+fn workers_option<'a>(alloc: Global) -> Arg<'a>
+    ensures rule { rule_of result ≡ number_option (codes "workers") 16 (codes "2") }
+    ensures local { result.global ≡ false }
+{
+    Arg::new(alloc, "workers")
+        .long("workers")
+        .value_parser(value_parser!(u64).range(1..=16))
+        .default_value("2")
+}
+
+fn sessions_option<'a>(alloc: Global) -> Arg<'a>
+    ensures rule { rule_of result ≡ number_option (codes "sessions") 64 (codes "1") }
+    ensures local { result.global ≡ false }
+{
+    Arg::new(alloc, "sessions")
+        .long("sessions")
+        .value_parser(value_parser!(u64).range(1..=64))
+        .default_value("1")
+}
+
 fn command<'a>(alloc: Global) -> Result<Command<'a>, AllocError>
     ensures { IfOk result (λ c. app_of c ≡ bench_app) }
 {
     let script = Command::new(alloc, "script")
         .arg(units_option(alloc))?
         .arg(history_option(alloc))?;
-    Command::new(alloc, "bench61499")
+    let serve = Command::new(alloc, "serve")
+        .arg(port_option(alloc))?
+        .arg(workers_option(alloc))?
+        .arg(sessions_option(alloc))?
+        .arg(units_option(alloc))?
+        .arg(history_option(alloc))?;
+    let command = Command::new(alloc, "bench61499")
         .subcommand_required(true)
-        .subcommand(script)
+        .subcommand(script)?
+        .subcommand(serve)?;
+    Ok(command)
 }
 
-fn number_at(matches: &ArgMatches<'_>, name: &str, most: u64) -> Option<u64>
-    ensures { IfSome result (λ n. IsNumberUpTo most name.now (rows_of (found_of matches.now)) n) }
+fn number_at(matches: &ArgMatches<'_>, name: &str, least: u64, most: u64) -> Option<u64>
+    ensures { IfSome result (λ n. IsNumberIn least most name.now (rows_of (found_of matches.now)) n) }
 {
     let number = matches.get_one::<u64>(name)?;
-    if 1 <= number && number <= most {
+    if least <= number && number <= most {
         Some(number)
     } else {
         None
     }
 }
 
+fn script_in(matches: &ArgMatches<'_>) -> Option<asked::Settings>
+    ensures { IfSome result (IsScript (rows_of (found_of matches.now))) }
+{
+    let units = number_at(matches, "units", 1, MOST_UNITS)?;
+    let history = number_at(matches, "history", 1, MOST_HISTORY)?;
+    Some(asked::Settings::Script { units, history })
+}
+
+fn serve_in(matches: &ArgMatches<'_>) -> Option<asked::Settings>
+    ensures { IfSome result (IsServe (rows_of (found_of matches.now))) }
+{
+    let port = number_at(matches, "port", 0, MOST_PORT)?;
+    let workers = number_at(matches, "workers", 1, MOST_WORKERS)?;
+    let sessions = number_at(matches, "sessions", 1, MOST_SESSIONS)?;
+    let units = number_at(matches, "units", 1, MOST_UNITS)?;
+    let history = number_at(matches, "history", 1, MOST_HISTORY)?;
+    Some(asked::Settings::Serve {
+        port: port as u16,
+        workers: workers as u8,
+        sessions: sessions as u8,
+        units,
+        history,
+    })
+}
+
 fn asked_in(matches: &ArgMatches<'_>) -> Option<asked::Settings>
     ensures { IfSome result (λ s. IsAsked (subcommand_rows_of matches.now) s) }
 {
-    let script = matches.subcommand_matches("script")?;
-    let units = number_at(script, "units", MOST_UNITS)?;
-    let history = number_at(script, "history", MOST_HISTORY)?;
-    Some(asked::Settings::Script { units, history })
+    if let Some(script) = matches.subcommand_matches("script") {
+        return script_in(script);
+    }
+    let serve = matches.subcommand_matches("serve")?;
+    serve_in(serve)
 }
 
 /// Reads the program's words, of which the first is its name. A request for help is an error, as in `clap`.

@@ -3,12 +3,15 @@
 
 mod arguments;
 mod asked;
-mod fault;
 mod program;
+#[cfg(test)]
+mod server_tests;
 #[cfg(test)]
 mod tests;
 
-use fb_wire::{FromRead, IntoWrite};
+use fb_serve::serve;
+use fb_serve::wire::{FromRead, IntoWrite};
+use program::{FAILED, Outcome};
 use std::alloc::{AllocError, Global};
 use std::env;
 use std::process::ExitCode;
@@ -24,22 +27,21 @@ fn texts<'a>(alloc: Global, words: &'a [String]) -> Result<Vec<&'a str>, AllocEr
     Ok(texts)
 }
 
-fn run(rt: &HostRuntime, words: &[String]) -> ExitCode {
+fn run(rt: &HostRuntime, words: &[String]) -> Outcome {
     let Ok(texts) = texts(rt.alloc(), words) else {
-        return ExitCode::FAILURE;
+        return Outcome::Ended(FAILED);
     };
     let mut reader = FromRead::new(rt.stdin());
     let mut writer = IntoWrite::new(rt.stdout());
     let mut errors = rt.stderr();
-    let status = program::run(
+    program::run(
         rt.alloc(),
         &texts,
         &mut reader,
         &mut writer,
         &mut errors,
         TURNS,
-    );
-    ExitCode::from(status)
+    )
 }
 
 fn main(rt: HostRuntime) -> ExitCode {
@@ -47,8 +49,16 @@ fn main(rt: HostRuntime) -> ExitCode {
         return ExitCode::FAILURE;
     };
     let words: Result<Vec<String>, AllocError> = args.collect(rt.alloc());
-    match words {
-        Ok(words) => run(&rt, &words),
-        Err(_) => ExitCode::FAILURE,
+    let Ok(words) = words else {
+        return ExitCode::FAILURE;
+    };
+    match run(&rt, &words) {
+        Outcome::Ended(status) => ExitCode::from(status),
+        Outcome::Serves { port, numbers } => {
+            let mut writer = IntoWrite::new(rt.stdout());
+            let mut errors = rt.stderr();
+            let status = serve(&rt, rt.alloc(), port, numbers, &mut writer, &mut errors);
+            ExitCode::from(status)
+        }
     }
 }

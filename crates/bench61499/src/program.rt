@@ -1,14 +1,13 @@
 // The program, over the streams that it is given.
 ghost use Rattle.std.specs.Prelude.{◌≡◌, ◌<◌, ◌≤◌, ◌++◌, ℕ, List, map, false};
 ghost use Rattle.std.specs.Io.KnownBytes.{IsAtEnd};
-ghost use Rattle.bench61499.specs.Program.{BenchSays, HasSaid};
+ghost use Rattle.bench61499.specs.Program.{BenchSays, HasDone};
 
 use crate::arguments::settings;
 use crate::asked;
-use crate::fault::fault_of;
 use clap::error::ErrorKind;
-use fb_wire::bench::{Bench, Limits};
-use fb_wire::{Feed, Sink, run_script};
+use fb_serve::wire::{Bench, Feed, Limits, Sink, run_script};
+use fb_serve::{Numbers, fault_of};
 use std::alloc::Global;
 use std::io::Write;
 
@@ -19,10 +18,19 @@ const SCRIPT_CALLER: u32 = 1;
 const DONE: u8 = 0;
 
 /// The run failed.
-const FAILED: u8 = 1;
+pub const FAILED: u8 = 1;
 
 /// The words ask for nothing that the program does, or for help.
 const MISUSED: u8 = 2;
+
+/// What a run comes to.
+#[derive(Clone, Copy)]
+pub enum Outcome {
+    /// It is over, with this status of the program.
+    Ended(u8),
+    /// The words ask for a server, which is still to be run.
+    Serves { port: u16, numbers: Numbers },
+}
 
 fn script<F: Feed, S: Sink, E: Write>(
     alloc: Global,
@@ -63,7 +71,8 @@ fn refuse<E: Write>(error: &clap::Error, errors: &mut E) -> u8
     MISUSED
 }
 
-/// Does what the words ask for, says on `errors` what went wrong, and gives the status of the program.
+/// Does what the words ask for, if it is a script, says on `errors` what went wrong, and gives the status of the program. Words that ask for a
+/// server are given back as what they ask for, and nothing is done.
 pub fn run<F: Feed, S: Sink, E: Write>(
     alloc: Global,
     words: &[&str],
@@ -71,23 +80,41 @@ pub fn run<F: Feed, S: Sink, E: Write>(
     writer: &mut S,
     errors: &mut E,
     turns: u64,
-) -> u8
+) -> Outcome
     requires reader { F.has_failed reader.old ≡ false }
     requires writer { S.has_failed writer.old ≡ false }
-    ensures status { result ≤ 2 }
     // What was written is all, a front or nothing of what a new workbench says to the bytes that were read.
     ensures said { (bytes : List ℕ) × (out : List ℕ)
         × (F.given reader.new ≡ F.given reader.old ++ bytes)
         × (S.held writer.new ≡ S.held writer.old ++ out)
-        × HasSaid (map (λ word. word.now) words.now) result bytes out }
+        × HasDone (map (λ word. word.now) words.now) result bytes out }
     // Where the status is 0, the input was read to its end.
-    ensures whole { result ≡ 0 → IsAtEnd (F.left reader.new) }
+    ensures whole { result ≡ Outcome.Ended 0 → IsAtEnd (F.left reader.new) }
 {
     match settings(alloc, words) {
         Ok(asked::Settings::Script { units, history }) => match Limits::new(units, history) {
-            Some(limits) => script(alloc, limits, reader, writer, errors, turns),
+            Some(limits) => Outcome::Ended(script(alloc, limits, reader, writer, errors, turns)),
             None => unreachable!(),
         },
-        Err(error) => refuse(&error, errors),
+        Ok(
+            asked::Settings::Serve {
+                port,
+                workers,
+                sessions,
+                units,
+                history,
+            },
+        ) => match Limits::new(units, history) {
+            Some(limits) => Outcome::Serves {
+                port,
+                numbers: Numbers {
+                    workers,
+                    sessions,
+                    limits,
+                },
+            },
+            None => unreachable!(),
+        },
+        Err(error) => Outcome::Ended(refuse(&error, errors)),
     }
 }

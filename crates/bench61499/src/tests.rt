@@ -1,8 +1,8 @@
 //! What the program's words ask for, and how its runs end.
 use crate::arguments::settings;
 use crate::asked::Settings;
-use crate::program::run;
-use fb_wire::{MemoryFeed, MemorySink};
+use crate::program::{Outcome, run};
+use fb_serve::wire::{MemoryFeed, MemorySink};
 use std::alloc::{AllocError, Global};
 use std::test::Fail;
 
@@ -12,12 +12,12 @@ const TAKE: &[u8] = b"{\"op\":\"take\"}\n";
 
 const NO_JOB: &str = "{\"job\":0}\n";
 
-/// What a run wrote, what it said on its errors, and its status.
+/// What a run wrote, what it said on its errors, and its status, or none where it asks for a server.
 #[derive(Drop)]
 struct Ended {
     output: Vec<u8>,
     errors: Vec<u8>,
-    status: u8,
+    status: Option<u8>,
 }
 
 // A run in which so many reads and writes are good.
@@ -32,7 +32,10 @@ fn run_over(
     let mut reader = MemoryFeed::new(input, 8192, good_reads);
     let mut writer = MemorySink::new(alloc, 8192, good_writes);
     let mut errors = Vec::new(alloc);
-    let status = run(alloc, words, &mut reader, &mut writer, &mut errors, turns);
+    let status = match run(alloc, words, &mut reader, &mut writer, &mut errors, turns) {
+        Outcome::Ended(status) => Some(status),
+        Outcome::Serves { .. } => None,
+    };
     Ok(Ended {
         output: writer.as_slice().to_vec(alloc)?,
         errors,
@@ -65,6 +68,49 @@ fn words_give_settings(rt: HostRuntime) -> Result<(), Fail> {
     Ok(())
 }
 
+// Words, and the port, workers, sessions, most units and most records of the server that they ask for.
+const SERVED: &[(&str, u16, u8, u8, u64, u64)] = &[
+    ("bench61499 serve --port 0", 0, 2, 1, 1024, 100_000),
+    ("bench61499 serve --port=65535", 65_535, 2, 1, 1024, 100_000),
+    (
+        "bench61499 serve --port 7 --workers 16 --sessions 64 --units 3 --history 9",
+        7,
+        16,
+        64,
+        3,
+        9,
+    ),
+    (
+        "bench61499 serve --history 1 --sessions 1 --workers 1 --port 1",
+        1,
+        1,
+        1,
+        1024,
+        1,
+    ),
+];
+
+#[test]
+fn words_give_servers(rt: HostRuntime) -> Result<(), Fail> {
+    for (line, port, workers, sessions, units, history) in SERVED {
+        let words = words_of(rt.alloc(), line)?;
+        let found = settings(rt.alloc(), &words)?;
+        let served = Settings::Serve {
+            port: *port,
+            workers: *workers,
+            sessions: *sessions,
+            units: *units,
+            history: *history,
+        };
+        assert_eq!(rt; found, served, "{line}");
+        let ended = run_over(rt.alloc(), &words, TAKE, ALWAYS, ALWAYS, 1000)?;
+        assert!(rt; ended.status.is_none(), "{line}");
+        let is_silent = ended.errors.is_empty() && ended.output.is_empty();
+        assert!(rt; is_silent, "{line}");
+    }
+    Ok(())
+}
+
 // Words that ask for nothing that the program does, or for help.
 const REFUSED: &[&str] = &[
     "bench61499",
@@ -77,6 +123,18 @@ const REFUSED: &[&str] = &[
     "bench61499 script --units",
     "bench61499 script --unit 5",
     "bench61499 script --port 1",
+    "bench61499 serve",
+    "bench61499 serve --workers 1",
+    "bench61499 serve --port",
+    "bench61499 serve --port x",
+    "bench61499 serve --port 65536",
+    "bench61499 serve --port 0 --workers 0",
+    "bench61499 serve --port 0 --workers 17",
+    "bench61499 serve --port 0 --sessions 0",
+    "bench61499 serve --port 0 --sessions 65",
+    "bench61499 serve --port 0 --units 4097",
+    "bench61499 serve --port 0 --history 1000001",
+    "bench61499 serve --port 0 --help",
 ];
 
 #[test]
@@ -85,7 +143,7 @@ fn refused_words(rt: HostRuntime) -> Result<(), Fail> {
         let words = words_of(rt.alloc(), line)?;
         assert!(rt; settings(rt.alloc(), &words).is_err(), "{line}");
         let ended = run_over(rt.alloc(), &words, TAKE, ALWAYS, ALWAYS, 1000)?;
-        assert_eq!(rt; ended.status, 2, "{line}");
+        assert_eq!(rt; ended.status, Some(2), "{line}");
         let is_said = !ended.errors.is_empty();
         assert!(rt; is_said && ended.output.is_empty(), "{line}");
     }
@@ -126,7 +184,7 @@ fn runs(rt: HostRuntime) -> Result<(), Fail> {
         let mut input = TAKE.to_vec(alloc)?;
         input.extend_from_slice(&vec![in alloc; b' '; *spaces]?)?;
         let ended = run_over(alloc, &words, &input, *reads, *writes, *turns)?;
-        assert_eq!(rt; ended.status, *status, "{said}");
+        assert_eq!(rt; ended.status, Some(*status), "{said}");
         assert!(rt; ended.output.as_slice() == output.as_bytes(), "{said}");
         assert!(rt; ended.errors.as_slice() == said.as_bytes());
     }

@@ -1,13 +1,16 @@
 -- How a worker ends.
-use Rattle.std.specs.Prelude.{◌≡◌, ◌≢◌, ◌<◌, Option, Some, if◌then◌else◌}
+use Rattle.std.specs.Prelude.{◌≡◌, ◌≢◌, ◌<◌, Option, Some, None, if◌then◌else◌}
 use Rattle.std.specs.Option.{option_map}
+use Rattle.fb_bench.specs.Machine.{ToTake, next, reply}
+use Rattle.fb_bench.specs.Requests.{job_of}
+use Rattle.fb_bench.specs.Story.{state_of}
 use Rattle.fb_shared.specs.declared.locked.SharedRefused.{SharedRefused}
 use Rattle.fb_shared.specs.declared.locked.SharedRefused.TheVariants as refused
 use Rattle.fb_shared.specs.declared.work.WorkEnd.{WorkEnd}
 use Rattle.fb_shared.specs.declared.work.WorkEnd.TheVariants.{TurnsOver, Stopped, SeatDiffers, Behind, HistoryFull, Memory}
 use Rattle.fb_shared.specs.declared.work.Look.{Look}
 use Rattle.fb_shared.specs.declared.work.Look.TheVariants.{Ended, Nothing, Taken}
-use Rattle.fb_shared.specs.Seats.{Hall, Place}
+use Rattle.fb_shared.specs.Seats.{Hall, Place, hall_after}
 use Rattle.fb_shared.specs.Refusals.{refusal_of}
 
 -- a refusal under its name
@@ -35,3 +38,15 @@ abbrev pub LookNames : Place → Look → Type 0
 LookNames seat (Ended end) = NamesSeat seat end
 LookNames seat Nothing = Unit {0}
 LookNames seat (Taken job) = Unit {0}
+
+-- the cause where there is one, and otherwise want of memory
+abbrev pub EndsAs : Option WorkEnd → WorkEnd → Type 0
+EndsAs None end = end ≡ Memory
+EndsAs (Some cause) end = end ≡ cause
+
+-- A look for a job, under the lock. What ends the worker is asked first, whether or not there is a job. A look that takes none records nothing.
+abbrev pub Looks : Hall → Place → Look → Hall → Type 0
+Looks hall seat (Ended end) hall' = EndsAs (end_before_take hall seat) end × (hall' ≡ hall)
+Looks hall seat Nothing hall' = (end_before_take hall seat ≡ None) × (next (state_of hall.bench) ≡ None) × (hall' ≡ hall)
+Looks hall seat (Taken job) hall' =
+    (end_before_take hall seat ≡ None) × (job_of (reply (state_of hall.bench) ToTake) ≡ Some job) × (hall' ≡ hall_after hall seat.caller ToTake)

@@ -1,17 +1,18 @@
-ghost use Rattle.std.specs.Prelude.{◌≡◌, [], true, false, IfOk, IfErr, IfSome, OnOk, OnErr, length, None, Some, ◌≤◌};
+ghost use Rattle.std.specs.Prelude.{◌≡◌, [], true, false, IfOk, IfErr, IfSome, OnOk, OnErr, length, None, Some, ◌≤◌, vec_len, vec_capacity};
 ghost use Rattle.fb_bench.specs.Machine.{ToCommit, ToTake, ToDeliver, ToGiveBack, ToAsk, OfAsk};
 ghost use Rattle.fb_bench.specs.Records.{listed, shown_in};
 ghost use Rattle.fb_bench.specs.Requests.{call_for, reply_in, job_of};
 ghost use Rattle.fb_bench.specs.Story.{turns_of};
 ghost use Rattle.fb_shared.specs.Book.{IsBookOf};
 ghost use Rattle.fb_shared.specs.Calls.{Answers, Performs};
-ghost use Rattle.fb_shared.specs.Ends.{end_before_take, NamesSeat};
+ghost use Rattle.fb_shared.specs.Ends.{end_before_take, LookNames, Looks, NamesSeat};
 ghost use Rattle.fb_shared.specs.Refusals.{refusal_of, RefusedAs, IsRefusalOf};
+ghost use Rattle.fb_shared.specs.Runs.{AddsLook};
 ghost use Rattle.fb_shared.specs.Seats.{hall_after, next_claim, seat_after, AreFirstSeats, IsReceiptOf, IsAsked};
 
 use crate::book;
 use crate::seat::{Receipt, Seat};
-use crate::work::WorkEnd;
+use crate::work::{Look, WorkEnd};
 use fb_bench::jobs::{Finished, Job, Key};
 use fb_bench::library::Change;
 use fb_bench::{Answered, Asked, Bench, Limits, Request, Taken};
@@ -110,9 +111,31 @@ impl Locked {
         }
     }
 
-    // whether there is nothing to take
-    pub(crate) fn is_idle(&self) -> bool {
-        !self.bench.has_work()
+    // a look of a worker for a job, with room for two receipts where it takes one
+    pub(crate) fn look(&mut self, seat: &mut Seat, receipts: &mut Vec<Receipt>) -> Look
+        ensures looks { Looks self.old seat.old result self.new }
+        ensures adds { AddsLook result (vec_len receipts.new) (vec_capacity receipts.new) seat.old receipts.old.items receipts.new.items seat.new }
+        ensures names { LookNames seat.new result }
+    {
+        if let Some(end) = self.end_of_work(seat) {
+            return Look::Ended(end);
+        }
+        if !self.bench.has_work() {
+            return Look::Nothing;
+        }
+        if receipts.reserve(2).is_err() {
+            return Look::Ended(WorkEnd::Memory);
+        }
+        match self.take(seat) {
+            Err(refused) => Look::Ended(WorkEnd::of(refused)),
+            Ok((receipt, job)) => {
+                receipts.push_reserved(receipt);
+                match job {
+                    Some(job) => Look::Taken(job),
+                    None => unreachable!(),
+                }
+            }
+        }
     }
 
     // whether a worker that waits has to look again

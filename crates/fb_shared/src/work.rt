@@ -1,7 +1,7 @@
-ghost use Rattle.std.specs.Prelude.{◌≡◌, ◌*◌, ◌<◌, IfOk, IfSome, None, Some, vec_len, vec_capacity};
+ghost use Rattle.std.specs.Prelude.{◌≡◌, ◌*◌, ◌<◌, IfOk, IfSome, Some, vec_len, vec_capacity};
 ghost use Rattle.fb_shared.specs.Ends.{end_of, NamesSeat, LookNames};
-ghost use Rattle.fb_shared.specs.Runs.{AddsWork, AddsLook};
-ghost use Rattle.fb_shared.specs.declared.work.WorkEnd.TheVariants.{TurnsOver};
+ghost use Rattle.fb_shared.specs.Runs.{Works, AddsLook, Empty, Holds};
+ghost use Rattle.fb_shared.specs.declared.work.WorkEnd.TheVariants.{TurnsOver, Memory};
 
 use crate::locked::SharedRefused;
 use crate::seat::{Receipt, Seat};
@@ -57,7 +57,7 @@ impl WorkEnd {
 }
 
 // what a look for a job found
-enum Look {
+pub(crate) enum Look {
     Ended(WorkEnd),
     Nothing,
     Taken(Job),
@@ -76,7 +76,7 @@ pub fn work_on<R: Wait, G: Gate>(
     gate: &G,
     turns: u64,
 ) -> WorkEnd
-    ensures adds { AddsWork None (2 * turns) seat.old receipts.old.items receipts.new.items seat.new }
+    ensures works { Works Empty (2 * turns) seat.old receipts.old.items receipts.new.items seat.new (Some result) }
     ensures names { NamesSeat seat.new result }
     ensures idle { turns ≡ 0 → result ≡ TurnsOver }
 {
@@ -97,7 +97,7 @@ fn work_turn<R: Wait, G: Gate>(
     receipts: &mut Vec<Receipt>,
     gate: &G,
 ) -> Option<WorkEnd>
-    ensures adds { AddsWork None 2 seat.old receipts.old.items receipts.new.items seat.new }
+    ensures works { Works Empty 2 seat.old receipts.old.items receipts.new.items seat.new result }
     ensures names { IfSome result (NamesSeat seat.new) }
 {
     match take_job(rt, shared, seat, receipts) {
@@ -113,26 +113,11 @@ fn take_job<R: Wait>(rt: &R, shared: &Shared, seat: &mut Seat, receipts: &mut Ve
     ensures names { LookNames seat.new result }
 {
     let mut state = shared.state.lock(rt);
-    if let Some(end) = state.end_of_work(seat) {
-        return Look::Ended(end);
-    }
-    if state.is_idle() {
+    let look = state.look(seat, receipts);
+    if matches!(&look, Look::Nothing) {
         drop(shared.changed.wait(rt, state));
-        return Look::Nothing;
     }
-    if receipts.reserve(2).is_err() {
-        return Look::Ended(WorkEnd::Memory);
-    }
-    match state.take(seat) {
-        Err(refused) => Look::Ended(WorkEnd::of(refused)),
-        Ok((receipt, job)) => {
-            receipts.push_reserved(receipt);
-            match job {
-                None => Look::Nothing,
-                Some(job) => Look::Taken(job),
-            }
-        }
-    }
+    look
 }
 
 // runs a job that was taken, and delivers its result; where memory is wanting, it gives the key back
@@ -146,7 +131,7 @@ fn finish<R: Wait, G: Gate>(
     job: &Job,
 ) -> Option<WorkEnd>
     requires { vec_len receipts.old < vec_capacity receipts.old }
-    ensures adds { AddsWork (Some job.now) 1 seat.old receipts.old.items receipts.new.items seat.new }
+    ensures works { Works (Holds job.now) 1 seat.old receipts.old.items receipts.new.items seat.new result }
     ensures names { IfSome result (NamesSeat seat.new) }
 {
     let worker = seat.caller();
@@ -176,7 +161,7 @@ fn give_back<R: Wait>(
     job: &Job,
 )
     requires { vec_len receipts.old < vec_capacity receipts.old }
-    ensures { AddsWork (Some job.now) 1 seat.old receipts.old.items receipts.new.items seat.new }
+    ensures { Works (Holds job.now) 1 seat.old receipts.old.items receipts.new.items seat.new (Some Memory) }
 {
     if let Ok(receipt) = shared.give_back(rt, seat, job.key()) {
         receipts.push_reserved(receipt);

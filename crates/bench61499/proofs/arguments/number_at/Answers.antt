@@ -19,4 +19,4 @@ number_read f name n none value = by_text (one_text f name) refl
 
 pub returns-then-number-most : goal.returns-then-number-most
 returns-then-number-most c =
-    (number_read (found_of c.args.matches.now) c.args.name.now c.in_ok-number.number c.in_ok-number.ensures.none c.in_ok-number.ensures.value, c.if-number-ge1.true, c.if-number-most.true)
+    (number_read (found_of c.args.matches.now) c.args.name.now c.in_ok-number.number c.in_ok-number.ensures.none c.in_ok-number.ensures.value, c.if-least-number.true, c.if-number-most.true)

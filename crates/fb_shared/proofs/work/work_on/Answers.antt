@@ -1,20 +1,22 @@
-use Rattle.std.proofs.Common.{arith, None, ◌*◌, ◌+◌}
-use Rattle.fb_shared.proofs.Works.{adds_none, adds_turn, adds_fewer}
+use Rattle.std.proofs.Common.{arith, ◌*◌, ◌+◌}
+use Rattle.fb_shared.specs.Runs.{Empty}
+use Rattle.fb_shared.proofs.Works.{adds_none, adds_turn, adds_whole_turn, adds_fewer}
 use Rattle.fb_shared.proofs.work.work_on.Goals as goal
 
 pub looks-init : goal.looks-init
-looks-init g c = adds_none None _ c.args.seat.now c.args.receipts.now.items
+looks-init g c = adds_none Empty _ c.args.seat.now c.args.receipts.now.items
 
 pub looks-preserved : goal.looks-preserved
 looks-preserved g c =
-    adds_turn c.looks.counter c.args.seat.now c.looks.seat c.work_turn.new.seat c.args.receipts.now.items c.looks.receipts.items c.work_turn.new.receipts.items c.looks.invariant c.work_turn.ensures.adds
+    let turn = rw c.in_default.is at c.work_turn.ensures.works in
+    adds_whole_turn c.looks.counter c.args.seat.now c.looks.seat c.work_turn.new.seat c.args.receipts.now.items c.looks.receipts.items c.work_turn.new.receipts.items c.looks.invariant turn
 
-pub returns-clause-adds : goal.returns-clause-adds
-returns-clause-adds g c =
-    adds_fewer None (2 * c.looks.counter) (2 * c.args.turns) c.args.seat.now c.looks.seat c.args.receipts.now.items c.looks.receipts.items (omega (arith, c.looks.auto.counter-end)) c.looks.invariant
+pub returns-clause-works : goal.returns-clause-works
+returns-clause-works g c =
+    (Empty, adds_fewer Empty (2 * c.looks.counter) (2 * c.args.turns) c.args.seat.now c.looks.seat c.args.receipts.now.items c.looks.receipts.items Empty (omega (arith, c.looks.auto.counter-end)) c.looks.invariant, tt)
 
-pub returns-in-Some-clause-adds : goal.returns-in-Some-clause-adds
-returns-in-Some-clause-adds g c =
-    adds_fewer None (2 * (c.looks.counter + 1)) (2 * c.args.turns) c.args.seat.now c.work_turn.new.seat c.args.receipts.now.items c.work_turn.new.receipts.items (omega (arith, c.looks-test.true)) (
-    adds_turn c.looks.counter c.args.seat.now c.looks.seat c.work_turn.new.seat c.args.receipts.now.items c.looks.receipts.items c.work_turn.new.receipts.items c.looks.invariant c.work_turn.ensures.adds
-    )
+pub returns-in-Some-clause-works : goal.returns-in-Some-clause-works
+returns-in-Some-clause-works g c =
+    let turn = rw c.in-Some.is at c.work_turn.ensures.works in
+    let all = adds_turn c.looks.counter turn.0 c.args.seat.now c.looks.seat c.work_turn.new.seat c.args.receipts.now.items c.looks.receipts.items c.work_turn.new.receipts.items c.looks.invariant turn.1 in
+    (turn.0, adds_fewer Empty (2 * (c.looks.counter + 1)) (2 * c.args.turns) c.args.seat.now c.work_turn.new.seat c.args.receipts.now.items c.work_turn.new.receipts.items turn.0 (omega (arith, c.looks-test.true)) all, turn.2)

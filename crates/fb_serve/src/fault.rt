@@ -1,4 +1,4 @@
-// Why the program fails.
+// Why a run fails.
 ghost use Rattle.std.specs.Prelude.{◌≡◌, ◌↔◌, None};
 
 use fb_wire::RunEnd;

@@ -1,0 +1,39 @@
+-- What threads of a server are given and leave may cross threads.
+use denote.Param.Send.{IsSend, IsSync, sendable}
+use Rattle.std.proofs.Crossing.{crosses}
+use Rattle.fb_shared.proofs.Crossing.{seat_send, receipt_send}
+use Rattle.crossbeam_channel.specs.contracts.channel.Sender as Sender
+use Rattle.std.specs.contracts.net.tcp.TcpStream as TcpStream
+use Rattle.std.specs.contracts.alloc.Global as Heap
+use Rattle.std.specs.contracts.impls.GlobalAllocator.TheImpl.{ghosts}
+use Rattle.fb_serve.specs.contracts.callers.NewSeat as NewSeat
+use Rattle.fb_serve.specs.contracts.callers.Left as Left
+use Rattle.fb_serve.specs.contracts.callers.SessionFault as SessionFault
+use Rattle.fb_serve.specs.contracts.fault.Fault as Fault
+
+pub new_seat_field_send : IsSend (NewSeat.the_field).row
+new_seat_field_send = search (seat_send, crosses, sendable) depth 60 fits 20000
+
+pub new_seat_send : IsSend NewSeat.the_row
+new_seat_send = search (new_seat_field_send, crosses, sendable) depth 60 fits 20000
+
+pub left_field_send : IsSend (Left.the_field).row
+left_field_send = search (seat_send, receipt_send, crosses, sendable) depth 60 fits 20000
+
+pub left_send : IsSend Left.the_row
+left_send = search (left_field_send, crosses, sendable) depth 60 fits 20000
+
+fault_field_send : IsSend (Fault.the_field).row
+fault_field_send = search (crosses, sendable) depth 60 fits 20000
+
+pub session_fault_field_send : IsSend (SessionFault.the_field).row
+session_fault_field_send = search (fault_field_send, crosses, sendable) depth 60 fits 20000
+
+pub session_fault_send : IsSend SessionFault.the_row
+session_fault_send = search (session_fault_field_send, crosses, sendable) depth 60 fits 20000
+
+pub sender_sync : IsSync (Sender.the_row SessionFault.the_row Heap.the_row ghosts)
+sender_sync = search (session_fault_send, crosses, sendable) depth 60 fits 20000
+
+pub stream_send : IsSend TcpStream.the_row
+stream_send = search (crosses, sendable) depth 60 fits 20000

@@ -1,0 +1,4 @@
+pub mod Counts
+pub mod Crossing
+pub mod Prints
+pub mod Sessions

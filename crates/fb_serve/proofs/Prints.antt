@@ -1,0 +1,40 @@
+-- Fronts of two lines, one behind the other.
+use Rattle.std.proofs.Common.{◌≡◌, ◌<◌, ◌^◌, ℕ, zero, suc, List, [], ◌∷◌, ◌++◌, length, take, refl, sym, ap, ◌∙◌, append_assoc, arith}
+use Rattle.std.proofs.Math.Seq.{take-length}
+use Rattle.fb_serve.specs.Lines.{greeting, farewell, SaysLines}
+
+front_more : (n : ℕ) (xs ys : List ℕ) → (m : ℕ) × (take n xs ≡ take m (xs ++ ys))
+front_more zero xs ys = (0, refl)
+front_more (suc n) [] ys = (0, refl)
+front_more (suc n) (x ∷ xs) ys =
+    let rest = front_more n xs ys in
+    (suc rest.0, ap (λ (l : List ℕ). x ∷ l) rest.1)
+
+front_behind : (n : ℕ) (xs ys : List ℕ) → (m : ℕ) × (xs ++ take n ys ≡ take m (xs ++ ys))
+front_behind n [] ys = (n, refl)
+front_behind n (x ∷ xs) ys =
+    let rest = front_behind n xs ys in
+    (suc rest.0, ap (λ (l : List ℕ). x ∷ l) rest.1)
+
+-- a front of the first line
+pub greets_in_part : (port n : ℕ) (old new : List ℕ) → port < 2 ^ 16 → new ≡ old ++ take n (greeting port) → SaysLines 1 old new
+greets_in_part port n old new small is =
+    let front = front_more n (greeting port) farewell in
+    (port, small, (λ zero. absurd (omega (arith, zero))), (front.0, is ∙ ap (λ (l : List ℕ). old ++ l) front.1))
+
+-- the first line, and a front of the second
+pub closes_in_part : (port n : ℕ) (old between new : List ℕ) → port < 2 ^ 16 → between ≡ old ++ greeting port → new ≡ between ++ take n farewell → SaysLines 1 old new
+closes_in_part port n old between new small first is =
+    let front = front_behind n (greeting port) farewell in
+    let whole : new ≡ old ++ (greeting port ++ take n farewell) = is ∙ ap (λ (l : List ℕ). l ++ take n farewell) first ∙ append_assoc old (greeting port) (take n farewell) in
+    (port, small, (λ zero. absurd (omega (arith, zero))), (front.0, whole ∙ ap (λ (l : List ℕ). old ++ l) front.1))
+
+-- both lines
+pub closes : (port : ℕ) (old between new : List ℕ) → port < 2 ^ 16 → between ≡ old ++ greeting port → new ≡ between ++ farewell → SaysLines 0 old new
+closes port old between new small first is =
+    let whole : new ≡ old ++ (greeting port ++ farewell) = is ∙ ap (λ (l : List ℕ). l ++ farewell) first ∙ append_assoc old (greeting port) farewell in
+    (port, small, (λ zero. whole), (length (greeting port ++ farewell), whole ∙ ap (λ (l : List ℕ). old ++ l) (sym (take-length (greeting port ++ farewell)))))
+
+-- the first line
+pub greets : (port : ℕ) (old new : List ℕ) → port < 2 ^ 16 → new ≡ old ++ greeting port → SaysLines 1 old new
+greets port old new small is = greets_in_part port (length (greeting port)) old new small (is ∙ ap (λ (l : List ℕ). old ++ l) (sym (take-length (greeting port))))

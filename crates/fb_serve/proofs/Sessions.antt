@@ -1,0 +1,41 @@
+-- What the steps of a desk with a seat leave in its receipts.
+use Rattle.std.proofs.Common.{◌≡◌, List, [], ◌∷◌, ◌++◌, map, refl, sym, ap, ◌∙◌, subst, append_assoc, append-nil}
+use Rattle.fb_wire.specs.Bench.Machine.{Call, Reply}
+use Rattle.fb_wire.specs.Bench.Calls.{Answer, Replied, FullHistory, BehindHistory}
+use Rattle.fb_wire.specs.Talk.{Pair, Runs}
+use Rattle.fb_shared.specs.Runs.{IsRun}
+use Rattle.fb_shared.specs.Seats.{Place, Claim, IsReceiptOf, seat_after}
+use Rattle.fb_shared.specs.Sitting.{Sitter, SitterStep}
+use Rattle.fb_serve.specs.Sessions.{answered_before, answered_in, call_shown}
+
+-- these receipts were added, of the answered calls
+abbrev Shows : Sitter → List (Call × Reply) → Sitter → Type 0
+Shows old answered new =
+    (added : List Claim) × (new.receipts ≡ old.receipts ++ added) × (answered ≡ map call_shown added) × IsRun old.seat added new.seat
+
+shows_more : (call : Call) (answer : Answer) (old mid new : Sitter) (answered : List (Call × Reply)) → SitterStep old call answer mid → Shows mid answered new → Shows old (answered_before call answer answered) new
+shows_more call (Replied reply) old mid new answered step rest =
+    let claim : Claim = step.0 in
+    let first : IsReceiptOf old.seat claim.entry.call claim = subst (λ (c : Call). IsReceiptOf old.seat c claim) (sym step.2.call_is) step.2 in
+    let more : IsRun (seat_after old.seat claim) rest.0 new.seat = subst (λ (s : Place). IsRun s rest.0 new.seat) step.4 rest.3 in
+    let shown : (call, reply) ≡ call_shown claim = ap (λ (c : Call). (c, reply)) (sym step.2.call_is) ∙ ap (λ (r : Reply). (claim.entry.call, r)) (sym step.3) in (
+      claim ∷ rest.0,
+      rest.1 ∙ ap (λ (l : List Claim). l ++ rest.0) step.1 ∙ append_assoc old.receipts (claim ∷ []) rest.0,
+      ap (λ (l : List (Call × Reply)). (call, reply) ∷ l) rest.2 ∙ ap (λ (p : Call × Reply). p ∷ map call_shown rest.0) shown,
+      (first, more),
+    )
+shows_more call FullHistory old mid new answered step rest = subst (λ (s : Sitter). Shows s answered new) step rest
+shows_more call BehindHistory old mid new answered step rest = subst (λ (s : Sitter). Shows s answered new) step rest
+
+runs_show : (pairs : List Pair) (old new : Sitter) → Runs SitterStep old pairs new → Shows old (answered_in pairs) new
+runs_show [] old new runs = ([], ap (λ (s : Sitter). s.receipts) runs ∙ sym (append-nil old.receipts), refl, ap (λ (s : Sitter). s.seat) runs)
+runs_show (p ∷ ps) old new runs = shows_more p.0 p.1 old runs.0 new (answered_in ps) runs.1 (runs_show ps runs.0 new runs.2)
+
+-- the same from a desk with no receipts, whose seat and receipts are then taken out
+pub session_shown : (pairs : List Pair) (seat : Place) (start : List Claim) (old new : Sitter) (left : Place) (receipts : List Claim) → start ≡ [] → old ≡ record { seat = seat; receipts = start } → Runs SitterStep old pairs new → left ≡ new.seat → receipts ≡ new.receipts
+    → (answered_in pairs ≡ map call_shown receipts) × IsRun seat receipts left
+session_shown pairs seat start old new left receipts none made runs left_is receipts_is =
+    let begun : old ≡ record { seat = seat; receipts = [] } = made ∙ ap (λ (l : List Claim). record { seat = seat; receipts = l }) none in
+    let shows = runs_show pairs (record { seat = seat; receipts = [] }) new (subst (λ (s : Sitter). Runs SitterStep s pairs new) begun runs) in
+    let same : shows.0 ≡ receipts = sym (receipts_is ∙ shows.1) in
+    (shows.2 ∙ ap (map call_shown) same, subst (λ (s : Place). IsRun seat receipts s) (sym left_is) (subst (λ (l : List Claim). IsRun seat l new.seat) same shows.3))

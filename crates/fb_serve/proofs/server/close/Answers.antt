@@ -1,0 +1,15 @@
+use Rattle.std.proofs.Common.{List, subst}
+use Rattle.fb_wire.specs.Bench.Story.{Story}
+use Rattle.fb_shared.specs.Closing.{AgreesWith}
+use Rattle.fb_shared.specs.Seats.{Claim}
+use Rattle.fb_serve.specs.Shown.{ShowsAll}
+use Rattle.fb_serve.proofs.Counts.{all_shown}
+use Rattle.fb_serve.proofs.server.close.Goals as goal
+
+pub returns-in-Ok-clause-all : goal.returns-in-Ok-clause-all
+returns-in-Ok-clause-all c =
+    let closed = c.in-Ok.ensures.closed in
+    let seats = c.args.gathered.seats.items in
+    let receipts = c.args.gathered.receipts.items in
+    let agrees = subst (λ (l : List Claim). AgreesWith closed.0 seats l) c.deref.ensures.value closed.2 in
+    subst (λ (s : Story). ShowsAll s.log.records receipts) closed.1 (all_shown closed.0 seats receipts agrees c.args.gathered.shown)

@@ -1,0 +1,23 @@
+use Rattle.fb_serve.proofs.Prints.{greets, greets_in_part, closes, closes_in_part}
+use Rattle.fb_serve.proofs.server.serve_on.Goals as goal
+
+pub returns-in_default-clause-said : goal.returns-in_default-clause-said
+returns-in_default-clause-said g c =
+    let greeted = c.in_default.ensures.held in
+    greets_in_part greeted.0 greeted.2.0 _ _ greeted.1 greeted.2.1
+
+pub returns-in-Ok-say-clause-said : goal.returns-in-Ok-say-clause-said
+returns-in-Ok-say-clause-said g c =
+    let greeted = c.in-Ok.ensures.held in
+    closes greeted.0 _ _ _ greeted.1 greeted.2 c.in-Ok-say.ensures.held
+
+pub returns-in-Ok-serve_sessions-clause-said : goal.returns-in-Ok-serve_sessions-clause-said
+returns-in-Ok-serve_sessions-clause-said g c =
+    let greeted = c.in-Ok.ensures.held in
+    let said = c.in-Err-say.ensures.held in
+    closes_in_part greeted.0 said.0 _ _ _ greeted.1 greeted.2 said.1
+
+pub returns-clause-said : goal.returns-clause-said
+returns-clause-said g c =
+    let greeted = c.in-Ok.ensures.held in
+    greets greeted.0 _ _ greeted.1 greeted.2

@@ -1,0 +1,17 @@
+-- What the server prints.
+use Rattle.std.specs.Prelude.{◌≡◌, ◌<◌, ◌^◌, ℕ, List, [], ◌∷◌, ◌++◌, take, codes}
+use Rattle.std.specs.Fmt.{decimal}
+
+-- where it listens
+abbrev pub greeting : ℕ → List ℕ
+greeting port = codes "listening on 127.0.0.1:" ++ (decimal port ++ 10 ∷ [])
+
+abbrev pub farewell : List ℕ
+farewell = codes "closed" ++ 10 ∷ []
+
+-- Status 0: both lines, for some port. Otherwise a front of them.
+abbrev pub SaysLines : ℕ → List ℕ → List ℕ → Type 0
+SaysLines status old new =
+    (port : ℕ) × (port < 2 ^ 16)
+    × (status ≡ 0 → new ≡ old ++ (greeting port ++ farewell))
+    × ((n : ℕ) × (new ≡ old ++ take n (greeting port ++ farewell)))

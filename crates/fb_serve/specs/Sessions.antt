@@ -1,0 +1,21 @@
+-- What the receipts of a session say of its calls.
+use Rattle.std.specs.Prelude.{List, [], ◌∷◌}
+use Rattle.fb_wire.specs.Bench.Machine.{Call, Reply}
+use Rattle.fb_wire.specs.Bench.Calls.{Answer, Replied, FullHistory, BehindHistory}
+use Rattle.fb_wire.specs.Talk.{Pair}
+use Rattle.fb_shared.specs.Seats.{Claim}
+
+-- a call with its reply stands in front; one that was refused does not
+abbrev pub answered_before : Call → Answer → List (Call × Reply) → List (Call × Reply)
+answered_before call (Replied reply) rest = (call, reply) ∷ rest
+answered_before call FullHistory rest = rest
+answered_before call BehindHistory rest = rest
+
+-- the calls that were answered, with their replies, in order
+abbrev pub answered_in : List Pair → List (Call × Reply)
+answered_in [] = []
+answered_in (pair ∷ pairs) = answered_before pair.0 pair.1 (answered_in pairs)
+
+-- the call of a receipt, and its reply
+abbrev pub call_shown : Claim → Call × Reply
+call_shown claim = (claim.entry.call, claim.entry.reply)

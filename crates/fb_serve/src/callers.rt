@@ -1,0 +1,215 @@
+// The threads of a server: a session for each connection, and the workers beside them.
+ghost use Rattle.std.specs.Prelude.{List};
+ghost use Rattle.fb_serve.specs.Shown.{IsNew, IsShown, AreShown};
+
+use crate::fault::{Fault, fault_of};
+use crate::session::{Session, run_session};
+use crossbeam_channel::Sender;
+use fb_shared::{Plain, Receipt, Seat, Shared, work_on};
+use fb_wire::{FromRead, IntoWrite};
+use std::alloc::Global;
+use std::net::{OpenListener, TcpListener, TcpStream};
+use std::sync::Wait;
+use std::thread;
+use std::thread::{JoinHandle, Scope, Threads};
+
+/// How many reads a session, and how many looks a worker may make.
+const TURNS: u64 = 1_000_000_000;
+
+/// A session that did not come to the end of its input.
+#[derive(Clone, Copy)]
+pub(crate) struct SessionFault {
+    pub(crate) caller: u32,
+    pub(crate) fault: Fault,
+}
+
+/// A seat with which no call was made.
+#[derive(Drop)]
+pub(crate) struct NewSeat {
+    seat: Seat,
+    ghost is_new: { IsNew seat },
+}
+
+impl NewSeat {
+    pub(crate) fn of(seat: Seat) -> NewSeat
+        requires { IsNew seat }
+    {
+        NewSeat { seat }
+    }
+}
+
+// What a thread leaves: its seat, and the receipts of all calls with it.
+#[derive(Drop)]
+struct Left {
+    seat: Seat,
+    receipts: Vec<Receipt>,
+    ghost shown: { IsShown receipts.items seat },
+}
+
+impl Left {
+    fn of(seat: Seat, receipts: Vec<Receipt>) -> Left
+        requires { IsShown receipts.items seat }
+    {
+        Left { seat, receipts }
+    }
+}
+
+/// What the threads left: their seats, and the receipts of all calls with these. It is whole where each thread was started and what it left
+/// was kept.
+#[derive(Drop)]
+pub(crate) struct Gathered {
+    pub(crate) seats: Vec<Seat>,
+    pub(crate) receipts: Vec<Receipt>,
+    pub(crate) is_whole: bool,
+    ghost shown: { AreShown receipts.items seats.items },
+}
+
+impl Gathered {
+    fn new(alloc: Global) -> Gathered {
+        Gathered {
+            seats: Vec::new(alloc),
+            receipts: Vec::new(alloc),
+            is_whole: true,
+        }
+    }
+
+    fn add(&mut self, left: Left) {
+        let Left { seat, mut receipts } = left;
+        if self.seats.reserve(1).is_err() {
+            self.is_whole = false;
+            return;
+        }
+        match self.receipts.append(&mut receipts) {
+            Ok(()) => self.seats.push_reserved(seat),
+            Err(_) => self.is_whole = false,
+        }
+    }
+
+    fn add_all<R: Threads>(&mut self, rt: &R, started: Started) {
+        let Started { threads, is_whole } = started;
+        for thread in threads {
+            self.add(thread.join(rt));
+        }
+        self.is_whole &= is_whole;
+    }
+}
+
+// Threads that were started, and whether all of them were.
+#[derive(Drop)]
+struct Started {
+    threads: Vec<JoinHandle<Left>>,
+    is_whole: bool,
+}
+
+/// Runs the sessions of the connections that come, one for each seat, with workers beside them, and joins them all. Once a thread is not
+/// started, no further one is.
+pub(crate) fn run_callers<R: Threads + Wait + Sync>(
+    rt: &R,
+    alloc: Global,
+    listener: &TcpListener,
+    shared: &Shared,
+    sessions: Vec<NewSeat>,
+    workers: Vec<NewSeat>,
+    faults: &Sender<SessionFault>,
+) -> Gathered {
+    thread::scope(thread::scope_env(), rt, |scope| {
+        let mut gathered = Gathered::new(alloc);
+        let working = start_workers(scope, rt, alloc, shared, workers);
+        if working.is_whole {
+            let talking = start_sessions(scope, rt, alloc, listener, shared, sessions, faults);
+            gathered.add_all(rt, talking);
+        }
+        shared.stop(rt);
+        gathered.add_all(rt, working);
+        gathered
+    })
+}
+
+fn start_workers<'s, E, R: Threads + Wait + Sync>(
+    scope: &Scope<'s, E>,
+    rt: &'s R,
+    alloc: Global,
+    shared: &'s Shared,
+    seats: Vec<NewSeat>,
+) -> Started {
+    let mut threads = Vec::new(alloc);
+    let mut is_whole = true;
+    for seat in seats {
+        if threads.reserve(1).is_err() {
+            is_whole = false;
+            break;
+        }
+        match scope.spawn(move || work(rt, alloc, shared, seat)) {
+            Ok(thread) => threads.push_reserved(thread),
+            Err(_) => {
+                is_whole = false;
+                break;
+            }
+        }
+    }
+    Started { threads, is_whole }
+}
+
+// Lets in a connection for each seat.
+fn start_sessions<'s, E, R: Threads + Wait + Sync>(
+    scope: &Scope<'s, E>,
+    rt: &'s R,
+    alloc: Global,
+    listener: &TcpListener,
+    shared: &'s Shared,
+    seats: Vec<NewSeat>,
+    faults: &'s Sender<SessionFault>,
+) -> Started {
+    let mut threads = Vec::new(alloc);
+    let mut is_whole = true;
+    for seat in seats {
+        let Ok((stream, _peer)) = listener.accept() else {
+            is_whole = false;
+            break;
+        };
+        if threads.reserve(1).is_err() {
+            is_whole = false;
+            break;
+        }
+        match scope.spawn(move || talk(rt, alloc, shared, seat, stream, faults)) {
+            Ok(thread) => threads.push_reserved(thread),
+            Err(_) => {
+                is_whole = false;
+                break;
+            }
+        }
+    }
+    Started { threads, is_whole }
+}
+
+// A worker's thread.
+fn work<R: Wait>(rt: &R, alloc: Global, shared: &Shared, seat: NewSeat) -> Left {
+    let NewSeat { mut seat } = seat;
+    let mut receipts = Vec::new(alloc);
+    let _end = work_on(rt, alloc, shared, &mut seat, &mut receipts, &Plain, TURNS);
+    Left::of(seat, receipts)
+}
+
+// A session's thread, which owns its stream. It tells a fault before it ends.
+fn talk<R: Wait>(
+    rt: &R,
+    alloc: Global,
+    shared: &Shared,
+    seat: NewSeat,
+    stream: TcpStream,
+    faults: &Sender<SessionFault>,
+) -> Left {
+    let NewSeat { seat } = seat;
+    let caller = seat.caller();
+    let mut reader = FromRead::new(&stream);
+    let mut writer = IntoWrite::new(&stream);
+    let Session {
+        end,
+        seat,
+        receipts,
+    } = run_session(rt, alloc, shared, seat, &mut reader, &mut writer, TURNS);
+    if let Some(fault) = fault_of(end) {
+        let _ = faults.send(rt, SessionFault { caller, fault });
+    }
+    Left::of(seat, receipts)
+}

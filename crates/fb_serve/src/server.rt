@@ -1,0 +1,155 @@
+// The server, on the listener that it is given.
+ghost use Rattle.std.specs.Prelude.{◌≡◌, ◌≤◌, ℕ, All, IfOk, true, false};
+ghost use Rattle.fb_shared.specs.Book.{IsBookOf};
+ghost use Rattle.fb_serve.specs.Lines.{SaysLines};
+ghost use Rattle.fb_serve.specs.Shown.{IsNew, ShowsAll};
+
+use crate::callers::{Gathered, NewSeat, SessionFault, run_callers};
+use crate::say::{greet, say};
+use crossbeam_channel::{Receiver, bounded};
+use fb_shared::bench::Limits;
+use fb_shared::{Closed, Receipt, Seat, Shared};
+use fb_wire::Sink;
+use std::alloc::{AllocError, Global};
+use std::io::Write;
+use std::net::{Net, TcpListener, TcpStream};
+use std::sync::Wait;
+use std::thread::Threads;
+
+/// All sessions ended, and the workbench is closed.
+const DONE: u8 = 0;
+
+/// The listener, a thread, a printed line, memory or the close failed.
+const FAILED: u8 = 1;
+
+/// How many callers of each sort a server has, and the limits of its workbench. Callers 1 to `sessions` are sessions, those behind them workers.
+#[derive(Clone, Copy)]
+pub struct Numbers {
+    pub workers: u8,
+    pub sessions: u8,
+    pub limits: Limits,
+}
+
+/// What a server leaves: its workbench, closed, and the receipts of all calls of its sessions and workers.
+#[derive(Drop)]
+pub struct Served {
+    pub closed: Closed,
+    pub receipts: Vec<Receipt>,
+}
+
+/// A server that did not come to its close.
+#[derive(Clone, Copy, Debug, PartialEq, Eq)]
+pub struct NotServed;
+
+impl From<AllocError> for NotServed {
+    fn from(_error: AllocError) -> NotServed {
+        NotServed
+    }
+}
+
+/// Lets in as many connections as there are sessions, with workers beside them, and closes when all sessions have ended. Where a thread or
+/// a connection fails, it lets no further one in. A fault of a session is told on `errors`, and the others go on.
+pub fn serve_sessions<R: Threads + Wait + Sync, E: Write>(
+    rt: &R,
+    alloc: Global,
+    listener: &TcpListener,
+    numbers: Numbers,
+    errors: &mut E,
+) -> Result<Served, NotServed>
+    // The receipts are those of all records of the workbench, each once; each caller is counted with its records.
+    ensures all { IfOk result (λ served. ShowsAll served.closed.bench.log.records served.receipts.items) }
+    ensures counts { IfOk result (λ served. (callers : ℕ) × IsBookOf served.closed.counts callers served.closed.bench.log.records) }
+{
+    let callers = u32::from(numbers.sessions) + u32::from(numbers.workers);
+    let (shared, mut seats) = Shared::new(alloc, numbers.limits, callers)?;
+    let workers = seats.split_off(usize::from(numbers.sessions))?;
+    let workers = new_seats(alloc, workers)?;
+    let sessions = new_seats(alloc, seats)?;
+    let (faults, told) = bounded(alloc, usize::from(numbers.sessions))?;
+    let gathered = run_callers(rt, alloc, listener, &shared, sessions, workers, &faults);
+    drop(faults);
+    tell(rt, &told, errors);
+    close(alloc, shared, gathered)
+}
+
+// The seats of a new workbench.
+fn new_seats(alloc: Global, seats: Vec<Seat>) -> Result<Vec<NewSeat>, AllocError>
+    requires { All IsNew seats.items }
+{
+    let mut fresh = Vec::new(alloc);
+    for seat in seats {
+        fresh.push(NewSeat::of(seat))?;
+    }
+    Ok(fresh)
+}
+
+// Closes with all that the threads left.
+fn close(alloc: Global, shared: Shared, gathered: Gathered) -> Result<Served, NotServed>
+    ensures all { IfOk result (λ served. ShowsAll served.closed.bench.log.records served.receipts.items) }
+    ensures counts { IfOk result (λ served. (callers : ℕ) × IsBookOf served.closed.counts callers served.closed.bench.log.records) }
+{
+    let Gathered {
+        seats,
+        receipts,
+        is_whole,
+    } = gathered;
+    if !is_whole {
+        return Err(NotServed);
+    }
+    match shared.close(alloc, seats, &receipts) {
+        Ok(closed) => Ok(Served { closed, receipts }),
+        Err(_) => Err(NotServed),
+    }
+}
+
+// Tells the faults of the sessions, which have all ended.
+fn tell<R: Wait, E: Write>(rt: &R, told: &Receiver<SessionFault>, errors: &mut E) {
+    for it in told.iter(rt) {
+        let SessionFault { caller, fault } = it;
+        let _ = writeln!(errors, "session {caller}: {fault}");
+    }
+}
+
+/// Prints where it listens, serves its sessions, prints that it is closed, and gives the status of the program: 0, or 1 where something
+/// failed, once the sessions that run have ended and the workers are stopped and joined.
+pub fn serve_on<R: Threads + Wait + Sync, S: Sink, E: Write>(
+    rt: &R,
+    alloc: Global,
+    listener: &TcpListener,
+    numbers: Numbers,
+    out: &mut S,
+    errors: &mut E,
+) -> u8
+    requires { S.has_failed out.old ≡ false }
+    ensures status { result ≤ 1 }
+    ensures said { SaysLines result (S.held out.old) (S.held out.new) }
+    ensures flushed { result ≡ 0 → S.is_flushed out.new ≡ true }
+{
+    let Ok(()) = greet(alloc, listener, out) else {
+        return FAILED;
+    };
+    match serve_sessions(rt, alloc, listener, numbers, errors) {
+        Ok(_served) => match say(out, b"closed\n") {
+            Ok(()) => DONE,
+            Err(_) => FAILED,
+        },
+        Err(_) => FAILED,
+    }
+}
+
+/// Serves as `serve_on` does, on this port of 127.0.0.1; any free one for 0.
+pub fn serve<
+    R: Net<Listener = TcpListener, Stream = TcpStream> + Threads + Wait + Sync,
+    S: Sink,
+    E: Write,
+>(rt: &R, alloc: Global, port: u16, numbers: Numbers, out: &mut S, errors: &mut E) -> u8
+    requires { S.has_failed out.old ≡ false }
+    ensures status { result ≤ 1 }
+    ensures said { SaysLines result (S.held out.old) (S.held out.new) }
+    ensures flushed { result ≡ 0 → S.is_flushed out.new ≡ true }
+{
+    match TcpListener::bind(rt, ("127.0.0.1", port)) {
+        Ok(listener) => serve_on(rt, alloc, &listener, numbers, out, errors),
+        Err(_) => FAILED,
+    }
+}

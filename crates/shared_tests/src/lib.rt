@@ -1,0 +1,17 @@
+//! Tests of a workbench that is shared: its calls and their receipts, what closes it, its workers, and threads that use it.
+#![tactic(auto)]
+
+#[cfg(test)]
+mod calls;
+#[cfg(test)]
+mod closing;
+#[cfg(test)]
+mod desks;
+#[cfg(test)]
+mod play;
+#[cfg(test)]
+mod setup;
+#[cfg(test)]
+mod threads;
+#[cfg(test)]
+mod workers;

@@ -1,0 +1,54 @@
+//! Keys, changes, workbenches and seats for the tests.
+use fb_shared::bench::Limits;
+use fb_shared::bench::jobs::{Key, Kind};
+use fb_shared::bench::library::Change;
+use fb_shared::bench::parse::Source;
+use fb_shared::{Locked, Seat, Shared};
+use fb_text::Name;
+use std::alloc::Global;
+
+const PLAIN: &str = "FUNCTION_BLOCK A END_FUNCTION_BLOCK";
+
+/// The key of the faults of a unit.
+pub(crate) fn faults_of(unit: &str) -> Option<Key> {
+    let unit = Name::read(unit).ok()?;
+    Some(Key {
+        kind: Kind::Faults,
+        unit,
+    })
+}
+
+/// Changes that put each of the units, which are new.
+pub(crate) fn puts(alloc: Global, units: &[&str]) -> Option<Vec<Change>> {
+    let mut changes = Vec::new(alloc);
+    for unit in units {
+        let unit = Name::read(unit).ok()?;
+        let source = Source::read(alloc, unit, PLAIN).ok()?;
+        changes.push(Change::Put { base: 0, source }).ok()?;
+    }
+    Some(changes)
+}
+
+/// A shared workbench with room for so many records, and the seats of its two callers.
+pub(crate) fn new_shared(alloc: Global, history: u64) -> Option<(Shared, Seat, Seat)> {
+    let (shared, mut seats) = Shared::new(alloc, Limits::new(4, history)?, 2).ok()?;
+    let second = seats.pop()?;
+    let first = seats.pop()?;
+    Some((shared, first, second))
+}
+
+/// The same with no lock.
+pub(crate) fn new_locked(alloc: Global, history: u64) -> Option<(Locked, Seat, Seat)> {
+    let (locked, mut seats) = Locked::new(alloc, Limits::new(4, history)?, 2).ok()?;
+    let second = seats.pop()?;
+    let first = seats.pop()?;
+    Some((locked, first, second))
+}
+
+/// Both seats, to close with.
+pub(crate) fn pair(alloc: Global, first: Seat, second: Seat) -> Option<Vec<Seat>> {
+    let mut seats = Vec::new(alloc);
+    seats.push(first).ok()?;
+    seats.push(second).ok()?;
+    Some(seats)
+}
