@@ -1,0 +1,62 @@
+"""Plans of systems, as `plan` prints them."""
+from __future__ import annotations
+
+import unittest
+
+from support import InFolder, run, serving, workbench
+
+SCREEN = """SOUTH.SCREEN:
+  CREATE FB LINE.PANEL LAMP
+  WRITE LINE.PANEL.DELAY T#250ms
+  WRITE LINE.PANEL.TEXT 'line 1'
+  START SOUTH.SCREEN
+"""
+
+
+class PlanTest(InFolder):
+    def setUp(self) -> None:
+        super().setUp()
+        self.copy_conveyor()
+
+    def edit(self, file: str, old: str, new: str) -> None:
+        text = (self.folder / file).read_text()
+        self.assertIn(old, text)
+        self.write(file, text.replace(old, new))
+
+    def told(self, status: int, *words: object) -> str:
+        """What is printed, or on standard error where the status is not 0."""
+        ran = run("plan", *words, "--files", ".", "--program", workbench(), folder=self.folder)
+        self.assertEqual(ran.returncode, status, ran.stderr)
+        return ran.stderr if status else ran.stdout
+
+    def test_whole_plan(self) -> None:
+        lines = self.told(0, "PLANT").splitlines()
+        self.assertEqual(lines[:2], ["between resources:", "  event LINE.FIRST.LIFT.LIFTED -> LINE.SECOND.BELT.START"])
+        self.assertEqual([it for it in lines[1:] if not it.startswith(" ")], ["NORTH.MOTION:", "SOUTH.MOTION:", "SOUTH.SCREEN:"])
+        self.assertEqual("\n".join(lines[-5:]) + "\n", SCREEN)
+
+    def test_one_resource(self) -> None:
+        self.assertEqual(self.told(0, "plant", "--resource", "south.screen"), SCREEN)
+        self.assertIn("PLANT has no resource NORTH.SCREEN; it has NORTH.MOTION", self.told(2, "PLANT", "--resource", "NORTH.SCREEN"))
+
+    def test_no_plan(self) -> None:
+        self.assertEqual(self.told(1, "STATION"), "plan: STATION is no system of the workbench\n")
+        self.edit("PLANT.fb", "LINE.PANEL ON SOUTH.SCREEN;", "LINE.LAMP ON SOUTH.SCREEN;")
+        wanted = "plan: PLANT has no plan:\n  no mapping gives LINE.PANEL a resource\n  a mapping is of LINE.LAMP, which is not there\n"
+        self.assertEqual(self.told(1, "PLANT"), wanted)
+        self.edit("FEEDER.fb", "DONE TO IDLE", "DONE TO IDEL")
+        self.assertIn("absent or have faults: FEEDER", self.told(1, "PLANT"))
+
+    def test_misuse(self) -> None:
+        self.assertIn("no file declares the unit NOTHING", self.told(2, "NOTHING"))
+        self.assertIn("--files FOLDER, or --connect", run("plan", "PLANT").stderr)
+
+    def test_units_that_are_in_the_workbench(self) -> None:
+        with serving(sessions=2) as port:
+            self.assertEqual(run("check", ".", "--connect", f":{port}", folder=self.folder).returncode, 0)
+            ran = run("plan", "PLANT", "--resource", "SOUTH.SCREEN", "--connect", f":{port}")
+        self.assertEqual(ran.stdout, SCREEN)
+
+
+if __name__ == "__main__":
+    unittest.main()

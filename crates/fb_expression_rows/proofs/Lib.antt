@@ -1,0 +1,10 @@
+pub mod ExpressionLemmas
+pub mod StatementLemmas
+pub mod UnitLemmas
+pub mod TypeLemmas
+pub mod ReferentLemmas
+pub mod VariableRows
+pub mod PlaceLemmas
+pub mod RuleLemmas
+pub mod ClassLemmas
+pub mod ClassRows

@@ -1,0 +1,23 @@
+//! Laws of the faults of expressions and statements: where each code is reported.
+ghost use Rattle.fb_expression_rows.specs.Rows.{ClassesAreRight, ExpressionsHaveOneClass, NoOtherCodes, VariablesAreKnown};
+
+/// A reference in a guard or an algorithm, or the name behind `FOR`, is a fault where it names no variable of the unit and no data of an own
+/// plug or socket, and rests on no type that is not usable.
+pub fn variables_are_known()
+    ensures { VariablesAreKnown }
+{}
+
+/// An operator, a place in a statement, or an assignment in a guard or an algorithm is a fault where it breaks its rule of classes.
+pub fn classes_are_right()
+    ensures { ClassesAreRight }
+{}
+
+/// Each expression has exactly one class.
+pub fn expressions_have_one_class()
+    ensures { ExpressionsHaveOneClass }
+{}
+
+/// The faults of expressions and statements have these codes alone.
+pub fn expressions_have_no_other_codes()
+    ensures { NoOtherCodes }
+{}

@@ -1,0 +1,10 @@
+pub mod HomeLemmas
+pub mod PlannedLemmas
+pub mod CommandLemmas
+pub mod CommandRows
+pub mod EndLemmas
+pub mod CutRows
+pub mod EntryLemmas
+pub mod LinkRows
+pub mod PlacedRows
+pub mod OneHome
