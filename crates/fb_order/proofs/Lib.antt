@@ -1,3 +1,7 @@
+pub mod DecidedLemmas
+pub mod ExploreLemmas
+pub mod FilterLemmas
+pub mod GraphLemmas
 pub mod LocalLemmas
 pub mod NameLemmas
 pub mod OrderLemmas

@@ -1,6 +1,7 @@
 -- Names among names, and tests.
 use Rattle.std.proofs.Common.{◌≡◌, ℕ, Bool, true, false, ◌||◌, List, refl, sym, ap, ◌∙◌, nat_cmp}
 use Rattle.std.proofs.lemmas.Bool.{false≢true}
+use Rattle.std.specs.Bool.{OnFalse}
 use Rattle.std.specs.Ordering.{eq_by_cmp}
 use Rattle.std.specs.Cmp.{eq_by_cmp_equiv}
 use Rattle.std.specs.Cmp.Lexicographic.{slice_cmp, nat_list_cmp_total}
@@ -13,6 +14,10 @@ by_bool false t f = f refl
 
 pub no_both : {P : Type 0} (b : Bool) → b ≡ true → b ≡ false → P
 no_both b t f = absurd (false≢true (sym f ∙ t))
+
+pub on_false : {P : Type 0} (b : Bool) → b ≡ false → OnFalse b P → P
+on_false true f h = no_both true refl f
+on_false false f h = h
 
 pub or_left : (a b : Bool) → a ≡ true → (a || b) ≡ true
 or_left a b e = ap (λ x. x || b) e

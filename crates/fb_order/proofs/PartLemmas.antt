@@ -1,28 +1,21 @@
 -- The names of a list that reach themselves.
-use Rattle.std.proofs.Common.{◌≡◌, ℕ, Bool, true, false, cond, List, [], ◌∷◌, ◌++◌, refl, sym, ap, subst, ◌∙◌}
+use Rattle.std.proofs.Common.{◌≡◌, ℕ, Bool, true, cond, List, [], ◌∷◌, refl, sym, ap, subst, ◌∙◌}
 use Rattle.std.proofs.lemmas.Bool.{false≢true}
 use Rattle.std.proofs.lemmas.List.Kept.{IsStrictlySortedBy-filter}
 use Rattle.std.specs.List.{Contains, filter}
 use Rattle.std.specs.List.Sorted.{IsStrictlySortedBy}
 use Rattle.fb_text.specs.Order.{name_cmp}
-use Rattle.fb_library.specs.View.{Sources}
+use Rattle.fb_library.specs.View.{Sources, mentions_at}
 use Rattle.fb_library.specs.Rests.{itself}
 use Rattle.fb_library.specs.Seen.{has_name}
 use Rattle.fb_library.proofs.WalkLemmas.{Contains-has, has-Contains}
-use Rattle.fb_order.specs.Reaches.{IsRecursive, RecursivePart, none, keeps, skips, SomeRestsOnRecursive}
+use Rattle.fb_order.specs.Reaches.{Reaches, directly, onward, IsRecursive, RecursivePart, none, keeps, skips, SomeRestsOnRecursive}
+use Rattle.fb_order.specs.Graph.{Edges, edges_at, Follows, one, more, IsGraph}
 use Rattle.fb_order.proofs.NameLemmas.{by_bool, no_both, or_left, or_right, or_cases, same, same_is, same_self}
+use Rattle.fb_order.proofs.GraphLemmas.{follow_first}
+use Rattle.fb_order.proofs.StackLemmas.{reaches_more}
 
 module _ (sources : Sources) where
-  pub keep_last : {names found : List (List ℕ)} (name : List ℕ) → IsRecursive sources name → RecursivePart sources names found → RecursivePart sources (names ++ name ∷ []) (found ++ name ∷ [])
-  keep_last name loop none = keeps loop none
-  keep_last name loop (keeps r part) = keeps r (keep_last name loop part)
-  keep_last name loop (skips n part) = skips n (keep_last name loop part)
-
-  pub skip_last : {names found : List (List ℕ)} (name : List ℕ) → ¬ IsRecursive sources name → RecursivePart sources names found → RecursivePart sources (names ++ name ∷ []) found
-  skip_last name free none = skips free none
-  skip_last name free (keeps r part) = keeps r (skip_last name free part)
-  skip_last name free (skips n part) = skips n (skip_last name free part)
-
   -- none of the names reaches itself
   part_empty : (names : List (List ℕ)) → ((q : List ℕ) → has_name names q ≡ true → ¬ IsRecursive sources q) → RecursivePart sources names []
   part_empty [] free = none
@@ -71,6 +64,39 @@ module _ (sources : Sources) where
   part_sorted names found part sorted =
       subst (λ (l : List (List ℕ)). IsStrictlySortedBy name_cmp l) (sym (filtered (has_name found) (of_found part) (all_found part) part)) (IsStrictlySortedBy-filter name_cmp (has_name found) names sorted)
 
--- a test that is false
-pub no_loop : {P : Type 0} (b : Bool) → b ≡ false → (P → b ≡ true) → ¬ P
-no_loop b f found p = no_both b (found p) f
+-- ---- the edges of a graph are the mentions
+module _ (sources : Sources) (begun names : List (List ℕ)) (forth back : Edges) (graph : IsGraph sources begun names forth back) where
+  edge_mentions : (u v : List ℕ) → Contains (edges_at forth u) v → Contains (mentions_at sources u) v
+  edge_mentions u v m = by_bool (has_name names u)
+      (λ t. subst (λ (l : List (List ℕ)). Contains l v) (graph.mentions u t) m)
+      (λ f. absurd (false≢true (sym (ap (λ l. has_name l v) (graph.outside u f)) ∙ has-Contains v (edges_at forth u) m)))
+
+  to_reaches : {u v : List ℕ} → Follows (edges_at forth) u v → Reaches sources u v
+  to_reaches {u} {v} (one m) = directly (edge_mentions u v m)
+  to_reaches {v = v} (more {w = w} r m) = reaches_more (to_reaches r) (edge_mentions w v m)
+
+  mention_edge : (u v : List ℕ) → has_name names u ≡ true → Contains (mentions_at sources u) v → Contains (edges_at forth u) v
+  mention_edge u v t m = subst (λ (l : List (List ℕ)). Contains l v) (sym (graph.mentions u t)) m
+
+  to_follows : {u v : List ℕ} → has_name names u ≡ true → Reaches sources u v → Follows (edges_at forth) u v
+  to_follows {u} {v} t (directly m) = one (mention_edge u v t m)
+  to_follows {u} t (onward {w = w} m r) = follow_first (edges_at forth) (mention_edge u w t m) (to_follows (graph.closed u w t (has-Contains w (mentions_at sources u) m)) r)
+
+  -- what a test keeps that holds at the names that reach themselves
+  part_of_test : (p : List ℕ → Bool) (some : List (List ℕ)) → ((u : List ℕ) → has_name some u ≡ true → (p u ≡ true → IsRecursive sources u) × (IsRecursive sources u → p u ≡ true)) → RecursivePart sources some (filter p some)
+  part_of_test p [] tells = none
+  part_of_test p (x ∷ some) tells =
+      let here = tells x (or_left (same x x) (has_name some x) (same_self x)) in
+      let rest = part_of_test p some (λ u h. tells u (or_right (same u x) (has_name some u) h)) in
+      by_bool (p x)
+      (λ t. subst (λ (b : Bool). RecursivePart sources (x ∷ some) (cond b (x ∷ filter p some) (filter p some))) (sym t) (keeps (here.0 t) rest))
+      (λ f. subst (λ (b : Bool). RecursivePart sources (x ∷ some) (cond b (x ∷ filter p some) (filter p some))) (sym f) (skips (λ loop. no_both (p x) (here.1 loop) f) rest))
+
+  pub part_of_cycles : (found : List (List ℕ)) → ((u : List ℕ) → Contains begun u → (Contains found u → Follows (edges_at forth) u u) × (Follows (edges_at forth) u u → Contains found u)) → (kept : List (List ℕ)) → kept ≡ filter (has_name found) begun → RecursivePart sources begun kept
+  part_of_cycles found tells kept is =
+      subst (λ (l : List (List ℕ)). RecursivePart sources begun l) (sym is)
+      (part_of_test (has_name found) begun (λ u h.
+      let at = tells u (Contains-has u begun h) in (
+        λ t. to_reaches (at.0 (Contains-has u found t)),
+        λ loop. has-Contains u found (at.1 (to_follows (graph.begins u h) loop)),
+      )))

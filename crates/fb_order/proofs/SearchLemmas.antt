@@ -247,20 +247,25 @@ module _ (sources : Sources) (names : List (List ℕ)) where
       let more = length-append steps (step ∷ []) in
       omega (arith, long, more)
 
-  pub fuel_enter : (entered left order entered' : List (List ℕ)) (before steps steps' : List Step) (w : List ℕ) → before ≡ steps ++ Enter w ∷ [] → IsSearch sources names entered left order before → has_name entered w ≡ false
+  -- a new name is entered
+  pub fuel_opens : (entered entered' : List (List ℕ)) (before steps steps' : List Step) (w : List ℕ) → before ≡ steps ++ Enter w ∷ [] → has_name (reachable sources names) w ≡ true → has_name entered w ≡ false
       → ((q : List ℕ) → has_name entered' q ≡ (has_name entered q || same q w)) → steps' ≡ steps ++ Leave w ∷ enters (mentions_at sources w) → fuel entered' steps' < fuel entered before
   unfolding fuel
-  fuel_enter entered left order entered' before steps steps' w is s new adds opened =
-      let at : IsSearch sources names entered left order (steps ++ Enter w ∷ []) = subst (λ (x : List Step). IsSearch sources names entered left order x) is s in
-      let there : has_name (reachable sources names) w ≡ true = within w (at.sound w (or_right (has_name order w) _ (there_last steps w))) in
+  fuel_opens entered entered' before steps steps' w is there new adds opened =
       let less = cost_less sources entered entered' (λ q h. adds q ∙ or_left (has_name entered q) _ h) w new (adds w ∙ or_right (has_name entered w) _ (same_self w)) (reachable sources names) there in
       let long = ap length is ∙ length-append steps (Enter w ∷ []) in
       let long' = ap length opened ∙ length-append steps (Leave w ∷ enters (mentions_at sources w)) in
       let mentioned = length-map (mentions_at sources w) (λ (n : List ℕ). Enter n) in
       omega (arith, less, long, long', mentioned)
 
+  pub fuel_enter : (entered left order entered' : List (List ℕ)) (before steps steps' : List Step) (w : List ℕ) → before ≡ steps ++ Enter w ∷ [] → IsSearch sources names entered left order before → has_name entered w ≡ false
+      → ((q : List ℕ) → has_name entered' q ≡ (has_name entered q || same q w)) → steps' ≡ steps ++ Leave w ∷ enters (mentions_at sources w) → fuel entered' steps' < fuel entered before
+  fuel_enter entered left order entered' before steps steps' w is s new adds opened =
+      let at : IsSearch sources names entered left order (steps ++ Enter w ∷ []) = subst (λ (x : List Step). IsSearch sources names entered left order x) is s in
+      fuel_opens entered entered' before steps steps' w is (within w (at.sound w (or_right (has_name order w) _ (there_last steps w)))) new adds opened
+
 -- ---- for the answers: a step that was popped
-at_step : (before steps : List Step) (step it : Step) → before ≡ steps ++ step ∷ [] → step ≡ it → before ≡ steps ++ it ∷ []
+pub at_step : (before steps : List Step) (step it : Step) → before ≡ steps ++ step ∷ [] → step ≡ it → before ≡ steps ++ it ∷ []
 at_step before steps step it is same_step = is ∙ ap (λ s. steps ++ s ∷ []) same_step
 
 module _ (sources : Sources) (names entered left order : List (List ℕ)) (before steps : List Step) (step : Step) (w : List ℕ) (popped : before ≡ steps ++ step ∷ []) (search : IsSearch sources names entered left order before) where

@@ -2,4 +2,5 @@
 pub mod Reaches
 pub mod Order
 pub mod Steps
+pub mod Graph
 pub mod Local

@@ -1,6 +1,8 @@
 //! Which types reach themselves, and an order in which inner types come first.
 #![tactic(auto)]
 
+mod cycles;
+mod graph;
 mod laws;
 mod loops;
 mod search;

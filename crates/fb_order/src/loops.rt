@@ -1,12 +1,14 @@
 //! The types that reach themselves.
-ghost use Rattle.std.specs.Prelude.{◌≡◌, ℕ, List, Contains, ◌↔◌, IsTrue, IfOk, OnOk};
+ghost use Rattle.std.specs.Prelude.{◌≡◌, ℕ, List, filter, Contains, ◌↔◌, IfOk};
 ghost use Rattle.std.specs.List.Sorted.{IsStrictlySortedBy};
 ghost use Rattle.fb_text.specs.Order.{name_cmp};
-ghost use Rattle.fb_library.specs.Seen.{Opens};
+ghost use Rattle.fb_library.specs.Seen.{has_name};
 ghost use Rattle.fb_order.specs.Reaches.{IsRecursive, RecursivePart};
 
+use crate::cycles::cycles;
+use crate::graph::explore;
 use crate::search::search;
-use fb_library::{View, mentions_by_name};
+use fb_library::View;
 use fb_text::Name;
 use std::alloc::{AllocError, Global};
 use std::collections::BTreeSet;
@@ -30,48 +32,27 @@ fn recursive_part<V: View>(alloc: Global, view: &V, names: &[Name]) -> Result<Ve
     if order.is_some() {
         return Ok(Vec::new(alloc));
     }
-    by_walks(alloc, view, names)
+    by_cycles(alloc, view, names)
 }
 
-/// Walks from each name.
-fn by_walks<V: View>(alloc: Global, view: &V, names: &[Name]) -> Result<Vec<Name>, AllocError>
+/// Goes by the cycles among all that the names rest on.
+fn by_cycles<V: View>(alloc: Global, view: &V, names: &[Name]) -> Result<Vec<Name>, AllocError>
     ensures { IfOk result (λ found. RecursivePart (V.sources view.now) names.now found.items) }
+{
+    let graph = explore(alloc, view, names)?;
+    let found = cycles(alloc, graph, names)?;
+    those_in(alloc, names, &found)
+}
+
+/// Those of the names that are in the set.
+fn those_in(alloc: Global, names: &[Name], set: &BTreeSet<Name>) -> Result<Vec<Name>, AllocError>
+    ensures { IfOk result (λ found. found.items ≡ filter (has_name set.now.keys) names.now) }
 {
     let mut found = Vec::new(alloc);
     for name in names {
-        if reaches_itself(alloc, view, name)? {
+        if set.contains(name) {
             found.push(*name)?;
         }
     }
     Ok(found)
-}
-
-/// Whether a walk along the mentions comes back to the unit.
-fn reaches_itself<V: View>(alloc: Global, view: &V, unit: &Name) -> Result<bool, AllocError>
-    ensures { IfOk result (λ is. IsTrue is ↔ IsRecursive (V.sources view.now) unit.now) }
-{
-    let mut seen = BTreeSet::new(alloc);
-    let mut pending = Vec::new(alloc);
-    pending.push(*unit)?;
-    while let Some(name) = pending.pop() {
-        let names = mentions_by_name(alloc, view, &name)?;
-        open_new(names.as_slice(), &mut seen, &mut pending)?;
-    }
-    Ok(seen.contains(unit))
-}
-
-/// Sees each name, and opens it where it is new.
-fn open_new(
-    names: &[Name],
-    seen: &mut BTreeSet<Name>,
-    pending: &mut Vec<Name>,
-) -> Result<(), AllocError>
-    ensures { OnOk result (Opens names.now seen.old.keys pending.old.items seen.new.keys pending.new.items) }
-{
-    for name in names {
-        if seen.insert(*name)? {
-            pending.push(*name)?;
-        }
-    }
-    Ok(())
 }

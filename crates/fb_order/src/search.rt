@@ -12,7 +12,7 @@ use std::collections::BTreeSet;
 
 /// A step of the search. A name is left when all that it mentions is listed.
 #[derive(Clone, Copy)]
-enum Step {
+pub(crate) enum Step {
     Enter(Name),
     Leave(Name),
 }
@@ -70,7 +70,7 @@ pub(crate) fn search<V: View>(
 }
 
 /// Enters the names, the last one first.
-fn enter_all(names: &[Name], steps: &mut Vec<Step>) -> Result<(), AllocError>
+pub(crate) fn enter_all(names: &[Name], steps: &mut Vec<Step>) -> Result<(), AllocError>
     ensures { OnOk result (steps.new.items ≡ steps.old.items ++ enters names.now) }
 {
     for name in names {
