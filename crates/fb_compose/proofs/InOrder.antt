@@ -19,7 +19,7 @@ use Rattle.fb_compose.proofs.Equals.{same_bytes, not_at, at_not}
 use Rattle.fb_compose.proofs.Composing.{found_by_name}
 
 -- one more flat network finishes one more name
-pub flat_more : {view : View} {old new : Nets} {names : List (List ℕ)} {name : List ℕ} → AreFlat view old names → IsReady view old name → AddsFlat view old new name → AreFlat view new (names ++ name ∷ [])
+pub flat_more : {view : View} {old new others : Nets} {names : List (List ℕ)} {name : List ℕ} → AreFlat view old names → IsReady view others name → AddsFlat view old new name → AreFlat view new (names ++ name ∷ [])
 flat_more {view = view} {old = old} {new = new} {names = names} {name = name} all ready adds = record { finished = finished; only = only; clean = clean }
   where
     finished : (q : List ℕ) → Contains (names ++ name ∷ []) q → IsFinished view new q

@@ -11,12 +11,12 @@ mod resources;
 mod written;
 
 pub use command::Command;
-pub use computed::{is_of_plan, plan_of_unit};
+pub use computed::{is_of_plan, plan_of_unit, plan_of_unit_with};
 pub use laws::{
     has_plan_by_text, one_plan, plan_at_is_local, plan_at_is_plan, plan_at_of_systems,
     plan_is_local,
 };
-pub use planning::{Deploy, plan};
+pub use planning::{Deploy, plan, plan_with};
 pub use resources::ResourcePlan;
 
 /// Of `fb_mapping::faults`, for the crates above.
@@ -27,9 +27,9 @@ pub mod faults {
 /// Of `fb_mapping::flatten`, for the crates above.
 pub mod flatten {
     pub use fb_mapping::flatten::{
-        Net, all_far, far_is_all, far_of_is_local, flat_networks_are_local, has_net,
-        has_net_by_text, is_of_net, net_at_is_local, net_at_is_net, net_is_local, net_of,
-        net_of_unit, one_net,
+        Hints, Net, NoHints, all_far, far_is_all, far_of_is_local, flat_networks_are_local,
+        has_net, has_net_by_text, is_of_net, net_at_is_local, net_at_is_net, net_is_local, net_of,
+        net_of_unit, net_of_unit_with, net_with, one_net,
     };
 }
 

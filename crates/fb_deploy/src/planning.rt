@@ -1,12 +1,13 @@
 //! The plans of systems.
 ghost use Rattle.std.specs.Prelude.{◌≡◌, IfOk};
+ghost use Rattle.fb_mapping.specs.Flatten.Hints.{AreRightHints};
 ghost use Rattle.fb_mapping.specs.Library.View.{tree_at};
 ghost use Rattle.fb_mapping.specs.Placed.{IsSystem};
 ghost use Rattle.fb_deploy.specs.Deploy.{IsPlan, flat_plan, plain_deploy, tree_plan};
 
 use crate::orders::orders_of;
 use crate::resources::{ResourcePlan, resource_plans, resources_of};
-use fb_mapping::flatten::{Net, net_of};
+use fb_mapping::flatten::{Hints, Net, NoHints, net_with};
 use fb_mapping::library::View;
 use fb_mapping::network::{Flat, Link};
 use fb_mapping::{Home, Homes, Misplaced, cuts_of, home_table, homes_of};
@@ -67,7 +68,21 @@ pub fn plan<V: View>(alloc: Global, view: &V, system: Name) -> Result<Deploy, Al
     requires { IsSystem (V.sources view.now) system }
     ensures { IfOk result (λ deploy. IsPlan (V.sources view.now) system (plain_deploy deploy)) }
 {
-    match net_of(alloc, view, system)? {
+    plan_with(alloc, view, system, &NoHints)
+}
+
+/// The same, where the nets of some units are kept.
+pub fn plan_with<V: View, H: Hints>(
+    alloc: Global,
+    view: &V,
+    system: Name,
+    hints: &H,
+) -> Result<Deploy, AllocError>
+    requires system { IsSystem (V.sources view.now) system }
+    requires right { AreRightHints (V.sources view.now) (H.hints hints.now) }
+    ensures { IfOk result (λ deploy. IsPlan (V.sources view.now) system (plain_deploy deploy)) }
+{
+    match net_with(alloc, view, system, hints)? {
         Net::Flat(flat) => plan_flat(alloc, view, &system, &flat),
         net => Ok(Deploy::Stopped(net)),
     }

@@ -56,7 +56,7 @@ module _ (sources : Sources) (unit : List ℕ) where
   names_complete v r = ((far_is_all sources unit).1 v).1 r
 
   those_blocking : AreThose sources unit (IsBlocking sources) (filter (is_blocking sources) (far_of sources unit))
-  those_blocking = blocking_those (far_of sources unit) (filter (is_blocking sources) (far_of sources unit)) (far_is_all sources unit).0 names_sound names_complete refl
+  those_blocking = blocking_those (far_of sources unit) (filter (is_blocking sources) (far_of sources unit)) (far_is_all sources unit).0 names_sound (λ v r b. names_complete v r) refl
 
   those_recursive : AreThose sources unit (IsRecursive sources) (filter (is_recursive sources) (far_of sources unit))
   those_recursive =

@@ -24,19 +24,19 @@ pub data Deep (sources : Sources) : ℕ → List ℕ → Type 0 where
       {depth : ℕ} {name : List ℕ} → ((w : List ℕ) → Contains (mentions_at sources name) w → Deep sources depth w)
       → Deep sources (suc depth) name
 
-by_bool : {P : Type 0} (b : Bool) → (b ≡ true → P) → (b ≡ false → P) → P
+pub by_bool : {P : Type 0} (b : Bool) → (b ≡ true → P) → (b ≡ false → P) → P
 by_bool true t f = t refl
 by_bool false t f = f refl
 
-or_cases : {P : Type 0} (a b : Bool) → (a || b) ≡ true → (a ≡ true → P) → (b ≡ true → P) → P
+pub or_cases : {P : Type 0} (a b : Bool) → (a || b) ≡ true → (a ≡ true → P) → (b ≡ true → P) → P
 or_cases true b e l r = l refl
 or_cases false b e l r = r e
 
-or_right : (a b : Bool) → b ≡ true → (a || b) ≡ true
+pub or_right : (a b : Bool) → b ≡ true → (a || b) ≡ true
 or_right true b e = refl
 or_right false b e = e
 
-same_is : (x y : List ℕ) → eq_by_cmp name_cmp x y ≡ true → x ≡ y
+pub same_is : (x y : List ℕ) → eq_by_cmp name_cmp x y ≡ true → x ≡ y
 same_is x y = tells_apart (slice_cmp-IsAntisymmetric nat_cmp-IsAntisymmetric) x y
 
 -- ---- recursion
@@ -71,7 +71,7 @@ record SomeName (p : List ℕ → Bool) (xs : List (List ℕ)) : Type 0 where
   pub among : has_name xs name ≡ true
   pub passes : p name ≡ true
 
-same_self : (x : List ℕ) → has_name (x ∷ []) x ≡ true
+pub same_self : (x : List ℕ) → has_name (x ∷ []) x ≡ true
 same_self x = has-Contains x (x ∷ []) (contains_here x [])
 
 here_name : (x : List ℕ) (xs : List (List ℕ)) → has_name (x ∷ xs) x ≡ true

@@ -13,6 +13,8 @@ pub mod FarNames
 pub mod Depths
 pub mod ComputedFlats
 pub mod ComputedNets
+pub mod HintLemmas
+pub mod SuspectLemmas
 -- Passed on to the crates above, which do not list these libraries.
 pub use Rattle.fb_wiring.proofs.Tree as Tree
 pub use Rattle.fb_wiring.proofs.Library as Library

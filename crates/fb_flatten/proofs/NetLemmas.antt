@@ -16,7 +16,7 @@ use Rattle.fb_flatten.specs.Blocking.{AreThose, IsBlocking, is_blocking, is_some
 use Rattle.fb_flatten.specs.Net.{IsWhole}
 use Rattle.fb_flatten.specs.Tables.{IsSoundOrder}
 
-blocking_is : (sources : Sources) (v : List ℕ) → is_blocking sources v ≡ true → IsBlocking sources v
+pub blocking_is : (sources : Sources) (v : List ℕ) → is_blocking sources v ≡ true → IsBlocking sources v
 blocking_is sources v h = by (get sources v) refl (faults_of sources v) refl h
   where
     by : (o : Option (List ℕ)) → get sources v ≡ o → (fs : List Fault) → faults_of sources v ≡ fs → (is_none o || is_some_fault fs) ≡ true → IsBlocking sources v
@@ -33,8 +33,8 @@ is_found_blocking sources v (inr n) = by (get sources v) (faults_of sources v) r
     by (Some t) [] f = absurd (n f)
     by (Some t) (x ∷ fs) f = refl
 
--- the blocking ones among the names that a unit rests on
-pub blocking_those : {sources : Sources} {unit : List ℕ} (names found : List (List ℕ)) → IsStrictlySortedBy name_cmp names → ((v : List ℕ) → Contains names v → Rests sources unit v) → ((v : List ℕ) → Rests sources unit v → Contains names v) → found ≡ filter (is_blocking sources) names → AreThose sources unit (IsBlocking sources) found
+-- the blocking ones among names that a unit rests on, where all of them are among the names
+pub blocking_those : {sources : Sources} {unit : List ℕ} (names found : List (List ℕ)) → IsStrictlySortedBy name_cmp names → ((v : List ℕ) → Contains names v → Rests sources unit v) → ((v : List ℕ) → Rests sources unit v → IsBlocking sources v → Contains names v) → found ≡ filter (is_blocking sources) names → AreThose sources unit (IsBlocking sources) found
 blocking_those {sources = sources} {unit = unit} names found sorted sound complete is =
     subst (λ (l : List (List ℕ)). AreThose sources unit (IsBlocking sources) l) (sym is)
     (record { sorted = IsStrictlySortedBy-filter name_cmp (is_blocking sources) names sorted; members = λ v. (inside v, listed v) })
@@ -43,7 +43,7 @@ blocking_those {sources = sources} {unit = unit} names found sorted sound comple
     inside v c = let p = passes_in_filter (is_blocking sources) names v c in (sound v p.among, blocking_is sources v p.passes)
 
     listed : (v : List ℕ) → Rests sources unit v × IsBlocking sources v → Contains (filter (is_blocking sources) names) v
-    listed v r = contains_filter (is_blocking sources) names v (complete v r.0) (is_found_blocking sources v r.1)
+    listed v r = contains_filter (is_blocking sources) names v (complete v r.0 r.1) (is_found_blocking sources v r.1)
 
 -- the recursive ones among the names that a unit rests on
 pub recursive_those : {sources : Sources} {unit : List ℕ} (names found : List (List ℕ)) → ((v : List ℕ) → Contains names v → Rests sources unit v) → ((v : List ℕ) → Rests sources unit v → Contains names v) → IsStrictlySortedBy name_cmp found → ((v : List ℕ) → Contains found v ↔ (Contains names v × IsRecursive sources v)) → AreThose sources unit (IsRecursive sources) found

@@ -1,6 +1,7 @@
 -- What is found over the table of a sound order is that of the texts.
 use Rattle.std.proofs.Common.{ℕ, ◌≡◌, ◌<◌, ◌≤◌, ◌+◌, true, false, List, [], ◌∷◌, ◌++◌, Option, Some, None, Result, Ok, Err, inl, inr, refl, sym, ◌∙◌, ap, subst, arith, length, is_some, take, get_or, add-one}
 use Rattle.std.specs.Prelude.{Contains, IfOk, option_map}
+use Rattle.std.proofs.lemmas.List.{take_all}
 use Rattle.std.proofs.Math.Seq.{take-suc}
 use Rattle.std.specs.List.Sorted.{IsStrictlySortedBy}
 use Rattle.fb_text.specs.Order.{name_cmp}
@@ -16,15 +17,16 @@ use Rattle.fb_wiring.specs.Network.declared.network.Instance.{Instance}
 use Rattle.fb_wiring.specs.Network.declared.network.Port.{Port}
 use Rattle.fb_wiring.specs.Network.Plain.{PlainNetwork}
 use Rattle.fb_wiring.specs.Network.PlainFlat.{PlainFlat}
-use Rattle.fb_wiring.specs.Network.Network.{View, IsInner}
+use Rattle.fb_wiring.specs.Network.Network.{View}
 use Rattle.fb_wiring.specs.Network.Instances.{AreInstances}
 use Rattle.fb_wiring.specs.Network.Count.{IsCount}
-use Rattle.fb_wiring.specs.Network.Clean.{IsCleanThroughout, CleanThroughout}
 use Rattle.fb_wiring.specs.Network.FlatNet.{IsFlat}
-use Rattle.fb_compose.proofs.Composing.{found_by_name}
 use Rattle.fb_compose.specs.Counts.{AreCounted}
-use Rattle.fb_compose.specs.Ready.{Nets}
-use Rattle.fb_compose.specs.Ordered.{AreFlat}
+use Rattle.fb_compose.specs.Ready.{Nets, AreFinished}
+use Rattle.fb_compose.specs.Ordered.{AreCleanThroughout, IsReady}
+use Rattle.fb_compose.specs.Missing.{AreFinishedTypes}
+use Rattle.fb_compose.proofs.InOrder.{clean_throughout}
+use Rattle.fb_compose.proofs.MissingLemmas.{clean_before}
 use Rattle.fb_compose.specs.declared.application.FlatApplication.{FlatApplication}
 use Rattle.fb_wiring.proofs.Iface.Members.{contains_nothing, contains_here, contains_later, origin_in_map, contains_flat_map}
 use Rattle.fb_wiring.specs.Applications.{applications_of, plain_application}
@@ -35,19 +37,19 @@ use Rattle.fb_wiring.proofs.UnitLemmas.{applications_clean}
 use Rattle.fb_flatten.specs.Blocking.{IsBlocking}
 use Rattle.fb_flatten.specs.Locality.{Within, IsClosed, SameNetworks}
 use Rattle.fb_flatten.specs.Net.{IsSound}
-use Rattle.fb_flatten.specs.Tables.{AllCounted, IsComposable, IsFitting, IsFlatTogether, IsFlatUnder, IsSoundOrder, IsTable, IsUnitCount, is_system_tree}
+use Rattle.fb_flatten.specs.Tables.{AllCounted, AreComposable, IsComposable, IsFitting, IsFlatTogether, IsFlatUnder, IsSoundOrder, IsTable, IsUnitCount, is_system_tree}
 use Rattle.fb_flatten.specs.Units.{AreFlatApplications, NoApplication, ThenApplication, HasNet, IsFlatApplication, IsTooLarge, IsWithinLimit, IsUnitFlat, OfSubapplication, OfSystem, instances_in, own_instances}
 use Rattle.fb_flatten.proofs.CleanLemmas.{clean_there}
 use Rattle.fb_flatten.proofs.LocalLemmas.{closed_there, same_back, same_flats, instances_there}
 use Rattle.fb_flatten.proofs.MentionLemmas.{own_within}
-use Rattle.fb_flatten.proofs.OrderLemmas.{mentioned_in_order, within_order, same_in_order}
+use Rattle.fb_flatten.proofs.OrderLemmas.{clean_in_order, mentioned_in_order, ordered_in_order, within_order, same_in_order}
 
 -- the unit stands in its order
 pub unit_in_order : {sources : Sources} {unit : List ℕ} {order : List (List ℕ)} → IsSoundOrder sources unit order → Contains order unit
 unit_in_order {unit = unit} sound = (sound.whole unit).1 itself
 
 -- the types of its own instances stand there too
-own_in_order : {sources : Sources} {unit : List ℕ} {order : List (List ℕ)} (tree : DeclTree) → IsSoundOrder sources unit order → tree_at sources unit ≡ Some tree → (i : Instance) → Contains (own_instances tree) i → Contains order i.type_name
+pub own_in_order : {sources : Sources} {unit : List ℕ} {order : List (List ℕ)} (tree : DeclTree) → IsSoundOrder sources unit order → tree_at sources unit ≡ Some tree → (i : Instance) → Contains (own_instances tree) i → Contains order i.type_name
 own_in_order {sources = sources} {unit = unit} tree sound present i c = mentioned_in_order sound (unit_in_order sound) (own_within sources unit tree present i c)
 
 pub unit_counted : {sources : Sources} {table : View} {unit : List ℕ} {order : List (List ℕ)} {counts : List ℕ → Option ℕ} (tree : DeclTree) (instances : List Instance) (count : ℕ) → IsSoundOrder sources unit order → IsTable sources table order → tree_at sources unit ≡ Some tree → AllCounted table counts order → instances ≡ own_instances tree → (AreCounted table instances counts → IsCount table instances count) → IsUnitCount sources unit count
@@ -71,13 +73,9 @@ unit_counted {sources = sources} {table = table} {order = order} {counts = count
     is = subst (λ (l : List Instance). AreInstances table l c.held) same c.instances
 
 -- the finished types suffice for a network that fits their order
-pub composable : {view : View} {nets : Nets} {order : List (List ℕ)} {network : PlainNetwork} → AreFlat view nets order → IsFitting view order network → IsComposable view nets network
-composable {view = view} {network = network} all fits = record { clean = CleanThroughout fits.clean inside; finished = λ i c k. all.finished i.type_name (fits.held i c) }
-  where
-    inside : (at : List ℕ) (inner : PlainNetwork) → IsInner view network at inner → IsCleanThroughout view inner
-    inside at inner i =
-        let found = found_by_name network.instances at i.instance i.first in
-        all.clean i.instance.type_name inner (fits.held i.instance found.among) i.declared
+pub composable : {view : View} {nets : Nets} {order : List (List ℕ)} {network : PlainNetwork} → AreCleanThroughout view order → IsFitting view order network → AreFinished view network nets → IsComposable view nets network
+composable {order = order} {network = network} clean fits finished =
+    record { clean = clean_throughout order network fits.clean clean (λ i c k. fits.held i c); finished = finished }
 
 pub flats-push : {view : View} {applications : List Application} {flats : List FlatApplication} (application : Application) (flat : FlatApplication) → AreFlatApplications view applications flats → IsFlatApplication view application flat → AreFlatApplications view (applications ++ application ∷ []) (flats ++ flat ∷ [])
 flats-push application flat NoApplication is = ThenApplication application flat is NoApplication
@@ -190,14 +188,6 @@ own_of_system (adapter_type d) e = absurd (let no : ⊥ = cc in no)
 own_of_system (subapplication_type d) e = absurd (let no : ⊥ = cc in no)
 own_of_system (system_configuration s) e = refl
 
--- the flat network that stands under the unit
-pub flat_under : {view : View} {nets : Nets} {order : List (List ℕ)} {name : List ℕ} (flat : PlainFlat) → AreFlat view nets order → Contains order name → nets name ≡ Some flat → IsFlatUnder view name flat
-flat_under {view = view} {name = name} flat all c e =
-    let f = all.finished name c in
-    let found = f.found in
-    let same : f.net ≡ flat = cc in
-    record { network = f.inner; declared = f.declared; net = subst (λ (n : PlainFlat). IsFlat view f.inner n) same f.flat }
-
 -- what a map gives something of is something
 pub some_of_map : {X Y : Type 0} (f : X → Y) (o : Option X) (y : Y) → option_map f o ≡ Some y → is_some o ≡ true
 some_of_map f None y e = absurd (let no : ⊥ = cc in no)
@@ -218,3 +208,33 @@ present_of f e h = sym e ∙ ap (option_map f) h
 pub if_ok : {X E : Type 0} {P Q : X → Type 0} (r : Result X E) → ((x : X) → P x → Q x) → IfOk r P → IfOk r Q
 if_ok (Ok x) f h = f x h
 if_ok (Err e) f h = tt
+
+-- ---- what is composed for a unit
+clean_order : {sources : Sources} {table : View} {unit : List ℕ} {order : List (List ℕ)} → IsSoundOrder sources unit order → IsTable sources table order → AreCleanThroughout table order
+clean_order {table = table} {order = order} sound t =
+    subst (λ (names : List (List ℕ)). AreCleanThroughout table names) (take_all (length order) order (omega arith))
+    (clean_before order (clean_in_order sound t) (ordered_in_order sound t) (length order) (omega arith))
+
+-- the instances of an application are the unit's own
+own_of_application : (tree : DeclTree) (a : Application) (i : Instance) → Contains (applications_of tree) a → Contains a.network.instances i → Contains (own_instances tree) i
+own_of_application (block_type d) a i c h = absurd (contains_nothing a c)
+own_of_application (adapter_type d) a i c h = absurd (contains_nothing a c)
+own_of_application (subapplication_type d) a i c h = absurd (contains_nothing a c)
+own_of_application (system_configuration s) a i c h =
+    contains_flat_map (λ (x : Application). x.network.instances) (applications_of (system_configuration s)) a i c h
+
+-- once the types that a unit itself holds are finished, its applications can be composed
+pub applications_ready : {sources : Sources} {table : View} {nets : Nets} {unit : List ℕ} {order : List (List ℕ)} (tree : DeclTree) → IsSoundOrder sources unit order → IsTable sources table order → tree_at sources unit ≡ Some tree → AreFinishedTypes table nets (own_instances tree) → AreComposable table nets (applications_of tree)
+applications_ready tree sound t present finished a c =
+    composable (clean_order sound t) (applications_fit tree sound t present a c) (λ i h k. finished i (own_of_application tree a i c h) k)
+
+-- or its network
+pub type_ready : {sources : Sources} {table : View} {nets : Nets} {unit : List ℕ} {order : List (List ℕ)} (tree : DeclTree) → IsSoundOrder sources unit order → IsTable sources table order → tree_at sources unit ≡ Some tree → is_system_tree tree ≡ false → AreFinishedTypes table nets (own_instances tree) → IsReady table nets unit
+type_ready {table = table} {unit = unit} tree sound t present no_system finished =
+    let there : table unit ≡ Some (network_of tree) = t.complete unit (network_of tree) (unit_in_order sound) (ap (option_map network_of) present) in
+    record {
+      network = network_of tree;
+      declared = there;
+      clean = clean_order sound t unit (network_of tree) (unit_in_order sound) there;
+      finished = λ i h k. finished i (subst (λ (l : List Instance). Contains l i) (own_of_type tree no_system) h) k;
+    }

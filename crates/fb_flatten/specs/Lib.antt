@@ -7,6 +7,8 @@ pub mod Tables
 pub mod Laws
 pub mod Far
 pub mod Nets
+pub mod Hints
+pub mod Suspects
 -- Passed on to the crates above, which do not list these libraries.
 pub use Rattle.fb_wiring.specs.Tree as Tree
 pub use Rattle.fb_wiring.specs.Parse as Parse

@@ -67,6 +67,10 @@ pub record IsComposable (view : View) (nets : Nets) (network : PlainNetwork) : T
   pub clean : IsCleanThroughout view network
   pub finished : AreFinished view network nets
 
+-- the networks of all applications are
+abbrev pub AreComposable : View → Nets → List Application → Type 0
+AreComposable view nets applications = (a : Application) → Contains applications a → IsComposable view nets a.network
+
 -- the flat network of applications together
 pub record IsFlatTogether (view : View) (applications : List Application) (flat : PlainFlat) : Type 0 where
   pub flats : List FlatApplication

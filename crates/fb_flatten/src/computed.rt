@@ -3,10 +3,12 @@ ghost use Rattle.std.specs.Prelude.{◌≡◌, true, Some, IfOk};
 ghost use Rattle.fb_wiring.specs.Library.View.{tree_at};
 ghost use Rattle.fb_flatten.specs.Net.{plain_net};
 ghost use Rattle.fb_flatten.specs.Far.{far_of};
+ghost use Rattle.fb_flatten.specs.Hints.{AreRightHints};
 ghost use Rattle.fb_flatten.specs.Nets.{has_net_in, net_at};
 
+use crate::hints::Hints;
 use crate::kinds::has_net;
-use crate::net::{Net, net_of};
+use crate::net::{Net, net_of, net_with};
 use fb_text::Name;
 use fb_wiring::library::{View, far};
 use std::alloc::{AllocError, Global};
@@ -31,4 +33,18 @@ pub fn net_of_unit<V: View>(alloc: Global, view: &V, unit: Name) -> Result<Net, 
     ensures { IfOk result (λ net. net_at (V.sources view.now) unit ≡ Some (plain_net net)) }
 {
     net_of(alloc, view, unit)
+}
+
+/// The same, where the nets of some units are kept.
+pub fn net_of_unit_with<V: View, H: Hints>(
+    alloc: Global,
+    view: &V,
+    unit: Name,
+    hints: &H,
+) -> Result<Net, AllocError>
+    requires net { has_net_in (tree_at (V.sources view.now) unit) ≡ true }
+    requires right { AreRightHints (V.sources view.now) (H.hints hints.now) }
+    ensures { IfOk result (λ net. net_at (V.sources view.now) unit ≡ Some (plain_net net)) }
+{
+    net_with(alloc, view, unit, hints)
 }

@@ -3,19 +3,22 @@
 
 mod blocking;
 mod computed;
+mod hints;
 mod kinds;
 mod laws;
 mod net;
+mod suspects;
 mod tables;
 mod units;
 
-pub use computed::{all_far, is_of_net, net_of_unit};
+pub use computed::{all_far, is_of_net, net_of_unit, net_of_unit_with};
+pub use hints::{Hints, NoHints};
 pub use kinds::has_net;
 pub use laws::{
     far_is_all, far_of_is_local, flat_networks_are_local, has_net_by_text, net_at_is_local,
     net_at_is_net, net_is_local, one_net,
 };
-pub use net::{Net, net_of};
+pub use net::{Net, net_of, net_with};
 
 /// Of `fb_compose`, for the crates above.
 pub mod compose {

@@ -1,10 +1,13 @@
 //! The nets of units.
 ghost use Rattle.std.specs.Prelude.{IfOk};
+ghost use Rattle.fb_flatten.specs.Hints.{AreRightHints};
 ghost use Rattle.fb_flatten.specs.Net.{IsNet, plain_net};
 ghost use Rattle.fb_flatten.specs.Tables.{IsSoundOrder};
 ghost use Rattle.fb_flatten.specs.Units.{HasNet};
 
 use crate::blocking::{blocking, has_some};
+use crate::hints::{Hints, NoHints};
+use crate::suspects::suspects;
 use crate::tables::networks_of;
 use crate::units::{count_of_unit, flat_of_unit};
 use fb_order::{inner_first, recursive};
@@ -31,26 +34,45 @@ pub fn net_of<V: View>(alloc: Global, view: &V, unit: Name) -> Result<Net, Alloc
     requires { HasNet (V.sources view.now) unit }
     ensures { IfOk result (λ net. IsNet (V.sources view.now) unit (plain_net net)) }
 {
-    let names = far(alloc, view, unit)?;
-    let found = blocking(alloc, view, names.as_slice())?;
+    net_with(alloc, view, unit, &NoHints)
+}
+
+/// The same, where the nets of some units are kept: their flat networks are not composed anew, and they are not searched for faults.
+pub fn net_with<V: View, H: Hints>(
+    alloc: Global,
+    view: &V,
+    unit: Name,
+    hints: &H,
+) -> Result<Net, AllocError>
+    requires net { HasNet (V.sources view.now) unit }
+    requires right { AreRightHints (V.sources view.now) (H.hints hints.now) }
+    ensures { IfOk result (λ net. IsNet (V.sources view.now) unit (plain_net net)) }
+{
+    let suspects = suspects(alloc, view, hints, unit)?;
+    let found = blocking(alloc, view, hints, suspects.as_slice())?;
     if has_some(found.as_slice()) {
         return Ok(Net::Blocked(found));
     }
     match inner_first(alloc, view, unit)? {
-        None => Ok(Net::Recursive(recursive(alloc, view, names.as_slice())?)),
-        Some(order) => net_in_order(alloc, view, &unit, order.as_slice()),
+        None => {
+            let names = far(alloc, view, unit)?;
+            Ok(Net::Recursive(recursive(alloc, view, names.as_slice())?))
+        }
+        Some(order) => net_in_order(alloc, view, hints, &unit, order.as_slice()),
     }
 }
 
 /// The same where all that the unit rests on is without faults, and stands in an order with inner types first.
-fn net_in_order<V: View>(
+fn net_in_order<V: View, H: Hints>(
     alloc: Global,
     view: &V,
+    hints: &H,
     unit: &Name,
     order: &[Name],
 ) -> Result<Net, AllocError>
     requires net { HasNet (V.sources view.now) unit.now }
     requires sound { IsSoundOrder (V.sources view.now) unit.now order.now }
+    requires right { AreRightHints (V.sources view.now) (H.hints hints.now) }
     ensures { IfOk result (λ net. IsNet (V.sources view.now) unit.now (plain_net net)) }
 {
     let table = networks_of(alloc, view, order)?;
@@ -58,6 +80,6 @@ fn net_in_order<V: View>(
     if count > INSTANCE_LIMIT {
         return Ok(Net::TooLarge);
     }
-    let flat = flat_of_unit(alloc, view, &table, order, unit)?;
+    let flat = flat_of_unit(alloc, view, hints, &table, order, unit)?;
     Ok(Net::Flat(flat))
 }

@@ -1,22 +1,22 @@
 //! The instances and the flat networks of units whose inner types come first in an order.
-ghost use Rattle.std.specs.Prelude.{◌≡◌, List, Contains, IfOk};
+ghost use Rattle.std.specs.Prelude.{◌≡◌, IfOk};
 ghost use Rattle.std.specs.BTreeMap.{get};
 ghost use Rattle.fb_text.specs.Order.{name_cmp};
 ghost use Rattle.fb_wiring.specs.Tree.Tree.{decl_tree};
-ghost use Rattle.fb_compose.specs.Ordered.{AreClean, IsOrdered};
-ghost use Rattle.fb_wiring.specs.declared.systems.Application.{Application as ApplicationValue};
-ghost use Rattle.fb_flatten.specs.Tables.{IsComposable, IsFitting, IsFlatTogether, IsFlatUnder, IsSoundOrder, IsTable, IsUnitCount, is_system_tree};
+ghost use Rattle.fb_compose.specs.Ordered.{IsReady};
+ghost use Rattle.fb_flatten.specs.Hints.{AreRightHints};
+ghost use Rattle.fb_flatten.specs.Tables.{AreComposable, IsComposable, IsFlatTogether, IsFlatUnder, IsSoundOrder, IsTable, IsUnitCount, is_system_tree};
 ghost use Rattle.fb_flatten.specs.Units.{AreFlatApplications, HasNet, IsFlatApplication, IsUnitFlat, instances_in, own_instances};
 
+use crate::hints::{Hints, KeptFlats};
 use crate::tables::{Table, counts_in_order};
-use fb_compose::{FlatApplication, compose, compose_in_order, count_instances, join};
+use fb_compose::{Beside, FlatApplication, Nets, compose, compose_missing, count_instances, join};
 use fb_text::Name;
 use fb_wiring::library::{View, tree_by_name};
 use fb_wiring::plain::{Flat, Instance, Network};
 use fb_wiring::tree::Decl;
 use fb_wiring::{Application, applications, network};
 use std::alloc::{AllocError, Global};
-use std::collections::BTreeMap;
 
 fn is_system(decl: &Decl) -> bool
     ensures { result ≡ is_system_tree (decl_tree decl.now) }
@@ -69,29 +69,27 @@ pub(crate) fn count_of_unit<V: View>(
     Ok(count_instances(&counts, &own))
 }
 
-/// The flat network of a type of the order.
-fn flat_of_type(
+/// The flat network of a type.
+fn flat_of_type<N: Nets>(
     alloc: Global,
     table: &Table,
-    order: &[Name],
+    nets: &N,
     unit: &Name,
 ) -> Result<Flat, AllocError>
-    requires clean { AreClean (get name_cmp table.now) order.now }
-    requires ordered { IsOrdered (get name_cmp table.now) order.now }
-    requires among { Contains order.now unit.now }
+    requires { IsReady (get name_cmp table.now) (N.nets nets.now) unit.now }
     ensures { IfOk result (IsFlatUnder (get name_cmp table.now) unit.now) }
 {
-    let mut nets = compose_in_order(alloc, table, order)?;
-    Ok(nets.remove(unit).unwrap())
+    let network = table.get(unit).unwrap();
+    compose(alloc, table, network, nets)
 }
 
-fn flat_of_application(
+fn flat_of_application<N: Nets>(
     alloc: Global,
     table: &Table,
-    nets: &BTreeMap<Name, Flat>,
+    nets: &N,
     application: &Application,
 ) -> Result<FlatApplication, AllocError>
-    requires { IsComposable (get name_cmp table.now) (get name_cmp nets.now) application.now.network }
+    requires { IsComposable (get name_cmp table.now) (N.nets nets.now) application.now.network }
     ensures { IfOk result (IsFlatApplication (get name_cmp table.now) application.now) }
 {
     let flat = compose(alloc, table, &application.network, nets)?;
@@ -101,13 +99,13 @@ fn flat_of_application(
     })
 }
 
-fn flats_of_applications(
+fn flats_of_applications<N: Nets>(
     alloc: Global,
     table: &Table,
-    nets: &BTreeMap<Name, Flat>,
+    nets: &N,
     applications: &[Application],
 ) -> Result<Vec<FlatApplication>, AllocError>
-    requires { (a : ApplicationValue) → Contains applications.now a → IsComposable (get name_cmp table.now) (get name_cmp nets.now) a.network }
+    requires { AreComposable (get name_cmp table.now) (N.nets nets.now) applications.now }
     ensures { IfOk result (λ flats. AreFlatApplications (get name_cmp table.now) applications.now flats.items) }
 {
     let mut flats = Vec::new(alloc);
@@ -118,26 +116,24 @@ fn flats_of_applications(
 }
 
 /// The flat network of the applications together.
-fn flat_of_applications(
+fn flat_of_applications<N: Nets>(
     alloc: Global,
     table: &Table,
-    order: &[Name],
+    nets: &N,
     applications: &[Application],
 ) -> Result<Flat, AllocError>
-    requires clean { AreClean (get name_cmp table.now) order.now }
-    requires ordered { IsOrdered (get name_cmp table.now) order.now }
-    requires fitting { (a : ApplicationValue) → Contains applications.now a → IsFitting (get name_cmp table.now) order.now a.network }
+    requires { AreComposable (get name_cmp table.now) (N.nets nets.now) applications.now }
     ensures { IfOk result (IsFlatTogether (get name_cmp table.now) applications.now) }
 {
-    let nets = compose_in_order(alloc, table, order)?;
-    let flats = flats_of_applications(alloc, table, &nets, applications)?;
+    let flats = flats_of_applications(alloc, table, nets, applications)?;
     join(alloc, flats.as_slice())
 }
 
-/// The flat network of a unit.
-pub(crate) fn flat_of_unit<V: View>(
+/// The flat network of a unit, composed of kept ones and of those that are missing beside them.
+pub(crate) fn flat_of_unit<V: View, H: Hints>(
     alloc: Global,
     view: &V,
+    hints: &H,
     table: &Table,
     order: &[Name],
     unit: &Name,
@@ -145,13 +141,21 @@ pub(crate) fn flat_of_unit<V: View>(
     requires net { HasNet (V.sources view.now) unit.now }
     requires sound { IsSoundOrder (V.sources view.now) unit.now order.now }
     requires table { IsTable (V.sources view.now) (get name_cmp table.now) order.now }
+    requires right { AreRightHints (V.sources view.now) (H.hints hints.now) }
     ensures { IfOk result (IsUnitFlat (V.sources view.now) unit.now) }
 {
     let decl = tree_by_name(view, unit).unwrap();
+    let own = own_network(alloc, decl)?;
+    let kept = KeptFlats { hints };
+    let composed = compose_missing(alloc, table, &kept, order, own.instances())?;
+    let nets = Beside {
+        kept: &kept,
+        composed: &composed,
+    };
     if is_system(decl) {
         let found = applications(alloc, decl)?;
-        flat_of_applications(alloc, table, order, found.as_slice())
+        flat_of_applications(alloc, table, &nets, found.as_slice())
     } else {
-        flat_of_type(alloc, table, order, unit)
+        flat_of_type(alloc, table, &nets, unit)
     }
 }

@@ -8,14 +8,14 @@ use Rattle.fb_flatten.proofs.UnitLemmas.{applications_further, flats-push}
 use Rattle.fb_flatten.proofs.units.flats_of_applications.Goals as goal
 
 pub loop-application-init : goal.loop-application-init
-loop-application-init c =
+loop-application-init g c =
     subst (λ (l : List FlatApplication). AreFlatApplications (get name_cmp c.args.table.now) [] l) (sym c.new-flats.ensures.items) NoApplication
 
 pub flat_of_application-requires : goal.flat_of_application-requires
-flat_of_application-requires c = c.requires c.application-item.result (c.loop-application.application-index, c.loop-application-test.true, sym c.application-item.is)
+flat_of_application-requires g c = c.requires c.application-item.result (c.loop-application.application-index, c.loop-application-test.true, sym c.application-item.is)
 
 pub loop-application-preserved : goal.loop-application-preserved
-loop-application-preserved c =
+loop-application-preserved g c =
     let list = c.args.applications.now in
     let i = c.loop-application.application-index in
     let a = c.application-item.result in

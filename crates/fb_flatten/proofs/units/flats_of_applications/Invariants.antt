@@ -6,4 +6,4 @@ use Rattle.fb_flatten.specs.Units.{AreFlatApplications}
 use Rattle.fb_flatten.proofs.units.flats_of_applications.Given as goal
 
 abbrev pub invariant-loop-application : goal.invariant-loop-application
-invariant-loop-application l = AreFlatApplications (get name_cmp l.table) (take l.application-index l.applications) l.flats.items
+invariant-loop-application g l = AreFlatApplications (get name_cmp l.table) (take l.application-index l.applications) l.flats.items

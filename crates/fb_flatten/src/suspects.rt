@@ -1,0 +1,76 @@
+//! The names among which those that block a unit are looked for.
+ghost use Rattle.std.specs.Prelude.{◌≡◌, IfOk, OnOk};
+ghost use Rattle.std.specs.List.Sorted.{IsStrictlySortedBy};
+ghost use Rattle.fb_text.specs.Order.{name_cmp};
+ghost use Rattle.fb_wiring.specs.Library.Seen.{Opens};
+ghost use Rattle.fb_flatten.specs.Hints.{AreRightHints};
+ghost use Rattle.fb_flatten.specs.Suspects.{AreSuspects, mentions_beyond};
+
+use crate::hints::{Hints, is_known_whole};
+use fb_text::Name;
+use fb_wiring::library::{View, mentions_by_name};
+use std::alloc::{AllocError, Global};
+use std::collections::BTreeSet;
+
+/// Names that the unit rests on, in order, each once, among them all that block it: the unit itself and what is found from it without
+/// going below units whose kept nets tell that all that they rest on is present and without faults.
+pub(crate) fn suspects<V: View, H: Hints>(
+    alloc: Global,
+    view: &V,
+    hints: &H,
+    unit: Name,
+) -> Result<Vec<Name>, AllocError>
+    requires { AreRightHints (V.sources view.now) (H.hints hints.now) }
+    ensures { IfOk result (λ names. AreSuspects (V.sources view.now) unit names.items) }
+{
+    let mut seen = BTreeSet::new(alloc);
+    seen.insert(unit)?;
+    let mut pending = Vec::new(alloc);
+    pending.push(unit)?;
+    while let Some(name) = pending.pop() {
+        open(alloc, view, hints, &name, &mut seen, &mut pending)?;
+    }
+    names_of(alloc, &seen)
+}
+
+/// Sees what the name mentions, unless its unit is known to be whole.
+fn open<V: View, H: Hints>(
+    alloc: Global,
+    view: &V,
+    hints: &H,
+    name: &Name,
+    seen: &mut BTreeSet<Name>,
+    pending: &mut Vec<Name>,
+) -> Result<(), AllocError>
+    ensures { OnOk result (Opens (mentions_beyond (H.hints hints.now) (V.sources view.now) name.now) seen.old.keys pending.old.items seen.new.keys pending.new.items) }
+{
+    if is_known_whole(hints, name) {
+        return Ok(());
+    }
+    let names = mentions_by_name(alloc, view, name)?;
+    open_new(names.as_slice(), seen, pending)
+}
+
+/// Sees each name, and opens it where it is new.
+fn open_new(
+    names: &[Name],
+    seen: &mut BTreeSet<Name>,
+    pending: &mut Vec<Name>,
+) -> Result<(), AllocError>
+    ensures { OnOk result (Opens names.now seen.old.keys pending.old.items seen.new.keys pending.new.items) }
+{
+    for name in names {
+        if seen.insert(*name)? {
+            pending.push(*name)?;
+        }
+    }
+    Ok(())
+}
+
+/// The names of a set, in order.
+fn names_of(alloc: Global, set: &BTreeSet<Name>) -> Result<Vec<Name>, AllocError>
+    ensures items { IfOk result (λ names. names.items ≡ set.now.keys) }
+    ensures ordered { IsStrictlySortedBy name_cmp set.now.keys }
+{
+    set.iter().copied().collect(alloc)
+}
