@@ -86,11 +86,11 @@ current_under : (T : Texts) (ns : List (List ℕ)) → AllCurrent T (reads_under
 current_under T [] = tt
 current_under T (n ∷ ns) = (refl, current_under T ns)
 
-names_under : (T : Texts) (ns : List (List ℕ)) → read_names (reads_under T ns) ≡ ns
+pub names_under : (T : Texts) (ns : List (List ℕ)) → read_names (reads_under T ns) ≡ ns
 names_under T [] = refl
 names_under T (n ∷ ns) = ap (λ ms. n ∷ ms) (names_under T ns)
 
-agree_for : (T : Texts) (k : Key) → Agree T (read_texts (reads_for T k)) (needs T k)
+pub agree_for : (T : Texts) (k : Key) → Agree T (read_texts (reads_for T k)) (needs T k)
 agree_for T k n among = sym (agree_from_current T (reads_for T k) (current_under T (needs T k)) n (ap (λ ns. is_among n ns) (names_under T (needs T k)) ∙ among))
 
 -- what a job reads is right in itself

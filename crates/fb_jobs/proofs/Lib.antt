@@ -1,6 +1,8 @@
 pub mod Currents
+pub mod HintLemmas
 pub mod KeyLemmas
 pub mod SameNeeds
+pub mod Searches
 pub mod Sources
 -- Passed on to the crates above, which do not list these libraries.
 pub use Rattle.fb_deploy.proofs.Tree as Tree

@@ -3,6 +3,7 @@ pub mod KeyOrder
 pub mod Keys
 pub mod Reads
 pub mod Values
+pub mod Hints
 pub mod Finished
 -- Passed on to the crates above, which do not list these libraries.
 pub use Rattle.fb_deploy.specs.Tree as Tree

@@ -1,5 +1,5 @@
 -- Reads and values of the program as what they say.
-use Rattle.std.specs.Prelude.{◌≡◌, ℕ, List, map, Option, Some, None}
+use Rattle.std.specs.Prelude.{◌≡◌, ℕ, List, map, Option, Some, None, String, string_bytes}
 use Rattle.std.specs.Option.{MatchOption}
 use Rattle.std.specs.declared.sync.Arc.{Arc}
 use Rattle.std.specs.declared.alloc.Global.{Global}
@@ -10,6 +10,7 @@ use Rattle.fb_deploy.specs.Deploy.{plain_deploy}
 use Rattle.fb_jobs.specs.Keys.{Finding, FaultsFound, NetFound, DeployFound}
 use Rattle.fb_jobs.specs.Reads.{Seen}
 use Rattle.fb_jobs.specs.declared.read.Read.{Read}
+use Rattle.fb_jobs.specs.declared.read.TextRead.{TextRead}
 use Rattle.fb_jobs.specs.declared.value.Value.{Value}
 use Rattle.fb_jobs.specs.declared.value.Value.TheVariants.{Faults, Net, Deploy}
 
@@ -22,6 +23,17 @@ seen_of it = record { name = it.name; found = found_in it.revision it.source }
 
 abbrev pub all_seen : List Read → List Seen
 all_seen reads = map seen_of reads
+
+-- the same of reads that are kept as texts
+abbrev pub text_found : ℕ → Option (Arc (String Global) Global) → Option Held
+text_found revision None = None
+text_found revision (Some text) = Some (record { revision = revision; text = string_bytes text.value })
+
+abbrev pub text_seen : TextRead → Seen
+text_seen it = record { name = it.name; found = text_found it.revision it.text }
+
+abbrev pub texts_seen : List TextRead → List Seen
+texts_seen reads = map text_seen reads
 
 -- a source of that name, or nothing with revision 0
 abbrev pub IsOwn : Read → Type 0

@@ -2,6 +2,7 @@
 #![tactic(auto)]
 
 mod job;
+mod kept;
 mod key;
 mod laws;
 mod read;
@@ -10,9 +11,10 @@ mod result;
 mod value;
 
 pub use job::Job;
+pub use kept::{Kept, NothingKept};
 pub use key::{Key, Kind};
 pub use laws::{current_reads, least_stale, locality, needs_in_order};
-pub use read::{Read, has_key, needed};
+pub use read::{Read, TextRead, has_key, needed};
 pub use result::Finished;
 pub use value::Value;
 

@@ -1,5 +1,5 @@
 //! What is read for a key.
-ghost use Rattle.std.specs.Prelude.{◌≡◌, IfOk, All};
+ghost use Rattle.std.specs.Prelude.{◌≡◌, IfOk};
 ghost use Rattle.fb_jobs.specs.Keys.{needs, has_key};
 
 use crate::key::{Key, Kind};
@@ -17,6 +17,14 @@ pub struct Read {
     pub name: Name,
     pub revision: u64,
     pub source: Option<Arc<Source>>,
+}
+
+/// What a history keeps of a read: the text, without the tree that it spells.
+#[derive(Drop)]
+pub struct TextRead {
+    pub name: Name,
+    pub revision: u64,
+    pub text: Option<Arc<String>>,
 }
 
 /// The names whose texts decide the key's value, in order.
@@ -43,32 +51,30 @@ pub fn has_key(library: &Library, key: Key) -> bool
 }
 
 impl Read {
-    ghost use Rattle.fb_jobs.specs.Values.{seen_of, all_seen, IsOwn};
+    ghost use Rattle.fb_jobs.specs.Values.{seen_of, all_seen, text_seen, texts_seen};
 
-    fn copy(&self) -> Result<Read, AllocError>
-        ensures same { IfOk result (λ copy. seen_of copy ≡ seen_of self.now) }
-        ensures own { IsOwn self.now → IfOk result IsOwn }
+    fn text(&self) -> Result<TextRead, AllocError>
+        ensures { IfOk result (λ it. text_seen it ≡ seen_of self.now) }
     {
-        let source = match &self.source {
-            Some(source) => Some(source.clone()?),
+        let text = match &self.source {
+            Some(source) => Some(source.shared_text().clone()?),
             None => None,
         };
-        Ok(Read {
+        Ok(TextRead {
             name: self.name,
             revision: self.revision,
-            source,
+            text,
         })
     }
 
-    /// The same reads, sharing their sources.
-    pub fn copies(alloc: Global, reads: &[Read]) -> Result<Vec<Read>, AllocError>
-        ensures same { IfOk result (λ copies. all_seen copies.items ≡ all_seen reads.now) }
-        ensures own { All IsOwn reads.now → IfOk result (λ copies. All IsOwn copies.items) }
+    /// The texts of the reads, shared.
+    pub(crate) fn texts(alloc: Global, reads: &[Read]) -> Result<Vec<TextRead>, AllocError>
+        ensures { IfOk result (λ texts. texts_seen texts.items ≡ all_seen reads.now) }
     {
-        let mut copies = Vec::new(alloc);
+        let mut texts = Vec::with_capacity(alloc, reads.len())?;
         for read in reads {
-            copies.push(read.copy()?)?;
+            texts.push(read.text()?)?;
         }
-        Ok(copies)
+        Ok(texts)
     }
 }

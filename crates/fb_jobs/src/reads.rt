@@ -32,7 +32,7 @@ pub(crate) fn reads_of(alloc: Global, library: &Library, key: Key) -> Result<Vec
     ensures own { IfOk result (λ reads. All IsOwn reads.items) }
 {
     let names = needed(alloc, library, key)?;
-    let mut reads = Vec::new(alloc);
+    let mut reads = Vec::with_capacity(alloc, names.len())?;
     for name in &names {
         reads.push(read_under(library, *name)?)?;
     }

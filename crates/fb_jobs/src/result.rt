@@ -3,10 +3,10 @@ ghost use Rattle.std.specs.Prelude.{◌≡◌, All};
 ghost use Rattle.fb_jobs.specs.Finished.{IsFinished, order_of};
 ghost use Rattle.fb_jobs.specs.Keys.{scratch};
 ghost use Rattle.fb_jobs.specs.Reads.{IsRight, read_texts};
-ghost use Rattle.fb_jobs.specs.Values.{all_seen, finding_of, IsOwn};
+ghost use Rattle.fb_jobs.specs.Values.{all_seen, finding_of, texts_seen, IsOwn};
 
 use crate::key::Key;
-use crate::read::Read;
+use crate::read::{Read, TextRead};
 use crate::value::Value;
 use std::marker::Model;
 use std::sync::Arc;
@@ -15,7 +15,8 @@ use std::sync::Arc;
 #[derive(Drop)]
 pub struct Finished {
     key: Key,
-    reads: Vec<Read>,
+    reads: Arc<Vec<Read>>,
+    texts: Arc<Vec<TextRead>>,
     value: Arc<Value>,
 }
 
@@ -26,17 +27,27 @@ impl Model for Finished {
 
     ghost use Rattle.fb_jobs.specs.Finished.{order_of, IsFinished};
 
-    ghost view = { λ it. order_of it.key it.reads.items };
+    ghost view = { λ it. order_of it.key it.reads.value.items };
 
-    ghost invariant = { λ it. IsFinished it.key it.reads.items it.value };
+    ghost invariant = { λ it. IsFinished it.key it.reads.value.items it.texts.value.items it.value };
 }
 
 impl Finished {
-    pub(crate) fn of_reads(key: Key, reads: Vec<Read>, value: Arc<Value>) -> Finished
-        requires { IsFinished key reads.items value }
-        ensures { result ≡ order_of key reads.items }
+    pub(crate) fn of_reads(
+        key: Key,
+        reads: Arc<Vec<Read>>,
+        texts: Arc<Vec<TextRead>>,
+        value: Arc<Value>,
+    ) -> Finished
+        requires { IsFinished key reads.value.items texts.value.items value }
+        ensures { result ≡ order_of key reads.value.items }
     {
-        Finished { key, reads, value }
+        Finished {
+            key,
+            reads,
+            texts,
+            value,
+        }
     }
 
     pub fn key(&self) -> Key
@@ -51,6 +62,13 @@ impl Finished {
         ensures own { All IsOwn result.now }
     {
         &self.reads
+    }
+
+    /// The texts of the reads, to be kept.
+    pub fn texts(&self) -> &Arc<Vec<TextRead>>
+        ensures { texts_seen result.now.value.items ≡ self.now.reads }
+    {
+        &self.texts
     }
 
     /// The value that its reads give from scratch.

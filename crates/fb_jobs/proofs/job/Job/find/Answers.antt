@@ -1,0 +1,36 @@
+-- What stands at the place was read under the name, and nothing where there is a gap.
+use Rattle.std.proofs.Common.{◌≡◌, ℕ, List, Some, get_or, sym, ap, subst, ◌∙◌}
+use Rattle.std.specs.Option.{option_map}
+use Rattle.fb_deploy.specs.Library.Texts.{text_at, text_in}
+use Rattle.fb_deploy.specs.Library.Place.{IsAt, IsGapFor}
+use Rattle.fb_jobs.specs.declared.key.Key.{Key}
+use Rattle.fb_jobs.specs.declared.read.Read.{Read}
+use Rattle.fb_jobs.specs.Reads.{Order, IsRight, read_names, read_texts}
+use Rattle.fb_jobs.specs.Values.{all_seen, found_in}
+use Rattle.fb_jobs.specs.Finished.{order_of}
+use Rattle.fb_jobs.proofs.Currents.{reads_rise}
+use Rattle.fb_jobs.proofs.Searches.{text_there, none_in_gap}
+use Rattle.fb_jobs.proofs.job.Job.find.Goals as goal
+
+found : (key : Key) (reads : List Read) (order : Order) (name : List ℕ) (at : ℕ) (read : Read) → order_of key reads ≡ order → IsRight (order_of key reads) → IsAt (read_names order.reads) name at → read ≡ get_or reads at read → text_at (read_texts order.reads) name ≡ option_map text_in (found_in read.revision read.source)
+found key reads order name at read is right named there =
+    sym (ap (λ (it : Order). text_at (read_texts it.reads) name) is)
+    ∙ text_there reads name at read (reads_rise (order_of key reads) right) (subst (λ (it : Order). IsAt (read_names it.reads) name at) (sym is) named) there
+
+pub returns-in-Some : goal.returns-in-Some
+returns-in-Some c =
+    ap (λ it. Some it.text) c.deref-in-Some.ensures
+    ∙ sym (found c.self.inside.key c.self.inside.reads.value.items c.args.self.now c.args.name.now c.in-Ok.at c.index.result.now c.self.view_is c.self.invariant.job.right c.in-Ok.ensures.found (c.index.ensures ∙ ap (λ it. get_or it.items c.in-Ok.at c.index.result.now) c.deref.ensures)
+    ∙ ap (λ source. option_map text_in (found_in c.index.result.now.revision source)) c.in-Some.is)
+
+pub returns-in-None : goal.returns-in-None
+returns-in-None c =
+    sym (found c.self.inside.key c.self.inside.reads.value.items c.args.self.now c.args.name.now c.in-Ok.at c.index.result.now c.self.view_is c.self.invariant.job.right c.in-Ok.ensures.found (c.index.ensures ∙ ap (λ it. get_or it.items c.in-Ok.at c.index.result.now) c.deref.ensures)
+    ∙ ap (λ source. option_map text_in (found_in c.index.result.now.revision source)) c.in-None.is)
+
+pub returns-in-Err : goal.returns-in-Err
+returns-in-Err c =
+    let name = c.args.name.now in
+    let reads = all_seen c.self.inside.reads.value.items in
+    let gap = subst (λ (it : Order). IsGapFor (read_names it.reads) name c.in-Err.field-0) (sym c.self.view_is) c.in-Err.ensures.absent in
+    sym (ap (option_map text_in) (none_in_gap reads name c.in-Err.field-0 gap)) ∙ ap (λ (it : Order). text_at (read_texts it.reads) name) c.self.view_is
