@@ -1,5 +1,5 @@
 -- What holds after any calls.
-use Rattle.std.proofs.Common.{◌≡◌, ℕ, Bool, true, false, ◌&&◌, not, List, [], refl, sym, ap, ◌∙◌, cond}
+use Rattle.std.proofs.Common.{◌≡◌, ℕ, Bool, true, false, ◌&&◌, not, List, refl, sym, ap, ◌∙◌, cond}
 use Rattle.std.specs.List.{list_any}
 use Rattle.fb_jobs.specs.Library.Texts.{Texts, Edit}
 use Rattle.fb_jobs.specs.declared.key.Key.{Key}
@@ -13,10 +13,10 @@ use Rattle.fb_bench.specs.declared.answers.Delivered.TheVariants.{Accepted, NoSu
 use Rattle.fb_bench.specs.declared.answers.GivenBack.{GivenBack}
 use Rattle.fb_bench.specs.declared.answers.GivenBack.TheVariants.{Returned, NothingOut}
 use Rattle.fb_bench.specs.Machine.{State, Call, ToCommit, ToTake, ToDeliver, ToGiveBack, ToAsk, Finds, Waits, Unknown, shown, reply, after, reaches, commit_answer, after_commit, deliver_answer, after_deliver, give_back_answer, after_give_back}
-use Rattle.fb_bench.specs.Story.{start, replay}
-use Rattle.fb_bench.specs.Due.{due}
+use Rattle.fb_bench.specs.Story.{Origin, IsOrigin, opened, replay}
+use Rattle.fb_bench.specs.Due.{due_from}
 use Rattle.fb_bench.specs.Laws.{is_refusal, refuses_commit, refuses_result, refuses_return, entry_after, AgreeApartFrom}
-use Rattle.fb_bench.proofs.Dues.{waits_after, and_false}
+use Rattle.fb_bench.proofs.Dues.{waits_after, waits_at_origin}
 use Rattle.fb_bench.proofs.Renewing.{not_met}
 
 -- ---- refusals
@@ -54,11 +54,11 @@ entry_bits : (has pending due_now : Bool) (finding : Finding) → pending ≡ (h
 entry_bits false pending due_now finding is = refl
 entry_bits true pending due_now finding is = ap (λ b. cond b Waits (Finds finding)) is
 
-pub entry_is : (most_units : ℕ) (calls : List Call) (key : Key) → shown (replay (start most_units) calls) key ≡ entry_after most_units calls key
-entry_is most_units calls key =
-    let s : State = replay (start most_units) calls in
-    entry_bits (has_key s.units key) (s.pending key) (due (start most_units) calls key) (scratch s.units key)
-    (waits_after (start most_units) calls key false (and_false (has_key [] key)))
+pub entry_is : (origin : Origin) (calls : List Call) (key : Key) → IsOrigin origin → shown (replay (opened origin) calls) key ≡ entry_after origin calls key
+entry_is origin calls key begins =
+    let s : State = replay (opened origin) calls in
+    entry_bits (has_key s.units key) (s.pending key) (due_from (opened origin) calls key) (scratch s.units key)
+    (waits_after (opened origin) calls key ((opened origin).pending key) (waits_at_origin origin key begins))
 
 -- ---- reach
 

@@ -14,13 +14,13 @@ use Rattle.fb_bench.specs.declared.answers.Delivered.TheVariants.{Accepted, NoSu
 use Rattle.fb_bench.specs.declared.answers.GivenBack.{GivenBack}
 use Rattle.fb_bench.specs.declared.answers.GivenBack.TheVariants.{Returned, NothingOut}
 use Rattle.fb_bench.specs.Machine.{after_give_back, give_back_answer, State, Call, ToCommit, ToTake, ToDeliver, ToGiveBack, ToAsk, OfCommit, reply, after, commit_answer, after_commit, after_take, after_deliver, deliver_answer, next, after_done, refusal, or_else, or_some, repeated_refusal, first_repeated, first_misfit, misfit, misfit_at, count_answer, keys_of}
-use Rattle.fb_bench.specs.Story.{Story, start, replay, calls_of, state_of}
+use Rattle.fb_bench.specs.Story.{Story, IsOrigin, opened, replay, calls_of, state_of}
 use Rattle.fb_bench.specs.Kept.{Agrees}
 use Rattle.fb_bench.specs.declared.renewal.Renewal.{Renewal}
-use Rattle.fb_bench.specs.Renew.{is_of, keys_in, AreAfresh, WrittenIf, IsRenewal, HasRoom, AreKeys, items_or}
+use Rattle.fb_bench.specs.Renew.{is_of, waiting_if, IsRenewal, HasRoom, AreKeys, items_or}
 use Rattle.std.specs.declared.alloc.Global.{Global}
 use Rattle.fb_bench.proofs.Steps.{reply_commit, after_commit_is}
-use Rattle.fb_bench.proofs.Renewing.{NeedsLocal, ScratchLocal}
+use Rattle.fb_bench.proofs.Renewing.{ScratchLocal}
 use Rattle.fb_bench.proofs.Renewals.{agrees_done}
 use Rattle.fb_bench.proofs.KeysKept.{keys_after}
 
@@ -103,8 +103,8 @@ unfolding replay
 replay_most s [] = refl
 replay_most s (c ∷ cs) = replay_most (after s c) cs ∙ after_most s c
 
-pub most_units_of : (story : Story) → (state_of story).most_units ≡ story.most_units
-most_units_of story = replay_most (start story.most_units) (calls_of story.log)
+pub most_units_of : (story : Story) → (state_of story).most_units ≡ story.origin.most_units
+most_units_of story = replay_most (opened story.origin) (calls_of story.log)
 
 -- ---- the answer
 
@@ -140,15 +140,15 @@ committed_is s made edits answer same is = after_commit_is s made ∙ (λ i. aft
 
 -- ---- what is kept after a commit that is done
 
-pub agrees_renewed : NeedsLocal → ScratchLocal → (n : ℕ) (edits : List Edit) (T U : Texts) (old_entries room_entries new_entries : tree.BTreeMap Key Entry) (old_ready room_ready new_ready old_waiting room_waiting new_waiting : set.BTreeSet Key) (s : State) (it : Renewal) → U ≡ all_edited (n + 1) edits T → Agrees T n old_entries old_ready old_waiting s → IsRenewal U edits old_entries old_ready old_waiting it → HasRoom it old_entries room_entries old_ready room_ready old_waiting room_waiting → ((texts : Texts) (q : Key) → AreAfresh texts it.renewed.items → WrittenIf texts q (is_of q (keys_in it.renewed.items)) (cond (is_of q it.gone.items) None (tree.get key_cmp room_entries q)) (tree.get key_cmp new_entries q)) → ((q : Key) → set.contains key_cmp new_ready q ≡ cond (is_of q it.gone.items) false (set.contains key_cmp room_ready q)) → ((q : Key) → set.contains key_cmp new_waiting q ≡ cond (is_of q it.gone.items) false (set.contains key_cmp room_waiting q)) → Agrees U (n + 1) new_entries new_ready new_waiting (after_done (n + 1) edits s)
-agrees_renewed needs_law law n edits T U old_entries room_entries new_entries old_ready room_ready new_ready old_waiting room_waiting new_waiting s it is agrees found room written ready waits =
+pub agrees_renewed : ScratchLocal → (n : ℕ) (edits : List Edit) (T U : Texts) (old_entries room_entries new_entries : tree.BTreeMap Key Entry) (old_ready room_ready new_ready old_waiting room_waiting new_waiting : set.BTreeSet Key) (s : State) (it : Renewal) → U ≡ all_edited (n + 1) edits T → Agrees T n old_entries old_ready old_waiting s → IsRenewal U (map unit_of edits) old_entries old_ready old_waiting it → HasRoom it old_entries room_entries old_ready room_ready old_waiting room_waiting → ((q : Key) → tree.get key_cmp new_entries q ≡ waiting_if (is_of q it.renewed.items) (cond (is_of q it.gone.items) None (tree.get key_cmp room_entries q))) → ((q : Key) → set.contains key_cmp new_ready q ≡ cond (is_of q it.gone.items) false (set.contains key_cmp room_ready q)) → ((q : Key) → set.contains key_cmp new_waiting q ≡ cond (is_of q it.gone.items) false (set.contains key_cmp room_waiting q)) → Agrees U (n + 1) new_entries new_ready new_waiting (after_done (n + 1) edits s)
+agrees_renewed law n edits T U old_entries room_entries new_entries old_ready room_ready new_ready old_waiting room_waiting new_waiting s it is agrees found room written ready waits =
     let units : U ≡ all_edited (n + 1) edits s.units = is ∙ ap (λ us. all_edited (n + 1) edits us) agrees.units_are in
     subst (λ us. Agrees us (n + 1) new_entries new_ready new_waiting (after_done (n + 1) edits s)) (sym units)
-    (agrees_done needs_law law n edits T s it (n + 1) old_entries room_entries new_entries old_ready room_ready new_ready old_waiting room_waiting new_waiting agrees (subst (λ us. IsRenewal us edits old_entries old_ready old_waiting it) units found) room written ready waits)
+    (agrees_done law n edits T s it (n + 1) old_entries room_entries new_entries old_ready room_ready new_ready old_waiting room_waiting new_waiting agrees (subst (λ us. IsRenewal us (map unit_of edits) old_entries old_ready old_waiting it) units found) room written ready waits)
 
-pub keys_done : (n : ℕ) (edits : List Edit) (T U : Texts) (story : Story) (old_entries : tree.BTreeMap Key Entry) (old_ready old_waiting : set.BTreeSet Key) (it : Renewal) (keys now : List Key) (made : Option (Vec Key Global)) → U ≡ all_edited (n + 1) edits T → Agrees T n old_entries old_ready old_waiting (state_of story) → IsRenewal U edits old_entries old_ready old_waiting it → keys ≡ keys_of T → AreKeys U it.fresh.items it.gone.items made → now ≡ items_or made keys → now ≡ keys_of U
-keys_done n edits T U story old_entries old_ready old_waiting it keys now made is agrees found were are now_is =
+pub keys_done : (n : ℕ) (edits : List Edit) (T U : Texts) (story : Story) (begins : IsOrigin story.origin) (old_entries : tree.BTreeMap Key Entry) (old_ready old_waiting : set.BTreeSet Key) (it : Renewal) (keys now : List Key) (made : Option (Vec Key Global)) → U ≡ all_edited (n + 1) edits T → Agrees T n old_entries old_ready old_waiting (state_of story) → IsRenewal U (map unit_of edits) old_entries old_ready old_waiting it → keys ≡ keys_of T → AreKeys U old_entries it.fresh.items it.gone.items made → now ≡ items_or made keys → now ≡ keys_of U
+keys_done n edits T U story begins old_entries old_ready old_waiting it keys now made is agrees found were are now_is =
     let units : U ≡ all_edited (n + 1) edits (state_of story).units = is ∙ ap (λ us. all_edited (n + 1) edits us) agrees.units_are in
     now_is
-    ∙ keys_after (n + 1) n edits T story old_entries old_ready old_waiting it keys made agrees (subst (λ us. IsRenewal us edits old_entries old_ready old_waiting it) units found) were (subst (λ us. AreKeys us it.fresh.items it.gone.items made) units are)
+    ∙ keys_after (n + 1) n edits T story begins old_entries old_ready old_waiting it keys made agrees (subst (λ us. IsRenewal us (map unit_of edits) old_entries old_ready old_waiting it) units found) were (subst (λ us. AreKeys us old_entries it.fresh.items it.gone.items made) units are)
     ∙ ap keys_of (sym units)

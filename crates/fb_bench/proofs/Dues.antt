@@ -12,8 +12,8 @@ use Rattle.fb_bench.specs.declared.answers.Delivered.TheVariants.{NotPending}
 use Rattle.fb_bench.specs.declared.answers.GivenBack.{GivenBack}
 use Rattle.fb_bench.specs.declared.answers.GivenBack.TheVariants.{Returned, NothingOut}
 use Rattle.fb_bench.specs.Machine.{State, Call, ToCommit, ToTake, ToDeliver, ToGiveBack, ToAsk, commit_answer, after_commit, deliver_answer, after_deliver, unless_stale, after_take, next, reaches, after, removed, give_back_answer, after_give_back}
-use Rattle.fb_bench.specs.Story.{Story, start, replay, calls_of, state_of}
-use Rattle.fb_bench.specs.Due.{marks, marks_done, settles, settled, due, is_due}
+use Rattle.fb_bench.specs.Story.{Story, Origin, IsOrigin, opened, replay, calls_of, state_of}
+use Rattle.fb_bench.specs.Due.{marks, marks_done, settles, settled, due, due_from, is_due}
 use Rattle.fb_jobs.specs.Keys.{Finding, scratch}
 use Rattle.fb_bench.specs.Machine as machine
 use Rattle.fb_bench.specs.Machine.{Finds, Waits, Unknown}
@@ -107,13 +107,17 @@ waits_after s (c ∷ cs) k d waits =
     waits_after (after s c) cs k ((d && not (settles s c k)) || marks s c k) (step s c k d waits)
     ∙ ap (λ b. has_key (replay (after s c) cs).units k && b) (regroup d (settles s c k) (marks s c k) (settled (after s c) cs k) (due (after s c) cs k))
 
-pub and_false : (b : Bool) → false ≡ (b && false)
-and_false true = refl
-and_false false = refl
+own_pending : (h p : Bool) → (h ≡ false → p ≡ false) → p ≡ (h && p)
+own_pending true p sound = refl
+own_pending false p sound = sound refl
+
+-- where a history begins, pending keys are of the texts
+pub waits_at_origin : (origin : Origin) (k : Key) → IsOrigin origin → IsWaiting (opened origin) k ((opened origin).pending k)
+waits_at_origin origin k begins = own_pending (has_key origin.units k) ((opened origin).pending k) (begins.waiting k)
 
 -- pending are exactly the keys that are due
-pub pending_is_due : (story : Story) (k : Key) → (state_of story).pending k ≡ is_due story k
-pending_is_due story k = waits_after (start story.most_units) (calls_of story.log) k false (and_false (has_key [] k))
+pub pending_is_due : (story : Story) (k : Key) → IsOrigin story.origin → (state_of story).pending k ≡ is_due story k
+pending_is_due story k begins = waits_after (opened story.origin) (calls_of story.log) k ((opened story.origin).pending k) (waits_at_origin story.origin k begins)
 
 shown_bits : (r : Shown) (h p d : Bool) (f : Finding) → p ≡ (h && d) → shown_by r ≡ cond (not h) Unknown (cond p Waits (Finds f)) → is_pending r ≡ (h && d)
 shown_bits NoSuchKey false p d f is e = refl
@@ -127,5 +131,5 @@ shown_bits (Value v) true true d f is e = cc
 shown_bits (Value v) true false d f is e = is
 
 -- what is shown as pending is due
-pub due_shown : (r : Shown) (story : Story) (k : Key) → shown_by r ≡ machine.shown (state_of story) k → is_pending r ≡ is_due story k
-due_shown r story k e = shown_bits r (has_key (state_of story).units k) ((state_of story).pending k) (due (start story.most_units) (calls_of story.log) k) (scratch (state_of story).units k) (pending_is_due story k) e
+pub due_shown : (r : Shown) (story : Story) (k : Key) → IsOrigin story.origin → shown_by r ≡ machine.shown (state_of story) k → is_pending r ≡ is_due story k
+due_shown r story k begins e = shown_bits r (has_key (state_of story).units k) ((state_of story).pending k) (due_from (opened story.origin) (calls_of story.log) k) (scratch (state_of story).units k) (pending_is_due story k begins) e

@@ -4,35 +4,42 @@ use Rattle.std.specs.BTreeMap as tree
 use Rattle.std.specs.BTreeSet as set
 use Rattle.std.specs.Map.{lookup}
 use Rattle.std.specs.BTreeMap.{is_at}
+use Rattle.std.specs.List.Sorted.{IsStrictlySortedBy}
 use Rattle.std.specs.List.{list_any}
 use Rattle.fb_jobs.specs.Library.Texts.{Texts}
 use Rattle.fb_jobs.specs.declared.key.Key.{Key}
 use Rattle.fb_jobs.specs.Keys.{has_key}
 use Rattle.fb_jobs.specs.KeyOrder.{key_cmp}
 use Rattle.fb_bench.specs.declared.entry.Entry.{Entry}
-use Rattle.fb_bench.specs.Story.{Log, start, replay, replies}
+use Rattle.fb_bench.specs.Story.{Log, IsOrigin, opened, start, replay, replies}
 use Rattle.fb_bench.specs.Kept.{Agrees, IsKept, EntryFits}
+use Rattle.fb_bench.specs.declared.users.Users.{Users}
+use Rattle.fb_bench.proofs.Reached.{covers_none}
 use Rattle.fb_bench.proofs.Least.{no_kind}
 
 no_key : (key : Key) → has_key [] key ≡ false
 unfolding has_key
 no_key key = no_kind key.kind
 
-agrees_empty : (most : ℕ) (entries : tree.BTreeMap Key Entry) (ready waiting : set.BTreeSet Key) → entries.entries ≡ [] → ready.keys ≡ [] → waiting.keys ≡ [] → Agrees [] 0 entries ready waiting (start most)
+pub begins_empty : (most : ℕ) → IsOrigin (start most)
+unfolding IsStrictlySortedBy
+begins_empty most = record { rise = tt; waiting = λ key none. refl }
+
+agrees_empty : (most : ℕ) (entries : tree.BTreeMap Key Entry) (ready waiting : set.BTreeSet Key) → entries.entries ≡ [] → ready.keys ≡ [] → waiting.keys ≡ [] → Agrees [] 0 entries ready waiting (opened (start most))
 agrees_empty most entries ready waiting no_entries no_keys none_wait = record {
   units_are = refl;
   commits_are = refl;
-  each = λ key. subst (λ es. EntryFits (start most) key (lookup (is_at (key_cmp key)) es)) (sym no_entries) (no_key key, refl, refl);
+  each = λ key. subst (λ es. EntryFits (opened (start most)) key (lookup (is_at (key_cmp key)) es)) (sym no_entries) (no_key key, refl, refl);
   ready_are = λ key. ap (λ ks. list_any (is_at (key_cmp key)) ks) no_keys;
   waiting_are = λ key. ap (λ ks. list_any (is_at (key_cmp key)) ks) none_wait;
 }
 
-kept_start : (most limit : ℕ) (entries : tree.BTreeMap Key Entry) (ready waiting : set.BTreeSet Key) → entries.entries ≡ [] → ready.keys ≡ [] → waiting.keys ≡ [] → IsKept [] 0 [] entries ready waiting (record { most_units = most; log = record { limit = limit; records = [] } })
+kept_start : (most limit : ℕ) (entries : tree.BTreeMap Key Entry) (ready waiting : set.BTreeSet Key) (users : Users) → entries.entries ≡ [] → ready.keys ≡ [] → waiting.keys ≡ [] → IsKept [] 0 [] entries ready waiting users (record { origin = start most; log = record { limit = limit; records = [] } })
 unfolding replay replies
-kept_start most limit entries ready waiting no_entries no_keys none_wait = record { agrees = agrees_empty most entries ready waiting no_entries no_keys none_wait; replayed = refl; keys_are = refl; few = omega arith }
+kept_start most limit entries ready waiting users no_entries no_keys none_wait = record { begins = begins_empty most; agrees = agrees_empty most entries ready waiting no_entries no_keys none_wait; replayed = refl; keys_are = refl; covers = covers_none users; few = omega arith }
 
-pub kept_empty : (most limit : ℕ) (units : Texts) (keys : List Key) (entries : tree.BTreeMap Key Entry) (ready waiting : set.BTreeSet Key) (log : Log) → units ≡ [] → keys ≡ [] → entries.entries ≡ [] → ready.keys ≡ [] → waiting.keys ≡ [] → log ≡ record { limit = limit; records = [] } → IsKept units 0 keys entries ready waiting (record { most_units = most; log = log })
-kept_empty most limit units keys entries ready waiting log no_units none no_entries no_keys none_wait is =
-    subst (λ l. IsKept units 0 keys entries ready waiting (record { most_units = most; log = l })) (sym is)
-    (subst (λ us. IsKept us 0 keys entries ready waiting (record { most_units = most; log = record { limit = limit; records = [] } })) (sym no_units)
-    (subst (λ ks. IsKept [] 0 ks entries ready waiting (record { most_units = most; log = record { limit = limit; records = [] } })) (sym none) (kept_start most limit entries ready waiting no_entries no_keys none_wait)))
+pub kept_empty : (most limit : ℕ) (units : Texts) (keys : List Key) (entries : tree.BTreeMap Key Entry) (ready waiting : set.BTreeSet Key) (users : Users) (log : Log) → units ≡ [] → keys ≡ [] → entries.entries ≡ [] → ready.keys ≡ [] → waiting.keys ≡ [] → log ≡ record { limit = limit; records = [] } → IsKept units 0 keys entries ready waiting users (record { origin = start most; log = log })
+kept_empty most limit units keys entries ready waiting users log no_units none no_entries no_keys none_wait is =
+    subst (λ l. IsKept units 0 keys entries ready waiting users (record { origin = start most; log = l })) (sym is)
+    (subst (λ us. IsKept us 0 keys entries ready waiting users (record { origin = start most; log = record { limit = limit; records = [] } })) (sym no_units)
+    (subst (λ ks. IsKept [] 0 ks entries ready waiting users (record { origin = start most; log = record { limit = limit; records = [] } })) (sym none) (kept_start most limit entries ready waiting users no_entries no_keys none_wait)))

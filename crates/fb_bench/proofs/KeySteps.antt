@@ -1,17 +1,10 @@
 -- One more of some keys, in a map or in a set.
-use Rattle.std.proofs.Common.{◌≡◌, ℕ, Bool, true, false, ◌||◌, List, [], ◌∷◌, ◌++◌, take, drop, length, refl, sym, ap, subst, ◌∙◌, Option, Some, None, cond, is_none}
-use Rattle.std.specs.List.{All}
-use Rattle.std.specs.Option.{option_map}
+use Rattle.std.proofs.Common.{◌≡◌, ℕ, Bool, true, false, ◌||◌, List, [], ◌∷◌, ◌++◌, take, drop, refl, sym, ap, ◌∙◌, Option, Some, None, cond, is_none}
 use Rattle.std.proofs.lemmas.List.{take-append-drop}
-use Rattle.std.proofs.lemmas.List.Elements.{All-append, All-cons, All-nil, All-take, All-drop, All-head}
-use Rattle.std.proofs.Math.Seq.{take-append_seam, drop-append_seam}
-use Rattle.fb_jobs.specs.Library.Texts.{Texts}
 use Rattle.fb_jobs.specs.declared.key.Key.{Key}
 use Rattle.fb_jobs.specs.KeyOrder.{same_key}
 use Rattle.fb_bench.specs.declared.entry.Entry.{Entry}
-use Rattle.fb_bench.specs.declared.entry.Renewed.{Renewed}
-use Rattle.fb_bench.specs.Renew.{is_of, keys_in, IsAfresh, AreAfresh, WrittenIf}
-use Rattle.fb_bench.proofs.Order.{keys_equal}
+use Rattle.fb_bench.specs.Renew.{is_of, waiting_if}
 use Rattle.fb_bench.proofs.Renewing.{of_more, of_both}
 
 pub of_now : (q k : Key) (before now : List Key) → now ≡ before ++ k ∷ [] → is_of q now ≡ (is_of q before || same_key k q)
@@ -49,39 +42,15 @@ entry_more v1 v2 it a true some put so_far = ap (λ (o : Option Entry). is_none 
 entry_more v1 v2 it true false some put so_far = ap (λ (o : Option Entry). is_none o) put ∙ so_far refl
 entry_more v1 v2 it false false some put so_far = cc
 
--- ---- entries that are written
+-- ---- entries of keys that are to wait
 
-keys_more : (before : List Renewed) (it : Renewed) → keys_in (before ++ it ∷ []) ≡ keys_in before ++ it.key ∷ []
-keys_more [] it = refl
-keys_more (x ∷ xs) it = ap (λ ks. x.key ∷ ks) (keys_more xs it)
-
-pub keys_pushed : (before now : List Renewed) (it : Renewed) → now ≡ before ++ it ∷ [] → keys_in now ≡ keys_in before ++ it.key ∷ []
-keys_pushed before now it more = ap keys_in more ∙ keys_more before it
-
-pub afresh_pushed : (texts : Texts) (before now : List Renewed) (it : Renewed) → now ≡ before ++ it ∷ [] → AreAfresh texts before → IsAfresh texts it.key it.entry → AreAfresh texts now
-afresh_pushed texts before now it more all one =
-    let P : Renewed → Type 0 = λ (x : Renewed). IsAfresh texts x.key x.entry in
-    subst (λ xs. All P xs) (sym more) (All-append P before (it ∷ []) all (All-cons P it [] one (All-nil P)))
-
-pub afresh_before : (texts : Texts) (before now : List Renewed) (it : Renewed) → now ≡ before ++ it ∷ [] → AreAfresh texts now → AreAfresh texts before × IsAfresh texts it.key it.entry
-afresh_before texts before now it more all =
-    let P : Renewed → Type 0 = λ (x : Renewed). IsAfresh texts x.key x.entry in
-    let both : All P (before ++ it ∷ []) = subst (λ xs. All P xs) more all in
-    (subst (λ xs. All P xs) (take-append_seam before (it ∷ [])) (All-take P (length before) (before ++ it ∷ []) both), All-head P it [] (subst (λ xs. All P xs) (drop-append_seam before (it ∷ [])) (All-drop P (length before) (before ++ it ∷ []) both)))
-
-written_bits : (texts : Texts) (k q : Key) (e : Entry) (rest same : Bool) (old final : Option Entry) → same_key k q ≡ same → IsAfresh texts k e → WrittenIf texts q rest (cond same (option_map (λ (o : Entry). e) old) old) final → WrittenIf texts q (rest || same) old final
-written_bits texts k q e true true None final at new written = written
-written_bits texts k q e true true (Some o) None at new written = written
-written_bits texts k q e true true (Some o) (Some w) at new written = written
-written_bits texts k q e false true None final at new written = written
-written_bits texts k q e false true (Some o) None at new written = cc
-written_bits texts k q e false true (Some o) (Some w) at new written =
-    let same : w ≡ e = cc in subst (λ x. IsAfresh texts q x) (sym same) (subst (λ x. IsAfresh texts x e) (keys_equal k q at) new)
-written_bits texts k q e true false old final at new written = written
-written_bits texts k q e false false old final at new written = written
-
--- one that is written, and the others that are left
-pub written_more : (texts : Texts) (q : Key) (it : Renewed) (before now : List Renewed) (old new final : Option Entry) → now ≡ before ++ it ∷ [] → IsAfresh texts it.key it.entry → new ≡ cond (same_key it.key q) (option_map (λ (o : Entry). it.entry) old) old → WrittenIf texts q (is_of q (keys_in before)) new final → WrittenIf texts q (is_of q (keys_in now)) old final
-written_more texts q it before now old new final more afresh is written =
-    subst (λ b. WrittenIf texts q b old final) (sym (of_now q it.key (keys_in before) (keys_in now) (keys_pushed before now it more)))
-    (written_bits texts it.key q it.entry (is_of q (keys_in before)) (same_key it.key q) old final refl afresh (subst (λ o. WrittenIf texts q (is_of q (keys_in before)) o final) is written))
+-- to wait, one by one
+pub waiting_more : (v0 v1 v2 : Option Entry) (a same : Bool) → v2 ≡ waiting_if same v1 → v1 ≡ waiting_if a v0 → v2 ≡ waiting_if (a || same) v0
+waiting_more v0 v1 v2 true true now so_far = now ∙ ap (waiting_if true) so_far ∙ twice v0
+  where
+    twice : (v : Option Entry) → waiting_if true (waiting_if true v) ≡ waiting_if true v
+    twice None = refl
+    twice (Some it) = refl
+waiting_more v0 v1 v2 true false now so_far = now ∙ so_far
+waiting_more v0 v1 v2 false true now so_far = now ∙ ap (waiting_if true) so_far
+waiting_more v0 v1 v2 false false now so_far = now ∙ so_far

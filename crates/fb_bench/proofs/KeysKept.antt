@@ -1,5 +1,5 @@
 -- The keys of the texts, and the set of those that wait, where a commit leaves them or not.
-use Rattle.std.proofs.Common.{◌≡◌, ℕ, Bool, true, false, ◌&&◌, not, List, [], ◌∷◌, filter, length, refl, sym, ap, ◌∙◌, Option, Some, None, is_none, count_by, Vec}
+use Rattle.std.proofs.Common.{◌≡◌, ℕ, Bool, true, false, ◌&&◌, ◌||◌, not, subst, List, [], ◌∷◌, filter, length, map, refl, sym, ap, ◌∙◌, Option, Some, None, is_none, count_by, Vec}
 use Rattle.std.specs.declared.alloc.Global.{Global}
 use Rattle.std.specs.BTreeMap as tree
 use Rattle.std.specs.BTreeSet as set
@@ -10,17 +10,17 @@ use Rattle.std.proofs.lemmas.List.Kept.{IsStrictlySortedBy-filter}
 use Rattle.std.proofs.lemmas.List.Sums.{length-filter}
 use Rattle.fb_text.specs.Order.{in_order}
 use Rattle.fb_text.proofs.OrderLemmas.{in_order-same}
-use Rattle.fb_jobs.specs.Library.Texts.{Texts, Edit, all_edited, names_of}
+use Rattle.fb_jobs.specs.Library.Texts.{Texts, Edit, unit_of, all_edited, names_of}
 use Rattle.fb_jobs.specs.declared.key.Key.{Key}
 use Rattle.fb_jobs.specs.Keys.{has_key}
-use Rattle.fb_jobs.specs.KeyOrder.{key_cmp}
+use Rattle.fb_jobs.specs.KeyOrder.{key_cmp, same_key}
 use Rattle.fb_bench.specs.declared.entry.Entry.{Entry}
 use Rattle.fb_bench.specs.declared.renewal.Renewal.{Renewal}
 use Rattle.fb_bench.specs.Machine.{State, all_keys, keys_of}
-use Rattle.fb_bench.specs.Story.{Story, state_of}
+use Rattle.fb_bench.specs.Story.{Story, IsOrigin, state_of}
 use Rattle.fb_bench.specs.Kept.{EntryFits, Agrees}
-use Rattle.fb_bench.specs.Renew.{is_of, is_own, AreKeys, items_or, IsRenewal}
-use Rattle.fb_bench.proofs.Order.{key_total, same_keys}
+use Rattle.fb_bench.specs.Renew.{is_of, is_own, have_entries, AreKeys, items_or, IsRenewal}
+use Rattle.fb_bench.proofs.Order.{key_total, keys_equal, same_keys}
 use Rattle.fb_bench.proofs.Least.{key_named}
 use Rattle.fb_bench.proofs.Renewing.{of_filtered}
 use Rattle.fb_bench.proofs.Renewals.{has_apart}
@@ -49,28 +49,48 @@ of_keys T q = of_filtered (has_key T) q (all_keys (names_of T)) ∙ and_named (i
 
 -- ---- where no key is new and none is gone
 
-had_bits : (h' h own fresh : Bool) → (own ≡ false → h' ≡ h) → fresh ≡ not h → ((own && h') && fresh) ≡ false → (own && not h') ≡ false → h' ≡ h
+had_bits : (h' h own fresh : Bool) → (own ≡ false → h' ≡ h) → fresh ≡ not h → ((own && h') && fresh) ≡ false → ((own && not h') ≡ true → fresh ≡ true) → h' ≡ h
 had_bits h' h false fresh apart is no_new none_gone = apart refl
 had_bits true true true fresh apart is no_new none_gone = refl
 had_bits true false true fresh apart is no_new none_gone = sym (sym no_new ∙ is)
-had_bits false h true fresh apart is no_new none_gone = cc
+had_bits false true true fresh apart is no_new none_gone = let no : true ≡ false = sym (none_gone refl) ∙ is in cc
+had_bits false false true fresh apart is no_new none_gone = refl
 
 none_fits : (s : State) (q : Key) (o : Option Entry) → EntryFits s q o → is_none o ≡ not (has_key s.units q)
 none_fits s q None fits = sym (ap (λ b. not b) fits.0)
 none_fits s q (Some it) fits = sym (ap (λ b. not b) fits.0)
 
+first_none : (a rest : Bool) → (not a || rest) ≡ false → a ≡ true
+first_none true rest e = refl
+first_none false rest e = cc
+
+rest_none : (a rest : Bool) → (not a || rest) ≡ false → rest ≡ false
+rest_none true rest e = e
+rest_none false rest e = cc
+
+none_here : (m : tree.BTreeMap Key Entry) (k q : Key) (ks : List Key) (b : Bool) → same_key q k ≡ b → is_none (tree.get key_cmp m k) ≡ true → (is_of q ks ≡ true → is_none (tree.get key_cmp m q) ≡ true) → (b || is_of q ks) ≡ true → is_none (tree.get key_cmp m q) ≡ true
+none_here m k q ks true same here rest e = subst (λ x. is_none (tree.get key_cmp m x) ≡ true) (sym (keys_equal q k same)) here
+none_here m k q ks false same here rest e = rest e
+
+-- where none of the keys has an entry, each has none
+none_of : (m : tree.BTreeMap Key Entry) (ks : List Key) (q : Key) → have_entries m ks ≡ false → is_of q ks ≡ true → is_none (tree.get key_cmp m q) ≡ true
+none_of m [] q none e = cc
+none_of m (k ∷ ks) q none e =
+    none_here m k q ks (same_key q k) refl (first_none (is_none (tree.get key_cmp m k)) (have_entries m ks) none)
+    (none_of m ks q (rest_none (is_none (tree.get key_cmp m k)) (have_entries m ks) none)) e
+
 -- the keys after a commit, whether they are others or not
-pub keys_after : (commit commits : ℕ) (es : List Edit) (T : Texts) (story : Story) (old_entries : tree.BTreeMap Key Entry) (old_ready old_waiting : set.BTreeSet Key) (it : Renewal) (keys : List Key) (made : Option (Vec Key Global)) → Agrees T commits old_entries old_ready old_waiting (state_of story) → IsRenewal (all_edited commit es (state_of story).units) es old_entries old_ready old_waiting it → keys ≡ keys_of T → AreKeys (all_edited commit es (state_of story).units) it.fresh.items it.gone.items made → items_or made keys ≡ keys_of (all_edited commit es (state_of story).units)
-keys_after commit commits es T story old_entries old_ready old_waiting it keys (Some made) agrees is were are = are
-keys_after commit commits es T story old_entries old_ready old_waiting it keys None agrees is were are =
+pub keys_after : (commit commits : ℕ) (es : List Edit) (T : Texts) (story : Story) (begins : IsOrigin story.origin) (old_entries : tree.BTreeMap Key Entry) (old_ready old_waiting : set.BTreeSet Key) (it : Renewal) (keys : List Key) (made : Option (Vec Key Global)) → Agrees T commits old_entries old_ready old_waiting (state_of story) → IsRenewal (all_edited commit es (state_of story).units) (map unit_of es) old_entries old_ready old_waiting it → keys ≡ keys_of T → AreKeys (all_edited commit es (state_of story).units) old_entries it.fresh.items it.gone.items made → items_or made keys ≡ keys_of (all_edited commit es (state_of story).units)
+keys_after commit commits es T story begins old_entries old_ready old_waiting it keys (Some made) agrees is were are = are
+keys_after commit commits es T story begins old_entries old_ready old_waiting it keys None agrees is were are =
     let s : State = state_of story in
     let U : Texts = all_edited commit es s.units in
     let had : (q : Key) → has_key U q ≡ has_key s.units q = λ q.
-    had_bits (has_key U q) (has_key s.units q) (is_own es q) (is_none (tree.get key_cmp old_entries q)) (has_apart commit es s.units q) (none_fits s q (tree.get key_cmp old_entries q) (agrees.each q))
+    had_bits (has_key U q) (has_key s.units q) (is_own (map unit_of es) q) (is_none (tree.get key_cmp old_entries q)) (has_apart commit es s.units q) (none_fits s q (tree.get key_cmp old_entries q) (agrees.each q))
     (sym (is.fresh_are q) ∙ ap (λ ks. is_of q ks) are.0)
-    (sym (is.gone_are q) ∙ ap (λ ks. is_of q ks) are.1) in
+    (λ gone. none_of old_entries it.gone.items q are.1 (is.gone_are q ∙ gone)) in
     were ∙ ap keys_of agrees.units_are
-    ∙ same_rising (keys_of s.units) (keys_of U) (keys_rise story) (keys_rise_done commit es story) (λ q. of_keys s.units q ∙ sym (had q) ∙ sym (of_keys U q))
+    ∙ same_rising (keys_of s.units) (keys_of U) (keys_rise story begins) (keys_rise_done commit es story begins) (λ q. of_keys s.units q ∙ sym (had q) ∙ sym (of_keys U q))
 
 -- ---- the keys that wait
 
@@ -79,10 +99,10 @@ waits_has s q None fits waits = let no : s.pending q ≡ false = fits.1 in cc
 waits_has s q (Some it) fits waits = fits.0
 
 -- the set of the keys that wait has as many as wait
-pub waiting_count : (story : Story) (T : Texts) (commits : ℕ) (old_entries : tree.BTreeMap Key Entry) (old_ready old_waiting : set.BTreeSet Key) → Agrees T commits old_entries old_ready old_waiting (state_of story) → IsStrictlySortedBy key_cmp old_waiting.keys → length old_waiting.keys ≡ count_by (state_of story).pending (keys_of (state_of story).units)
-waiting_count story T commits old_entries old_ready old_waiting agrees rise =
+pub waiting_count : (story : Story) (begins : IsOrigin story.origin) (T : Texts) (commits : ℕ) (old_entries : tree.BTreeMap Key Entry) (old_ready old_waiting : set.BTreeSet Key) → Agrees T commits old_entries old_ready old_waiting (state_of story) → IsStrictlySortedBy key_cmp old_waiting.keys → length old_waiting.keys ≡ count_by (state_of story).pending (keys_of (state_of story).units)
+waiting_count story begins T commits old_entries old_ready old_waiting agrees rise =
     let s : State = state_of story in
     let same : old_waiting.keys ≡ filter s.pending (keys_of s.units) =
-    same_rising old_waiting.keys (filter s.pending (keys_of s.units)) rise (IsStrictlySortedBy-filter key_cmp s.pending (keys_of s.units) (keys_rise story))
+    same_rising old_waiting.keys (filter s.pending (keys_of s.units)) rise (IsStrictlySortedBy-filter key_cmp s.pending (keys_of s.units) (keys_rise story begins))
     (λ q. agrees.waiting_are q ∙ sym (of_filtered s.pending q (keys_of s.units) ∙ ap (λ b. b && s.pending q) (of_keys s.units q) ∙ and_named (has_key s.units q) (s.pending q) (waits_has s q (tree.get key_cmp old_entries q) (agrees.each q)))) in
     ap length same ∙ length-filter s.pending (keys_of s.units)

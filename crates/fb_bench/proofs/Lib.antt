@@ -10,6 +10,8 @@ pub mod Writes
 pub mod Numbers
 pub mod Sorted
 pub mod AfterCalls
+pub mod Reached
+pub mod UserSteps
 pub mod Renewals
 pub mod KeySteps
 pub mod KeysKept

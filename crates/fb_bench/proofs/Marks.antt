@@ -11,19 +11,33 @@ use Rattle.fb_jobs.specs.Library.Texts.{Texts}
 use Rattle.fb_jobs.specs.declared.key.Key.{Key}
 use Rattle.fb_jobs.specs.declared.value.Value.{Value}
 use Rattle.fb_jobs.specs.Values.{finding_of}
-use Rattle.fb_jobs.specs.Keys.{has_key, scratch}
+use Rattle.fb_jobs.specs.Hints.{AreKept}
+use Rattle.fb_jobs.specs.Keys.{Finding, has_key, scratch}
 use Rattle.fb_jobs.specs.KeyOrder.{key_cmp, same_key}
 use Rattle.fb_bench.specs.declared.entry.Entry.{Entry}
 use Rattle.fb_jobs.specs.Reads.{Order, stale}
 use Rattle.fb_bench.specs.Machine.{State, is_ready, after_take, after_deliver, removed, unless_stale, deliver_answer}
 use Rattle.fb_bench.specs.declared.answers.Delivered.{Delivered}
 use Rattle.fb_bench.specs.declared.answers.Delivered.TheVariants.{Accepted, NoSuchKey, NotPending, Stale}
-use Rattle.fb_bench.specs.Kept.{Agrees, EntryFits}
+use Rattle.fb_bench.specs.Kept.{Agrees, EntryFits, IsScratch, kept_in}
 use Rattle.fb_bench.proofs.Order.{keys_equal}
 
 pub ready_has : (s : State) (k : Key) (o : Option Entry) → EntryFits s k o → is_ready s k ≡ true → has_key s.units k ≡ true
 ready_has s k None fits ready = let no : is_ready s k ≡ false = ap (λ b. b && not (s.out k)) fits.1 in cc
 ready_has s k (Some it) fits ready = fits.0
+
+kept_value : (texts : Texts) (k : Key) (value : Option (Arc Value Global)) (finding : Finding) → IsScratch texts k value → option_map (λ it. finding_of it.value) value ≡ Some finding → finding ≡ scratch texts k
+kept_value texts k None finding is e = cc
+kept_value texts k (Some value) finding is e = let one : finding ≡ finding_of value.value = cc in one ∙ is
+
+entry_kept : (s : State) (k : Key) (o : Option Entry) (finding : Finding) → EntryFits s k o → kept_in o ≡ Some finding → finding ≡ scratch s.units k
+entry_kept s k None finding fits e = cc
+entry_kept s k (Some it) finding fits e = kept_value s.units k it.value finding fits.3 e
+
+-- the values that are kept are those of the texts
+pub all_kept : {units : Texts} {commits : ℕ} {entries : tree.BTreeMap Key Entry} {ready waiting : set.BTreeSet Key} {s : State} → Agrees units commits entries ready waiting s → AreKept units (λ key. kept_in (tree.get key_cmp entries key))
+all_kept {entries = entries} {s = s} agrees k finding e =
+    entry_kept s k (tree.get key_cmp entries k) finding (agrees.each k) e ∙ ap (λ texts. scratch texts k) (sym agrees.units_are)
 
 pub none_in : (keys : List Key) (q : Key) → (0 < length keys → IsSome {T = Key} None) → list_any (is_at (key_cmp q)) keys ≡ false
 none_in [] q some = refl
@@ -36,9 +50,9 @@ take_fits s k q None true same ready fits =
     let at : k ≡ q = keys_equal k q same in
     let here : is_ready s q ≡ true = subst (λ x. is_ready s x ≡ true) at ready in
     let no : is_ready s q ≡ false = ap (λ b. b && not (s.out q)) fits.1 in cc
-take_fits s k q (Some it) true same ready fits = (fits.0, fits.1, ap (λ b. b || s.out q) same, fits.3, fits.4)
+take_fits s k q (Some it) true same ready fits = (fits.0, fits.1, ap (λ b. b || s.out q) same, fits.3)
 take_fits s k q None false same ready fits = (fits.0, fits.1, ap (λ b. b || s.out q) same ∙ fits.2)
-take_fits s k q (Some it) false same ready fits = (fits.0, fits.1, ap (λ b. b || s.out q) same ∙ fits.2, fits.3, fits.4)
+take_fits s k q (Some it) false same ready fits = (fits.0, fits.1, ap (λ b. b || s.out q) same ∙ fits.2, fits.3)
 
 and_not_true : (b : Bool) → (b && not true) ≡ false
 and_not_true true = refl
@@ -63,9 +77,9 @@ agrees_take units commits es fs rs ts ws s k agrees ready marked left = record {
 pub deliver_fits : (s : State) (k q : Key) (o : Option Entry) (v : Arc Value Global) (b : Bool) → same_key k q ≡ b → finding_of v.value ≡ scratch s.units k → EntryFits s q o → EntryFits (after_deliver Accepted k s) q (cond b (option_map (λ (it : Entry). record it { value = Some v; out = false }) o) o)
 deliver_fits s k q None v true same value fits = (fits.0, ap (λ b. not b && s.pending q) same, ap (λ b. not b && s.out q) same)
 deliver_fits s k q (Some it) v true same value fits =
-    (fits.0, ap (λ b. not b && s.pending q) same, ap (λ b. not b && s.out q) same, value ∙ ap (λ x. scratch s.units x) (keys_equal k q same), fits.4)
+    (fits.0, ap (λ b. not b && s.pending q) same, ap (λ b. not b && s.out q) same, value ∙ ap (λ x. scratch s.units x) (keys_equal k q same))
 deliver_fits s k q None v false same value fits = (fits.0, ap (λ b. not b && s.pending q) same ∙ fits.1, ap (λ b. not b && s.out q) same ∙ fits.2)
-deliver_fits s k q (Some it) v false same value fits = (fits.0, ap (λ b. not b && s.pending q) same ∙ fits.1, ap (λ b. not b && s.out q) same ∙ fits.2, fits.3, fits.4)
+deliver_fits s k q (Some it) v false same value fits = (fits.0, ap (λ b. not b && s.pending q) same ∙ fits.1, ap (λ b. not b && s.out q) same ∙ fits.2, fits.3)
 
 pub deliver_ready : (s : State) (k q : Key) (b now : Bool) → same_key k q ≡ b → now ≡ is_ready s q → cond b false now ≡ is_ready (after_deliver Accepted k s) q
 deliver_ready s k q true now same was = sym (ap (λ b. (not b && s.pending q) && not (not b && s.out q)) same)
@@ -111,9 +125,9 @@ returned s k = record s { out = removed s.out k }
 
 return_fits : (s : State) (k q : Key) (o : Option Entry) (b : Bool) → same_key k q ≡ b → EntryFits s q o → EntryFits (returned s k) q (cond b (option_map (λ (it : Entry). record it { out = false }) o) o)
 return_fits s k q None true same fits = (fits.0, fits.1, ap (λ b. not b && s.out q) same)
-return_fits s k q (Some it) true same fits = (fits.0, fits.1, ap (λ b. not b && s.out q) same, fits.3, fits.4)
+return_fits s k q (Some it) true same fits = (fits.0, fits.1, ap (λ b. not b && s.out q) same, fits.3)
 return_fits s k q None false same fits = (fits.0, fits.1, ap (λ b. not b && s.out q) same ∙ fits.2)
-return_fits s k q (Some it) false same fits = (fits.0, fits.1, ap (λ b. not b && s.out q) same ∙ fits.2, fits.3, fits.4)
+return_fits s k q (Some it) false same fits = (fits.0, fits.1, ap (λ b. not b && s.out q) same ∙ fits.2, fits.3)
 
 return_ready : (s : State) (k q : Key) (b now : Bool) → same_key k q ≡ b → s.pending k ≡ true → now ≡ is_ready s q → cond b true now ≡ is_ready (returned s k) q
 return_ready s k q true now same waits was =

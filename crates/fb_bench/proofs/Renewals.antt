@@ -1,5 +1,5 @@
 -- What is kept after a commit that is done, and after one that found no memory.
-use Rattle.std.proofs.Common.{◌≡◌, ℕ, Bool, true, false, ◌||◌, ◌&&◌, not, List, ◌++◌, map, filter, refl, sym, ap, ◌∙◌, subst, Option, Some, None, cond, is_none}
+use Rattle.std.proofs.Common.{◌≡◌, ℕ, Bool, true, false, ◌||◌, ◌&&◌, not, List, map, filter, refl, sym, ap, ◌∙◌, subst, Option, Some, None, cond, is_none}
 use Rattle.std.specs.List.{list_any}
 use Rattle.std.specs.BTreeMap as tree
 use Rattle.std.specs.BTreeSet as set
@@ -10,15 +10,18 @@ use Rattle.fb_jobs.specs.declared.key.Kind.{Kind}
 use Rattle.fb_jobs.specs.Keys.{has_key, has_kind_at, needs}
 use Rattle.fb_jobs.specs.KeyOrder.{key_cmp}
 use Rattle.fb_jobs.specs.Reads.{is_among}
+use Rattle.fb_jobs.proofs.SameNeeds.{has_key_local}
 use Rattle.fb_bench.specs.declared.entry.Entry.{Entry}
 use Rattle.fb_bench.specs.declared.renewal.Renewal.{Renewal}
 use Rattle.fb_text.specs.Order.{name_cmp}
 use Rattle.fb_bench.specs.Machine.{State, is_ready, after_done, reaches, all_keys}
 use Rattle.fb_bench.specs.Kept.{EntryFits, Agrees}
-use Rattle.fb_bench.specs.Renew.{is_of, is_hit, is_own, is_reached, is_fresh, is_renewed, keys_in, AreAfresh, WrittenIf, IsRenewal, HasRoom, IsTakenBack}
+use Rattle.fb_bench.specs.Renew.{is_of, waiting_if, is_own, is_fresh, is_renewed, IsRenewal, HasRoom, IsTakenBack}
+use Rattle.fb_bench.specs.declared.users.Users.{Users}
+use Rattle.fb_bench.specs.Users.{Covers, IsReach}
 use Rattle.fb_bench.proofs.Least.{at_name}
-use Rattle.fb_bench.proofs.Renewing.{of_filtered, of_both, held_all_edited, any_swap, NeedsLocal, ScratchLocal, afresh_fits, kept_fits, gone_fits}
-use Rattle.fb_bench.proofs.AfterCalls.{reach_same}
+use Rattle.fb_bench.proofs.Renewing.{of_filtered, held_all_edited, agree_unreached, any_swap, ScratchLocal, blank_fits, kept_fits, gone_fits}
+use Rattle.fb_bench.proofs.Reached.{reached_found}
 
 or_true : (b : Bool) → (b || true) ≡ true
 or_true true = refl
@@ -30,24 +33,26 @@ and_false false = refl
 
 -- ---- a key of no changed unit
 
-apart_of : (commit : ℕ) (es : List Edit) (T : Texts) (kind : Kind) (unit : List ℕ) (b : Bool) → is_among unit (map unit_of es) ≡ b → is_own es (record { kind = kind; unit = unit }) ≡ false → has_key (all_edited commit es T) (record { kind = kind; unit = unit }) ≡ has_key T (record { kind = kind; unit = unit })
+apart_of : (commit : ℕ) (es : List Edit) (T : Texts) (kind : Kind) (unit : List ℕ) (b : Bool) → is_among unit (map unit_of es) ≡ b → is_own (map unit_of es) (record { kind = kind; unit = unit }) ≡ false → has_key (all_edited commit es T) (record { kind = kind; unit = unit }) ≡ has_key T (record { kind = kind; unit = unit })
 unfolding has_key
-apart_of commit es T kind unit true among apart = let own : is_own es (record { kind = kind; unit = unit }) ≡ true = at_name kind unit (map unit_of es) among in cc
+apart_of commit es T kind unit true among apart = let own : is_own (map unit_of es) (record { kind = kind; unit = unit }) ≡ true = at_name kind unit (map unit_of es) among in cc
 apart_of commit es T kind unit false among apart = ap (λ o. has_kind_at kind (option_map text_in o)) (held_all_edited unit commit es T among)
 
 -- is there after the commit where it was before
-pub has_apart : (commit : ℕ) (es : List Edit) (T : Texts) (q : Key) → is_own es q ≡ false → has_key (all_edited commit es T) q ≡ has_key T q
+pub has_apart : (commit : ℕ) (es : List Edit) (T : Texts) (q : Key) → is_own (map unit_of es) q ≡ false → has_key (all_edited commit es T) q ≡ has_key T q
 has_apart commit es T q apart = apart_of commit es T q.kind q.unit _ refl apart
 
 -- ---- what is reached
 
-hit_bits : (commit : ℕ) (es : List Edit) (s : State) (q : Key) (o : Option Entry) → EntryFits s q o → is_hit (λ name. is_among name (map unit_of es)) o ≡ (has_key s.units q && reaches (map unit_of es) (all_edited commit es s.units) q)
-hit_bits commit es s q None fits = sym (ap (λ b. b && reaches (map unit_of es) (all_edited commit es s.units) q) fits.0)
-hit_bits commit es s q (Some it) fits =
-    ap (λ ns. list_any (λ n. is_among n (map unit_of es)) ns) fits.4
-    ∙ sym (any_swap (map unit_of es) (needs s.units q))
-    ∙ reach_same (map unit_of es) s.units (all_edited commit es s.units) q (λ name apart. ap (option_map text_in) (sym (held_all_edited name commit es s.units apart)))
-    ∙ sym (ap (λ b. b && reaches (map unit_of es) (all_edited commit es s.units) q) fits.0)
+-- a key that the texts before don't have is reached
+new_reached : (commit : ℕ) (es : List Edit) (T : Texts) (q : Key) → has_key (all_edited commit es T) q ≡ true → has_key T q ≡ false → reaches (map unit_of es) (all_edited commit es T) q ≡ true
+new_reached commit es T q has had = by _ refl
+  where
+    by : (b : Bool) → reaches (map unit_of es) (all_edited commit es T) q ≡ b → reaches (map unit_of es) (all_edited commit es T) q ≡ true
+    by true reached = reached
+    by false missed =
+        let same : has_key T q ≡ has_key (all_edited commit es T) q = has_key_local (all_edited commit es T) T q (agree_unreached commit es T q missed) in
+        let no : false ≡ true = sym had ∙ same ∙ has in cc
 
 none_bits : (s : State) (q : Key) (o : Option Entry) → EntryFits s q o → is_none o ≡ not (has_key s.units q)
 none_bits s q None fits = sym (ap (λ b. not b) fits.0)
@@ -58,9 +63,6 @@ none_bits s q (Some it) fits = sym (ap (λ b. not b) fits.0)
 abbrev fresh_of : Bool → Bool → Bool → Bool
 fresh_of h' h own = (own && h') && not h
 
-abbrev renewed_of : Bool → Bool → Bool → Bool → Bool
-renewed_of h' h own reach = ((h && reach) && h') || fresh_of h' h own
-
 some_there : (s : State) (q : Key) (o : Option Entry) → EntryFits s q o → has_key s.units q ≡ true → is_none o ≡ false
 some_there s q None fits has = let no : has_key s.units q ≡ false = fits.0 in cc
 some_there s q (Some it) fits has = refl
@@ -69,40 +71,39 @@ none_there : (s : State) (q : Key) (o : Option Entry) → EntryFits s q o → ha
 none_there s q None fits none = refl
 none_there s q (Some it) fits none = let has : has_key s.units q ≡ true = fits.0 in cc
 
-module _ (needs_law : NeedsLocal) (law : ScratchLocal) (commit : ℕ) (es : List Edit) (s : State) (q : Key) where
+module _ (law : ScratchLocal) (commit : ℕ) (es : List Edit) (s : State) (q : Key) where
   abbrev U : Texts
   U = all_edited commit es s.units
 
   abbrev D : List (List ℕ)
   D = map unit_of es
 
-  written_fits : (o1 o3 : Option Entry) → is_none o1 ≡ false → WrittenIf U q true o1 o3 → has_key U q ≡ true → (not (has_key s.units q) || reaches D U q) ≡ true → EntryFits (after_done commit es s) q o3
-  written_fits None o3 there written has new = cc
-  written_fits (Some it) None there written has new = absurd written
-  written_fits (Some it) (Some now) there written has new = afresh_fits commit es s q now has new written
+  renewed_fits : (o1 o3 : Option Entry) → is_none o1 ≡ false → o3 ≡ waiting_if true o1 → has_key U q ≡ true → (not (has_key s.units q) || reaches D U q) ≡ true → EntryFits (after_done commit es s) q o3
+  renewed_fits None o3 there renewed has new = cc
+  renewed_fits (Some it) o3 there renewed has new = subst (λ o. EntryFits (after_done commit es s) q o) (sym renewed) (blank_fits commit es s q has new)
 
   same_fits : (o : Option Entry) → EntryFits s q o → has_key U q ≡ true → has_key s.units q ≡ true → reaches D U q ≡ false → EntryFits (after_done commit es s) q o
   same_fits None fits has had missed = let no : has_key s.units q ≡ false = fits.0 in cc
-  same_fits (Some it) fits has had missed = kept_fits commit es s q it needs_law law has missed fits
+  same_fits (Some it) fits has had missed = kept_fits commit es s q it law has missed fits
 
   -- the entry of a key, where room was made and then all was written
-  each_fits : (o0 o1 o3 : Option Entry) (h' h own reach : Bool) → has_key U q ≡ h' → has_key s.units q ≡ h → reaches D U q ≡ reach → (own ≡ false → h' ≡ h) → EntryFits s q o0 → (fresh_of h' h own ≡ false → o1 ≡ o0) → (fresh_of h' h own ≡ true → is_none o1 ≡ false) → WrittenIf U q (renewed_of h' h own reach) (cond (own && not h') None o1) o3 → EntryFits (after_done commit es s) q o3
-  each_fits o0 o1 o3 true true true true has had reached apart fits others there written = written_fits o1 o3 (ap (λ (o : Option Entry). is_none o) (others refl) ∙ some_there s q o0 fits had) written has (ap (λ b. not (has_key s.units q) || b) reached ∙ or_true _)
-  each_fits o0 o1 o3 true true true false has had reached apart fits others there written = subst (λ o. EntryFits (after_done commit es s) q o) (sym (written ∙ others refl)) (same_fits o0 fits has had reached)
-  each_fits o0 o1 o3 true true false true has had reached apart fits others there written = written_fits o1 o3 (ap (λ (o : Option Entry). is_none o) (others refl) ∙ some_there s q o0 fits had) written has (ap (λ b. not (has_key s.units q) || b) reached ∙ or_true _)
-  each_fits o0 o1 o3 true true false false has had reached apart fits others there written = subst (λ o. EntryFits (after_done commit es s) q o) (sym (written ∙ others refl)) (same_fits o0 fits has had reached)
-  each_fits o0 o1 o3 true false true true has had reached apart fits others there written = written_fits o1 o3 (there refl) written has (ap (λ b. not b || reaches D U q) had)
-  each_fits o0 o1 o3 true false true false has had reached apart fits others there written = written_fits o1 o3 (there refl) written has (ap (λ b. not b || reaches D U q) had)
-  each_fits o0 o1 o3 true false false true has had reached apart fits others there written = let no : true ≡ false = apart refl in cc
-  each_fits o0 o1 o3 true false false false has had reached apart fits others there written = let no : true ≡ false = apart refl in cc
-  each_fits o0 o1 o3 false true true true has had reached apart fits others there written = subst (λ o. EntryFits (after_done commit es s) q o) (sym written) (gone_fits commit es s q has)
-  each_fits o0 o1 o3 false true true false has had reached apart fits others there written = subst (λ o. EntryFits (after_done commit es s) q o) (sym written) (gone_fits commit es s q has)
-  each_fits o0 o1 o3 false true false true has had reached apart fits others there written = let no : false ≡ true = apart refl in cc
-  each_fits o0 o1 o3 false true false false has had reached apart fits others there written = let no : false ≡ true = apart refl in cc
-  each_fits o0 o1 o3 false false true true has had reached apart fits others there written = subst (λ o. EntryFits (after_done commit es s) q o) (sym written) (gone_fits commit es s q has)
-  each_fits o0 o1 o3 false false true false has had reached apart fits others there written = subst (λ o. EntryFits (after_done commit es s) q o) (sym written) (gone_fits commit es s q has)
-  each_fits o0 o1 o3 false false false true has had reached apart fits others there written = subst (λ o. EntryFits (after_done commit es s) q o) (sym (written ∙ others refl ∙ none_there s q o0 fits had)) (gone_fits commit es s q has)
-  each_fits o0 o1 o3 false false false false has had reached apart fits others there written = subst (λ o. EntryFits (after_done commit es s) q o) (sym (written ∙ others refl ∙ none_there s q o0 fits had)) (gone_fits commit es s q has)
+  each_fits : (o0 o1 o3 : Option Entry) (h' h own reach : Bool) → has_key U q ≡ h' → has_key s.units q ≡ h → reaches D U q ≡ reach → (own ≡ false → h' ≡ h) → (h' ≡ true → h ≡ false → reach ≡ true) → EntryFits s q o0 → (fresh_of h' h own ≡ false → o1 ≡ o0) → (fresh_of h' h own ≡ true → is_none o1 ≡ false) → o3 ≡ waiting_if (h' && reach) (cond (own && not h') None o1) → EntryFits (after_done commit es s) q o3
+  each_fits o0 o1 o3 true true true true has had reached apart met fits others there written = renewed_fits o1 o3 (ap (λ (o : Option Entry). is_none o) (others refl) ∙ some_there s q o0 fits had) written has (ap (λ b. not (has_key s.units q) || b) reached ∙ or_true _)
+  each_fits o0 o1 o3 true true true false has had reached apart met fits others there written = subst (λ o. EntryFits (after_done commit es s) q o) (sym (written ∙ others refl)) (same_fits o0 fits has had reached)
+  each_fits o0 o1 o3 true true false true has had reached apart met fits others there written = renewed_fits o1 o3 (ap (λ (o : Option Entry). is_none o) (others refl) ∙ some_there s q o0 fits had) written has (ap (λ b. not (has_key s.units q) || b) reached ∙ or_true _)
+  each_fits o0 o1 o3 true true false false has had reached apart met fits others there written = subst (λ o. EntryFits (after_done commit es s) q o) (sym (written ∙ others refl)) (same_fits o0 fits has had reached)
+  each_fits o0 o1 o3 true false true true has had reached apart met fits others there written = renewed_fits o1 o3 (there refl) written has (ap (λ b. not b || reaches D U q) had)
+  each_fits o0 o1 o3 true false true false has had reached apart met fits others there written = let no : false ≡ true = met refl refl in cc
+  each_fits o0 o1 o3 true false false true has had reached apart met fits others there written = let no : true ≡ false = apart refl in cc
+  each_fits o0 o1 o3 true false false false has had reached apart met fits others there written = let no : true ≡ false = apart refl in cc
+  each_fits o0 o1 o3 false true true true has had reached apart met fits others there written = subst (λ o. EntryFits (after_done commit es s) q o) (sym written) (gone_fits commit es s q has)
+  each_fits o0 o1 o3 false true true false has had reached apart met fits others there written = subst (λ o. EntryFits (after_done commit es s) q o) (sym written) (gone_fits commit es s q has)
+  each_fits o0 o1 o3 false true false true has had reached apart met fits others there written = let no : false ≡ true = apart refl in cc
+  each_fits o0 o1 o3 false true false false has had reached apart met fits others there written = let no : false ≡ true = apart refl in cc
+  each_fits o0 o1 o3 false false true true has had reached apart met fits others there written = subst (λ o. EntryFits (after_done commit es s) q o) (sym written) (gone_fits commit es s q has)
+  each_fits o0 o1 o3 false false true false has had reached apart met fits others there written = subst (λ o. EntryFits (after_done commit es s) q o) (sym written) (gone_fits commit es s q has)
+  each_fits o0 o1 o3 false false false true has had reached apart met fits others there written = subst (λ o. EntryFits (after_done commit es s) q o) (sym (written ∙ others refl ∙ none_there s q o0 fits had)) (gone_fits commit es s q has)
+  each_fits o0 o1 o3 false false false false has had reached apart met fits others there written = subst (λ o. EntryFits (after_done commit es s) q o) (sym (written ∙ others refl ∙ none_there s q o0 fits had)) (gone_fits commit es s q has)
 
 -- ---- the marks
 
@@ -110,105 +111,105 @@ absent_pending : (s : State) (q : Key) (o : Option Entry) → EntryFits s q o �
 absent_pending s q None fits none = fits.1
 absent_pending s q (Some it) fits none = let has : has_key s.units q ≡ true = fits.0 in cc
 
-waits_bits : (h' h own reach p : Bool) → (own ≡ false → h' ≡ h) → (h ≡ false → p ≡ false) → cond (own && not h') false (renewed_of h' h own reach || p) ≡ (h' && ((p || not h) || reach))
-waits_bits true true true true true apart gone = refl
-waits_bits true true true true false apart gone = refl
-waits_bits true true true false true apart gone = refl
-waits_bits true true true false false apart gone = refl
-waits_bits true true false true true apart gone = refl
-waits_bits true true false true false apart gone = refl
-waits_bits true true false false true apart gone = refl
-waits_bits true true false false false apart gone = refl
-waits_bits true false true true true apart gone = let no : true ≡ false = gone refl in cc
-waits_bits true false true true false apart gone = refl
-waits_bits true false true false true apart gone = let no : true ≡ false = gone refl in cc
-waits_bits true false true false false apart gone = refl
-waits_bits true false false true true apart gone = let no : true ≡ false = apart refl in cc
-waits_bits true false false true false apart gone = let no : true ≡ false = apart refl in cc
-waits_bits true false false false true apart gone = let no : true ≡ false = apart refl in cc
-waits_bits true false false false false apart gone = let no : true ≡ false = apart refl in cc
-waits_bits false true true true true apart gone = refl
-waits_bits false true true true false apart gone = refl
-waits_bits false true true false true apart gone = refl
-waits_bits false true true false false apart gone = refl
-waits_bits false true false true true apart gone = let no : false ≡ true = apart refl in cc
-waits_bits false true false true false apart gone = let no : false ≡ true = apart refl in cc
-waits_bits false true false false true apart gone = let no : false ≡ true = apart refl in cc
-waits_bits false true false false false apart gone = let no : false ≡ true = apart refl in cc
-waits_bits false false true true true apart gone = let no : true ≡ false = gone refl in cc
-waits_bits false false true true false apart gone = refl
-waits_bits false false true false true apart gone = let no : true ≡ false = gone refl in cc
-waits_bits false false true false false apart gone = refl
-waits_bits false false false true true apart gone = let no : true ≡ false = gone refl in cc
-waits_bits false false false true false apart gone = refl
-waits_bits false false false false true apart gone = let no : true ≡ false = gone refl in cc
-waits_bits false false false false false apart gone = refl
+waits_bits : (h' h own reach p : Bool) → (own ≡ false → h' ≡ h) → (h' ≡ true → h ≡ false → reach ≡ true) → (h ≡ false → p ≡ false) → cond (own && not h') false ((h' && reach) || p) ≡ (h' && ((p || not h) || reach))
+waits_bits true true true true true apart met gone = refl
+waits_bits true true true true false apart met gone = refl
+waits_bits true true true false true apart met gone = refl
+waits_bits true true true false false apart met gone = refl
+waits_bits true true false true true apart met gone = refl
+waits_bits true true false true false apart met gone = refl
+waits_bits true true false false true apart met gone = refl
+waits_bits true true false false false apart met gone = refl
+waits_bits true false true true true apart met gone = let no : true ≡ false = gone refl in cc
+waits_bits true false true true false apart met gone = refl
+waits_bits true false true false true apart met gone = let no : false ≡ true = met refl refl in cc
+waits_bits true false true false false apart met gone = let no : false ≡ true = met refl refl in cc
+waits_bits true false false true true apart met gone = let no : true ≡ false = apart refl in cc
+waits_bits true false false true false apart met gone = let no : true ≡ false = apart refl in cc
+waits_bits true false false false true apart met gone = let no : true ≡ false = apart refl in cc
+waits_bits true false false false false apart met gone = let no : true ≡ false = apart refl in cc
+waits_bits false true true true true apart met gone = refl
+waits_bits false true true true false apart met gone = refl
+waits_bits false true true false true apart met gone = refl
+waits_bits false true true false false apart met gone = refl
+waits_bits false true false true true apart met gone = let no : false ≡ true = apart refl in cc
+waits_bits false true false true false apart met gone = let no : false ≡ true = apart refl in cc
+waits_bits false true false false true apart met gone = let no : false ≡ true = apart refl in cc
+waits_bits false true false false false apart met gone = let no : false ≡ true = apart refl in cc
+waits_bits false false true true true apart met gone = let no : true ≡ false = gone refl in cc
+waits_bits false false true true false apart met gone = refl
+waits_bits false false true false true apart met gone = let no : true ≡ false = gone refl in cc
+waits_bits false false true false false apart met gone = refl
+waits_bits false false false true true apart met gone = let no : true ≡ false = gone refl in cc
+waits_bits false false false true false apart met gone = refl
+waits_bits false false false false true apart met gone = let no : true ≡ false = gone refl in cc
+waits_bits false false false false false apart met gone = refl
 
-ready_bits : (h' h own reach p o : Bool) → (own ≡ false → h' ≡ h) → (h ≡ false → p ≡ false) → cond (own && not h') false (renewed_of h' h own reach || (p && not o)) ≡ ((h' && ((p || not h) || reach)) && not (((h' && h) && o) && not reach))
-ready_bits true true true true true true apart gone = refl
-ready_bits true true true true true false apart gone = refl
-ready_bits true true true true false true apart gone = refl
-ready_bits true true true true false false apart gone = refl
-ready_bits true true true false true true apart gone = refl
-ready_bits true true true false true false apart gone = refl
-ready_bits true true true false false true apart gone = refl
-ready_bits true true true false false false apart gone = refl
-ready_bits true true false true true true apart gone = refl
-ready_bits true true false true true false apart gone = refl
-ready_bits true true false true false true apart gone = refl
-ready_bits true true false true false false apart gone = refl
-ready_bits true true false false true true apart gone = refl
-ready_bits true true false false true false apart gone = refl
-ready_bits true true false false false true apart gone = refl
-ready_bits true true false false false false apart gone = refl
-ready_bits true false true true true true apart gone = let no : true ≡ false = gone refl in cc
-ready_bits true false true true true false apart gone = let no : true ≡ false = gone refl in cc
-ready_bits true false true true false true apart gone = refl
-ready_bits true false true true false false apart gone = refl
-ready_bits true false true false true true apart gone = let no : true ≡ false = gone refl in cc
-ready_bits true false true false true false apart gone = let no : true ≡ false = gone refl in cc
-ready_bits true false true false false true apart gone = refl
-ready_bits true false true false false false apart gone = refl
-ready_bits true false false true true true apart gone = let no : true ≡ false = apart refl in cc
-ready_bits true false false true true false apart gone = let no : true ≡ false = apart refl in cc
-ready_bits true false false true false true apart gone = let no : true ≡ false = apart refl in cc
-ready_bits true false false true false false apart gone = let no : true ≡ false = apart refl in cc
-ready_bits true false false false true true apart gone = let no : true ≡ false = apart refl in cc
-ready_bits true false false false true false apart gone = let no : true ≡ false = apart refl in cc
-ready_bits true false false false false true apart gone = let no : true ≡ false = apart refl in cc
-ready_bits true false false false false false apart gone = let no : true ≡ false = apart refl in cc
-ready_bits false true true true true true apart gone = refl
-ready_bits false true true true true false apart gone = refl
-ready_bits false true true true false true apart gone = refl
-ready_bits false true true true false false apart gone = refl
-ready_bits false true true false true true apart gone = refl
-ready_bits false true true false true false apart gone = refl
-ready_bits false true true false false true apart gone = refl
-ready_bits false true true false false false apart gone = refl
-ready_bits false true false true true true apart gone = let no : false ≡ true = apart refl in cc
-ready_bits false true false true true false apart gone = let no : false ≡ true = apart refl in cc
-ready_bits false true false true false true apart gone = let no : false ≡ true = apart refl in cc
-ready_bits false true false true false false apart gone = let no : false ≡ true = apart refl in cc
-ready_bits false true false false true true apart gone = let no : false ≡ true = apart refl in cc
-ready_bits false true false false true false apart gone = let no : false ≡ true = apart refl in cc
-ready_bits false true false false false true apart gone = let no : false ≡ true = apart refl in cc
-ready_bits false true false false false false apart gone = let no : false ≡ true = apart refl in cc
-ready_bits false false true true true true apart gone = let no : true ≡ false = gone refl in cc
-ready_bits false false true true true false apart gone = let no : true ≡ false = gone refl in cc
-ready_bits false false true true false true apart gone = refl
-ready_bits false false true true false false apart gone = refl
-ready_bits false false true false true true apart gone = let no : true ≡ false = gone refl in cc
-ready_bits false false true false true false apart gone = let no : true ≡ false = gone refl in cc
-ready_bits false false true false false true apart gone = refl
-ready_bits false false true false false false apart gone = refl
-ready_bits false false false true true true apart gone = let no : true ≡ false = gone refl in cc
-ready_bits false false false true true false apart gone = let no : true ≡ false = gone refl in cc
-ready_bits false false false true false true apart gone = refl
-ready_bits false false false true false false apart gone = refl
-ready_bits false false false false true true apart gone = let no : true ≡ false = gone refl in cc
-ready_bits false false false false true false apart gone = let no : true ≡ false = gone refl in cc
-ready_bits false false false false false true apart gone = refl
-ready_bits false false false false false false apart gone = refl
+ready_bits : (h' h own reach p o : Bool) → (own ≡ false → h' ≡ h) → (h' ≡ true → h ≡ false → reach ≡ true) → (h ≡ false → p ≡ false) → cond (own && not h') false ((h' && reach) || (p && not o)) ≡ ((h' && ((p || not h) || reach)) && not (((h' && h) && o) && not reach))
+ready_bits true true true true true true apart met gone = refl
+ready_bits true true true true true false apart met gone = refl
+ready_bits true true true true false true apart met gone = refl
+ready_bits true true true true false false apart met gone = refl
+ready_bits true true true false true true apart met gone = refl
+ready_bits true true true false true false apart met gone = refl
+ready_bits true true true false false true apart met gone = refl
+ready_bits true true true false false false apart met gone = refl
+ready_bits true true false true true true apart met gone = refl
+ready_bits true true false true true false apart met gone = refl
+ready_bits true true false true false true apart met gone = refl
+ready_bits true true false true false false apart met gone = refl
+ready_bits true true false false true true apart met gone = refl
+ready_bits true true false false true false apart met gone = refl
+ready_bits true true false false false true apart met gone = refl
+ready_bits true true false false false false apart met gone = refl
+ready_bits true false true true true true apart met gone = let no : true ≡ false = gone refl in cc
+ready_bits true false true true true false apart met gone = let no : true ≡ false = gone refl in cc
+ready_bits true false true true false true apart met gone = refl
+ready_bits true false true true false false apart met gone = refl
+ready_bits true false true false true true apart met gone = let no : false ≡ true = met refl refl in cc
+ready_bits true false true false true false apart met gone = let no : false ≡ true = met refl refl in cc
+ready_bits true false true false false true apart met gone = let no : false ≡ true = met refl refl in cc
+ready_bits true false true false false false apart met gone = let no : false ≡ true = met refl refl in cc
+ready_bits true false false true true true apart met gone = let no : true ≡ false = apart refl in cc
+ready_bits true false false true true false apart met gone = let no : true ≡ false = apart refl in cc
+ready_bits true false false true false true apart met gone = let no : true ≡ false = apart refl in cc
+ready_bits true false false true false false apart met gone = let no : true ≡ false = apart refl in cc
+ready_bits true false false false true true apart met gone = let no : true ≡ false = apart refl in cc
+ready_bits true false false false true false apart met gone = let no : true ≡ false = apart refl in cc
+ready_bits true false false false false true apart met gone = let no : true ≡ false = apart refl in cc
+ready_bits true false false false false false apart met gone = let no : true ≡ false = apart refl in cc
+ready_bits false true true true true true apart met gone = refl
+ready_bits false true true true true false apart met gone = refl
+ready_bits false true true true false true apart met gone = refl
+ready_bits false true true true false false apart met gone = refl
+ready_bits false true true false true true apart met gone = refl
+ready_bits false true true false true false apart met gone = refl
+ready_bits false true true false false true apart met gone = refl
+ready_bits false true true false false false apart met gone = refl
+ready_bits false true false true true true apart met gone = let no : false ≡ true = apart refl in cc
+ready_bits false true false true true false apart met gone = let no : false ≡ true = apart refl in cc
+ready_bits false true false true false true apart met gone = let no : false ≡ true = apart refl in cc
+ready_bits false true false true false false apart met gone = let no : false ≡ true = apart refl in cc
+ready_bits false true false false true true apart met gone = let no : false ≡ true = apart refl in cc
+ready_bits false true false false true false apart met gone = let no : false ≡ true = apart refl in cc
+ready_bits false true false false false true apart met gone = let no : false ≡ true = apart refl in cc
+ready_bits false true false false false false apart met gone = let no : false ≡ true = apart refl in cc
+ready_bits false false true true true true apart met gone = let no : true ≡ false = gone refl in cc
+ready_bits false false true true true false apart met gone = let no : true ≡ false = gone refl in cc
+ready_bits false false true true false true apart met gone = refl
+ready_bits false false true true false false apart met gone = refl
+ready_bits false false true false true true apart met gone = let no : true ≡ false = gone refl in cc
+ready_bits false false true false true false apart met gone = let no : true ≡ false = gone refl in cc
+ready_bits false false true false false true apart met gone = refl
+ready_bits false false true false false false apart met gone = refl
+ready_bits false false false true true true apart met gone = let no : true ≡ false = gone refl in cc
+ready_bits false false false true true false apart met gone = let no : true ≡ false = gone refl in cc
+ready_bits false false false true false true apart met gone = refl
+ready_bits false false false true false false apart met gone = refl
+ready_bits false false false false true true apart met gone = let no : true ≡ false = gone refl in cc
+ready_bits false false false false true false apart met gone = let no : true ≡ false = gone refl in cc
+ready_bits false false false false false true apart met gone = refl
+ready_bits false false false false false false apart met gone = refl
 
 -- a key that joins where it is not there, among those that are there
 joined_bits : (r was : Bool) → ((r && not was) || was) ≡ (r || was)
@@ -218,74 +219,78 @@ joined_bits false was = refl
 
 -- ---- all of it
 
-module _ (needs_law : NeedsLocal) (law : ScratchLocal) (commits : ℕ) (es : List Edit) (T : Texts) (s : State) (it : Renewal) where
+module _ (law : ScratchLocal) (commits : ℕ) (es : List Edit) (T : Texts) (s : State) (it : Renewal) where
   module _ (commit : ℕ) (old_entries room_entries new_entries : tree.BTreeMap Key Entry) (old_ready room_ready new_ready old_waiting room_waiting new_waiting : set.BTreeSet Key) where
     abbrev Done : Type 0
     Done = Agrees (all_edited commit es s.units) commit new_entries new_ready new_waiting (after_done commit es s)
 
-    module _ (agrees : Agrees T commits old_entries old_ready old_waiting s) (is : IsRenewal (all_edited commit es s.units) es old_entries old_ready old_waiting it) (room : HasRoom it old_entries room_entries old_ready room_ready old_waiting room_waiting) (q : Key) where
+    module _ (agrees : Agrees T commits old_entries old_ready old_waiting s) (is : IsRenewal (all_edited commit es s.units) (map unit_of es) old_entries old_ready old_waiting it) (room : HasRoom it old_entries room_entries old_ready room_ready old_waiting room_waiting) (q : Key) where
       abbrev units : Texts
       units = all_edited commit es s.units
 
-      fresh_is : is_fresh units es old_entries q ≡ fresh_of (has_key units q) (has_key s.units q) (is_own es q)
-      fresh_is = ap (λ b. (is_own es q && has_key units q) && b) (none_bits s q (tree.get key_cmp old_entries q) (agrees.each q))
+      fresh_is : is_fresh units (map unit_of es) old_entries q ≡ fresh_of (has_key units q) (has_key s.units q) (is_own (map unit_of es) q)
+      fresh_is = ap (λ b. (is_own (map unit_of es) q && has_key units q) && b) (none_bits s q (tree.get key_cmp old_entries q) (agrees.each q))
 
-      renewed_is : is_renewed units es old_entries q ≡ renewed_of (has_key units q) (has_key s.units q) (is_own es q) (reaches (map unit_of es) units q)
-      renewed_is = λ i. (hit_bits commit es s q (tree.get key_cmp old_entries q) (agrees.each q) i && has_key units q) || fresh_is i
+      met : has_key units q ≡ true → has_key s.units q ≡ false → reaches (map unit_of es) units q ≡ true
+      met = new_reached commit es s.units q
 
-      done_entry : WrittenIf units q (is_of q (keys_in it.renewed.items)) (cond (is_of q it.gone.items) None (tree.get key_cmp room_entries q)) (tree.get key_cmp new_entries q) → EntryFits (after_done commit es s) q (tree.get key_cmp new_entries q)
+      done_entry : tree.get key_cmp new_entries q ≡ waiting_if (is_of q it.renewed.items) (cond (is_of q it.gone.items) None (tree.get key_cmp room_entries q)) → EntryFits (after_done commit es s) q (tree.get key_cmp new_entries q)
       done_entry written =
-          each_fits needs_law law commit es s q (tree.get key_cmp old_entries q) (tree.get key_cmp room_entries q) (tree.get key_cmp new_entries q) (has_key units q) (has_key s.units q) (is_own es q) (reaches (map unit_of es) units q) refl refl refl (has_apart commit es s.units q) (agrees.each q)
+          each_fits law commit es s q (tree.get key_cmp old_entries q) (tree.get key_cmp room_entries q) (tree.get key_cmp new_entries q) (has_key units q) (has_key s.units q) (is_own (map unit_of es) q) (reaches (map unit_of es) units q) refl refl refl (has_apart commit es s.units q) met (agrees.each q)
           (λ none. room.others q (is.fresh_are q ∙ fresh_is ∙ none))
           (λ some. room.there q (is.fresh_are q ∙ fresh_is ∙ some))
-          (subst (λ b. WrittenIf units q b (cond (is_own es q && not (has_key units q)) None (tree.get key_cmp room_entries q)) (tree.get key_cmp new_entries q)) (is.renewed_are q ∙ renewed_is)
-          (subst (λ b. WrittenIf units q (is_of q (keys_in it.renewed.items)) (cond b None (tree.get key_cmp room_entries q)) (tree.get key_cmp new_entries q)) (is.gone_are q) written))
+          (written ∙ (λ i. waiting_if (is.renewed_are q i) (cond (is.gone_are q i) None (tree.get key_cmp room_entries q))))
 
       done_ready : set.contains key_cmp new_ready q ≡ cond (is_of q it.gone.items) false (set.contains key_cmp room_ready q) → set.contains key_cmp new_ready q ≡ is_ready (after_done commit es s) q
       done_ready left =
           left
-          ∙ (λ i. cond (is.gone_are q i) false ((room.readies q ∙ ap (λ b. b || set.contains key_cmp old_ready q) (is.unready_are q) ∙ joined_bits (is_renewed units es old_entries q) (set.contains key_cmp old_ready q)) i))
-          ∙ (λ i. cond (is_own es q && not (has_key units q)) false (renewed_is i || agrees.ready_are q i))
-          ∙ ready_bits (has_key units q) (has_key s.units q) (is_own es q) (reaches (map unit_of es) units q) (s.pending q) (s.out q) (has_apart commit es s.units q) (absent_pending s q (tree.get key_cmp old_entries q) (agrees.each q))
+          ∙ (λ i. cond (is.gone_are q i) false ((room.readies q ∙ ap (λ b. b || set.contains key_cmp old_ready q) (is.unready_are q) ∙ joined_bits (is_renewed units (map unit_of es) q) (set.contains key_cmp old_ready q)) i))
+          ∙ (λ i. cond (is_own (map unit_of es) q && not (has_key units q)) false (is_renewed units (map unit_of es) q || agrees.ready_are q i))
+          ∙ ready_bits (has_key units q) (has_key s.units q) (is_own (map unit_of es) q) (reaches (map unit_of es) units q) (s.pending q) (s.out q) (has_apart commit es s.units q) met (absent_pending s q (tree.get key_cmp old_entries q) (agrees.each q))
 
       done_waits : set.contains key_cmp new_waiting q ≡ cond (is_of q it.gone.items) false (set.contains key_cmp room_waiting q) → set.contains key_cmp new_waiting q ≡ (after_done commit es s).pending q
       done_waits left =
           left
-          ∙ (λ i. cond (is.gone_are q i) false ((room.waits q ∙ ap (λ b. b || set.contains key_cmp old_waiting q) (is.unwaiting_are q) ∙ joined_bits (is_renewed units es old_entries q) (set.contains key_cmp old_waiting q)) i))
-          ∙ (λ i. cond (is_own es q && not (has_key units q)) false (renewed_is i || agrees.waiting_are q i))
-          ∙ waits_bits (has_key units q) (has_key s.units q) (is_own es q) (reaches (map unit_of es) units q) (s.pending q) (has_apart commit es s.units q) (absent_pending s q (tree.get key_cmp old_entries q) (agrees.each q))
+          ∙ (λ i. cond (is.gone_are q i) false ((room.waits q ∙ ap (λ b. b || set.contains key_cmp old_waiting q) (is.unwaiting_are q) ∙ joined_bits (is_renewed units (map unit_of es) q) (set.contains key_cmp old_waiting q)) i))
+          ∙ (λ i. cond (is_own (map unit_of es) q && not (has_key units q)) false (is_renewed units (map unit_of es) q || agrees.waiting_are q i))
+          ∙ waits_bits (has_key units q) (has_key s.units q) (is_own (map unit_of es) q) (reaches (map unit_of es) units q) (s.pending q) (has_apart commit es s.units q) met (absent_pending s q (tree.get key_cmp old_entries q) (agrees.each q))
 
     -- what is kept agrees with the state after the commit
-    pub agrees_done : Agrees T commits old_entries old_ready old_waiting s → IsRenewal (all_edited commit es s.units) es old_entries old_ready old_waiting it → HasRoom it old_entries room_entries old_ready room_ready old_waiting room_waiting → ((texts : Texts) (q : Key) → AreAfresh texts it.renewed.items → WrittenIf texts q (is_of q (keys_in it.renewed.items)) (cond (is_of q it.gone.items) None (tree.get key_cmp room_entries q)) (tree.get key_cmp new_entries q)) → ((q : Key) → set.contains key_cmp new_ready q ≡ cond (is_of q it.gone.items) false (set.contains key_cmp room_ready q)) → ((q : Key) → set.contains key_cmp new_waiting q ≡ cond (is_of q it.gone.items) false (set.contains key_cmp room_waiting q)) → Done
+    pub agrees_done : Agrees T commits old_entries old_ready old_waiting s → IsRenewal (all_edited commit es s.units) (map unit_of es) old_entries old_ready old_waiting it → HasRoom it old_entries room_entries old_ready room_ready old_waiting room_waiting → ((q : Key) → tree.get key_cmp new_entries q ≡ waiting_if (is_of q it.renewed.items) (cond (is_of q it.gone.items) None (tree.get key_cmp room_entries q))) → ((q : Key) → set.contains key_cmp new_ready q ≡ cond (is_of q it.gone.items) false (set.contains key_cmp room_ready q)) → ((q : Key) → set.contains key_cmp new_waiting q ≡ cond (is_of q it.gone.items) false (set.contains key_cmp room_waiting q)) → Done
     agrees_done agrees is room written ready waits = record {
       units_are = refl;
       commits_are = refl;
-      each = λ q. done_entry agrees is room q (written (all_edited commit es s.units) q is.afresh);
+      each = λ q. done_entry agrees is room q (written q);
       ready_are = λ q. done_ready agrees is room q (ready q);
       waiting_are = λ q. done_waits agrees is room q (waits q);
     }
 
 -- ---- what is found
 
-module _ (U : Texts) (edits : List Edit) (old_entries : tree.BTreeMap Key Entry) (old_ready old_waiting : set.BTreeSet Key) (it : Renewal) (own present hit kept all : List Key) (changed : set.BTreeSet (List ℕ)) where
-  pub found : own ≡ all_keys (map unit_of edits) → present ≡ filter (has_key U) own → it.fresh.items ≡ filter (λ k. is_none (tree.get key_cmp old_entries k)) present → it.gone.items ≡ filter (λ k. not (has_key U k)) own → ((n : List ℕ) → set.contains name_cmp changed n ≡ is_among n (map unit_of edits)) → ((q : Key) → is_of q hit ≡ is_hit (set.contains name_cmp changed) (tree.get key_cmp old_entries q)) → kept ≡ filter (has_key U) hit → all ≡ kept ++ it.fresh.items → keys_in it.renewed.items ≡ all → AreAfresh U it.renewed.items → it.unready.items ≡ filter (λ k. not (set.contains key_cmp old_ready k)) all → it.unwaiting.items ≡ filter (λ k. not (set.contains key_cmp old_waiting k)) all → IsRenewal U edits old_entries old_ready old_waiting it
-  found own_is present_is fresh_is gone_is changed_is hit_is kept_is all_is renewed_is afresh unready_is unwaiting_is =
-      let owns : (q : Key) → is_of q own ≡ is_own edits q = λ q. ap (λ ks. is_of q ks) own_is in
-      let freshes : (q : Key) → is_of q it.fresh.items ≡ is_fresh U edits old_entries q = λ q.
-      ap (λ ks. is_of q ks) fresh_is ∙ of_filtered (λ k. is_none (tree.get key_cmp old_entries k)) q present
-      ∙ ap (λ b. b && is_none (tree.get key_cmp old_entries q)) (ap (λ ks. is_of q ks) present_is ∙ of_filtered (has_key U) q own ∙ ap (λ b. b && has_key U q) (owns q)) in
-      let hits : (q : Key) → is_of q kept ≡ (is_reached edits old_entries q && has_key U q) = λ q.
-      ap (λ ks. is_of q ks) kept_is ∙ of_filtered (has_key U) q hit
-      ∙ ap (λ b. b && has_key U q) (hit_is q ∙ (λ i. is_hit (λ n. changed_is n i) (tree.get key_cmp old_entries q))) in
-      let alls : (q : Key) → is_of q all ≡ is_renewed U edits old_entries q = λ q.
-      ap (λ ks. is_of q ks) all_is ∙ of_both q kept it.fresh.items ∙ (λ i. hits q i || freshes q i) in
+and_found : (a h r : Bool) → (r ≡ true → a ≡ true) → ((a && h) && r) ≡ (h && r)
+and_found true h r found = refl
+and_found false true true found = found refl
+and_found false true false found = refl
+and_found false false r found = refl
+
+module _ (U : Texts) (users : Users) (names near : List (List ℕ)) (old_entries : tree.BTreeMap Key Entry) (old_ready old_waiting : set.BTreeSet Key) (it : Renewal) (own present keys reachable : List Key) (changed : set.BTreeSet (List ℕ)) where
+  pub found : Covers users U → IsReach users names near → own ≡ all_keys names → present ≡ filter (has_key U) own → it.fresh.items ≡ filter (λ k. is_none (tree.get key_cmp old_entries k)) present → it.gone.items ≡ filter (λ k. not (has_key U k)) own → ((n : List ℕ) → set.contains name_cmp changed n ≡ is_among n names) → keys ≡ all_keys near → reachable ≡ filter (has_key U) keys → it.renewed.items ≡ filter (λ k. list_any (set.contains name_cmp changed) (needs U k)) reachable → it.unready.items ≡ filter (λ k. not (set.contains key_cmp old_ready k)) it.renewed.items → it.unwaiting.items ≡ filter (λ k. not (set.contains key_cmp old_waiting k)) it.renewed.items → IsRenewal U names old_entries old_ready old_waiting it
+  found covers reach own_is present_is fresh_is gone_is changed_is keys_are reachable_is renewed_is unready_is unwaiting_is =
+      let owns : (q : Key) → is_of q own ≡ is_own names q = λ q. ap (λ ks. is_of q ks) own_is in
+      let meets : (q : Key) → list_any (set.contains name_cmp changed) (needs U q) ≡ reaches names U q = λ q.
+      (λ i. list_any (λ n. changed_is n i) (needs U q)) ∙ sym (any_swap names (needs U q)) in
+      let alls : (q : Key) → is_of q it.renewed.items ≡ is_renewed U names q = λ q.
+      ap (λ ks. is_of q ks) renewed_is ∙ of_filtered (λ k. list_any (set.contains name_cmp changed) (needs U k)) q reachable
+      ∙ (λ i. (ap (λ ks. is_of q ks) (reachable_is ∙ ap (filter (has_key U)) keys_are) ∙ of_filtered (has_key U) q (all_keys near)) i && meets q i)
+      ∙ and_found (is_of q (all_keys near)) (has_key U q) (reaches names U q) (λ reached. at_name q.kind q.unit near (reached_found users U covers names near reach q reached)) in
       record {
-        fresh_are = freshes;
+        fresh_are = λ q.
+            ap (λ ks. is_of q ks) fresh_is ∙ of_filtered (λ k. is_none (tree.get key_cmp old_entries k)) q present
+            ∙ ap (λ b. b && is_none (tree.get key_cmp old_entries q)) (ap (λ ks. is_of q ks) present_is ∙ of_filtered (has_key U) q own ∙ ap (λ b. b && has_key U q) (owns q));
         gone_are = λ q. ap (λ ks. is_of q ks) gone_is ∙ of_filtered (λ k. not (has_key U k)) q own ∙ ap (λ b. b && not (has_key U q)) (owns q);
-        renewed_are = λ q. ap (λ ks. is_of q ks) renewed_is ∙ alls q;
-        unready_are = λ q. ap (λ ks. is_of q ks) unready_is ∙ of_filtered (λ k. not (set.contains key_cmp old_ready k)) q all ∙ ap (λ b. b && not (set.contains key_cmp old_ready q)) (alls q);
-        unwaiting_are = λ q. ap (λ ks. is_of q ks) unwaiting_is ∙ of_filtered (λ k. not (set.contains key_cmp old_waiting k)) q all ∙ ap (λ b. b && not (set.contains key_cmp old_waiting q)) (alls q);
-        afresh = afresh;
+        renewed_are = alls;
+        unready_are = λ q. ap (λ ks. is_of q ks) unready_is ∙ of_filtered (λ k. not (set.contains key_cmp old_ready k)) q it.renewed.items ∙ ap (λ b. b && not (set.contains key_cmp old_ready q)) (alls q);
+        unwaiting_are = λ q. ap (λ ks. is_of q ks) unwaiting_is ∙ of_filtered (λ k. not (set.contains key_cmp old_waiting k)) q it.renewed.items ∙ ap (λ b. b && not (set.contains key_cmp old_waiting q)) (alls q);
       }
 
 -- ---- where there was no memory
@@ -302,13 +307,13 @@ back_mark r true false is = refl
 back_mark r false was is = refl
 
 -- all is as it was
-pub agrees_back : (T U : Texts) (commits : ℕ) (es : List Edit) (old_entries room_entries : tree.BTreeMap Key Entry) (old_ready room_ready old_waiting room_waiting : set.BTreeSet Key) (s : State) (it : Renewal) → Agrees T commits old_entries old_ready old_waiting s → IsRenewal U es old_entries old_ready old_waiting it → IsTakenBack it old_entries room_entries old_ready room_ready old_waiting room_waiting → Agrees T commits room_entries room_ready room_waiting s
-agrees_back T U commits es old_entries room_entries old_ready room_ready old_waiting room_waiting s it agrees is back = record {
+pub agrees_back : (T U : Texts) (commits : ℕ) (names : List (List ℕ)) (old_entries room_entries : tree.BTreeMap Key Entry) (old_ready room_ready old_waiting room_waiting : set.BTreeSet Key) (s : State) (it : Renewal) → Agrees T commits old_entries old_ready old_waiting s → IsRenewal U names old_entries old_ready old_waiting it → IsTakenBack it old_entries room_entries old_ready room_ready old_waiting room_waiting → Agrees T commits room_entries room_ready room_waiting s
+agrees_back T U commits names old_entries room_entries old_ready room_ready old_waiting room_waiting s it agrees is back = record {
   units_are = agrees.units_are;
   commits_are = agrees.commits_are;
-  each = λ q. subst (λ o. EntryFits s q o) (sym (back.entries q ∙ back_entry (is_own es q && has_key U q) (is_of q it.fresh.items) (tree.get key_cmp old_entries q) (is.fresh_are q))) (agrees.each q);
-  ready_are = λ q. back.readies q ∙ back_mark (is_renewed U es old_entries q) (is_of q it.unready.items) (set.contains key_cmp old_ready q) (is.unready_are q) ∙ agrees.ready_are q;
-  waiting_are = λ q. back.waits q ∙ back_mark (is_renewed U es old_entries q) (is_of q it.unwaiting.items) (set.contains key_cmp old_waiting q) (is.unwaiting_are q) ∙ agrees.waiting_are q;
+  each = λ q. subst (λ o. EntryFits s q o) (sym (back.entries q ∙ back_entry (is_own names q && has_key U q) (is_of q it.fresh.items) (tree.get key_cmp old_entries q) (is.fresh_are q))) (agrees.each q);
+  ready_are = λ q. back.readies q ∙ back_mark (is_renewed U names q) (is_of q it.unready.items) (set.contains key_cmp old_ready q) (is.unready_are q) ∙ agrees.ready_are q;
+  waiting_are = λ q. back.waits q ∙ back_mark (is_renewed U names q) (is_of q it.unwaiting.items) (set.contains key_cmp old_waiting q) (is.unwaiting_are q) ∙ agrees.waiting_are q;
 }
 
 room_entry : (b : Bool) (o1 o0 : Option Entry) → (b ≡ false → o1 ≡ o0) → cond b None o1 ≡ cond b None o0

@@ -1,10 +1,9 @@
 -- The entries after a commit.
-use Rattle.std.proofs.Common.{◌≡◌, ℕ, Bool, true, false, ◌||◌, ◌&&◌, not, List, [], ◌∷◌, ◌++◌, map, filter, refl, sym, ap, ◌∙◌, subst, Option, Some, None, cond, is_none}
-use Rattle.std.specs.List.{list_any, AllByRecursion}
-use Rattle.std.specs.List.Sorted.{IsStrictlySortedBy}
-use Rattle.std.specs.Map.{lookup, remove_entry}
+use Rattle.std.proofs.Common.{◌≡◌, ℕ, Bool, true, false, ◌||◌, ◌&&◌, not, List, [], ◌∷◌, ◌++◌, map, filter, refl, sym, ap, ◌∙◌, subst, Option, Some, None, cond}
+use Rattle.std.specs.List.{list_any}
+use Rattle.std.specs.Map.{remove_entry}
 use Rattle.std.specs.BTreeMap.{is_at, insert_entry}
-use Rattle.std.specs.Ordering.{is_eq, match_ordering}
+use Rattle.std.specs.Ordering.{match_ordering}
 use Rattle.std.specs.declared.sync.Arc.{Arc}
 use Rattle.std.specs.declared.alloc.Global.{Global}
 use Rattle.std.specs.declared.cmp.Ordering.TheVariants.{Less, Equal, Greater}
@@ -17,12 +16,12 @@ use Rattle.fb_text.specs.Order.{name_cmp}
 use Rattle.fb_jobs.specs.declared.key.Key.{Key}
 use Rattle.fb_jobs.specs.declared.value.Value.{Value}
 use Rattle.fb_jobs.specs.Keys.{has_key, needs, scratch}
-use Rattle.fb_jobs.specs.KeyOrder.{key_cmp, same_key}
+use Rattle.fb_jobs.specs.KeyOrder.{same_key}
 use Rattle.fb_jobs.specs.Reads.{is_among, Agree}
 use Rattle.fb_bench.specs.declared.entry.Entry.{Entry}
 use Rattle.fb_bench.specs.Machine.{State, after_done, reaches}
 use Rattle.fb_bench.specs.Kept.{EntryFits, IsScratch}
-use Rattle.fb_bench.specs.Renew.{is_of, is_hit, IsAfresh}
+use Rattle.fb_bench.specs.Renew.{is_of, blank}
 use Rattle.fb_bench.proofs.Order.{key_total, keys_equal, is_equal}
 
 -- ---- names that are not changed
@@ -119,39 +118,7 @@ pub of_filtered : (p : Key → Bool) (q : Key) (ks : List Key) → is_of q (filt
 of_filtered p q [] = refl
 of_filtered p q (k ∷ ks) = of_one p q k ks (same_key q k) (p k) refl refl (of_filtered p q ks)
 
--- ---- which entries are reached
-
-module _ (P : List ℕ → Bool) where
-  abbrev pub hit_in : List (Key × Entry) → List Key
-  hit_in es = map (λ e. e.0) (filter (λ e. list_any P e.1.needs.items) es)
-
-  none_after : (q : Key) (es : List (Key × Entry)) → AllByRecursion (λ k. key_cmp q k ≡ Less) (map (λ e. e.0) es) → is_of q (hit_in es) ≡ false
-  none_after q [] above = refl
-  none_after q (e ∷ es) above =
-      elim (list_any P e.1.needs.items) as (λ b. is_of q (map (λ x. x.0) (cond b (e ∷ filter (λ x. list_any P x.1.needs.items) es) (filter (λ x. list_any P x.1.needs.items) es))) ≡ false) [
-        | true ↦ ap (λ o. is_eq o || is_of q (hit_in es)) above.0 ∙ none_after q es above.1
-        | false ↦ none_after q es above.1
-      ]
-
-  hit_one : (q : Key) (e : Key × Entry) (es : List (Key × Entry)) (same hit : Bool) → same_key q e.0 ≡ same → list_any P e.1.needs.items ≡ hit → AllByRecursion (λ k. key_cmp e.0 k ≡ Less) (map (λ x. x.0) es) → is_of q (hit_in es) ≡ is_hit P (lookup (is_at (key_cmp q)) es) → is_of q (map (λ x. x.0) (cond hit (e ∷ filter (λ x. list_any P x.1.needs.items) es) (filter (λ x. list_any P x.1.needs.items) es))) ≡ is_hit P (cond same (Some e.1) (lookup (is_at (key_cmp q)) es))
-  hit_one q e es true true at hits above rest = ap (λ b. b || is_of q (hit_in es)) at ∙ sym hits
-  hit_one q e es true false at hits above rest = none_after q es (subst (λ k. AllByRecursion (λ x. key_cmp k x ≡ Less) (map (λ x. x.0) es)) (sym (keys_equal q e.0 at)) above) ∙ sym hits
-  hit_one q e es false true at hits above rest = ap (λ b. b || is_of q (hit_in es)) at ∙ rest
-  hit_one q e es false false at hits above rest = rest
-
-  -- a key is among them where what it has is hit
-  pub hit_is : (q : Key) (es : List (Key × Entry)) → IsStrictlySortedBy key_cmp (map (λ e. e.0) es) → is_of q (hit_in es) ≡ is_hit P (lookup (is_at (key_cmp q)) es)
-  unfolding IsStrictlySortedBy
-  hit_is q [] rise = refl
-  hit_is q (e ∷ es) rise = hit_one q e es (same_key q e.0) (list_any P e.1.needs.items) refl refl rise.0 (hit_is q es rise.1)
-
-nothing_after : (keys : List Key) → keys ≡ keys ++ []
-nothing_after [] = refl
-nothing_after (key ∷ keys) = ap (λ ks. key ∷ ks) (nothing_after keys)
-
--- nothing is left
-pub hit_all : (P : List ℕ → Bool) (keys : List Key) (rest es : List (Key × Entry)) → rest ≡ [] → keys ++ hit_in P rest ≡ hit_in P es → keys ≡ hit_in P es
-hit_all P keys rest es none all = nothing_after keys ∙ sym (ap (λ xs. keys ++ hit_in P xs) none) ∙ all
+-- ---- names among names
 
 any_none : {A : Type 0} (xs : List A) → list_any (λ x. false) xs ≡ false
 any_none [] = refl
@@ -181,13 +148,7 @@ kept_value : (T U : Texts) (k : Key) (value : Option (Arc Value Global)) → scr
 kept_value T U k None law was = tt
 kept_value T U k (Some v) law was = was ∙ law
 
-unscratched : (U : Texts) (k : Key) (new : Option (Arc Value Global)) → new ≡ None → (true ≡ is_none new) × IsScratch U k new
-unscratched U k new none = subst (λ o. (true ≡ is_none o) × IsScratch U k o) (sym none) (refl, tt)
-
--- the laws that texts which agree on a key's needs have the same needs and the same value
-abbrev pub NeedsLocal : Type 0
-NeedsLocal = (texts others : Texts) (key : Key) → Agree texts others (needs texts key) → needs others key ≡ needs texts key
-
+-- the law that texts which agree on a key's needs have the same value
 abbrev pub ScratchLocal : Type 0
 ScratchLocal = (texts others : Texts) (key : Key) → Agree texts others (needs texts key) → scratch others key ≡ scratch texts key
 
@@ -205,25 +166,22 @@ module _ (commit : ℕ) (es : List Edit) (s : State) (q : Key) where
   later = all_edited commit es s.units
 
   -- a new or a reached key
-  pub afresh_fits : (it : Entry) → has_key later q ≡ true → (not (has_key s.units q) || reaches (map unit_of es) later q) ≡ true → IsAfresh later q it → EntryFits (after_done commit es s) q (Some it)
-  afresh_fits it has new afresh =
-      let value = unscratched later q it.value afresh.0 in (
-        has,
-        (λ i. has i && ((s.pending q || not (has_key s.units q)) || reaches (map unit_of es) later q)) ∙ waits_bits (s.pending q) (has_key s.units q) (reaches (map unit_of es) later q) new ∙ value.0,
-        out_bits (has_key later q) (has_key s.units q) (s.out q) (reaches (map unit_of es) later q) new ∙ sym afresh.1,
-        value.1,
-        afresh.2,
-      )
+  pub blank_fits : has_key later q ≡ true → (not (has_key s.units q) || reaches (map unit_of es) later q) ≡ true → EntryFits (after_done commit es s) q (Some blank)
+  blank_fits has new = (
+    has,
+    (λ i. has i && ((s.pending q || not (has_key s.units q)) || reaches (map unit_of es) later q)) ∙ waits_bits (s.pending q) (has_key s.units q) (reaches (map unit_of es) later q) new,
+    out_bits (has_key later q) (has_key s.units q) (s.out q) (reaches (map unit_of es) later q) new,
+    tt,
+  )
 
   -- a key that is not reached
-  pub kept_fits : (it : Entry) → NeedsLocal → ScratchLocal → has_key later q ≡ true → reaches (map unit_of es) later q ≡ false → EntryFits s q (Some it) → EntryFits (after_done commit es s) q (Some it)
-  kept_fits it needs_law law has missed fits =
+  pub kept_fits : (it : Entry) → ScratchLocal → has_key later q ≡ true → reaches (map unit_of es) later q ≡ false → EntryFits s q (Some it) → EntryFits (after_done commit es s) q (Some it)
+  kept_fits it law has missed fits =
       let agree = agree_unreached commit es s.units q missed in (
         has,
         (λ i. has i && ((s.pending q || not (fits.0 i)) || missed i)) ∙ or_false _ ∙ or_false _ ∙ fits.1,
         (λ i. ((has i && fits.0 i) && s.out q) && not (missed i)) ∙ and_true _ ∙ fits.2,
         kept_value s.units later q it.value (law later s.units q agree) fits.3,
-        fits.4 ∙ needs_law later s.units q agree,
       )
 
   -- a key that the texts after the commit don't have

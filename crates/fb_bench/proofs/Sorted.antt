@@ -22,7 +22,7 @@ use Rattle.fb_bench.specs.declared.answers.Delivered.TheVariants.{Accepted, NoSu
 use Rattle.fb_bench.specs.declared.answers.GivenBack.{GivenBack}
 use Rattle.fb_bench.specs.declared.answers.GivenBack.TheVariants.{Returned, NothingOut}
 use Rattle.fb_bench.specs.Machine.{State, Call, ToCommit, ToTake, ToDeliver, ToGiveBack, ToAsk, commit_answer, after_commit, next, after_take, deliver_answer, after_deliver, give_back_answer, after_give_back, after, keys_of_kind, all_keys, keys_of}
-use Rattle.fb_bench.specs.Story.{Story, start, replay, calls_of, state_of}
+use Rattle.fb_bench.specs.Story.{Story, IsOrigin, opened, replay, calls_of, state_of}
 
 abbrev Rise : Texts → Type 0
 Rise texts = IsStrictlySortedBy name_cmp (names_of texts)
@@ -118,10 +118,6 @@ unfolding replay
 rise_replay s [] rise = rise
 rise_replay s (call ∷ calls) rise = rise_replay (after s call) calls (rise_after s call rise)
 
-rise_start : (most_units : ℕ) → Rise (start most_units).units
-unfolding IsStrictlySortedBy
-rise_start most_units = tt
-
 -- ---- the keys
 
 below_of_kind : (kind : Kind) (name : List ℕ) (names : List (List ℕ)) → AllByRecursion (λ other. name_cmp name other ≡ Less) names → AllByRecursion (λ other. key_cmp (record { kind = kind; unit = name }) other ≡ Less) (keys_of_kind names kind)
@@ -191,13 +187,13 @@ sorted_all names rise =
 keys_sorted : (texts : Texts) → Rise texts → IsStrictlySortedBy key_cmp (keys_of texts)
 keys_sorted texts rise = IsStrictlySortedBy-filter key_cmp (has_key texts) (all_keys (names_of texts)) (sorted_all (names_of texts) rise)
 
-rise_story : (story : Story) → Rise (state_of story).units
-rise_story story = rise_replay (start story.most_units) (calls_of story.log) (rise_start story.most_units)
+rise_story : (story : Story) → IsOrigin story.origin → Rise (state_of story).units
+rise_story story begins = rise_replay (opened story.origin) (calls_of story.log) begins.rise
 
 -- the keys of every workbench rise
-pub keys_rise : (story : Story) → IsStrictlySortedBy key_cmp (keys_of (state_of story).units)
-keys_rise story = keys_sorted (state_of story).units (rise_story story)
+pub keys_rise : (story : Story) → IsOrigin story.origin → IsStrictlySortedBy key_cmp (keys_of (state_of story).units)
+keys_rise story begins = keys_sorted (state_of story).units (rise_story story begins)
 
 -- and so they do after one more commit
-pub keys_rise_done : (commit : ℕ) (edits : List Edit) (story : Story) → IsStrictlySortedBy key_cmp (keys_of (all_edited commit edits (state_of story).units))
-keys_rise_done commit edits story = keys_sorted (all_edited commit edits (state_of story).units) (rise_all_edited commit edits (state_of story).units (rise_story story))
+pub keys_rise_done : (commit : ℕ) (edits : List Edit) (story : Story) → IsOrigin story.origin → IsStrictlySortedBy key_cmp (keys_of (all_edited commit edits (state_of story).units))
+keys_rise_done commit edits story begins = keys_sorted (all_edited commit edits (state_of story).units) (rise_all_edited commit edits (state_of story).units (rise_story story begins))

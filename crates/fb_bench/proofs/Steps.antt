@@ -11,8 +11,10 @@ use Rattle.fb_bench.specs.declared.entry.Entry.{Entry}
 use Rattle.fb_jobs.specs.Library.Texts.{Edit}
 use Rattle.fb_jobs.specs.Reads.{Order, Seen}
 use Rattle.fb_bench.specs.Machine.{keys_of, State, Call, Reply, after, reply, ToAsk, OfAsk, shown, ToTake, OfTake, taken, next, after_take, order_for, ToDeliver, OfDeliver, deliver_answer, after_deliver, ToGiveBack, OfGiveBack, give_back_answer, after_give_back, removed, ToCommit, OfCommit, commit_answer, after_commit}
-use Rattle.fb_bench.specs.Story.{Record, Log, Story, start, replay, replies, calls_of, state_of, recorded, logged, record_after, record_of, IsReplay}
+use Rattle.fb_bench.specs.Story.{Record, Log, Story, IsOrigin, opened, replay, replies, calls_of, state_of, recorded, logged, record_after, record_of, IsReplay}
 use Rattle.fb_bench.specs.Kept.{Agrees, IsKept}
+use Rattle.fb_bench.specs.declared.users.Users.{Users}
+use Rattle.fb_bench.specs.Users.{Covers}
 
 pub replay_more : (s : State) (calls : List Call) (call : Call) → replay s (calls ++ call ∷ []) ≡ after (replay s calls) call
 unfolding replay
@@ -34,34 +36,36 @@ replies_pushed (x ∷ xs) e = ap (λ rs. x.reply ∷ rs) (replies_pushed xs e)
 
 pub state_recorded : (story : Story) (caller : ℕ) (call : Call) → state_of (recorded story caller call) ≡ after (state_of story) call
 state_recorded story caller call =
-    ap (λ calls. replay (start story.most_units) calls) (calls_more story.log.records _) ∙ replay_more (start story.most_units) (calls_of story.log) call
+    ap (λ calls. replay (opened story.origin) calls) (calls_more story.log.records _) ∙ replay_more (opened story.origin) (calls_of story.log) call
 
 pub replayed_recorded : (story : Story) (caller : ℕ) (call : Call) → IsReplay story → IsReplay (recorded story caller call)
 replayed_recorded story caller call so_far =
-    ap (λ calls. replies (start story.most_units) calls) (calls_more story.log.records _)
-    ∙ replies_more (start story.most_units) (calls_of story.log) call
+    ap (λ calls. replies (opened story.origin) calls) (calls_more story.log.records _)
+    ∙ replies_more (opened story.origin) (calls_of story.log) call
     ∙ ap (λ rs. rs ++ reply (state_of story) call ∷ []) so_far
     ∙ sym (replies_pushed story.log.records _)
 
 -- what is kept after one more recorded call
-pub kept_recorded : (units : Texts) (commits : ℕ) (keys : List Key) (entries : tree.BTreeMap Key Entry) (ready waiting : set.BTreeSet Key) (story : Story) (caller : ℕ) (call : Call) (answer : Reply) → answer ≡ reply (state_of story) call → Agrees units commits entries ready waiting (after (state_of story) call) → IsReplay story → keys ≡ keys_of units → commits ≤ length story.log.records + 1 → IsKept units commits keys entries ready waiting (record { most_units = story.most_units; log = logged story.log caller call answer })
-kept_recorded units commits keys entries ready waiting story caller call answer same agrees so_far all few =
-    subst (λ a. IsKept units commits keys entries ready waiting (record { most_units = story.most_units; log = logged story.log caller call a })) (sym same)
+pub kept_recorded : (units : Texts) (commits : ℕ) (keys : List Key) (entries : tree.BTreeMap Key Entry) (ready waiting : set.BTreeSet Key) (users : Users) (story : Story) (caller : ℕ) (call : Call) (answer : Reply) → IsOrigin story.origin → answer ≡ reply (state_of story) call → Agrees units commits entries ready waiting (after (state_of story) call) → IsReplay story → keys ≡ keys_of units → Covers users units → commits ≤ length story.log.records + 1 → IsKept units commits keys entries ready waiting users (record { origin = story.origin; log = logged story.log caller call answer })
+kept_recorded units commits keys entries ready waiting users story caller call answer begins same agrees so_far all covers few =
+    subst (λ a. IsKept units commits keys entries ready waiting users (record { origin = story.origin; log = logged story.log caller call a })) (sym same)
     (record {
+      begins = begins;
       agrees = subst (λ s. Agrees units commits entries ready waiting s) (sym (state_recorded story caller call)) agrees;
       replayed = replayed_recorded story caller call so_far;
       keys_are = all;
+      covers = covers;
       few = simp length-append (omega arith);
     })
 
 -- the same, where the log is known by an equation
-pub kept_pushed : (units : Texts) (commits : ℕ) (keys : List Key) (entries : tree.BTreeMap Key Entry) (ready waiting : set.BTreeSet Key) (story : Story) (log : Log) (caller : ℕ) (call : Call) (answer : Reply) → log ≡ logged story.log caller call answer → answer ≡ reply (state_of story) call → Agrees units commits entries ready waiting (after (state_of story) call) → IsReplay story → keys ≡ keys_of units → commits ≤ length story.log.records + 1 → IsKept units commits keys entries ready waiting (record { most_units = story.most_units; log = log })
-kept_pushed units commits keys entries ready waiting story log caller call answer is same agrees so_far all few =
-    subst (λ l. IsKept units commits keys entries ready waiting (record { most_units = story.most_units; log = l })) (sym is) (kept_recorded units commits keys entries ready waiting story caller call answer same agrees so_far all few)
+pub kept_pushed : (units : Texts) (commits : ℕ) (keys : List Key) (entries : tree.BTreeMap Key Entry) (ready waiting : set.BTreeSet Key) (users : Users) (story : Story) (log : Log) (caller : ℕ) (call : Call) (answer : Reply) → IsOrigin story.origin → log ≡ logged story.log caller call answer → answer ≡ reply (state_of story) call → Agrees units commits entries ready waiting (after (state_of story) call) → IsReplay story → keys ≡ keys_of units → Covers users units → commits ≤ length story.log.records + 1 → IsKept units commits keys entries ready waiting users (record { origin = story.origin; log = log })
+kept_pushed units commits keys entries ready waiting users story log caller call answer begins is same agrees so_far all covers few =
+    subst (λ l. IsKept units commits keys entries ready waiting users (record { origin = story.origin; log = l })) (sym is) (kept_recorded units commits keys entries ready waiting users story caller call answer begins same agrees so_far all covers few)
 
-pub story_pushed : (story now : Story) (log : Log) (caller : ℕ) (call : Call) (answer : Reply) → story ≡ now → log ≡ logged story.log caller call answer → answer ≡ reply (state_of story) call → ◌≡◌ {A = Story} (record { most_units = story.most_units; log = log }) (recorded now caller call)
+pub story_pushed : (story now : Story) (log : Log) (caller : ℕ) (call : Call) (answer : Reply) → story ≡ now → log ≡ logged story.log caller call answer → answer ≡ reply (state_of story) call → ◌≡◌ {A = Story} (record { origin = story.origin; log = log }) (recorded now caller call)
 story_pushed story now log caller call answer known is same =
-    ap (λ l. record { most_units = story.most_units; log = l }) (is ∙ ap (λ a. logged story.log caller call a) same) ∙ ap (λ st. recorded st caller call) known
+    ap (λ l. record { origin = story.origin; log = l }) (is ∙ ap (λ a. logged story.log caller call a) same) ∙ ap (λ st. recorded st caller call) known
 
 pub reply_ask : (s : State) (key : Key) → reply s (ToAsk key) ≡ OfAsk (shown s key)
 unfolding reply

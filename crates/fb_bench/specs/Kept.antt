@@ -1,5 +1,6 @@
 -- What a workbench keeps beside its history agrees with where the history has led.
 use Rattle.std.specs.Prelude.{◌≡◌, ℕ, ◌≤◌, true, false, length, List, Option, Some, None, is_none}
+use Rattle.std.specs.Option.{option_map}
 use Rattle.std.specs.BTreeMap as tree
 use Rattle.std.specs.BTreeSet as set
 use Rattle.std.specs.declared.sync.Arc.{Arc}
@@ -7,22 +8,29 @@ use Rattle.std.specs.declared.alloc.Global.{Global}
 use Rattle.fb_jobs.specs.Library.Texts.{Texts}
 use Rattle.fb_jobs.specs.declared.key.Key.{Key}
 use Rattle.fb_jobs.specs.declared.value.Value.{Value}
-use Rattle.fb_jobs.specs.Keys.{has_key, needs, scratch}
+use Rattle.fb_jobs.specs.Keys.{Finding, has_key, scratch}
 use Rattle.fb_jobs.specs.KeyOrder.{key_cmp}
 use Rattle.fb_jobs.specs.Values.{finding_of}
 use Rattle.fb_bench.specs.Machine.{State, is_ready, keys_of}
-use Rattle.fb_bench.specs.Story.{Story, state_of, IsReplay}
+use Rattle.fb_bench.specs.Story.{Story, IsOrigin, state_of, IsReplay}
 use Rattle.fb_bench.specs.declared.entry.Entry.{Entry}
+use Rattle.fb_bench.specs.declared.users.Users.{Users}
+use Rattle.fb_bench.specs.Users.{Covers}
 
 -- a kept value is the key's value from scratch
 abbrev pub IsScratch : Texts → Key → Option (Arc Value Global) → Type 0
 IsScratch texts key None = Unit {0}
 IsScratch texts key (Some value) = finding_of value.value ≡ scratch texts key
 
--- an entry for each key of the texts, and for no other, with its marks, its value and the names that decide it
+-- the value that an entry keeps
+abbrev pub kept_in : Option Entry → Option Finding
+kept_in None = None
+kept_in (Some it) = option_map (λ value. finding_of value.value) it.value
+
+-- an entry for each key of the texts, and for no other, with its marks and its value
 abbrev pub EntryFits : State → Key → Option Entry → Type 0
 EntryFits state key None = (has_key state.units key ≡ false) × (state.pending key ≡ false) × (state.out key ≡ false)
-EntryFits state key (Some it) = (has_key state.units key ≡ true) × (state.pending key ≡ is_none it.value) × (state.out key ≡ it.out) × IsScratch state.units key it.value × (it.needs.items ≡ needs state.units key)
+EntryFits state key (Some it) = (has_key state.units key ≡ true) × (state.pending key ≡ is_none it.value) × (state.out key ≡ it.out) × IsScratch state.units key it.value
 
 -- what is kept agrees with a state
 pub record Agrees (units : Texts) (commits : ℕ) (entries : tree.BTreeMap Key Entry) (ready waiting : set.BTreeSet Key) (state : State) : Type 0 where
@@ -32,9 +40,11 @@ pub record Agrees (units : Texts) (commits : ℕ) (entries : tree.BTreeMap Key E
   pub ready_are : (key : Key) → set.contains key_cmp ready key ≡ is_ready state key
   pub waiting_are : (key : Key) → set.contains key_cmp waiting key ≡ state.pending key
 
--- and so does the history: each stored answer is the machine's
-pub record IsKept (units : Texts) (commits : ℕ) (keys : List Key) (entries : tree.BTreeMap Key Entry) (ready waiting : set.BTreeSet Key) (story : Story) : Type 0 where
+-- and so does the history: each stored answer is the machine's. The users are those that the texts have, and maybe more
+pub record IsKept (units : Texts) (commits : ℕ) (keys : List Key) (entries : tree.BTreeMap Key Entry) (ready waiting : set.BTreeSet Key) (users : Users) (story : Story) : Type 0 where
+  pub begins : IsOrigin story.origin
   pub agrees : Agrees units commits entries ready waiting (state_of story)
   pub replayed : IsReplay story
   pub keys_are : keys ≡ keys_of units
+  pub covers : Covers users units
   pub few : commits ≤ length story.log.records

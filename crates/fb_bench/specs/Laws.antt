@@ -11,8 +11,8 @@ use Rattle.fb_bench.specs.declared.answers.Delivered.TheVariants.{Accepted, NoSu
 use Rattle.fb_bench.specs.declared.answers.GivenBack.{GivenBack}
 use Rattle.fb_bench.specs.declared.answers.GivenBack.TheVariants.{Returned, NothingOut}
 use Rattle.fb_bench.specs.Machine.{Call, Reply, OfCommit, OfTake, OfDeliver, OfGiveBack, OfAsk, Shown, Finds, Waits, Unknown, shown}
-use Rattle.fb_bench.specs.Story.{start, replay}
-use Rattle.fb_bench.specs.Due.{due}
+use Rattle.fb_bench.specs.Story.{Origin, opened, replay}
+use Rattle.fb_bench.specs.Due.{due_from}
 
 abbrev pub refuses_commit : Committed → Bool
 refuses_commit (Done commit) = false
@@ -48,10 +48,10 @@ is_refusal (OfAsk shown) = refuses_question shown
 
 -- What is known of a key after some calls: nothing where the present texts don't have it; that it is pending while no current
 -- result has come since the last commit that made or reached it; otherwise the value of the present texts, from scratch.
-abbrev pub entry_after : ℕ → List Call → Key → Shown
-entry_after most_units calls key =
-    let texts = (replay (start most_units) calls).units in
-    if not (has_key texts key) then Unknown else (if due (start most_units) calls key then Waits else Finds (scratch texts key))
+abbrev pub entry_after : Origin → List Call → Key → Shown
+entry_after origin calls key =
+    let texts = (replay (opened origin) calls).units in
+    if not (has_key texts key) then Unknown else (if due_from (opened origin) calls key then Waits else Finds (scratch texts key))
 
 -- the texts are the same but for the changed names
 abbrev pub AgreeApartFrom : List (List ℕ) → Texts → Texts → Type 0

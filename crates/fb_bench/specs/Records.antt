@@ -1,10 +1,10 @@
 -- Records of the program as what they say.
-use Rattle.std.specs.Prelude.{List, map, take, Option, Some, None}
-use Rattle.fb_jobs.specs.Library.Texts.{Edit}
+use Rattle.std.specs.Prelude.{List, map, take, Option, Some, None, string_bytes}
+use Rattle.fb_jobs.specs.Library.Texts.{Edit, Puts, Removes}
 use Rattle.fb_jobs.specs.Library.declared.change.Change.{Change}
 use Rattle.fb_jobs.specs.Library.Changes.{edits_of}
 use Rattle.fb_jobs.specs.Reads.{Order}
-use Rattle.fb_jobs.specs.Values.{all_seen, finding_of}
+use Rattle.fb_jobs.specs.Values.{texts_seen, finding_of}
 use Rattle.fb_bench.specs.Machine as machine
 use Rattle.fb_bench.specs.Machine.{ToCommit, ToTake, ToDeliver, ToGiveBack, ToAsk, Shown, Finds, Waits, Unknown, OfCommit, OfTake, OfDeliver, OfGiveBack, OfAsk}
 use Rattle.fb_bench.specs.Story.{Record}
@@ -13,6 +13,8 @@ use Rattle.fb_bench.specs.declared.answers.Asked.TheVariants.{Value, Pending, No
 use Rattle.fb_bench.specs.declared.answers.Taken.{Taken}
 use Rattle.fb_bench.specs.declared.answers.Taken.TheVariants.{Job, Nothing}
 use Rattle.fb_bench.specs.declared.record.Wanted.{Wanted}
+use Rattle.fb_bench.specs.declared.record.TextChange.{TextChange}
+use Rattle.fb_bench.specs.declared.record.TextChange.TheVariants.{Put, Remove}
 use Rattle.fb_bench.specs.declared.record.Call.{Call}
 use Rattle.fb_bench.specs.declared.record.Call.TheVariants.{Commit, Take, Deliver, GiveBack, Ask}
 use Rattle.fb_bench.specs.declared.record.Reply.{Reply}
@@ -21,14 +23,21 @@ use Rattle.std.specs.declared.sync.Arc.{Arc}
 use Rattle.std.specs.declared.alloc.Global.{Global}
 
 abbrev pub order_of : Wanted → Order
-order_of it = record { key = it.key; reads = all_seen it.reads.items }
+order_of it = record { key = it.key; reads = texts_seen it.reads.value.items }
 
 abbrev pub order_in : Option Wanted → Option Order
 order_in None = None
 order_in (Some it) = Some (order_of it)
 
+abbrev pub text_edit : TextChange → Edit
+text_edit (Put unit base text) = Puts unit base (string_bytes text.value)
+text_edit (Remove unit base) = Removes unit base
+
+abbrev pub text_edits : List TextChange → List Edit
+text_edits changes = map text_edit changes
+
 abbrev pub call_of : Call → machine.Call
-call_of (Commit changes) = ToCommit (edits_of changes.items)
+call_of (Commit changes) = ToCommit (text_edits changes.items)
 call_of Take = ToTake
 call_of (Deliver it) = ToDeliver (order_of it)
 call_of (GiveBack key) = ToGiveBack key

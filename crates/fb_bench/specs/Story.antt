@@ -1,5 +1,12 @@
 -- A history of calls, and what it leads to.
 use Rattle.std.specs.Prelude.{◌≡◌, ℕ, ◌+◌, false, List, [], ◌∷◌, ◌++◌, map, ◌==◌, count_by, take, slice_get, Option, Some, None, zero, suc}
+use Rattle.std.specs.List.Sorted.{IsStrictlySortedBy}
+use Rattle.fb_text.specs.Order.{name_cmp}
+use Rattle.std.specs.List.{list_any}
+use Rattle.fb_jobs.specs.Library.Texts.{Texts, names_of}
+use Rattle.fb_jobs.specs.declared.key.Key.{Key}
+use Rattle.fb_jobs.specs.Keys.{has_key}
+use Rattle.fb_jobs.specs.KeyOrder.{same_key}
 use Rattle.fb_bench.specs.Machine.{State, Call, Reply, after, reply}
 
 -- one recorded call with its answer. `turn` counts the caller's calls up to this one
@@ -14,13 +21,37 @@ pub record Log : Type 0 where
   pub limit : ℕ
   pub records : List Record
 
--- a workbench: all else follows from its limits and its history
-pub record Story : Type 0 where
+-- what a history begins from: a state, with its keys that are pending and those that are handed out as lists
+pub record Origin : Type 0 where
   pub most_units : ℕ
-  pub log : Log
+  pub units : Texts
+  pub commits : ℕ
+  pub pending : List Key
+  pub out : List Key
 
-abbrev pub start : ℕ → State
-start most_units = record { most_units = most_units; units = []; commits = 0; pending = λ _. false; out = λ _. false }
+abbrev pub opened : Origin → State
+opened origin =
+    record {
+      most_units = origin.most_units;
+      units = origin.units;
+      commits = origin.commits;
+      pending = λ key. list_any (same_key key) origin.pending;
+      out = λ key. list_any (same_key key) origin.out;
+    }
+
+-- its texts stand by rising names, and no key is pending but theirs
+pub record IsOrigin (origin : Origin) : Type 0 where
+  pub rise : IsStrictlySortedBy name_cmp (names_of origin.units)
+  pub waiting : (key : Key) → has_key origin.units key ≡ false → (opened origin).pending key ≡ false
+
+-- no texts
+abbrev pub start : ℕ → Origin
+start most_units = record { most_units = most_units; units = []; commits = 0; pending = []; out = [] }
+
+-- a workbench: all else follows from what it begins from and its history
+pub record Story : Type 0 where
+  pub origin : Origin
+  pub log : Log
 
 -- the state after the calls
 unfoldable pub replay : State → List Call → State
@@ -58,13 +89,17 @@ record_after log caller call answer = record { caller = caller; turn = turns_of 
 abbrev pub logged : Log → ℕ → Call → Reply → Log
 logged log caller call answer = record { limit = log.limit; records = log.records ++ record_after log caller call answer ∷ [] }
 
+-- an empty workbench with these limits
+abbrev pub new_story : ℕ → ℕ → Story
+new_story most_units limit = record { origin = start most_units; log = record { limit = limit; records = [] } }
+
 -- where the history has led to
 abbrev pub state_of : Story → State
-state_of story = replay (start story.most_units) (calls_of story.log)
+state_of story = replay (opened story.origin) (calls_of story.log)
 
 -- the story with one more call, and the answer that the machine gives to it
 abbrev pub recorded : Story → ℕ → Call → Story
-recorded story caller call = record { most_units = story.most_units; log = logged story.log caller call (reply (state_of story) call) }
+recorded story caller call = record { origin = story.origin; log = logged story.log caller call (reply (state_of story) call) }
 
 -- the record that a call adds to the story
 abbrev pub record_of : Story → ℕ → Call → Record
@@ -72,4 +107,4 @@ record_of story caller call = record_after story.log caller call (reply (state_o
 
 -- each stored answer is the machine's at its place
 abbrev pub IsReplay : Story → Type 0
-IsReplay story = replies (start story.most_units) (calls_of story.log) ≡ replies_of story.log
+IsReplay story = replies (opened story.origin) (calls_of story.log) ≡ replies_of story.log

@@ -5,17 +5,18 @@ ghost use Rattle.fb_bench.specs.Records.{job_in};
 
 use crate::answers::{Answered, Asked, Committed, Delivered, GivenBack, Refused, Taken};
 use crate::commit::{first_changes, refusal};
-use crate::entry::{Entry, join, keep, leave, mark_out};
+use crate::entries::Entries;
+use crate::entry::{join, keep, leave, mark_out};
 use crate::limits::Limits;
 use crate::log::History;
 use crate::peek::Shown;
-use crate::record::{Call, Record, Reply, Request, Wanted};
-use crate::renewal::{Renewal, carry_out, make_room, replace, take_back};
+use crate::record::{Call, Record, Reply, Request, TextChange, Wanted};
+use crate::renewal::changed_units;
+use crate::users::Users;
 use fb_jobs::library::{Change, Library};
-use fb_jobs::{Finished, Job, Key, Read, Value, current_reads, locality};
+use fb_jobs::{Finished, Job, Key, Read, current_reads, locality};
 use fb_text::Name;
 use std::alloc::{AllocError, Global};
-use std::collections::{BTreeMap, BTreeSet};
 use std::marker::Model;
 use std::sync::Arc;
 
@@ -27,25 +28,20 @@ pub struct Bench {
     history: History,
     library: Library,
     commits: u64,
-    // the keys of the library, in order
-    keys: Vec<Key>,
-    entries: BTreeMap<Key, Entry>,
-    // the keys that are pending and not handed out
-    ready: BTreeSet<Key>,
-    // the keys that are pending
-    waiting: BTreeSet<Key>,
+    entries: Entries,
+    users: Users,
 }
 
 impl Model for Bench {
-    ghost use Rattle.fb_bench.specs.Story.{Story};
+    ghost use Rattle.fb_bench.specs.Story.{Story, start};
 
     ghost Value = { Story };
 
     ghost use Rattle.fb_bench.specs.Kept.{IsKept};
 
-    ghost view = { λ it. record { most_units = it.most_units; log = it.history } };
+    ghost view = { λ it. record { origin = start it.most_units; log = it.history } };
 
-    ghost invariant = { λ it. IsKept it.library it.commits it.keys.items it.entries it.ready it.waiting (record { most_units = it.most_units; log = it.history }) };
+    ghost invariant = { λ it. IsKept it.library it.commits it.entries.keys.items it.entries.by_key it.entries.ready it.entries.waiting it.users (record { origin = start it.most_units; log = it.history }) };
 }
 
 impl Bench {
@@ -55,7 +51,7 @@ impl Bench {
     ghost use Rattle.fb_jobs.specs.KeyOrder.{key_cmp};
     ghost use Rattle.fb_bench.specs.Machine.{Call, ToCommit, ToTake, ToDeliver, ToGiveBack, ToAsk, OfCommit, OfTake, OfDeliver, OfGiveBack, OfAsk, reply, shown, next, deliver_answer, keys_of};
     ghost use Rattle.fb_jobs.specs.Values.{all_seen};
-    ghost use Rattle.fb_bench.specs.Story.{Story, Log, state_of, recorded, record_of, record_at, calls_of, IsReplay, AreTurns};
+    ghost use Rattle.fb_bench.specs.Story.{Story, Log, IsOrigin, new_story, state_of, recorded, record_of, record_at, calls_of, IsReplay, AreTurns};
     ghost use Rattle.fb_bench.specs.Records.{shown_in, job_in, listed};
     ghost use Rattle.fb_bench.specs.Requests.{call_for, reply_in};
     ghost use Rattle.fb_bench.specs.Peeks.{shown_by, is_pending};
@@ -65,7 +61,7 @@ impl Bench {
 
     /// An empty workbench. It keeps the allocator for all its calls.
     pub fn new(alloc: Global, limits: Limits) -> Bench
-        ensures { result ≡ record { most_units = limits.units; log = record { limit = limits.history; records = [] } } }
+        ensures { result ≡ new_story limits.units limits.history }
     {
         Bench {
             alloc,
@@ -73,10 +69,8 @@ impl Bench {
             history: History::new(alloc, limits.history()),
             library: Library::new(alloc),
             commits: 0,
-            entries: BTreeMap::new(alloc),
-            ready: BTreeSet::new(alloc),
-            waiting: BTreeSet::new(alloc),
-            keys: Vec::new(alloc),
+            entries: Entries::new(alloc),
+            users: Users::new(alloc),
         }
     }
 
@@ -114,30 +108,29 @@ impl Bench {
     pub fn key_count(&self) -> usize
         ensures { result ≡ length (keys_of (state_of self.now).units) }
     {
-        self.keys.len()
+        self.entries.keys.len()
     }
 
     /// The key at a place, counted from 0, by kind and then by name.
-    #[tactic(auto, using(crate::proofs::Sorted::keys_rise))]
     pub fn key_at(&self, place: usize) -> Option<Key>
         ensures key { result ≡ slice_get (keys_of (state_of self.now).units) place }
         ensures ordered { IsStrictlySortedBy key_cmp (keys_of (state_of self.now).units) }
     {
-        self.keys.get(place).copied()
+        self.entries.keys.get(place).copied()
     }
 
     /// How many keys are pending.
     pub fn pending_count(&self) -> usize
         ensures { result ≡ count_by (state_of self.now).pending (keys_of (state_of self.now).units) }
     {
-        self.waiting.len()
+        self.entries.waiting.len()
     }
 
     // what is known of a key
     fn shown(&self, key: &Key) -> Result<Asked, AllocError>
         ensures { IfOk result (λ asked. shown_in asked ≡ shown (state_of self.now) key.now) }
     {
-        match self.entries.get(key) {
+        match self.entries.by_key.get(key) {
             None => Ok(Asked::NoSuchKey),
             Some(entry) => match &entry.value {
                 None => Ok(Asked::Pending),
@@ -182,15 +175,16 @@ impl Bench {
     pub fn peek(&self, key: &Key) -> Shown<'_>
         ensures shown { shown_by result ≡ shown (state_of self.now) key.now }
         ensures due { is_pending result ≡ is_due self.now key.now }
-        ensures entry { shown_by result ≡ entry_after self.now.most_units (calls_of self.now.log) key.now }
+        ensures entry { shown_by result ≡ entry_after self.now.origin (calls_of self.now.log) key.now }
     {
         self.lent(key)
     }
 
     fn lent(&self, key: &Key) -> Shown<'_>
-        ensures { shown_by result ≡ shown (state_of self.now) key.now }
+        ensures shown { shown_by result ≡ shown (state_of self.now) key.now }
+        ensures begins { IsOrigin self.now.origin }
     {
-        match self.entries.get(key) {
+        match self.entries.by_key.get(key) {
             None => Shown::NoSuchKey,
             Some(entry) => match &entry.value {
                 None => Shown::Pending,
@@ -210,7 +204,7 @@ impl Bench {
     fn next(&self) -> Option<Key>
         ensures { result ≡ next (state_of self.now) }
     {
-        match self.ready.first() {
+        match self.entries.ready.first() {
             Some(key) => Some(*key),
             None => None,
         }
@@ -245,16 +239,15 @@ impl Bench {
             }
             Some(key) => {
                 let wanted = key;
-                let job = Job::make(self.alloc, &self.library, wanted)?;
-                let reads = Read::copies(self.alloc, job.reads())?;
+                let job = Job::make(self.alloc, &self.library, wanted, &self.entries)?;
                 let wanted = Wanted {
                     key: job.key(),
-                    reads,
+                    reads: job.texts().clone()?,
                 };
                 let stored = Reply::Taking(Some(wanted));
                 let share = self.history.push(caller, Call::Take, stored)?;
-                mark_out(&mut self.entries, &key, true);
-                leave(&mut self.ready, &key);
+                mark_out(&mut self.entries.by_key, &key, true);
+                leave(&mut self.entries.ready, &key);
                 Ok((Taken::Job(job), share))
             }
         }
@@ -288,11 +281,11 @@ impl Bench {
             return Err(Refused::HistoryFull);
         }
         let changes = first_changes(changes);
-        let call = Call::Commit(Change::copies(self.alloc, changes)?);
+        let call = Call::Commit(TextChange::of_changes(self.alloc, changes)?);
         match refusal(&self.library, changes) {
             Some(refused) => {
-                let stored = refused;
-                let share = self.history.push(caller, call, Reply::Committing(stored))?;
+                let stored = Reply::Committing(refused);
+                let share = self.history.push(caller, call, stored)?;
                 Ok((refused, share))
             }
             None => {
@@ -303,44 +296,26 @@ impl Bench {
                     let share = self.history.push(caller, call, stored)?;
                     return Ok((Committed::TooManyUnits, share));
                 }
-                let renewal = Renewal::find(
-                    self.alloc,
-                    &library,
-                    changes,
-                    &self.entries,
-                    &self.ready,
-                    &self.waiting,
-                )?;
-                let keys = renewal.keys(self.alloc, &library)?;
-                make_room(
-                    self.alloc,
-                    &mut self.entries,
-                    &mut self.ready,
-                    &mut self.waiting,
-                    &renewal,
-                )?;
+                let units = changed_units(self.alloc, changes)?;
+                self.users.cover(self.alloc, &library, &units)?;
+                let renewal = self
+                    .entries
+                    .find(self.alloc, &self.users, &library, &units)?;
+                let keys = renewal.keys(self.alloc, &library, &self.entries.by_key)?;
+                self.entries.make_room(&renewal)?;
                 let stored = Reply::Committing(Committed::Done(number));
                 match self.history.push(caller, call, stored) {
                     Ok(share) => {
-                        carry_out(
-                            &mut self.entries,
-                            &mut self.ready,
-                            &mut self.waiting,
-                            renewal,
-                        );
-                        replace(&mut self.keys, keys);
+                        self.entries.carry_out(&renewal, keys);
+                        self.users
+                            .prune(self.alloc, &self.library, &library, &units);
                         self.library = library;
                         self.commits = number;
                         locality();
                         Ok((Committed::Done(number), share))
                     }
                     Err(_) => {
-                        take_back(
-                            &mut self.entries,
-                            &mut self.ready,
-                            &mut self.waiting,
-                            &renewal,
-                        );
+                        self.entries.take_back(&renewal);
                         Err(Refused::Memory)
                     }
                 }
@@ -375,10 +350,9 @@ impl Bench {
             return Err(Refused::HistoryFull);
         }
         let answer = self.judged(finished.key(), finished.reads());
-        let reads = Read::copies(self.alloc, finished.reads())?;
         let call = Call::Deliver(Wanted {
             key: finished.key(),
-            reads,
+            reads: finished.texts().clone()?,
         });
         match answer {
             Delivered::Accepted => {
@@ -387,9 +361,9 @@ impl Bench {
                     .history
                     .push(caller, call, Reply::Delivering(Delivered::Accepted))?;
                 let key = finished.key();
-                keep(&mut self.entries, &key, value);
-                leave(&mut self.ready, &key);
-                leave(&mut self.waiting, &key);
+                keep(&mut self.entries.by_key, &key, value);
+                leave(&mut self.entries.ready, &key);
+                leave(&mut self.entries.waiting, &key);
                 current_reads();
                 Ok((Delivered::Accepted, share))
             }
@@ -405,7 +379,7 @@ impl Bench {
     pub fn is_out(&self, key: &Key) -> bool
         ensures { result ≡ (state_of self.now).out key.now }
     {
-        match self.entries.get(key) {
+        match self.entries.by_key.get(key) {
             None => false,
             Some(entry) => entry.out,
         }
@@ -415,7 +389,7 @@ impl Bench {
     fn waits(&self, key: &Key) -> bool
         ensures { result ≡ (state_of self.now).pending key.now }
     {
-        match self.entries.get(key) {
+        match self.entries.by_key.get(key) {
             None => false,
             Some(entry) => entry.value.is_none(),
         }
@@ -458,20 +432,20 @@ impl Bench {
             let share = self
                 .history
                 .push(caller, call, Reply::GivingBack(GivenBack::Returned))?;
-            mark_out(&mut self.entries, &key, false);
+            mark_out(&mut self.entries.by_key, &key, false);
             return Ok((GivenBack::Returned, share));
         }
-        join(&mut self.ready, &key)?;
+        join(&mut self.entries.ready, &key)?;
         match self
             .history
             .push(caller, call, Reply::GivingBack(GivenBack::Returned))
         {
             Ok(share) => {
-                mark_out(&mut self.entries, &key, false);
+                mark_out(&mut self.entries.by_key, &key, false);
                 Ok((GivenBack::Returned, share))
             }
             Err(_) => {
-                leave(&mut self.ready, &key);
+                leave(&mut self.entries.ready, &key);
                 Err(Refused::Memory)
             }
         }
@@ -517,7 +491,7 @@ impl Bench {
     fn judged(&self, key: Key, reads: &[Read]) -> Delivered
         ensures { result ≡ deliver_answer (state_of self.now) (record { key = key; reads = all_seen reads.now }) }
     {
-        match self.entries.get(&key) {
+        match self.entries.by_key.get(&key) {
             None => Delivered::NoSuchKey,
             Some(entry) => {
                 if entry.value.is_some() {

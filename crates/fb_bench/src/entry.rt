@@ -1,33 +1,22 @@
-ghost use Rattle.std.specs.Prelude.{◌≡◌, ◌||◌, not, is_none, None, Some, true, false, List, ℕ, IfOk, OnOk, OnErr, if◌then◌else◌};
+ghost use Rattle.std.specs.Prelude.{◌≡◌, Some, true, false, OnOk, OnErr, if◌then◌else◌};
 ghost use Rattle.std.specs.Option.{option_map};
-ghost use Rattle.std.specs.List.{list_any};
 ghost use Rattle.std.specs.BTreeMap as tree;
 ghost use Rattle.std.specs.BTreeSet as set;
-ghost use Rattle.fb_text.specs.Order.{name_cmp};
 ghost use Rattle.fb_jobs.specs.declared.key.Key.{Key};
 ghost use Rattle.fb_jobs.specs.KeyOrder.{key_cmp, same_key};
 ghost use Rattle.fb_bench.specs.declared.entry.Entry.{Entry};
+ghost use Rattle.fb_bench.specs.Renew.{waiting_if};
 
 use fb_jobs::{Key, Value};
-use fb_text::Name;
 use std::alloc::AllocError;
 use std::collections::{BTreeMap, BTreeSet};
 use std::sync::Arc;
 
-/// What is kept of a key: the names whose texts decide its value, its value unless it is pending, and whether it is
-/// handed out.
+/// What is kept of a key: its value unless it is pending, and whether it is handed out.
 #[derive(Drop)]
 pub(crate) struct Entry {
-    pub(crate) needs: Vec<Name>,
     pub(crate) value: Option<Arc<Value>>,
     pub(crate) out: bool,
-}
-
-/// A key with the entry that it gets.
-#[derive(Drop)]
-pub(crate) struct Renewed {
-    pub(crate) key: Key,
-    pub(crate) entry: Entry,
 }
 
 /// Marks a key that has an entry as handed out or not.
@@ -45,6 +34,16 @@ pub(crate) fn keep(entries: &mut BTreeMap<Key, Entry>, key: &Key, value: Arc<Val
 {
     if let Some(entry) = entries.get_mut(key) {
         entry.value = Some(value);
+        entry.out = false;
+    }
+}
+
+/// Lets a key that has an entry wait for a result; the key is not handed out then.
+pub(crate) fn renew(entries: &mut BTreeMap<Key, Entry>, key: &Key)
+    ensures { (other : Key) → tree.get key_cmp entries.new other ≡ waiting_if (same_key key.now other) (tree.get key_cmp entries.old other) }
+{
+    if let Some(entry) = entries.get_mut(key) {
+        entry.value = None;
         entry.out = false;
     }
 }

@@ -2,14 +2,15 @@ ghost use Rattle.std.specs.Prelude.{◌≡◌, ℕ, true, List};
 ghost use Rattle.fb_jobs.specs.Library.Texts.{Texts};
 ghost use Rattle.fb_jobs.specs.declared.key.Key.{Key};
 ghost use Rattle.fb_bench.specs.Machine.{State, Call, reply, after, shown, reaches};
-ghost use Rattle.fb_bench.specs.Story.{start, replay};
+ghost use Rattle.fb_bench.specs.Story.{Origin, IsOrigin, opened, replay, start};
 ghost use Rattle.fb_bench.specs.Laws.{is_refusal, entry_after, AgreeApartFrom};
 
 /// After any list of calls, stale and foreign results among them, each entry that is not pending is what the
 /// present texts give from scratch, and it is pending exactly while no current result has come since the last
 /// commit that made or reached its key. A refused call changes no text, no entry and no handed-out mark.
 pub fn entries_follow_the_texts()
-    ensures entries { (most_units : ℕ) (calls : List Call) (key : Key) → shown (replay (start most_units) calls) key ≡ entry_after most_units calls key }
+    ensures entries { (origin : Origin) (calls : List Call) (key : Key) → IsOrigin origin → shown (replay (opened origin) calls) key ≡ entry_after origin calls key }
+    ensures begins { (most_units : ℕ) → IsOrigin (start most_units) }
     ensures refused { (state : State) (call : Call) → is_refusal (reply state call) ≡ true → after state call ≡ state }
 {}
 

@@ -5,6 +5,7 @@ mod answers;
 mod bench;
 mod commit;
 mod desk;
+mod entries;
 mod entry;
 mod keys;
 mod laws;
@@ -14,6 +15,7 @@ mod peek;
 mod record;
 mod renewal;
 mod same;
+mod users;
 
 pub use answers::{Answered, Asked, Committed, Delivered, GivenBack, Refused, Taken};
 pub use bench::Bench;
@@ -21,7 +23,7 @@ pub use desk::{Desk, DeskRefused, Solo};
 pub use laws::{entries_follow_the_texts, reach_before_and_after};
 pub use limits::Limits;
 pub use peek::Shown;
-pub use record::{Call, Record, Reply, Request, Wanted};
+pub use record::{Call, Record, Reply, Request, TextChange, Wanted};
 
 /// Of `fb_jobs::deploy`, for the crates above.
 pub mod deploy {

@@ -1,20 +1,77 @@
+//! The records of a history. They keep texts, and no trees.
+ghost use Rattle.std.specs.Prelude.{◌≡◌, IfOk};
+ghost use Rattle.fb_jobs.specs.Library.Changes.{edit_of, edits_of};
+ghost use Rattle.fb_bench.specs.Records.{text_edit, text_edits};
+
 use crate::answers::{Asked, Committed, Delivered, GivenBack};
 use crate::same::{is_same_call, is_same_reply};
 use fb_jobs::library::Change;
-use fb_jobs::{Finished, Key, Read};
+use fb_jobs::{Finished, Key, TextRead};
+use fb_text::Name;
+use std::alloc::{AllocError, Global};
 use std::marker::Model;
+use std::sync::Arc;
 
-/// A key with what a job for it has read.
+/// A key with the texts that a job for it has read.
 #[derive(Drop)]
 pub struct Wanted {
     pub key: Key,
-    pub reads: Vec<Read>,
+    pub reads: Arc<Vec<TextRead>>,
+}
+
+/// A change as it is recorded.
+#[derive(Drop)]
+pub enum TextChange {
+    Put {
+        unit: Name,
+        base: u64,
+        text: Arc<String>,
+    },
+    Remove {
+        unit: Name,
+        base: u64,
+    },
+}
+
+impl TextChange {
+    fn of_change(change: &Change) -> Result<TextChange, AllocError>
+        ensures { IfOk result (λ it. text_edit it ≡ edit_of change.now) }
+    {
+        match change {
+            Change::Put { base, source } => {
+                let text = source.shared_text().clone()?;
+                Ok(TextChange::Put {
+                    unit: source.unit(),
+                    base: *base,
+                    text,
+                })
+            }
+            Change::Remove { unit, base } => Ok(TextChange::Remove {
+                unit: *unit,
+                base: *base,
+            }),
+        }
+    }
+
+    /// The changes as they are recorded, sharing their texts.
+    pub(crate) fn of_changes(
+        alloc: Global,
+        changes: &[Change],
+    ) -> Result<Vec<TextChange>, AllocError>
+        ensures { IfOk result (λ made. text_edits made.items ≡ edits_of changes.now) }
+    {
+        let mut made = Vec::with_capacity(alloc, changes.len())?;
+        for change in changes {
+            made.push(TextChange::of_change(change)?)?;
+        }
+        Ok(made)
+    }
 }
 
 /// A recorded call.
 #[derive(Drop)]
 pub enum Call {
-    Commit(Vec<Change>),
+    Commit(Vec<TextChange>),
     Take,
     Deliver(Wanted),
     GiveBack(Key),

@@ -1,20 +1,17 @@
 //! Whether two records say the same, by content.
-ghost use Rattle.std.specs.Prelude.{◌≡◌, ◌↔◌, IsTrue};
-ghost use Rattle.fb_jobs.specs.Library.Changes.{edit_of, edits_of};
-ghost use Rattle.fb_jobs.specs.Values.{all_seen, found_in, seen_of, finding_of};
+ghost use Rattle.std.specs.Prelude.{◌≡◌, ◌↔◌, IsTrue, string_bytes};
+ghost use Rattle.fb_jobs.specs.Values.{text_found, text_seen, texts_seen, finding_of};
 ghost use Rattle.fb_jobs.specs.Flatten.Net.{plain_net};
 ghost use Rattle.fb_jobs.specs.Deploy.Deploy.{plain_deploy};
-ghost use Rattle.fb_bench.specs.Records.{order_of, order_in, call_of, shown_in, reply_of};
+ghost use Rattle.fb_bench.specs.Records.{order_of, order_in, text_edit, text_edits, call_of, shown_in, reply_of};
 
 use crate::answers::{Asked, Committed, Delivered, GivenBack};
-use crate::record::{Call, Reply, Wanted};
+use crate::record::{Call, Reply, TextChange, Wanted};
 use fb_jobs::deploy::{Deploy, ResourcePlan};
 use fb_jobs::flatten::Net;
-use fb_jobs::library::Change;
 use fb_jobs::mapping::Misplaced;
 use fb_jobs::network::{Flat, FlatBlock};
-use fb_jobs::parse::Source;
-use fb_jobs::{Key, Read, Value};
+use fb_jobs::{Key, TextRead, Value};
 use fb_text::{Name, same_name};
 use std::sync::Arc;
 
@@ -59,32 +56,34 @@ fn is_one_key(a: &Key, b: &Key) -> bool
     *a == *b
 }
 
-fn is_same_source(a: &Source, b: &Source) -> bool
-    ensures { IsTrue result ↔ (a.now ≡ b.now) }
+fn is_same_text(a: &String, b: &String) -> bool
+    ensures { IsTrue result ↔ (string_bytes a.now ≡ string_bytes b.now) }
 {
-    is_one_name(&a.unit(), &b.unit()) && a.text() == b.text()
+    a.as_str() == b.as_str()
 }
 
-fn is_same_change(a: &Change, b: &Change) -> bool
-    ensures { IsTrue result ↔ (edit_of a.now ≡ edit_of b.now) }
+fn is_same_change(a: &TextChange, b: &TextChange) -> bool
+    ensures { IsTrue result ↔ (text_edit a.now ≡ text_edit b.now) }
 {
     match (a, b) {
         (
-            Change::Put {
+            TextChange::Put {
+                unit: of_a,
                 base: a,
-                source: of_a,
+                text: text_a,
             },
-            Change::Put {
+            TextChange::Put {
+                unit: of_b,
                 base: b,
-                source: of_b,
+                text: text_b,
             },
-        ) => a == b && is_same_source(of_a, of_b),
+        ) => { is_one_name(of_a, of_b) && a == b && is_same_text(text_a, text_b) }
         (
-            Change::Remove {
+            TextChange::Remove {
                 unit: of_a,
                 base: a,
             },
-            Change::Remove {
+            TextChange::Remove {
                 unit: of_b,
                 base: b,
             },
@@ -93,8 +92,8 @@ fn is_same_change(a: &Change, b: &Change) -> bool
     }
 }
 
-fn are_same_changes(a: &[Change], b: &[Change]) -> bool
-    ensures { IsTrue result ↔ (edits_of a.now ≡ edits_of b.now) }
+fn are_same_changes(a: &[TextChange], b: &[TextChange]) -> bool
+    ensures { IsTrue result ↔ (text_edits a.now ≡ text_edits b.now) }
 {
     if a.len() != b.len() {
         return false;
@@ -107,30 +106,30 @@ fn are_same_changes(a: &[Change], b: &[Change]) -> bool
     true
 }
 
-// the same source at the same revision, or none
+// the same text at the same revision, or none
 fn is_same_find(
     revision: u64,
-    source: &Option<Arc<Source>>,
+    text: &Option<Arc<String>>,
     other_revision: u64,
-    other: &Option<Arc<Source>>,
+    other: &Option<Arc<String>>,
 ) -> bool
-    ensures { IsTrue result ↔ (found_in revision source.now ≡ found_in other_revision other.now) }
+    ensures { IsTrue result ↔ (text_found revision text.now ≡ text_found other_revision other.now) }
 {
-    match (source, other) {
+    match (text, other) {
         (None, None) => true,
-        (Some(a), Some(b)) => revision == other_revision && a.text() == b.text(),
+        (Some(a), Some(b)) => revision == other_revision && is_same_text(a, b),
         _ => false,
     }
 }
 
-fn is_same_read(a: &Read, b: &Read) -> bool
-    ensures { IsTrue result ↔ (seen_of a.now ≡ seen_of b.now) }
+fn is_same_read(a: &TextRead, b: &TextRead) -> bool
+    ensures { IsTrue result ↔ (text_seen a.now ≡ text_seen b.now) }
 {
-    is_one_name(&a.name, &b.name) && is_same_find(a.revision, &a.source, b.revision, &b.source)
+    is_one_name(&a.name, &b.name) && is_same_find(a.revision, &a.text, b.revision, &b.text)
 }
 
-fn are_same_reads(a: &[Read], b: &[Read]) -> bool
-    ensures { IsTrue result ↔ (all_seen a.now ≡ all_seen b.now) }
+fn are_same_reads(a: &[TextRead], b: &[TextRead]) -> bool
+    ensures { IsTrue result ↔ (texts_seen a.now ≡ texts_seen b.now) }
 {
     if a.len() != b.len() {
         return false;

@@ -1,12 +1,11 @@
 -- One more blank entry, and where there was no memory for it.
-use Rattle.std.proofs.Common.{◌≡◌, ◌+◌, ◌++◌, ◌∷◌, [], take, Some, None, false, sym, ap, ◌∙◌, arith, rules}
+use Rattle.std.proofs.Common.{◌≡◌, ◌+◌, ◌++◌, ◌∷◌, [], take, Some, sym, ap, ◌∙◌, arith, rules}
 use Rattle.std.proofs.lemmas.Grind.{common_steps}
 use Rattle.std.specs.Map.{lookup}
 use Rattle.std.specs.BTreeMap as tree
 use Rattle.std.specs.BTreeMap.{is_at}
 use Rattle.fb_jobs.specs.KeyOrder.{key_cmp, same_key}
-use Rattle.fb_bench.specs.declared.entry.Entry.{Entry}
-use Rattle.fb_bench.specs.Renew.{is_of}
+use Rattle.fb_bench.specs.Renew.{is_of, blank}
 use Rattle.fb_bench.proofs.KeySteps.{of_now, of_front, others_more, entry_more}
 use Rattle.fb_bench.proofs.renewal.put_blank.Goals as goal
 
@@ -20,7 +19,6 @@ loop-key-preserved c =
     let front = take c.loop-key.key-index c.args.keys.now in
     let key = c.key-item.result in
     let more : take (c.loop-key.key-index + 1) c.args.keys.now ≡ front ++ key ∷ [] = grind (arith, common_steps) in
-    let blank : Entry = record { needs = c.new.result; value = None; out = false } in
     let put : tree.Updates key_cmp c.loop-key.entries c.insert.new.self key (Some blank) = search rules in (
       (λ other apart. others_more (Some blank) (tree.get key_cmp c.args.entries.now other) (tree.get key_cmp c.loop-key.entries other) (tree.get key_cmp c.insert.new.self other) (is_of other front) (same_key key other) (sym (of_now other key front _ more) ∙ apart) (put.0 other) (c.loop-key.invariant.0 other)),
       (λ other some. entry_more (tree.get key_cmp c.loop-key.entries other) (tree.get key_cmp c.insert.new.self other) blank (is_of other front) (same_key key other) (sym (of_now other key front _ more) ∙ some) (put.0 other) (c.loop-key.invariant.1 other)),

@@ -1,7 +1,6 @@
-use Rattle.std.proofs.Common.{◌≡◌, length}
-use Rattle.fb_jobs.specs.Values.{seen_of}
+use Rattle.fb_jobs.specs.Values.{text_seen}
 use Rattle.fb_bench.proofs.Alike.{SameLeft}
 use Rattle.fb_bench.proofs.same.are_same_reads.Given as goal
 
 abbrev pub invariant-loop-place : goal.invariant-loop-place
-invariant-loop-place l = SameLeft seen_of l.a l.b l.place
+invariant-loop-place l = SameLeft text_seen l.a l.b l.place

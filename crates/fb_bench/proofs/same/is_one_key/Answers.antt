@@ -1,4 +1,3 @@
-use Rattle.std.proofs.Common.{rules}
 use Rattle.fb_bench.proofs.Alike.{one_key}
 use Rattle.fb_bench.proofs.same.is_one_key.Goals as goal
 

@@ -2,10 +2,10 @@
 use Rattle.std.proofs.Common.{◌≡◌, sym, ap, subst, refl, ◌∙◌, arith, rules}
 use Rattle.fb_jobs.specs.Keys.{scratch}
 use Rattle.fb_jobs.specs.Reads.{Order}
-use Rattle.fb_jobs.specs.Values.{all_seen, finding_of}
+use Rattle.fb_jobs.specs.Values.{all_seen, texts_seen, finding_of}
 use Rattle.fb_bench.specs.declared.answers.Delivered.TheVariants.{Accepted}
 use Rattle.fb_bench.specs.Machine.{State, ToDeliver, deliver_answer}
-use Rattle.fb_bench.specs.Story.{Story, state_of, recorded, record_of}
+use Rattle.fb_bench.specs.Story.{Story, state_of, recorded, record_of, start}
 use Rattle.fb_bench.specs.Kept.{Agrees}
 use Rattle.fb_bench.proofs.Marks.{agrees_deliver, accepted_fresh, deliver_stays}
 use Rattle.fb_bench.proofs.Steps.{kept_pushed, story_pushed, share_pushed, delivers_is, delivered_is}
@@ -13,28 +13,28 @@ use Rattle.fb_bench.proofs.bench.Bench.deliver_recorded.Goals as goal
 
 pub invariant_of-self-in-Accepted : goal.invariant_of-self-in-Accepted
 invariant_of-self-in-Accepted c =
-    let story : Story = record { most_units = c.self.inside.most_units; log = c.self.inside.history } in
+    let story : Story = record { origin = start c.self.inside.most_units; log = c.self.inside.history } in
     let s : State = state_of story in
     let now : Order = c.args.finished.now in
-    let order : Order = record { key = c.key-2.result; reads = all_seen c.in_ok-reads.reads.items } in
-    let same : order ≡ now = λ i. record { key = c.key-2.ensures i; reads = (c.in_ok-reads.ensures.same ∙ c.reads-2.ensures.same) i } in
+    let order : Order = record { key = c.key-2.result; reads = texts_seen c.in_ok-clone.field-0.value.items } in
+    let same : order ≡ now = λ i. record { key = c.key-2.ensures i; reads = (ap (λ it. texts_seen it.items) c.in_ok-clone.ensures.cases ∙ c.texts.ensures) i } in
     let judged : ◌≡◌ {A = Order} (record { key = c.key.result; reads = all_seen c.reads.result.now }) now = λ i. record { key = c.key.ensures i; reads = c.reads.ensures.same i } in
     let accepted : Accepted ≡ deliver_answer s now = c.in-Accepted.ensures ∙ (λ i. deliver_answer (state_of (sym c.self.view_is i)) (judged i)) in
     let law = c.current_reads.ensures s.units now c.reads.ensures.right (accepted_fresh s now accepted) in
     let cloned : c.in_ok-value-in-Accepted.value.value ≡ c.value.result.now.value = search rules in
     let value : finding_of c.in_ok-value-in-Accepted.value.value ≡ scratch s.units c.key-key.result = ap finding_of cloned ∙ c.value.ensures ∙ sym law ∙ ap (λ k. scratch s.units k) (sym c.key-key.ensures) in
-    kept_pushed _ _ _ _ _ _ story _ c.args.caller (ToDeliver order) _ c.in_ok-share-in-Accepted.ensures.ok (delivers_is s order now Accepted same accepted)
+    kept_pushed _ _ _ _ _ _ _ story _ c.args.caller (ToDeliver order) _ c.self.invariant.begins c.in_ok-share-in-Accepted.ensures.ok (delivers_is s order now Accepted same accepted)
     (subst (λ t. Agrees c.self.inside.library c.self.inside.commits c.keep.new.entries c.leave.new.keys c.leave-in-Accepted.new.keys t) (sym (delivered_is s order now c.key-key.result Accepted same c.key-key.ensures accepted))
-    (agrees_deliver _ _ c.self.inside.entries _ c.self.inside.ready _ c.self.inside.waiting _ s c.key-key.result c.in_ok-value-in-Accepted.value c.self.invariant.agrees value c.keep.ensures c.leave.ensures c.leave-in-Accepted.ensures))
-    c.self.invariant.replayed c.self.invariant.keys_are (omega (arith, c.self.invariant.few))
+    (agrees_deliver _ _ c.self.inside.entries.by_key _ c.self.inside.entries.ready _ c.self.inside.entries.waiting _ s c.key-key.result c.in_ok-value-in-Accepted.value c.self.invariant.agrees value c.keep.ensures c.leave.ensures c.leave-in-Accepted.ensures))
+    c.self.invariant.replayed c.self.invariant.keys_are c.self.invariant.covers (omega (arith, c.self.invariant.few))
 
 pub returns-in_ok-share-in-Accepted-clause-step : goal.returns-in_ok-share-in-Accepted-clause-step
 returns-in_ok-share-in-Accepted-clause-step c =
-    let story : Story = record { most_units = c.self.inside.most_units; log = c.self.inside.history } in
+    let story : Story = record { origin = start c.self.inside.most_units; log = c.self.inside.history } in
     let s : State = state_of story in
     let now : Order = c.args.finished.now in
-    let order : Order = record { key = c.key-2.result; reads = all_seen c.in_ok-reads.reads.items } in
-    let same : order ≡ now = λ i. record { key = c.key-2.ensures i; reads = (c.in_ok-reads.ensures.same ∙ c.reads-2.ensures.same) i } in
+    let order : Order = record { key = c.key-2.result; reads = texts_seen c.in_ok-clone.field-0.value.items } in
+    let same : order ≡ now = λ i. record { key = c.key-2.ensures i; reads = (ap (λ it. texts_seen it.items) c.in_ok-clone.ensures.cases ∙ c.texts.ensures) i } in
     let judged : ◌≡◌ {A = Order} (record { key = c.key.result; reads = all_seen c.reads.result.now }) now = λ i. record { key = c.key.ensures i; reads = c.reads.ensures.same i } in
     let accepted : Accepted ≡ deliver_answer s now = c.in-Accepted.ensures ∙ (λ i. deliver_answer (state_of (sym c.self.view_is i)) (judged i)) in
     story_pushed story _ _ c.args.caller (ToDeliver order) _ c.self.view_is c.in_ok-share-in-Accepted.ensures.ok (delivers_is s order now Accepted same accepted)
@@ -48,24 +48,24 @@ returns-in_ok-share-in-Accepted-clause-answer c =
 
 pub invariant_of-self-in_default : goal.invariant_of-self-in_default
 invariant_of-self-in_default c =
-    let story : Story = record { most_units = c.self.inside.most_units; log = c.self.inside.history } in
+    let story : Story = record { origin = start c.self.inside.most_units; log = c.self.inside.history } in
     let s : State = state_of story in
     let now : Order = c.args.finished.now in
-    let order : Order = record { key = c.key-2.result; reads = all_seen c.in_ok-reads.reads.items } in
-    let same : order ≡ now = λ i. record { key = c.key-2.ensures i; reads = (c.in_ok-reads.ensures.same ∙ c.reads-2.ensures.same) i } in
+    let order : Order = record { key = c.key-2.result; reads = texts_seen c.in_ok-clone.field-0.value.items } in
+    let same : order ≡ now = λ i. record { key = c.key-2.ensures i; reads = (ap (λ it. texts_seen it.items) c.in_ok-clone.ensures.cases ∙ c.texts.ensures) i } in
     let judged : ◌≡◌ {A = Order} (record { key = c.key.result; reads = all_seen c.reads.result.now }) now = λ i. record { key = c.key.ensures i; reads = c.reads.ensures.same i } in
     let answer : c.judged-answer.result ≡ deliver_answer s now = c.judged-answer.ensures ∙ (λ i. deliver_answer (state_of (sym c.self.view_is i)) (judged i)) in
-    kept_pushed _ _ _ _ _ _ story _ c.args.caller (ToDeliver order) _ c.in_ok-share-in_default.ensures.ok (delivers_is s order now c.judged-answer.result same answer)
-    (subst (λ t. Agrees c.self.inside.library c.self.inside.commits c.self.inside.entries c.self.inside.ready c.self.inside.waiting t) (sym (delivered_is s order now now.key c.judged-answer.result same refl answer ∙ deliver_stays c.judged-answer.result now.key s c.in_default.not-Accepted)) c.self.invariant.agrees)
-    c.self.invariant.replayed c.self.invariant.keys_are (omega (arith, c.self.invariant.few))
+    kept_pushed _ _ _ _ _ _ _ story _ c.args.caller (ToDeliver order) _ c.self.invariant.begins c.in_ok-share-in_default.ensures.ok (delivers_is s order now c.judged-answer.result same answer)
+    (subst (λ t. Agrees c.self.inside.library c.self.inside.commits c.self.inside.entries.by_key c.self.inside.entries.ready c.self.inside.entries.waiting t) (sym (delivered_is s order now now.key c.judged-answer.result same refl answer ∙ deliver_stays c.judged-answer.result now.key s c.in_default.not-Accepted)) c.self.invariant.agrees)
+    c.self.invariant.replayed c.self.invariant.keys_are c.self.invariant.covers (omega (arith, c.self.invariant.few))
 
 pub returns-in_ok-share-in_default : goal.returns-in_ok-share-in_default
 returns-in_ok-share-in_default c =
-    let story : Story = record { most_units = c.self.inside.most_units; log = c.self.inside.history } in
+    let story : Story = record { origin = start c.self.inside.most_units; log = c.self.inside.history } in
     let s : State = state_of story in
     let now : Order = c.args.finished.now in
-    let order : Order = record { key = c.key-2.result; reads = all_seen c.in_ok-reads.reads.items } in
-    let same : order ≡ now = λ i. record { key = c.key-2.ensures i; reads = (c.in_ok-reads.ensures.same ∙ c.reads-2.ensures.same) i } in
+    let order : Order = record { key = c.key-2.result; reads = texts_seen c.in_ok-clone.field-0.value.items } in
+    let same : order ≡ now = λ i. record { key = c.key-2.ensures i; reads = (ap (λ it. texts_seen it.items) c.in_ok-clone.ensures.cases ∙ c.texts.ensures) i } in
     let judged : ◌≡◌ {A = Order} (record { key = c.key.result; reads = all_seen c.reads.result.now }) now = λ i. record { key = c.key.ensures i; reads = c.reads.ensures.same i } in
     let answer : c.judged-answer.result ≡ deliver_answer s now = c.judged-answer.ensures ∙ (λ i. deliver_answer (state_of (sym c.self.view_is i)) (judged i)) in
     record {
@@ -78,11 +78,11 @@ returns-in_ok-share-in_default c =
 
 pub returns-in_ok-share-in-Accepted-clause-share : goal.returns-in_ok-share-in-Accepted-clause-share
 returns-in_ok-share-in-Accepted-clause-share c =
-    let story : Story = record { most_units = c.self.inside.most_units; log = c.self.inside.history } in
+    let story : Story = record { origin = start c.self.inside.most_units; log = c.self.inside.history } in
     let s : State = state_of story in
     let now : Order = c.args.finished.now in
-    let order : Order = record { key = c.key-2.result; reads = all_seen c.in_ok-reads.reads.items } in
-    let same : order ≡ now = λ i. record { key = c.key-2.ensures i; reads = (c.in_ok-reads.ensures.same ∙ c.reads-2.ensures.same) i } in
+    let order : Order = record { key = c.key-2.result; reads = texts_seen c.in_ok-clone.field-0.value.items } in
+    let same : order ≡ now = λ i. record { key = c.key-2.ensures i; reads = (ap (λ it. texts_seen it.items) c.in_ok-clone.ensures.cases ∙ c.texts.ensures) i } in
     let judged : ◌≡◌ {A = Order} (record { key = c.key.result; reads = all_seen c.reads.result.now }) now = λ i. record { key = c.key.ensures i; reads = c.reads.ensures.same i } in
     let accepted : Accepted ≡ deliver_answer s now = c.in-Accepted.ensures ∙ (λ i. deliver_answer (state_of (sym c.self.view_is i)) (judged i)) in
     share_pushed story _ _ c.args.caller (ToDeliver order) _ c.self.view_is c.in_ok-share-in-Accepted.ensures.share (delivers_is s order now Accepted same accepted)
