@@ -3,7 +3,8 @@ use crate::talk::{new_bench, talk};
 use fb_text::Name;
 use fb_wire::bench::jobs::{Finished, Job, Key, Kind};
 use fb_wire::bench::library::Change;
-use fb_wire::bench::{Answered, Bench, Call, Delivered, Request, Shown, Taken};
+use fb_wire::bench::parse::Source;
+use fb_wire::bench::{Answered, Bench, Call, Delivered, Request, Shown, Taken, TextChange};
 use std::alloc::Global;
 use std::test::Fail;
 
@@ -270,13 +271,38 @@ fn are_made<'a>(
     Ok(true)
 }
 
-// The same on a new workbench, by the commit that another one has recorded.
-fn are_made_as_there(bench: &mut Bench, other: &Bench, finished: &Finished) -> Result<bool, Fail> {
-    let record = other.record(1).ok_or("a record")?;
-    match record.call() {
-        Call::Commit(changes) => are_made(bench, changes, finished),
-        _ => Ok(false),
+// The change that is recorded, with its text read anew.
+fn change_again(alloc: Global, recorded: &TextChange) -> Result<Change, Fail> {
+    match recorded {
+        TextChange::Put { unit, base, text } => {
+            let source = Source::read(alloc, *unit, text.as_str())?;
+            Ok(Change::Put {
+                base: *base,
+                source,
+            })
+        }
+        TextChange::Remove { unit, base } => Ok(Change::Remove {
+            unit: *unit,
+            base: *base,
+        }),
     }
+}
+
+// The same on a new workbench, by the commit that another one has recorded.
+fn are_made_as_there(
+    alloc: Global,
+    bench: &mut Bench,
+    other: &Bench,
+    finished: &Finished,
+) -> Result<bool, Fail> {
+    let record = other.record(1).ok_or("a record")?;
+    let mut changes = Vec::new(alloc);
+    if let Call::Commit(recorded) = record.call() {
+        for change in recorded {
+            changes.push(change_again(alloc, change)?)?;
+        }
+    }
+    are_made(bench, &changes, finished)
 }
 
 #[test]
@@ -285,12 +311,63 @@ fn calls_as_requests(rt: HostRuntime) -> Result<(), Fail> {
     let other = bench_after(alloc, PLAIN)?;
     let finished = result_after(alloc, PLAIN)?;
     let mut bench = new_bench(alloc, 4, 100)?;
-    assert!(rt; are_made_as_there(&mut bench, &other, &finished)?);
+    assert!(rt; are_made_as_there(alloc, &mut bench, &other, &finished)?);
     let text = r#"
 > {"op":"ask","kind":"faults","unit":"A"}
 < {"faults":[]}
 "#;
     assert_eq!(rt; talk(alloc, &mut bench, 2, text)?, None);
     assert!(rt; has_value(&bench, faults_of_a()?));
+    Ok(())
+}
+
+// Subapplications in one another with all their values, then the outermost one anew, with its faults.
+const NEST: &str = r#"
+> {"op":"commit","changes":[{"put":"T","base":0,"text":"FUNCTION_BLOCK T END_FUNCTION_BLOCK"},{"put":"INNER","base":0,"text":"SUBAPPLICATION INNER FBS X:T; END_FBS END_SUBAPPLICATION"},{"put":"MID","base":0,"text":"SUBAPPLICATION MID SUBAPPS X:INNER; END_SUBAPPS END_SUBAPPLICATION"},{"put":"OUTER","base":0,"text":"SUBAPPLICATION OUTER SUBAPPS X:MID; END_SUBAPPS END_SUBAPPLICATION"}]}
+< {"commit":1}
+> {"op":"work","turns":7}
+< {"accepted":7}
+> {"op":"commit","changes":[{"put":"OUTER","base":1,"text":"SUBAPPLICATION OUTER SUBAPPS X:MID; Y:MID; END_SUBAPPS END_SUBAPPLICATION"}]}
+< {"commit":2}
+> {"op":"work","turns":1}
+< {"accepted":1}
+"#;
+
+// Whether a job takes the nets of these units along, and no others.
+fn takes_along(job: &Job, wanted: &[&str]) -> Result<bool, Fail> {
+    for name in wanted {
+        if !job.nets().contains_key(&Name::read(name)?) {
+            return Ok(false);
+        }
+    }
+    Ok(job.nets().len() == wanted.len())
+}
+
+fn net_of(unit: &str) -> Result<Key, Fail> {
+    Ok(Key {
+        kind: Kind::Net,
+        unit: Name::read(unit)?,
+    })
+}
+
+#[test]
+fn jobs_take_kept_nets_along(rt: HostRuntime) -> Result<(), Fail> {
+    let alloc = rt.alloc();
+    let mut bench = bench_after(alloc, NEST)?;
+    let job = job_for(&mut bench, net_of("OUTER")?)?;
+    assert!(rt; takes_along(&job, &["INNER", "MID"])?);
+    let finished = job.run(alloc)?;
+    assert!(rt; bench.deliver(1, &finished)? == Delivered::Accepted);
+    let text = r#"
+> {"op":"ask","kind":"net","unit":"OUTER"}
+< {"net":{"blocks":[["X.X.X","T"],["Y.X.X","T"]],"borders":[],"links":[]}}
+> {"op":"commit","changes":[{"put":"T","base":1,"text":"FUNCTION_BLOCK T EVENT_INPUT E; END_EVENT END_FUNCTION_BLOCK"}]}
+< {"commit":3}
+> {"op":"work","turns":2}
+< {"accepted":2}
+"#;
+    assert_eq!(rt; talk(alloc, &mut bench, 1, text)?, None);
+    let job = job_for(&mut bench, net_of("INNER")?)?;
+    assert!(rt; takes_along(&job, &[])?);
     Ok(())
 }

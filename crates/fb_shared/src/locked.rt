@@ -2,7 +2,7 @@ ghost use Rattle.std.specs.Prelude.{◌≡◌, [], true, false, IfOk, IfErr, IfS
 ghost use Rattle.fb_bench.specs.Machine.{ToCommit, ToTake, ToDeliver, ToGiveBack, ToAsk, OfAsk};
 ghost use Rattle.fb_bench.specs.Records.{listed, shown_in};
 ghost use Rattle.fb_bench.specs.Requests.{call_for, reply_in, job_of};
-ghost use Rattle.fb_bench.specs.Story.{turns_of};
+ghost use Rattle.fb_bench.specs.Story.{new_story, turns_of};
 ghost use Rattle.fb_shared.specs.Book.{IsBookOf};
 ghost use Rattle.fb_shared.specs.Calls.{Answers, Performs};
 ghost use Rattle.fb_shared.specs.Ends.{end_before_take, LookNames, Looks, NamesSeat};
@@ -61,7 +61,7 @@ impl Locked {
         callers: u32,
     ) -> Result<(Locked, Vec<Seat>), AllocError>
         ensures hall { IfOk result
-            (λ made. made.0 ≡ record { bench = record { most_units = limits.units; log = record { limit = limits.history; records = [] } }; callers = callers; stopped = false }) }
+            (λ made. made.0 ≡ record { bench = new_story limits.units limits.history; callers = callers; stopped = false }) }
         ensures seats { IfOk result (λ made. AreFirstSeats callers made.1.items) }
     {
         let bench = Bench::new(alloc, limits);

@@ -22,6 +22,6 @@ pub use run::{run_lines, run_script};
 pub mod bench {
     pub use fb_bench::{
         Answered, Asked, Bench, Call, Committed, Delivered, Limits, Reply, Request, Shown, Taken,
-        flatten, iface, jobs, library, parse,
+        TextChange, flatten, iface, jobs, library, parse,
     };
 }
