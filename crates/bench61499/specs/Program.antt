@@ -1,20 +1,16 @@
 -- What a run of the program has said.
 use Rattle.std.specs.Prelude.{◌≡◌, ◌≤◌, ◌⊎◌, ℕ, List, []}
 use Rattle.clap.specs.Words.{Text}
-use Rattle.fb_serve.specs.Wire.Bench.Story.{Story}
+use Rattle.fb_serve.specs.Wire.Bench.Story.{new_story}
 use Rattle.fb_serve.specs.Wire.Script.{IsFrontOf, script}
 use Rattle.bench61499.specs.Words.{Asks}
 use Rattle.bench61499.specs.declared.asked.Settings.TheVariants.{Script, Serve}
 use Rattle.bench61499.specs.declared.program.Outcome.{Outcome}
 use Rattle.bench61499.specs.declared.program.Outcome.TheVariants.{Ended, Serves}
 
--- a workbench with no calls yet
-abbrev pub new_bench : ℕ → ℕ → Story
-new_bench units history = record { most_units = units; log = record { limit = history; records = [] } }
-
 -- what a new workbench of these limits says to the bytes, to caller 1
 abbrev pub said_to : ℕ → ℕ → List ℕ → List ℕ
-said_to units history bytes = (script 1 (new_bench units history) bytes).out
+said_to units history bytes = (script 1 (new_story units history) bytes).out
 
 -- by status: all of it, or a front of it
 abbrev pub BenchSays : ℕ → ℕ → ℕ → List ℕ → List ℕ → Type 0

@@ -11,10 +11,10 @@ mod tests;
 
 use fb_serve::serve;
 use fb_serve::wire::{FromRead, IntoWrite};
-use program::{FAILED, Outcome};
+use program::{Outcome, refuse_words};
 use std::alloc::{AllocError, Global};
-use std::env;
 use std::process::ExitCode;
+use std::{env, io};
 
 /// How many reads a run may make.
 const TURNS: u64 = 1_000_000_000;
@@ -28,12 +28,12 @@ fn texts<'a>(alloc: Global, words: &'a [String]) -> Result<Vec<&'a str>, AllocEr
 }
 
 fn run(rt: &HostRuntime, words: &[String]) -> Outcome {
+    let mut errors = rt.stderr();
     let Ok(texts) = texts(rt.alloc(), words) else {
-        return Outcome::Ended(FAILED);
+        return Outcome::Ended(refuse_words(io::ErrorKind::OutOfMemory, &mut errors));
     };
     let mut reader = FromRead::new(rt.stdin());
     let mut writer = IntoWrite::new(rt.stdout());
-    let mut errors = rt.stderr();
     program::run(
         rt.alloc(),
         &texts,
@@ -44,13 +44,15 @@ fn run(rt: &HostRuntime, words: &[String]) -> Outcome {
     )
 }
 
+fn words(rt: &HostRuntime) -> io::Result<Vec<String>> {
+    let words: Result<Vec<String>, AllocError> = env::args(rt)?.collect(rt.alloc());
+    Ok(words?)
+}
+
 fn main(rt: HostRuntime) -> ExitCode {
-    let Ok(args) = env::args(&rt) else {
-        return ExitCode::FAILURE;
-    };
-    let words: Result<Vec<String>, AllocError> = args.collect(rt.alloc());
-    let Ok(words) = words else {
-        return ExitCode::FAILURE;
+    let words = match words(&rt) {
+        Ok(words) => words,
+        Err(error) => return ExitCode::from(refuse_words(error.kind(), &mut rt.stderr())),
     };
     match run(&rt, &words) {
         Outcome::Ended(status) => ExitCode::from(status),

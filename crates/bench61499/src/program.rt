@@ -1,6 +1,7 @@
 // The program, over the streams that it is given.
-ghost use Rattle.std.specs.Prelude.{◌≡◌, ◌<◌, ◌≤◌, ◌++◌, ℕ, List, map, false};
+ghost use Rattle.std.specs.Prelude.{◌≡◌, ◌≢◌, ◌<◌, ◌≤◌, ◌++◌, ℕ, List, map, false};
 ghost use Rattle.std.specs.Io.KnownBytes.{IsAtEnd};
+ghost use Rattle.std.specs.declared.io.ErrorKind.TheVariants.{InvalidData};
 ghost use Rattle.bench61499.specs.Program.{BenchSays, HasDone};
 
 use crate::arguments::settings;
@@ -9,7 +10,7 @@ use clap::error::ErrorKind;
 use fb_serve::wire::{Bench, Feed, Limits, Sink, run_script};
 use fb_serve::{Numbers, fault_of};
 use std::alloc::Global;
-use std::io::Write;
+use std::io::{self, Write};
 
 /// The caller whose calls those of a script are.
 const SCRIPT_CALLER: u32 = 1;
@@ -18,7 +19,7 @@ const SCRIPT_CALLER: u32 = 1;
 const DONE: u8 = 0;
 
 /// The run failed.
-pub const FAILED: u8 = 1;
+const FAILED: u8 = 1;
 
 /// The words ask for nothing that the program does, or for help.
 const MISUSED: u8 = 2;
@@ -60,15 +61,38 @@ fn script<F: Feed, S: Sink, E: Write>(
     }
 }
 
+/// Says that memory ran out for the words.
+fn out_of_memory<E: Write>(errors: &mut E) -> u8
+    ensures { result ≡ 1 }
+{
+    let _ = writeln!(errors, "bench61499: out of memory");
+    FAILED
+}
+
 fn refuse<E: Write>(error: &clap::Error, errors: &mut E) -> u8
     ensures some { 0 < result }
     ensures status { result ≤ 2 }
 {
     if error.kind() == ErrorKind::OutOfMemory {
-        return FAILED;
+        return out_of_memory(errors);
     }
     let _ = write!(errors, "{error}");
     MISUSED
+}
+
+/// Refuses words that could not be read, since one of them is no UTF-8 or memory ran out.
+pub fn refuse_words<E: Write>(kind: io::ErrorKind, errors: &mut E) -> u8
+    ensures text { kind ≡ InvalidData → result ≡ 2 }
+    ensures memory { kind ≢ InvalidData → result ≡ 1 }
+{
+    if kind == io::ErrorKind::InvalidData {
+        let _ = writeln!(
+            errors,
+            "bench61499: a word of the command line is not UTF-8"
+        );
+        return MISUSED;
+    }
+    out_of_memory(errors)
 }
 
 /// Does what the words ask for, if it is a script, says on `errors` what went wrong, and gives the status of the program. Words that ask for a

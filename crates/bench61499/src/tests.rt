@@ -1,9 +1,10 @@
 //! What the program's words ask for, and how its runs end.
 use crate::arguments::settings;
 use crate::asked::Settings;
-use crate::program::{Outcome, run};
+use crate::program::{Outcome, refuse_words, run};
 use fb_serve::wire::{MemoryFeed, MemorySink};
 use std::alloc::{AllocError, Global};
+use std::io::ErrorKind;
 use std::test::Fail;
 
 const ALWAYS: u64 = u64::MAX;
@@ -187,6 +188,27 @@ fn runs(rt: HostRuntime) -> Result<(), Fail> {
         assert_eq!(rt; ended.status, Some(*status), "{said}");
         assert!(rt; ended.output.as_slice() == output.as_bytes(), "{said}");
         assert!(rt; ended.errors.as_slice() == said.as_bytes());
+    }
+    Ok(())
+}
+
+// Why words could not be read, with the status and what is said.
+const UNREAD: &[(ErrorKind, u8, &str)] = &[
+    (
+        ErrorKind::InvalidData,
+        2,
+        "bench61499: a word of the command line is not UTF-8\n",
+    ),
+    (ErrorKind::OutOfMemory, 1, "bench61499: out of memory\n"),
+];
+
+#[test]
+fn words_that_could_not_be_read(rt: HostRuntime) -> Result<(), Fail> {
+    for (kind, status, said) in UNREAD {
+        let mut errors = Vec::new(rt.alloc());
+        let found = refuse_words(*kind, &mut errors);
+        assert_eq!(rt; found, *status, "{said}");
+        assert!(rt; errors.as_slice() == said.as_bytes(), "{said}");
     }
     Ok(())
 }
