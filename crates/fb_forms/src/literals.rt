@@ -1,7 +1,8 @@
 //! Literals by the kinds of their tokens.
 
-ghost use Rattle.fb_forms.specs.Literals.{across, literal_form, literal_use};
-ghost use Rattle.std.specs.Prelude.{◌≡◌};
+ghost use Rattle.fb_forms.specs.Literals.{across, literal_form, literal_kinds, literal_use};
+ghost use Rattle.fb_lexemes.specs.Kind.{is_among};
+ghost use Rattle.std.specs.Prelude.{◌≡◌, true};
 
 use fb_lexemes::{Kind, Lexeme};
 use fb_text::{Span, TypeClass};
@@ -12,6 +13,7 @@ pub const NUMBERS: [Kind; 4] = [Kind::Zero, Kind::One, Kind::Number, Kind::RealN
 
 /// The form of a literal of this kind, as far as it is written without a sign.
 pub fn literal_form(kind: Kind) -> LiteralForm
+    requires { is_among literal_kinds kind ≡ true }
     ensures { result ≡ literal_form kind }
 {
     match kind {
@@ -24,12 +26,14 @@ pub fn literal_form(kind: Kind) -> LiteralForm
         Kind::TypedFree => LiteralForm::Typed(TypeClass::Free),
         Kind::TypedOther => LiteralForm::Typed(TypeClass::Other),
         Kind::Text => LiteralForm::Text,
-        _ => LiteralForm::Truth,
+        Kind::True | Kind::False => LiteralForm::Truth,
+        _ => unreachable!(),
     }
 }
 
 /// The literal where it stands.
 pub fn literal_use(token: &Lexeme) -> Literal
+    requires { is_among literal_kinds token.now.kind ≡ true }
     ensures { result ≡ literal_use token.now }
 {
     Literal {

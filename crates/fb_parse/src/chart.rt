@@ -11,7 +11,7 @@ ghost use Rattle.std.specs.Prelude.{◌≡◌, Ok, map, option_map};
 use fb_sections::forms::{Reader, Stop, is_next, key, name, one_of};
 use fb_sections::lexemes::{Kind, Lexeme};
 use fb_sections::{end, section, skip};
-use fb_structured_text::{LEVELS, expression, statements};
+use fb_structured_text::{expression, statements};
 use fb_text::NameUse;
 use fb_tree::{Algorithm, Condition, Expr, Stmt, Transition};
 use std::alloc::Global;
@@ -22,7 +22,7 @@ fn bracketed(alloc: Global, tokens: &[Lexeme]) -> Result<(Expr, &[Lexeme]), Stop
     ensures { Gives (λ x. (expression_tree x.0, x.1.now)) result (read bracketed tokens.now) }
 {
     let (_, rest) = key(tokens, Kind::OpenBracket)?;
-    let (test, rest) = expression(alloc, LEVELS, rest)?;
+    let (test, rest) = expression(alloc, rest)?;
     let (_, rest) = key(rest, Kind::CloseBracket)?;
     Ok((test, rest))
 }
@@ -33,7 +33,7 @@ fn joined_test(alloc: Global, tokens: &[Lexeme]) -> Result<(Expr, &[Lexeme]), St
     ensures { Gives (λ x. (expression_tree x.0, x.1.now)) result (read joined_test tokens.now) }
 {
     let (_, rest) = one_of(tokens, &[Kind::Ampersand, Kind::And])?;
-    expression(alloc, LEVELS, rest)
+    expression(alloc, rest)
 }
 
 /// What is tested when an event comes, where it is written.

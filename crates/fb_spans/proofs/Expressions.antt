@@ -5,7 +5,7 @@ use Rattle.std.proofs.lemmas.List.{append-nil}
 use Rattle.fb_text.specs.declared.name.NameUse.{NameUse}
 use Rattle.fb_text.specs.declared.token.Span.{Span}
 use Rattle.fb_parse.specs.Forms.Form.{Form, both, either, many, as_value, Spells, SpellsOption, SpellsEach}
-use Rattle.fb_parse.specs.Forms.Literals.{across}
+use Rattle.fb_parse.specs.Forms.Literals.{across, literal_kinds}
 use Rattle.fb_parse.specs.Forms.Words.{key, name}
 use Rattle.fb_parse.specs.Lexemes.Kind.{is_among}
 use Rattle.fb_parse.specs.Lexemes.declared.kind.Kind.{Kind}
@@ -14,7 +14,7 @@ use Rattle.fb_parse.specs.Tree.Expression.{Expression, reference_expression, una
 use Rattle.fb_parse.specs.Tree.declared.expression.BinaryUse.{BinaryUse}
 use Rattle.fb_parse.specs.Tree.declared.expression.Reference.{Reference}
 use Rattle.fb_parse.specs.Tree.declared.expression.UnaryUse.{UnaryUse}
-use Rattle.fb_structured_text.specs.Operators.{signs, strengths, literal_kinds, unary_use, binary_use}
+use Rattle.fb_structured_text.specs.Operators.{signs, strengths, unary_use, binary_use}
 use Rattle.fb_structured_text.specs.Expression.{levels, expression, variable_of, member_name, variable, expressions, subscripts, plain, subscripted, flat_reference, deep_reference, reference_value, literal, in_parentheses, parenthesized, flat_primary, deep_primary, with_sign, unary, row_of, operand, row, rows, reference}
 use Rattle.fb_spans.specs.Parts.{Part, expression_part, sign_part, operator_part, name_parts, option_parts, reference_parts, expression_parts, expressions_parts, operands_parts}
 use Rattle.fb_spans.specs.Written.{expression_span, span_through, SpellsPart, EndsAt, IsWritten, sign, operator}

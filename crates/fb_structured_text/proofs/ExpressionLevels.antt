@@ -9,7 +9,8 @@ use Rattle.fb_forms.specs.Words.{name}
 use Rattle.fb_forms.proofs.Forms.{among_left, among_right}
 use Rattle.fb_forms.proofs.Shapes.{Shape, IsWithin, among_append, apart_within}
 use Rattle.fb_tree.specs.Expression.{Expression}
-use Rattle.fb_structured_text.specs.Operators.{signs, strengths, literal_kinds}
+use Rattle.fb_forms.specs.Literals.{literal_kinds}
+use Rattle.fb_structured_text.specs.Operators.{signs, strengths}
 use Rattle.fb_structured_text.specs.Expression.{expression, rows, unary, flat_primary, deep_primary, literal, flat_reference, deep_reference, reference, parenthesized, member_name, expressions, subscripts, row, operand}
 
 within_row : (kinds afters found : List Kind) → IsWithin found afters → IsWithin (found ++ (kinds ++ found)) (kinds ++ afters)

@@ -1,6 +1,7 @@
 -- Reading rows of operands.
 use Rattle.std.proofs.Common.{◌≡◌, ℕ, zero, suc, ◌+◌, ◌-◌, ◌<◌, ◌≤◌, Bool, true, false, nat_eq, List, [], ◌∷◌, length, drop, Ok, Err, refl, sym, ap, subst, ◌∙◌, add-one, arith, eq-eqb}
 use Rattle.std.proofs.Math.Seq.{drop-cons}
+use borrow.Author.Tests.{eqb-true}
 use Rattle.fb_forms.specs.Lexemes.declared.kind.Kind.{Kind}
 use Rattle.fb_forms.specs.Lexemes.declared.kind.Kind.TheVariants.{Or}
 use Rattle.fb_forms.specs.Lexemes.declared.lexeme.Lexeme.{Lexeme}
@@ -141,6 +142,10 @@ kind_told (suc (suc (suc (suc (suc zero))))) kind h = (kinds_told kind).5
 kind_told (suc (suc (suc (suc (suc (suc zero)))))) kind h = (kinds_told kind).6
 kind_told (suc (suc (suc (suc (suc (suc (suc zero))))))) kind h = (kinds_told kind).7
 kind_told (suc (suc (suc (suc (suc (suc (suc (suc s)))))))) kind h = absurd (omega arith)
+
+-- an operator of a strength has it
+pub strength_told : (s : ℕ) (kind : Kind) → s < 8 → is_among (operators s) kind ≡ true → strength_of kind ≡ s
+strength_told s kind h among = eqb-true (strength_of kind) s (sym (kind_told s kind h) ∙ among)
 
 next_told : (s : ℕ) (ts : List Lexeme) → s < 8 → is_next (operators s) ts ≡ nat_eq (next_strength ts) s
 next_told s [] h = let none : nat_eq 8 s ≡ false = grind (arith, nat_tests) in sym none

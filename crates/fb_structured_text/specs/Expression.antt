@@ -5,13 +5,13 @@ use Rattle.fb_forms.specs.Lexemes.declared.kind.Kind.{Kind}
 use Rattle.fb_forms.specs.Lexemes.declared.kind.Kind.TheVariants.{Point, OpenBracket, CloseBracket, OpenParenthesis, CloseParenthesis}
 use Rattle.fb_forms.specs.Lexemes.declared.lexeme.Lexeme.{Lexeme}
 use Rattle.fb_forms.specs.Form.{Form, one, both, either, option, many, as_value}
-use Rattle.fb_forms.specs.Literals.{across, literal_use}
+use Rattle.fb_forms.specs.Literals.{across, literal_kinds, literal_use}
 use Rattle.fb_forms.specs.Words.{key, behind, list, name}
 use Rattle.fb_tree.specs.declared.expression.BinaryUse.{BinaryUse}
 use Rattle.fb_tree.specs.declared.expression.Reference.{Reference}
 use Rattle.fb_tree.specs.declared.expression.UnaryUse.{UnaryUse}
 use Rattle.fb_tree.specs.Expression.{Expression, literal_expression, reference_expression, unary_expression, row_expression, parentheses, Expressions, no_expressions, expressions_of, operands_of}
-use Rattle.fb_structured_text.specs.Operators.{signs, strengths, unary_use, binary_use, literal_kinds}
+use Rattle.fb_structured_text.specs.Operators.{signs, strengths, unary_use, binary_use}
 
 -- Expressions and statements nest at levels 0 to 64. The index of a form counts the levels below its own, so that level 0 has index 64.
 abbrev pub levels : ℕ

@@ -1,9 +1,8 @@
--- Operators, by the kinds of their tokens, and the kinds of literals.
-use Rattle.std.specs.Prelude.{ℕ, List, [], ◌∷◌, ◌++◌, slice_index_or}
+-- Operators, by the kinds of their tokens.
+use Rattle.std.specs.Prelude.{ℕ, List, [], ◌∷◌, slice_index_or}
 use Rattle.fb_forms.specs.Lexemes.declared.kind.Kind.{Kind}
-use Rattle.fb_forms.specs.Lexemes.declared.kind.Kind.TheVariants.{Or, Xor, Ampersand, And, Equal, NotEqual, Less, Greater, LessEqual, GreaterEqual, Plus, Minus, Times, Divide, Mod, Power, Not, Text, True, False}
+use Rattle.fb_forms.specs.Lexemes.declared.kind.Kind.TheVariants.{Or, Xor, Ampersand, And, Equal, NotEqual, Less, Greater, LessEqual, GreaterEqual, Plus, Minus, Times, Divide, Mod, Power, Not}
 use Rattle.fb_forms.specs.Lexemes.declared.lexeme.Lexeme.{Lexeme}
-use Rattle.fb_forms.specs.Literals.{number_kinds, typed_kinds}
 use Rattle.fb_tree.specs.declared.expression.BinaryOperator.{BinaryOperator}
 use Rattle.fb_tree.specs.declared.expression.BinaryOperator.TheVariants as between
 use Rattle.fb_tree.specs.declared.expression.BinaryUse.{BinaryUse}
@@ -56,10 +55,18 @@ abbrev pub next_strength : List Lexeme → ℕ
 next_strength [] = 8
 next_strength (token ∷ tokens) = strength_of token.kind
 
+-- what is no operator: their bodies stay closed to proofs, so that nothing is known of them
+pub no_sign : UnaryOperator
+no_sign = before.Not
+
+pub no_operator : BinaryOperator
+no_operator = between.Power
+
 abbrev pub unary_operator : Kind → UnaryOperator
 unary_operator Plus = before.Plus
 unary_operator Minus = before.Minus
-unary_operator _ = before.Not
+unary_operator Not = before.Not
+unary_operator _ = no_sign
 
 abbrev pub binary_operator : Kind → BinaryOperator
 binary_operator Or = between.Or
@@ -77,14 +84,11 @@ binary_operator Minus = between.Subtract
 binary_operator Times = between.Multiply
 binary_operator Divide = between.Divide
 binary_operator Mod = between.Modulo
-binary_operator _ = between.Power
+binary_operator Power = between.Power
+binary_operator _ = no_operator
 
 abbrev pub unary_use : Lexeme → UnaryUse
 unary_use token = record { operator = unary_operator token.kind; span = token.span }
 
 abbrev pub binary_use : Lexeme → BinaryUse
 binary_use token = record { operator = binary_operator token.kind; span = token.span }
-
--- NUMBER | TYPED | STRING | 'TRUE' | 'FALSE'
-abbrev pub literal_kinds : List Kind
-literal_kinds = number_kinds ++ (typed_kinds ++ (Text ∷ True ∷ False ∷ []))

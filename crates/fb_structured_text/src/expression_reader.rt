@@ -9,6 +9,7 @@ ghost use Rattle.fb_structured_text.specs.Expression.{
   expression,
   expressions,
   flat_primary,
+  levels,
   operand,
   parenthesized,
   primary,
@@ -51,7 +52,7 @@ fn parenthesized(alloc: Global, below: u8, tokens: &[Lexeme]) -> Result<(Expr, &
     ensures { Gives (λ x. (expression_tree x.0, x.1.now)) result (read (parenthesized (expression below)) tokens.now) }
 {
     let (open, rest) = key(tokens, Kind::OpenParenthesis)?;
-    let (inner, rest) = expression(alloc, below, rest)?;
+    let (inner, rest) = expression_at(alloc, below, rest)?;
     let (close, rest) = key(rest, Kind::CloseParenthesis)?;
     let span = across(open.span, close.span);
     Ok((Expr::Parentheses(Box::new(alloc, inner)?, span), rest))
@@ -143,7 +144,7 @@ fn expressions(
 ) -> Result<(Vec<Expr>, &[Lexeme]), Stop<'_>>
     ensures { Gives (λ x. (map expression_tree x.0.items, x.1.now)) result (read (expressions (expression below)) tokens.now) }
 {
-    let (first, mut rest) = expression(alloc, below, tokens)?;
+    let (first, mut rest) = expression_at(alloc, below, tokens)?;
     // Most variables have one subscript.
     let mut expressions = Vec::with_capacity(alloc, 1)?;
     expressions.push(first)?;
@@ -165,7 +166,7 @@ fn further_expression(
     ensures { Gives (λ x. (expression_tree x.0, x.1.now)) result (read (further (expression below)) tokens.now) }
 {
     let (_, rest) = key(tokens, Kind::Comma)?;
-    expression(alloc, below, rest)
+    expression_at(alloc, below, rest)
 }
 
 /// An operand with a sign before it, where one is written.
@@ -241,18 +242,28 @@ fn operand(
     requires { strength < 8 }
     ensures { Gives (λ x. ((x.0.0, expression_tree x.0.1), x.1.now)) result (read (operand (operators strength) (rows (drop (strength + 1) strengths) (unary (primary left)))) tokens.now) }
 {
-    let (operator, rest) = operator(tokens, operators(strength))?;
+    let (operator, rest) = operator(tokens, strength)?;
     let (value, rest) = row(alloc, strength + 1, left, rest)?;
     Ok(((operator, value), rest))
 }
 
-/// An expression with so many levels below it, at most [`LEVELS`], and the tokens behind it. On a fault the tokens from the first one
-/// that does not go on.
+/// An expression with so many levels below it.
 #[cycle(expression)]
-pub fn expression(alloc: Global, left: u8, tokens: &[Lexeme]) -> Result<(Expr, &[Lexeme]), Stop<'_>>
+pub fn expression_at(
+    alloc: Global,
+    left: u8,
+    tokens: &[Lexeme],
+) -> Result<(Expr, &[Lexeme]), Stop<'_>>
     ensures { Gives (λ x. (expression_tree x.0, x.1.now)) result (read (expression left) tokens.now) }
 {
     row(alloc, 0, left, tokens)
+}
+
+/// An expression at the outermost level, and the tokens behind it. On a fault the tokens from the first one that does not go on.
+pub fn expression(alloc: Global, tokens: &[Lexeme]) -> Result<(Expr, &[Lexeme]), Stop<'_>>
+    ensures { Gives (λ x. (expression_tree x.0, x.1.now)) result (read (expression levels) tokens.now) }
+{
+    expression_at(alloc, LEVELS, tokens)
 }
 
 /// A variable with its subscripts, in an expression or statement with so many levels below it.

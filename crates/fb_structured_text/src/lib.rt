@@ -8,6 +8,6 @@ mod operators;
 mod references;
 mod statement_reader;
 
-pub use expression_reader::{LEVELS, expression};
+pub use expression_reader::expression;
 pub use laws::{one_expression, one_statement};
 pub use statement_reader::statements;

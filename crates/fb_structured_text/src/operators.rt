@@ -1,11 +1,12 @@
 //! Operators and literals, by their tokens.
 ghost use Rattle.fb_forms.specs.Form.{as_value, one};
 ghost use Rattle.fb_forms.specs.Gives.{Gives};
+ghost use Rattle.fb_forms.specs.Lexemes.Kind.{is_among};
 ghost use Rattle.fb_forms.specs.Reading.{first, is_next, read};
 ghost use Rattle.fb_structured_text.specs.Expression.{literal};
 ghost use Rattle.fb_structured_text.specs.Operators.{binary_operator, binary_use, next_strength, operators, signs, strength_of, unary_operator, unary_use};
 ghost use Rattle.fb_tree.specs.Expression.{expression_tree};
-ghost use Rattle.std.specs.Prelude.{◌≡◌, ◌<◌};
+ghost use Rattle.std.specs.Prelude.{◌≡◌, ◌<◌, true};
 
 use fb_forms::lexemes::{Kind, Lexeme};
 use fb_forms::{Stop, is_next, literal_use, one_of};
@@ -67,16 +68,19 @@ pub fn next_strength(tokens: &[Lexeme]) -> u8
 }
 
 fn unary_operator(kind: Kind) -> UnaryOperator
+    requires { is_among signs kind ≡ true }
     ensures { result ≡ unary_operator kind }
 {
     match kind {
         Kind::Plus => UnaryOperator::Plus,
         Kind::Minus => UnaryOperator::Minus,
-        _ => UnaryOperator::Not,
+        Kind::Not => UnaryOperator::Not,
+        _ => unreachable!(),
     }
 }
 
 fn binary_operator(kind: Kind) -> BinaryOperator
+    requires { strength_of kind < 8 }
     ensures { result ≡ binary_operator kind }
 {
     match kind {
@@ -94,7 +98,8 @@ fn binary_operator(kind: Kind) -> BinaryOperator
         Kind::Times => BinaryOperator::Multiply,
         Kind::Divide => BinaryOperator::Divide,
         Kind::Mod => BinaryOperator::Modulo,
-        _ => BinaryOperator::Power,
+        Kind::Power => BinaryOperator::Power,
+        _ => unreachable!(),
     }
 }
 
@@ -110,14 +115,12 @@ pub fn sign(tokens: &[Lexeme]) -> Result<(UnaryUse, &[Lexeme]), Stop<'_>>
     Ok((sign, rest))
 }
 
-/// An operator of these kinds between operands.
-pub fn operator<'a>(
-    tokens: &'a [Lexeme],
-    kinds: &[Kind],
-) -> Result<(BinaryUse, &'a [Lexeme]), Stop<'a>>
-    ensures { Gives (λ x. (x.0, x.1.now)) result (read (as_value binary_use (one kinds.now)) tokens.now) }
+/// An operator of this strength between operands.
+pub fn operator(tokens: &[Lexeme], strength: u8) -> Result<(BinaryUse, &[Lexeme]), Stop<'_>>
+    requires { strength < 8 }
+    ensures { Gives (λ x. (x.0, x.1.now)) result (read (as_value binary_use (one (operators strength))) tokens.now) }
 {
-    let (token, rest) = one_of(tokens, kinds)?;
+    let (token, rest) = one_of(tokens, operators(strength))?;
     let operator = BinaryUse {
         operator: binary_operator(token.kind),
         span: token.span,

@@ -28,7 +28,7 @@ ghost use Rattle.fb_tree.specs.Expression.{expression_tree, expressions_of};
 ghost use Rattle.fb_tree.specs.Statement.{statement_tree};
 ghost use Rattle.std.specs.Prelude.{◌≡◌, ◌<◌, ◌-◌, map, option_map};
 
-use crate::expression_reader::{LEVELS, expression, reference};
+use crate::expression_reader::{LEVELS, expression_at, reference};
 use crate::labels::{begins_label, labels};
 use fb_forms::lexemes::{Kind, Lexeme};
 use fb_forms::{Stop, is_next, key, name};
@@ -56,7 +56,7 @@ fn announced(
     ensures { Gives (λ x. (expression_tree x.0, x.1.now)) result (read (announced word (expression left)) tokens.now) }
 {
     let (_, rest) = key(tokens, word)?;
-    expression(alloc, left, rest)
+    expression_at(alloc, left, rest)
 }
 
 #[tactic(auto, unfolding(crate::specs::Statement::assignment_statement))]
@@ -65,7 +65,7 @@ fn assignment(alloc: Global, left: u8, tokens: &[Lexeme]) -> Result<(Stmt, &[Lex
 {
     let ((variable, subscripts), rest) = reference(alloc, left, tokens)?;
     let (assign, rest) = key(rest, Kind::Assign)?;
-    let (value, rest) = expression(alloc, left, rest)?;
+    let (value, rest) = expression_at(alloc, left, rest)?;
     let (_, rest) = key(rest, Kind::Semicolon)?;
     Ok((Stmt::Assign(variable, subscripts, assign.span, value), rest))
 }
@@ -365,7 +365,7 @@ fn repeat_statement(
     ensures { Gives (λ x. (statement_tree x.0, x.1.now)) result (read (repeat_statement (expression left) (statement (left - 1))) tokens.now) }
 {
     let (body, rest) = enclosed(alloc, Kind::Repeat, left - 1, Kind::Until, tokens)?;
-    let (condition, rest) = expression(alloc, left, rest)?;
+    let (condition, rest) = expression_at(alloc, left, rest)?;
     let (_, rest) = key(rest, Kind::EndRepeat)?;
     Ok((Stmt::Repeat(body, condition), rest))
 }

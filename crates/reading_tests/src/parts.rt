@@ -1,8 +1,8 @@
 //! The parts of declarations.
 use crate::readers::{Part, read};
-use fb_parse::tree::LiteralForm;
-use fb_sections::forms::{literal_use, one_of};
-use fb_sections::lexemes::{Kind, lexemes};
+use fb_parse::tree::{Expr, LiteralForm};
+use fb_sections::lexemes::lexemes;
+use fb_structured_text::expression;
 use std::alloc::{AllocError, Global};
 use std::test::Fail;
 
@@ -277,17 +277,11 @@ static LITERALS: [(&str, LiteralForm); 5] = [
 
 #[test]
 fn literals(rt: HostRuntime) -> Result<(), Fail> {
-    let kinds = [
-        Kind::Zero,
-        Kind::Number,
-        Kind::RealNumber,
-        Kind::Text,
-        Kind::False,
-    ];
     for (text, form) in &LITERALS {
         let tokens = lexemes(rt.alloc(), text)?;
-        let (token, _) = one_of(tokens.as_slice(), &kinds)?;
-        assert_eq!(rt; literal_use(token).form, *form, "{text}");
+        let (value, _) = expression(rt.alloc(), tokens.as_slice())?;
+        let is_read = matches!(&value, Expr::Literal(literal) if literal.form == *form);
+        assert!(rt; is_read, "{text}");
     }
     Ok(())
 }

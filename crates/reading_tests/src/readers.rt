@@ -6,7 +6,7 @@ use fb_sections::{
     blocks, connections, data_variables, device, events, internal_variables, mappings, plugs,
     service, sockets, states, subapplications,
 };
-use fb_structured_text::{LEVELS, expression, statements};
+use fb_structured_text::{expression, statements};
 use std::alloc::Global;
 use std::test::Fail;
 
@@ -67,7 +67,7 @@ pub fn read(alloc: Global, part: Part, text: &str) -> Result<(String, usize), Fa
         Part::Device => told(alloc, device(alloc, tokens)),
         Part::Mappings => told(alloc, mappings(alloc, tokens)),
         Part::Service => Ok((String::new(alloc), service(tokens)?.len())),
-        Part::Expression => told(alloc, expression(alloc, LEVELS, tokens)),
+        Part::Expression => told(alloc, expression(alloc, tokens)),
         Part::Statements => told(alloc, statements(alloc, tokens)),
     }
 }

@@ -26,8 +26,8 @@ pub deep_primary-returns-else-is_next : goal.deep_primary-returns-else-is_next
 deep_primary-returns-else-is_next t c =
     rw (primary_parentheses (expression c.args.below) c.args.tokens.now (sym c.is_literal.ensures ∙ c.if-is_literal.false) (sym c.is_next.ensures ∙ c.if-is_next.false)) c.parenthesized.ensures
 
-pub expression-returns : goal.expression-returns
-expression-returns t c = rw (expression_is c.args.left) c.row.ensures
+pub expression_at-returns : goal.expression_at-returns
+expression_at-returns t c = rw (expression_is c.args.left) c.row.ensures
 
 pub expressions-loop-alloc-smaller : goal.expressions-loop-alloc-smaller
 expressions-loop-alloc-smaller t c = shorter (further (expression c.args.below)) c.loop-alloc.rest.now (expression_tree c.in_ok-next.next) c.in_ok-next.behind.now refl c.in_ok-next.ensures

@@ -9,8 +9,8 @@ use Rattle.fb_forms.specs.Repetition.{with_front}
 use Rattle.fb_structured_text.proofs.expression_reader.+expression.Given as goal
 
 -- A level is left behind in parentheses and in brackets; within one, the way leads from weaker operators to stronger ones.
-abbrev pub decreases-expression : goal.decreases-expression
-decreases-expression l = l.left * 64 + 40
+abbrev pub decreases-expression_at : goal.decreases-expression_at
+decreases-expression_at l = l.left * 64 + 40
 
 abbrev pub decreases-row : goal.decreases-row
 decreases-row l = l.left * 64 + (39 - 3 * l.strength)
