@@ -1,12 +1,11 @@
 //! The names among which those that block a unit are looked for.
 ghost use Rattle.std.specs.Prelude.{◌≡◌, IfOk, OnOk};
-ghost use Rattle.std.specs.List.Sorted.{IsStrictlySortedBy};
-ghost use Rattle.fb_text.specs.Order.{name_cmp};
 ghost use Rattle.fb_wiring.specs.Library.Seen.{Opens};
 ghost use Rattle.fb_flatten.specs.Hints.{AreRightHints};
 ghost use Rattle.fb_flatten.specs.Suspects.{AreSuspects, mentions_beyond};
 
 use crate::hints::{Hints, is_known_whole};
+use fb_table::{names_of, open_new};
 use fb_text::Name;
 use fb_wiring::library::{View, mentions_by_name};
 use std::alloc::{AllocError, Global};
@@ -49,28 +48,4 @@ fn open<V: View, H: Hints>(
     }
     let names = mentions_by_name(alloc, view, name)?;
     open_new(names.as_slice(), seen, pending)
-}
-
-/// Sees each name, and opens it where it is new.
-fn open_new(
-    names: &[Name],
-    seen: &mut BTreeSet<Name>,
-    pending: &mut Vec<Name>,
-) -> Result<(), AllocError>
-    ensures { OnOk result (Opens names.now seen.old.keys pending.old.items seen.new.keys pending.new.items) }
-{
-    for name in names {
-        if seen.insert(*name)? {
-            pending.push(*name)?;
-        }
-    }
-    Ok(())
-}
-
-/// The names of a set, in order.
-fn names_of(alloc: Global, set: &BTreeSet<Name>) -> Result<Vec<Name>, AllocError>
-    ensures items { IfOk result (λ names. names.items ≡ set.now.keys) }
-    ensures ordered { IsStrictlySortedBy name_cmp set.now.keys }
-{
-    set.iter().copied().collect(alloc)
 }

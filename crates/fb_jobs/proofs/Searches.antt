@@ -1,86 +1,37 @@
 -- A search among reads that stand by rising name, and what is found at its end.
-use Rattle.std.proofs.Common.{◌≡◌, ℕ, zero, suc, ◌<◌, ◌≤◌, false, cond, List, [], ◌∷◌, length, get_or, inl, inr, refl, sym, ap, subst, ◌∙◌, arith, Option, Some, None, Result, Ok, Err, IfOk, IfErr}
+use Rattle.std.proofs.Common.{◌≡◌, ℕ, zero, suc, ◌<◌, false, cond, List, [], ◌∷◌, length, map, get_or, refl, sym, ap, subst, ◌∙◌, arith, Option, Some, None, Result}
 use Rattle.std.specs.List.{AllByRecursion}
-use Rattle.std.specs.List.Sorted.{IsStrictlySortedBy, IsNonDecreasingBy, IsSearchInRange, IsBinarySearchResult}
-use Rattle.std.specs.Ordering.{is_eq, ordering_index, ordering_reverse}
-use Rattle.std.specs.declared.cmp.Ordering.{Ordering}
-use Rattle.std.specs.declared.cmp.Ordering.TheVariants.{Less, Equal, Greater}
-use Rattle.std.proofs.lemmas.Bool.{cases_lt}
+use Rattle.std.specs.List.Sorted.{IsStrictlySortedBy, IsSearchInRange, IsBinarySearchResult}
+use Rattle.std.specs.Ordering.{is_eq}
+use Rattle.std.specs.declared.cmp.Ordering.TheVariants.{Less}
 use Rattle.std.proofs.lemmas.Map.Keys.{Less-from_sorted}
 use Rattle.fb_text.specs.Order.{name_cmp}
 use Rattle.std.specs.Option.{option_map}
 use Rattle.std.proofs.lemmas.List.{get_or-map}
 use Rattle.fb_deploy.specs.Library.Texts.{Held, held, text_in, text_at}
 use Rattle.fb_deploy.specs.Library.Place.{IsAt, IsGapFor}
-use Rattle.fb_deploy.proofs.Library.Names.{name_total, exact_name}
-use Rattle.fb_deploy.proofs.Library.Places.{greater, less}
+use Rattle.fb_deploy.proofs.Library.Places.{greater}
+use Rattle.fb_deploy.proofs.Library.Searches.{Searched, searched as search_of}
 use Rattle.fb_jobs.specs.Reads.{Seen, read_names, read_texts, put_found}
 use Rattle.fb_jobs.specs.Values.{all_seen, seen_of, found_in}
 use Rattle.fb_jobs.specs.declared.read.Read.{Read}
 use Rattle.fb_jobs.proofs.SameNeeds.{at_itself}
 
--- the comparisons with a name rise along names in order
-index_rises : (x y n : List ℕ) → name_cmp x y ≡ Less → (r : Ordering) → name_cmp x n ≡ r → ordering_index r ≤ ordering_index (name_cmp y n)
-index_rises x y n lt Less e = omega arith
-index_rises x y n lt Equal e =
-    let above : name_cmp y n ≡ Greater = ap (name_cmp y) (sym (exact_name x n e)) ∙ name_total.antisymm y x ∙ ap ordering_reverse lt in
-    rw above (omega arith)
-index_rises x y n lt Greater e =
-    let above : name_cmp y n ≡ Greater = name_total.antisymm y n ∙ ap ordering_reverse (name_total.trans n x y (less x n e) lt) in
-    rw above (omega arith)
-
 abbrev names : List Read → List (List ℕ)
 names reads = read_names (all_seen reads)
-
-name_there : (reads : List Read) (i : ℕ) (d : Read) → i < length reads → get_or (names reads) i [] ≡ (get_or reads i d).name
-name_there [] i d lt = absurd (omega (arith, lt))
-name_there (r ∷ reads) zero d lt = refl
-name_there (r ∷ reads) (suc i) d lt = name_there reads i d (omega (arith, lt))
 
 count : (reads : List Read) → length (names reads) ≡ length reads
 count [] = refl
 count (r ∷ reads) = ap (λ n. suc n) (count reads)
 
-rises : (reads : List Read) (n : List ℕ) → IsStrictlySortedBy name_cmp (names reads) → IsNonDecreasingBy (λ (r : Read). ordering_index (name_cmp r.name n)) reads
-rises reads n sorted i j d le lt = elim (cases_lt i j) [
-  | inl before ↦
-      let first = name_there reads i d (omega (arith, before, lt)) in
-      let second = name_there reads j d lt in
-      let below = Less-from_sorted name_cmp (names reads) i j [] sorted before (omega (arith, lt, count reads)) in
-      index_rises (get_or reads i d).name (get_or reads j d).name n (sym (λ k. name_cmp (first k) (second k)) ∙ below) _ refl
-  | inr behind ↦
-      let same : i ≡ j = omega arith in
-      rw same (omega arith)
-]
-
-pub record Searched (reads : List Read) (n : List ℕ) (r : Result ℕ ℕ) : Type 0 where
-  pub found : IfOk r (IsAt (names reads) n)
-  pub absent : IfErr r (IsGapFor (names reads) n)
+names_are : (reads : List Read) → names reads ≡ map (λ (it : Read). it.name) reads
+names_are [] = refl
+names_are (r ∷ reads) = ap (λ l. r.name ∷ l) (names_are reads)
 
 -- a search ends at the read of that name, or where it would go
-pub searched : (reads : List Read) (n : List ℕ) (r : Result ℕ ℕ) → IsStrictlySortedBy name_cmp (names reads) → IsSearchInRange r (length reads) → IsBinarySearchResult (λ (it : Read). name_cmp it.name n) reads r → Searched reads n r
-searched [] n (Ok at) sorted within is = absurd (omega (arith, within))
-searched (u ∷ us) n (Ok at) sorted within is = record {
-  found = record {
-    in_range = omega (arith, within, count (u ∷ us));
-    named = name_there (u ∷ us) at u within ∙ exact_name _ n (is u);
-  };
-  absent = tt;
-}
-searched [] n (Err at) sorted within is = record {
-  found = tt;
-  absent = record { in_range = within; below = λ j lt. absurd (omega (arith, within)); above = λ j le lt. absurd (omega arith) };
-}
-searched (u ∷ us) n (Err at) sorted within is = record {
-  found = tt;
-  absent = record {
-    in_range = omega (arith, within, count (u ∷ us));
-    below = λ j lt. ap (λ m. name_cmp m n) (name_there (u ∷ us) j u (omega (arith, within, lt))) ∙ (is (rises (u ∷ us) n sorted)).0 j u (omega arith) lt;
-    above = λ j le lt.
-        let here : j < length (u ∷ us) = omega (arith, lt, count (u ∷ us)) in
-        ap (name_cmp n) (name_there (u ∷ us) j u here) ∙ less _ n ((is (rises (u ∷ us) n sorted)).1 j u le here);
-  };
-}
+pub searched : (reads : List Read) (n : List ℕ) (r : Result ℕ ℕ) → IsStrictlySortedBy name_cmp (names reads) → IsSearchInRange r (length reads) → IsBinarySearchResult (λ (it : Read). name_cmp it.name n) reads r → Searched (names reads) n r
+searched reads n r sorted within is =
+    subst (λ ns. Searched ns n r) (sym (names_are reads)) (search_of (λ (it : Read). it.name) reads n r (subst (IsStrictlySortedBy name_cmp) (names_are reads) sorted) within is)
 
 -- ---- what is held there
 

@@ -26,18 +26,6 @@ pub trait Kept {
         ensures { option_map (λ it. finding_of it.value) (option_copied result) ≡ kept self.now key.now };
 }
 
-/// Where nothing is kept.
-#[derive(Clone, Copy)]
-pub struct NothingKept;
-
-impl Kept for NothingKept {
-    ghost kept = { λ it key. None };
-
-    fn value(&self, _key: &Key) -> Option<&Arc<Value>> {
-        None
-    }
-}
-
 /// Nets by the names of their units.
 #[derive(Clone, Copy)]
 pub(crate) struct KeptNets<'a> {

@@ -11,7 +11,7 @@ mod result;
 mod value;
 
 pub use job::Job;
-pub use kept::{Kept, NothingKept};
+pub use kept::Kept;
 pub use key::{Key, Kind};
 pub use laws::{current_reads, least_stale, locality, needs_in_order};
 pub use read::{Read, TextRead, has_key, needed};

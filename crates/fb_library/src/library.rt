@@ -1,5 +1,5 @@
 //! The library of units.
-ghost use Rattle.std.specs.Prelude.{◌≡◌, [], IfOk, IfErr, IfSome, OnOk, OnErr, length, slice_get, map};
+ghost use Rattle.std.specs.Prelude.{◌≡◌, [], IfOk, IfSome, OnOk, OnErr, length, slice_get};
 ghost use Rattle.std.specs.Option.{option_map};
 ghost use Rattle.std.specs.List.Sorted.{IsStrictlySortedBy};
 ghost use Rattle.std.specs.Map.{remove_entry};
@@ -7,21 +7,20 @@ ghost use Rattle.std.specs.BTreeMap.{insert_entry, is_at};
 ghost use Rattle.fb_text.specs.Order.{name_cmp};
 ghost use Rattle.fb_library.specs.Texts.{held, text_at, revision_of, names_of, sources_of, edited, all_edited};
 ghost use Rattle.fb_library.specs.Changes.{edit_of, edits_of};
-ghost use Rattle.fb_library.specs.Place.{IsAt, IsGapFor};
-ghost use Rattle.fb_library.specs.Shelf.{held_of};
+ghost use Rattle.fb_library.specs.Filed.{held_of};
 
 use crate::change::Change;
 use crate::look_up::View;
 use fb_parse::Source;
+use fb_table::Table;
 use fb_text::Name;
 use std::alloc::{AllocError, Global};
 use std::marker::Model;
 use std::sync::Arc;
 
-/// A unit as it is kept.
-#[derive(Clone, Drop)]
+/// What is kept of a unit.
+#[derive(Drop)]
 pub(crate) struct Filed {
-    unit: Name,
     revision: u64,
     source: Arc<Source>,
 }
@@ -29,7 +28,8 @@ pub(crate) struct Filed {
 /// The texts of a workbench by name.
 #[derive(Drop)]
 pub struct Library {
-    units: Vec<Filed>,
+    alloc: Global,
+    units: Table<Filed>,
 }
 
 impl Model for Library {
@@ -37,11 +37,11 @@ impl Model for Library {
 
     ghost Value = { Texts };
 
-    ghost use Rattle.fb_library.specs.Shelf.{texts_of, IsShelf};
+    ghost use Rattle.fb_library.specs.Filed.{texts_of, AreOwn};
 
-    ghost view = { λ it. texts_of it.units.items };
+    ghost view = { λ it. texts_of it.units };
 
-    ghost invariant = { λ it. IsShelf it.units.items };
+    ghost invariant = { λ it. AreOwn it.units };
 }
 
 impl Library {
@@ -50,7 +50,8 @@ impl Library {
         ensures { result ≡ [] }
     {
         Library {
-            units: Vec::new(alloc),
+            alloc,
+            units: Table::new(alloc),
         }
     }
 
@@ -66,27 +67,15 @@ impl Library {
         ensures name { result ≡ slice_get (names_of self.now) index }
         ensures sorted { IsStrictlySortedBy name_cmp (names_of self.now) }
     {
-        match self.units.get(index) {
-            Some(filed) => Some(filed.unit),
-            None => None,
-        }
+        self.units.name_at(index)
     }
 
     /// The names of the units, in order.
-    #[tactic(auto, using(crate::proofs::Shelves::names_in_shelf))]
     pub fn names(&self, alloc: Global) -> Result<Vec<Name>, AllocError>
         ensures names { IfOk result (λ names. names.items ≡ names_of self.now) }
         ensures sorted { IsStrictlySortedBy name_cmp (names_of self.now) }
     {
-        units_of(alloc, self.units.as_slice())
-    }
-
-    /// Where the unit is, or where it would go.
-    fn place(&self, unit: &Name) -> Result<usize, usize>
-        ensures found { IfOk result (IsAt (names_of self.now) unit.now) }
-        ensures absent { IfErr result (IsGapFor (names_of self.now) unit.now) }
-    {
-        self.units.binary_search_by_key(unit, |filed| filed.unit)
+        self.units.names(alloc)
     }
 
     /// What is filed under a unit.
@@ -94,9 +83,9 @@ impl Library {
         ensures held { option_map (λ it. held_of it.now) result ≡ held self.now unit.now }
         ensures own { IfSome result (λ it. it.now.source.value.unit ≡ unit.now) }
     {
-        match self.place(unit) {
-            Ok(at) => Some(&self.units[at]),
-            Err(_) => None,
+        match self.units.get(unit) {
+            Some(filed) => Some(filed),
+            None => None,
         }
     }
 
@@ -125,34 +114,25 @@ impl Library {
     pub fn copy(&self) -> Result<Library, AllocError>
         ensures { IfOk result (λ copy. copy ≡ self.now) }
     {
-        let units = self.units.clone()?;
-        Ok(Library { units })
+        let units = self.units.copy()?;
+        Ok(Library {
+            alloc: self.alloc,
+            units,
+        })
     }
 
     fn put(&mut self, revision: u64, source: Arc<Source>) -> Result<(), AllocError>
         ensures { OnOk result (self.new ≡ insert_entry name_cmp self.old source.value.unit (record { revision = revision; text = source.value.text })) }
     {
         let unit = source.unit();
-        let filed = Filed {
-            unit,
-            revision,
-            source,
-        };
-        match self.place(&unit) {
-            Ok(at) => {
-                self.units[at] = filed;
-                Ok(())
-            }
-            Err(at) => Ok(self.units.insert(at, filed)?),
-        }
+        let filed = Arc::new(self.alloc, Filed { revision, source })?;
+        self.units.put(unit, filed)
     }
 
-    fn remove(&mut self, unit: &Name)
-        ensures { self.new ≡ remove_entry (is_at (name_cmp unit.now)) self.old }
+    fn remove(&mut self, unit: &Name) -> Result<(), AllocError>
+        ensures { OnOk result (self.new ≡ remove_entry (is_at (name_cmp unit.now)) self.old) }
     {
-        if let Ok(at) = self.place(unit) {
-            let _ = self.units.remove(at);
-        }
+        self.units.remove(unit)
     }
 
     fn edit(&mut self, commit: u64, change: &Change) -> Result<(), AllocError>
@@ -163,10 +143,7 @@ impl Library {
                 let source = source.clone()?;
                 self.put(commit, source)
             }
-            Change::Remove { unit, base: _ } => {
-                self.remove(unit);
-                Ok(())
-            }
+            Change::Remove { unit, base: _ } => self.remove(unit),
         }
     }
 
@@ -189,17 +166,6 @@ impl Library {
         *self = self.edited(commit, changes)?;
         Ok(())
     }
-}
-
-/// The names of the units.
-fn units_of(alloc: Global, units: &[Filed]) -> Result<Vec<Name>, AllocError>
-    ensures { IfOk result (λ names. names.items ≡ map (λ it. it.unit) units.now) }
-{
-    let mut names = Vec::new(alloc);
-    for filed in units {
-        names.push(filed.unit)?;
-    }
-    Ok(names)
 }
 
 impl View for Library {

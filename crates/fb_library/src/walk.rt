@@ -1,12 +1,12 @@
 //! The names that a unit rests on.
-ghost use Rattle.std.specs.Prelude.{◌≡◌, ℕ, List, Contains, ◌↔◌, IfOk, OnOk};
+ghost use Rattle.std.specs.Prelude.{ℕ, List, Contains, IfOk};
 ghost use Rattle.std.specs.List.Sorted.{IsStrictlySortedBy};
 ghost use Rattle.fb_text.specs.Order.{name_cmp};
 ghost use Rattle.fb_library.specs.Rests.{Rests};
-ghost use Rattle.fb_library.specs.Seen.{Opens};
 
 use crate::look_up::View;
 use crate::reads::mentions_by_name;
+use fb_table::{names_of, open_new};
 use fb_text::Name;
 use std::alloc::{AllocError, Global};
 use std::collections::BTreeSet;
@@ -28,28 +28,4 @@ pub fn far<V: View>(alloc: Global, view: &V, unit: Name) -> Result<Vec<Name>, Al
         open_new(names.as_slice(), &mut seen, &mut pending)?;
     }
     names_of(alloc, &seen)
-}
-
-/// Sees each name, and opens it where it is new.
-fn open_new(
-    names: &[Name],
-    seen: &mut BTreeSet<Name>,
-    pending: &mut Vec<Name>,
-) -> Result<(), AllocError>
-    ensures { OnOk result (Opens names.now seen.old.keys pending.old.items seen.new.keys pending.new.items) }
-{
-    for name in names {
-        if seen.insert(*name)? {
-            pending.push(*name)?;
-        }
-    }
-    Ok(())
-}
-
-/// The names of a set, in order.
-fn names_of(alloc: Global, set: &BTreeSet<Name>) -> Result<Vec<Name>, AllocError>
-    ensures items { IfOk result (λ names. names.items ≡ set.now.keys) }
-    ensures ordered { IsStrictlySortedBy name_cmp set.now.keys }
-{
-    set.iter().copied().collect(alloc)
 }

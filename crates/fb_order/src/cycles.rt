@@ -6,6 +6,7 @@ ghost use Rattle.fb_library.specs.Seen.{has_name, Opens};
 ghost use Rattle.fb_order.specs.Graph.{Follows, IsReverse, IsDecided, AreDecided, edges_at, edges_within};
 
 use crate::graph::{Edges, Graph};
+use fb_table::names_of;
 use fb_text::Name;
 use std::alloc::{AllocError, Global};
 use std::collections::BTreeSet;
@@ -83,13 +84,6 @@ fn round_of(
     let behind = walk(alloc, back, name, undecided)?;
     let round = walk(alloc, forth, name, &behind)?;
     names_of(alloc, &round)
-}
-
-/// The names of a set.
-fn names_of(alloc: Global, set: &BTreeSet<Name>) -> Result<Vec<Name>, AllocError>
-    ensures { IfOk result (λ names. names.items ≡ set.now.keys) }
-{
-    set.iter().copied().collect(alloc)
 }
 
 /// The name is decided with its round, and the round is found.

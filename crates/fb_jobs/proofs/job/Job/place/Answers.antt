@@ -9,13 +9,14 @@ use Rattle.fb_jobs.specs.Values.{all_seen}
 use Rattle.fb_jobs.specs.declared.read.Read.{Read}
 use Rattle.fb_jobs.specs.Finished.{order_of}
 use Rattle.fb_jobs.proofs.Currents.{reads_rise}
-use Rattle.fb_jobs.proofs.Searches.{Searched, searched}
+use Rattle.fb_deploy.proofs.Library.Searches.{Searched}
+use Rattle.fb_jobs.proofs.Searches.{searched}
 use Rattle.fb_jobs.proofs.job.Job.place.Goals as goal
 
 same : (c : goal.After-binary_search_by_key) → c.deref-2.result.now ≡ c.self.inside.reads.value.items
 same c = c.deref-2.ensures.value ∙ ap (λ it. it.items) c.deref.ensures
 
-ends : (c : goal.After-binary_search_by_key) → Searched c.deref-2.result.now c.args.name.now c.binary_search_by_key.result
+ends : (c : goal.After-binary_search_by_key) → Searched (read_names (all_seen c.deref-2.result.now)) c.args.name.now c.binary_search_by_key.result
 ends c =
     let facts = c.binary_search_by_key.ensures in
     let by_name = facts.position (λ (read : Read). read.name) (answers_always _ _ _ (λ f a r g called. search rules)) in

@@ -1,26 +1,21 @@
--- What stands at the place is held under the name, and nothing is held where there is a gap.
-use Rattle.std.proofs.Common.{Some, sym, ap, subst, ◌∙◌}
-use Rattle.fb_library.specs.Place.{IsAt, IsGapFor}
-use Rattle.fb_library.specs.Shelf.{held_of}
-use Rattle.fb_library.specs.Texts.{Texts, held, names_of}
-use Rattle.fb_library.proofs.Shelves.{held_at, own_at, held_in_gap}
+-- What the table has under the name is held there.
+use Rattle.std.proofs.Common.{Some, sym, ap, ◌∙◌}
+use Rattle.std.specs.Option.{option_map}
+use Rattle.fb_library.specs.Filed.{held_of}
+use Rattle.fb_library.specs.Texts.{Texts, held}
+use Rattle.fb_library.proofs.Units.{held_there, own_there}
 use Rattle.fb_library.proofs.library.Library.find.Goals as goal
 
-pub returns-in-Ok-clause-held : goal.returns-in-Ok-clause-held
-returns-in-Ok-clause-held c =
-    let units = c.self.inside.units.items in
+pub returns-in-Some-clause-held : goal.returns-in-Some-clause-held
+returns-in-Some-clause-held c =
     let unit = c.args.unit.now in
-    let there = subst (λ (texts : Texts). IsAt (names_of texts) unit c.in-Ok.at) (sym c.self.view_is) c.in-Ok.ensures.found in
-    ap (λ it. Some (held_of it)) c.index.ensures ∙ sym (held_at units unit c.in-Ok.at c.index.result.now c.self.invariant there) ∙ ap (λ (texts : Texts). held texts unit) c.self.view_is
+    ap (λ it. Some (held_of it)) c.deref.ensures ∙ ap (option_map held_of) c.in-Some.ensures ∙ sym (held_there c.self.inside.units unit) ∙ ap (λ (texts : Texts). held texts unit) c.self.view_is
 
-pub returns-in-Ok-clause-own : goal.returns-in-Ok-clause-own
-returns-in-Ok-clause-own c =
-    let unit = c.args.unit.now in
-    let there = subst (λ (texts : Texts). IsAt (names_of texts) unit c.in-Ok.at) (sym c.self.view_is) c.in-Ok.ensures.found in
-    ap (λ it. it.source.value.unit) c.index.ensures ∙ own_at c.self.inside.units.items unit c.in-Ok.at c.index.result.now c.self.invariant there
+pub returns-in-Some-clause-own : goal.returns-in-Some-clause-own
+returns-in-Some-clause-own c =
+    ap (λ it. it.source.value.unit) c.deref.ensures ∙ own_there c.self.inside.units c.args.unit.now c.in-Some.filed.now.value c.self.invariant (sym c.in-Some.ensures)
 
-pub returns-in-Err-clause-held : goal.returns-in-Err-clause-held
-returns-in-Err-clause-held c =
+pub returns-in-None-clause-held : goal.returns-in-None-clause-held
+returns-in-None-clause-held c =
     let unit = c.args.unit.now in
-    let gap = subst (λ (texts : Texts). IsGapFor (names_of texts) unit c.in-Err.field-0) (sym c.self.view_is) c.in-Err.ensures.absent in
-    sym (held_in_gap c.self.inside.units.items unit c.in-Err.field-0 gap) ∙ ap (λ (texts : Texts). held texts unit) c.self.view_is
+    ap (option_map held_of) c.in-None.ensures ∙ sym (held_there c.self.inside.units unit) ∙ ap (λ (texts : Texts). held texts unit) c.self.view_is

@@ -1,0 +1,11 @@
+pub mod Appended
+pub mod Counts
+pub mod Entries
+pub mod Kept
+pub mod Names
+pub mod Places
+pub mod Room
+pub mod Searches
+pub mod SeenLemmas
+pub mod Tables
+pub mod OnShelves

@@ -1,0 +1,10 @@
+//! Values by name, and walks from name to name.
+#![tactic(auto)]
+
+mod shelf;
+mod shelves;
+mod table;
+mod walk;
+
+pub use table::Table;
+pub use walk::{names_of, open_new};
