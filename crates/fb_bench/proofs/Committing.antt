@@ -1,9 +1,10 @@
 -- A commit's answer, and what it leaves.
-use Rattle.std.proofs.Common.{◌≡◌, ℕ, ◌+◌, ◌<◌, ◌≤◌, true, false, List, [], ◌∷◌, map, length, refl, sym, ap, ◌∙◌, subst, Option, Some, None, cond, nat_lt, ◌==◌, arith, Vec}
+use Rattle.std.proofs.Common.{◌≡◌, ℕ, ◌+◌, ◌<◌, ◌≤◌, Bool, true, false, List, [], ◌∷◌, map, length, refl, sym, ap, ◌∙◌, subst, Option, Some, None, cond, nat_lt, ◌==◌, arith, Vec}
 use Rattle.std.proofs.lemmas.Bool.Decides.{nat_tests}
 use Rattle.std.specs.BTreeMap as tree
 use Rattle.std.specs.BTreeSet as set
-use Rattle.fb_jobs.specs.Library.Texts.{Texts, Held, held, Edit, Puts, Removes, unit_of, all_edited}
+use Rattle.std.specs.Option.{option_map}
+use Rattle.fb_jobs.specs.Library.Texts.{Texts, Held, held, text_in, text_at, Edit, Puts, Removes, unit_of, all_edited}
 use Rattle.fb_jobs.specs.declared.key.Key.{Key}
 use Rattle.fb_jobs.specs.KeyOrder.{key_cmp}
 use Rattle.fb_bench.specs.declared.entry.Entry.{Entry}
@@ -20,7 +21,8 @@ use Rattle.fb_bench.specs.declared.renewal.Renewal.{Renewal}
 use Rattle.fb_bench.specs.Renew.{is_of, waiting_if, IsRenewal, HasRoom, AreKeys, items_or}
 use Rattle.std.specs.declared.alloc.Global.{Global}
 use Rattle.fb_bench.proofs.Steps.{reply_commit, after_commit_is}
-use Rattle.fb_bench.proofs.Renewing.{ScratchLocal}
+use Rattle.fb_bench.specs.Laws.{AgreeApartFrom}
+use Rattle.fb_bench.proofs.Renewing.{ScratchLocal, held_all_edited}
 use Rattle.fb_bench.proofs.Renewals.{agrees_done}
 use Rattle.fb_bench.proofs.KeysKept.{keys_after}
 
@@ -152,3 +154,20 @@ keys_done n edits T U story begins old_entries old_ready old_waiting it keys now
     now_is
     ∙ keys_after (n + 1) n edits T story begins old_entries old_ready old_waiting it keys made agrees (subst (λ us. IsRenewal us (map unit_of edits) old_entries old_ready old_waiting it) units found) were (subst (λ us. AreKeys us old_entries it.fresh.items it.gone.items made) units are)
     ∙ ap keys_of (sym units)
+
+-- ---- a commit that nothing is against
+
+-- changes no unit twice
+pub changes_once : (T : Texts) (edits : List Edit) → None ≡ refusal T edits → first_repeated (map unit_of edits) ≡ None
+changes_once T edits none = by (length edits == 0) (nat_lt 16 (length edits)) (first_repeated (map unit_of edits)) none
+  where
+    by : (a b : Bool) (o : Option (List ℕ)) → None ≡ cond a (Some NoChange) (cond b (Some TooManyChanges) (or_some (repeated_refusal o) (first_misfit T edits))) → o ≡ None
+    by true b o e = cc
+    by false true o e = cc
+    by false false None e = refl
+    by false false (Some unit) e = cc
+
+-- and changes these units alone
+pub others_stay : (commit : ℕ) (edits : List Edit) (T U : Texts) → U ≡ all_edited commit edits T → AgreeApartFrom (map unit_of edits) T U
+others_stay commit edits T U is name apart =
+    sym (ap (λ us. text_at us name) is ∙ ap (option_map text_in) (held_all_edited name commit edits T apart))

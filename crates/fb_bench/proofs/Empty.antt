@@ -13,8 +13,8 @@ use Rattle.fb_jobs.specs.KeyOrder.{key_cmp}
 use Rattle.fb_bench.specs.declared.entry.Entry.{Entry}
 use Rattle.fb_bench.specs.Story.{Log, IsOrigin, opened, start, replay, replies}
 use Rattle.fb_bench.specs.Kept.{Agrees, IsKept, EntryFits}
-use Rattle.fb_bench.specs.declared.users.Users.{Users}
-use Rattle.fb_bench.proofs.Reached.{covers_none}
+use Rattle.fb_index.specs.Near.{Users}
+use Rattle.fb_bench.proofs.Indexing.{indexed_none}
 use Rattle.fb_bench.proofs.Least.{no_kind}
 
 no_key : (key : Key) → has_key [] key ≡ false
@@ -34,12 +34,12 @@ agrees_empty most entries ready waiting no_entries no_keys none_wait = record {
   waiting_are = λ key. ap (λ ks. list_any (is_at (key_cmp key)) ks) none_wait;
 }
 
-kept_start : (most limit : ℕ) (entries : tree.BTreeMap Key Entry) (ready waiting : set.BTreeSet Key) (users : Users) → entries.entries ≡ [] → ready.keys ≡ [] → waiting.keys ≡ [] → IsKept [] 0 [] entries ready waiting users (record { origin = start most; log = record { limit = limit; records = [] } })
+kept_start : (most limit : ℕ) (entries : tree.BTreeMap Key Entry) (ready waiting : set.BTreeSet Key) (index : Users) → entries.entries ≡ [] → ready.keys ≡ [] → waiting.keys ≡ [] → index ≡ [] → IsKept [] 0 [] entries ready waiting index (record { origin = start most; log = record { limit = limit; records = [] } })
 unfolding replay replies
-kept_start most limit entries ready waiting users no_entries no_keys none_wait = record { begins = begins_empty most; agrees = agrees_empty most entries ready waiting no_entries no_keys none_wait; replayed = refl; keys_are = refl; covers = covers_none users; few = omega arith }
+kept_start most limit entries ready waiting index no_entries no_keys none_wait empty = record { begins = begins_empty most; agrees = agrees_empty most entries ready waiting no_entries no_keys none_wait; replayed = refl; keys_are = refl; indexed = indexed_none [] index refl empty; few = omega arith }
 
-pub kept_empty : (most limit : ℕ) (units : Texts) (keys : List Key) (entries : tree.BTreeMap Key Entry) (ready waiting : set.BTreeSet Key) (users : Users) (log : Log) → units ≡ [] → keys ≡ [] → entries.entries ≡ [] → ready.keys ≡ [] → waiting.keys ≡ [] → log ≡ record { limit = limit; records = [] } → IsKept units 0 keys entries ready waiting users (record { origin = start most; log = log })
-kept_empty most limit units keys entries ready waiting users log no_units none no_entries no_keys none_wait is =
-    subst (λ l. IsKept units 0 keys entries ready waiting users (record { origin = start most; log = l })) (sym is)
-    (subst (λ us. IsKept us 0 keys entries ready waiting users (record { origin = start most; log = record { limit = limit; records = [] } })) (sym no_units)
-    (subst (λ ks. IsKept [] 0 ks entries ready waiting users (record { origin = start most; log = record { limit = limit; records = [] } })) (sym none) (kept_start most limit entries ready waiting users no_entries no_keys none_wait)))
+pub kept_empty : (most limit : ℕ) (units : Texts) (keys : List Key) (entries : tree.BTreeMap Key Entry) (ready waiting : set.BTreeSet Key) (index : Users) (log : Log) → units ≡ [] → keys ≡ [] → entries.entries ≡ [] → ready.keys ≡ [] → waiting.keys ≡ [] → index ≡ [] → log ≡ record { limit = limit; records = [] } → IsKept units 0 keys entries ready waiting index (record { origin = start most; log = log })
+kept_empty most limit units keys entries ready waiting index log no_units none no_entries no_keys none_wait empty is =
+    subst (λ l. IsKept units 0 keys entries ready waiting index (record { origin = start most; log = l })) (sym is)
+    (subst (λ us. IsKept us 0 keys entries ready waiting index (record { origin = start most; log = record { limit = limit; records = [] } })) (sym no_units)
+    (subst (λ ks. IsKept [] 0 ks entries ready waiting index (record { origin = start most; log = record { limit = limit; records = [] } })) (sym none) (kept_start most limit entries ready waiting index no_entries no_keys none_wait empty)))

@@ -11,7 +11,7 @@ pub mod Numbers
 pub mod Sorted
 pub mod AfterCalls
 pub mod Reached
-pub mod UserSteps
+pub mod Indexing
 pub mod Renewals
 pub mod KeySteps
 pub mod KeysKept

@@ -1,119 +1,186 @@
--- A key whose value a changed name decides is of a unit that is reached from it.
-use Rattle.std.proofs.Common.{◌≡◌, ℕ, zero, suc, Bool, true, false, ◌||◌, List, [], ◌∷◌, ◌++◌, map, length, ◌⊎◌, inl, inr, refl, sym, ap, subst, ◌∙◌}
+-- What is reached by the index is what the machine says.
+use Rattle.std.proofs.Common.{◌≡◌, ◌↔◌, ℕ, true, false, ◌||◌, List, [], ◌∷◌, ◌++◌, ◌⊎◌, inl, inr, refl, sym, ap, subst, ◌∙◌, Option, Some, None, is_some}
 use Rattle.std.proofs.lemmas.Bool.{false≢true}
-use Rattle.std.proofs.lemmas.List.Elements.{Contains-append_cases}
-use Rattle.std.specs.List.{Contains, flat_map, list_any}
-use Rattle.std.specs.Cmp.Lexicographic.{nat_list_cmp_total}
-use Rattle.std.specs.FinMap.{slice_cmp-IsAntisymmetric, nat_cmp-IsAntisymmetric}
-use Rattle.std.specs.Option.{option_map, option_and_then}
+use Rattle.std.specs.List.{Contains, list_any}
+use Rattle.std.specs.BTreeMap.{is_at}
 use Rattle.fb_text.specs.Order.{name_cmp}
-use Rattle.fb_text.proofs.OrderLemmas.{in_order-members}
-use Rattle.fb_jobs.specs.Library.Texts.{Texts, Edit, unit_of, all_edited, sources_of, text_in}
-use Rattle.fb_jobs.specs.Library.View.{Sources, tree_of, mentions_in, mentions_at, near_of}
-use Rattle.fb_jobs.specs.Flatten.Far.{all_mentioned, opened, opened_times, far_of}
-use Rattle.fb_jobs.proofs.Library.Sources.{get_source}
-use Rattle.fb_jobs.proofs.Library.WalkLemmas.{Contains-has, has-Contains}
-use Rattle.fb_jobs.proofs.Iface.Members.{origin_in_flat_map, contains_single}
-use Rattle.fb_jobs.proofs.SameNeeds.{at_itself}
+use Rattle.fb_index.specs.Near.{Users, is_near, Reaches, near, through, ReachesSome}
+use Rattle.fb_index.proofs.Lookups.{flips}
+use Rattle.fb_index.proofs.Table.SeenLemmas.{by_bool, or_left, or_right, or_cases, or_false, same_is, same_self, Contains-has, has-Contains}
+use Rattle.fb_flatten.proofs.FarNames.{far_is_all}
+use Rattle.fb_jobs.specs.Flatten.Far.{far_of}
+use Rattle.fb_jobs.specs.Library.Texts.{Texts, sources_of, text_at}
+use Rattle.fb_jobs.specs.Library.View.{Sources, mentions_at, near_of}
+use Rattle.fb_jobs.specs.Library.Rests.{Rests, itself, through as on}
 use Rattle.fb_jobs.specs.declared.key.Kind.{Kind}
 use Rattle.fb_jobs.specs.declared.key.Kind.TheVariants.{Faults, Net, Deploy}
 use Rattle.fb_jobs.specs.declared.key.Key.{Key}
-use Rattle.fb_jobs.specs.Keys.{needs, needs_of}
+use Rattle.fb_jobs.specs.Keys.{has_key, has_kind_at, needs}
 use Rattle.fb_jobs.specs.Reads.{is_among}
-use Rattle.fb_bench.specs.declared.users.Users.{Users}
-use Rattle.fb_bench.specs.Machine.{reaches}
-use Rattle.fb_bench.specs.Users.{IsUser, Covers, KeepsUsers, IsReach}
-use Rattle.fb_bench.proofs.Renewing.{held_all_edited}
+use Rattle.fb_bench.specs.Machine.{reaches, keys_of_kind}
+use Rattle.fb_bench.specs.Indexed.{IsIndexOf, IsReached}
+use Rattle.fb_bench.specs.Renew.{is_of}
+use Rattle.fb_bench.proofs.Indexing.{near_names, near_apart}
+use Rattle.fb_bench.proofs.Least.{no_kind}
+use Rattle.fb_bench.proofs.Renewing.{of_both}
 
-or_left : (a b : Bool) → a ≡ true → (a || b) ≡ true
-or_left a b e = ap (λ x. x || b) e
+-- ---- a unit of the texts
 
-or_right : (a b : Bool) → b ≡ true → (a || b) ≡ true
-or_right true b e = refl
-or_right false b e = e
+present_kind : (kind : Kind) (text : Option (List ℕ)) → has_kind_at kind text ≡ true → is_some text ≡ true
+present_kind kind None has = absurd (false≢true (sym (no_kind kind) ∙ has))
+present_kind kind (Some text) has = refl
 
-module _ (users : Users) (texts : Texts) (covers : Covers users texts) (names found : List (List ℕ)) (reach : IsReach users names found) where
+present : (texts : Texts) (key : Key) → has_key texts key ≡ true → is_some (text_at texts key.unit) ≡ true
+unfolding has_key
+present texts key has = present_kind key.kind (text_at texts key.unit) has
+
+module _ (texts : Texts) (index : Users) (is : IsIndexOf texts index) where
   abbrev sources : Sources
   sources = sources_of texts
 
-  -- where one of these is found, so is the unit
-  abbrev Leads : List ℕ → List (List ℕ) → Type 0
-  Leads unit ns = (q : List ℕ) → Contains ns q → is_among q found ≡ true → is_among unit found ≡ true
+  -- what is near it by the index
+  near_is : (unit n : List ℕ) → is_near index unit unit ≡ true → is_near index unit n ≡ is_among n (near_of sources unit)
+  near_is unit n there = by_bool (is_at (name_cmp unit) n)
+      (λ t.
+      sym (ap (is_near index unit) (same_is unit n t)) ∙ there
+      ∙ sym (near_names sources unit n ∙ or_right (is_among n (mentions_at sources unit)) _ (flips n unit ∙ t)))
+      (λ f. is.mentions unit n f ∙ sym (near_apart sources unit n f))
 
-  leads_one : (unit : List ℕ) → Leads unit (unit ∷ [])
-  leads_one unit q c here = ap (λ n. is_among n found) (contains_single unit q c) ∙ here
+  mentioned : (unit n : List ℕ) → is_at (name_cmp unit) n ≡ false → Contains (mentions_at sources unit) n → is_near index unit n ≡ true
+  mentioned unit n apart m = is.mentions unit n apart ∙ has-Contains n (mentions_at sources unit) m
 
-  leads_mentions : (unit : List ℕ) → Leads unit (mentions_at sources unit)
-  leads_mentions unit q c here = reach.closed q unit here (covers unit q c)
+  mentions : (unit n : List ℕ) → is_at (name_cmp unit) n ≡ false → is_near index unit n ≡ true → Contains (mentions_at sources unit) n
+  mentions unit n apart here = Contains-has n (mentions_at sources unit) (sym (is.mentions unit n apart) ∙ here)
 
-  leads_opened : (unit : List ℕ) (ns : List (List ℕ)) → Leads unit ns → Leads unit (opened sources ns)
-  leads_opened unit ns leads q c here =
-      by (Contains-append_cases (flat_map (mentions_at sources) ns) ns q ((in_order-members name_cmp nat_list_cmp_total (slice_cmp-IsAntisymmetric nat_cmp-IsAntisymmetric) (flat_map (mentions_at sources) ns ++ ns) q).0 c))
+  -- and what is far of it
+  rests_reaches : {u v : List ℕ} → Rests sources u v → (u ≡ v) ⊎ Reaches index u v
+  rests_reaches itself = inl refl
+  rests_reaches {u} {v} (on {w = w} m r) = further (rests_reaches r)
     where
-      by : Contains (flat_map (mentions_at sources) ns) q ⊎ Contains ns q → is_among unit found ≡ true
-      by (inl m) = let o = origin_in_flat_map (mentions_at sources) ns q m in leads o.origin o.among (leads_mentions o.origin q o.has here)
-      by (inr h) = leads q h here
+      further : (w ≡ v) ⊎ Reaches index w v → (u ≡ v) ⊎ Reaches index u v
+      further (inl e) = by_bool (is_at (name_cmp u) w)
+          (λ t. inl (same_is u w t ∙ e))
+          (λ f. inr (subst (λ n. Reaches index u n) e (near (mentioned u w f m))))
+      further (inr far) = by_bool (is_at (name_cmp u) w)
+          (λ t. inr (subst (λ n. Reaches index n v) (sym (same_is u w t)) far))
+          (λ f. inr (through (mentioned u w f m) far))
 
-  leads_times : (unit : List ℕ) (times : ℕ) (ns : List (List ℕ)) → Leads unit ns → Leads unit (opened_times times sources ns)
-  leads_times unit zero ns leads = leads
-  leads_times unit (suc times) ns leads = leads_times unit times (opened sources ns) (leads_opened unit ns leads)
-
-  leads_far : (unit : List ℕ) → Leads unit (far_of sources unit)
-  unfolding far_of
-  leads_far unit = leads_times unit (length (all_mentioned sources)) (unit ∷ []) (leads_one unit)
-
-  leads_near : (unit : List ℕ) → Leads unit (near_of sources unit)
-  leads_near unit q c here =
-      by (Contains-append_cases (mentions_at sources unit) (unit ∷ []) q ((in_order-members name_cmp nat_list_cmp_total (slice_cmp-IsAntisymmetric nat_cmp-IsAntisymmetric) (mentions_at sources unit ++ unit ∷ []) q).0 c))
+  rests_there : {u v : List ℕ} → is_near index u u ≡ true → Rests sources u v → Reaches index u v
+  rests_there {u} {v} there rests = by (rests_reaches rests)
     where
-      by : Contains (mentions_at sources unit) q ⊎ Contains (unit ∷ []) q → is_among unit found ≡ true
-      by (inl m) = leads_mentions unit q m here
-      by (inr h) = leads_one unit q h here
+      by : (u ≡ v) ⊎ Reaches index u v → Reaches index u v
+      by (inl e) = subst (λ n. Reaches index u n) e (near there)
+      by (inr far) = far
 
-  leads_needs : (kind : Kind) (unit : List ℕ) → Leads unit (needs_of kind sources unit)
-  leads_needs Faults unit = leads_near unit
-  leads_needs Net unit = leads_far unit
-  leads_needs Deploy unit = leads_far unit
+  reaches_rests : {u v : List ℕ} → Reaches index u v → Rests sources u v
+  reaches_rests {u} {v} (near here) = by_bool (is_at (name_cmp u) v)
+      (λ t. subst (λ n. Rests sources u n) (same_is u v t) itself)
+      (λ f. on (mentions u v f here) itself)
+  reaches_rests {u} {v} (through {mid = mid} here rest) = by_bool (is_at (name_cmp u) mid)
+      (λ t. subst (λ n. Rests sources n v) (sym (same_is u mid t)) (reaches_rests rest))
+      (λ f. on (mentions u mid f here) (reaches_rests rest))
 
-  some_found : (unit : List ℕ) (ns some : List (List ℕ)) → Leads unit ns → ((n : List ℕ) → is_among n some ≡ true → is_among n found ≡ true) → list_any (λ n. is_among n ns) some ≡ true → is_among unit found ≡ true
-  some_found unit ns [] leads all any = absurd (false≢true any)
-  some_found unit ns (n ∷ some) leads all any = by (is_among n ns) refl (some_found unit ns some leads (λ m there. all m (or_right _ _ there))) any
-    where
-      by : (b : Bool) → is_among n ns ≡ b → (list_any (λ m. is_among m ns) some ≡ true → is_among unit found ≡ true) → (b || list_any (λ m. is_among m ns) some) ≡ true → is_among unit found ≡ true
-      by true among rest any = leads n (Contains-has n ns among) (all n (or_left _ _ (at_itself n)))
-      by false among rest any = rest any
+  far_some : (unit : List ℕ) (names : List (List ℕ)) → is_near index unit unit ≡ true → list_any (λ n. is_among n (far_of sources unit)) names ≡ true → ReachesSome index unit names
+  far_some unit [] there any = absurd (false≢true any)
+  far_some unit (n ∷ ns) there any = or_cases (is_among n (far_of sources unit)) (list_any (λ m. is_among m (far_of sources unit)) ns) any
+      (λ here.
+      record {
+        name = n;
+        among = or_left (is_at (name_cmp n) n) _ (same_self n);
+        reaches = rests_there there (((far_is_all sources unit).1 n).0 (Contains-has n (far_of sources unit) here));
+      })
+      (λ later. let some = far_some unit ns there later in record { name = some.name; among = or_right (is_at (name_cmp some.name) n) _ some.among; reaches = some.reaches })
 
-  pub reached_found : (q : Key) → reaches names texts q ≡ true → is_among q.unit found ≡ true
+  some_far : (unit name : List ℕ) (names : List (List ℕ)) → is_among name names ≡ true → is_among name (far_of sources unit) ≡ true → list_any (λ n. is_among n (far_of sources unit)) names ≡ true
+  some_far unit name [] among far = absurd (false≢true among)
+  some_far unit name (n ∷ ns) among far = or_cases (is_at (name_cmp name) n) (is_among name ns) among
+      (λ at. or_left (is_among n (far_of sources unit)) _ (sym (ap (λ m. is_among m (far_of sources unit)) (same_is name n at)) ∙ far))
+      (λ later. or_right (is_among n (far_of sources unit)) _ (some_far unit name ns later far))
+
+  far_reached : (unit : List ℕ) (names : List (List ℕ)) → is_near index unit unit ≡ true → (list_any (λ n. is_among n (far_of sources unit)) names ≡ true) ↔ ReachesSome index unit names
+  far_reached unit names there = (
+    far_some unit names there,
+    λ some. some_far unit some.name names some.among (has-Contains some.name (far_of sources unit) (((far_is_all sources unit).1 some.name).1 (reaches_rests some.reaches))),
+  )
+
+  by_kind : (kind : Kind) (unit : List ℕ) (names : List (List ℕ)) → is_near index unit unit ≡ true → (reaches names texts (record { kind = kind; unit = unit }) ≡ true) ↔ IsReached index names kind unit
   unfolding needs
-  reached_found q reached = some_found q.unit (needs_of q.kind sources q.unit) names (leads_needs q.kind q.unit) reach.starts reached
+  by_kind Faults unit names there =
+      let same : list_any (λ n. is_among n (near_of sources unit)) names ≡ list_any (is_near index unit) names = λ i. list_any (λ n. sym (near_is unit n there) i) names in
+      (λ any. sym same ∙ any, λ any. same ∙ any)
+  by_kind Net unit names there = far_reached unit names there
+  by_kind Deploy unit names there = far_reached unit names there
 
--- ---- the users after a commit
+  -- a key of the texts is reached by the index where the machine says so
+  pub reached_by : (key : Key) (names : List (List ℕ)) → has_key texts key ≡ true → (reaches names texts key ≡ true) ↔ IsReached index names key.kind key.unit
+  reached_by key names has = by_kind key.kind key.unit names (is.units key.unit (present texts key has))
 
-pub covers_more : (texts : Texts) (old new : Users) → KeepsUsers old new → Covers old texts → Covers new texts
-covers_more texts old new keeps covers unit name mentions = keeps name unit (covers unit name mentions)
+-- ---- the keys of two lists of units
 
-same_mentions : (commit : ℕ) (es : List Edit) (texts : Texts) (unit : List ℕ) → is_among unit (map unit_of es) ≡ false → mentions_at (sources_of (all_edited commit es texts)) unit ≡ mentions_at (sources_of texts) unit
-same_mentions commit es texts unit apart =
-    ap (λ o. mentions_in (option_and_then tree_of o))
-    (get_source (all_edited commit es texts) unit ∙ ap (option_map text_in) (held_all_edited unit commit es texts apart) ∙ sym (get_source texts unit))
+of_kind : (kind : Kind) (unit : List ℕ) (names : List (List ℕ)) → is_of (record { kind = kind; unit = unit }) (keys_of_kind names kind) ≡ is_among unit names
+of_kind kind unit [] = refl
+of_kind Faults unit (n ∷ ns) = ap (λ b. is_at (name_cmp unit) n || b) (of_kind Faults unit ns)
+of_kind Net unit (n ∷ ns) = ap (λ b. is_at (name_cmp unit) n || b) (of_kind Net unit ns)
+of_kind Deploy unit (n ∷ ns) = ap (λ b. is_at (name_cmp unit) n || b) (of_kind Deploy unit ns)
 
--- the users are those of the new texts, once the changed units are kept under what they mention there
-covers_edited : (commit : ℕ) (es : List Edit) (texts : Texts) (old new : Users) → Covers old texts → KeepsUsers old new → ((unit : List ℕ) → is_among unit (map unit_of es) ≡ true → IsUser new (all_edited commit es texts) unit) → Covers new (all_edited commit es texts)
-covers_edited commit es texts old new covers keeps there unit = by _ refl
-  where
-    by : (b : Bool) → is_among unit (map unit_of es) ≡ b → IsUser new (all_edited commit es texts) unit
-    by true among = there unit among
-    by false apart = λ name mentions. keeps name unit (covers unit name (subst (λ ms. Contains ms name) (same_mentions commit es texts unit apart) mentions))
+abbrev apart_kind : Kind → Kind → Type 0
+apart_kind kind other = (unit : List ℕ) (names : List (List ℕ)) → is_of (record { kind = kind; unit = unit }) (keys_of_kind names other) ≡ false
 
--- the same, where the texts and the changed units are known by equations
-pub covers_done : (commit : ℕ) (es : List Edit) (texts later : Texts) (units : List (List ℕ)) (old new : Users) → later ≡ all_edited commit es texts → units ≡ map unit_of es → Covers old texts → KeepsUsers old new → ((unit : List ℕ) → is_among unit units ≡ true → IsUser new later unit) → Covers new later
-covers_done commit es texts later units old new is are covers keeps there =
-    subst (λ us. Covers new us) (sym is)
-    (covers_edited commit es texts old new covers keeps
-    (λ unit among. subst (λ us. IsUser new us unit) is (there unit (ap (is_among unit) are ∙ among))))
+faults_net : apart_kind Faults Net
+faults_net unit [] = refl
+faults_net unit (n ∷ ns) = faults_net unit ns
 
--- there are none where there are no texts
-pub covers_none : (users : Users) → Covers users []
-covers_none users unit name mentions =
-    let none : mentions_at (sources_of []) unit ≡ [] = ap (λ o. mentions_in (option_and_then tree_of o)) (get_source [] unit) in
-    absurd (false≢true (ap (λ ms. is_among name ms) (sym none) ∙ has-Contains name (mentions_at (sources_of []) unit) mentions))
+faults_deploy : apart_kind Faults Deploy
+faults_deploy unit [] = refl
+faults_deploy unit (n ∷ ns) = faults_deploy unit ns
+
+net_faults : apart_kind Net Faults
+net_faults unit [] = refl
+net_faults unit (n ∷ ns) = net_faults unit ns
+
+net_deploy : apart_kind Net Deploy
+net_deploy unit [] = refl
+net_deploy unit (n ∷ ns) = net_deploy unit ns
+
+deploy_faults : apart_kind Deploy Faults
+deploy_faults unit [] = refl
+deploy_faults unit (n ∷ ns) = deploy_faults unit ns
+
+deploy_net : apart_kind Deploy Net
+deploy_net unit [] = refl
+deploy_net unit (n ∷ ns) = deploy_net unit ns
+
+module _ (nears fars : List (List ℕ)) where
+  abbrev pub keys_near_and_far : List Key
+  keys_near_and_far = (keys_of_kind nears Faults ++ keys_of_kind fars Net) ++ keys_of_kind fars Deploy
+
+  in_parts : (key : Key) → is_of key keys_near_and_far ≡ ((is_of key (keys_of_kind nears Faults) || is_of key (keys_of_kind fars Net)) || is_of key (keys_of_kind fars Deploy))
+  in_parts key =
+      of_both key (keys_of_kind nears Faults ++ keys_of_kind fars Net) (keys_of_kind fars Deploy)
+      ∙ ap (λ b. b || is_of key (keys_of_kind fars Deploy)) (of_both key (keys_of_kind nears Faults) (keys_of_kind fars Net))
+
+  faults_are : (unit : List ℕ) → is_of (record { kind = Faults; unit = unit }) keys_near_and_far ≡ is_among unit nears
+  faults_are unit =
+      in_parts (record { kind = Faults; unit = unit })
+      ∙ (λ i. (of_kind Faults unit nears i || faults_net unit fars i) || faults_deploy unit fars i)
+      ∙ or_false _ ∙ or_false _
+
+  nets_are : (unit : List ℕ) → is_of (record { kind = Net; unit = unit }) keys_near_and_far ≡ is_among unit fars
+  nets_are unit =
+      in_parts (record { kind = Net; unit = unit })
+      ∙ (λ i. (net_faults unit nears i || of_kind Net unit fars i) || net_deploy unit fars i)
+      ∙ or_false _
+
+  plans_are : (unit : List ℕ) → is_of (record { kind = Deploy; unit = unit }) keys_near_and_far ≡ is_among unit fars
+  plans_are unit =
+      in_parts (record { kind = Deploy; unit = unit })
+      ∙ (λ i. (deploy_faults unit nears i || deploy_net unit fars i) || of_kind Deploy unit fars i)
+
+  module _ (index : Users) (changed : List (List ℕ)) (near_are : (unit : List ℕ) → is_among unit nears ≡ list_any (is_near index unit) changed) (far_are : (unit : List ℕ) → (is_among unit fars ≡ true) ↔ ReachesSome index unit changed) where
+    kinds_are : (kind : Kind) (unit : List ℕ) → (is_of (record { kind = kind; unit = unit }) keys_near_and_far ≡ true) ↔ IsReached index changed kind unit
+    kinds_are Faults unit = (λ e. sym (faults_are unit ∙ near_are unit) ∙ e, λ e. faults_are unit ∙ near_are unit ∙ e)
+    kinds_are Net unit = (λ e. (far_are unit).0 (sym (nets_are unit) ∙ e), λ e. nets_are unit ∙ (far_are unit).1 e)
+    kinds_are Deploy unit = (λ e. (far_are unit).0 (sym (plans_are unit) ∙ e), λ e. plans_are unit ∙ (far_are unit).1 e)
+
+    pub keys_are : (keys : List Key) → keys ≡ keys_near_and_far → (key : Key) → (is_of key keys ≡ true) ↔ IsReached index changed key.kind key.unit
+    keys_are keys same key = subst (λ ks. (is_of key ks ≡ true) ↔ IsReached index changed key.kind key.unit) (sym same) (kinds_are key.kind key.unit)

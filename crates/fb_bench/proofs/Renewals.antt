@@ -1,27 +1,25 @@
 -- What is kept after a commit that is done, and after one that found no memory.
-use Rattle.std.proofs.Common.{◌≡◌, ℕ, Bool, true, false, ◌||◌, ◌&&◌, not, List, map, filter, refl, sym, ap, ◌∙◌, subst, Option, Some, None, cond, is_none}
-use Rattle.std.specs.List.{list_any}
+use Rattle.std.proofs.Common.{◌≡◌, ◌↔◌, ℕ, Bool, true, false, ◌||◌, ◌&&◌, not, List, map, filter, refl, sym, ap, ◌∙◌, subst, Option, Some, None, cond, is_none}
 use Rattle.std.specs.BTreeMap as tree
 use Rattle.std.specs.BTreeSet as set
 use Rattle.fb_jobs.specs.Library.Texts.{Texts, Edit, unit_of, all_edited, text_in}
 use Rattle.std.specs.Option.{option_map}
 use Rattle.fb_jobs.specs.declared.key.Key.{Key}
 use Rattle.fb_jobs.specs.declared.key.Kind.{Kind}
-use Rattle.fb_jobs.specs.Keys.{has_key, has_kind_at, needs}
+use Rattle.fb_jobs.specs.Keys.{has_key, has_kind_at}
 use Rattle.fb_jobs.specs.KeyOrder.{key_cmp}
 use Rattle.fb_jobs.specs.Reads.{is_among}
 use Rattle.fb_jobs.proofs.SameNeeds.{has_key_local}
 use Rattle.fb_bench.specs.declared.entry.Entry.{Entry}
 use Rattle.fb_bench.specs.declared.renewal.Renewal.{Renewal}
-use Rattle.fb_text.specs.Order.{name_cmp}
 use Rattle.fb_bench.specs.Machine.{State, is_ready, after_done, reaches, all_keys}
 use Rattle.fb_bench.specs.Kept.{EntryFits, Agrees}
 use Rattle.fb_bench.specs.Renew.{is_of, waiting_if, is_own, is_fresh, is_renewed, IsRenewal, HasRoom, IsTakenBack}
-use Rattle.fb_bench.specs.declared.users.Users.{Users}
-use Rattle.fb_bench.specs.Users.{Covers, IsReach}
+use Rattle.fb_index.specs.Near.{Users}
+use Rattle.fb_bench.specs.Indexed.{IsIndexOf, IsReached}
 use Rattle.fb_bench.proofs.Least.{at_name}
-use Rattle.fb_bench.proofs.Renewing.{of_filtered, held_all_edited, agree_unreached, any_swap, ScratchLocal, blank_fits, kept_fits, gone_fits}
-use Rattle.fb_bench.proofs.Reached.{reached_found}
+use Rattle.fb_bench.proofs.Renewing.{of_filtered, held_all_edited, agree_unreached, ScratchLocal, blank_fits, kept_fits, gone_fits}
+use Rattle.fb_bench.proofs.Reached.{reached_by}
 
 or_true : (b : Bool) → (b || true) ≡ true
 or_true true = refl
@@ -267,22 +265,27 @@ module _ (law : ScratchLocal) (commits : ℕ) (es : List Edit) (T : Texts) (s : 
 
 -- ---- what is found
 
-and_found : (a h r : Bool) → (r ≡ true → a ≡ true) → ((a && h) && r) ≡ (h && r)
-and_found true h r found = refl
-and_found false true true found = found refl
-and_found false true false found = refl
-and_found false false r found = refl
+same_truth : (a b : Bool) → (a ≡ true → b ≡ true) → (b ≡ true → a ≡ true) → a ≡ b
+same_truth true b there back = sym (there refl)
+same_truth false true there back = back refl
+same_truth false false there back = refl
 
-module _ (U : Texts) (users : Users) (names near : List (List ℕ)) (old_entries : tree.BTreeMap Key Entry) (old_ready old_waiting : set.BTreeSet Key) (it : Renewal) (own present keys reachable : List Key) (changed : set.BTreeSet (List ℕ)) where
-  pub found : Covers users U → IsReach users names near → own ≡ all_keys names → present ≡ filter (has_key U) own → it.fresh.items ≡ filter (λ k. is_none (tree.get key_cmp old_entries k)) present → it.gone.items ≡ filter (λ k. not (has_key U k)) own → ((n : List ℕ) → set.contains name_cmp changed n ≡ is_among n names) → keys ≡ all_keys near → reachable ≡ filter (has_key U) keys → it.renewed.items ≡ filter (λ k. list_any (set.contains name_cmp changed) (needs U k)) reachable → it.unready.items ≡ filter (λ k. not (set.contains key_cmp old_ready k)) it.renewed.items → it.unwaiting.items ≡ filter (λ k. not (set.contains key_cmp old_waiting k)) it.renewed.items → IsRenewal U names old_entries old_ready old_waiting it
-  found covers reach own_is present_is fresh_is gone_is changed_is keys_are reachable_is renewed_is unready_is unwaiting_is =
+and_found : (a h r : Bool) → (h ≡ true → a ≡ r) → (a && h) ≡ (h && r)
+and_found true true r same = same refl
+and_found false true r same = same refl
+and_found a false r same = and_false a
+
+module _ (U : Texts) (index : Users) (names : List (List ℕ)) (old_entries : tree.BTreeMap Key Entry) (old_ready old_waiting : set.BTreeSet Key) (it : Renewal) (own present reached : List Key) where
+  pub found : IsIndexOf U index → own ≡ all_keys names → present ≡ filter (has_key U) own → it.fresh.items ≡ filter (λ k. is_none (tree.get key_cmp old_entries k)) present → it.gone.items ≡ filter (λ k. not (has_key U k)) own → ((q : Key) → (is_of q reached ≡ true) ↔ IsReached index names q.kind q.unit) → it.renewed.items ≡ filter (has_key U) reached → it.unready.items ≡ filter (λ k. not (set.contains key_cmp old_ready k)) it.renewed.items → it.unwaiting.items ≡ filter (λ k. not (set.contains key_cmp old_waiting k)) it.renewed.items → IsRenewal U names old_entries old_ready old_waiting it
+  found indexed own_is present_is fresh_is gone_is reached_is renewed_is unready_is unwaiting_is =
       let owns : (q : Key) → is_of q own ≡ is_own names q = λ q. ap (λ ks. is_of q ks) own_is in
-      let meets : (q : Key) → list_any (set.contains name_cmp changed) (needs U q) ≡ reaches names U q = λ q.
-      (λ i. list_any (λ n. changed_is n i) (needs U q)) ∙ sym (any_swap names (needs U q)) in
       let alls : (q : Key) → is_of q it.renewed.items ≡ is_renewed U names q = λ q.
-      ap (λ ks. is_of q ks) renewed_is ∙ of_filtered (λ k. list_any (set.contains name_cmp changed) (needs U k)) q reachable
-      ∙ (λ i. (ap (λ ks. is_of q ks) (reachable_is ∙ ap (filter (has_key U)) keys_are) ∙ of_filtered (has_key U) q (all_keys near)) i && meets q i)
-      ∙ and_found (is_of q (all_keys near)) (has_key U q) (reaches names U q) (λ reached. at_name q.kind q.unit near (reached_found users U covers names near reach q reached)) in
+      ap (λ ks. is_of q ks) renewed_is ∙ of_filtered (has_key U) q reached
+      ∙ and_found (is_of q reached) (has_key U q) (reaches names U q)
+      (λ has.
+      same_truth (is_of q reached) (reaches names U q)
+      (λ h. (reached_by U index indexed q names has).1 ((reached_is q).0 h))
+      (λ h. (reached_is q).1 ((reached_by U index indexed q names has).0 h))) in
       record {
         fresh_are = λ q.
             ap (λ ks. is_of q ks) fresh_is ∙ of_filtered (λ k. is_none (tree.get key_cmp old_entries k)) q present

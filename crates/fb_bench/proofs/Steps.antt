@@ -13,8 +13,8 @@ use Rattle.fb_jobs.specs.Reads.{Order, Seen}
 use Rattle.fb_bench.specs.Machine.{keys_of, State, Call, Reply, after, reply, ToAsk, OfAsk, shown, ToTake, OfTake, taken, next, after_take, order_for, ToDeliver, OfDeliver, deliver_answer, after_deliver, ToGiveBack, OfGiveBack, give_back_answer, after_give_back, removed, ToCommit, OfCommit, commit_answer, after_commit}
 use Rattle.fb_bench.specs.Story.{Record, Log, Story, IsOrigin, opened, replay, replies, calls_of, state_of, recorded, logged, record_after, record_of, IsReplay}
 use Rattle.fb_bench.specs.Kept.{Agrees, IsKept}
-use Rattle.fb_bench.specs.declared.users.Users.{Users}
-use Rattle.fb_bench.specs.Users.{Covers}
+use Rattle.fb_index.specs.Near.{Users}
+use Rattle.fb_bench.specs.Indexed.{IsIndexOf}
 
 pub replay_more : (s : State) (calls : List Call) (call : Call) → replay s (calls ++ call ∷ []) ≡ after (replay s calls) call
 unfolding replay
@@ -46,22 +46,22 @@ replayed_recorded story caller call so_far =
     ∙ sym (replies_pushed story.log.records _)
 
 -- what is kept after one more recorded call
-pub kept_recorded : (units : Texts) (commits : ℕ) (keys : List Key) (entries : tree.BTreeMap Key Entry) (ready waiting : set.BTreeSet Key) (users : Users) (story : Story) (caller : ℕ) (call : Call) (answer : Reply) → IsOrigin story.origin → answer ≡ reply (state_of story) call → Agrees units commits entries ready waiting (after (state_of story) call) → IsReplay story → keys ≡ keys_of units → Covers users units → commits ≤ length story.log.records + 1 → IsKept units commits keys entries ready waiting users (record { origin = story.origin; log = logged story.log caller call answer })
-kept_recorded units commits keys entries ready waiting users story caller call answer begins same agrees so_far all covers few =
-    subst (λ a. IsKept units commits keys entries ready waiting users (record { origin = story.origin; log = logged story.log caller call a })) (sym same)
+pub kept_recorded : (units : Texts) (commits : ℕ) (keys : List Key) (entries : tree.BTreeMap Key Entry) (ready waiting : set.BTreeSet Key) (index : Users) (story : Story) (caller : ℕ) (call : Call) (answer : Reply) → IsOrigin story.origin → answer ≡ reply (state_of story) call → Agrees units commits entries ready waiting (after (state_of story) call) → IsReplay story → keys ≡ keys_of units → IsIndexOf units index → commits ≤ length story.log.records + 1 → IsKept units commits keys entries ready waiting index (record { origin = story.origin; log = logged story.log caller call answer })
+kept_recorded units commits keys entries ready waiting index story caller call answer begins same agrees so_far all indexed few =
+    subst (λ a. IsKept units commits keys entries ready waiting index (record { origin = story.origin; log = logged story.log caller call a })) (sym same)
     (record {
       begins = begins;
       agrees = subst (λ s. Agrees units commits entries ready waiting s) (sym (state_recorded story caller call)) agrees;
       replayed = replayed_recorded story caller call so_far;
       keys_are = all;
-      covers = covers;
+      indexed = indexed;
       few = simp length-append (omega arith);
     })
 
 -- the same, where the log is known by an equation
-pub kept_pushed : (units : Texts) (commits : ℕ) (keys : List Key) (entries : tree.BTreeMap Key Entry) (ready waiting : set.BTreeSet Key) (users : Users) (story : Story) (log : Log) (caller : ℕ) (call : Call) (answer : Reply) → IsOrigin story.origin → log ≡ logged story.log caller call answer → answer ≡ reply (state_of story) call → Agrees units commits entries ready waiting (after (state_of story) call) → IsReplay story → keys ≡ keys_of units → Covers users units → commits ≤ length story.log.records + 1 → IsKept units commits keys entries ready waiting users (record { origin = story.origin; log = log })
-kept_pushed units commits keys entries ready waiting users story log caller call answer begins is same agrees so_far all covers few =
-    subst (λ l. IsKept units commits keys entries ready waiting users (record { origin = story.origin; log = l })) (sym is) (kept_recorded units commits keys entries ready waiting users story caller call answer begins same agrees so_far all covers few)
+pub kept_pushed : (units : Texts) (commits : ℕ) (keys : List Key) (entries : tree.BTreeMap Key Entry) (ready waiting : set.BTreeSet Key) (index : Users) (story : Story) (log : Log) (caller : ℕ) (call : Call) (answer : Reply) → IsOrigin story.origin → log ≡ logged story.log caller call answer → answer ≡ reply (state_of story) call → Agrees units commits entries ready waiting (after (state_of story) call) → IsReplay story → keys ≡ keys_of units → IsIndexOf units index → commits ≤ length story.log.records + 1 → IsKept units commits keys entries ready waiting index (record { origin = story.origin; log = log })
+kept_pushed units commits keys entries ready waiting index story log caller call answer begins is same agrees so_far all indexed few =
+    subst (λ l. IsKept units commits keys entries ready waiting index (record { origin = story.origin; log = l })) (sym is) (kept_recorded units commits keys entries ready waiting index story caller call answer begins same agrees so_far all indexed few)
 
 pub story_pushed : (story now : Story) (log : Log) (caller : ℕ) (call : Call) (answer : Reply) → story ≡ now → log ≡ logged story.log caller call answer → answer ≡ reply (state_of story) call → ◌≡◌ {A = Story} (record { origin = story.origin; log = log }) (recorded now caller call)
 story_pushed story now log caller call answer known is same =

@@ -14,8 +14,8 @@ use Rattle.fb_jobs.specs.Values.{finding_of}
 use Rattle.fb_bench.specs.Machine.{State, is_ready, keys_of}
 use Rattle.fb_bench.specs.Story.{Story, IsOrigin, state_of, IsReplay}
 use Rattle.fb_bench.specs.declared.entry.Entry.{Entry}
-use Rattle.fb_bench.specs.declared.users.Users.{Users}
-use Rattle.fb_bench.specs.Users.{Covers}
+use Rattle.fb_index.specs.Near.{Users}
+use Rattle.fb_bench.specs.Indexed.{IsIndexOf}
 
 -- a kept value is the key's value from scratch
 abbrev pub IsScratch : Texts → Key → Option (Arc Value Global) → Type 0
@@ -40,11 +40,11 @@ pub record Agrees (units : Texts) (commits : ℕ) (entries : tree.BTreeMap Key E
   pub ready_are : (key : Key) → set.contains key_cmp ready key ≡ is_ready state key
   pub waiting_are : (key : Key) → set.contains key_cmp waiting key ≡ state.pending key
 
--- and so does the history: each stored answer is the machine's. The users are those that the texts have, and maybe more
-pub record IsKept (units : Texts) (commits : ℕ) (keys : List Key) (entries : tree.BTreeMap Key Entry) (ready waiting : set.BTreeSet Key) (users : Users) (story : Story) : Type 0 where
+-- and so does the history: each stored answer is the machine's. The index is that of the texts
+pub record IsKept (units : Texts) (commits : ℕ) (keys : List Key) (entries : tree.BTreeMap Key Entry) (ready waiting : set.BTreeSet Key) (index : Users) (story : Story) : Type 0 where
   pub begins : IsOrigin story.origin
   pub agrees : Agrees units commits entries ready waiting (state_of story)
   pub replayed : IsReplay story
   pub keys_are : keys ≡ keys_of units
-  pub covers : Covers users units
+  pub indexed : IsIndexOf units index
   pub few : commits ≤ length story.log.records

@@ -3,7 +3,7 @@ pub mod Story
 pub mod Records
 pub mod Logs
 pub mod Kept
-pub mod Users
+pub mod Indexed
 pub mod Renew
 pub mod Due
 pub mod Peeks

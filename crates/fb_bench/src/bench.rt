@@ -11,8 +11,7 @@ use crate::limits::Limits;
 use crate::log::History;
 use crate::peek::Shown;
 use crate::record::{Call, Record, Reply, Request, TextChange, Wanted};
-use crate::renewal::changed_units;
-use crate::users::Users;
+use fb_index::Index;
 use fb_jobs::library::{Change, Library};
 use fb_jobs::{Finished, Job, Key, Read, current_reads, locality};
 use fb_text::Name;
@@ -29,7 +28,7 @@ pub struct Bench {
     library: Library,
     commits: u64,
     entries: Entries,
-    users: Users,
+    index: Index,
 }
 
 impl Model for Bench {
@@ -41,7 +40,7 @@ impl Model for Bench {
 
     ghost view = { λ it. record { origin = start it.most_units; log = it.history } };
 
-    ghost invariant = { λ it. IsKept it.library it.commits it.entries.keys.items it.entries.by_key it.entries.ready it.entries.waiting it.users (record { origin = start it.most_units; log = it.history }) };
+    ghost invariant = { λ it. IsKept it.library it.commits it.entries.keys.items it.entries.by_key it.entries.ready it.entries.waiting it.index (record { origin = start it.most_units; log = it.history }) };
 }
 
 impl Bench {
@@ -70,7 +69,7 @@ impl Bench {
             library: Library::new(alloc),
             commits: 0,
             entries: Entries::new(alloc),
-            users: Users::new(alloc),
+            index: Index::new(alloc),
         }
     }
 
@@ -282,43 +281,34 @@ impl Bench {
         }
         let changes = first_changes(changes);
         let call = Call::Commit(TextChange::of_changes(self.alloc, changes)?);
-        match refusal(&self.library, changes) {
-            Some(refused) => {
-                let stored = Reply::Committing(refused);
-                let share = self.history.push(caller, call, stored)?;
-                Ok((refused, share))
+        if let Some(refused) = refusal(&self.library, changes) {
+            let stored = Reply::Committing(refused);
+            let share = self.history.push(caller, call, stored)?;
+            return Ok((refused, share));
+        }
+        let number = self.commits + 1;
+        let library = self.library.edited(number, changes)?;
+        if self.most_units < library.len() as u64 {
+            let stored = Reply::Committing(Committed::TooManyUnits);
+            let share = self.history.push(caller, call, stored)?;
+            return Ok((Committed::TooManyUnits, share));
+        }
+        let found = self
+            .entries
+            .found(self.alloc, &self.index, &self.library, &library, changes)?;
+        self.entries.make_room(&found.renewal)?;
+        let stored = Reply::Committing(Committed::Done(number));
+        match self.history.push(caller, call, stored) {
+            Ok(share) => {
+                self.index = self.entries.carry_out(found);
+                self.library = library;
+                self.commits = number;
+                locality();
+                Ok((Committed::Done(number), share))
             }
-            None => {
-                let number = self.commits + 1;
-                let library = self.library.edited(number, changes)?;
-                if self.most_units < library.len() as u64 {
-                    let stored = Reply::Committing(Committed::TooManyUnits);
-                    let share = self.history.push(caller, call, stored)?;
-                    return Ok((Committed::TooManyUnits, share));
-                }
-                let units = changed_units(self.alloc, changes)?;
-                self.users.cover(self.alloc, &library, &units)?;
-                let renewal = self
-                    .entries
-                    .find(self.alloc, &self.users, &library, &units)?;
-                let keys = renewal.keys(self.alloc, &library, &self.entries.by_key)?;
-                self.entries.make_room(&renewal)?;
-                let stored = Reply::Committing(Committed::Done(number));
-                match self.history.push(caller, call, stored) {
-                    Ok(share) => {
-                        self.entries.carry_out(&renewal, keys);
-                        self.users
-                            .prune(self.alloc, &self.library, &library, &units);
-                        self.library = library;
-                        self.commits = number;
-                        locality();
-                        Ok((Committed::Done(number), share))
-                    }
-                    Err(_) => {
-                        self.entries.take_back(&renewal);
-                        Err(Refused::Memory)
-                    }
-                }
+            Err(_) => {
+                self.entries.take_back(&found.renewal);
+                Err(Refused::Memory)
             }
         }
     }

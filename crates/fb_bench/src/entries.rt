@@ -1,20 +1,25 @@
 //! What a workbench knows of its keys.
-ghost use Rattle.std.specs.Prelude.{◌≡◌, [], true, false, None, IfOk, OnOk, OnErr, if◌then◌else◌};
+ghost use Rattle.std.specs.Prelude.{◌≡◌, [], true, false, None, map, IfOk, OnOk, OnErr, if◌then◌else◌};
 ghost use Rattle.std.specs.BTreeMap as tree;
 ghost use Rattle.std.specs.BTreeSet as set;
+ghost use Rattle.fb_jobs.specs.Library.Texts.{unit_of};
+ghost use Rattle.fb_jobs.specs.Library.Changes.{edits_of};
 ghost use Rattle.fb_jobs.specs.declared.key.Key.{Key};
 ghost use Rattle.fb_jobs.specs.KeyOrder.{key_cmp};
-ghost use Rattle.fb_bench.specs.Renew.{is_of, waiting_if, IsRenewal, HasRoom, IsTakenBack, items_or};
-ghost use Rattle.fb_bench.specs.Users.{Covers};
+ghost use Rattle.fb_bench.specs.Indexed.{IsIndexOf};
+ghost use Rattle.fb_bench.specs.Laws.{AgreeApartFrom};
+ghost use Rattle.fb_bench.specs.Machine.{first_repeated};
+ghost use Rattle.fb_bench.specs.Renew.{is_of, waiting_if, AreKeys, IsRenewal, HasRoom, IsTakenBack, items_or};
 
 use crate::entry::Entry;
 use crate::keys::{keys_by_name, only_present};
+use crate::reach::{reached_keys, reindexed};
 use crate::renewal::{
-    Renewal, absent, join_all, leave_all, not_in, put_blank, reached_keys, renew_all, replace,
-    set_of, take_out, without_entry,
+    Renewal, absent, changed_units, join_all, leave_all, not_in, put_blank, renew_all, replace,
+    take_out, without_entry,
 };
-use crate::users::Users;
-use fb_jobs::library::Library;
+use fb_index::Index;
+use fb_jobs::library::{Change, Library};
 use fb_jobs::{Kept, Key, Value};
 use fb_text::Name;
 use std::alloc::{AllocError, Global};
@@ -33,6 +38,16 @@ pub(crate) struct Entries {
     pub(crate) waiting: BTreeSet<Key>,
 }
 
+/// What a good commit leaves, found before anything is written.
+#[derive(Drop)]
+pub(crate) struct Found {
+    // of the texts after the commit
+    pub(crate) index: Index,
+    pub(crate) renewal: Renewal,
+    // the keys after it, where they are others
+    pub(crate) keys: Option<Vec<Key>>,
+}
+
 impl Entries {
     /// No keys.
     pub(crate) fn new(alloc: Global) -> Entries
@@ -49,26 +64,50 @@ impl Entries {
         }
     }
 
-    /// What changes of these units alter; `library` is the library after them, and `users` has all that its texts mention.
-    pub(crate) fn find(
+    /// What the changes between two libraries leave; `index` is that of the library before.
+    pub(crate) fn found(
         &self,
         alloc: Global,
-        users: &Users,
+        index: &Index,
+        before: &Library,
+        after: &Library,
+        changes: &[Change],
+    ) -> Result<Found, AllocError>
+        requires known { IsIndexOf before.now index.now }
+        requires once { first_repeated (map unit_of (edits_of changes.now)) ≡ None }
+        requires others { AgreeApartFrom (map unit_of (edits_of changes.now)) before.now after.now }
+        ensures index { IfOk result (λ found. IsIndexOf after.now found.index) }
+        ensures renewal { IfOk result (λ found. IsRenewal after.now (map unit_of (edits_of changes.now)) self.now.by_key self.now.ready self.now.waiting found.renewal) }
+        ensures keys { IfOk result (λ found. AreKeys after.now self.now.by_key found.renewal.fresh.items found.renewal.gone.items found.keys) }
+    {
+        let units = changed_units(alloc, changes)?;
+        let index = reindexed(alloc, index, before, after, &units)?;
+        let renewal = self.find(alloc, &index, after, &units)?;
+        let keys = renewal.keys(alloc, after, &self.by_key)?;
+        Ok(Found {
+            index,
+            renewal,
+            keys,
+        })
+    }
+
+    /// What changes of these units alter; `library` is the library after them, and `index` is that of its texts.
+    fn find(
+        &self,
+        alloc: Global,
+        index: &Index,
         library: &Library,
         units: &[Name],
     ) -> Result<Renewal, AllocError>
-        requires covers { Covers users.now library.now }
+        requires indexed { IsIndexOf library.now index.now }
         ensures { IfOk result (IsRenewal library.now units.now self.now.by_key self.now.ready self.now.waiting) }
     {
         let own = keys_by_name(alloc, units)?;
         let present = only_present(alloc, library, &own)?;
         let fresh = without_entry(alloc, &self.by_key, &present)?;
         let gone = absent(alloc, library, &own)?;
-        let near = users.reach(alloc, units)?;
-        let near_keys = keys_by_name(alloc, &near)?;
-        let candidates = only_present(alloc, library, &near_keys)?;
-        let changed = set_of(alloc, units)?;
-        let renewed = reached_keys(alloc, library, &changed, &candidates)?;
+        let reached = reached_keys(alloc, index, units)?;
+        let renewed = only_present(alloc, library, &reached)?;
         let unready = not_in(alloc, &self.ready, &renewed)?;
         let unwaiting = not_in(alloc, &self.waiting, &renewed)?;
         Ok(Renewal {
@@ -109,18 +148,25 @@ impl Entries {
         leave_all(&mut self.waiting, &renewal.unwaiting);
     }
 
-    /// Writes what the renewal says, and the keys where there are others. Nothing here can fail.
-    pub(crate) fn carry_out(&mut self, renewal: &Renewal, keys: Option<Vec<Key>>)
-        ensures entries { (key : Key) → tree.get key_cmp self.new.by_key key ≡ waiting_if (is_of key renewal.now.renewed.items) (if is_of key renewal.now.gone.items then None else tree.get key_cmp self.old.by_key key) }
-        ensures ready { (key : Key) → set.contains key_cmp self.new.ready key ≡ (if is_of key renewal.now.gone.items then false else set.contains key_cmp self.old.ready key) }
-        ensures waiting { (key : Key) → set.contains key_cmp self.new.waiting key ≡ (if is_of key renewal.now.gone.items then false else set.contains key_cmp self.old.waiting key) }
-        ensures keys { self.new.keys.items ≡ items_or keys self.old.keys.items }
+    /// Writes what was found, and gives the index back. Nothing here can fail.
+    pub(crate) fn carry_out(&mut self, found: Found) -> Index
+        ensures entries { (key : Key) → tree.get key_cmp self.new.by_key key ≡ waiting_if (is_of key found.renewal.renewed.items) (if is_of key found.renewal.gone.items then None else tree.get key_cmp self.old.by_key key) }
+        ensures ready { (key : Key) → set.contains key_cmp self.new.ready key ≡ (if is_of key found.renewal.gone.items then false else set.contains key_cmp self.old.ready key) }
+        ensures waiting { (key : Key) → set.contains key_cmp self.new.waiting key ≡ (if is_of key found.renewal.gone.items then false else set.contains key_cmp self.old.waiting key) }
+        ensures keys { self.new.keys.items ≡ items_or found.keys self.old.keys.items }
+        ensures index { result ≡ found.index }
     {
+        let Found {
+            index,
+            renewal,
+            keys,
+        } = found;
         take_out(&mut self.by_key, &renewal.gone);
         leave_all(&mut self.ready, &renewal.gone);
         leave_all(&mut self.waiting, &renewal.gone);
         renew_all(&mut self.by_key, &renewal.renewed);
         replace(&mut self.keys, keys);
+        index
     }
 }
 

@@ -9,7 +9,7 @@ use fb_text::Name;
 use std::alloc::{AllocError, Global};
 
 // the names with one kind
-fn add_keys(keys: &mut Vec<Key>, names: &[Name], kind: Kind) -> Result<(), AllocError>
+pub(crate) fn add_keys(keys: &mut Vec<Key>, names: &[Name], kind: Kind) -> Result<(), AllocError>
     ensures { OnOk result (keys.new.items ≡ keys.old.items ++ keys_of_kind names.now kind) }
 {
     for name in names {

@@ -12,10 +12,10 @@ mod laws;
 mod limits;
 mod log;
 mod peek;
+mod reach;
 mod record;
 mod renewal;
 mod same;
-mod users;
 
 pub use answers::{Answered, Asked, Committed, Delivered, GivenBack, Refused, Taken};
 pub use bench::Bench;

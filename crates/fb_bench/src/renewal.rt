@@ -1,21 +1,18 @@
 //! What a commit does to the entries: found and made room for first, and then only written.
-ghost use Rattle.std.specs.Prelude.{◌≡◌, ℕ, List, true, false, not, is_none, None, map, filter, IfOk, OnOk, if◌then◌else◌};
-ghost use Rattle.std.specs.List.{list_any};
+ghost use Rattle.std.specs.Prelude.{◌≡◌, true, false, not, is_none, None, map, filter, IfOk, OnOk, if◌then◌else◌};
 ghost use Rattle.std.specs.BTreeMap as tree;
 ghost use Rattle.std.specs.BTreeSet as set;
-ghost use Rattle.fb_text.specs.Order.{name_cmp};
 ghost use Rattle.fb_jobs.specs.Library.Texts.{unit_of};
 ghost use Rattle.fb_jobs.specs.Library.Changes.{edits_of};
 ghost use Rattle.fb_jobs.specs.declared.key.Key.{Key};
-ghost use Rattle.fb_jobs.specs.Keys.{has_key, needs};
+ghost use Rattle.fb_jobs.specs.Keys.{has_key};
 ghost use Rattle.fb_jobs.specs.KeyOrder.{key_cmp};
-ghost use Rattle.fb_jobs.specs.Reads.{is_among};
 ghost use Rattle.fb_bench.specs.Renew.{is_of, waiting_if, AreKeys, have_entries, items_or};
 
 use crate::entry::{Entry, join, leave, renew};
 use crate::keys::present_keys;
 use fb_jobs::library::{Change, Library};
-use fb_jobs::{Key, has_key, needed};
+use fb_jobs::{Key, has_key};
 use fb_text::Name;
 use std::alloc::{AllocError, Global};
 use std::collections::{BTreeMap, BTreeSet};
@@ -42,56 +39,6 @@ pub(crate) fn changed_units(alloc: Global, changes: &[Change]) -> Result<Vec<Nam
         names.push(change.unit())?;
     }
     Ok(names)
-}
-
-// the names as a set
-pub(crate) fn set_of(alloc: Global, names: &[Name]) -> Result<BTreeSet<Name>, AllocError>
-    ensures { IfOk result (λ made. (name : List ℕ) → set.contains name_cmp made name ≡ is_among name names.now) }
-{
-    names.iter().copied().collect(alloc)
-}
-
-// whether one of the names is changed
-fn meets(changed: &BTreeSet<Name>, names: &[Name]) -> bool
-    ensures { result ≡ list_any (set.contains name_cmp changed.now) names.now }
-{
-    for name in names {
-        if changed.contains(name) {
-            return true;
-        }
-    }
-    false
-}
-
-// whether one of the changed names decides the key's value
-fn is_reached(
-    alloc: Global,
-    library: &Library,
-    changed: &BTreeSet<Name>,
-    key: Key,
-) -> Result<bool, AllocError>
-    ensures { IfOk result (λ is. is ≡ list_any (set.contains name_cmp changed.now) (needs library.now key)) }
-{
-    let names = needed(alloc, library, key)?;
-    Ok(meets(changed, &names))
-}
-
-// those whose values one of the changed names decides
-pub(crate) fn reached_keys(
-    alloc: Global,
-    library: &Library,
-    changed: &BTreeSet<Name>,
-    keys: &[Key],
-) -> Result<Vec<Key>, AllocError>
-    ensures { IfOk result (λ reached. reached.items ≡ filter (λ key. list_any (set.contains name_cmp changed.now) (needs library.now key)) keys.now) }
-{
-    let mut reached = Vec::new(alloc);
-    for key in keys {
-        if is_reached(alloc, library, changed, *key)? {
-            reached.push(*key)?;
-        }
-    }
-    Ok(reached)
 }
 
 // those that have no entry

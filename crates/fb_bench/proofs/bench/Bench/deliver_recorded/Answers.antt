@@ -26,7 +26,7 @@ invariant_of-self-in-Accepted c =
     kept_pushed _ _ _ _ _ _ _ story _ c.args.caller (ToDeliver order) _ c.self.invariant.begins c.in_ok-share-in-Accepted.ensures.ok (delivers_is s order now Accepted same accepted)
     (subst (λ t. Agrees c.self.inside.library c.self.inside.commits c.keep.new.entries c.leave.new.keys c.leave-in-Accepted.new.keys t) (sym (delivered_is s order now c.key-key.result Accepted same c.key-key.ensures accepted))
     (agrees_deliver _ _ c.self.inside.entries.by_key _ c.self.inside.entries.ready _ c.self.inside.entries.waiting _ s c.key-key.result c.in_ok-value-in-Accepted.value c.self.invariant.agrees value c.keep.ensures c.leave.ensures c.leave-in-Accepted.ensures))
-    c.self.invariant.replayed c.self.invariant.keys_are c.self.invariant.covers (omega (arith, c.self.invariant.few))
+    c.self.invariant.replayed c.self.invariant.keys_are c.self.invariant.indexed (omega (arith, c.self.invariant.few))
 
 pub returns-in_ok-share-in-Accepted-clause-step : goal.returns-in_ok-share-in-Accepted-clause-step
 returns-in_ok-share-in-Accepted-clause-step c =
@@ -57,7 +57,7 @@ invariant_of-self-in_default c =
     let answer : c.judged-answer.result ≡ deliver_answer s now = c.judged-answer.ensures ∙ (λ i. deliver_answer (state_of (sym c.self.view_is i)) (judged i)) in
     kept_pushed _ _ _ _ _ _ _ story _ c.args.caller (ToDeliver order) _ c.self.invariant.begins c.in_ok-share-in_default.ensures.ok (delivers_is s order now c.judged-answer.result same answer)
     (subst (λ t. Agrees c.self.inside.library c.self.inside.commits c.self.inside.entries.by_key c.self.inside.entries.ready c.self.inside.entries.waiting t) (sym (delivered_is s order now now.key c.judged-answer.result same refl answer ∙ deliver_stays c.judged-answer.result now.key s c.in_default.not-Accepted)) c.self.invariant.agrees)
-    c.self.invariant.replayed c.self.invariant.keys_are c.self.invariant.covers (omega (arith, c.self.invariant.few))
+    c.self.invariant.replayed c.self.invariant.keys_are c.self.invariant.indexed (omega (arith, c.self.invariant.few))
 
 pub returns-in_ok-share-in_default : goal.returns-in_ok-share-in_default
 returns-in_ok-share-in_default c =

@@ -14,7 +14,7 @@ invariant_of-self-then-not-is_out c =
     let free : s.out c.args.key ≡ false = ap (λ st. (state_of st).out c.args.key) c.self.view_is ∙ search rules in
     kept_pushed _ _ _ _ _ _ _ story _ c.args.caller (ToGiveBack c.args.key) _ c.self.invariant.begins c.in_ok-share.ensures.ok (nothing_out s c.args.key free)
     (subst (λ t. Agrees c.self.inside.library c.self.inside.commits c.self.inside.entries.by_key c.self.inside.entries.ready c.self.inside.entries.waiting t) (sym (after_nothing_out s c.args.key free)) c.self.invariant.agrees)
-    c.self.invariant.replayed c.self.invariant.keys_are c.self.invariant.covers (omega (arith, c.self.invariant.few))
+    c.self.invariant.replayed c.self.invariant.keys_are c.self.invariant.indexed (omega (arith, c.self.invariant.few))
 
 pub returns-then-not-is_out-clause-step : goal.returns-then-not-is_out-clause-step
 returns-then-not-is_out-clause-step c =
@@ -35,7 +35,7 @@ invariant_of-self-then-not-waits c =
     kept_pushed _ _ _ _ _ _ _ story _ c.args.caller (ToGiveBack c.args.key) _ c.self.invariant.begins c.in_ok-share-2.ensures.ok (out_returned s c.args.key out)
     (subst (λ t. Agrees c.self.inside.library c.self.inside.commits c.mark_out.new.entries c.self.inside.entries.ready c.self.inside.entries.waiting t) (sym (after_returned s c.args.key out))
     (agrees_return_kept _ _ c.self.inside.entries.by_key _ _ _ s c.args.key c.self.invariant.agrees kept c.mark_out.ensures))
-    c.self.invariant.replayed c.self.invariant.keys_are c.self.invariant.covers (omega (arith, c.self.invariant.few))
+    c.self.invariant.replayed c.self.invariant.keys_are c.self.invariant.indexed (omega (arith, c.self.invariant.few))
 
 pub returns-then-not-waits-clause-step : goal.returns-then-not-waits-clause-step
 returns-then-not-waits-clause-step c =
@@ -56,7 +56,7 @@ invariant_of-self-in-Ok c =
     kept_pushed _ _ _ _ _ _ _ story _ c.args.caller (ToGiveBack c.args.key) _ c.self.invariant.begins c.in-Ok.ensures.ok (out_returned s c.args.key out)
     (subst (λ t. Agrees c.self.inside.library c.self.inside.commits c.mark_out-in-Ok.new.entries c.join.new.keys c.self.inside.entries.waiting t) (sym (after_returned s c.args.key out))
     (agrees_return _ _ c.self.inside.entries.by_key _ c.self.inside.entries.ready _ c.self.inside.entries.waiting s c.args.key c.self.invariant.agrees waits c.mark_out-in-Ok.ensures c.in_ok-join.ensures.ok))
-    c.self.invariant.replayed c.self.invariant.keys_are c.self.invariant.covers (omega (arith, c.self.invariant.few))
+    c.self.invariant.replayed c.self.invariant.keys_are c.self.invariant.indexed (omega (arith, c.self.invariant.few))
 
 pub returns-in-Ok-clause-step : goal.returns-in-Ok-clause-step
 returns-in-Ok-clause-step c =
@@ -74,7 +74,7 @@ invariant_of-self-in-Err c =
     let s : State = state_of story in
     let out : s.out c.args.key ≡ true = ap (λ st. (state_of st).out c.args.key) c.self.view_is ∙ search rules in
     let agrees = c.self.invariant.agrees in
-    subst (λ l. IsKept c.self.inside.library c.self.inside.commits c.self.inside.entries.keys.items c.self.inside.entries.by_key c.leave.new.keys c.self.inside.entries.waiting c.self.inside.users (record { origin = start c.self.inside.most_units; log = l })) (sym c.in-Err.ensures.err)
+    subst (λ l. IsKept c.self.inside.library c.self.inside.commits c.self.inside.entries.keys.items c.self.inside.entries.by_key c.leave.new.keys c.self.inside.entries.waiting c.self.inside.index (record { origin = start c.self.inside.most_units; log = l })) (sym c.in-Err.ensures.err)
     (record {
       begins = c.self.invariant.begins;
       agrees = record {
@@ -86,7 +86,7 @@ invariant_of-self-in-Err c =
       };
       replayed = c.self.invariant.replayed;
       keys_are = c.self.invariant.keys_are;
-      covers = c.self.invariant.covers;
+      indexed = c.self.invariant.indexed;
       few = c.self.invariant.few;
     })
 
@@ -125,6 +125,6 @@ invariant_of-self-in_err-join c =
       };
       replayed = c.self.invariant.replayed;
       keys_are = c.self.invariant.keys_are;
-      covers = c.self.invariant.covers;
+      indexed = c.self.invariant.indexed;
       few = c.self.invariant.few;
     }

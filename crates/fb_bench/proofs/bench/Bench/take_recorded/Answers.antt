@@ -27,7 +27,7 @@ invariant_of-self-in-None c =
     let none : None ≡ next (state_of story) = c.in-None.ensures ∙ ap (λ st. next (state_of st)) (sym c.self.view_is) in
     kept_pushed _ _ _ _ _ _ _ story _ c.args.caller ToTake _ c.self.invariant.begins c.in_ok-share-in-None.ensures.ok (take_none (state_of story) none)
     (subst (λ s. Agrees c.self.inside.library c.self.inside.commits c.self.inside.entries.by_key c.self.inside.entries.ready c.self.inside.entries.waiting s) (sym (stays_none (state_of story) none)) c.self.invariant.agrees)
-    c.self.invariant.replayed c.self.invariant.keys_are c.self.invariant.covers (omega (arith, c.self.invariant.few))
+    c.self.invariant.replayed c.self.invariant.keys_are c.self.invariant.indexed (omega (arith, c.self.invariant.few))
 
 pub returns-in_ok-share-in-None-clause-step : goal.returns-in_ok-share-in-None-clause-step
 returns-in_ok-share-in-None-clause-step c =
@@ -48,7 +48,7 @@ invariant_of-self-in-Some c =
     kept_pushed _ _ _ _ _ _ _ story _ c.args.caller ToTake _ c.self.invariant.begins c.in_ok-share-in-Some.ensures.ok same
     (subst (λ t. Agrees c.self.inside.library c.self.inside.commits c.mark_out.new.entries c.leave.new.keys c.self.inside.entries.waiting t) (sym (stays_some s key some))
     (agrees_take _ _ c.self.inside.entries.by_key _ c.self.inside.entries.ready _ c.self.inside.entries.waiting s key c.self.invariant.agrees (next_passes s key some) c.mark_out.ensures c.leave.ensures))
-    c.self.invariant.replayed c.self.invariant.keys_are c.self.invariant.covers (omega (arith, c.self.invariant.few))
+    c.self.invariant.replayed c.self.invariant.keys_are c.self.invariant.indexed (omega (arith, c.self.invariant.few))
 
 pub returns-in_ok-share-in-Some-clause-step : goal.returns-in_ok-share-in-Some-clause-step
 returns-in_ok-share-in-Some-clause-step c =

@@ -1,0 +1,68 @@
+-- What is known of truth values.
+use Rattle.std.proofs.Common.{◌≡◌, Bool, true, false, ◌||◌, ◌&&◌, not, refl, sym, ap, ◌∙◌}
+use Rattle.fb_table.proofs.SeenLemmas.{no_both}
+
+-- one more name: `s` is whether it is this one, and `f` whether it is one before it
+pub one_less : (o u f s k : Bool) → (s ≡ true → k ≡ false) → ((o && not (u && (f && not k))) && not (u && s)) ≡ (o && not (u && ((f || s) && not k)))
+one_less false u f s k is = refl
+one_less true false f s k is = refl
+one_less true true true true true is = no_both true refl (is refl)
+one_less true true true false true is = refl
+one_less true true true s false is = refl
+one_less true true false true true is = no_both true refl (is refl)
+one_less true true false true false is = refl
+one_less true true false false k is = refl
+
+pub one_kept : (o u f s k : Bool) → (s ≡ true → k ≡ true) → (o && not (u && (f && not k))) ≡ (o && not (u && ((f || s) && not k)))
+one_kept o u true s k is = refl
+one_kept o u false false k is = refl
+one_kept o u false true k is = ap (λ b. o && not (u && not b)) (sym (is refl))
+
+pub one_more : (o u f s k : Bool) → (s ≡ true → k ≡ false) → ((o || (u && (f && not k))) || (u && s)) ≡ (o || (u && ((f || s) && not k)))
+one_more true u f s k is = refl
+one_more false false f s k is = refl
+one_more false true true true true is = no_both true refl (is refl)
+one_more false true true false true is = refl
+one_more false true true s false is = refl
+one_more false true false true true is = no_both true refl (is refl)
+one_more false true false true false is = refl
+one_more false true false false k is = refl
+
+pub one_known : (o u f s k : Bool) → (s ≡ true → k ≡ true) → (o || (u && (f && not k))) ≡ (o || (u && ((f || s) && not k)))
+one_known o u true s k is = refl
+one_known o u false false k is = refl
+one_known o u false true k is = ap (λ b. o || (u && not b)) (sym (is refl))
+
+-- the mentions of the unit itself: those before in `o`, those after in `n`
+pub own_bits : (near here o n : Bool) → (here ≡ false → near ≡ o) → (((near && not (o && not n)) || here) || (n && not o)) ≡ (here || n)
+own_bits near true o n is = true_right (near && not (o && not n)) (n && not o)
+  where
+    true_right : (a b : Bool) → ((a || true) || b) ≡ true
+    true_right true b = refl
+    true_right false b = refl
+own_bits near false o n is = ap (λ b. ((b && not (o && not n)) || false) || (n && not o)) (is refl) ∙ by o n
+  where
+    by : (o n : Bool) → (((o && not (o && not n)) || false) || (n && not o)) ≡ n
+    by true true = refl
+    by true false = refl
+    by false true = refl
+    by false false = refl
+
+-- those of another unit
+pub other_bits : (near : Bool) → (((near && true) || false) || false) ≡ near
+other_bits true = refl
+other_bits false = refl
+
+-- `u` is whether it is the unit that is left out
+pub one_other : (f s u : Bool) → (s ≡ true → u ≡ false) → ((f && not u) || s) ≡ ((f || s) && not u)
+one_other true true true is = no_both true refl (is refl)
+one_other true false true is = refl
+one_other true s false is = refl
+one_other false true true is = no_both true refl (is refl)
+one_other false true false is = refl
+one_other false false u is = refl
+
+pub one_same : (f s u : Bool) → (s ≡ true → u ≡ true) → (f && not u) ≡ ((f || s) && not u)
+one_same true s u is = refl
+one_same false true u is = ap not (sym (is refl))
+one_same false false u is = refl

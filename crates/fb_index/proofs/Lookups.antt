@@ -1,0 +1,194 @@
+-- What is found under a name, after some units were put there.
+use Rattle.std.proofs.Common.{◌≡◌, ℕ, Bool, true, false, ◌||◌, ◌&&◌, not, if◌then◌else◌, List, [], ◌∷◌, ◌++◌, map, refl, sym, ap, ◌∙◌, subst, Option, Some, None, Result, Ok, Err, OnOk, OnErr, cond, unwrap_or}
+use Rattle.std.proofs.lemmas.Map.{lookup-remove_entry}
+use Rattle.std.proofs.lemmas.Map.Keys.{IsDistinct-from_sorted}
+use Rattle.std.specs.List.Sorted.{IsStrictlySortedBy}
+use Rattle.std.specs.Map.{lookup, remove_entry}
+use Rattle.std.specs.BTreeMap.{is_at, insert_entry}
+use Rattle.std.specs.BTreeSet as set
+use Rattle.std.specs.BTreeSet.{BTreeSet}
+use Rattle.std.specs.Option.{option_map_or}
+use Rattle.std.specs.Ordering.{match_ordering, is_eq}
+use Rattle.std.specs.Cmp.{eq_by_cmp_equiv}
+use Rattle.std.specs.declared.vec.Vec.{Vec}
+use Rattle.std.specs.declared.alloc.Global.{Global}
+use Rattle.std.specs.declared.cmp.Ordering.TheVariants.{Less, Equal, Greater}
+use Rattle.fb_text.specs.Order.{name_cmp}
+use Rattle.fb_table.specs.Seen.{has_name}
+use Rattle.fb_table.proofs.Names.{name_total, exact_name}
+use Rattle.fb_table.proofs.Places.{sorted_put, sorted_removed}
+use Rattle.fb_table.proofs.SeenLemmas.{no_both, same_is, same_self, has-push}
+use Rattle.fb_index.specs.Near.{Users, users_of, is_near, IsIndexedAs, IsReplaced}
+use Rattle.fb_index.proofs.Bits.{own_bits, other_bits}
+
+pub flips : (a b : List ℕ) → is_at (name_cmp a) b ≡ is_at (name_cmp b) a
+flips a b = (eq_by_cmp_equiv name_total).symm a b
+
+module _ {V : Type 0} where
+  beside : (a b : Bool) (x v : V) (r old : Option V) → (a ≡ true → b ≡ false) → r ≡ cond b (Some v) old → cond a (Some x) r ≡ cond b (Some v) (cond a (Some x) old)
+  beside true true x v r old apart rest = no_both true refl (apart refl)
+  beside true false x v r old apart rest = refl
+  beside false b x v r old apart rest = rest
+
+  above : (b : Bool) (x v : V) (old : Option V) → cond b (Some v) old ≡ cond b (Some v) (cond b (Some x) old)
+  above true x v old = refl
+  above false x v old = refl
+
+  pub found_put : (es : List (List ℕ × V)) (k n : List ℕ) (v : V) → lookup (is_at (name_cmp n)) (insert_entry name_cmp es k v) ≡ cond (is_at (name_cmp k) n) (Some v) (lookup (is_at (name_cmp n)) es)
+  found_put [] k n v = ap (λ b. cond b (Some v) None) (flips n k)
+  found_put (e ∷ es) k n v =
+      elim (name_cmp k e.0) as (λ o. name_cmp k e.0 ≡ o → lookup (is_at (name_cmp n)) (match_ordering o ((k, v) ∷ e ∷ es) ((e.0, v) ∷ es) (e ∷ insert_entry name_cmp es k v)) ≡ cond (is_at (name_cmp k) n) (Some v) (lookup (is_at (name_cmp n)) (e ∷ es))) [
+        | Less ↦ λ _. ap (λ b. cond b (Some v) (lookup (is_at (name_cmp n)) (e ∷ es))) (flips n k)
+        | Equal ↦ λ same.
+            let here : is_at (name_cmp n) e.0 ≡ is_at (name_cmp k) n = ap (is_at (name_cmp n)) (sym (exact_name k e.0 same)) ∙ flips n k in
+            ap (λ b. cond b (Some v) (lookup (is_at (name_cmp n)) es)) here
+            ∙ above (is_at (name_cmp k) n) e.1 v (lookup (is_at (name_cmp n)) es)
+            ∙ sym (ap (λ b. cond (is_at (name_cmp k) n) (Some v) (cond b (Some e.1) (lookup (is_at (name_cmp n)) es))) here)
+        | Greater ↦ λ greater.
+            beside (is_at (name_cmp n) e.0) (is_at (name_cmp k) n) e.1 v _ _
+            (λ here. ap (is_at (name_cmp k)) (same_is n e.0 here) ∙ ap is_eq greater)
+            (found_put es k n v)
+      ] refl
+
+  pub found_removed : (es : List (List ℕ × V)) (k n : List ℕ) → IsStrictlySortedBy name_cmp (map (λ e. e.0) es) → lookup (is_at (name_cmp n)) (remove_entry (is_at (name_cmp k)) es) ≡ cond (is_at (name_cmp k) n) None (lookup (is_at (name_cmp n)) es)
+  found_removed es k n sorted =
+      lookup-remove_entry (eq_by_cmp_equiv name_total) (is_at (name_cmp k)) (λ x y at. ap (λ z. is_at (name_cmp z) y) (same_is k x at)) n es (IsDistinct-from_sorted name_cmp _ sorted)
+
+-- ---- the table of an index
+
+abbrev pub Rows : Type 0
+Rows = List (List ℕ × Vec (List ℕ) Global)
+
+abbrev pub read : Rows → Users
+read rows = map (λ e. (e.0, e.1.items)) rows
+
+abbrev pub units_in : Vec (List ℕ) Global → List (List ℕ)
+units_in units = units.items
+
+found_read : (b : Bool) (units : Vec (List ℕ) Global) (rest : Option (List (List ℕ))) (rows : Option (Vec (List ℕ) Global)) → unwrap_or rest [] ≡ option_map_or units_in rows [] → unwrap_or (cond b (Some units.items) rest) [] ≡ option_map_or units_in (cond b (Some units) rows) []
+found_read true units rest rows same = refl
+found_read false units rest rows same = same
+
+pub users_in : (rows : Rows) (n : List ℕ) → users_of (read rows) n ≡ option_map_or units_in (lookup (is_at (name_cmp n)) rows) []
+users_in [] n = refl
+users_in (e ∷ rows) n = found_read (is_at (name_cmp n) e.0) e.1 _ _ (users_in rows n)
+
+found_units : (b : Bool) (units : Vec (List ℕ) Global) (rows : Option (Vec (List ℕ) Global)) → option_map_or units_in (cond b (Some units) rows) [] ≡ (if b then units.items else option_map_or units_in rows [])
+found_units true units rows = refl
+found_units false units rows = refl
+
+found_none : (b : Bool) (rows : Option (Vec (List ℕ) Global)) → option_map_or units_in (cond b None rows) [] ≡ (if b then [] else option_map_or units_in rows [])
+found_none true rows = refl
+found_none false rows = refl
+
+pub users_put : (old : Users) (rows new : Rows) (k : List ℕ) (units : Vec (List ℕ) Global) → read rows ≡ old → new ≡ insert_entry name_cmp rows k units → (n : List ℕ) → users_of (read new) n ≡ (if is_at (name_cmp k) n then units.items else users_of old n)
+users_put old rows new k units was is n =
+    ap (λ (t : Rows). users_of (read t) n) is
+    ∙ users_in (insert_entry name_cmp rows k units) n
+    ∙ ap (λ o. option_map_or units_in o []) (found_put rows k n units)
+    ∙ found_units (is_at (name_cmp k) n) units (lookup (is_at (name_cmp n)) rows)
+    ∙ ap (λ us. if is_at (name_cmp k) n then units.items else us) (sym (users_in rows n) ∙ ap (λ us. users_of us n) was)
+
+pub users_removed : (old : Users) (rows new : Rows) (k : List ℕ) (units : List (List ℕ)) → read rows ≡ old → IsStrictlySortedBy name_cmp (map (λ e. e.0) rows) → new ≡ remove_entry (is_at (name_cmp k)) rows → units ≡ [] → (n : List ℕ) → users_of (read new) n ≡ (if is_at (name_cmp k) n then units else users_of old n)
+users_removed old rows new k units was sorted is none n =
+    ap (λ (t : Rows). users_of (read t) n) is
+    ∙ users_in (remove_entry (is_at (name_cmp k)) rows) n
+    ∙ ap (λ o. option_map_or units_in o []) (found_removed rows k n sorted)
+    ∙ found_none (is_at (name_cmp k) n) (lookup (is_at (name_cmp n)) rows)
+    ∙ ap (λ us. if is_at (name_cmp k) n then [] else us) (sym (users_in rows n) ∙ ap (λ us. users_of us n) was)
+    ∙ ap (λ us. if is_at (name_cmp k) n then us else users_of old n) (sym none)
+
+-- ---- one unit under one name
+
+left_bits : (b u : Bool) (mine units : List (List ℕ)) (other : List ℕ) → (b ≡ true → has_name mine other ≡ (has_name units other && not u)) → has_name (if b then mine else units) other ≡ (has_name units other && not (u && b))
+left_bits true u mine units other less = less refl ∙ ap (λ c. has_name units other && not c) (sym (and_true u))
+  where
+    and_true : (u : Bool) → (u && true) ≡ u
+    and_true true = refl
+    and_true false = refl
+left_bits false u mine units other less = sym (ap (λ c. has_name units other && not c) (and_false u) ∙ and_right (has_name units other))
+  where
+    and_false : (u : Bool) → (u && false) ≡ false
+    and_false true = refl
+    and_false false = refl
+
+    and_right : (u : Bool) → (u && true) ≡ u
+    and_right true = refl
+    and_right false = refl
+
+-- the unit is taken out under the name `k`
+pub unit_left : (old new : Users) (k unit : List ℕ) (others : List (List ℕ)) → ((other : List ℕ) → has_name others other ≡ (has_name (users_of old k) other && not (is_at (name_cmp unit) other))) → ((n : List ℕ) → users_of new n ≡ (if is_at (name_cmp k) n then others else users_of old n)) → (other n : List ℕ) → is_near new other n ≡ (is_near old other n && not (is_at (name_cmp unit) other && is_at (name_cmp k) n))
+unit_left old new k unit others less are other n =
+    ap (λ us. has_name us other) (are n)
+    ∙ left_bits (is_at (name_cmp k) n) (is_at (name_cmp unit) other) others (users_of old n) other
+    (λ at. less other ∙ ap (λ m. has_name (users_of old m) other && not (is_at (name_cmp unit) other)) (same_is k n at))
+
+joined_bits : (b u : Bool) (mine units : List (List ℕ)) (other : List ℕ) → (b ≡ true → has_name mine other ≡ (has_name units other || u)) → has_name (if b then mine else units) other ≡ (has_name units other || (u && b))
+joined_bits true u mine units other more = more refl ∙ ap (λ c. has_name units other || c) (sym (and_true u))
+  where
+    and_true : (u : Bool) → (u && true) ≡ u
+    and_true true = refl
+    and_true false = refl
+joined_bits false u mine units other more = sym (ap (λ c. has_name units other || c) (and_false u) ∙ or_right_false (has_name units other))
+  where
+    and_false : (u : Bool) → (u && false) ≡ false
+    and_false true = refl
+    and_false false = refl
+
+    or_right_false : (u : Bool) → (u || false) ≡ u
+    or_right_false true = refl
+    or_right_false false = refl
+
+-- the unit is put under the name `k`
+pub unit_joined : (old new : Users) (k unit : List ℕ) (units : List (List ℕ)) → units ≡ users_of old k ++ unit ∷ [] → ((n : List ℕ) → users_of new n ≡ (if is_at (name_cmp k) n then units else users_of old n)) → (other n : List ℕ) → is_near new other n ≡ (is_near old other n || (is_at (name_cmp unit) other && is_at (name_cmp k) n))
+unit_joined old new k unit units is are other n =
+    ap (λ us. has_name us other) (are n)
+    ∙ joined_bits (is_at (name_cmp k) n) (is_at (name_cmp unit) other) units (users_of old n) other
+    (λ at. ap (λ us. has_name us other) is ∙ has-push (users_of old k) unit other ∙ ap (λ b. has_name (users_of old k) other || b) (flips other unit) ∙ ap (λ m. has_name (users_of old m) other || is_at (name_cmp unit) other) (same_is k n at))
+
+there_bits : (o u b : Bool) → (u ≡ true → b ≡ true → o ≡ true) → o ≡ (o || (u && b))
+there_bits true u b is = refl
+there_bits false true true is = is refl refl
+there_bits false true false is = refl
+there_bits false false b is = refl
+
+-- it stands there already
+pub unit_there : (old : Users) (k unit : List ℕ) → is_near old unit k ≡ true → (other n : List ℕ) → is_near old other n ≡ (is_near old other n || (is_at (name_cmp unit) other && is_at (name_cmp k) n))
+unit_there old k unit there other n =
+    there_bits (is_near old other n) (is_at (name_cmp unit) other) (is_at (name_cmp k) n)
+    (λ u b. sym (ap (λ m. is_near old m n) (same_is unit other u)) ∙ sym (ap (is_near old unit) (same_is k n b)) ∙ there)
+
+-- ---- the rows stay in order
+
+module _ {T E : Type 0} where
+  pub rows_put : (r : Result T E) (rows new : Rows) (k : List ℕ) (units : Vec (List ℕ) Global) → OnOk r (new ≡ insert_entry name_cmp rows k units) → OnErr r (new ≡ rows) → IsStrictlySortedBy name_cmp (map (λ e. e.0) rows) → IsStrictlySortedBy name_cmp (map (λ e. e.0) new)
+  rows_put (Ok x) rows new k units is was sorted = subst (λ (t : Rows). IsStrictlySortedBy name_cmp (map (λ e. e.0) t)) (sym is) (sorted_put rows k units sorted)
+  rows_put (Err x) rows new k units is was sorted = subst (λ (t : Rows). IsStrictlySortedBy name_cmp (map (λ e. e.0) t)) (sym was) sorted
+
+  pub rows_removed : (r : Result T E) (rows new : Rows) (k : List ℕ) → OnOk r (new ≡ remove_entry (is_at (name_cmp k)) rows) → OnErr r (new ≡ rows) → IsStrictlySortedBy name_cmp (map (λ e. e.0) rows) → IsStrictlySortedBy name_cmp (map (λ e. e.0) new)
+  rows_removed (Ok x) rows new k is was sorted = subst (λ (t : Rows). IsStrictlySortedBy name_cmp (map (λ e. e.0) t)) (sym is) (sorted_removed (is_at (name_cmp k)) rows sorted)
+  rows_removed (Err x) rows new k is was sorted = subst (λ (t : Rows). IsStrictlySortedBy name_cmp (map (λ e. e.0) t)) (sym was) sorted
+
+-- ---- one unit with its mentions
+
+module _ (old a b new : Users) (unit : List ℕ) (was now : List (List ℕ)) (before after : BTreeSet (List ℕ)) where
+  -- what the three steps leave: `u` is whether it is the unit, and `ka` and `kb` whether the name is a new or an old mention
+  abbrev steps : (u ka kb near o here n : Bool) → Bool
+  steps u ka kb near o here n = ((near && not (u && (o && not ka))) || (u && here)) || (u && (n && not kb))
+
+  pub replaced : ((n : List ℕ) → set.contains name_cmp before n ≡ has_name was n) → ((n : List ℕ) → set.contains name_cmp after n ≡ has_name now n) → IsIndexedAs old unit was → ((other n : List ℕ) → is_near a other n ≡ (is_near old other n && not (is_at (name_cmp unit) other && (has_name was n && not (set.contains name_cmp after n))))) → ((other n : List ℕ) → is_near b other n ≡ (is_near a other n || (is_at (name_cmp unit) other && is_at (name_cmp unit) n))) → ((other n : List ℕ) → is_near new other n ≡ (is_near b other n || (is_at (name_cmp unit) other && (has_name now n && not (set.contains name_cmp before n))))) → IsReplaced old unit now new
+  replaced befores afters known out own put = record {
+    own = λ n.
+        all unit n
+        ∙ (λ i. steps (same_self unit i) (afters n i) (befores n i) (is_near old unit n) (has_name was n) (is_at (name_cmp unit) n) (has_name now n))
+        ∙ own_bits (is_near old unit n) (is_at (name_cmp unit) n) (has_name was n) (has_name now n) (known n);
+    others = λ other n apart.
+        all other n
+        ∙ ap (λ u. steps u (set.contains name_cmp after n) (set.contains name_cmp before n) (is_near old other n) (has_name was n) (is_at (name_cmp unit) n) (has_name now n)) apart
+        ∙ other_bits (is_near old other n);
+  }
+    where
+      all : (other n : List ℕ) → is_near new other n ≡ steps (is_at (name_cmp unit) other) (set.contains name_cmp after n) (set.contains name_cmp before n) (is_near old other n) (has_name was n) (is_at (name_cmp unit) n) (has_name now n)
+      all other n =
+          put other n
+          ∙ ap (λ x. x || (is_at (name_cmp unit) other && (has_name now n && not (set.contains name_cmp before n)))) (own other n ∙ ap (λ x. x || (is_at (name_cmp unit) other && is_at (name_cmp unit) n)) (out other n))

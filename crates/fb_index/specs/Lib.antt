@@ -1,0 +1,4 @@
+-- What the contracts of this crate cite.
+pub mod Near
+-- Passed on to the crates above, which do not list these libraries.
+pub use Rattle.fb_table.specs as Table
