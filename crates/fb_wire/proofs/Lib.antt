@@ -1,9 +1,10 @@
 pub mod Changes
 pub mod Cuts
 pub mod Jobs
+pub mod Members
 pub mod OneTalk
 pub mod Pieces
-pub mod ReplyTexts
+pub mod Printed
 pub mod RequestReads
 pub mod Scripts
 pub mod Takings

@@ -12,6 +12,7 @@ mod piece;
 mod reply;
 mod request;
 mod run;
+mod to_json;
 
 pub use end::RunEnd;
 pub use fb_streams::{Failed, Feed, FromRead, IntoWrite, MemoryFeed, MemorySink, Sink};

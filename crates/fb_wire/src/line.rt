@@ -16,6 +16,7 @@ use fb_bench::jobs::Job;
 use fb_streams::{Failed, Sink};
 use serde_json::Value;
 use std::alloc::{AllocError, Global};
+use std::mem;
 
 fn is_blank(line: &[u8]) -> bool
     ensures { result ≡ is_blank line.now }
@@ -58,11 +59,12 @@ fn answer_bytes<D: Desk>(
     }
 }
 
-// The line of the reply, or none for a blank line.
+// The line of the reply, which takes this room, or none for a blank line.
 fn answer_line<D: Desk>(
     alloc: Global,
     desk: &mut D,
     held: &mut Vec<Job>,
+    room: Vec<u8>,
     line: &[u8],
 ) -> Result<Option<Vec<u8>>, AllocError>
     ensures { LineServed D.step line.now held.old.items desk.old result held.new.items desk.new }
@@ -71,7 +73,7 @@ fn answer_line<D: Desk>(
         return Ok(None);
     }
     match answer_bytes(alloc, desk, held, line) {
-        Ok(reply) => match reply.line(alloc) {
+        Ok(reply) => match reply.line(room) {
             Ok(text) => Ok(Some(text)),
             Err(e) => Err(e),
         },
@@ -96,11 +98,12 @@ fn write_all<S: Sink>(writer: &mut S, bytes: &[u8]) -> Result<(), Failed>
     writer.flush()
 }
 
-/// Answers a line, and writes its reply.
+/// Answers a line, and writes its reply, which takes the room of the one before.
 pub(crate) fn say_line<D: Desk, S: Sink>(
     alloc: Global,
     desk: &mut D,
     held: &mut Vec<Job>,
+    room: &mut Vec<u8>,
     writer: &mut S,
     line: &[u8],
 ) -> Result<(), RunEnd>
@@ -109,10 +112,14 @@ pub(crate) fn say_line<D: Desk, S: Sink>(
     ensures flushed { StaysFlushed (S.is_flushed writer.old) (S.has_failed writer.new) (S.is_flushed writer.new) }
     ensures failed { IsTrue (S.has_failed writer.new) ↔ (result ≡ Err RunEnd.WriteFailed) }
 {
-    match answer_line(alloc, desk, held, line) {
+    let taken = mem::replace(room, Vec::new(alloc));
+    match answer_line(alloc, desk, held, taken, line) {
         Ok(None) => Ok(()),
         Ok(Some(text)) => match write_all(writer, &text) {
-            Ok(()) => Ok(()),
+            Ok(()) => {
+                *room = text;
+                Ok(())
+            }
             Err(_) => Err(RunEnd::WriteFailed),
         },
         Err(_) => Err(RunEnd::Memory),

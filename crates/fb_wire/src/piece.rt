@@ -47,6 +47,7 @@ fn end_line<D: Desk, S: Sink>(
     alloc: Global,
     desk: &mut D,
     held: &mut Vec<Job>,
+    room: &mut Vec<u8>,
     writer: &mut S,
     line: &mut Vec<u8>,
     front: &[u8],
@@ -63,7 +64,7 @@ fn end_line<D: Desk, S: Sink>(
         Ok(()) => {}
         Err(end) => return Err(end),
     }
-    match say_line(alloc, desk, held, writer, line) {
+    match say_line(alloc, desk, held, room, writer, line) {
         Ok(()) => {
             line.clear();
             Ok(())
@@ -77,6 +78,7 @@ pub(crate) fn take_piece<D: Desk, S: Sink>(
     alloc: Global,
     desk: &mut D,
     held: &mut Vec<Job>,
+    room: &mut Vec<u8>,
     writer: &mut S,
     line: &mut Vec<u8>,
     piece: &[u8],
@@ -94,7 +96,7 @@ pub(crate) fn take_piece<D: Desk, S: Sink>(
         if len == rest.len() {
             return extend_line(line, rest);
         }
-        match end_line(alloc, desk, held, writer, line, &rest[..len]) {
+        match end_line(alloc, desk, held, room, writer, line, &rest[..len]) {
             Ok(()) => at += len + 1,
             Err(end) => return Err(end),
         }

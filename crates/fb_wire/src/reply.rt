@@ -1,18 +1,18 @@
 // The replies, and their lines.
 ghost use Rattle.std.specs.Prelude.{◌≡◌, IfOk};
-ghost use Rattle.serde_json.specs.View.{view, items_view};
-ghost use Rattle.serde_json.specs.Data.{array};
 ghost use Rattle.fb_bench.specs.Jobs.Values.{finding_of};
-ghost use Rattle.fb_wire.specs.Replies.{fault_items, fault_item, kind_text, reply_line, value_said};
+ghost use Rattle.fb_wire.specs.Replies.{fault_item, job_given, kind_text, refused_base, refused_unit, reply_line, value_said, work_refused};
 ghost use Rattle.fb_wire.specs.ReplyView.{refusal_text, data_of};
+ghost use Rattle.fb_wire.specs.Tokens.{IsSaid};
 
-use crate::deploy_reply::deploy_value;
-use crate::net_reply::net_value;
+use crate::to_json::{
+    ToJson, write_member, write_one, write_one_list, write_one_text, write_text_member,
+};
 use fb_bench::iface::Fault;
-use fb_bench::jobs::{Key, Kind, Value as EntryValue};
+use fb_bench::jobs::{Key, Kind, Value};
 use fb_text::Name;
-use serde_json::{Value, json};
-use std::alloc::{AllocError, Global};
+use json::Writer;
+use std::alloc::AllocError;
 use std::sync::Arc;
 
 /// Why a line is refused.
@@ -41,7 +41,7 @@ pub(crate) enum Reply {
     Committed(u64),
     StaleBase { unit: Name, current: u64 },
     Pending,
-    Found(Arc<EntryValue>),
+    Found(Arc<Value>),
     Worked(u64),
     WorkRefused(u64, Refusal),
     Job(u64, Key),
@@ -86,76 +86,98 @@ fn kind_text(kind: Kind) -> &'static str
     }
 }
 
-fn fault_value(alloc: Global, fault: &Fault) -> Result<Value, AllocError>
-    ensures { IfOk result (λ v. view v ≡ fault_item fault.now) }
-{
-    let start = fault.span.start as u64;
-    let end = fault.span.end as u64;
-    json!(in alloc; [fault.code.as_str(), start, end])
-}
+impl ToJson for Fault {
+    ghost said = { fault_item };
 
-fn fault_values(alloc: Global, faults: &[Fault]) -> Result<Vec<Value>, AllocError>
-    ensures { IfOk result (λ v. items_view v.items ≡ fault_items faults.now) }
-{
-    let mut values = Vec::new(alloc);
-    for fault in faults {
-        values.push(fault_value(alloc, fault)?)?;
+    fn write(&self, out: &mut Writer) -> Result<(), AllocError> {
+        out.begin_array()?;
+        out.string(self.code.as_str())?;
+        out.u64(self.span.start as u64)?;
+        out.u64(self.span.end as u64)?;
+        out.end_array()
     }
-    Ok(values)
 }
 
-fn faults_value(alloc: Global, faults: &[Fault]) -> Result<Value, AllocError>
-    ensures { IfOk result (λ v. view v ≡ array (fault_items faults.now)) }
-{
-    Ok(Value::Array(fault_values(alloc, faults)?))
-}
+impl ToJson for Value {
+    ghost said = { λ value. value_said (finding_of value) };
 
-fn entry_value(alloc: Global, value: &EntryValue) -> Result<Value, AllocError>
-    ensures { IfOk result (λ v. view v ≡ value_said (finding_of value.now)) }
-{
-    match value {
-        EntryValue::Faults(faults) => {
-            let items = faults_value(alloc, faults)?;
-            json!(in alloc; {"faults": items})
+    fn write(&self, out: &mut Writer) -> Result<(), AllocError> {
+        match self {
+            Value::Faults(faults) => write_one_list(out, "faults", faults),
+            Value::Net(net) => write_one(out, "net", net),
+            Value::Deploy(deploy) => write_one(out, "deploy", deploy),
         }
-        EntryValue::Net(net) => net_value(alloc, net),
-        EntryValue::Deploy(deploy) => deploy_value(alloc, deploy),
+    }
+}
+
+fn write_stale_base(out: &mut Writer, unit: &Name, current: u64) -> Result<(), AllocError>
+    ensures { IsSaid result out.old out.new (refused_base unit.now current) }
+{
+    out.begin_object()?;
+    write_member(out, "current", &current)?;
+    write_text_member(out, "refused", "StaleBase")?;
+    write_member(out, "unit", unit)?;
+    out.end_object()
+}
+
+fn write_work_refused(out: &mut Writer, accepted: u64, refusal: Refusal) -> Result<(), AllocError>
+    ensures { IsSaid result out.old out.new (work_refused accepted (refusal_text refusal)) }
+{
+    out.begin_object()?;
+    write_member(out, "accepted", &accepted)?;
+    write_text_member(out, "refused", refusal.as_str())?;
+    out.end_object()
+}
+
+fn write_job(out: &mut Writer, number: u64, key: &Key) -> Result<(), AllocError>
+    ensures { IsSaid result out.old out.new (job_given number key.now) }
+{
+    out.begin_object()?;
+    write_member(out, "job", &number)?;
+    write_text_member(out, "kind", kind_text(key.kind))?;
+    write_member(out, "unit", &key.unit)?;
+    out.end_object()
+}
+
+fn write_refused_unit(out: &mut Writer, refusal: Refusal, unit: &Name) -> Result<(), AllocError>
+    ensures { IsSaid result out.old out.new (refused_unit (refusal_text refusal) unit.now) }
+{
+    out.begin_object()?;
+    write_text_member(out, "refused", refusal.as_str())?;
+    write_member(out, "unit", unit)?;
+    out.end_object()
+}
+
+impl ToJson for Reply {
+    ghost said = { data_of };
+
+    fn write(&self, out: &mut Writer) -> Result<(), AllocError> {
+        match self {
+            Reply::Committed(number) => write_one(out, "commit", number),
+            Reply::StaleBase { unit, current } => write_stale_base(out, unit, *current),
+            Reply::Pending => write_one_text(out, "answer", "pending"),
+            Reply::Found(value) => value.write(out),
+            Reply::Worked(accepted) => write_one(out, "accepted", accepted),
+            Reply::WorkRefused(accepted, refusal) => write_work_refused(out, *accepted, *refusal),
+            Reply::Job(number, key) => write_job(out, *number, key),
+            Reply::NoJob => write_one(out, "job", &0u64),
+            Reply::Delivered => write_one_text(out, "delivered", "accepted"),
+            Reply::GivenBack(was_out) => write_one(out, "returned", was_out),
+            Reply::Refused(refusal) => write_one_text(out, "refused", refusal.as_str()),
+            Reply::RefusedUnit(refusal, unit) => write_refused_unit(out, *refusal, unit),
+        }
     }
 }
 
 impl Reply {
-    pub(crate) fn to_value(&self, alloc: Global) -> Result<Value, AllocError>
-        ensures { IfOk result (λ v. view v ≡ data_of self.now) }
-    {
-        match self {
-            Reply::Committed(number) => json!(in alloc; {"commit": *number}),
-            Reply::StaleBase { unit, current } => json!(in alloc; {
-                "current": *current, "refused": "StaleBase", "unit": unit.as_str()
-            }),
-            Reply::Pending => json!(in alloc; {"answer": "pending"}),
-            Reply::Found(value) => entry_value(alloc, value),
-            Reply::Worked(accepted) => json!(in alloc; {"accepted": *accepted}),
-            Reply::WorkRefused(accepted, refusal) => json!(in alloc; {
-                "accepted": *accepted, "refused": refusal.as_str()
-            }),
-            Reply::Job(number, key) => json!(in alloc; {
-                "job": *number, "kind": kind_text(key.kind), "unit": key.unit.as_str()
-            }),
-            Reply::NoJob => json!(in alloc; {"job": 0u64}),
-            Reply::Delivered => json!(in alloc; {"delivered": "accepted"}),
-            Reply::GivenBack(was_out) => json!(in alloc; {"returned": *was_out}),
-            Reply::Refused(refusal) => json!(in alloc; {"refused": refusal.as_str()}),
-            Reply::RefusedUnit(refusal, unit) => json!(in alloc; {
-                "refused": refusal.as_str(), "unit": unit.as_str()
-            }),
-        }
-    }
-
-    /// The reply's line, with its line feed.
-    pub(crate) fn line(&self, alloc: Global) -> Result<Vec<u8>, AllocError>
+    /// The reply's line, with its line feed, written over what `room` holds.
+    pub(crate) fn line(&self, mut room: Vec<u8>) -> Result<Vec<u8>, AllocError>
         ensures { IfOk result (λ line. line.items ≡ reply_line (data_of self.now)) }
     {
-        let mut line = self.to_value(alloc)?.to_vec(alloc)?;
+        room.clear();
+        let mut out = Writer::new(room);
+        self.write(&mut out)?;
+        let mut line = out.into_inner();
         line.push(b'\n')?;
         Ok(line)
     }

@@ -43,6 +43,7 @@ pub fn run_lines<F: Feed, S: Sink, D: Desk>(
     ensures write_failed { IsTrue (S.has_failed writer.new) ↔ (result ≡ RunEnd.WriteFailed) }
 {
     let mut held = Vec::new(alloc);
+    let mut room = Vec::new(alloc);
     let mut line = Vec::new(alloc);
     let mut buffer = [0; READ_SIZE];
     for _turn in 0..turns {
@@ -51,13 +52,13 @@ pub fn run_lines<F: Feed, S: Sink, D: Desk>(
             Err(_) => return RunEnd::ReadFailed,
         };
         if count == 0 {
-            match say_line(alloc, desk, &mut held, writer, &line) {
+            match say_line(alloc, desk, &mut held, &mut room, writer, &line) {
                 Ok(()) => return RunEnd::End,
                 Err(end) => return end,
             }
         }
         let piece = &buffer[..count];
-        match take_piece(alloc, desk, &mut held, writer, &mut line, piece) {
+        match take_piece(alloc, desk, &mut held, &mut room, writer, &mut line, piece) {
             Ok(()) => {}
             Err(end) => return end,
         }

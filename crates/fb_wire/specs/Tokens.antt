@@ -1,0 +1,21 @@
+-- For private clauses: data, as the tokens that are written of it.
+use Rattle.std.specs.Prelude.{◌≡◌, ℕ, List, ◌∷◌, ◌++◌, OnOk, Result}
+use Rattle.json.specs.Token.{Token, key}
+use Rattle.json.specs.Tree.{json_tokens}
+use Rattle.json.specs.Written.{Written}
+use Rattle.serde_json.specs.Data.{Data}
+use Rattle.serde_json.specs.Written.{outline}
+
+abbrev pub tokens_of : Data → List Token
+tokens_of d = json_tokens (outline d)
+
+-- behind what was there the writer has these tokens, unless memory ran out
+abbrev pub Adds : {E : Type 0} → Result (Unit {0}) E → Written → Written → List Token → Type 0
+Adds result old new tokens = OnOk result ((new.before ≡ old.before) × (new.tokens ≡ old.tokens ++ tokens))
+
+abbrev pub IsSaid : {E : Type 0} → Result (Unit {0}) E → Written → Written → Data → Type 0
+IsSaid result old new d = Adds result old new (tokens_of d)
+
+-- a member of an object
+abbrev pub IsMember : {E : Type 0} → Result (Unit {0}) E → Written → Written → List ℕ → Data → Type 0
+IsMember result old new name d = Adds result old new (key name ∷ tokens_of d)
