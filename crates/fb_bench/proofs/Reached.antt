@@ -7,7 +7,7 @@ use Rattle.fb_text.specs.Order.{name_cmp}
 use Rattle.fb_index.specs.Near.{Users, is_near, Reaches, near, through, ReachesSome}
 use Rattle.fb_index.proofs.Lookups.{flips}
 use Rattle.fb_index.proofs.Table.SeenLemmas.{by_bool, or_left, or_right, or_cases, or_false, same_is, same_self, Contains-has, has-Contains}
-use Rattle.fb_flatten.proofs.FarNames.{far_is_all}
+use Rattle.fb_jobs.proofs.FarNames.{far_is_all}
 use Rattle.fb_jobs.specs.Flatten.Far.{far_of}
 use Rattle.fb_jobs.specs.Library.Texts.{Texts, sources_of, text_at}
 use Rattle.fb_jobs.specs.Library.View.{Sources, mentions_at, near_of}

@@ -9,3 +9,4 @@ pub use Rattle.fb_deploy.proofs.Tree as Tree
 pub use Rattle.fb_deploy.proofs.Library as Library
 pub use Rattle.fb_deploy.proofs.Iface as Iface
 pub use Rattle.fb_deploy.proofs.Compose as Compose
+pub use Rattle.fb_deploy.proofs.Flatten.FarNames as FarNames

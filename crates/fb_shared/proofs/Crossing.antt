@@ -45,6 +45,7 @@ use Rattle.fb_bench.specs.contracts.record.Record as Record
 use Rattle.fb_shared.specs.contracts.seat.Receipt as Receipt
 use Rattle.fb_shared.specs.contracts.seat.Seat as Seat
 use Rattle.fb_bench.specs.Library.contracts.library.Library as Library
+use Rattle.fb_index.specs.contracts.index.Index as Index
 use Rattle.fb_bench.specs.contracts.bench.Bench as Bench
 use Rattle.fb_shared.specs.contracts.locked.Locked as Locked
 use Rattle.fb_shared.specs.contracts.shared.Shared as Shared
@@ -541,17 +542,29 @@ library_field_sync = search (source_field_send, source_send, source_field_sync, 
 pub library_sync : IsSync Library.the_row
 library_sync = search (library_field_sync, source_field_send, source_send, source_field_sync, source_sync, crosses, maps.crosses, sendable) depth 60 fits 20000
 
+pub index_field_send : IsSend (Index.the_field).row
+index_field_send = search (crosses, maps.crosses, sendable) depth 60 fits 20000
+
+pub index_send : IsSend Index.the_row
+index_send = search (index_field_send, crosses, maps.crosses, sendable) depth 60 fits 20000
+
+pub index_field_sync : IsSync (Index.the_field).row
+index_field_sync = search (crosses, maps.crosses, sendable) depth 60 fits 20000
+
+pub index_sync : IsSync Index.the_row
+index_sync = search (index_field_sync, crosses, maps.crosses, sendable) depth 60 fits 20000
+
 pub bench_field_send : IsSend (Bench.the_field).row
-bench_field_send = search (library_field_send, library_send, library_field_sync, library_sync, record_field_send, record_send, record_field_sync, record_sync, value_field_send, value_send, value_field_sync, value_sync, crosses, maps.crosses, sendable) depth 60 fits 20000
+bench_field_send = search (index_field_send, index_send, index_field_sync, index_sync, library_field_send, library_send, library_field_sync, library_sync, record_field_send, record_send, record_field_sync, record_sync, value_field_send, value_send, value_field_sync, value_sync, crosses, maps.crosses, sendable) depth 60 fits 20000
 
 pub bench_send : IsSend Bench.the_row
-bench_send = search (bench_field_send, library_field_send, library_send, library_field_sync, library_sync, record_field_send, record_send, record_field_sync, record_sync, value_field_send, value_send, value_field_sync, value_sync, crosses, maps.crosses, sendable) depth 60 fits 20000
+bench_send = search (bench_field_send, index_field_send, index_send, index_field_sync, index_sync, library_field_send, library_send, library_field_sync, library_sync, record_field_send, record_send, record_field_sync, record_sync, value_field_send, value_send, value_field_sync, value_sync, crosses, maps.crosses, sendable) depth 60 fits 20000
 
 pub bench_field_sync : IsSync (Bench.the_field).row
-bench_field_sync = search (library_field_send, library_send, library_field_sync, library_sync, record_field_send, record_send, record_field_sync, record_sync, value_field_send, value_send, value_field_sync, value_sync, crosses, maps.crosses, sendable) depth 60 fits 20000
+bench_field_sync = search (index_field_send, index_send, index_field_sync, index_sync, library_field_send, library_send, library_field_sync, library_sync, record_field_send, record_send, record_field_sync, record_sync, value_field_send, value_send, value_field_sync, value_sync, crosses, maps.crosses, sendable) depth 60 fits 20000
 
 pub bench_sync : IsSync Bench.the_row
-bench_sync = search (bench_field_sync, library_field_send, library_send, library_field_sync, library_sync, record_field_send, record_send, record_field_sync, record_sync, value_field_send, value_send, value_field_sync, value_sync, crosses, maps.crosses, sendable) depth 60 fits 20000
+bench_sync = search (bench_field_sync, index_field_send, index_send, index_field_sync, index_sync, library_field_send, library_send, library_field_sync, library_sync, record_field_send, record_send, record_field_sync, record_sync, value_field_send, value_send, value_field_sync, value_sync, crosses, maps.crosses, sendable) depth 60 fits 20000
 
 pub locked_field_send : IsSend (Locked.the_field).row
 locked_field_send = search (bench_field_send, bench_send, bench_field_sync, bench_sync, crosses, maps.crosses, sendable) depth 60 fits 20000
