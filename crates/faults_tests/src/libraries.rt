@@ -1,10 +1,11 @@
 //! Libraries of units, and the parts of faults and interfaces.
-use crate::plant::{library, put};
+use crate::plant::{equal, library, put, same};
 use fb_faults::faults;
 use fb_faults::iface::{Code, Fault, first_declared, interface, sorted_faults};
 use fb_faults::library::{Change, Library, View, declaration_by_name, far, near, tree_by_name};
 use fb_faults::parse::{Body, Source};
 use fb_text::{Name, Span};
+use std::alloc::{AllocError, Global};
 use std::test::Fail;
 
 // S rests on A, and A and B on each other.
@@ -14,56 +15,120 @@ static RECURSIVE: [(&str, &str); 3] = [
     ("B", "FUNCTION_BLOCK B FBS Y:A; END_FBS END_FUNCTION_BLOCK"),
 ];
 
+/// Names, each with a blank behind it.
+fn told(alloc: Global, names: &[Name]) -> Result<String, AllocError> {
+    let mut told = String::new(alloc);
+    for name in names {
+        write!(told, "{name} ")?;
+    }
+    Ok(told)
+}
+
+fn is_declared(library: &Library, name: &Name) -> bool {
+    let is_whole = match View::get(library, name) {
+        Some(source) => matches!(source.body(), Body::Tree(_)),
+        None => false,
+    };
+    let has_tree = tree_by_name(library, name).is_some();
+    is_whole && has_tree && declaration_by_name(library, name).is_some()
+}
+
 #[test]
 fn near_is_mentioned_and_far_is_reached(rt: HostRuntime) -> Result<(), Fail> {
     let alloc = rt.alloc();
-    let library = library(alloc, RECURSIVE.as_slice())?;
-    let [a, b, s] = [Name::read("a")?, Name::read("b")?, Name::read("s")?];
-    let source = View::get(&library, &s).ok_or("S is there")?;
-    assert!(rt; matches!(source.body(), Body::Tree(_)));
-    assert_eq!(rt; near(alloc, &library, s)?.as_slice(), [a, s].as_slice());
-    assert_eq!(rt; far(alloc, &library, s)?.as_slice(), [a, b, s].as_slice());
-    assert!(rt; tree_by_name(&library, &s).is_some());
-    assert!(rt; declaration_by_name(&library, &s).is_some());
+    let library = library(alloc, &RECURSIVE)?;
+    let s = Name::read("s")?;
+    let found = near(alloc, &library, s)?;
+    same(&rt, told(alloc, &found)?.as_str(), "A S ", "near");
+    let found = far(alloc, &library, s)?;
+    same(&rt, told(alloc, &found)?.as_str(), "A B S ", "far");
+    assert!(rt; is_declared(&library, &s));
     Ok(())
+}
+
+/// How many units there are, and their names with their revisions.
+fn units(alloc: Global, library: &Library) -> Result<String, AllocError> {
+    let mut told = format!(in alloc; "{}:", library.len())?;
+    for name in &library.names(alloc)? {
+        write!(told, " {name} {}", library.revision(name))?;
+    }
+    Ok(told)
+}
+
+/// The text of a unit, or nothing.
+fn text_of<'a>(library: &'a Library, name: &Name) -> &'a str {
+    match library.source(name) {
+        Some(source) => source.text(),
+        None => "",
+    }
+}
+
+const SHORT: &str = "FUNCTION_BLOCK B END_FUNCTION_BLOCK";
+
+/// Puts a text for B and removes S, by copies of these changes.
+fn change(alloc: Global, library: &mut Library) -> Result<(), Fail> {
+    let changes = [
+        put(alloc, "B", 1, SHORT)?,
+        Change::Remove {
+            unit: Name::read("S")?,
+            base: 1,
+        },
+    ];
+    let kept = Change::copies(alloc, changes.as_slice())?;
+    if kept[0].unit() != Name::read("B")? {
+        return Err(Fail::from("another unit"));
+    }
+    Ok(library.apply(2, &kept)?)
 }
 
 #[test]
 fn a_copy_is_changed_alone(rt: HostRuntime) -> Result<(), Fail> {
     let alloc = rt.alloc();
-    let [a, b, s] = [Name::read("A")?, Name::read("B")?, Name::read("S")?];
-    let library = library(alloc, RECURSIVE.as_slice())?;
+    let [b, s] = [Name::read("B")?, Name::read("S")?];
+    let library = library(alloc, &RECURSIVE)?;
     let mut copy = library.copy()?;
-    assert_eq!(rt; copy.names(alloc)?.as_slice(), [a, b, s].as_slice());
-    assert_eq!(rt; copy.name_at(1), Some(b));
-    assert_eq!(rt; copy.name_at(3), None);
-    let text = "FUNCTION_BLOCK B END_FUNCTION_BLOCK";
-    let changes = [
-        put(alloc, "B", 1, text)?,
-        Change::Remove { unit: s, base: 1 },
-    ];
-    let kept = Change::copies(alloc, changes.as_slice())?;
-    assert_eq!(rt; kept[0].unit(), b);
-    copy.apply(2, &kept)?;
-    assert_eq!(rt;
-        [copy.revision(&a), copy.revision(&b), copy.revision(&s)],
-        [1, 2, 0]
+    same(&rt, units(alloc, &copy)?.as_str(), "3: A 1 B 1 S 1", "copy");
+    equal(
+        &rt,
+        &[copy.name_at(1), copy.name_at(3)],
+        &[Some(b), None],
+        "names",
     );
-    assert_eq!(rt; [library.revision(&b), library.revision(&s)], [1, 1]);
-    assert_eq!(rt; [copy.len(), library.len()], [2, 3]);
-    assert_eq!(rt; copy.source(&b).ok_or("B is there")?.text(), text);
-    assert!(rt; copy.source(&s).is_none());
+    change(alloc, &mut copy)?;
+    same(&rt, units(alloc, &copy)?.as_str(), "2: A 1 B 2", "changed");
+    same(
+        &rt,
+        units(alloc, &library)?.as_str(),
+        "3: A 1 B 1 S 1",
+        "kept",
+    );
+    equal(&rt, &copy.revision(&s), &0, "S");
+    equal(
+        &rt,
+        &[text_of(&copy, &b), text_of(&copy, &s)],
+        &[SHORT, ""],
+        "texts",
+    );
     Ok(())
+}
+
+/// How many faults a unit has.
+fn count(alloc: Global, library: &Library, name: &str) -> Result<usize, Fail> {
+    Ok(faults(alloc, library, &Name::read(name)?)?.len())
 }
 
 #[test]
 fn what_is_absent_or_broken(rt: HostRuntime) -> Result<(), Fail> {
-    let a = Name::read("A")?;
-    assert_eq!(rt; faults(rt.alloc(), &Library::new(rt.alloc()), &a)?.len(), 0);
-    let library = library(rt.alloc(), RECURSIVE.as_slice())?;
-    assert_eq!(rt; faults(rt.alloc(), &library, &Name::read("C")?)?.len(), 0);
-    let source = Source::read(rt.alloc(), a, "X")?;
-    assert!(rt; interface(rt.alloc(), &source)?.is_none());
+    let alloc = rt.alloc();
+    equal(&rt, &count(alloc, &Library::new(alloc), "A")?, &0, "A");
+    equal(
+        &rt,
+        &count(alloc, &library(alloc, &RECURSIVE)?, "C")?,
+        &0,
+        "C",
+    );
+    let source = Source::read(alloc, Name::read("A")?, "X")?;
+    assert!(rt; interface(alloc, &source)?.is_none());
     Ok(())
 }
 
@@ -82,9 +147,9 @@ fn faults_go_by_place_and_then_by_number(rt: HostRuntime) -> Result<(), Fail> {
     let longer = fault(Code::NameDiffers, 36, 40);
     let sorted = sorted_faults(rt.alloc(), [with, longer, twice, name, with].as_slice())?;
     assert!(rt; sorted.as_slice() == [name, twice, with, longer].as_slice());
-    let word = format!(in rt.alloc(); "{}", Code::NoSuchResource)?;
-    assert_eq!(rt; word.as_str(), "NO_SUCH_RESOURCE");
-    assert_eq!(rt; Code::NoSuchResource.number(), 22);
+    let code = Code::NoSuchResource;
+    let word = format!(in rt.alloc(); "{code} {}", code.number())?;
+    same(&rt, word.as_str(), "NO_SUCH_RESOURCE 22", "a code");
     Ok(())
 }
 
@@ -92,8 +157,8 @@ fn faults_go_by_place_and_then_by_number(rt: HostRuntime) -> Result<(), Fail> {
 fn a_name_stands_for_its_first_declaration(rt: HostRuntime) -> Result<(), Fail> {
     let [x, y] = [Name::read("x")?, Name::read("y")?];
     let table = first_declared(rt.alloc(), [(x, 1), (y, 2), (x, 3)].as_slice())?;
-    assert_eq!(rt; table.len(), 2);
-    assert_eq!(rt; table.get(&x), Some(&1));
-    assert_eq!(rt; table.get(&y), Some(&2));
+    let found = [table.get(&x), table.get(&y)];
+    equal(&rt, &found, &[Some(&1), Some(&2)], "values");
+    equal(&rt, &table.len(), &2, "length");
     Ok(())
 }

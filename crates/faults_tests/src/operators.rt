@@ -2,7 +2,7 @@
 //!
 //! The class of an expression shows in the statements where it may stand: B and Any as a truth value, I, Num and Any as a subscript, W, Num
 //! and Any as a string of bits, and what is not judged before `MOD TRUE` too.
-use crate::plant::{faults_of, library};
+use crate::plant::{faults_of, library, same};
 use fb_faults::iface::Code;
 use fb_faults::library::Library;
 use std::alloc::Global;
@@ -59,25 +59,45 @@ fn may_stand(
     }
 }
 
+// The statements that show the class of an expression: as a truth value, a subscript, a string of bits, and before `MOD TRUE`.
+static STATEMENTS: [(&str, &str); 4] = [
+    ("B := (", ");"),
+    ("F := A[(", ")];"),
+    ("W := (", ");"),
+    ("F := (", ") MOD TRUE;"),
+];
+
+// In which of these an expression of each class may stand.
+static LETTERS: [(&str, &str); 7] = [
+    ("+---", "B"),
+    ("-+--", "I"),
+    ("--+-", "W"),
+    ("----", "O"),
+    ("++++", "F"),
+    ("-++-", "N"),
+    ("+++-", "A"),
+];
+
+/// In which of the statements an expression may stand.
+fn stands(alloc: Global, none: &Library, expression: &str) -> Result<String, Fail> {
+    let mut found = String::new(alloc);
+    for (open, close) in &STATEMENTS {
+        let may_stand = may_stand(alloc, none, (open, expression, close))?;
+        found.push_str(if may_stand { "+" } else { "-" })?;
+    }
+    Ok(found)
+}
+
 /// The letter of the class of an expression.
 fn letter(alloc: Global, none: &Library, expression: &str) -> Result<&'static str, Fail> {
     if !may_stand(alloc, none, ("F := (", expression, ");"))? {
         return Ok("-");
     }
-    let is_truth = may_stand(alloc, none, ("B := (", expression, ");"))?;
-    let is_number = may_stand(alloc, none, ("F := A[(", expression, ")];"))?;
-    let is_bits = may_stand(alloc, none, ("W := (", expression, ");"))?;
-    let is_free = may_stand(alloc, none, ("F := (", expression, ") MOD TRUE;"))?;
-    match (is_truth, is_number, is_bits, is_free) {
-        (true, false, false, false) => Ok("B"),
-        (false, true, false, false) => Ok("I"),
-        (false, false, true, false) => Ok("W"),
-        (false, false, false, false) => Ok("O"),
-        (true, true, true, true) => Ok("F"),
-        (false, true, true, false) => Ok("N"),
-        (true, true, true, false) => Ok("A"),
-        _ => Ok("?"),
-    }
+    let stands = stands(alloc, none, expression)?;
+    let known = LETTERS
+        .iter()
+        .find(|(places, _)| *places == stands.as_str());
+    Ok(known.map_or("?", |(_, letter)| *letter))
 }
 
 /// What an operator makes of all pairs of classes.
@@ -105,14 +125,14 @@ fn singles(alloc: Global, none: &Library, operator: &str) -> Result<String, Fail
 
 #[test]
 fn operators_on_all_classes(rt: HostRuntime) -> Result<(), Fail> {
-    let none = library(rt.alloc(), [].as_slice())?;
+    let none = library(rt.alloc(), &[])?;
     for (operator, expected) in &PAIRS {
         let found = pairs(rt.alloc(), &none, operator)?;
-        assert_eq!(rt; found.as_str(), *expected, "of {operator}");
+        same(&rt, found.as_str(), expected, operator);
     }
     for (operator, expected) in &SINGLES {
         let found = singles(rt.alloc(), &none, operator)?;
-        assert_eq!(rt; found.as_str(), *expected, "of {operator}");
+        same(&rt, found.as_str(), expected, operator);
     }
     Ok(())
 }

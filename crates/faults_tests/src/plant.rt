@@ -8,6 +8,7 @@ use fb_faults::library::{Change, Library};
 use fb_faults::parse::Source;
 use fb_text::{Name, Span};
 use std::alloc::{AllocError, Global};
+use std::fmt::Debug;
 use std::process::Abort;
 use std::test::Fail;
 
@@ -61,6 +62,16 @@ static UNITS: [(&str, &str); 14] = [
     ("Y", "SYSTEM Y END_SYSTEM"),
 ];
 
+/// Compares what is told with what is expected.
+pub fn same(rt: &impl Abort, told: &str, expected: &str, about: &str) {
+    assert_eq!(rt; told, expected, "{about}");
+}
+
+/// Compares what is found with what is expected.
+pub fn equal<T: PartialEq + Debug>(rt: &impl Abort, found: &T, expected: &T, about: &str) {
+    assert_eq!(rt; found, expected, "{about}");
+}
+
 /// The change that puts a text under a name.
 pub fn put(alloc: Global, unit: &str, base: u64, text: &str) -> Result<Change, Fail> {
     let source = Source::read(alloc, Name::read(unit)?, text)?;
@@ -107,25 +118,45 @@ fn stands_at(text: &[u8], at: usize, words: &[u8]) -> bool {
     }
 }
 
+/// How often these words stand between two places of the text.
+fn count(text: &str, words: &str, from: usize, to: usize) -> usize {
+    (from..to)
+        .filter(|at| stands_at(text.as_bytes(), *at, words.as_bytes()))
+        .count()
+}
+
 /// Adds a fault to what has been told. Its words are counted from a place of the text.
 fn tell(text: &str, from: usize, fault: &Fault, told: &mut String) -> Result<(), AllocError> {
     let Span { start, end } = fault.span;
+    let between = if told.is_empty() { "" } else { "; " };
     let words = text.get(start..end).unwrap_or("?");
-    if !told.is_empty() {
-        told.push_str("; ")?;
-    }
-    write!(told, "{} ", fault.code)?;
     if words.is_empty() {
-        return told.push_str("the end");
+        return write!(told, "{between}{} the end", fault.code);
     }
-    told.push_str(words)?;
-    let earlier = (from..start)
-        .filter(|at| stands_at(text.as_bytes(), *at, words.as_bytes()))
-        .count();
-    if earlier > 0 {
-        write!(told, " #{}", earlier.saturating_add(1))?;
+    write!(told, "{between}{} {words}", fault.code)?;
+    match count(text, words, from, start) {
+        0 => Ok(()),
+        earlier => write!(told, " #{}", earlier.saturating_add(1)),
     }
-    Ok(())
+}
+
+/// The faults of a text: those at its head, which ends at this place, and those behind.
+fn told(
+    alloc: Global,
+    library: &Library,
+    text: &str,
+    end: usize,
+) -> Result<(String, String), Fail> {
+    let mut in_head = String::new(alloc);
+    let mut behind = String::new(alloc);
+    for fault in &faults_of(alloc, library, text)? {
+        if fault.span.start < end {
+            tell(text, 0, fault, &mut in_head)?;
+        } else {
+            tell(text, end, fault, &mut behind)?;
+        }
+    }
+    Ok((in_head, behind))
 }
 
 /// Compares the faults of each row of a table, with what stands before and behind it, with those that it names. What stands before it has
@@ -137,20 +168,12 @@ pub fn compare(
     known: &str,
     rows: &[(&str, &str)],
 ) -> Result<(), Fail> {
-    let plant = library(alloc, UNITS.as_slice())?;
+    let plant = library(alloc, &UNITS)?;
     for (row, expected) in rows {
         let text = format!(in alloc; "{head}{row}{foot}")?;
-        let mut in_head = String::new(alloc);
-        let mut in_row = String::new(alloc);
-        for fault in &faults_of(alloc, &plant, text.as_str())? {
-            if fault.span.start < head.len() {
-                tell(text.as_str(), 0, fault, &mut in_head)?;
-            } else {
-                tell(text.as_str(), head.len(), fault, &mut in_row)?;
-            }
-        }
-        assert_eq!(rt; in_head.as_str(), known, "before {row}");
-        assert_eq!(rt; in_row.as_str(), *expected, "in {row}");
+        let (in_head, in_row) = told(alloc, &plant, text.as_str(), head.len())?;
+        same(rt, in_head.as_str(), known, row);
+        same(rt, in_row.as_str(), expected, row);
     }
     Ok(())
 }

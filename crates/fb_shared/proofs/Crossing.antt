@@ -23,7 +23,6 @@ use Rattle.fb_bench.specs.Tree.contracts.declaration.TypeDeclaration as TypeDecl
 use Rattle.fb_bench.specs.Tree.contracts.declaration.Decl as Decl
 use Rattle.fb_bench.specs.Parse.contracts.body.Body as Body
 use Rattle.fb_bench.specs.Parse.contracts.source.Source as Source
-use Rattle.fb_bench.specs.Jobs.contracts.read.Read as Read
 use Rattle.fb_bench.specs.contracts.record.Wanted as Wanted
 use Rattle.fb_bench.specs.Iface.contracts.fault.Fault as Fault
 use Rattle.fb_bench.specs.Network.contracts.path.Path as Path
@@ -37,7 +36,6 @@ use Rattle.fb_bench.specs.Deploy.contracts.command.Command as Command
 use Rattle.fb_bench.specs.Deploy.contracts.resources.ResourcePlan as ResourcePlan
 use Rattle.fb_bench.specs.Deploy.contracts.planning.Deploy as Deploy
 use Rattle.fb_bench.specs.Jobs.contracts.value.Value as Value
-use Rattle.fb_bench.specs.Library.contracts.change.Change as Change
 use Rattle.fb_bench.specs.contracts.record.Call as Call
 use Rattle.fb_bench.specs.contracts.answers.Asked as Asked
 use Rattle.fb_bench.specs.contracts.record.Reply as Reply
@@ -77,14 +75,8 @@ variables_sync = search (variables_field_sync, crosses, maps.crosses, sendable) 
 pub interface_field_send : IsSend (Interface.the_field).row
 interface_field_send = search (variables_send, crosses, maps.crosses, sendable) depth 60 fits 20000
 
-pub interface_send : IsSend Interface.the_row
-interface_send = search (interface_field_send, crosses, maps.crosses, sendable) depth 60 fits 20000
-
 pub interface_field_sync : IsSync (Interface.the_field).row
 interface_field_sync = search (variables_sync, crosses, maps.crosses, sendable) depth 60 fits 20000
-
-pub interface_sync : IsSync Interface.the_row
-interface_sync = search (interface_field_sync, crosses, maps.crosses, sendable) depth 60 fits 20000
 
 pub parameter_field_send : IsSend (Parameter.the_field).row
 parameter_field_send = search (constant_field_send, crosses, maps.crosses, sendable) depth 60 fits 20000
@@ -113,14 +105,8 @@ instance_sync = search (instance_field_sync, crosses, maps.crosses, sendable) de
 pub network_field_send : IsSend (Network.the_field).row
 network_field_send = search (instance_send, crosses, maps.crosses, sendable) depth 60 fits 20000
 
-pub network_send : IsSend Network.the_row
-network_send = search (network_field_send, crosses, maps.crosses, sendable) depth 60 fits 20000
-
 pub network_field_sync : IsSync (Network.the_field).row
 network_field_sync = search (instance_sync, crosses, maps.crosses, sendable) depth 60 fits 20000
-
-pub network_sync : IsSync Network.the_row
-network_sync = search (network_field_sync, crosses, maps.crosses, sendable) depth 60 fits 20000
 
 pub application_field_send : IsSend (Application.the_field).row
 application_field_send = search (network_field_send, crosses, maps.crosses, sendable) depth 60 fits 20000
@@ -149,14 +135,8 @@ device_sync = search (device_field_sync, crosses, maps.crosses, sendable) depth 
 pub system_field_send : IsSend (System.the_field).row
 system_field_send = search (application_send, device_send, crosses, maps.crosses, sendable) depth 60 fits 20000
 
-pub system_send : IsSend System.the_row
-system_send = search (system_field_send, crosses, maps.crosses, sendable) depth 60 fits 20000
-
 pub system_field_sync : IsSync (System.the_field).row
 system_field_sync = search (application_sync, device_sync, crosses, maps.crosses, sendable) depth 60 fits 20000
-
-pub system_sync : IsSync System.the_row
-system_sync = search (system_field_sync, crosses, maps.crosses, sendable) depth 60 fits 20000
 
 pub expr_field_send : IsSend (Expr.the_field).row
 expr_field_send = search (crosses, maps.crosses, expressions.crosses, sendable) depth 60 fits 20000
@@ -185,14 +165,8 @@ stmt_sync = search (stmt_field_sync, crosses, maps.crosses, expressions.crosses,
 pub condition_field_send : IsSend (Condition.the_field).row
 condition_field_send = search (expr_field_send, crosses, maps.crosses, sendable) depth 60 fits 20000
 
-pub condition_send : IsSend Condition.the_row
-condition_send = search (condition_field_send, crosses, maps.crosses, sendable) depth 60 fits 20000
-
 pub condition_field_sync : IsSync (Condition.the_field).row
 condition_field_sync = search (expr_field_sync, crosses, maps.crosses, sendable) depth 60 fits 20000
-
-pub condition_sync : IsSync Condition.the_row
-condition_sync = search (condition_field_sync, crosses, maps.crosses, sendable) depth 60 fits 20000
 
 pub transition_field_send : IsSend (Transition.the_field).row
 transition_field_send = search (condition_field_send, crosses, maps.crosses, sendable) depth 60 fits 20000
@@ -221,86 +195,44 @@ algorithm_sync = search (algorithm_field_sync, crosses, maps.crosses, sendable) 
 pub chart_field_send : IsSend (Chart.the_field).row
 chart_field_send = search (transition_send, algorithm_send, crosses, maps.crosses, sendable) depth 60 fits 20000
 
-pub chart_send : IsSend Chart.the_row
-chart_send = search (chart_field_send, crosses, maps.crosses, sendable) depth 60 fits 20000
-
 pub chart_field_sync : IsSync (Chart.the_field).row
 chart_field_sync = search (transition_sync, algorithm_sync, crosses, maps.crosses, sendable) depth 60 fits 20000
-
-pub chart_sync : IsSync Chart.the_row
-chart_sync = search (chart_field_sync, crosses, maps.crosses, sendable) depth 60 fits 20000
 
 pub typedeclaration_field_send : IsSend (TypeDeclaration.the_field).row
 typedeclaration_field_send = search (interface_field_send, network_field_send, chart_field_send, crosses, maps.crosses, sendable) depth 60 fits 20000
 
-pub typedeclaration_send : IsSend TypeDeclaration.the_row
-typedeclaration_send = search (typedeclaration_field_send, crosses, maps.crosses, sendable) depth 60 fits 20000
-
 pub typedeclaration_field_sync : IsSync (TypeDeclaration.the_field).row
 typedeclaration_field_sync = search (interface_field_sync, network_field_sync, chart_field_sync, crosses, maps.crosses, sendable) depth 60 fits 20000
-
-pub typedeclaration_sync : IsSync TypeDeclaration.the_row
-typedeclaration_sync = search (typedeclaration_field_sync, crosses, maps.crosses, sendable) depth 60 fits 20000
 
 pub decl_field_send : IsSend (Decl.the_field).row
 decl_field_send = search (typedeclaration_field_send, system_field_send, crosses, maps.crosses, sendable) depth 60 fits 20000
 
-pub decl_send : IsSend Decl.the_row
-decl_send = search (decl_field_send, crosses, maps.crosses, sendable) depth 60 fits 20000
-
 pub decl_field_sync : IsSync (Decl.the_field).row
 decl_field_sync = search (typedeclaration_field_sync, system_field_sync, crosses, maps.crosses, sendable) depth 60 fits 20000
 
-pub decl_sync : IsSync Decl.the_row
-decl_sync = search (decl_field_sync, crosses, maps.crosses, sendable) depth 60 fits 20000
-
 pub body_field_send : IsSend (Body.the_field).row
-body_field_send = search (decl_field_send, decl_send, decl_field_sync, decl_sync, crosses, maps.crosses, sendable) depth 60 fits 20000
-
-pub body_send : IsSend Body.the_row
-body_send = search (body_field_send, decl_field_send, decl_send, decl_field_sync, decl_sync, crosses, maps.crosses, sendable) depth 60 fits 20000
+body_field_send = search (decl_field_send, crosses, maps.crosses, sendable) depth 60 fits 20000
 
 pub body_field_sync : IsSync (Body.the_field).row
-body_field_sync = search (decl_field_send, decl_send, decl_field_sync, decl_sync, crosses, maps.crosses, sendable) depth 60 fits 20000
-
-pub body_sync : IsSync Body.the_row
-body_sync = search (body_field_sync, decl_field_send, decl_send, decl_field_sync, decl_sync, crosses, maps.crosses, sendable) depth 60 fits 20000
+body_field_sync = search (decl_field_sync, crosses, maps.crosses, sendable) depth 60 fits 20000
 
 pub source_field_send : IsSend (Source.the_field).row
-source_field_send = search (body_field_send, body_send, body_field_sync, body_sync, crosses, maps.crosses, sendable) depth 60 fits 20000
-
-pub source_send : IsSend Source.the_row
-source_send = search (source_field_send, body_field_send, body_send, body_field_sync, body_sync, crosses, maps.crosses, sendable) depth 60 fits 20000
+source_field_send = search (body_field_send, crosses, maps.crosses, sendable) depth 60 fits 20000
 
 pub source_field_sync : IsSync (Source.the_field).row
-source_field_sync = search (body_field_send, body_send, body_field_sync, body_sync, crosses, maps.crosses, sendable) depth 60 fits 20000
-
-pub source_sync : IsSync Source.the_row
-source_sync = search (source_field_sync, body_field_send, body_send, body_field_sync, body_sync, crosses, maps.crosses, sendable) depth 60 fits 20000
-
-pub read_field_send : IsSend (Read.the_field).row
-read_field_send = search (source_field_send, source_send, source_field_sync, source_sync, crosses, maps.crosses, sendable) depth 60 fits 20000
-
-pub read_send : IsSend Read.the_row
-read_send = search (read_field_send, source_field_send, source_send, source_field_sync, source_sync, crosses, maps.crosses, sendable) depth 60 fits 20000
-
-pub read_field_sync : IsSync (Read.the_field).row
-read_field_sync = search (source_field_send, source_send, source_field_sync, source_sync, crosses, maps.crosses, sendable) depth 60 fits 20000
-
-pub read_sync : IsSync Read.the_row
-read_sync = search (read_field_sync, source_field_send, source_send, source_field_sync, source_sync, crosses, maps.crosses, sendable) depth 60 fits 20000
+source_field_sync = search (body_field_sync, crosses, maps.crosses, sendable) depth 60 fits 20000
 
 pub wanted_field_send : IsSend (Wanted.the_field).row
-wanted_field_send = search (read_field_send, read_send, read_field_sync, read_sync, crosses, maps.crosses, sendable) depth 60 fits 20000
+wanted_field_send = search (crosses, maps.crosses, sendable) depth 60 fits 20000
 
 pub wanted_send : IsSend Wanted.the_row
-wanted_send = search (wanted_field_send, read_field_send, read_send, read_field_sync, read_sync, crosses, maps.crosses, sendable) depth 60 fits 20000
+wanted_send = search (wanted_field_send, crosses, maps.crosses, sendable) depth 60 fits 20000
 
 pub wanted_field_sync : IsSync (Wanted.the_field).row
-wanted_field_sync = search (read_field_send, read_send, read_field_sync, read_sync, crosses, maps.crosses, sendable) depth 60 fits 20000
+wanted_field_sync = search (crosses, maps.crosses, sendable) depth 60 fits 20000
 
 pub wanted_sync : IsSync Wanted.the_row
-wanted_sync = search (wanted_field_sync, read_field_send, read_send, read_field_sync, read_sync, crosses, maps.crosses, sendable) depth 60 fits 20000
+wanted_sync = search (wanted_field_sync, crosses, maps.crosses, sendable) depth 60 fits 20000
 
 pub fault_field_send : IsSend (Fault.the_field).row
 fault_field_send = search (crosses, maps.crosses, sendable) depth 60 fits 20000
@@ -317,14 +249,8 @@ fault_sync = search (fault_field_sync, crosses, maps.crosses, sendable) depth 60
 pub path_field_send : IsSend (Path.the_field).row
 path_field_send = search (crosses, maps.crosses, sendable) depth 60 fits 20000
 
-pub path_send : IsSend Path.the_row
-path_send = search (path_field_send, crosses, maps.crosses, sendable) depth 60 fits 20000
-
 pub path_field_sync : IsSync (Path.the_field).row
 path_field_sync = search (crosses, maps.crosses, sendable) depth 60 fits 20000
-
-pub path_sync : IsSync Path.the_row
-path_sync = search (path_field_sync, crosses, maps.crosses, sendable) depth 60 fits 20000
 
 pub flat_block_field_send : IsSend (FlatBlock.the_field).row
 flat_block_field_send = search (path_field_send, crosses, maps.crosses, sendable) depth 60 fits 20000
@@ -365,26 +291,14 @@ border_sync = search (border_field_sync, crosses, maps.crosses, sendable) depth 
 pub flat_field_send : IsSend (Flat.the_field).row
 flat_field_send = search (flat_block_send, link_send, border_send, crosses, maps.crosses, sendable) depth 60 fits 20000
 
-pub flat_send : IsSend Flat.the_row
-flat_send = search (flat_field_send, crosses, maps.crosses, sendable) depth 60 fits 20000
-
 pub flat_field_sync : IsSync (Flat.the_field).row
 flat_field_sync = search (flat_block_sync, link_sync, border_sync, crosses, maps.crosses, sendable) depth 60 fits 20000
-
-pub flat_sync : IsSync Flat.the_row
-flat_sync = search (flat_field_sync, crosses, maps.crosses, sendable) depth 60 fits 20000
 
 pub net_field_send : IsSend (Net.the_field).row
 net_field_send = search (flat_field_send, crosses, maps.crosses, sendable) depth 60 fits 20000
 
-pub net_send : IsSend Net.the_row
-net_send = search (net_field_send, crosses, maps.crosses, sendable) depth 60 fits 20000
-
 pub net_field_sync : IsSync (Net.the_field).row
 net_field_sync = search (flat_field_sync, crosses, maps.crosses, sendable) depth 60 fits 20000
-
-pub net_sync : IsSync Net.the_row
-net_sync = search (net_field_sync, crosses, maps.crosses, sendable) depth 60 fits 20000
 
 pub misplaced_field_send : IsSend (Misplaced.the_field).row
 misplaced_field_send = search (path_field_send, crosses, maps.crosses, sendable) depth 60 fits 20000
@@ -425,14 +339,8 @@ resource_plan_sync = search (resource_plan_field_sync, crosses, maps.crosses, se
 pub deploy_field_send : IsSend (Deploy.the_field).row
 deploy_field_send = search (net_field_send, misplaced_send, link_send, resource_plan_send, crosses, maps.crosses, sendable) depth 60 fits 20000
 
-pub deploy_send : IsSend Deploy.the_row
-deploy_send = search (deploy_field_send, crosses, maps.crosses, sendable) depth 60 fits 20000
-
 pub deploy_field_sync : IsSync (Deploy.the_field).row
 deploy_field_sync = search (net_field_sync, misplaced_sync, link_sync, resource_plan_sync, crosses, maps.crosses, sendable) depth 60 fits 20000
-
-pub deploy_sync : IsSync Deploy.the_row
-deploy_sync = search (deploy_field_sync, crosses, maps.crosses, sendable) depth 60 fits 20000
 
 pub value_field_send : IsSend (Value.the_field).row
 value_field_send = search (fault_send, net_field_send, deploy_field_send, crosses, maps.crosses, sendable) depth 60 fits 20000
@@ -446,77 +354,35 @@ value_field_sync = search (fault_sync, net_field_sync, deploy_field_sync, crosse
 pub value_sync : IsSync Value.the_row
 value_sync = search (value_field_sync, crosses, maps.crosses, sendable) depth 60 fits 20000
 
-pub change_field_send : IsSend (Change.the_field).row
-change_field_send = search (source_field_send, source_send, source_field_sync, source_sync, crosses, maps.crosses, sendable) depth 60 fits 20000
-
-pub change_send : IsSend Change.the_row
-change_send = search (change_field_send, source_field_send, source_send, source_field_sync, source_sync, crosses, maps.crosses, sendable) depth 60 fits 20000
-
-pub change_field_sync : IsSync (Change.the_field).row
-change_field_sync = search (source_field_send, source_send, source_field_sync, source_sync, crosses, maps.crosses, sendable) depth 60 fits 20000
-
-pub change_sync : IsSync Change.the_row
-change_sync = search (change_field_sync, source_field_send, source_send, source_field_sync, source_sync, crosses, maps.crosses, sendable) depth 60 fits 20000
-
 pub call_field_send : IsSend (Call.the_field).row
-call_field_send = search (change_field_send, change_send, change_field_sync, change_sync, wanted_field_send, wanted_send, wanted_field_sync, wanted_sync, crosses, maps.crosses, sendable) depth 60 fits 20000
-
-pub call_send : IsSend Call.the_row
-call_send = search (call_field_send, change_field_send, change_send, change_field_sync, change_sync, wanted_field_send, wanted_send, wanted_field_sync, wanted_sync, crosses, maps.crosses, sendable) depth 60 fits 20000
+call_field_send = search (wanted_field_send, crosses, maps.crosses, sendable) depth 60 fits 20000
 
 pub call_field_sync : IsSync (Call.the_field).row
-call_field_sync = search (change_field_send, change_send, change_field_sync, change_sync, wanted_field_send, wanted_send, wanted_field_sync, wanted_sync, crosses, maps.crosses, sendable) depth 60 fits 20000
-
-pub call_sync : IsSync Call.the_row
-call_sync = search (call_field_sync, change_field_send, change_send, change_field_sync, change_sync, wanted_field_send, wanted_send, wanted_field_sync, wanted_sync, crosses, maps.crosses, sendable) depth 60 fits 20000
+call_field_sync = search (wanted_field_sync, crosses, maps.crosses, sendable) depth 60 fits 20000
 
 pub asked_field_send : IsSend (Asked.the_field).row
-asked_field_send = search (value_field_send, value_send, value_field_sync, value_sync, crosses, maps.crosses, sendable) depth 60 fits 20000
-
-pub asked_send : IsSend Asked.the_row
-asked_send = search (asked_field_send, value_field_send, value_send, value_field_sync, value_sync, crosses, maps.crosses, sendable) depth 60 fits 20000
+asked_field_send = search (value_send, value_sync, crosses, maps.crosses, sendable) depth 60 fits 20000
 
 pub asked_field_sync : IsSync (Asked.the_field).row
-asked_field_sync = search (value_field_send, value_send, value_field_sync, value_sync, crosses, maps.crosses, sendable) depth 60 fits 20000
-
-pub asked_sync : IsSync Asked.the_row
-asked_sync = search (asked_field_sync, value_field_send, value_send, value_field_sync, value_sync, crosses, maps.crosses, sendable) depth 60 fits 20000
+asked_field_sync = search (value_send, value_sync, crosses, maps.crosses, sendable) depth 60 fits 20000
 
 pub reply_field_send : IsSend (Reply.the_field).row
-reply_field_send = search (wanted_field_send, wanted_send, wanted_field_sync, wanted_sync, asked_field_send, asked_send, asked_field_sync, asked_sync, crosses, maps.crosses, sendable) depth 60 fits 20000
-
-pub reply_send : IsSend Reply.the_row
-reply_send = search (reply_field_send, wanted_field_send, wanted_send, wanted_field_sync, wanted_sync, asked_field_send, asked_send, asked_field_sync, asked_sync, crosses, maps.crosses, sendable) depth 60 fits 20000
+reply_field_send = search (wanted_send, asked_field_send, crosses, maps.crosses, sendable) depth 60 fits 20000
 
 pub reply_field_sync : IsSync (Reply.the_field).row
-reply_field_sync = search (wanted_field_send, wanted_send, wanted_field_sync, wanted_sync, asked_field_send, asked_send, asked_field_sync, asked_sync, crosses, maps.crosses, sendable) depth 60 fits 20000
-
-pub reply_sync : IsSync Reply.the_row
-reply_sync = search (reply_field_sync, wanted_field_send, wanted_send, wanted_field_sync, wanted_sync, asked_field_send, asked_send, asked_field_sync, asked_sync, crosses, maps.crosses, sendable) depth 60 fits 20000
+reply_field_sync = search (wanted_sync, asked_field_sync, crosses, maps.crosses, sendable) depth 60 fits 20000
 
 pub record_field_send : IsSend (Record.the_field).row
-record_field_send = search (call_field_send, call_send, call_field_sync, call_sync, reply_field_send, reply_send, reply_field_sync, reply_sync, crosses, maps.crosses, sendable) depth 60 fits 20000
-
-pub record_send : IsSend Record.the_row
-record_send = search (record_field_send, call_field_send, call_send, call_field_sync, call_sync, reply_field_send, reply_send, reply_field_sync, reply_sync, crosses, maps.crosses, sendable) depth 60 fits 20000
+record_field_send = search (call_field_send, reply_field_send, crosses, maps.crosses, sendable) depth 60 fits 20000
 
 pub record_field_sync : IsSync (Record.the_field).row
-record_field_sync = search (call_field_send, call_send, call_field_sync, call_sync, reply_field_send, reply_send, reply_field_sync, reply_sync, crosses, maps.crosses, sendable) depth 60 fits 20000
-
-pub record_sync : IsSync Record.the_row
-record_sync = search (record_field_sync, call_field_send, call_send, call_field_sync, call_sync, reply_field_send, reply_send, reply_field_sync, reply_sync, crosses, maps.crosses, sendable) depth 60 fits 20000
+record_field_sync = search (call_field_sync, reply_field_sync, crosses, maps.crosses, sendable) depth 60 fits 20000
 
 pub receipt_field_send : IsSend (Receipt.the_field).row
-receipt_field_send = search (record_field_send, record_send, record_field_sync, record_sync, crosses, maps.crosses, sendable) depth 60 fits 20000
+receipt_field_send = search (record_field_send, record_field_sync, crosses, maps.crosses, sendable) depth 60 fits 20000
 
 pub receipt_send : IsSend Receipt.the_row
-receipt_send = search (receipt_field_send, record_field_send, record_send, record_field_sync, record_sync, crosses, maps.crosses, sendable) depth 60 fits 20000
-
-pub receipt_field_sync : IsSync (Receipt.the_field).row
-receipt_field_sync = search (record_field_send, record_send, record_field_sync, record_sync, crosses, maps.crosses, sendable) depth 60 fits 20000
-
-pub receipt_sync : IsSync Receipt.the_row
-receipt_sync = search (receipt_field_sync, record_field_send, record_send, record_field_sync, record_sync, crosses, maps.crosses, sendable) depth 60 fits 20000
+receipt_send = search (receipt_field_send, crosses, maps.crosses, sendable) depth 60 fits 20000
 
 pub seat_field_send : IsSend (Seat.the_field).row
 seat_field_send = search (crosses, maps.crosses, sendable) depth 60 fits 20000
@@ -524,68 +390,20 @@ seat_field_send = search (crosses, maps.crosses, sendable) depth 60 fits 20000
 pub seat_send : IsSend Seat.the_row
 seat_send = search (seat_field_send, crosses, maps.crosses, sendable) depth 60 fits 20000
 
-pub seat_field_sync : IsSync (Seat.the_field).row
-seat_field_sync = search (crosses, maps.crosses, sendable) depth 60 fits 20000
-
-pub seat_sync : IsSync Seat.the_row
-seat_sync = search (seat_field_sync, crosses, maps.crosses, sendable) depth 60 fits 20000
-
 pub library_field_send : IsSend (Library.the_field).row
-library_field_send = search (source_field_send, source_send, source_field_sync, source_sync, crosses, maps.crosses, sendable) depth 60 fits 20000
-
-pub library_send : IsSend Library.the_row
-library_send = search (library_field_send, source_field_send, source_send, source_field_sync, source_sync, crosses, maps.crosses, sendable) depth 60 fits 20000
-
-pub library_field_sync : IsSync (Library.the_field).row
-library_field_sync = search (source_field_send, source_send, source_field_sync, source_sync, crosses, maps.crosses, sendable) depth 60 fits 20000
-
-pub library_sync : IsSync Library.the_row
-library_sync = search (library_field_sync, source_field_send, source_send, source_field_sync, source_sync, crosses, maps.crosses, sendable) depth 60 fits 20000
+library_field_send = search (source_field_send, source_field_sync, crosses, maps.crosses, sendable) depth 60 fits 20000
 
 pub index_field_send : IsSend (Index.the_field).row
 index_field_send = search (crosses, maps.crosses, sendable) depth 60 fits 20000
 
-pub index_send : IsSend Index.the_row
-index_send = search (index_field_send, crosses, maps.crosses, sendable) depth 60 fits 20000
-
-pub index_field_sync : IsSync (Index.the_field).row
-index_field_sync = search (crosses, maps.crosses, sendable) depth 60 fits 20000
-
-pub index_sync : IsSync Index.the_row
-index_sync = search (index_field_sync, crosses, maps.crosses, sendable) depth 60 fits 20000
-
 pub bench_field_send : IsSend (Bench.the_field).row
-bench_field_send = search (index_field_send, index_send, index_field_sync, index_sync, library_field_send, library_send, library_field_sync, library_sync, record_field_send, record_send, record_field_sync, record_sync, value_field_send, value_send, value_field_sync, value_sync, crosses, maps.crosses, sendable) depth 60 fits 20000
-
-pub bench_send : IsSend Bench.the_row
-bench_send = search (bench_field_send, index_field_send, index_send, index_field_sync, index_sync, library_field_send, library_send, library_field_sync, library_sync, record_field_send, record_send, record_field_sync, record_sync, value_field_send, value_send, value_field_sync, value_sync, crosses, maps.crosses, sendable) depth 60 fits 20000
-
-pub bench_field_sync : IsSync (Bench.the_field).row
-bench_field_sync = search (index_field_send, index_send, index_field_sync, index_sync, library_field_send, library_send, library_field_sync, library_sync, record_field_send, record_send, record_field_sync, record_sync, value_field_send, value_send, value_field_sync, value_sync, crosses, maps.crosses, sendable) depth 60 fits 20000
-
-pub bench_sync : IsSync Bench.the_row
-bench_sync = search (bench_field_sync, index_field_send, index_send, index_field_sync, index_sync, library_field_send, library_send, library_field_sync, library_sync, record_field_send, record_send, record_field_sync, record_sync, value_field_send, value_send, value_field_sync, value_sync, crosses, maps.crosses, sendable) depth 60 fits 20000
+bench_field_send = search (index_field_send, library_field_send, record_field_send, record_field_sync, value_send, value_sync, crosses, maps.crosses, sendable) depth 60 fits 20000
 
 pub locked_field_send : IsSend (Locked.the_field).row
-locked_field_send = search (bench_field_send, bench_send, bench_field_sync, bench_sync, crosses, maps.crosses, sendable) depth 60 fits 20000
-
-pub locked_send : IsSend Locked.the_row
-locked_send = search (locked_field_send, bench_field_send, bench_send, bench_field_sync, bench_sync, crosses, maps.crosses, sendable) depth 60 fits 20000
-
-pub locked_field_sync : IsSync (Locked.the_field).row
-locked_field_sync = search (bench_field_send, bench_send, bench_field_sync, bench_sync, crosses, maps.crosses, sendable) depth 60 fits 20000
-
-pub locked_sync : IsSync Locked.the_row
-locked_sync = search (locked_field_sync, bench_field_send, bench_send, bench_field_sync, bench_sync, crosses, maps.crosses, sendable) depth 60 fits 20000
-
-pub shared_field_send : IsSend (Shared.the_field).row
-shared_field_send = search (locked_field_send, locked_send, locked_field_sync, locked_sync, crosses, maps.crosses, sendable) depth 60 fits 20000
-
-pub shared_send : IsSend Shared.the_row
-shared_send = search (shared_field_send, locked_field_send, locked_send, locked_field_sync, locked_sync, crosses, maps.crosses, sendable) depth 60 fits 20000
+locked_field_send = search (bench_field_send, crosses, maps.crosses, sendable) depth 60 fits 20000
 
 pub shared_field_sync : IsSync (Shared.the_field).row
-shared_field_sync = search (locked_field_send, locked_send, locked_field_sync, locked_sync, crosses, maps.crosses, sendable) depth 60 fits 20000
+shared_field_sync = search (locked_field_send, crosses, maps.crosses, sendable) depth 60 fits 20000
 
 pub shared_sync : IsSync Shared.the_row
-shared_sync = search (shared_field_sync, locked_field_send, locked_send, locked_field_sync, locked_sync, crosses, maps.crosses, sendable) depth 60 fits 20000
+shared_sync = search (shared_field_sync, crosses, maps.crosses, sendable) depth 60 fits 20000

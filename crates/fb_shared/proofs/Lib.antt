@@ -4,3 +4,4 @@ pub mod Receipts
 pub mod Works
 pub mod Histories
 pub mod Crossing
+pub mod Desks

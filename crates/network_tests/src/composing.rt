@@ -1,5 +1,5 @@
 //! Flat networks, composed of those of inner types.
-use crate::told::flat_told;
+use crate::told::{flat_told, same};
 use fb_compose::{
     FlatApplication, chains_are_composed, compose, compose_in_order, count_instances, flat_is_one,
     join, system_is_one,
@@ -44,15 +44,19 @@ fn a_system_has_what_its_applications_hold(rt: HostRuntime) -> Result<(), Fail> 
     for application in ["Z", "A"] {
         let (name, flat) = (Name::read(application)?, looped(alloc)?);
         let told = flat_told(alloc, &flat)?;
-        assert_eq!(rt; told.as_str(), "B:T; Event B.E TO B.E; Event E AT B.E");
+        same(
+            &rt,
+            told.as_str(),
+            "B:T; Event B.E TO B.E; Event E AT B.E",
+            application,
+        );
         applications.push(FlatApplication { name, flat })?;
     }
     // without the borders
     let system = join(alloc, applications.as_slice())?;
-    assert_eq!(rt;
-        flat_told(alloc, &system)?.as_str(),
-        "Z.B:T; A.B:T; Event A.B.E TO A.B.E; Event Z.B.E TO Z.B.E"
-    );
+    let told = flat_told(alloc, &system)?;
+    let expected = "Z.B:T; A.B:T; Event A.B.E TO A.B.E; Event Z.B.E TO Z.B.E";
+    same(&rt, told.as_str(), expected, "the system");
     Ok(())
 }
 
@@ -64,7 +68,7 @@ fn a_network_of_nothing_is_flat(rt: HostRuntime) -> Result<(), Fail> {
     let counts: BTreeMap<Name, u32> = BTreeMap::new(alloc);
     let nothing = Network::new(Vec::new(alloc), Vec::new(alloc), Vec::new(alloc));
     let flat = compose(alloc, &types, &nothing, &nets)?;
-    assert_eq!(rt; flat_told(alloc, &flat)?.as_str(), "");
+    same(&rt, flat_told(alloc, &flat)?.as_str(), "", "nothing");
     assert_eq!(rt; count_instances(&counts, &nothing), 0);
     Ok(())
 }
@@ -100,7 +104,12 @@ fn a_block_behind_a_border(rt: HostRuntime) -> Result<(), Fail> {
     );
     let nets = compose_in_order(alloc, &types, &[type_name])?;
     let flat = compose(alloc, &types, &network, &nets)?;
-    assert_eq!(rt; flat_told(alloc, &flat)?.as_str(), "F:B; Event I AT F.I");
+    same(
+        &rt,
+        flat_told(alloc, &flat)?.as_str(),
+        "F:B; Event I AT F.I",
+        "a border",
+    );
     Ok(())
 }
 

@@ -1,11 +1,13 @@
 //! The nets of units.
-use crate::told::{library_of, names_told, net_told, put, unit_net_told};
+use crate::told::{library_of, names_told, net_told, put, same, unit_net_told};
 use fb_deploy::flatten::{
     all_far, far_is_all, far_of_is_local, flat_networks_are_local, has_net_by_text, is_of_net,
     net_at_is_local, net_at_is_net, net_is_local, net_of_unit, one_net,
 };
 use fb_deploy::library::Library;
 use fb_text::Name;
+use std::alloc::Global;
+use std::process::Abort;
 use std::test::Fail;
 
 const B: &str =
@@ -77,38 +79,61 @@ const NETS: &[(&[&str], &str, &str, &str)] = &[
     (CYCLE, "M", "M N", "no net"),
 ];
 
+fn far_told(alloc: Global, library: &Library, unit: &str) -> Result<String, Fail> {
+    let names = all_far(alloc, library, Name::read(unit)?)?;
+    names_told(alloc, names.as_slice())
+}
+
+/// The net of a unit, by the call for units that have one.
+fn own_net_told(alloc: Global, library: &Library, unit: &str) -> Result<String, Fail> {
+    let name = Name::read(unit)?;
+    if !is_of_net(library, &name) {
+        return unit_net_told(alloc, library, unit);
+    }
+    net_told(alloc, &net_of_unit(alloc, library, name)?)
+}
+
+/// Compares the net of a unit and all that it rests on.
+fn compare(
+    rt: &impl Abort,
+    alloc: Global,
+    library: &Library,
+    unit: &str,
+    (far, net): (&str, &str),
+) -> Result<(), Fail> {
+    same(rt, unit_net_told(alloc, library, unit)?.as_str(), net, unit);
+    same(rt, far_told(alloc, library, unit)?.as_str(), far, unit);
+    same(rt, own_net_told(alloc, library, unit)?.as_str(), net, unit);
+    Ok(())
+}
+
+/// The same with a library of these texts.
+fn compare_of(
+    rt: &impl Abort,
+    alloc: Global,
+    texts: &[&str],
+    unit: &str,
+    expected: (&str, &str),
+) -> Result<(), Fail> {
+    let library = library_of(alloc, texts)?;
+    compare(rt, alloc, &library, unit, expected)
+}
+
 #[test]
 fn units_have_their_nets(rt: HostRuntime) -> Result<(), Fail> {
-    let alloc = rt.alloc();
     for (texts, unit, far, net) in NETS {
-        let library = library_of(alloc, texts)?;
-        assert_eq!(rt;
-            unit_net_told(alloc, &library, unit)?.as_str(),
-            *net,
-            "of {unit}"
-        );
-        let name = Name::read(unit)?;
-        let names = all_far(alloc, &library, name)?;
-        assert_eq!(rt;
-            names_told(alloc, names.as_slice())?.as_str(),
-            *far,
-            "of {unit}"
-        );
-        if is_of_net(&library, &name) {
-            let found = net_of_unit(alloc, &library, name)?;
-            assert_eq!(rt; net_told(alloc, &found)?.as_str(), *net, "of {unit}");
-        }
+        compare_of(&rt, rt.alloc(), texts, unit, (far, net))?;
     }
     Ok(())
 }
 
-#[test]
-fn a_chain_that_doubles(rt: HostRuntime) -> Result<(), Fail> {
-    let alloc = rt.alloc();
+const FIRST: &str = "SUBAPPLICATION S1 FBS X:B; Y:B; END_FBS END_SUBAPPLICATION";
+
+/// Thirteen subapplications, each of which holds the one before it twice.
+fn chain(alloc: Global) -> Result<Library, Fail> {
     let mut changes = Vec::new(alloc);
     put(alloc, &mut changes, B)?;
-    let first = "SUBAPPLICATION S1 FBS X:B; Y:B; END_FBS END_SUBAPPLICATION";
-    put(alloc, &mut changes, first)?;
+    put(alloc, &mut changes, FIRST)?;
     for i in 1..13u32 {
         let outer = i + 1;
         let text = format!(in alloc;
@@ -116,13 +141,22 @@ fn a_chain_that_doubles(rt: HostRuntime) -> Result<(), Fail> {
         )?;
         put(alloc, &mut changes, text.as_str())?;
     }
-    let library = Library::new(alloc).edited(1, changes.as_slice())?;
-    // S13 holds 2 + 4 + .. + 8192 instances
-    for (unit, net) in [("S2", "X.X:B; X.Y:B; Y.X:B; Y.Y:B"), ("S13", "too large")] {
-        assert_eq!(rt;
+    Ok(Library::new(alloc).edited(1, changes.as_slice())?)
+}
+
+// S13 holds 2 + 4 + .. + 8192 instances
+const CHAINED: &[(&str, &str)] = &[("S2", "X.X:B; X.Y:B; Y.X:B; Y.Y:B"), ("S13", "too large")];
+
+#[test]
+fn a_chain_that_doubles(rt: HostRuntime) -> Result<(), Fail> {
+    let alloc = rt.alloc();
+    let library = chain(alloc)?;
+    for (unit, net) in CHAINED {
+        same(
+            &rt,
             unit_net_told(alloc, &library, unit)?.as_str(),
             net,
-            "of {unit}"
+            unit,
         );
     }
     Ok(())

@@ -1,9 +1,10 @@
 //! An order with inner types first, and types that reach themselves.
-use crate::told::{library_of, names_in, names_told, order_told, put};
+use crate::told::{equal, library_of, names_in, names_told, order_told, put, same};
 use fb_deploy::library::{Library, far};
 use fb_order::{inner_first, ordered_is_not_recursive, recursion_is_local, recursive};
 use fb_text::Name;
 use std::alloc::Global;
+use std::process::Abort;
 use std::test::Fail;
 
 // D is absent.
@@ -35,31 +36,52 @@ fn recursive_told(alloc: Global, library: &Library, names: &[Name]) -> Result<St
     names_told(alloc, found.as_slice())
 }
 
+/// Those that reach themselves of all that the unit rests on.
+fn loops_told(alloc: Global, library: &Library, unit: &str) -> Result<String, Fail> {
+    let names = far(alloc, library, Name::read(unit)?)?;
+    recursive_told(alloc, library, names.as_slice())
+}
+
+/// Compares the order of all that a unit rests on, and what reaches itself of that.
+fn compare(
+    rt: &impl Abort,
+    alloc: Global,
+    library: &Library,
+    unit: &str,
+    (order, loops): (&str, &str),
+) -> Result<(), Fail> {
+    same(rt, order_told(alloc, library, unit)?.as_str(), order, unit);
+    same(rt, loops_told(alloc, library, unit)?.as_str(), loops, unit);
+    Ok(())
+}
+
+/// The same with a library of these texts.
+fn compare_of(
+    rt: &impl Abort,
+    alloc: Global,
+    texts: &[&str],
+    unit: &str,
+    expected: (&str, &str),
+) -> Result<(), Fail> {
+    let library = library_of(alloc, texts)?;
+    compare(rt, alloc, &library, unit, expected)
+}
+
 #[test]
 fn inner_types_come_first(rt: HostRuntime) -> Result<(), Fail> {
     let alloc = rt.alloc();
     for (texts, unit, order, loops) in ORDERS {
-        let library = library_of(alloc, texts)?;
-        assert_eq!(rt;
-            order_told(alloc, &library, unit)?.as_str(),
-            *order,
-            "at {unit}"
-        );
-        let names = far(alloc, &library, Name::read(unit)?)?;
-        let found = recursive_told(alloc, &library, names.as_slice())?;
-        assert_eq!(rt; found.as_str(), *loops, "at {unit}");
+        compare_of(&rt, alloc, texts, unit, (order, loops))?;
     }
     // they stand in the order of the names that are given
     let names = names_in(alloc, "T S B")?;
-    let library = library_of(alloc, CYCLES)?;
-    let found = recursive_told(alloc, &library, names.as_slice())?;
-    assert_eq!(rt; found.as_str(), "T B");
+    let found = recursive_told(alloc, &library_of(alloc, CYCLES)?, names.as_slice())?;
+    same(&rt, found.as_str(), "T B", "T S B");
     Ok(())
 }
 
-#[test]
-fn a_chain_of_4096_units(rt: HostRuntime) -> Result<(), Fail> {
-    let alloc = rt.alloc();
+/// A chain from U0, of which the last one, U4095, is absent.
+fn chain(alloc: Global) -> Result<Library, Fail> {
     let mut changes = Vec::new(alloc);
     for i in 0..4095u32 {
         let inner = i + 1;
@@ -68,15 +90,31 @@ fn a_chain_of_4096_units(rt: HostRuntime) -> Result<(), Fail> {
         )?;
         put(alloc, &mut changes, text.as_str())?;
     }
-    let library = Library::new(alloc).edited(1, changes.as_slice())?;
-    let unit = Name::read("U0")?;
-    let order = inner_first(alloc, &library, unit)?.ok_or("no cycle")?;
-    assert_eq!(rt; order.len(), 4096);
-    assert_eq!(rt; order[0], Name::read("U4095")?);
-    assert_eq!(rt; order[4095], unit);
-    let names = far(alloc, &library, unit)?;
-    assert!(rt; recursive(alloc, &library, names.as_slice())?.is_empty());
+    Ok(Library::new(alloc).edited(1, changes.as_slice())?)
+}
+
+/// The first name and the last one.
+fn ends_told(alloc: Global, names: &[Name]) -> Result<String, Fail> {
+    match (names.first(), names.last()) {
+        (Some(first), Some(last)) => Ok(format!(in alloc; "{first} {last}")?),
+        _ => Ok(String::new(alloc)),
+    }
+}
+
+/// Compares the order of all that U0 rests on, which has no cycle.
+fn compare_chain(rt: &impl Abort, alloc: Global, library: &Library) -> Result<(), Fail> {
+    let order = inner_first(alloc, library, Name::read("U0")?)?.ok_or("no cycle")?;
+    equal(rt, &order.len(), &4096, "units");
+    let ends = ends_told(alloc, order.as_slice())?;
+    same(rt, ends.as_str(), "U4095 U0", "ends");
+    same(rt, loops_told(alloc, library, "U0")?.as_str(), "", "U0");
     Ok(())
+}
+
+#[test]
+fn a_chain_of_4096_units(rt: HostRuntime) -> Result<(), Fail> {
+    let library = chain(rt.alloc())?;
+    compare_chain(&rt, rt.alloc(), &library)
 }
 
 #[test]

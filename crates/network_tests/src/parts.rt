@@ -1,66 +1,104 @@
 //! Sorts, paths, links and borders, and the lists of networks and of flat networks.
-use crate::told::{say_borders, say_links, say_network};
+use crate::told::{equal, same, say_borders, say_links, say_network};
 use fb_deploy::mapping::path_names;
 use fb_network::tree::{Side, Sort};
 use fb_network::{Border, Flat, FlatBlock, Link, Network, Path, Port, is_same_sort, sort_number};
 use fb_text::Name;
+use std::alloc::Global;
 use std::test::Fail;
+
+static SORTS: [(Sort, u8, [bool; 3]); 3] = [
+    (Sort::Event, 0, [true, false, false]),
+    (Sort::Data, 1, [false, true, false]),
+    (Sort::Adapter, 2, [false, false, true]),
+];
 
 #[test]
 fn sorts_stand_in_their_order(rt: HostRuntime) {
-    let sorts = [(Sort::Event, 0), (Sort::Data, 1), (Sort::Adapter, 2)];
-    for (sort, number) in sorts {
-        assert_eq!(rt; sort_number(sort), number, "of {sort:?}");
-        for (other, place) in sorts {
-            assert_eq!(rt;
-                is_same_sort(sort, other),
-                number == place,
-                "{sort:?} {other:?}"
-            );
-        }
+    for (sort, number, are_same) in &SORTS {
+        equal(&rt, &sort_number(*sort), number, "the number of a sort");
+        let found = [
+            is_same_sort(*sort, Sort::Event),
+            is_same_sort(*sort, Sort::Data),
+            is_same_sort(*sort, Sort::Adapter),
+        ];
+        equal(&rt, &found, are_same, "sorts that are the same");
     }
+}
+
+fn joined(alloc: Global) -> Result<Path, Fail> {
+    let [a, b, c] = [Name::read("a")?, Name::read("B")?, Name::read("c")?];
+    Ok(Path::of_two(alloc, &b, &c)?.within(alloc, &a)?)
+}
+
+fn longer(alloc: Global) -> Result<Path, Fail> {
+    let [a, b] = [Name::read("a")?, Name::read("B")?];
+    Ok(Path::of(alloc, &a)?.then(alloc, &b)?.copy()?)
 }
 
 #[test]
 fn paths_are_names_joined_by_points(rt: HostRuntime) -> Result<(), Fail> {
     let alloc = rt.alloc();
-    let [a, b, c] = [Name::read("a")?, Name::read("B")?, Name::read("c")?];
-    let path = Path::of_two(alloc, &b, &c)?.within(alloc, &a)?;
-    assert_eq!(rt; path.as_str(), "A.B.C");
-    let path = Path::of(alloc, &a)?.then(alloc, &b)?.copy()?;
-    assert_eq!(rt; path.as_str(), "A.B");
+    same(&rt, joined(alloc)?.as_str(), "A.B.C", "two within one");
+    same(&rt, longer(alloc)?.as_str(), "A.B", "one behind one");
     let names = path_names(alloc, "APP.SUB.F")?;
-    assert_eq!(rt; names.len(), 3);
-    assert_eq!(rt; names[1], "SUB");
+    equal(
+        &rt,
+        &names.as_slice(),
+        &["APP", "SUB", "F"].as_slice(),
+        "names",
+    );
     Ok(())
+}
+
+// Links and borders out of their order.
+static ENDS: [(Sort, &str, &str); 4] = [
+    (Sort::Data, "A", "D"),
+    (Sort::Event, "B", "C"),
+    (Sort::Event, "B", "A"),
+    (Sort::Event, "A", "B"),
+];
+
+fn path(alloc: Global, name: &str) -> Result<Path, Fail> {
+    Ok(Path::of(alloc, &Name::read(name)?)?)
+}
+
+fn links_told(alloc: Global) -> Result<String, Fail> {
+    let mut links = Vec::new(alloc);
+    for (sort, from, to) in &ENDS {
+        links.push(Link {
+            sort: *sort,
+            from: path(alloc, from)?,
+            to: path(alloc, to)?,
+        })?;
+    }
+    links.sort()?;
+    let mut told = String::new(alloc);
+    say_links(&mut told, links.as_slice())?;
+    Ok(told)
+}
+
+fn borders_told(alloc: Global) -> Result<String, Fail> {
+    let mut borders = Vec::new(alloc);
+    for (sort, port, place) in &ENDS {
+        borders.push(Border {
+            sort: *sort,
+            port: Name::read(port)?,
+            place: path(alloc, place)?,
+        })?;
+    }
+    borders.sort()?;
+    let mut told = String::new(alloc);
+    say_borders(&mut told, borders.as_slice())?;
+    Ok(told)
 }
 
 #[test]
 fn links_and_borders_stand_in_their_order(rt: HostRuntime) -> Result<(), Fail> {
-    let alloc = rt.alloc();
-    let mut links = Vec::new(alloc);
-    let mut borders = Vec::new(alloc);
-    for (sort, first, second) in [
-        (Sort::Data, "A", "D"),
-        (Sort::Event, "B", "C"),
-        (Sort::Event, "B", "A"),
-        (Sort::Event, "A", "B"),
-    ] {
-        let [first, second] = [Name::read(first)?, Name::read(second)?];
-        let (from, to) = (Path::of(alloc, &first)?, Path::of(alloc, &second)?);
-        links.push(Link { sort, from, to })?;
-        let (port, place) = (first, Path::of(alloc, &second)?);
-        borders.push(Border { sort, port, place })?;
-    }
-    links.sort()?;
-    borders.sort()?;
-    let mut told = String::new(alloc);
-    say_links(alloc, &mut told, links.as_slice())?;
-    say_borders(alloc, &mut told, borders.as_slice())?;
-    assert_eq!(rt;
-        told.as_str(),
-        "Event A TO B; Event B TO A; Event B TO C; Data A TO D; Event A AT B; Event B AT A; Event B AT C; Data A AT D"
-    );
+    let links = "Event A TO B; Event B TO A; Event B TO C; Data A TO D";
+    same(&rt, links_told(rt.alloc())?.as_str(), links, "links");
+    let borders = "Event A AT B; Event B AT A; Event B AT C; Data A AT D";
+    same(&rt, borders_told(rt.alloc())?.as_str(), borders, "borders");
     Ok(())
 }
 
@@ -76,7 +114,7 @@ fn networks_have_their_lists(rt: HostRuntime) -> Result<(), Fail> {
     })?;
     let network = Network::new(ports, Vec::new(alloc), Vec::new(alloc));
     let mut told = String::new(alloc);
-    say_network(alloc, &mut told, &network)?;
-    assert_eq!(rt; told.as_str(), "Event Input E");
+    say_network(&mut told, &network)?;
+    same(&rt, told.as_str(), "Event Input E", "a port");
     Ok(())
 }

@@ -1,5 +1,5 @@
 //! What units say as networks in plain.
-use crate::told::{library_of, plain_told};
+use crate::told::{library_of, plain_told, same};
 use fb_deploy::wiring::{
     applications_are_clean, networks_are_clean, networks_are_local,
     without_faults_nothing_is_reported,
@@ -32,7 +32,12 @@ fn networks_are_what_the_texts_say(rt: HostRuntime) -> Result<(), Fail> {
     let alloc = rt.alloc();
     for (text, unit, network) in NETWORKS {
         let library = library_of(alloc, &[*text])?;
-        assert_eq!(rt; plain_told(alloc, &library, unit)?.as_str(), *network);
+        same(
+            &rt,
+            plain_told(alloc, &library, unit)?.as_str(),
+            network,
+            unit,
+        );
     }
     Ok(())
 }

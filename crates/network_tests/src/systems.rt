@@ -1,5 +1,6 @@
 //! Placements and plans of systems.
-use crate::told::{library_of, placement_told, plan_told};
+use crate::told::{library_of, placement_told, plan_told, same};
+use fb_deploy::library::Library;
 use fb_deploy::mapping::{homes_are_nearest, one_place, place_is_local};
 use fb_deploy::{one_plan, plan_is_local};
 use std::alloc::Global;
@@ -15,11 +16,12 @@ const SA: &str =
 const Y: &str =
     "SYSTEM Y APPLICATION APP SUBAPPS SUB:SA; END_SUBAPPS END_APPLICATION DEVICE D:DT RESOURCE R1:RT END_RESOURCE RESOURCE R2:RT END_RESOURCE END_DEVICE MAPPINGS APP ON D.R1; END_MAPPINGS END_SYSTEM";
 
-/// The system Y with these mappings.
-fn system_of(alloc: Global, mappings: &str) -> Result<String, Fail> {
-    Ok(format!(in alloc;
+/// A library with the system Y and these mappings.
+fn mapped(alloc: Global, mappings: &str) -> Result<Library, Fail> {
+    let system = format!(in alloc;
         "SYSTEM Y APPLICATION APP SUBAPPS SUB:SA; END_SUBAPPS END_APPLICATION DEVICE D:DT RESOURCE R1:RT END_RESOURCE RESOURCE R2:RT END_RESOURCE END_DEVICE MAPPINGS {mappings} END_MAPPINGS END_SYSTEM"
-    )?)
+    )?;
+    library_of(alloc, &[TN, SA, system.as_str()])
 }
 
 // The mappings of Y, and its placement.
@@ -88,21 +90,12 @@ const PLACEMENTS: &[(&[&str], &str, &str)] = &[
 fn systems_have_their_placements(rt: HostRuntime) -> Result<(), Fail> {
     let alloc = rt.alloc();
     for (mappings, homes) in HOMES {
-        let system = system_of(alloc, mappings)?;
-        let library = library_of(alloc, &[TN, SA, system.as_str()])?;
-        assert_eq!(rt;
-            placement_told(alloc, &library, "Y")?.as_str(),
-            *homes,
-            "by {mappings}"
-        );
+        let found = placement_told(alloc, &mapped(alloc, mappings)?, "Y")?;
+        same(&rt, found.as_str(), homes, mappings);
     }
     for (texts, system, placement) in PLACEMENTS {
-        let library = library_of(alloc, texts)?;
-        assert_eq!(rt;
-            placement_told(alloc, &library, system)?.as_str(),
-            *placement,
-            "of {system}"
-        );
+        let found = placement_told(alloc, &library_of(alloc, texts)?, system)?;
+        same(&rt, found.as_str(), placement, system);
     }
     Ok(())
 }
@@ -159,21 +152,12 @@ const PLANS: &[(&[&str], &str, &str)] = &[
 fn systems_have_their_plans(rt: HostRuntime) -> Result<(), Fail> {
     let alloc = rt.alloc();
     for (mappings, commands) in COMMANDS {
-        let system = system_of(alloc, mappings)?;
-        let library = library_of(alloc, &[TN, SA, system.as_str()])?;
-        assert_eq!(rt;
-            plan_told(alloc, &library, "Y")?.as_str(),
-            *commands,
-            "by {mappings}"
-        );
+        let found = plan_told(alloc, &mapped(alloc, mappings)?, "Y")?;
+        same(&rt, found.as_str(), commands, mappings);
     }
     for (texts, system, plan) in PLANS {
-        let library = library_of(alloc, texts)?;
-        assert_eq!(rt;
-            plan_told(alloc, &library, system)?.as_str(),
-            *plan,
-            "of {system}"
-        );
+        let found = plan_told(alloc, &library_of(alloc, texts)?, system)?;
+        same(&rt, found.as_str(), plan, system);
     }
     Ok(())
 }

@@ -8,8 +8,20 @@ use fb_deploy::{Deploy, ResourcePlan, plan};
 use fb_network::{Border, End, Flat, FlatBlock, Link, Network};
 use fb_order::inner_first;
 use fb_text::Name;
-use std::alloc::Global;
+use std::alloc::{AllocError, Global};
+use std::fmt::Debug;
+use std::process::Abort;
 use std::test::Fail;
+
+/// Compares what is told with what is expected.
+pub fn same(rt: &impl Abort, told: &str, expected: &str, about: &str) {
+    assert_eq!(rt; told, expected, "{about}");
+}
+
+/// Compares what is found with what is expected.
+pub fn equal<T: PartialEq + Debug>(rt: &impl Abort, found: &T, expected: &T, about: &str) {
+    assert_eq!(rt; found, expected, "{about}");
+}
 
 /// The name of a unit, which is the second word of its text.
 fn name_in(text: &str) -> Result<Name, Fail> {
@@ -46,7 +58,7 @@ pub fn names_in(alloc: Global, text: &str) -> Result<Vec<Name>, Fail> {
 fn names_behind(alloc: Global, word: &str, names: &[Name]) -> Result<String, Fail> {
     let mut told = String::from_str(alloc, word)?;
     for name in names {
-        told.push_str(format!(in alloc; " {name}")?.as_str())?;
+        write!(told, " {name}")?;
     }
     Ok(told)
 }
@@ -59,37 +71,34 @@ pub fn names_told(alloc: Global, names: &[Name]) -> Result<String, Fail> {
     }
 }
 
-/// Adds a phrase.
-fn say(told: &mut String, phrase: &str) -> Result<(), Fail> {
-    if !told.is_empty() {
-        told.push_str("; ")?;
-    }
-    told.push_str(phrase)?;
-    Ok(())
+/// What comes before the next phrase.
+fn between(told: &String) -> &'static str {
+    if told.is_empty() { "" } else { "; " }
 }
 
-fn say_blocks(alloc: Global, told: &mut String, blocks: &[FlatBlock]) -> Result<(), Fail> {
+fn say_blocks(told: &mut String, blocks: &[FlatBlock]) -> Result<(), AllocError> {
     for block in blocks {
-        let (path, type_name) = (block.path.as_str(), block.type_name);
-        say(told, format!(in alloc; "{path}:{type_name}")?.as_str())?;
+        let (between, path) = (between(told), block.path.as_str());
+        write!(told, "{between}{path}:{}", block.type_name)?;
     }
     Ok(())
 }
 
-pub fn say_links(alloc: Global, told: &mut String, links: &[Link]) -> Result<(), Fail> {
+pub fn say_links(told: &mut String, links: &[Link]) -> Result<(), AllocError> {
     for link in links {
-        let (sort, from, to) = (link.sort, link.from.as_str(), link.to.as_str());
-        say(told, format!(in alloc; "{sort:?} {from} TO {to}")?.as_str())?;
+        let (between, from, to) = (between(told), link.from.as_str(), link.to.as_str());
+        write!(told, "{between}{:?} {from} TO {to}", link.sort)?;
     }
     Ok(())
 }
 
-pub fn say_borders(alloc: Global, told: &mut String, borders: &[Border]) -> Result<(), Fail> {
+pub fn say_borders(told: &mut String, borders: &[Border]) -> Result<(), AllocError> {
     for border in borders {
-        let (sort, port, place) = (border.sort, border.port, border.place.as_str());
-        say(
+        let (between, place) = (between(told), border.place.as_str());
+        write!(
             told,
-            format!(in alloc; "{sort:?} {port} AT {place}")?.as_str(),
+            "{between}{:?} {} AT {place}",
+            border.sort, border.port
         )?;
     }
     Ok(())
@@ -98,71 +107,73 @@ pub fn say_borders(alloc: Global, told: &mut String, borders: &[Border]) -> Resu
 /// Blocks, links and borders.
 pub fn flat_told(alloc: Global, flat: &Flat) -> Result<String, Fail> {
     let mut told = String::new(alloc);
-    say_blocks(alloc, &mut told, flat.blocks())?;
-    say_links(alloc, &mut told, flat.links())?;
-    say_borders(alloc, &mut told, flat.borders())?;
+    say_blocks(&mut told, flat.blocks())?;
+    say_links(&mut told, flat.links())?;
+    say_borders(&mut told, flat.borders())?;
     Ok(told)
 }
 
-fn say_ports(alloc: Global, told: &mut String, network: &Network) -> Result<(), Fail> {
+fn say_ports(told: &mut String, network: &Network) -> Result<(), AllocError> {
     for port in network.ports() {
-        let (sort, side, name) = (port.sort, port.side, port.name);
-        let phrase = match port.adapter {
-            None => format!(in alloc; "{sort:?} {side:?} {name}")?,
-            Some(adapter) => format!(in alloc; "{sort:?} {side:?} {name}:{adapter}")?,
-        };
-        say(told, phrase.as_str())?;
+        let between = between(told);
+        write!(
+            told,
+            "{between}{:?} {:?} {}",
+            port.sort, port.side, port.name
+        )?;
+        if let Some(adapter) = port.adapter {
+            write!(told, ":{adapter}")?;
+        }
     }
     Ok(())
 }
 
-fn say_instances(alloc: Global, told: &mut String, network: &Network) -> Result<(), Fail> {
+fn say_instances(told: &mut String, network: &Network) -> Result<(), AllocError> {
     for instance in network.instances() {
-        let (kind, name, type_name) = (instance.kind, instance.name, instance.type_name);
-        say(
+        let (between, name) = (between(told), instance.name);
+        write!(
             told,
-            format!(in alloc; "{kind:?} {name}:{type_name}")?.as_str(),
+            "{between}{:?} {name}:{}",
+            instance.kind, instance.type_name
         )?;
     }
     Ok(())
 }
 
-fn end_told(alloc: Global, end: &End) -> Result<String, Fail> {
+fn say_end(told: &mut String, end: &End) -> Result<(), AllocError> {
     match end {
-        End::Own(port) => Ok(format!(in alloc; "{port}")?),
-        End::Of(instance, port) => Ok(format!(in alloc; "{instance}.{port}")?),
+        End::Own(port) => write!(told, " {port}"),
+        End::Of(instance, port) => write!(told, " {instance}.{port}"),
     }
 }
 
-fn say_connections(alloc: Global, told: &mut String, network: &Network) -> Result<(), Fail> {
+fn say_connections(told: &mut String, network: &Network) -> Result<(), AllocError> {
     for connection in network.connections() {
-        let sort = connection.sort;
-        let source = end_told(alloc, &connection.source)?;
-        let destination = end_told(alloc, &connection.destination)?;
-        say(
-            told,
-            format!(in alloc; "{sort:?} {source} TO {destination}")?.as_str(),
-        )?;
+        let between = between(told);
+        write!(told, "{between}{:?}", connection.sort)?;
+        say_end(told, &connection.source)?;
+        told.push_str(" TO")?;
+        say_end(told, &connection.destination)?;
     }
     Ok(())
 }
 
 /// Adds the ports, instances and connections of a network in plain.
-pub fn say_network(alloc: Global, told: &mut String, network: &Network) -> Result<(), Fail> {
-    say_ports(alloc, told, network)?;
-    say_instances(alloc, told, network)?;
-    say_connections(alloc, told, network)
+pub fn say_network(told: &mut String, network: &Network) -> Result<(), AllocError> {
+    say_ports(told, network)?;
+    say_instances(told, network)?;
+    say_connections(told, network)
 }
 
 /// The network of a unit in plain, and then its applications.
 pub fn plain_told(alloc: Global, library: &Library, unit: &str) -> Result<String, Fail> {
     let decl = tree_by_name(library, &Name::read(unit)?).ok_or("no tree")?;
     let mut told = String::new(alloc);
-    say_network(alloc, &mut told, &network(alloc, decl)?)?;
+    say_network(&mut told, &network(alloc, decl)?)?;
     for application in &applications(alloc, decl)? {
-        let name = application.name;
-        say(&mut told, format!(in alloc; "APPLICATION {name}")?.as_str())?;
-        say_network(alloc, &mut told, &application.network)?;
+        let between = between(&told);
+        write!(told, "{between}APPLICATION {}", application.name)?;
+        say_network(&mut told, &application.network)?;
     }
     Ok(told)
 }
@@ -198,10 +209,11 @@ fn misplaced_told(alloc: Global, found: &[Misplaced]) -> Result<String, Fail> {
     let mut told = String::new(alloc);
     for it in found {
         let (code, path) = match it {
-            Misplaced::Unmapped(path) => ("UNMAPPED", path.as_str()),
-            Misplaced::NoSuchBlock(path) => ("NO_SUCH_BLOCK", path.as_str()),
+            Misplaced::Unmapped(path) => ("UNMAPPED", path),
+            Misplaced::NoSuchBlock(path) => ("NO_SUCH_BLOCK", path),
         };
-        say(&mut told, format!(in alloc; "{code} {path}")?.as_str())?;
+        let between = between(&told);
+        write!(told, "{between}{code} {}", path.as_str())?;
     }
     Ok(told)
 }
@@ -210,13 +222,10 @@ fn misplaced_told(alloc: Global, found: &[Misplaced]) -> Result<String, Fail> {
 fn homes_told(alloc: Global, homes: &[Home], cuts: &[Link]) -> Result<String, Fail> {
     let mut told = String::new(alloc);
     for home in homes {
-        let (path, resource) = (home.path.as_str(), home.resource.as_str());
-        say(
-            &mut told,
-            format!(in alloc; "{path} ON {resource}")?.as_str(),
-        )?;
+        let (between, path) = (between(&told), home.path.as_str());
+        write!(told, "{between}{path} ON {}", home.resource.as_str())?;
     }
-    say_links(alloc, &mut told, cuts)?;
+    say_links(&mut told, cuts)?;
     Ok(told)
 }
 
@@ -233,11 +242,11 @@ pub fn placement_told(alloc: Global, library: &Library, system: &str) -> Result<
     }
 }
 
-fn say_commands(alloc: Global, told: &mut String, resource: &ResourcePlan) -> Result<(), Fail> {
-    let name = resource.name().as_str();
-    say(told, format!(in alloc; "RESOURCE {name}")?.as_str())?;
+fn say_commands(told: &mut String, resource: &ResourcePlan) -> Result<(), AllocError> {
+    let between = between(told);
+    write!(told, "{between}RESOURCE {}", resource.name().as_str())?;
     for command in resource.commands() {
-        say(told, command.as_str())?;
+        write!(told, "; {}", command.as_str())?;
     }
     Ok(())
 }
@@ -245,9 +254,9 @@ fn say_commands(alloc: Global, told: &mut String, resource: &ResourcePlan) -> Re
 /// Cut links, and the commands of each resource.
 fn commands_told(alloc: Global, cuts: &[Link], resources: &[ResourcePlan]) -> Result<String, Fail> {
     let mut told = String::new(alloc);
-    say_links(alloc, &mut told, cuts)?;
+    say_links(&mut told, cuts)?;
     for resource in resources {
-        say_commands(alloc, &mut told, resource)?;
+        say_commands(&mut told, resource)?;
     }
     Ok(told)
 }

@@ -1,4 +1,5 @@
 //! Texts that are broken, and the places where they are. These were worked out by another reader, one that follows all spellings at once.
+use crate::told::{equal, same};
 use fb_parse::{Body, ReadFault, Source};
 use fb_text::Name;
 use std::alloc::Global;
@@ -48,18 +49,28 @@ static BROKEN: [(&str, &str); 11] = [
 #[test]
 fn broken_texts(rt: HostRuntime) -> Result<(), Fail> {
     for (text, expected) in &BROKEN {
-        assert_eq!(rt; place(rt.alloc(), text)?.as_str(), *expected, "{text}");
+        same(&rt, place(rt.alloc(), text)?.as_str(), expected, text);
     }
     Ok(())
+}
+
+/// Why the text of a unit is not read at all.
+fn fault_of(alloc: Global, text: &str) -> Option<ReadFault> {
+    Source::read(alloc, Name::underscore(), text).err()
 }
 
 #[test]
 fn the_longest_texts(rt: HostRuntime) -> Result<(), Fail> {
     let mut text = " ".repeat(rt.alloc(), 65_536)?;
-    assert_eq!(rt; place(rt.alloc(), text.as_str())?.as_str(), "65536..65536");
+    same(
+        &rt,
+        place(rt.alloc(), text.as_str())?.as_str(),
+        "65536..65536",
+        "blanks",
+    );
     text.push(' ')?;
-    let fault = Source::read(rt.alloc(), Name::underscore(), text.as_str()).err();
-    assert_eq!(rt; fault, Some(ReadFault::TextTooLong));
+    let fault = fault_of(rt.alloc(), text.as_str());
+    equal(&rt, &fault, &Some(ReadFault::TextTooLong), "a blank more");
     Ok(())
 }
 
@@ -281,6 +292,14 @@ static SYSTEM: Breaks = (
     ],
 );
 
+/// The text with other words in the place of these, which stand in it once.
+fn broken(alloc: Global, whole: &str, old: &str, new: &str) -> Result<String, Fail> {
+    if whole.matches(old).count() != 1 {
+        return Err(format!(in alloc; "{old} does not stand once in {whole}")?.into());
+    }
+    Ok(whole.replace(alloc, old, new)?)
+}
+
 /// Breaks a text in each of these ways.
 fn compare(
     rt: &impl Abort,
@@ -288,28 +307,39 @@ fn compare(
     whole: &str,
     breaks: &[(&str, &str, &str)],
 ) -> Result<(), Fail> {
-    assert_eq!(rt; place(alloc, whole)?.as_str(), "whole", "{whole}");
+    same(rt, place(alloc, whole)?.as_str(), "whole", whole);
     for (old, new, expected) in breaks {
-        assert_eq!(rt; whole.matches(*old).count(), 1, "{old} in {whole}");
-        let text = whole.replace(alloc, *old, new)?;
-        assert_eq!(rt; place(alloc, text.as_str())?.as_str(), *expected, "{text}");
+        let text = broken(alloc, whole, old, new)?;
+        let found = place(alloc, text.as_str())?;
+        same(rt, found.as_str(), expected, text.as_str());
     }
     Ok(())
 }
 
+fn declarations(rt: &impl Abort, alloc: Global) -> Result<(), Fail> {
+    compare(rt, alloc, EVENTS.0, EVENTS.1)?;
+    compare(rt, alloc, VARIABLES.0, VARIABLES.1)?;
+    compare(rt, alloc, ADAPTER.0, ADAPTER.1)?;
+    compare(rt, alloc, INSTANCES.0, INSTANCES.1)
+}
+
+fn networks_and_charts(rt: &impl Abort, alloc: Global) -> Result<(), Fail> {
+    compare(rt, alloc, CONNECTIONS.0, CONNECTIONS.1)?;
+    compare(rt, alloc, STATES.0, STATES.1)?;
+    compare(rt, alloc, TRANSITIONS.0, TRANSITIONS.1)?;
+    compare(rt, alloc, SYSTEM.0, SYSTEM.1)
+}
+
+fn statements(rt: &impl Abort, alloc: Global) -> Result<(), Fail> {
+    compare(rt, alloc, ALGORITHMS.0, ALGORITHMS.1)?;
+    compare(rt, alloc, CHOICES.0, CHOICES.1)?;
+    compare(rt, alloc, LOOPS.0, LOOPS.1)?;
+    compare(rt, alloc, EXPRESSION.0, EXPRESSION.1)
+}
+
 #[test]
 fn texts_with_one_thing_wrong(rt: HostRuntime) -> Result<(), Fail> {
-    let alloc = rt.alloc();
-    compare(&rt, alloc, EVENTS.0, EVENTS.1)?;
-    compare(&rt, alloc, VARIABLES.0, VARIABLES.1)?;
-    compare(&rt, alloc, ADAPTER.0, ADAPTER.1)?;
-    compare(&rt, alloc, INSTANCES.0, INSTANCES.1)?;
-    compare(&rt, alloc, CONNECTIONS.0, CONNECTIONS.1)?;
-    compare(&rt, alloc, STATES.0, STATES.1)?;
-    compare(&rt, alloc, TRANSITIONS.0, TRANSITIONS.1)?;
-    compare(&rt, alloc, ALGORITHMS.0, ALGORITHMS.1)?;
-    compare(&rt, alloc, CHOICES.0, CHOICES.1)?;
-    compare(&rt, alloc, LOOPS.0, LOOPS.1)?;
-    compare(&rt, alloc, EXPRESSION.0, EXPRESSION.1)?;
-    compare(&rt, alloc, SYSTEM.0, SYSTEM.1)
+    declarations(&rt, rt.alloc())?;
+    networks_and_charts(&rt, rt.alloc())?;
+    statements(&rt, rt.alloc())
 }

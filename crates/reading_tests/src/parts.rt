@@ -1,9 +1,11 @@
 //! The parts of declarations.
 use crate::readers::{Part, read};
+use crate::told::{equal, same};
 use fb_parse::tree::{Expr, LiteralForm};
 use fb_sections::lexemes::lexemes;
 use fb_structured_text::expression;
 use std::alloc::{AllocError, Global};
+use std::process::Abort;
 use std::test::Fail;
 
 // Texts with the part that is read at their front, and how many tokens stand behind it, or from the one that does not go on.
@@ -201,20 +203,21 @@ static STATEMENTS: [(Part, &str, &str, usize); 14] = [
     ),
 ];
 
-#[test]
-fn parts_of_texts(rt: HostRuntime) -> Result<(), Fail> {
-    for rows in [
-        SECTIONS.as_slice(),
-        EXPRESSIONS.as_slice(),
-        STATEMENTS.as_slice(),
-    ] {
-        for (part, text, expected, left) in rows {
-            let (words, behind) = read(rt.alloc(), *part, text)?;
-            assert_eq!(rt; words.as_str(), *expected, "{part:?} of {text}");
-            assert_eq!(rt; behind, *left, "{part:?} of {text}");
-        }
+/// Reads the part of each row.
+fn compare(rt: &impl Abort, alloc: Global, rows: &[(Part, &str, &str, usize)]) -> Result<(), Fail> {
+    for (part, text, expected, left) in rows {
+        let (words, behind) = read(alloc, *part, text)?;
+        same(rt, words.as_str(), expected, text);
+        equal(rt, &behind, left, text);
     }
     Ok(())
+}
+
+#[test]
+fn parts_of_texts(rt: HostRuntime) -> Result<(), Fail> {
+    compare(&rt, rt.alloc(), &SECTIONS)?;
+    compare(&rt, rt.alloc(), &EXPRESSIONS)?;
+    compare(&rt, rt.alloc(), &STATEMENTS)
 }
 
 // What stands so many times before a middle, the middle, and what stands as often behind it; whether it is read, and what is left.
@@ -257,12 +260,8 @@ fn nested_parts(rt: HostRuntime) -> Result<(), Fail> {
     for (part, before, middle, behind, count, is_read, left) in &NESTED {
         let text = around(rt.alloc(), before, middle, behind, *count)?;
         let (words, rest) = read(rt.alloc(), *part, text.as_str())?;
-        assert_eq!(rt;
-            words.as_str() != "stops",
-            *is_read,
-            "{count} times {before}"
-        );
-        assert_eq!(rt; rest, *left, "{count} times {before}");
+        equal(&rt, &(words.as_str() != "stops"), is_read, before);
+        equal(&rt, &rest, left, before);
     }
     Ok(())
 }
@@ -275,13 +274,19 @@ static LITERALS: [(&str, LiteralForm); 5] = [
     ("false", LiteralForm::Truth),
 ];
 
+/// The form of the literal that a text is.
+fn form_of(alloc: Global, text: &str) -> Result<LiteralForm, Fail> {
+    let tokens = lexemes(alloc, text)?;
+    match expression(alloc, tokens.as_slice())? {
+        (Expr::Literal(literal), _) => Ok(literal.form),
+        _ => Err(Fail::from("no literal")),
+    }
+}
+
 #[test]
 fn literals(rt: HostRuntime) -> Result<(), Fail> {
     for (text, form) in &LITERALS {
-        let tokens = lexemes(rt.alloc(), text)?;
-        let (value, _) = expression(rt.alloc(), tokens.as_slice())?;
-        let is_read = matches!(&value, Expr::Literal(literal) if literal.form == *form);
-        assert!(rt; is_read, "{text}");
+        equal(&rt, &form_of(rt.alloc(), text)?, form, text);
     }
     Ok(())
 }

@@ -11,7 +11,7 @@ use std::alloc::Global;
 use std::test::Fail;
 
 /// What a reader reads.
-#[derive(Clone, Copy, Debug)]
+#[derive(Clone, Copy)]
 pub enum Part {
     /// Names with commas between them.
     Listed,
@@ -55,19 +55,32 @@ pub fn read(alloc: Global, part: Part, text: &str) -> Result<(String, usize), Fa
         Part::Listed => told(alloc, names(alloc, tokens)),
         Part::Path => told(alloc, separated(&NameReader, Kind::Point, alloc, tokens)),
         Part::Several => told(alloc, several(&NameReader, alloc, &NAMES, tokens)),
+        Part::Expression => told(alloc, expression(alloc, tokens)),
+        Part::Statements => told(alloc, statements(alloc, tokens)),
+        _ => read_section(alloc, part, tokens),
+    }
+}
+
+fn read_section(alloc: Global, part: Part, tokens: &[Lexeme]) -> Result<(String, usize), Fail> {
+    match part {
         Part::Events => told(alloc, events(alloc, tokens)),
         Part::Data => told(alloc, data_variables(alloc, tokens)),
         Part::Internal => told(alloc, internal_variables(alloc, tokens)),
+        Part::States => told(alloc, states(alloc, tokens)),
+        Part::Device => told(alloc, device(alloc, tokens)),
+        Part::Mappings => told(alloc, mappings(alloc, tokens)),
+        Part::Service => Ok((String::new(alloc), service(tokens)?.len())),
+        _ => read_of_network(alloc, part, tokens),
+    }
+}
+
+fn read_of_network(alloc: Global, part: Part, tokens: &[Lexeme]) -> Result<(String, usize), Fail> {
+    match part {
         Part::Plugs => told(alloc, plugs(alloc, tokens)),
         Part::Sockets => told(alloc, sockets(alloc, tokens)),
         Part::Blocks => told(alloc, blocks(alloc, tokens)),
         Part::Subapplications => told(alloc, subapplications(alloc, tokens)),
         Part::Connections => told(alloc, connections(alloc, tokens)),
-        Part::States => told(alloc, states(alloc, tokens)),
-        Part::Device => told(alloc, device(alloc, tokens)),
-        Part::Mappings => told(alloc, mappings(alloc, tokens)),
-        Part::Service => Ok((String::new(alloc), service(tokens)?.len())),
-        Part::Expression => told(alloc, expression(alloc, tokens)),
-        Part::Statements => told(alloc, statements(alloc, tokens)),
+        _ => Err(Fail::from("no part of a network")),
     }
 }

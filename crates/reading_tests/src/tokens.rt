@@ -1,7 +1,8 @@
 //! Names and tokens.
-use crate::told::words;
+use crate::told::{equal, same, words};
 use fb_sections::lexemes::{Kind, lexemes};
-use fb_text::{Name, NameFault, Span, TypeClass, same_name, sorted_names, tokens, type_class};
+use fb_text::{Name, NameFault, TypeClass, same_name, sorted_names, tokens, type_class};
+use std::alloc::Global;
 use std::test::Fail;
 
 // Texts with their tokens.
@@ -36,15 +37,22 @@ static TOKENS: [(&str, &str); 19] = [
     ("'\"a\"", "Other 0..1; String 1..4"),
 ];
 
+/// The texts of the tokens of a text, each with a blank behind it.
+fn parts(alloc: Global, text: &str) -> Result<String, Fail> {
+    let mut found = String::new(alloc);
+    for token in &tokens(alloc, text)? {
+        write!(found, "{} ", token.text(text))?;
+    }
+    Ok(found)
+}
+
 #[test]
 fn tokens_of_texts(rt: HostRuntime) -> Result<(), Fail> {
     for (text, expected) in &TOKENS {
         let found = tokens(rt.alloc(), text);
-        assert_eq!(rt; words(rt.alloc(), &found)?.as_str(), *expected, "{text}");
+        same(&rt, words(rt.alloc(), &found)?.as_str(), expected, text);
     }
-    let found = tokens(rt.alloc(), "A:=1")?;
-    assert_eq!(rt; found.len(), 3);
-    assert_eq!(rt; found[1].text("A:=1"), ":=");
+    same(&rt, parts(rt.alloc(), "A:=1")?.as_str(), "A := 1 ", "A:=1");
     Ok(())
 }
 
@@ -93,27 +101,34 @@ static KINDS: [(&str, Kind); 30] = [
     ("'", Kind::Other),
 ];
 
+/// The kind of the one token of a text.
+fn kind_of(alloc: Global, text: &str) -> Result<Kind, Fail> {
+    match lexemes(alloc, text)?.as_slice() {
+        [token] => Ok(token.kind),
+        _ => Err(Fail::from("not one token")),
+    }
+}
+
 #[test]
 fn kinds_of_tokens(rt: HostRuntime) -> Result<(), Fail> {
     for (text, expected) in &KINDS {
-        let found = lexemes(rt.alloc(), text)?;
-        assert_eq!(rt; found.len(), 1, "{text}");
-        assert_eq!(rt; found[0].kind, *expected, "{text}");
+        equal(&rt, &kind_of(rt.alloc(), text)?, expected, text);
     }
     Ok(())
 }
 
 #[test]
 fn names_and_places(rt: HostRuntime) -> Result<(), Fail> {
-    let found = lexemes(rt.alloc(), "a_1 := 5;")?;
+    let text = "a_1 := 5;";
     let names = [Kind::NameIn, Kind::Name];
-    assert_eq!(rt; found.len(), 4);
-    assert!(rt; found[0].kind.is_among(names.as_slice()));
-    assert!(rt; !found[1].kind.is_among(names.as_slice()));
-    let used = found[0].name_use();
-    assert_eq!(rt; used.name.as_str(), "A_1");
-    assert_eq!(rt; used.span, Span { start: 0, end: 3 });
-    assert_eq!(rt; found[2].name.as_str(), "_");
+    let found = lexemes(rt.alloc(), text)?;
+    let [name, symbol, number, _] = found.as_slice() else {
+        return Err(Fail::from("not four tokens"));
+    };
+    assert!(rt; name.kind.is_among(&names) && !symbol.kind.is_among(&names));
+    let used = words(rt.alloc(), &name.name_use())?;
+    same(&rt, used.as_str(), "A_1 0..3", text);
+    same(&rt, number.name.as_str(), "_", text);
     Ok(())
 }
 
@@ -124,22 +139,34 @@ static NO_NAMES: [(&str, NameFault); 3] = [
     (TOO_LONG, NameFault::TooLong),
 ];
 
+/// Whether two texts are the same name.
+fn are_same(text: &str, other: &str) -> Result<bool, NameFault> {
+    Ok(same_name(&Name::read(text)?, &Name::read(other)?))
+}
+
+/// The names in a text in order, each with a blank behind it.
+fn sorted(alloc: Global, text: &str) -> Result<String, Fail> {
+    let mut names = Vec::new(alloc);
+    for word in text.split_whitespace() {
+        names.push(Name::read(word)?)?;
+    }
+    let mut found = String::new(alloc);
+    for name in &sorted_names(alloc, names.as_slice())? {
+        write!(found, "{name} ")?;
+    }
+    Ok(found)
+}
+
 #[test]
 fn names(rt: HostRuntime) -> Result<(), Fail> {
-    assert_eq!(rt; Name::read("ab_1")?.as_str(), "AB_1");
-    assert_eq!(rt; TOO_LONG.len(), 65);
+    same(&rt, Name::read("ab_1")?.as_str(), "AB_1", "ab_1");
+    equal(&rt, &TOO_LONG.len(), &65, TOO_LONG);
     for (text, fault) in &NO_NAMES {
-        assert_eq!(rt; Name::read(text).err(), Some(*fault), "{text}");
+        equal(&rt, &Name::read(text).err(), &Some(*fault), text);
     }
-    let [b, a_, b_again] = [Name::read("b")?, Name::read("a_")?, Name::read("B")?];
-    assert!(rt; same_name(&b, &b_again));
-    assert!(rt; !same_name(&b, &a_));
-    let names = [b, a_, b_again, Name::read("ab")?, Name::read("a")?];
-    let mut spelled = String::new(rt.alloc());
-    for name in &sorted_names(rt.alloc(), names.as_slice())? {
-        write!(spelled, "{name} ")?;
-    }
-    assert_eq!(rt; spelled.as_str(), "A AB A_ B ");
+    assert!(rt; are_same("b", "B")? && !are_same("b", "a_")?);
+    let text = "b a_ B ab a";
+    same(&rt, sorted(rt.alloc(), text)?.as_str(), "A AB A_ B ", text);
     Ok(())
 }
 
@@ -158,6 +185,6 @@ static CLASSES: [(&str, TypeClass); 9] = [
 #[test]
 fn classes_of_types(rt: HostRuntime) {
     for (word, class) in &CLASSES {
-        assert_eq!(rt; type_class(word.as_bytes()), *class, "{word}");
+        equal(&rt, &type_class(word.as_bytes()), class, word);
     }
 }

@@ -7,6 +7,18 @@ use fb_parse::tree::{
 use fb_parse::{Body, Source};
 use fb_text::{NameUse, Span, Token, TokenFault};
 use std::alloc::{AllocError, Global};
+use std::fmt::Debug;
+use std::process::Abort;
+
+/// Compares what is told of a text with what is expected.
+pub fn same(rt: &impl Abort, told: &str, expected: &str, text: &str) {
+    assert_eq!(rt; told, expected, "{text}");
+}
+
+/// Compares what is found in a text with what is expected.
+pub fn equal<T: PartialEq + Debug>(rt: &impl Abort, found: &T, expected: &T, text: &str) {
+    assert_eq!(rt; found, expected, "{text}");
+}
 
 /// What can be told in words.
 pub trait Tell {
@@ -348,18 +360,16 @@ fn tell_expression(expression: &Expr, told: &mut String) -> Result<(), AllocErro
             tell_reference(reference, subscripts.as_slice(), told)
         }
         Expr::Unary(operator, operand) => {
-            write!(told, "{:?}", operator.operator)?;
-            operator.span.tell(told)?;
-            told.push_str(" ")?;
+            let Span { start, end } = operator.span;
+            write!(told, "{:?} {start}..{end} ", operator.operator)?;
             tell_expression(operand, told)
         }
         Expr::Row(first, operands) => {
             told.push_str("{")?;
             tell_expression(first, told)?;
             for (operator, operand) in operands {
-                write!(told, " {:?}", operator.operator)?;
-                operator.span.tell(told)?;
-                told.push_str(" ")?;
+                let Span { start, end } = operator.span;
+                write!(told, " {:?} {start}..{end} ", operator.operator)?;
                 tell_expression(operand, told)?;
             }
             told.push_str("}")
@@ -396,50 +406,48 @@ fn tell_statement(statement: &Stmt, told: &mut String) -> Result<(), AllocError>
         Stmt::Empty => told.push_str("EMPTY"),
         Stmt::Assign(variable, subscripts, _, value) => {
             tell_reference(variable, subscripts.as_slice(), told)?;
-            told.push_str(" := ")?;
-            tell_expression(value, told)
+            tell_value(" := ", value, told)
         }
         Stmt::Exit => told.push_str("EXIT"),
         Stmt::Return => told.push_str("RETURN"),
         Stmt::If(arms, otherwise) => {
             for (condition, body) in arms {
-                told.push_str("IF ")?;
-                tell_expression(condition, told)?;
-                tell_body(body.as_slice(), told)?;
+                tell_value("IF ", condition, told)?;
+                tell_body("", body.as_slice(), told)?;
                 told.push_str(" ")?;
             }
-            told.push_str("ELSE")?;
-            tell_body(otherwise.as_slice(), told)
+            tell_body("ELSE", otherwise.as_slice(), told)
         }
         Stmt::Case(selector, cases, otherwise) => {
-            told.push_str("CASE ")?;
-            tell_expression(selector, told)?;
-            tell_body(cases.as_slice(), told)?;
-            told.push_str(" ELSE")?;
-            tell_body(otherwise.as_slice(), told)
+            tell_value("CASE ", selector, told)?;
+            tell_body("", cases.as_slice(), told)?;
+            tell_body(" ELSE", otherwise.as_slice(), told)
         }
         Stmt::For(counting, body) => {
             tell_counting(counting, told)?;
-            tell_body(body.as_slice(), told)
+            tell_body("", body.as_slice(), told)
         }
         Stmt::While(condition, body) => {
-            told.push_str("WHILE ")?;
-            tell_expression(condition, told)?;
-            tell_body(body.as_slice(), told)
+            tell_value("WHILE ", condition, told)?;
+            tell_body("", body.as_slice(), told)
         }
         Stmt::Repeat(body, condition) => {
-            told.push_str("REPEAT")?;
-            tell_body(body.as_slice(), told)?;
-            told.push_str(" UNTIL ")?;
-            tell_expression(condition, told)
+            tell_body("REPEAT", body.as_slice(), told)?;
+            tell_value(" UNTIL ", condition, told)
         }
     }
 }
 
-/// Statements in parentheses.
+/// An expression behind a mark.
+fn tell_value(mark: &str, value: &Expr, told: &mut String) -> Result<(), AllocError> {
+    told.push_str(mark)?;
+    tell_expression(value, told)
+}
+
+/// Statements in parentheses behind a mark.
 #[cycle(tell_statement)]
-fn tell_body(body: &[Stmt], told: &mut String) -> Result<(), AllocError> {
-    told.push_str(" (")?;
+fn tell_body(mark: &str, body: &[Stmt], told: &mut String) -> Result<(), AllocError> {
+    write!(told, "{mark} (")?;
     for (i, statement) in body.iter().enumerate() {
         told.push_str(if i == 0 { "" } else { "; " })?;
         tell_statement(statement, told)?;
@@ -450,11 +458,9 @@ fn tell_body(body: &[Stmt], told: &mut String) -> Result<(), AllocError> {
 fn tell_counting(counting: &Counting, told: &mut String) -> Result<(), AllocError> {
     write!(told, "FOR {} := ", counting.variable.name)?;
     tell_expression(&counting.from, told)?;
-    told.push_str(" TO ")?;
-    tell_expression(&counting.to, told)?;
-    if let Some(by) = &counting.by {
-        told.push_str(" BY ")?;
-        tell_expression(by, told)?;
+    tell_value(" TO ", &counting.to, told)?;
+    match &counting.by {
+        Some(by) => tell_value(" BY ", by, told),
+        None => Ok(()),
     }
-    Ok(())
 }

@@ -1,8 +1,9 @@
 //! The texts of units that are whole.
-use crate::told::words;
+use crate::told::{same, words};
 use fb_parse::tree::mentions;
 use fb_parse::{Body, Source};
 use fb_text::Name;
+use std::alloc::Global;
 use std::test::Fail;
 
 // Units with their texts, and what these declare.
@@ -54,12 +55,9 @@ static UNITS: [(&str, &str, &str); 8] = [
 fn texts_of_units(rt: HostRuntime) -> Result<(), Fail> {
     for (unit, text, expected) in &UNITS {
         let source = Source::read(rt.alloc(), Name::read(unit)?, text)?;
-        assert_eq!(rt; source.text(), *text);
-        assert_eq!(rt;
-            words(rt.alloc(), source.as_ref())?.as_str(),
-            *expected,
-            "{text}"
-        );
+        same(&rt, source.text(), text, unit);
+        let found = words(rt.alloc(), source.as_ref())?;
+        same(&rt, found.as_str(), expected, text);
     }
     Ok(())
 }
@@ -80,17 +78,22 @@ static MENTIONS: [(&str, &str); 3] = [
     ),
 ];
 
+/// The types that a text mentions, each with a blank behind it.
+fn mentioned(alloc: Global, text: &str) -> Result<String, Fail> {
+    let source = Source::read(alloc, Name::underscore(), text)?;
+    let mut found = String::new(alloc);
+    if let Body::Tree(declared) = source.body() {
+        for name in &mentions(alloc, declared)? {
+            write!(found, "{name} ")?;
+        }
+    }
+    Ok(found)
+}
+
 #[test]
 fn mentioned_types(rt: HostRuntime) -> Result<(), Fail> {
     for (text, expected) in &MENTIONS {
-        let source = Source::read(rt.alloc(), Name::underscore(), text)?;
-        let mut found = String::new(rt.alloc());
-        if let Body::Tree(declared) = source.body() {
-            for name in &mentions(rt.alloc(), declared)? {
-                write!(found, "{name} ")?;
-            }
-        }
-        assert_eq!(rt; found.as_str(), *expected, "{text}");
+        same(&rt, mentioned(rt.alloc(), text)?.as_str(), expected, text);
     }
     Ok(())
 }

@@ -1,41 +1,79 @@
 //! Seats and receipts with which a workbench does not close.
 use crate::play::{Played, counts_in, played_locked, played_shared};
 use crate::setup::{faults_of, new_locked, new_shared, pair};
-use fb_shared::{CloseFault, NotClosed, Receipt};
+use fb_shared::{CloseFault, NotClosed, Receipt, Seat, Shared};
 use std::alloc::Global;
 use std::test::Fail;
 
-#[test]
-fn seats_that_do_not_fit(rt: HostRuntime) -> Result<(), Fail> {
-    let alloc: Global = rt.alloc();
+// what refuses the first two attempts to close, and the counts of the third
+type Attempts = (CloseFault, CloseFault, Option<(usize, u64, u64)>);
+
+// closes with the second seat missing, which is refused
+fn with_one_seat(
+    alloc: Global,
+    owner: Shared,
+    first: Seat,
+    receipts: &[Receipt],
+) -> Option<NotClosed<Shared>> {
+    let mut seats = Vec::new(alloc);
+    seats.push(first).ok()?;
+    owner.close(alloc, seats, receipts).err()
+}
+
+// closes with this seat as the second, which is refused
+fn with_stranger(
+    alloc: Global,
+    attempt: NotClosed<Shared>,
+    stranger: Seat,
+    receipts: &[Receipt],
+) -> Option<NotClosed<Shared>> {
+    let NotClosed { owner, seats, .. } = attempt;
+    let mut seats = seats;
+    seats.push(stranger).ok()?;
+    owner.close(alloc, seats, receipts).err()
+}
+
+// closes with this seat in the place of the last one
+fn with_second(
+    alloc: Global,
+    attempt: NotClosed<Shared>,
+    second: Seat,
+    receipts: &[Receipt],
+) -> Option<(usize, u64, u64)> {
+    let NotClosed { owner, seats, .. } = attempt;
+    let mut seats = seats;
+    seats.pop();
+    seats.push(second).ok()?;
+    counts_in(owner.close(alloc, seats, receipts))
+}
+
+fn strange_seat(alloc: Global) -> Option<Seat> {
+    let (_fresh, _first, stranger) = new_shared(alloc, 1000)?;
+    Some(stranger)
+}
+
+fn close_with_seats(alloc: Global, played: Played<Shared>) -> Option<Attempts> {
     let Played {
         owner,
         first,
         second,
         receipts,
-    } = played_shared(&rt, alloc, 1000).ok_or("a conversation")?;
-    let (_fresh, _first, stranger) = new_shared(alloc, 1000).ok_or("a workbench")?;
-    let mut seats = Vec::new(alloc);
-    seats.push(first)?;
-    let missing = owner.close(alloc, seats, &receipts).err();
-    let NotClosed {
-        fault,
-        owner,
-        mut seats,
-    } = missing.ok_or("closed with a seat missing")?;
-    assert_eq!(rt; fault, CloseFault::SeatMissing(2));
-    seats.push(stranger)?;
-    let strange = owner.close(alloc, seats, &receipts).err();
-    let NotClosed {
-        fault,
-        owner,
-        mut seats,
-    } = strange.ok_or("closed with a strange seat")?;
-    assert_eq!(rt; fault, CloseFault::SeatDiffers(2));
-    seats.pop();
-    seats.push(second)?;
-    let closed = owner.close(alloc, seats, &receipts);
-    assert_eq!(rt; counts_in(closed), Some((6, 1, 5)));
+    } = played;
+    let missing = with_one_seat(alloc, owner, first, &receipts)?;
+    let is_missing = missing.fault;
+    let strange = with_stranger(alloc, missing, strange_seat(alloc)?, &receipts)?;
+    let is_strange = strange.fault;
+    let counts = with_second(alloc, strange, second, &receipts);
+    Some((is_missing, is_strange, counts))
+}
+
+#[test]
+fn seats_that_do_not_fit(rt: HostRuntime) -> Result<(), Fail> {
+    let alloc: Global = rt.alloc();
+    let played = played_shared(&rt, alloc, 1000).ok_or("a conversation")?;
+    let attempts = close_with_seats(alloc, played);
+    let faults = (CloseFault::SeatMissing(2), CloseFault::SeatDiffers(2));
+    assert_eq!(rt; attempts, Some((faults.0, faults.1, Some((6, 1, 5)))));
     Ok(())
 }
 
@@ -52,35 +90,45 @@ fn strange_receipt(alloc: Global) -> Option<Receipt> {
     locked.ask(&mut first, faults_of("A")?).ok()
 }
 
-#[test]
-fn receipts_that_do_not_fit(rt: HostRuntime) -> Result<(), Fail> {
-    let alloc: Global = rt.alloc();
+// closes with this receipt behind the others, which is refused
+fn with_receipt(
+    alloc: Global,
+    owner: Shared,
+    seats: Vec<Seat>,
+    receipts: &mut Vec<Receipt>,
+    receipt: Receipt,
+) -> Option<NotClosed<Shared>> {
+    receipts.push(receipt).ok()?;
+    let attempt = owner.close(alloc, seats, receipts).err();
+    receipts.pop();
+    attempt
+}
+
+fn close_with_receipts(alloc: Global, played: Played<Shared>) -> Option<Attempts> {
     let Played {
         owner,
         first,
         second,
-        mut receipts,
-    } = played_shared(&rt, alloc, 1000).ok_or("a conversation")?;
-    let seats = pair(alloc, first, second).ok_or("seats")?;
-    receipts.push(first_of_another(alloc).ok_or("a receipt")?)?;
-    let twice = owner.close(alloc, seats, &receipts).err();
-    let NotClosed {
-        fault,
-        owner,
-        seats,
-    } = twice.ok_or("closed with a receipt twice")?;
-    assert_eq!(rt; fault, CloseFault::ReceiptTwice(1));
-    receipts.pop();
-    receipts.push(strange_receipt(alloc).ok_or("a receipt")?)?;
-    let strange = owner.close(alloc, seats, &receipts).err();
-    let NotClosed {
-        fault,
-        owner,
-        seats,
-    } = strange.ok_or("closed with a strange receipt")?;
-    assert_eq!(rt; fault, CloseFault::ReceiptDiffers(1));
-    receipts.pop();
-    let closed = owner.close(alloc, seats, &receipts);
-    assert_eq!(rt; counts_in(closed), Some((6, 1, 5)));
+        receipts,
+    } = played;
+    let mut receipts = receipts;
+    let seats = pair(alloc, first, second)?;
+    let again = first_of_another(alloc)?;
+    let twice = with_receipt(alloc, owner, seats, &mut receipts, again)?;
+    let is_twice = twice.fault;
+    let strange = strange_receipt(alloc)?;
+    let strange = with_receipt(alloc, twice.owner, twice.seats, &mut receipts, strange)?;
+    let is_strange = strange.fault;
+    let counts = counts_in(strange.owner.close(alloc, strange.seats, &receipts));
+    Some((is_twice, is_strange, counts))
+}
+
+#[test]
+fn receipts_that_do_not_fit(rt: HostRuntime) -> Result<(), Fail> {
+    let alloc: Global = rt.alloc();
+    let played = played_shared(&rt, alloc, 1000).ok_or("a conversation")?;
+    let attempts = close_with_receipts(alloc, played);
+    let faults = (CloseFault::ReceiptTwice(1), CloseFault::ReceiptDiffers(1));
+    assert_eq!(rt; attempts, Some((faults.0, faults.1, Some((6, 1, 5)))));
     Ok(())
 }

@@ -63,6 +63,30 @@ fn work_shared<R: Wait>(
     keep(receipts, shared.deliver(rt, second, &finished))
 }
 
+// asks for the faults of A
+fn ask_shared<R: Wait>(
+    rt: &R,
+    shared: &Shared,
+    second: &mut Seat,
+    receipts: &mut Vec<Receipt>,
+) -> Option<()> {
+    keep(receipts, shared.ask(rt, second, faults_of("A")?))
+}
+
+// the calls of the second seat
+fn go_on_shared<R: Wait>(
+    rt: &R,
+    alloc: Global,
+    shared: &Shared,
+    second: &mut Seat,
+    receipts: &mut Vec<Receipt>,
+) -> Option<()> {
+    ask_shared(rt, shared, second, receipts)?;
+    work_shared(rt, alloc, shared, second, receipts)?;
+    ask_shared(rt, shared, second, receipts)?;
+    keep(receipts, shared.give_back(rt, second, faults_of("A")?))
+}
+
 // the receipts of the conversation
 fn play_shared<R: Wait>(
     rt: &R,
@@ -72,10 +96,7 @@ fn play_shared<R: Wait>(
     second: &mut Seat,
 ) -> Option<Vec<Receipt>> {
     let mut receipts = begin_shared(rt, alloc, shared, first, second)?;
-    keep(&mut receipts, shared.ask(rt, second, faults_of("A")?))?;
-    work_shared(rt, alloc, shared, second, &mut receipts)?;
-    keep(&mut receipts, shared.ask(rt, second, faults_of("A")?))?;
-    keep(&mut receipts, shared.give_back(rt, second, faults_of("A")?))?;
+    go_on_shared(rt, alloc, shared, second, &mut receipts)?;
     Some(receipts)
 }
 
@@ -122,6 +143,24 @@ fn work_locked(
     keep(receipts, locked.deliver(second, &finished))
 }
 
+// asks for the faults of A
+fn ask_locked(locked: &mut Locked, second: &mut Seat, receipts: &mut Vec<Receipt>) -> Option<()> {
+    keep(receipts, locked.ask(second, faults_of("A")?))
+}
+
+// the calls of the second seat
+fn go_on_locked(
+    alloc: Global,
+    locked: &mut Locked,
+    second: &mut Seat,
+    receipts: &mut Vec<Receipt>,
+) -> Option<()> {
+    ask_locked(locked, second, receipts)?;
+    work_locked(alloc, locked, second, receipts)?;
+    ask_locked(locked, second, receipts)?;
+    keep(receipts, locked.give_back(second, faults_of("A")?))
+}
+
 // the receipts of the same conversation with no lock
 fn play_locked(
     alloc: Global,
@@ -130,10 +169,7 @@ fn play_locked(
     second: &mut Seat,
 ) -> Option<Vec<Receipt>> {
     let mut receipts = begin_locked(alloc, locked, first, second)?;
-    keep(&mut receipts, locked.ask(second, faults_of("A")?))?;
-    work_locked(alloc, locked, second, &mut receipts)?;
-    keep(&mut receipts, locked.ask(second, faults_of("A")?))?;
-    keep(&mut receipts, locked.give_back(second, faults_of("A")?))?;
+    go_on_locked(alloc, locked, second, &mut receipts)?;
     Some(receipts)
 }
 

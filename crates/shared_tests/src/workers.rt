@@ -1,5 +1,5 @@
 //! How workers end, each by itself.
-use crate::play::{is_without_faults, played_shared};
+use crate::play::{Played, is_without_faults, played_shared};
 use crate::setup::{faults_of, new_shared, puts};
 use fb_shared::{Plain, Seat, Shared, WorkEnd, work_on};
 use std::alloc::Global;
@@ -19,29 +19,50 @@ fn work<R: Wait>(
     (end, receipts.len())
 }
 
+// a workbench with changes, and the seats of its two callers
+fn committed<R: Wait>(rt: &R, alloc: Global, units: &[&str]) -> Option<(Shared, Seat, Seat)> {
+    let changes = puts(alloc, units)?;
+    let (shared, mut first, second) = new_shared(alloc, 1000)?;
+    shared.commit(rt, &mut first, &changes).ok()?;
+    Some((shared, first, second))
+}
+
+// whether A is known to have no faults
+fn is_known<R: Wait>(rt: &R, shared: &Shared, seat: &mut Seat) -> Option<bool> {
+    let asked = shared.ask(rt, seat, faults_of("A")?).ok()?;
+    Some(is_without_faults(asked.reply()))
+}
+
 // Two jobs in as many turns, and then the stop.
 #[test]
 fn jobs_in_turns(rt: HostRuntime) -> Result<(), Fail> {
     let alloc: Global = rt.alloc();
-    let key = faults_of("A").ok_or("a key")?;
-    let changes = puts(alloc, &["A", "B"]).ok_or("changes")?;
-    let (shared, mut first, mut second) = new_shared(alloc, 1000).ok_or("a workbench")?;
-    shared
-        .commit(&rt, &mut first, &changes)
-        .ok()
-        .ok_or("a commit")?;
-    assert_eq!(rt;
-        work(&rt, alloc, &shared, &mut second, 2),
-        (WorkEnd::TurnsOver, 4)
-    );
-    let asked = shared.ask(&rt, &mut first, key).ok().ok_or("an answer")?;
-    assert!(rt; is_without_faults(asked.reply()));
+    let committed = committed(&rt, alloc, &["A", "B"]);
+    let (shared, mut first, mut second) = committed.ok_or("a workbench")?;
+    let worked = work(&rt, alloc, &shared, &mut second, 2);
+    assert_eq!(rt; worked, (WorkEnd::TurnsOver, 4));
+    assert_eq!(rt; is_known(&rt, &shared, &mut first), Some(true));
     shared.stop(&rt);
-    assert_eq!(rt;
-        work(&rt, alloc, &shared, &mut second, 2),
-        (WorkEnd::Stopped, 0)
-    );
+    let stopped = work(&rt, alloc, &shared, &mut second, 2);
+    assert_eq!(rt; stopped, (WorkEnd::Stopped, 0));
     Ok(())
+}
+
+// how a worker of a new workbench ends with a seat of the conversation, and with one of its own that was shown what it has not
+fn ends_elsewhere<R: Wait>(
+    rt: &R,
+    alloc: Global,
+    played: &mut Played<Shared>,
+) -> Option<(WorkEnd, WorkEnd)> {
+    let (fresh, mut stranger, _other) = new_shared(alloc, 6)?;
+    let (differs, 0) = work(rt, alloc, &fresh, &mut played.second, 1) else {
+        return None;
+    };
+    stranger.show(played.receipts.get(4)?);
+    let (behind, 0) = work(rt, alloc, &fresh, &mut stranger, 1) else {
+        return None;
+    };
+    Some((differs, behind))
 }
 
 // Workers that end before they take.
@@ -53,11 +74,9 @@ fn workers_that_take_nothing(rt: HostRuntime) -> Result<(), Fail> {
     assert_eq!(rt; over, (WorkEnd::TurnsOver, 0));
     let full = work(&rt, alloc, &played.owner, &mut played.first, 1);
     assert_eq!(rt; full, (WorkEnd::HistoryFull, 0));
-    let (fresh, mut stranger, _other) = new_shared(alloc, 6).ok_or("a workbench")?;
-    let differs = work(&rt, alloc, &fresh, &mut played.second, 1);
-    assert_eq!(rt; differs, (WorkEnd::SeatDiffers { turns: 5, book: 0 }, 0));
-    stranger.show(played.receipts.get(4).ok_or("a receipt")?);
-    let behind = work(&rt, alloc, &fresh, &mut stranger, 1);
-    assert_eq!(rt; behind, (WorkEnd::Behind { seen: 5, len: 0 }, 0));
+    let differs = WorkEnd::SeatDiffers { turns: 5, book: 0 };
+    let behind = WorkEnd::Behind { seen: 5, len: 0 };
+    let ends = ends_elsewhere(&rt, alloc, &mut played);
+    assert_eq!(rt; ends, Some((differs, behind)));
     Ok(())
 }
