@@ -1,5 +1,5 @@
 //! What a workbench shows after the calls of its callers: its records, keys, revisions and what is known of a key.
-use crate::talk::{new_bench, talk};
+use crate::talk::{all_right, new_bench, talk};
 use fb_text::Name;
 use fb_wire::bench::jobs::{Key, Kind};
 use fb_wire::bench::{Asked, Bench, Call, Limits, Reply, Shown};
@@ -102,6 +102,17 @@ fn first_wrong_step(
         }
     }
     Ok(None)
+}
+
+// The same with a new workbench of these limits.
+fn first_wrong_step_within(
+    alloc: Global,
+    units: u64,
+    history: u64,
+    steps: &[Step<'_>],
+) -> Result<Option<usize>, Fail> {
+    let mut bench = new_bench(alloc, units, history)?;
+    first_wrong_step(alloc, &mut bench, steps)
 }
 
 // A commit on an old base is refused.
@@ -430,9 +441,8 @@ const TALKS: &[(&str, u64, u64, &[Step<'static>])] = &[
 #[test]
 fn talks(rt: HostRuntime) -> Result<(), Fail> {
     for (about, units, history, steps) in TALKS {
-        let mut bench = new_bench(rt.alloc(), *units, *history)?;
-        let wrong = first_wrong_step(rt.alloc(), &mut bench, steps)?;
-        assert_eq!(rt; wrong, None, "{about}");
+        let wrong = first_wrong_step_within(rt.alloc(), *units, *history, steps)?;
+        all_right(&rt, wrong, about);
     }
     Ok(())
 }

@@ -77,26 +77,22 @@ fn is_no_key(bench: &Bench, key: Key) -> bool {
 
 // Whether a job and its result are for the key and have read these names at these revisions, with a source for each
 // revision but 0.
-fn have_read(
-    job: &Job,
-    finished: &Finished,
-    key: Key,
-    wanted: &[(&str, u64)],
-) -> Result<bool, Fail> {
+fn have_read(job: &Job, finished: &Finished, key: Key, wanted: &[(&str, u64)]) -> bool {
     for reads in [job.reads(), finished.reads()] {
-        if reads.len() != wanted.len() {
-            return Ok(false);
-        }
-        for place in 0..wanted.len() {
-            let (name, revision) = wanted[place];
-            let read = &reads[place];
-            let is_there = read.source.is_some() == (revision > 0);
-            if read.name != Name::read(name)? || read.revision != revision || !is_there {
-                return Ok(false);
-            }
+        let are_same = reads.iter().zip(wanted).all(|(read, (name, revision))| {
+            let is_there = read.source.is_some() == (*revision > 0);
+            is_there && read.name.as_str() == *name && read.revision == *revision
+        });
+        if !are_same || reads.len() != wanted.len() {
+            return false;
         }
     }
-    Ok(job.key() == key && finished.key() == key)
+    job.key() == key && finished.key() == key
+}
+
+// Whether a result is taken in.
+fn is_accepted(bench: &mut Bench, finished: &Finished) -> Result<bool, Fail> {
+    Ok(bench.deliver(1, finished)? == Delivered::Accepted)
 }
 
 // A commit, a key, what a job for it reads, and what is said of it then.
@@ -142,21 +138,62 @@ const JOBS: &[(&str, Kind, &str, &[(&str, u64)], &str)] = &[
     ),
 ];
 
+// Whether a job has read these names, and its result is taken in.
+fn is_run(
+    alloc: Global,
+    bench: &mut Bench,
+    job: &Job,
+    key: Key,
+    reads: &[(&str, u64)],
+) -> Result<bool, Fail> {
+    let finished = job.run(alloc)?;
+    if !have_read(job, &finished, key, reads) {
+        return Ok(false);
+    }
+    is_accepted(bench, &finished)
+}
+
+// Whether a key is pending, and there is such a job for it.
+fn is_worked(
+    alloc: Global,
+    bench: &mut Bench,
+    key: Key,
+    reads: &[(&str, u64)],
+) -> Result<bool, Fail> {
+    let was_pending = is_pending(bench, key);
+    let job = job_for(bench, key)?;
+    Ok(is_run(alloc, bench, &job, key, reads)? && was_pending)
+}
+
+// Whether the key of a row is worked, and what is said then.
+fn goes(
+    alloc: Global,
+    bench: &mut Bench,
+    key: Key,
+    reads: &[(&str, u64)],
+    after: &str,
+) -> Result<bool, Fail> {
+    Ok(is_worked(alloc, bench, key, reads)? && talk(alloc, bench, 1, after)?.is_none())
+}
+
+// The same on a new workbench.
+fn goes_after(
+    alloc: Global,
+    before: &str,
+    key: Key,
+    reads: &[(&str, u64)],
+    after: &str,
+) -> Result<bool, Fail> {
+    let mut bench = bench_after(alloc, before)?;
+    goes(alloc, &mut bench, key, reads, after)
+}
+
 #[test]
 fn jobs_of_one_text(rt: HostRuntime) -> Result<(), Fail> {
-    let alloc = rt.alloc();
     for (before, kind, unit, reads, after) in JOBS {
         let key = key_of(*kind, unit)?;
-        let mut bench = bench_after(alloc, before)?;
-        assert!(rt; is_pending(&bench, key), "{unit}");
-        let job = job_for(&mut bench, key)?;
-        let finished = job.run(alloc)?;
-        assert!(rt; have_read(&job, &finished, key, reads)?, "{unit}");
-        assert!(rt;
-            bench.deliver(1, &finished)? == Delivered::Accepted,
-            "{unit}"
-        );
-        assert_eq!(rt; talk(alloc, &mut bench, 1, after)?, None, "{unit}");
+        let goes = goes_after(rt.alloc(), before, key, reads, after)?;
+        assert!(rt; goes, "{unit}");
     }
     Ok(())
 }
@@ -170,14 +207,21 @@ const NO_KEYS: &[(Kind, &str)] = &[
     (Kind::Deploy, "B"),
 ];
 
+// Whether the faults of B are the one key.
+fn has_faults_alone(bench: &Bench) -> Result<bool, Fail> {
+    for (kind, unit) in NO_KEYS {
+        if !is_no_key(bench, key_of(*kind, unit)?) {
+            return Ok(false);
+        }
+    }
+    Ok(is_pending(bench, key_of(Kind::Faults, "B")?))
+}
+
 // An empty text has the key of its faults alone.
 #[test]
 fn keys_of_an_empty_text(rt: HostRuntime) -> Result<(), Fail> {
     let bench = bench_after(rt.alloc(), EMPTY)?;
-    assert!(rt; is_pending(&bench, key_of(Kind::Faults, "B")?));
-    for (kind, unit) in NO_KEYS {
-        assert!(rt; is_no_key(&bench, key_of(*kind, unit)?), "{unit}");
-    }
+    assert!(rt; has_faults_alone(&bench)?);
     Ok(())
 }
 
@@ -198,31 +242,37 @@ const KEYS: &[(Kind, &str, Kind, &str)] = &[
 #[test]
 fn keys_in_order(rt: HostRuntime) -> Result<(), Fail> {
     for (kind, unit, next_kind, next_unit) in KEYS {
-        let first = key_of(*kind, unit)?;
-        let second = key_of(*next_kind, next_unit)?;
-        assert!(rt; is_before(first, second), "{unit} {next_unit}");
+        let is_before = is_before(key_of(*kind, unit)?, key_of(*next_kind, next_unit)?);
+        assert!(rt; is_before, "{unit} {next_unit}");
     }
     Ok(())
 }
 
-// The result of a new workbench for the faults of A, after a conversation.
-fn result_after(alloc: Global, text: &str) -> Result<Finished, Fail> {
-    let mut bench = bench_after(alloc, text)?;
-    let job = job_for(&mut bench, faults_of_a()?)?;
+// The result of a workbench for the faults of A.
+fn result_of(alloc: Global, bench: &mut Bench) -> Result<Finished, Fail> {
+    let job = job_for(bench, faults_of_a()?)?;
     Ok(job.run(alloc)?)
 }
 
-// A result of another workbench, which holds another text at the same revision, is stale.
-#[test]
-fn a_result_of_another_text(rt: HostRuntime) -> Result<(), Fail> {
-    let alloc = rt.alloc();
-    let mut bench = bench_after(alloc, PLAIN)?;
-    let stale = Delivered::Stale(Name::read("A")?);
-    for text in [USER, OTHER] {
-        let strange = result_after(alloc, text)?;
-        assert!(rt; bench.deliver(1, &strange)? == stale);
-    }
-    let text = r#"
+// The result of a new workbench after a conversation.
+fn result_after(alloc: Global, text: &str) -> Result<Finished, Fail> {
+    let mut bench = bench_after(alloc, text)?;
+    result_of(alloc, &mut bench)
+}
+
+// Whether the result for the faults of A after a conversation with another workbench is stale.
+fn is_stale(alloc: Global, bench: &mut Bench, text: &str) -> Result<bool, Fail> {
+    let strange = result_after(alloc, text)?;
+    Ok(bench.deliver(1, &strange)? == Delivered::Stale(Name::read("A")?))
+}
+
+// Whether this caller says a conversation, after which the faults of A are known.
+fn is_known_after(alloc: Global, bench: &mut Bench, caller: u32, text: &str) -> Result<bool, Fail> {
+    let is_said = talk(alloc, bench, caller, text)?.is_none();
+    Ok(is_said && has_value(bench, faults_of_a()?))
+}
+
+const TAKEN_IN: &str = r#"
 > {"op":"take"}
 < {"job":1,"kind":"faults","unit":"A"}
 > {"op":"deliver","job":1}
@@ -232,8 +282,22 @@ fn a_result_of_another_text(rt: HostRuntime) -> Result<(), Fail> {
 > {"op":"ask","kind":"faults","unit":"A"}
 < {"faults":[]}
 "#;
-    assert_eq!(rt; talk(alloc, &mut bench, 1, text)?, None);
-    assert!(rt; has_value(&bench, faults_of_a()?));
+
+// Whether the results of other texts are stale, and that of A's own is taken in.
+fn is_own_taken(alloc: Global, bench: &mut Bench) -> Result<bool, Fail> {
+    let are_stale = is_stale(alloc, bench, USER)? && is_stale(alloc, bench, OTHER)?;
+    Ok(are_stale && is_known_after(alloc, bench, 1, TAKEN_IN)?)
+}
+
+fn is_own_taken_alone(alloc: Global) -> Result<bool, Fail> {
+    let mut bench = bench_after(alloc, PLAIN)?;
+    is_own_taken(alloc, &mut bench)
+}
+
+// A result of another workbench, which holds another text at the same revision, is stale.
+#[test]
+fn a_result_of_another_text(rt: HostRuntime) -> Result<(), Fail> {
+    assert!(rt; is_own_taken_alone(rt.alloc())?);
     Ok(())
 }
 
@@ -305,19 +369,30 @@ fn are_made_as_there(
     are_made(bench, &changes, finished)
 }
 
-#[test]
-fn calls_as_requests(rt: HostRuntime) -> Result<(), Fail> {
-    let alloc = rt.alloc();
-    let other = bench_after(alloc, PLAIN)?;
+// The same with what another workbench has committed and worked out.
+fn are_made_anew(alloc: Global, bench: &mut Bench) -> Result<bool, Fail> {
     let finished = result_after(alloc, PLAIN)?;
-    let mut bench = new_bench(alloc, 4, 100)?;
-    assert!(rt; are_made_as_there(alloc, &mut bench, &other, &finished)?);
-    let text = r#"
+    let other = bench_after(alloc, PLAIN)?;
+    are_made_as_there(alloc, bench, &other, &finished)
+}
+
+const KNOWN: &str = r#"
 > {"op":"ask","kind":"faults","unit":"A"}
 < {"faults":[]}
 "#;
-    assert_eq!(rt; talk(alloc, &mut bench, 2, text)?, None);
-    assert!(rt; has_value(&bench, faults_of_a()?));
+
+fn are_made_and_known(alloc: Global, bench: &mut Bench) -> Result<bool, Fail> {
+    Ok(are_made_anew(alloc, bench)? && is_known_after(alloc, bench, 2, KNOWN)?)
+}
+
+fn are_made_alone(alloc: Global) -> Result<bool, Fail> {
+    let mut bench = new_bench(alloc, 4, 100)?;
+    are_made_and_known(alloc, &mut bench)
+}
+
+#[test]
+fn calls_as_requests(rt: HostRuntime) -> Result<(), Fail> {
+    assert!(rt; are_made_alone(rt.alloc())?);
     Ok(())
 }
 
@@ -344,21 +419,26 @@ fn takes_along(job: &Job, wanted: &[&str]) -> Result<bool, Fail> {
 }
 
 fn net_of(unit: &str) -> Result<Key, Fail> {
-    Ok(Key {
-        kind: Kind::Net,
-        unit: Name::read(unit)?,
-    })
+    key_of(Kind::Net, unit)
 }
 
-#[test]
-fn jobs_take_kept_nets_along(rt: HostRuntime) -> Result<(), Fail> {
-    let alloc = rt.alloc();
-    let mut bench = bench_after(alloc, NEST)?;
-    let job = job_for(&mut bench, net_of("OUTER")?)?;
-    assert!(rt; takes_along(&job, &["INNER", "MID"])?);
+// Whether a job takes these nets along, and its result is taken in.
+fn is_run_with(alloc: Global, bench: &mut Bench, job: &Job, wanted: &[&str]) -> Result<bool, Fail> {
     let finished = job.run(alloc)?;
-    assert!(rt; bench.deliver(1, &finished)? == Delivered::Accepted);
-    let text = r#"
+    Ok(takes_along(job, wanted)? && is_accepted(bench, &finished)?)
+}
+
+fn is_worked_with(
+    alloc: Global,
+    bench: &mut Bench,
+    unit: &str,
+    wanted: &[&str],
+) -> Result<bool, Fail> {
+    let job = job_for(bench, net_of(unit)?)?;
+    is_run_with(alloc, bench, &job, wanted)
+}
+
+const DOUBLED: &str = r#"
 > {"op":"ask","kind":"net","unit":"OUTER"}
 < {"net":{"blocks":[["X.X.X","T"],["Y.X.X","T"]],"borders":[],"links":[]}}
 > {"op":"commit","changes":[{"put":"T","base":1,"text":"FUNCTION_BLOCK T EVENT_INPUT E; END_EVENT END_FUNCTION_BLOCK"}]}
@@ -366,8 +446,27 @@ fn jobs_take_kept_nets_along(rt: HostRuntime) -> Result<(), Fail> {
 > {"op":"work","turns":2}
 < {"accepted":2}
 "#;
-    assert_eq!(rt; talk(alloc, &mut bench, 1, text)?, None);
-    let job = job_for(&mut bench, net_of("INNER")?)?;
-    assert!(rt; takes_along(&job, &[])?);
+
+// Whether the job for the innermost net takes none along.
+fn takes_none(bench: &mut Bench) -> Result<bool, Fail> {
+    let job = job_for(bench, net_of("INNER")?)?;
+    takes_along(&job, &[])
+}
+
+// Whether the outermost net is made of those that are kept, and once T has changed the innermost one of none.
+fn are_kept(alloc: Global, bench: &mut Bench) -> Result<bool, Fail> {
+    let is_worked = is_worked_with(alloc, bench, "OUTER", &["INNER", "MID"])?;
+    let is_said = talk(alloc, bench, 1, DOUBLED)?.is_none();
+    Ok(is_worked && is_said && takes_none(bench)?)
+}
+
+fn are_kept_alone(alloc: Global) -> Result<bool, Fail> {
+    let mut bench = bench_after(alloc, NEST)?;
+    are_kept(alloc, &mut bench)
+}
+
+#[test]
+fn jobs_take_kept_nets_along(rt: HostRuntime) -> Result<(), Fail> {
+    assert!(rt; are_kept_alone(rt.alloc())?);
     Ok(())
 }

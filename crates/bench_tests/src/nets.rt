@@ -1,5 +1,5 @@
 //! Flat networks of subapplications and systems.
-use crate::talk::talk_alone;
+use crate::talk::{all_right, compare, talk_alone};
 use std::alloc::{AllocError, Global};
 use std::test::Fail;
 
@@ -117,10 +117,7 @@ const TALKS: &[(&str, &str)] = &[
 
 #[test]
 fn talks(rt: HostRuntime) -> Result<(), Fail> {
-    for (about, text) in TALKS {
-        assert_eq!(rt; talk_alone(rt.alloc(), text)?, None, "{about}");
-    }
-    Ok(())
+    compare(&rt, rt.alloc(), TALKS)
 }
 
 // A type, and a subapplication that holds it so many times.
@@ -130,7 +127,7 @@ fn holding(alloc: Global, instances: u32) -> Result<String, AllocError> {
         r#"> {"op":"commit","changes":[{"put":"T","base":0,"text":"FUNCTION_BLOCK T END_FUNCTION_BLOCK"},{"put":"S","base":0,"text":"SUBAPPLICATION S FBS "#,
     )?;
     for i in 0..instances {
-        line.push_str(format!(in alloc; "B{i}:T; ")?.as_str())?;
+        write!(line, "B{i}:T; ")?;
     }
     line.push_str(r#"END_FBS END_SUBAPPLICATION"}]}"#)?;
     Ok(line)
@@ -141,30 +138,35 @@ fn flat_of(alloc: Global, blocks: u32) -> Result<String, AllocError> {
     let mut reply = String::from_str(alloc, r#"< {"net":{"blocks":["#)?;
     let mut comma = "";
     for i in 0..blocks {
-        reply.push_str(format!(in alloc; r#"{comma}["B{i}","T"]"#)?.as_str())?;
+        write!(reply, r#"{comma}["B{i}","T"]"#)?;
         comma = ",";
     }
     reply.push_str(r#"],"borders":[],"links":[]}}"#)?;
     Ok(reply)
 }
 
+// A conversation on a subapplication with so many blocks, of which this is the net.
+fn held(alloc: Global, instances: u32, net: &str) -> Result<String, AllocError> {
+    let commit = holding(alloc, instances)?;
+    format!(in alloc;
+        r#"
+{commit}
+< {{"commit":1}}
+> {{"op":"work","turns":9}}
+< {{"accepted":3}}
+> {{"op":"ask","kind":"net","unit":"S"}}
+{net}
+"#
+    )
+}
+
 // As many blocks as a network may have, and one more.
 #[test]
 fn many_instances(rt: HostRuntime) -> Result<(), Fail> {
-    let alloc = rt.alloc();
-    let flat = flat_of(alloc, 4096)?;
-    for (instances, reply) in [(4096, flat.as_str()), (4097, r#"< {"net":"too_large"}"#)] {
-        let mut text = holding(alloc, instances)?;
-        text.push_str(
-            r#"
-< {"commit":1}
-> {"op":"work","turns":9}
-< {"accepted":3}
-> {"op":"ask","kind":"net","unit":"S"}
-"#,
-        )?;
-        text.push_str(reply)?;
-        assert_eq!(rt; talk_alone(alloc, text.as_str())?, None, "{instances}");
+    let flat = flat_of(rt.alloc(), 4096)?;
+    for (instances, net) in [(4096, flat.as_str()), (4097, r#"< {"net":"too_large"}"#)] {
+        let text = held(rt.alloc(), instances, net)?;
+        all_right(&rt, talk_alone(rt.alloc(), text.as_str())?, "instances");
     }
     Ok(())
 }
@@ -175,45 +177,41 @@ fn doubling(alloc: Global, from: u32, to: u32) -> Result<String, AllocError> {
     let mut comma = "";
     for i in from..to {
         let next = i + 1;
-        line.push_str(format!(in alloc;
+        write!(
+            line,
             r#"{comma}{{"put":"S{i}","base":0,"text":"SUBAPPLICATION S{i} SUBAPPS X:S{next}; Y:S{next}; END_SUBAPPS END_SUBAPPLICATION"}}"#
-        )?.as_str())?;
+        )?;
         comma = ",";
     }
     line.push_str("]}\n")?;
     Ok(line)
 }
 
-// Forty subapplications in a chain.
+// The commits of forty subapplications in a chain, and what is known of it then.
+fn chain(alloc: Global) -> Result<String, AllocError> {
+    let inner = doubling(alloc, 0, 14)?;
+    let middle = doubling(alloc, 14, 28)?;
+    let outer = doubling(alloc, 28, 39)?;
+    format!(in alloc;
+        r#"
+> {{"op":"commit","changes":[{{"put":"S39","base":0,"text":"SUBAPPLICATION S39 END_SUBAPPLICATION"}}]}}
+< {{"commit":1}}
+{inner}< {{"commit":2}}
+{middle}< {{"commit":3}}
+{outer}< {{"commit":4}}
+> {{"op":"work","turns":1000}}
+< {{"accepted":80}}
+> {{"op":"ask","kind":"net","unit":"S0"}}
+< {{"net":"too_large"}}
+> {{"op":"ask","kind":"net","unit":"S38"}}
+< {{"net":{{"blocks":[],"borders":[],"links":[]}}}}
+"#
+    )
+}
+
 #[test]
 fn a_chain_that_doubles(rt: HostRuntime) -> Result<(), Fail> {
-    let alloc = rt.alloc();
-    let mut text = String::from_str(
-        alloc,
-        r#"
-> {"op":"commit","changes":[{"put":"S39","base":0,"text":"SUBAPPLICATION S39 END_SUBAPPLICATION"}]}
-< {"commit":1}
-"#,
-    )?;
-    for (from, to, reply) in [
-        (0, 14, r#"< {"commit":2}"#),
-        (14, 28, r#"< {"commit":3}"#),
-        (28, 39, r#"< {"commit":4}"#),
-    ] {
-        text.push_str(doubling(alloc, from, to)?.as_str())?;
-        text.push_str(reply)?;
-        text.push_str("\n")?;
-    }
-    text.push_str(
-        r#"
-> {"op":"work","turns":1000}
-< {"accepted":80}
-> {"op":"ask","kind":"net","unit":"S0"}
-< {"net":"too_large"}
-> {"op":"ask","kind":"net","unit":"S38"}
-< {"net":{"blocks":[],"borders":[],"links":[]}}
-"#,
-    )?;
-    assert_eq!(rt; talk_alone(alloc, text.as_str())?, None);
+    let text = chain(rt.alloc())?;
+    all_right(&rt, talk_alone(rt.alloc(), text.as_str())?, "a chain");
     Ok(())
 }

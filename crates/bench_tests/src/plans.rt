@@ -1,5 +1,5 @@
 //! Plans of systems.
-use crate::talk::talk_alone;
+use crate::talk::compare;
 use std::test::Fail;
 
 // A system with blocks on two resources; then one block that no mapping places, and a mapping that is of nothing.
@@ -70,8 +70,5 @@ const TALKS: &[(&str, &str)] = &[
 
 #[test]
 fn talks(rt: HostRuntime) -> Result<(), Fail> {
-    for (about, text) in TALKS {
-        assert_eq!(rt; talk_alone(rt.alloc(), text)?, None, "{about}");
-    }
-    Ok(())
+    compare(&rt, rt.alloc(), TALKS)
 }

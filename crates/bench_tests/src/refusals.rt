@@ -1,5 +1,6 @@
 //! Lines that are no request or that are refused, by their form, by the limits or by what there is.
-use crate::talk::{talk_alone, talk_within};
+use crate::talk::{all_right, compare, talk_alone, talk_within};
+use std::alloc::{AllocError, Global};
 use std::test::Fail;
 
 // Typing errors, and what is refused for another reason.
@@ -142,14 +143,11 @@ const LIMITED: &[(u64, u64, &str)] = &[
 
 #[test]
 fn talks(rt: HostRuntime) -> Result<(), Fail> {
-    for (about, text) in TALKS {
-        assert_eq!(rt; talk_alone(rt.alloc(), text)?, None, "{about}");
-    }
     for (units, history, text) in LIMITED {
         let wrong = talk_within(rt.alloc(), *units, *history, text)?;
-        assert_eq!(rt; wrong, None, "{units} {history}");
+        all_right(&rt, wrong, text);
     }
-    Ok(())
+    compare(&rt, rt.alloc(), TALKS)
 }
 
 // A text of the greatest length, and one of a byte more.
@@ -170,14 +168,12 @@ fn long_texts(rt: HostRuntime) -> Result<(), Fail> {
 "#,
         spaces
     )?;
-    assert_eq!(rt; talk_alone(alloc, text.as_str())?, None);
+    all_right(&rt, talk_alone(alloc, text.as_str())?, "long texts");
     Ok(())
 }
 
-// A run holds at most 64 jobs. With 129 records of them the history is full.
-#[test]
-fn too_many_jobs(rt: HostRuntime) -> Result<(), Fail> {
-    let alloc = rt.alloc();
+// A conversation in which 64 jobs are taken and given back, and then one more is asked for.
+fn jobs(alloc: Global) -> Result<String, AllocError> {
     let mut text = String::from_str(
         alloc,
         r#"
@@ -204,6 +200,14 @@ fn too_many_jobs(rt: HostRuntime) -> Result<(), Fail> {
 < {"refused":"HistoryFull"}
 "#,
     )?;
-    assert_eq!(rt; talk_within(alloc, 1024, 129, text.as_str())?, None);
+    Ok(text)
+}
+
+// A run holds at most 64 jobs. With 129 records of them the history is full.
+#[test]
+fn too_many_jobs(rt: HostRuntime) -> Result<(), Fail> {
+    let text = jobs(rt.alloc())?;
+    let wrong = talk_within(rt.alloc(), 1024, 129, text.as_str())?;
+    all_right(&rt, wrong, "too many jobs");
     Ok(())
 }

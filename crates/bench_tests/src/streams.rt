@@ -4,6 +4,7 @@ use crate::talk::{
 };
 use fb_wire::{Feed, FromRead, IntoWrite, RunEnd, Sink, run_script};
 use std::alloc::Global;
+use std::process::Abort;
 use std::test::Fail;
 
 const TAKE: &[u8] = b"{\"op\":\"take\"}\n";
@@ -43,10 +44,9 @@ fn failing_reads(rt: HostRuntime) -> Result<(), Fail> {
             write: (50, ALWAYS),
             turns: 1_000_000,
         };
-        let run = run_alone(alloc, requests.as_bytes(), streams)?;
-        assert_eq!(rt; run.end, RunEnd::ReadFailed);
         let replies = replies_within(alloc, LATE, 50 * usize::from(good))?;
-        assert!(rt; run.output.as_slice() == replies.as_bytes(), "at {good}");
+        let (input, output) = (requests.as_bytes(), replies.as_bytes());
+        compare(&rt, alloc, input, streams, RunEnd::ReadFailed, output)?;
     }
     Ok(())
 }
@@ -139,6 +139,23 @@ const RUNS: &[(&[u8], Pace, Pace, u64, RunEnd, &[u8])] = &[
     (b" \t\r\n", WIDE, WIDE, 1000, RunEnd::End, b""),
 ];
 
+// Compares how a run on a new workbench ends, what it writes, and whether a read or a write has failed.
+fn compare(
+    rt: &impl Abort,
+    alloc: Global,
+    input: &[u8],
+    streams: Streams,
+    end: RunEnd,
+    output: &[u8],
+) -> Result<(), Fail> {
+    let run = run_alone(alloc, input, streams)?;
+    assert_eq!(rt; run.end, end);
+    assert!(rt; run.output.as_slice() == output);
+    let failed = [run.read_failed, run.write_failed];
+    assert!(rt; failed == [end == RunEnd::ReadFailed, end == RunEnd::WriteFailed]);
+    Ok(())
+}
+
 #[test]
 fn runs(rt: HostRuntime) -> Result<(), Fail> {
     for (input, read, write, turns, end, output) in RUNS {
@@ -147,13 +164,17 @@ fn runs(rt: HostRuntime) -> Result<(), Fail> {
             write: *write,
             turns: *turns,
         };
-        let run = run_alone(rt.alloc(), input, streams)?;
-        assert_eq!(rt; run.end, *end);
-        assert!(rt; run.output.as_slice() == *output);
-        assert!(rt; run.read_failed == (*end == RunEnd::ReadFailed));
-        assert!(rt; run.write_failed == (*end == RunEnd::WriteFailed));
+        compare(&rt, rt.alloc(), input, streams, *end, output)?;
     }
     Ok(())
+}
+
+// A line that asks for a job, and one that is a byte too long.
+fn long(alloc: Global, spaces: &[u8]) -> Result<Vec<u8>, Fail> {
+    let mut long = TAKE.to_vec(alloc)?;
+    long.extend_from_slice(spaces)?;
+    long.push(b' ')?;
+    Ok(long)
 }
 
 // Spaces as long as a line may be are passed over, and a byte more is too long.
@@ -161,16 +182,9 @@ fn runs(rt: HostRuntime) -> Result<(), Fail> {
 fn long_lines(rt: HostRuntime) -> Result<(), Fail> {
     let alloc = rt.alloc();
     let spaces = vec![in alloc; b' '; 1_048_576]?;
-    let run = run_alone(alloc, &spaces, GOOD)?;
-    assert_eq!(rt; run.end, RunEnd::End);
-    assert!(rt; run.output.is_empty());
-    let mut long = TAKE.to_vec(alloc)?;
-    long.extend_from_slice(&spaces)?;
-    long.push(b' ')?;
-    let run = run_alone(alloc, &long, GOOD)?;
-    assert_eq!(rt; run.end, RunEnd::LineTooLong);
-    assert!(rt; run.output.as_slice() == NO_JOB);
-    Ok(())
+    compare(&rt, alloc, &spaces, GOOD, RunEnd::End, b"")?;
+    let long = long(alloc, &spaces)?;
+    compare(&rt, alloc, &long, GOOD, RunEnd::LineTooLong, NO_JOB)
 }
 
 // Std's readers and writers.

@@ -4,6 +4,7 @@ ghost use Rattle.std.specs.Prelude.{◌<◌};
 use fb_wire::bench::{Bench, Limits};
 use fb_wire::{Feed, MemoryFeed, MemorySink, RunEnd, Sink, run_script};
 use std::alloc::{AllocError, Global};
+use std::process::Abort;
 use std::test::Fail;
 
 /// A number that nothing reaches.
@@ -65,8 +66,7 @@ pub(crate) fn requests_in(alloc: Global, text: &str) -> Result<String, Fail> {
     let mut requests = String::new(alloc);
     for line in text.split('\n') {
         if let Some(request) = line.strip_prefix("> ") {
-            requests.push_str(request)?;
-            requests.push_str("\n")?;
+            writeln!(requests, "{request}")?;
         } else if !(line.is_empty() || line.starts_with("< ") || line.starts_with("// ")) {
             return Err(Fail::from("a line of no kind"));
         }
@@ -89,8 +89,7 @@ pub(crate) fn replies_within(
             }
             left -= request.len() + 1;
         } else if let Some(reply) = line.strip_prefix("< ") {
-            replies.push_str(reply)?;
-            replies.push_str("\n")?;
+            writeln!(replies, "{reply}")?;
         }
     }
     Ok(replies)
@@ -142,4 +141,17 @@ pub(crate) fn talk_within(
 /// The same with a new workbench of the program's own limits.
 pub(crate) fn talk_alone(alloc: Global, text: &str) -> Result<Option<usize>, Fail> {
     talk_within(alloc, 1024, 100_000, text)
+}
+
+/// Fails where there is a wrong place, as a reply or a step.
+pub(crate) fn all_right(rt: &impl Abort, wrong: Option<usize>, about: &str) {
+    assert_eq!(rt; wrong, None, "{about}");
+}
+
+/// Has a caller say each of these conversations to a workbench of its own.
+pub(crate) fn compare(rt: &impl Abort, alloc: Global, talks: &[(&str, &str)]) -> Result<(), Fail> {
+    for (about, text) in talks {
+        all_right(rt, talk_alone(alloc, text)?, about);
+    }
+    Ok(())
 }

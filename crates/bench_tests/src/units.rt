@@ -1,5 +1,5 @@
 //! Units by themselves and with the types that they use: their faults, and results that come late.
-use crate::talk::talk_alone;
+use crate::talk::compare;
 use std::test::Fail;
 
 // A unit that uses a type which another one adds later.
@@ -286,8 +286,5 @@ const TALKS: &[(&str, &str)] = &[
 
 #[test]
 fn talks(rt: HostRuntime) -> Result<(), Fail> {
-    for (about, text) in TALKS {
-        assert_eq!(rt; talk_alone(rt.alloc(), text)?, None, "{about}");
-    }
-    Ok(())
+    compare(&rt, rt.alloc(), TALKS)
 }

@@ -6,6 +6,7 @@ use fb_faults::library::{Change, Library, View, declaration_by_name, far, near, 
 use fb_faults::parse::{Body, Source};
 use fb_text::{Name, Span};
 use std::alloc::{AllocError, Global};
+use std::process::Abort;
 use std::test::Fail;
 
 // S rests on A, and A and B on each other.
@@ -33,17 +34,29 @@ fn is_declared(library: &Library, name: &Name) -> bool {
     is_whole && has_tree && declaration_by_name(library, name).is_some()
 }
 
+fn near_told(alloc: Global, library: &Library, name: Name) -> Result<String, Fail> {
+    let names = near(alloc, library, name)?;
+    Ok(told(alloc, &names)?)
+}
+
+fn far_told(alloc: Global, library: &Library, name: Name) -> Result<String, Fail> {
+    let names = far(alloc, library, name)?;
+    Ok(told(alloc, &names)?)
+}
+
+/// Compares what is near and far of S.
+fn compare_near(rt: &impl Abort, alloc: Global, library: &Library) -> Result<(), Fail> {
+    let s = Name::read("s")?;
+    same(rt, near_told(alloc, library, s)?.as_str(), "A S ", "near");
+    same(rt, far_told(alloc, library, s)?.as_str(), "A B S ", "far");
+    assert!(rt; is_declared(library, &s));
+    Ok(())
+}
+
 #[test]
 fn near_is_mentioned_and_far_is_reached(rt: HostRuntime) -> Result<(), Fail> {
-    let alloc = rt.alloc();
-    let library = library(alloc, &RECURSIVE)?;
-    let s = Name::read("s")?;
-    let found = near(alloc, &library, s)?;
-    same(&rt, told(alloc, &found)?.as_str(), "A S ", "near");
-    let found = far(alloc, &library, s)?;
-    same(&rt, told(alloc, &found)?.as_str(), "A B S ", "far");
-    assert!(rt; is_declared(&library, &s));
-    Ok(())
+    let library = library(rt.alloc(), &RECURSIVE)?;
+    compare_near(&rt, rt.alloc(), &library)
 }
 
 /// How many units there are, and their names with their revisions.
@@ -81,35 +94,44 @@ fn change(alloc: Global, library: &mut Library) -> Result<(), Fail> {
     Ok(library.apply(2, &kept)?)
 }
 
-#[test]
-fn a_copy_is_changed_alone(rt: HostRuntime) -> Result<(), Fail> {
-    let alloc = rt.alloc();
+/// Changes a copy of these units, and compares both then.
+fn compare_changed(
+    rt: &impl Abort,
+    alloc: Global,
+    library: &Library,
+    copy: &mut Library,
+) -> Result<(), Fail> {
     let [b, s] = [Name::read("B")?, Name::read("S")?];
-    let library = library(alloc, &RECURSIVE)?;
-    let mut copy = library.copy()?;
-    same(&rt, units(alloc, &copy)?.as_str(), "3: A 1 B 1 S 1", "copy");
+    same(rt, units(alloc, copy)?.as_str(), "3: A 1 B 1 S 1", "copy");
     equal(
-        &rt,
+        rt,
         &[copy.name_at(1), copy.name_at(3)],
         &[Some(b), None],
         "names",
     );
-    change(alloc, &mut copy)?;
-    same(&rt, units(alloc, &copy)?.as_str(), "2: A 1 B 2", "changed");
+    change(alloc, copy)?;
+    same(rt, units(alloc, copy)?.as_str(), "2: A 1 B 2", "changed");
     same(
-        &rt,
-        units(alloc, &library)?.as_str(),
+        rt,
+        units(alloc, library)?.as_str(),
         "3: A 1 B 1 S 1",
         "kept",
     );
-    equal(&rt, &copy.revision(&s), &0, "S");
-    equal(
-        &rt,
-        &[text_of(&copy, &b), text_of(&copy, &s)],
-        &[SHORT, ""],
-        "texts",
-    );
+    equal(rt, &copy.revision(&s), &0, "S");
+    same(rt, text_of(copy, &b), SHORT, "B");
+    same(rt, text_of(copy, &s), "", "S");
     Ok(())
+}
+
+fn compare_copy(rt: &impl Abort, alloc: Global, library: &Library) -> Result<(), Fail> {
+    let mut copy = library.copy()?;
+    compare_changed(rt, alloc, library, &mut copy)
+}
+
+#[test]
+fn a_copy_is_changed_alone(rt: HostRuntime) -> Result<(), Fail> {
+    let library = library(rt.alloc(), &RECURSIVE)?;
+    compare_copy(&rt, rt.alloc(), &library)
 }
 
 /// How many faults a unit has.
@@ -117,18 +139,22 @@ fn count(alloc: Global, library: &Library, name: &str) -> Result<usize, Fail> {
     Ok(faults(alloc, library, &Name::read(name)?)?.len())
 }
 
+/// How many faults a unit has that is in no library, and one that is not in this one.
+fn counts(alloc: Global) -> Result<(usize, usize), Fail> {
+    let in_none = count(alloc, &Library::new(alloc), "A")?;
+    Ok((in_none, count(alloc, &library(alloc, &RECURSIVE)?, "C")?))
+}
+
+/// Whether the text of a unit has no interface.
+fn is_without_interface(alloc: Global, text: &str) -> Result<bool, Fail> {
+    let source = Source::read(alloc, Name::read("A")?, text)?;
+    Ok(interface(alloc, &source)?.is_none())
+}
+
 #[test]
 fn what_is_absent_or_broken(rt: HostRuntime) -> Result<(), Fail> {
-    let alloc = rt.alloc();
-    equal(&rt, &count(alloc, &Library::new(alloc), "A")?, &0, "A");
-    equal(
-        &rt,
-        &count(alloc, &library(alloc, &RECURSIVE)?, "C")?,
-        &0,
-        "C",
-    );
-    let source = Source::read(alloc, Name::read("A")?, "X")?;
-    assert!(rt; interface(alloc, &source)?.is_none());
+    equal(&rt, &counts(rt.alloc())?, &(0, 0), "faults");
+    assert!(rt; is_without_interface(rt.alloc(), "X")?);
     Ok(())
 }
 

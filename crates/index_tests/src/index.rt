@@ -1,5 +1,5 @@
 //! The index of units by what they mention.
-ghost use Rattle.std.specs.Prelude.{◌≡◌, false, [], ◌∷◌, IfOk};
+ghost use Rattle.std.specs.Prelude.{◌≡◌, false, [], ◌∷◌, IfOk, OnOk};
 ghost use Rattle.std.specs.BTreeMap.{is_at};
 ghost use Rattle.fb_text.specs.Order.{name_cmp};
 ghost use Rattle.fb_index.specs.Near.{IsIndexedAs};
@@ -10,6 +10,27 @@ use std::alloc::{AllocError, Global};
 use std::test::Fail;
 
 // S mentions A, and A and B mention each other.
+fn fill(
+    index: &mut Index,
+    alloc: Global,
+    a: Name,
+    b: Name,
+    s: Name,
+) -> Result<(), AllocError>
+    requires empty { index.old ≡ [] }
+    requires ab { is_at (name_cmp a) b ≡ false }
+    requires a_s { is_at (name_cmp a) s ≡ false }
+    requires bs { is_at (name_cmp b) s ≡ false }
+    requires sb { is_at (name_cmp s) b ≡ false }
+    ensures { OnOk result (IsIndexedAs index.new b (a ∷ [])) }
+{
+    index.replace(alloc, a, &[], &[b])?;
+    index.replace(alloc, b, &[], &[a])?;
+    index.replace(alloc, s, &[], &[a])?;
+    Ok(())
+}
+
+// Such an index.
 fn recursive(alloc: Global, a: Name, b: Name, s: Name) -> Result<Index, AllocError>
     requires ab { is_at (name_cmp a) b ≡ false }
     requires a_s { is_at (name_cmp a) s ≡ false }
@@ -18,9 +39,7 @@ fn recursive(alloc: Global, a: Name, b: Name, s: Name) -> Result<Index, AllocErr
     ensures { IfOk result (λ index. IsIndexedAs index b (a ∷ [])) }
 {
     let mut index = Index::new(alloc);
-    index.replace(alloc, a, &[], &[b])?;
-    index.replace(alloc, b, &[], &[a])?;
-    index.replace(alloc, s, &[], &[a])?;
+    fill(&mut index, alloc, a, b, s)?;
     Ok(index)
 }
 

@@ -2,22 +2,22 @@
 use Rattle.std.proofs.Common.{ℕ, List, [], ◌∷◌, ap}
 use Rattle.fb_index.specs.Near.{Users, is_near}
 use Rattle.fb_index.proofs.Replacing.{indexed_own, indexed_other}
-use Rattle.index_tests.proofs.index.recursive.Goals as goal
+use Rattle.index_tests.proofs.index.fill.Goals as goal
 
 pub replace-requires : goal.replace-requires
-replace-requires c = record { known = λ name apart. ap (λ (us : Users). is_near us c.args.a name) c.new-index.ensures }
+replace-requires c = record { known = λ name apart. ap (λ (us : Users). is_near us c.args.a name) c.requires.empty }
 
 pub replace-requires-2 : goal.replace-requires-2
 replace-requires-2 c = record {
-  known = indexed_other c.new-index.result c.replace.new.self c.args.a c.args.b (c.args.b ∷ []) [] c.in_ok-replace.ensures.ok c.requires.ab
-      (λ name apart. ap (λ (us : Users). is_near us c.args.b name) c.new-index.ensures);
+  known = indexed_other c.args.index.now c.replace.new.self c.args.a c.args.b (c.args.b ∷ []) [] c.in_ok-replace.ensures.ok c.requires.ab
+      (λ name apart. ap (λ (us : Users). is_near us c.args.b name) c.requires.empty);
 }
 
 pub replace-requires-3 : goal.replace-requires-3
 replace-requires-3 c = record {
   known = indexed_other c.replace.new.self c.replace-2.new.self c.args.b c.args.s (c.args.a ∷ []) [] c.in_ok-replace-2.ensures.ok c.requires.bs
-      (indexed_other c.new-index.result c.replace.new.self c.args.a c.args.s (c.args.b ∷ []) [] c.in_ok-replace.ensures.ok c.requires.a_s
-      (λ name apart. ap (λ (us : Users). is_near us c.args.s name) c.new-index.ensures));
+      (indexed_other c.args.index.now c.replace.new.self c.args.a c.args.s (c.args.b ∷ []) [] c.in_ok-replace.ensures.ok c.requires.a_s
+      (λ name apart. ap (λ (us : Users). is_near us c.args.s name) c.requires.empty));
 }
 
 pub returns : goal.returns
