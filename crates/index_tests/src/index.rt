@@ -10,13 +10,7 @@ use std::alloc::{AllocError, Global};
 use std::test::Fail;
 
 // S mentions A, and A and B mention each other.
-fn fill(
-    index: &mut Index,
-    alloc: Global,
-    a: Name,
-    b: Name,
-    s: Name,
-) -> Result<(), AllocError>
+fn fill(index: &mut Index, alloc: Global, a: Name, b: Name, s: Name) -> Result<(), AllocError>
     requires empty { index.old ≡ [] }
     requires ab { is_at (name_cmp a) b ≡ false }
     requires a_s { is_at (name_cmp a) s ≡ false }
