@@ -6,7 +6,7 @@ use Rattle.fb_lexemes.specs.declared.lexeme.Lexeme.{Lexeme}
 use Rattle.fb_lexemes.specs.Kind.{is_among}
 use Rattle.fb_forms.specs.Form.{Form, one, both, either, option, many, as_value}
 
--- nothing spells the form
+-- the empty list of tokens spells the form
 abbrev pub is_nullable : {A : Type 0} → Form A → Bool
 is_nullable (one kinds) = false
 is_nullable (both x y) = is_nullable x && is_nullable y

@@ -13,8 +13,8 @@ use Rattle.fb_library.specs.Tree.Mentions.{types_in}
 use Rattle.fb_library.specs.Tree.Tree.{InstanceTree, NetworkTree, TypeTree}
 use Rattle.fb_library.specs.View.{Sources, mentions_at, near_of, tree_at, tree_of}
 use Rattle.fb_iface.proofs.TableLemmas.{is_it}
-use Rattle.fb_iface.specs.Names.{first_ones, has_name, is_same}
-use Rattle.fb_iface.specs.Ports.{instances_in, meanings_in_type}
+use Rattle.fb_iface.specs.Names.{has_name, is_same}
+use Rattle.fb_iface.specs.Ports.{meanings_in_network, meanings_in_type}
 use Rattle.fb_iface.specs.Scope.{mentioned_type, scope_of_network, scope_of_type, usable}
 
 -- a list in order has its members
@@ -49,4 +49,4 @@ module _ (a b : Sources) where
 
   -- what names stand for in an application
   pub network_scope_local : (network : NetworkTree) → ((name : List ℕ) → Contains (types_in network.instances) name → get a name ≡ get b name) → scope_of_network a network ≡ scope_of_network b network
-  network_scope_local network agree = λ k. record { own = record { events = []; variables = []; instances = first_ones (instances_in network) }; type_ports = λ role name. usable role (types_agree network.instances agree name k) }
+  network_scope_local network agree = λ k. record { own = meanings_in_network network; type_ports = λ role name. usable role (types_agree network.instances agree name k) }

@@ -44,6 +44,10 @@ meanings_in_type d = record {
   instances = first_ones (instances_in d.network);
 }
 
+-- a network of an application has instances alone
+abbrev pub meanings_in_network : NetworkTree → Meanings
+meanings_in_network n = record { events = []; variables = []; instances = first_ones (instances_in n) }
+
 -- a system has no ports
 abbrev pub meanings_in : DeclTree → Meanings
 meanings_in (block_type d) = meanings_in_type d

@@ -1,12 +1,12 @@
 -- What names stand for in a network: the unit's own names, and the ports of the types of its instances.
-use Rattle.std.specs.Prelude.{ℕ, [], List, map, Option, Some, None, if◌then◌else◌}
+use Rattle.std.specs.Prelude.{ℕ, List, map, Option, Some, None, if◌then◌else◌}
 use Rattle.std.specs.Option.{option_and_then}
 use Rattle.fb_library.specs.Tree.Tree.{DeclTree, InstanceTree, NetworkTree, TypeTree}
 use Rattle.fb_library.specs.Tree.Mentions.{kind_of}
 use Rattle.fb_library.specs.Tree.declared.network.Role.{Role}
 use Rattle.fb_library.specs.View.{Sources, tree_at}
-use Rattle.fb_iface.specs.Names.{first_ones, has_name, stands_for}
-use Rattle.fb_iface.specs.Ports.{Meanings, instances_in, meanings_in, meanings_in_type}
+use Rattle.fb_iface.specs.Names.{has_name, stands_for}
+use Rattle.fb_iface.specs.Ports.{Meanings, meanings_in, meanings_in_network, meanings_in_type}
 use Rattle.fb_iface.specs.Types.{suits}
 use Rattle.fb_iface.specs.declared.ports.DeclaredInstance.{DeclaredInstance}
 
@@ -33,7 +33,7 @@ scope_of_type sources d = record { own = meanings_in_type d; type_ports = type_p
 -- an application has instances alone
 abbrev pub scope_of_network : Sources → NetworkTree → Scope
 scope_of_network sources network = record {
-  own = record { events = []; variables = []; instances = first_ones (instances_in network) };
+  own = meanings_in_network network;
   type_ports = type_ports_of sources network;
 }
 

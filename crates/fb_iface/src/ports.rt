@@ -57,8 +57,8 @@ impl Ports {
     ghost use Rattle.fb_library.specs.Tree.Tree.{type_tree};
     ghost use Rattle.fb_library.specs.Tree.declared.interface.Side.TheVariants as sides;
     ghost use Rattle.fb_library.specs.Tree.declared.network.Role.TheVariants as roles;
-    ghost use Rattle.fb_iface.specs.Names.{first_ones, stands_for};
-    ghost use Rattle.fb_iface.specs.Ports.{data_on, events_on, instances_as, meanings_in_type};
+    ghost use Rattle.fb_iface.specs.Names.{stands_for};
+    ghost use Rattle.fb_iface.specs.Ports.{data_on, events_on, instances_as, meanings_in_network, meanings_in_type};
 
     /// No ports.
     pub fn new(alloc: Global) -> Ports
@@ -87,7 +87,7 @@ impl Ports {
 
     /// The instances of a network, which has no events and variables of its own.
     pub fn of_network(alloc: Global, network: &Network) -> Result<Ports, AllocError>
-        ensures { IfOk result (λ ports. ports ≡ record { events = []; variables = []; instances = first_ones (instances_in (network_tree network.now)) }) }
+        ensures { IfOk result (λ ports. ports ≡ meanings_in_network (network_tree network.now)) }
     {
         let instances = declared_instances(alloc, network)?;
         Ok(Ports {

@@ -14,7 +14,7 @@ use fb_text::{Span, TokenFault};
 use fb_tree::Decl;
 use std::alloc::{AllocError, Global};
 
-/// The declaration that a text spells, or the place where it stops to spell one.
+/// The declaration that a text spells, or the place from which it can no longer spell one.
 #[derive(Drop)]
 pub enum Body {
     Tree(Decl),

@@ -1,4 +1,4 @@
-//! Reading of the texts of units: the declaration that a text spells, or the place where it stops to spell one.
+//! Reading of the texts of units: the declaration that a text spells, or the place from which it can no longer spell one.
 #![tactic(auto)]
 
 mod body;

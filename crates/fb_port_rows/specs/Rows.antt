@@ -1,6 +1,6 @@
 -- The ports of a unit in words of their own: which ports its interface lists, and in which order.
 use Rattle.std.specs.Prelude.{◌≡◌, ◌↔◌, ℕ, ◌<◌, List, [], Some, Contains, slice_get}
-use Rattle.fb_iface.specs.Tree.Tree.{DeclTree, SystemTree, TypeTree, system_configuration}
+use Rattle.fb_iface.specs.Tree.Tree.{DeclTree, NetworkTree, SystemTree, TypeTree, system_configuration}
 use Rattle.fb_iface.specs.Tree.declared.interface.Section.TheVariants as sections
 use Rattle.fb_iface.specs.Tree.declared.interface.Side.{Side}
 use Rattle.fb_iface.specs.Tree.declared.interface.TypeUse.{TypeUse}
@@ -10,7 +10,7 @@ use Rattle.fb_iface.specs.declared.ports.DeclaredEvent.{DeclaredEvent}
 use Rattle.fb_iface.specs.declared.ports.DeclaredInstance.{DeclaredInstance}
 use Rattle.fb_iface.specs.declared.ports.DeclaredVariable.{DeclaredVariable}
 use Rattle.fb_iface.specs.Names.{stands_for}
-use Rattle.fb_iface.specs.Ports.{Meanings, data_on, events_on, instances_as, meanings_in, meanings_of}
+use Rattle.fb_iface.specs.Ports.{Meanings, data_on, events_on, instances_as, meanings_in, meanings_in_network, meanings_of}
 use Rattle.fb_port_rows.specs.Declared.{IsBefore, IsDataOn, IsEventOn, IsFirstEvent, IsFirstInstance, IsFirstVariable, IsInstanceAs, IsType, IsVariableIn}
 
 -- the interface of a text, where this spells a unit
@@ -49,6 +49,10 @@ pub record StandForFirst (type : TypeTree) (ports : Meanings) : Type 0 where
 
 abbrev pub NamesStandForFirst : Type 0
 NamesStandForFirst = (decl : DeclTree) (type : TypeTree) → IsType decl type → StandForFirst type (meanings_in decl)
+
+-- in the network of an application, which has no ports, a name stands for its first instance, in any role
+abbrev pub InstancesStandForFirst : Type 0
+InstancesStandForFirst = (network : NetworkTree) (name : List ℕ) (i : DeclaredInstance) → stands_for (meanings_in_network network).instances name ≡ Some i ↔ IsInstanceAs network i.role name i.type_name
 
 -- ---- once, and in the order of the text
 

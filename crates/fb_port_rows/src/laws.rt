@@ -1,5 +1,5 @@
 //! Laws of the ports of units: which ports there are, and in which order.
-ghost use Rattle.fb_port_rows.specs.Rows.{AdaptersAreDeclared, DataAreDeclared, EventsAreDeclared, InternalVariablesAreNoPorts, NamesStandForFirst, PortsComeAsDeclared, PortsHaveOwnNames, SystemsHaveNoPorts, WholeTextsHaveInterfaces};
+ghost use Rattle.fb_port_rows.specs.Rows.{AdaptersAreDeclared, DataAreDeclared, EventsAreDeclared, InstancesStandForFirst, InternalVariablesAreNoPorts, NamesStandForFirst, PortsComeAsDeclared, PortsHaveOwnNames, SystemsHaveNoPorts, WholeTextsHaveInterfaces};
 
 /// A text has an interface where it spells a unit: the ports of what it declares.
 pub fn whole_texts_have_interfaces()
@@ -29,6 +29,11 @@ pub fn internal_variables_are_no_ports()
 /// A name stands for its first declaration in its name space.
 pub fn names_stand_for_first()
     ensures { NamesStandForFirst }
+{}
+
+/// In the network of an application a name stands for its first instance.
+pub fn instances_stand_for_first()
+    ensures { InstancesStandForFirst }
 {}
 
 /// Each list of ports has a name once at most.
