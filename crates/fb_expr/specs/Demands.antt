@@ -4,11 +4,10 @@ use Rattle.std.specs.List.{Contains, flat_map}
 use Rattle.std.specs.Option.{option_map_or}
 use Rattle.fb_text.specs.declared.name.NameUse.{NameUse}
 use Rattle.fb_text.specs.declared.token.Span.{Span}
-use Rattle.fb_tree.specs.Expression.{Expression, literal_expression, reference_expression, unary_expression, row_expression, parentheses, Expressions, no_expressions, expression_then, Operands, no_operands, operand_then}
+use Rattle.fb_tree.specs.Expression.{ReferenceTree, Expression, literal_expression, reference_expression, unary_expression, row_expression, parentheses, Expressions, no_expressions, expression_then, Operands, no_operands, operand_then}
 use Rattle.fb_tree.specs.Statement.{Statement, empty, assignment, exit, return, choice, selection, count, while_loop, repeat_loop, Statements, no_statements, statement_then, Arms, no_arms, arm_then, statements_of}
 use Rattle.fb_tree.specs.Tree.{AlgorithmTree, ChartTree, ConditionTree, always, on_event, guarded, guard, TransitionTree, TypeTree, block_type}
 use Rattle.fb_tree.specs.declared.expression.BinaryUse.{BinaryUse}
-use Rattle.fb_tree.specs.declared.expression.Reference.{Reference}
 use Rattle.fb_tree.specs.declared.expression.UnaryUse.{UnaryUse}
 use Rattle.fb_iface.specs.Library.View.{Sources, tree_at}
 use Rattle.fb_iface.specs.Scope.{Scope, scope_of_type}
@@ -29,7 +28,7 @@ use Rattle.fb_expr.specs.declared.rules.Place.TheVariants.{Condition, Count, Cou
 
 pub data Demand : Type 0 where
   -- a reference names a variable
-  names_variable : Reference → Demand
+  names_variable : ReferenceTree → Demand
   -- an operator suits its operand
   suits_operand : UnaryUse → Expression → Demand
   -- an operator suits the class of what stands before it and the operand behind it
@@ -91,7 +90,7 @@ abbrev pub demands_at : Place → Scope → Expression → List Demand
 demands_at place scope e = demands_in scope e ++ suits_place place e ∷ []
 
 -- a name alone, as a reference
-abbrev pub name_alone : NameUse → Reference
+abbrev pub name_alone : NameUse → ReferenceTree
 name_alone name = record { name = name; member = None; span = name.span }
 
 -- the variable of a FOR is one, and a whole number

@@ -2,7 +2,6 @@
 use Rattle.std.specs.Prelude.{ℕ, Bool, true, false, List, [], ◌∷◌, Option, Some, None, if◌then◌else◌}
 use Rattle.std.specs.Option.{option_map_or}
 use Rattle.fb_text.specs.declared.token.Span.{Span}
-use Rattle.fb_tree.specs.declared.expression.Reference.{Reference}
 use Rattle.fb_tree.specs.declared.interface.Section.{Section}
 use Rattle.fb_tree.specs.declared.interface.Section.TheVariants as sections
 use Rattle.fb_tree.specs.declared.interface.TypeForm.{TypeForm}
@@ -10,7 +9,7 @@ use Rattle.fb_tree.specs.declared.interface.TypeForm.TheVariants as forms
 use Rattle.fb_tree.specs.declared.interface.TypeUse.{TypeUse}
 use Rattle.fb_tree.specs.declared.network.Role.{Role}
 use Rattle.fb_tree.specs.declared.network.Role.TheVariants as roles
-use Rattle.fb_tree.specs.Expression.{Expressions, no_expressions, expression_then}
+use Rattle.fb_tree.specs.Expression.{ReferenceTree, Expressions, no_expressions, expression_then}
 use Rattle.fb_iface.specs.Class.{class_of_name, class_of_type}
 use Rattle.fb_iface.specs.Names.{stands_for}
 use Rattle.fb_iface.specs.Ports.{Meanings}
@@ -66,7 +65,7 @@ member_named scope name member =
     if is_at_adapter (stands_for scope.own.instances name) then port_referent (ports_of scope name) member else Unknown
 
 -- what a reference stands for
-abbrev pub referent_of : Scope → Reference → Referent
+abbrev pub referent_of : Scope → ReferenceTree → Referent
 referent_of scope r = option_map_or (λ m. member_named scope r.name.name m.name) r.member (variable_named scope r.name.name)
 
 -- with a subscript: the class of the elements of an array; a type that is no array has none

@@ -1,15 +1,14 @@
 -- Where references and expressions stand.
 use Rattle.fb_text.specs.declared.token.Span.{Span}
 use Rattle.std.specs.Option.{option_map_or}
-use Rattle.fb_tree.specs.declared.expression.Reference.{Reference}
-use Rattle.fb_tree.specs.Expression.{Expression, literal_expression, reference_expression, unary_expression, row_expression, parentheses, Operands, no_operands, operand_then}
+use Rattle.fb_tree.specs.Expression.{ReferenceTree, Expression, literal_expression, reference_expression, unary_expression, row_expression, parentheses, Operands, no_operands, operand_then}
 
 -- from the start of one to the end of the other
 abbrev pub across : Span → Span → Span
 across first last = record { start = first.start; end = last.end }
 
 -- the names of a reference, without its subscripts
-abbrev pub names_span : Reference → Span
+abbrev pub names_span : ReferenceTree → Span
 names_span r = option_map_or (λ m. across r.name.span m.span) r.member r.name.span
 
 abbrev mutual

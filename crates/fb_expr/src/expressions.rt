@@ -1,6 +1,6 @@
 //! The classes of expressions.
 ghost use Rattle.std.specs.Prelude.{◌≡◌, ◌++◌, IfOk, OnOk, is_some, map};
-ghost use Rattle.fb_tree.specs.Expression.{expression_tree, expressions_of, operands_of, reference_expression};
+ghost use Rattle.fb_tree.specs.Expression.{expression_tree, expressions_of, operands_of, reference_expression, reference_tree};
 ghost use Rattle.fb_iface.specs.Kept.{scope_in};
 ghost use Rattle.fb_expr.specs.Classes.{change, combined, pair_class, unary_class};
 ghost use Rattle.fb_expr.specs.Expressions.{class_in, faults_in, row_class, row_faults, subscript_faults};
@@ -46,10 +46,10 @@ pub fn judge_reference(
     subscripts: &[Expr],
     found: &mut Vec<Fault>,
 ) -> Result<Class, AllocError>
-    ensures class { IfOk result
-        (λ class. class ≡ class_in (scope_in scope.now) (reference_expression reference.now (expressions_of (map expression_tree subscripts.now)))) }
-    ensures faults { OnOk result (found.new.items ≡ found.old.items
-        ++ faults_in (scope_in scope.now) (reference_expression reference.now (expressions_of (map expression_tree subscripts.now)))) }
+    ensures class { IfOk result (λ class. class ≡ class_in (scope_in scope.now)
+        (reference_expression (reference_tree reference.now) (expressions_of (map expression_tree subscripts.now)))) }
+    ensures faults { OnOk result (found.new.items ≡ found.old.items ++ faults_in (scope_in scope.now)
+        (reference_expression (reference_tree reference.now) (expressions_of (map expression_tree subscripts.now)))) }
 {
     let referent = referred(scope, reference);
     report_unknown(&referent, span_of_names(reference), found)?;

@@ -1,7 +1,7 @@
 //! What references stand for (IEC 61499-1, 5.2.2: algorithms; 5.5: adapters).
 ghost use Rattle.std.specs.Prelude.{◌≡◌, ◌++◌, OnOk, map};
 ghost use Rattle.std.specs.Option.{option_copied, option_map};
-ghost use Rattle.fb_tree.specs.Expression.{expressions_of, expression_tree};
+ghost use Rattle.fb_tree.specs.Expression.{expressions_of, expression_tree, reference_tree};
 ghost use Rattle.fb_iface.specs.Names.{stands_for};
 ghost use Rattle.fb_iface.specs.Kept.{scope_in};
 ghost use Rattle.fb_expr.specs.References.{
@@ -38,9 +38,9 @@ pub enum Referent {
 
 /// What a reference stands for.
 pub fn referred(scope: &Scope, reference: &Reference) -> Referent
-    ensures { result ≡ referent_of (scope_in scope.now) reference.now }
+    ensures { result ≡ referent_of (scope_in scope.now) (reference_tree reference.now) }
 {
-    match reference.member {
+    match &reference.member {
         Some(member) => referred_member(scope, &reference.name.name, &member.name),
         None => referred_variable(scope, &reference.name.name),
     }

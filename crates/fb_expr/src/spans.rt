@@ -1,6 +1,6 @@
 //! Where references and expressions stand.
 ghost use Rattle.std.specs.Prelude.{◌≡◌};
-ghost use Rattle.fb_tree.specs.Expression.{expression_tree};
+ghost use Rattle.fb_tree.specs.Expression.{expression_tree, reference_tree};
 ghost use Rattle.fb_expr.specs.Spans.{across, names_span, span_of};
 
 use fb_text::Span;
@@ -18,9 +18,9 @@ fn across(first: Span, last: Span) -> Span
 
 /// Where the names of a reference stand, without its subscripts.
 pub fn span_of_names(reference: &Reference) -> Span
-    ensures { result ≡ names_span reference.now }
+    ensures { result ≡ names_span (reference_tree reference.now) }
 {
-    match reference.member {
+    match &reference.member {
         Some(member) => across(reference.name.span, member.span),
         None => reference.name.span,
     }

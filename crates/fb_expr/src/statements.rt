@@ -1,6 +1,6 @@
 //! The check of statements.
 ghost use Rattle.std.specs.Prelude.{◌≡◌, ◌++◌, OnOk, map, option_map};
-ghost use Rattle.fb_tree.specs.Expression.{expression_tree, expressions_of, reference_expression};
+ghost use Rattle.fb_tree.specs.Expression.{expression_tree, expressions_of, reference_expression, reference_tree};
 ghost use Rattle.fb_tree.specs.Statement.{statement_tree, statements_of};
 ghost use Rattle.fb_iface.specs.Kept.{scope_in};
 ghost use Rattle.fb_expr.specs.Statements.{assignment_faults, counter_faults, range_faults, statement_faults, statements_faults};
@@ -80,8 +80,8 @@ fn report_assignment(
     value: &Expr,
     found: &mut Vec<Fault>,
 ) -> Result<(), AllocError>
-    ensures { OnOk result (found.new.items ≡ found.old.items
-        ++ assignment_faults (scope_in scope.now) (reference_expression variable.now (expressions_of (map expression_tree subscripts.now))) place (expression_tree value.now)) }
+    ensures { OnOk result (found.new.items ≡ found.old.items ++ assignment_faults (scope_in scope.now)
+        (reference_expression (reference_tree variable.now) (expressions_of (map expression_tree subscripts.now))) place (expression_tree value.now)) }
 {
     let target = judge_reference(scope, variable, subscripts, found)?;
     let value = judge(scope, value, found)?;

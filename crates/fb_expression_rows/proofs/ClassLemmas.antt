@@ -1,9 +1,8 @@
 -- The class of each expression, by the function of the check.
 use Rattle.std.proofs.Common.{◌≡◌, ◌≢◌, Option, Some, None, unwrap_or, refl, sym, ap, ◌∙◌, subst}
-use Rattle.fb_tree.specs.Expression.{Expression, literal_expression, reference_expression, unary_expression, row_expression, parentheses, Expressions, no_expressions, expression_then, Operands, no_operands, operand_then}
+use Rattle.fb_tree.specs.Expression.{ReferenceTree, Expression, literal_expression, reference_expression, unary_expression, row_expression, parentheses, Expressions, no_expressions, expression_then, Operands, no_operands, operand_then}
 use Rattle.fb_tree.specs.Tree.{TypeTree}
 use Rattle.fb_tree.specs.declared.expression.BinaryUse.{BinaryUse}
-use Rattle.fb_tree.specs.declared.expression.Reference.{Reference}
 use Rattle.fb_tree.specs.declared.expression.UnaryUse.{UnaryUse}
 use Rattle.fb_tree.specs.declared.interface.TypeForm.{TypeForm}
 use Rattle.fb_tree.specs.declared.interface.TypeForm.TheVariants.{Plain, Sized, Array}
@@ -38,7 +37,7 @@ module _ (sources : Sources) (d : TypeTree) where
   abbrev scope : Scope
   scope = scope_of_type sources d
 
-  of_subscripts : (r : Reference) (used : TypeUse) (subscripts : Expressions) → NamesVariable sources d r.name r.member used → HasClass sources d (reference_expression r subscripts) (class_with used subscripts)
+  of_subscripts : (r : ReferenceTree) (used : TypeUse) (subscripts : Expressions) → NamesVariable sources d r.name r.member used → HasClass sources d (reference_expression r subscripts) (class_with used subscripts)
   of_subscripts r used no_expressions n = of_variable used n
   of_subscripts r used (expression_then e others) n = by_form used.form refl
     where
@@ -47,7 +46,7 @@ module _ (sources : Sources) (d : TypeTree) where
       by_form Sized is = of_no_array used n (λ array. sized_differs (sym is ∙ array))
       by_form Array is = of_element used n is
 
-  names_nothing : (r : Reference) (t : Referent) → referent scope r.name r.member ≡ t → (used : TypeUse) → (t ≡ Variable used → ⊥) → ¬ NamesVariable sources d r.name r.member used
+  names_nothing : (r : ReferenceTree) (t : Referent) → referent scope r.name r.member ≡ t → (used : TypeUse) → (t ≡ Variable used → ⊥) → ¬ NamesVariable sources d r.name r.member used
   names_nothing r t is used other n = other (sym is ∙ told_variable sources d r.name r.member used n)
 
   unjudged_differs : (used : TypeUse) → Unjudged ≡ Variable used → ⊥
@@ -56,7 +55,7 @@ module _ (sources : Sources) (d : TypeTree) where
   unknown_differs : (used : TypeUse) → Unknown ≡ Variable used → ⊥
   unknown_differs used e = let no : ⊥ = cc in no
 
-  of_reference : (r : Reference) (subscripts : Expressions) → HasClass sources d (reference_expression r subscripts) (class_of_referent (referent scope r.name r.member) subscripts)
+  of_reference : (r : ReferenceTree) (subscripts : Expressions) → HasClass sources d (reference_expression r subscripts) (class_of_referent (referent scope r.name r.member) subscripts)
   of_reference r subscripts = by_referent (referent scope r.name r.member) refl (refers sources d r.name r.member)
     where
       by_referent : (t : Referent) → referent scope r.name r.member ≡ t → Refers sources d r.name r.member t → HasClass sources d (reference_expression r subscripts) (class_of_referent t subscripts)
@@ -87,7 +86,7 @@ module _ (sources : Sources) (d : TypeTree) where
 
   -- and no other
 
-  free_of : (r : Reference) (subscripts : Expressions) → ((used : TypeUse) → ¬ NamesVariable sources d r.name r.member used) → class_of_referent (referent scope r.name r.member) subscripts ≡ Free
+  free_of : (r : ReferenceTree) (subscripts : Expressions) → ((used : TypeUse) → ¬ NamesVariable sources d r.name r.member used) → class_of_referent (referent scope r.name r.member) subscripts ≡ Free
   free_of r subscripts none = by_referent (referent scope r.name r.member) (refers sources d r.name r.member)
     where
       by_referent : (t : Referent) → Refers sources d r.name r.member t → class_of_referent t subscripts ≡ Free
@@ -95,7 +94,7 @@ module _ (sources : Sources) (d : TypeTree) where
       by_referent Unjudged (not_judged j) = refl
       by_referent Unknown nothing = refl
 
-  named_class : (r : Reference) (subscripts : Expressions) (used : TypeUse) → NamesVariable sources d r.name r.member used → class_of_referent (referent scope r.name r.member) subscripts ≡ class_with used subscripts
+  named_class : (r : ReferenceTree) (subscripts : Expressions) (used : TypeUse) → NamesVariable sources d r.name r.member used → class_of_referent (referent scope r.name r.member) subscripts ≡ class_with used subscripts
   named_class r subscripts used n = ap (λ (t : Referent). class_of_referent t subscripts) (told_variable sources d r.name r.member used n)
 
   mutual

@@ -2,9 +2,8 @@
 use Rattle.std.proofs.Common.{◌≡◌, [], ◌∷◌, ◌⊎◌, inl, inr, subst}
 use Rattle.std.specs.List.{Contains}
 use Rattle.std.proofs.lemmas.List.Elements.{Contains-append_cases, Contains-append_left, Contains-append_right}
-use Rattle.fb_tree.specs.Expression.{Expression, literal_expression, reference_expression, unary_expression, row_expression, parentheses, Expressions, no_expressions, expression_then, Operands, no_operands, operand_then}
+use Rattle.fb_tree.specs.Expression.{ReferenceTree, Expression, literal_expression, reference_expression, unary_expression, row_expression, parentheses, Expressions, no_expressions, expression_then, Operands, no_operands, operand_then}
 use Rattle.fb_tree.specs.declared.expression.BinaryUse.{BinaryUse}
-use Rattle.fb_tree.specs.declared.expression.Reference.{Reference}
 use Rattle.fb_tree.specs.declared.expression.UnaryUse.{UnaryUse}
 use Rattle.fb_iface.specs.Scope.{Scope}
 use Rattle.fb_iface.specs.declared.classes.Class.{Class as ValueClass}
@@ -22,10 +21,10 @@ pub data IsPairOf (scope : Scope) (used : BinaryUse) (before : ValueClass) (x : 
 
 -- what an expression demands
 pub data Asked (scope : Scope) (e : Expression) : Demand → Type 0 where
-  of_reference : (r : Reference) (subscripts : Expressions) → OccursIn (reference_expression r subscripts) e → Asked scope e (names_variable r)
+  of_reference : (r : ReferenceTree) (subscripts : Expressions) → OccursIn (reference_expression r subscripts) e → Asked scope e (names_variable r)
   of_operator : (used : UnaryUse) (x : Expression) → OccursIn (unary_expression used x) e → Asked scope e (suits_operand used x)
   of_pair : (first : Expression) (operands : Operands) (used : BinaryUse) (before : ValueClass) (x : Expression) → OccursIn (row_expression first operands) e → IsPairOf scope used before x (class_in scope first) operands → Asked scope e (suits_operands used before x)
-  of_subscript : (r : Reference) (subscripts : Expressions) (x : Expression) → OccursIn (reference_expression r subscripts) e → IsOneOf x subscripts → Asked scope e (suits_place Count x)
+  of_subscript : (r : ReferenceTree) (subscripts : Expressions) (x : Expression) → OccursIn (reference_expression r subscripts) e → IsOneOf x subscripts → Asked scope e (suits_place Count x)
 
 -- what subscripts demand
 data AskedOf (scope : Scope) (subscripts : Expressions) : Demand → Type 0 where
@@ -45,7 +44,7 @@ module _ (scope : Scope) where
   lifted x e demand lift (of_pair first operands used before y o pair) = of_pair first operands used before y (lift (row_expression first operands) o) pair
   lifted x e demand lift (of_subscript r subscripts y o one) = of_subscript r subscripts y (lift (reference_expression r subscripts) o) one
 
-  by_reference : (r : Reference) (subscripts : Expressions) (demand : Demand) → (names_variable r ≡ demand) ⊎ Contains (subscript_demands scope subscripts) demand → (Contains (subscript_demands scope subscripts) demand → AskedOf scope subscripts demand) → Asked scope (reference_expression r subscripts) demand
+  by_reference : (r : ReferenceTree) (subscripts : Expressions) (demand : Demand) → (names_variable r ≡ demand) ⊎ Contains (subscript_demands scope subscripts) demand → (Contains (subscript_demands scope subscripts) demand → AskedOf scope subscripts demand) → Asked scope (reference_expression r subscripts) demand
   by_reference r subscripts demand (inl e) more = subst (Asked scope (reference_expression r subscripts)) e (of_reference r subscripts itself)
   by_reference r subscripts demand (inr c) more = by demand (more c)
     where

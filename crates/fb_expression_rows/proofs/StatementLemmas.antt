@@ -5,9 +5,8 @@ use Rattle.std.specs.Option.{option_map_or}
 use Rattle.std.proofs.lemmas.List.Elements.{Contains-append_cases, Contains-append_left, Contains-append_right}
 use Rattle.fb_text.specs.declared.name.NameUse.{NameUse}
 use Rattle.fb_text.specs.declared.token.Span.{Span}
-use Rattle.fb_tree.specs.Expression.{Expression, reference_expression, Expressions, no_expressions}
+use Rattle.fb_tree.specs.Expression.{ReferenceTree, Expression, reference_expression, Expressions, no_expressions}
 use Rattle.fb_tree.specs.Statement.{Statement, empty, assignment, exit, return, choice, selection, count, while_loop, repeat_loop, Statements, no_statements, statement_then, Arms, no_arms, arm_then}
-use Rattle.fb_tree.specs.declared.expression.Reference.{Reference}
 use Rattle.fb_iface.specs.Scope.{Scope}
 use Rattle.fb_iface.proofs.Members.{contains_cases, contains_here, contains_later, contains_nothing, contains_single}
 use Rattle.fb_expr.specs.Demands.{Demand, names_variable, suits_place, assigns, demands_in, demands_at, name_alone, counter_demands, range_demands, statement_demands, statements_demands, arms_demands}
@@ -22,7 +21,7 @@ pub data OwnDemand (scope : Scope) (s : Statement) : Demand → Type 0 where
   placed : (place : Place) (x : Expression) → Asks s place x → OwnDemand scope s (suits_place place x)
   counter : (name : NameUse) (a b : Expression) (step : Option Expression) (body : Statements) → s ≡ count name a b step body → OwnDemand scope s (names_variable (name_alone name))
   counter_class : (name : NameUse) (a b : Expression) (step : Option Expression) (body : Statements) → s ≡ count name a b step body → OwnDemand scope s (suits_place Counter (reference_expression (name_alone name) no_expressions))
-  assigned : (r : Reference) (subscripts : Expressions) (place : Span) (e : Expression) → s ≡ assignment r subscripts place e → OwnDemand scope s (assigns (reference_expression r subscripts) place e)
+  assigned : (r : ReferenceTree) (subscripts : Expressions) (place : Span) (e : Expression) → s ≡ assignment r subscripts place e → OwnDemand scope s (assigns (reference_expression r subscripts) place e)
 
 -- what a statement, or a list of statements, demands
 pub record Within (scope : Scope) (s : Statement) (demand : Demand) : Type 0 where
@@ -90,7 +89,7 @@ module _ (scope : Scope) where
   of_range name a b step body demand (second h) = at_place (count name a b step body) Count b demand to h
   of_range name a b step body demand (third h) = of_step name a b step body demand h
 
-  of_assignment : (r : Reference) (subscripts : Expressions) (place : Span) (e : Expression) (demand : Demand) → InThree (demands_in scope (reference_expression r subscripts)) (demands_in scope e) (assigns (reference_expression r subscripts) place e ∷ []) demand → OwnDemand scope (assignment r subscripts place e) demand
+  of_assignment : (r : ReferenceTree) (subscripts : Expressions) (place : Span) (e : Expression) (demand : Demand) → InThree (demands_in scope (reference_expression r subscripts)) (demands_in scope e) (assigns (reference_expression r subscripts) place e ∷ []) demand → OwnDemand scope (assignment r subscripts place e) demand
   of_assignment r subscripts place e demand (first h) = inside (reference_expression r subscripts) destination (asked_in scope (reference_expression r subscripts) demand h)
   of_assignment r subscripts place e demand (second h) = inside e value (asked_in scope e demand h)
   of_assignment r subscripts place e demand (third h) =

@@ -4,11 +4,10 @@ use Rattle.std.specs.List.{Contains, flat_map}
 use Rattle.std.proofs.lemmas.List.Elements.{Contains-append_cases, Contains-append_left, Contains-append_right}
 use Rattle.fb_text.specs.declared.name.NameUse.{NameUse}
 use Rattle.fb_text.specs.declared.token.Span.{Span}
-use Rattle.fb_tree.specs.Expression.{Expression, reference_expression, unary_expression, row_expression, Expressions, no_expressions, Operands}
+use Rattle.fb_tree.specs.Expression.{ReferenceTree, Expression, reference_expression, unary_expression, row_expression, Expressions, no_expressions, Operands}
 use Rattle.fb_tree.specs.Statement.{Statement, assignment, count, Statements, statements_of}
 use Rattle.fb_tree.specs.Tree.{ConditionTree, always, on_event, guarded, guard, DeclTree, TypeTree, block_type, adapter_type, subapplication_type, system_configuration}
 use Rattle.fb_tree.specs.declared.expression.BinaryUse.{BinaryUse}
-use Rattle.fb_tree.specs.declared.expression.Reference.{Reference}
 use Rattle.fb_tree.specs.declared.expression.UnaryUse.{UnaryUse}
 use Rattle.fb_iface.specs.Library.View.{Sources, tree_at}
 use Rattle.fb_iface.specs.Scope.{Scope, scope_of_type}
@@ -27,15 +26,15 @@ use Rattle.fb_expression_rows.proofs.StatementLemmas.{OwnDemand, inside, placed,
 
 -- what a block type demands
 pub data DemandOf (scope : Scope) (d : TypeTree) : Demand → Type 0 where
-  reference : (r : Reference) (subscripts : Expressions) → IsWrittenIn d (reference_expression r subscripts) → DemandOf scope d (names_variable r)
+  reference : (r : ReferenceTree) (subscripts : Expressions) → IsWrittenIn d (reference_expression r subscripts) → DemandOf scope d (names_variable r)
   behind_for : (name : NameUse) (a b : Expression) (step : Option Expression) (body : Statements) → IsRunIn d (count name a b step body) → DemandOf scope d (names_variable (name_alone name))
   operator : (used : UnaryUse) (x : Expression) → IsWrittenIn d (unary_expression used x) → DemandOf scope d (suits_operand used x)
   pair : (first : Expression) (operands : Operands) (used : BinaryUse) (before : ValueClass) (x : Expression) → IsWrittenIn d (row_expression first operands) → IsPairOf scope used before x (class_in scope first) operands → DemandOf scope d (suits_operands used before x)
-  subscript : (r : Reference) (subscripts : Expressions) (x : Expression) → IsWrittenIn d (reference_expression r subscripts) → IsOneOf x subscripts → DemandOf scope d (suits_place Count x)
+  subscript : (r : ReferenceTree) (subscripts : Expressions) (x : Expression) → IsWrittenIn d (reference_expression r subscripts) → IsOneOf x subscripts → DemandOf scope d (suits_place Count x)
   test : (x : Expression) → IsTestedIn d x → DemandOf scope d (suits_place Condition x)
   in_place : (s : Statement) (place : Place) (x : Expression) → IsRunIn d s → Asks s place x → DemandOf scope d (suits_place place x)
   of_counter : (name : NameUse) (a b : Expression) (step : Option Expression) (body : Statements) → IsRunIn d (count name a b step body) → DemandOf scope d (suits_place Counter (reference_expression (name_alone name) no_expressions))
-  of_assignment : (r : Reference) (subscripts : Expressions) (place : Span) (e : Expression) → IsRunIn d (assignment r subscripts place e) → DemandOf scope d (assigns (reference_expression r subscripts) place e)
+  of_assignment : (r : ReferenceTree) (subscripts : Expressions) (place : Span) (e : Expression) → IsRunIn d (assignment r subscripts place e) → DemandOf scope d (assigns (reference_expression r subscripts) place e)
 
 module _ (scope : Scope) (d : TypeTree) where
   in_expression : (x : Expression) (demand : Demand) → ((z : Expression) → OccursIn z x → IsWrittenIn d z) → Asked scope x demand → DemandOf scope d demand

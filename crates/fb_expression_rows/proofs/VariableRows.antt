@@ -4,7 +4,7 @@ use Rattle.std.specs.List.{Contains}
 use Rattle.std.specs.Option.{option_map_or}
 use Rattle.fb_text.specs.declared.name.NameUse.{NameUse}
 use Rattle.fb_tree.specs.Tree.{TypeTree, block_type}
-use Rattle.fb_tree.specs.declared.expression.Reference.{Reference}
+use Rattle.fb_tree.specs.Expression.{ReferenceTree}
 use Rattle.fb_tree.specs.declared.interface.TypeUse.{TypeUse}
 use Rattle.fb_iface.specs.Library.View.{tree_at}
 use Rattle.fb_iface.specs.Scope.{scope_of_type}
@@ -44,7 +44,7 @@ known sources unit span = (to, back)
     other : (demand : Demand) → code_of demand ≡ Class → it ≡ fault_of demand → ⊥
     other demand class is = true≢false (ap (λ (f : Fault). is_unknown_code f.code) is ∙ ap is_unknown_code class)
 
-    named : (d : TypeTree) → tree_at sources unit ≡ Some (block_type d) → (r : Reference) → IsNamedIn d r.name r.member → is_met (scope_of_type sources d) (names_variable r) ≡ false → it ≡ fault_of (names_variable r) → HasUnknownVariable sources unit span
+    named : (d : TypeTree) → tree_at sources unit ≡ Some (block_type d) → (r : ReferenceTree) → IsNamedIn d r.name r.member → is_met (scope_of_type sources d) (names_variable r) ≡ false → it ≡ fault_of (names_variable r) → HasUnknownVariable sources unit span
     named d declared r stands fails is =
         let unknown = unknown_only (referent_of (scope_of_type sources d) r) fails in
         record {
@@ -72,7 +72,7 @@ known sources unit span = (to, back)
     to : Contains (expr_faults_of sources unit) it → HasUnknownVariable sources unit span
     to c = let u = unmet sources unit it c in by_demand u.block u.declared u.demand u.of_block u.fails u.is
 
-    unnamed : (d : TypeTree) → tree_at sources unit ≡ Some (block_type d) → (r : Reference) → DemandOf (scope_of_type sources d) d (names_variable r) → ((used : TypeUse) → ¬ NamesVariable sources d r.name r.member used) → ¬ IsNotJudged sources d r.name r.member → span ≡ span_through r.name r.member → Unmet sources unit it
+    unnamed : (d : TypeTree) → tree_at sources unit ≡ Some (block_type d) → (r : ReferenceTree) → DemandOf (scope_of_type sources d) d (names_variable r) → ((used : TypeUse) → ¬ NamesVariable sources d r.name r.member used) → ¬ IsNotJudged sources d r.name r.member → span ≡ span_through r.name r.member → Unmet sources unit it
     unnamed d declared r demanded none judged place = record {
       block = d;
       declared = declared;

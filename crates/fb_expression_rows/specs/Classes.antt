@@ -1,12 +1,11 @@
 -- The rules of classes, as relations: which classes join, what operators make of classes, what places ask for, and the class of each expression.
 use Rattle.std.specs.Prelude.{◌≡◌, ◌≢◌}
-use Rattle.fb_tree.specs.Expression.{Expression, literal_expression, reference_expression, unary_expression, row_expression, parentheses, Expressions, no_expressions, expression_then, Operands, no_operands, operand_then}
+use Rattle.fb_tree.specs.Expression.{ReferenceTree, Expression, literal_expression, reference_expression, unary_expression, row_expression, parentheses, Expressions, no_expressions, expression_then, Operands, no_operands, operand_then}
 use Rattle.fb_tree.specs.Tree.{TypeTree}
 use Rattle.fb_tree.specs.declared.constant.Literal.{Literal}
 use Rattle.fb_tree.specs.declared.expression.BinaryOperator.{BinaryOperator}
 use Rattle.fb_tree.specs.declared.expression.BinaryOperator.TheVariants.{Or, Xor, And, Equal, NotEqual, Less, Greater, LessOrEqual, GreaterOrEqual, Add, Subtract, Multiply, Divide, Modulo, Power}
 use Rattle.fb_tree.specs.declared.expression.BinaryUse.{BinaryUse}
-use Rattle.fb_tree.specs.declared.expression.Reference.{Reference}
 use Rattle.fb_tree.specs.declared.expression.UnaryOperator.{UnaryOperator}
 use Rattle.fb_tree.specs.declared.expression.UnaryOperator.TheVariants.{Plus, Minus, Not}
 use Rattle.fb_tree.specs.declared.expression.UnaryUse.{UnaryUse}
@@ -126,10 +125,10 @@ pub data Fits : Place → Class → Type 0 where
 mutual
   pub data HasClass (sources : Sources) (d : TypeTree) : Expression → Class → Type 0 where
     of_literal : {l : Literal} → HasClass sources d (literal_expression l) (class_of_literal l.form)
-    of_variable : {r : Reference} (used : TypeUse) → NamesVariable sources d r.name r.member used → HasClass sources d (reference_expression r no_expressions) (class_of_type used)
-    of_element : {r : Reference} {e : Expression} {others : Expressions} (used : TypeUse) → NamesVariable sources d r.name r.member used → used.form ≡ forms.Array → HasClass sources d (reference_expression r (expression_then e others)) (class_of_name used.name.name)
-    of_no_array : {r : Reference} {e : Expression} {others : Expressions} (used : TypeUse) → NamesVariable sources d r.name r.member used → used.form ≢ forms.Array → HasClass sources d (reference_expression r (expression_then e others)) O
-    of_no_variable : {r : Reference} {subscripts : Expressions} → ((used : TypeUse) → ¬ NamesVariable sources d r.name r.member used) → HasClass sources d (reference_expression r subscripts) Free
+    of_variable : {r : ReferenceTree} (used : TypeUse) → NamesVariable sources d r.name r.member used → HasClass sources d (reference_expression r no_expressions) (class_of_type used)
+    of_element : {r : ReferenceTree} {e : Expression} {others : Expressions} (used : TypeUse) → NamesVariable sources d r.name r.member used → used.form ≡ forms.Array → HasClass sources d (reference_expression r (expression_then e others)) (class_of_name used.name.name)
+    of_no_array : {r : ReferenceTree} {e : Expression} {others : Expressions} (used : TypeUse) → NamesVariable sources d r.name r.member used → used.form ≢ forms.Array → HasClass sources d (reference_expression r (expression_then e others)) O
+    of_no_variable : {r : ReferenceTree} {subscripts : Expressions} → ((used : TypeUse) → ¬ NamesVariable sources d r.name r.member used) → HasClass sources d (reference_expression r subscripts) Free
     of_operator : {used : UnaryUse} {x : Expression} {g : Class} (c : Class) → HasClass sources d x c → Changes used.operator c g → HasClass sources d (unary_expression used x) g
     of_broken : {used : UnaryUse} {x : Expression} (c : Class) → HasClass sources d x c → ((g : Class) → ¬ Changes used.operator c g) → HasClass sources d (unary_expression used x) Free
     of_row : {x : Expression} {operands : Operands} {g : Class} (c : Class) → HasClass sources d x c → RowHasClass sources d c operands g → HasClass sources d (row_expression x operands) g

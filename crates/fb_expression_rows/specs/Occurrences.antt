@@ -2,11 +2,10 @@
 use Rattle.std.specs.Prelude.{Option, Some, Contains}
 use Rattle.fb_text.specs.declared.name.NameUse.{NameUse}
 use Rattle.fb_text.specs.declared.token.Span.{Span}
-use Rattle.fb_tree.specs.Expression.{Expression, reference_expression, unary_expression, row_expression, parentheses, Expressions, expression_then, Operands, operand_then}
+use Rattle.fb_tree.specs.Expression.{ReferenceTree, Expression, reference_expression, unary_expression, row_expression, parentheses, Expressions, expression_then, Operands, operand_then}
 use Rattle.fb_tree.specs.Statement.{Statement, assignment, choice, selection, count, while_loop, repeat_loop, Statements, statement_then, Arms, arm_then, statements_of}
 use Rattle.fb_tree.specs.Tree.{AlgorithmTree, ConditionTree, guarded, guard, TransitionTree, TypeTree}
 use Rattle.fb_tree.specs.declared.expression.BinaryUse.{BinaryUse}
-use Rattle.fb_tree.specs.declared.expression.Reference.{Reference}
 use Rattle.fb_tree.specs.declared.expression.UnaryUse.{UnaryUse}
 use Rattle.fb_tree.specs.declared.network.End.{End}
 use Rattle.fb_expr.specs.declared.rules.Place.{Place}
@@ -25,7 +24,7 @@ pub data IsOperandOf (e : Expression) : Operands → Type 0 where
 -- An expression occurs in another: it is this one, or occurs in a part of it.
 pub data OccursIn (e : Expression) : Expression → Type 0 where
   itself : OccursIn e e
-  in_subscript : {r : Reference} {subscripts : Expressions} (x : Expression) → IsOneOf x subscripts → OccursIn e x → OccursIn e (reference_expression r subscripts)
+  in_subscript : {r : ReferenceTree} {subscripts : Expressions} (x : Expression) → IsOneOf x subscripts → OccursIn e x → OccursIn e (reference_expression r subscripts)
   behind_operator : {used : UnaryUse} {x : Expression} → OccursIn e x → OccursIn e (unary_expression used x)
   in_first : {x : Expression} {operands : Operands} → OccursIn e x → OccursIn e (row_expression x operands)
   in_operand : {first : Expression} {operands : Operands} (x : Expression) → IsOperandOf x operands → OccursIn e x → OccursIn e (row_expression first operands)
@@ -49,8 +48,8 @@ pub data Asks : Statement → Place → Expression → Type 0 where
 -- the expressions that a statement has itself: those in such places, the destination of an assignment, with its subscripts, and its value
 pub data HasExpression : Statement → Expression → Type 0 where
   in_place : {s : Statement} {e : Expression} (place : Place) → Asks s place e → HasExpression s e
-  destination : {r : Reference} {subscripts : Expressions} {place : Span} {value : Expression} → HasExpression (assignment r subscripts place value) (reference_expression r subscripts)
-  value : {r : Reference} {subscripts : Expressions} {place : Span} {e : Expression} → HasExpression (assignment r subscripts place e) e
+  destination : {r : ReferenceTree} {subscripts : Expressions} {place : Span} {value : Expression} → HasExpression (assignment r subscripts place value) (reference_expression r subscripts)
+  value : {r : ReferenceTree} {subscripts : Expressions} {place : Span} {e : Expression} → HasExpression (assignment r subscripts place e) e
 
 -- A statement occurs in another, or in a list of statements.
 mutual

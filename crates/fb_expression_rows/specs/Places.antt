@@ -1,9 +1,8 @@
 -- Where expressions stand.
 use Rattle.fb_text.specs.declared.token.Span.{Span}
-use Rattle.fb_tree.specs.Expression.{Expression, literal_expression, reference_expression, unary_expression, row_expression, parentheses, Expressions, Operands, no_operands, operand_then}
+use Rattle.fb_tree.specs.Expression.{ReferenceTree, Expression, literal_expression, reference_expression, unary_expression, row_expression, parentheses, Expressions, Operands, no_operands, operand_then}
 use Rattle.fb_tree.specs.declared.constant.Literal.{Literal}
 use Rattle.fb_tree.specs.declared.expression.BinaryUse.{BinaryUse}
-use Rattle.fb_tree.specs.declared.expression.Reference.{Reference}
 use Rattle.fb_tree.specs.declared.expression.UnaryUse.{UnaryUse}
 
 -- the last operand of a row
@@ -19,7 +18,7 @@ joined first last = record { start = first.start; end = last.end }
 -- parentheses with what they enclose.
 pub data StandsAt : Expression → Span → Type 0 where
   literal : {l : Literal} → StandsAt (literal_expression l) l.span
-  reference : {r : Reference} {subscripts : Expressions} → StandsAt (reference_expression r subscripts) r.span
+  reference : {r : ReferenceTree} {subscripts : Expressions} → StandsAt (reference_expression r subscripts) r.span
   operator : {used : UnaryUse} {x : Expression} (s : Span) → StandsAt x s → StandsAt (unary_expression used x) (joined used.span s)
   row : {first : Expression} {operands : Operands} (x : Expression) (a b : Span) → StandsAt first a → IsLast x operands → StandsAt x b → StandsAt (row_expression first operands) (joined a b)
   no_row : {first : Expression} {s : Span} → StandsAt first s → StandsAt (row_expression first no_operands) s

@@ -2,11 +2,10 @@
 use Rattle.std.specs.Prelude.{◌≡◌, ℕ, List, Option, Some, None, Contains, ◌↔◌, ◌⊎◌}
 use Rattle.fb_text.specs.declared.name.NameUse.{NameUse}
 use Rattle.fb_text.specs.declared.token.Span.{Span}
-use Rattle.fb_tree.specs.Expression.{Expression, reference_expression, unary_expression, row_expression, Expressions, Operands}
+use Rattle.fb_tree.specs.Expression.{ReferenceTree, Expression, reference_expression, unary_expression, row_expression, Expressions, Operands}
 use Rattle.fb_tree.specs.Statement.{Statement, assignment, count, Statements}
 use Rattle.fb_tree.specs.Tree.{TypeTree, block_type}
 use Rattle.fb_tree.specs.declared.expression.BinaryUse.{BinaryUse}
-use Rattle.fb_tree.specs.declared.expression.Reference.{Reference}
 use Rattle.fb_tree.specs.declared.expression.UnaryUse.{UnaryUse}
 use Rattle.fb_tree.specs.declared.interface.TypeUse.{TypeUse}
 use Rattle.fb_iface.specs.Library.View.{Sources, tree_at}
@@ -29,7 +28,7 @@ IsBlockAt sources unit d = tree_at sources unit ≡ Some (block_type d)
 
 -- the names of a reference in the guards and the algorithms of a type, or the name behind FOR in an algorithm
 pub data IsNamedIn (d : TypeTree) : NameUse → Option NameUse → Type 0 where
-  in_reference : (r : Reference) (subscripts : Expressions) → IsWrittenIn d (reference_expression r subscripts) → IsNamedIn d r.name r.member
+  in_reference : (r : ReferenceTree) (subscripts : Expressions) → IsWrittenIn d (reference_expression r subscripts) → IsNamedIn d r.name r.member
   behind_for : (name : NameUse) (from to : Expression) (by : Option Expression) (body : Statements) → IsRunIn d (count name from to by body) → IsNamedIn d name None
 
 -- from the first name through the last
@@ -54,11 +53,11 @@ pub record HasUnknownVariable (sources : Sources) (unit : List ℕ) (span : Span
 pub data BreaksRule (sources : Sources) (d : TypeTree) : Span → Type 0 where
   at_operator : (used : UnaryUse) (x : Expression) (c : ValueClass) → IsWrittenIn d (unary_expression used x) → HasClass sources d x c → ((g : ValueClass) → ¬ Changes used.operator c g) → BreaksRule sources d used.span
   between_operands : (first : Expression) (row : Operands) (start : ValueClass) (used : BinaryUse) (before : ValueClass) (x : Expression) (c : ValueClass) → IsWrittenIn d (row_expression first row) → HasClass sources d first start → IsPairIn sources d used before x start row → HasClass sources d x c → ((g : ValueClass) → ¬ Combines used.operator before c g) → BreaksRule sources d used.span
-  at_subscript : {span : Span} (r : Reference) (subscripts : Expressions) (x : Expression) (c : ValueClass) → IsWrittenIn d (reference_expression r subscripts) → IsOneOf x subscripts → HasClass sources d x c → ¬ Fits Count c → StandsAt x span → BreaksRule sources d span
+  at_subscript : {span : Span} (r : ReferenceTree) (subscripts : Expressions) (x : Expression) (c : ValueClass) → IsWrittenIn d (reference_expression r subscripts) → IsOneOf x subscripts → HasClass sources d x c → ¬ Fits Count c → StandsAt x span → BreaksRule sources d span
   at_guard : {span : Span} (x : Expression) (c : ValueClass) → IsTestedIn d x → HasClass sources d x c → ¬ Fits Condition c → StandsAt x span → BreaksRule sources d span
   in_statement : {span : Span} (s : Statement) (place : Place) (x : Expression) (c : ValueClass) → IsRunIn d s → Asks s place x → HasClass sources d x c → ¬ Fits place c → StandsAt x span → BreaksRule sources d span
   at_counter : (name : NameUse) (from to : Expression) (by : Option Expression) (body : Statements) (used : TypeUse) → IsRunIn d (count name from to by body) → NamesVariable sources d name None used → ¬ Fits Counter (class_of_type used) → BreaksRule sources d name.span
-  at_assignment : (r : Reference) (subscripts : Expressions) (place : Span) (e : Expression) (a b : ValueClass) → IsRunIn d (assignment r subscripts place e) → HasClass sources d (reference_expression r subscripts) a → HasClass sources d e b → ((c : ValueClass) → ¬ Joins a b c) → BreaksRule sources d place
+  at_assignment : (r : ReferenceTree) (subscripts : Expressions) (place : Span) (e : Expression) (a b : ValueClass) → IsRunIn d (assignment r subscripts place e) → HasClass sources d (reference_expression r subscripts) a → HasClass sources d e b → ((c : ValueClass) → ¬ Joins a b c) → BreaksRule sources d place
 
 -- a rule of classes that is broken
 pub record HasBrokenRule (sources : Sources) (unit : List ℕ) (span : Span) : Type 0 where

@@ -10,9 +10,8 @@ use Rattle.fb_parse.specs.Forms.Words.{key, name}
 use Rattle.fb_parse.specs.Lexemes.Kind.{is_among}
 use Rattle.fb_parse.specs.Lexemes.declared.kind.Kind.{Kind}
 use Rattle.fb_parse.specs.Lexemes.declared.lexeme.Lexeme.{Lexeme}
-use Rattle.fb_parse.specs.Tree.Expression.{Expression, reference_expression, unary_expression, Expressions, expressions_of, operands_of}
+use Rattle.fb_parse.specs.Tree.Expression.{ReferenceTree, Expression, reference_expression, unary_expression, Expressions, expressions_of, operands_of}
 use Rattle.fb_parse.specs.Tree.declared.expression.BinaryUse.{BinaryUse}
-use Rattle.fb_parse.specs.Tree.declared.expression.Reference.{Reference}
 use Rattle.fb_parse.specs.Tree.declared.expression.UnaryUse.{UnaryUse}
 use Rattle.fb_structured_text.specs.Operators.{signs, strengths, unary_use, binary_use}
 use Rattle.fb_structured_text.specs.Expression.{levels, expression, variable_of, member_name, variable, expressions, subscripts, plain, subscripted, flat_reference, deep_reference, reference_value, literal, in_parentheses, parenthesized, flat_primary, deep_primary, with_sign, unary, row_of, operand, row, rows, reference}
@@ -61,7 +60,7 @@ sound_variable =
     (sound_both name _ name_parts (option_parts name_parts) sound_name (sound_option _ name_parts (sound_behind _ name name_parts sound_name))))
 
 -- a variable with its subscripts
-abbrev subscripted_span : Reference × Expressions → Span
+abbrev subscripted_span : ReferenceTree × Expressions → Span
 subscripted_span r = r.0.span
 
 filled_flat_reference : Filled flat_reference subscripted_span
@@ -79,7 +78,7 @@ filled_deep_reference inner =
     (filled_more variable (subscripts inner) (λ r. r.span) (λ s. s.1.span) _ (λ r. refl) (λ r s. refl) filled_variable (ends_subscripts inner))
 
 -- the names and the subscripts
-abbrev subscripted_parts : Reference × Expressions → List Part
+abbrev subscripted_parts : ReferenceTree × Expressions → List Part
 subscripted_parts r = reference_parts r.0 ++ expressions_parts r.1
 
 sound_flat_reference : Sound flat_reference subscripted_parts
@@ -89,7 +88,7 @@ sound_flat_reference = sound_as plain variable subscripted_parts (sound_same var
 abbrev subscripts_parts : List Expression × Lexeme → List Part
 subscripts_parts s = flat_map expression_parts s.0
 
-each_subscripted : (P : Part → Type 0) (r : Reference) (s : Option (List Expression × Lexeme)) → Each P (reference_parts r ++ option_parts subscripts_parts s) → Each P (subscripted_parts (subscripted r s))
+each_subscripted : (P : Part → Type 0) (r : ReferenceTree) (s : Option (List Expression × Lexeme)) → Each P (reference_parts r ++ option_parts subscripts_parts s) → Each P (subscripted_parts (subscripted r s))
 each_subscripted P r None h = h
 each_subscripted P r (Some s) h =
     let values = subscripts_parts s in
@@ -138,10 +137,10 @@ suits_literal = record {
   sound = λ is. sound_as _ _ expression_parts (sound_own _ (λ l. expression_part _) (λ _. []) (λ us l s. is.spells us _ (l, s, refl)) (filled_token literal_kinds) (sound_nothing _));
 }
 
-sound_reference_value : (x : Form (Reference × Expressions)) → Filled x subscripted_span → Sound x subscripted_parts → IsExpression (as_value reference_value x) → Sound x (λ r. expression_parts (reference_value r))
+sound_reference_value : (x : Form (ReferenceTree × Expressions)) → Filled x subscripted_span → Sound x subscripted_parts → IsExpression (as_value reference_value x) → Sound x (λ r. expression_parts (reference_value r))
 sound_reference_value x filled sound is = sound_own x (λ r. expression_part (reference_value r)) subscripted_parts (λ us r s. is.spells us (reference_value r) (r, s, refl)) filled sound
 
-suits_reference : (x : Form (Reference × Expressions)) → Filled x subscripted_span → Sound x subscripted_parts → Suits (as_value reference_value x)
+suits_reference : (x : Form (ReferenceTree × Expressions)) → Filled x subscripted_span → Sound x subscripted_parts → Suits (as_value reference_value x)
 suits_reference x filled sound = record {
   filled = filled_as reference_value x expression_span filled;
   sound = λ is. sound_as reference_value x expression_parts (sound_reference_value x filled sound is);

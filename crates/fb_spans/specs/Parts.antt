@@ -5,14 +5,13 @@ use Rattle.fb_text.specs.declared.name.NameUse.{NameUse}
 use Rattle.fb_text.specs.declared.token.Span.{Span}
 use Rattle.fb_parse.specs.Lexemes.declared.kind.Kind.{Kind}
 use Rattle.fb_parse.specs.Lexemes.declared.kind.Kind.TheVariants.{Assign, One}
-use Rattle.fb_parse.specs.Tree.Expression.{Expression, literal_expression, reference_expression, unary_expression, row_expression, parentheses, Expressions, no_expressions, expression_then, Operands, no_operands, operand_then}
+use Rattle.fb_parse.specs.Tree.Expression.{ReferenceTree, Expression, literal_expression, reference_expression, unary_expression, row_expression, parentheses, Expressions, no_expressions, expression_then, Operands, no_operands, operand_then}
 use Rattle.fb_parse.specs.Tree.Statement.{Statement, empty, assignment, exit, return, choice, selection, count, while_loop, repeat_loop, Statements, no_statements, statement_then, Arms, no_arms, arm_then}
 use Rattle.fb_parse.specs.Tree.Tree.{ConstantTree, one_value, value_list, EventTree, VariablesTree, InterfaceTree, ParameterTree, InstanceTree, NetworkTree, StateTree, ConditionTree, always, on_event, guarded, guard, TransitionTree, AlgorithmTree, ChartTree, TypeTree, ApplicationTree, ResourceTree, DeviceTree, MappingTree, SystemTree, DeclTree, block_type, adapter_type, subapplication_type, system_configuration}
 use Rattle.fb_parse.specs.Tree.declared.chart.Action.{Action}
 use Rattle.fb_parse.specs.Tree.declared.constant.Simple.{Simple}
 use Rattle.fb_parse.specs.Tree.declared.constant.Simple.TheVariants as simple
 use Rattle.fb_parse.specs.Tree.declared.expression.BinaryUse.{BinaryUse}
-use Rattle.fb_parse.specs.Tree.declared.expression.Reference.{Reference}
 use Rattle.fb_parse.specs.Tree.declared.expression.UnaryUse.{UnaryUse}
 use Rattle.fb_parse.specs.Tree.declared.interface.TypeUse.{TypeUse}
 use Rattle.fb_parse.specs.Tree.declared.network.Connection.{Connection}
@@ -83,7 +82,7 @@ network_parts n = flat_map instance_parts n.instances ++ flat_map connection_par
 
 -- Expressions
 
-abbrev pub reference_parts : Reference → List Part
+abbrev pub reference_parts : ReferenceTree → List Part
 reference_parts r = name_part r.name ∷ option_parts name_parts r.member
 
 abbrev mutual

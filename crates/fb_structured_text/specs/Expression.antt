@@ -8,16 +8,15 @@ use Rattle.fb_forms.specs.Form.{Form, one, both, either, option, many, as_value}
 use Rattle.fb_forms.specs.Literals.{across, literal_kinds, literal_use}
 use Rattle.fb_forms.specs.Words.{key, behind, list, name}
 use Rattle.fb_tree.specs.declared.expression.BinaryUse.{BinaryUse}
-use Rattle.fb_tree.specs.declared.expression.Reference.{Reference}
 use Rattle.fb_tree.specs.declared.expression.UnaryUse.{UnaryUse}
-use Rattle.fb_tree.specs.Expression.{Expression, literal_expression, reference_expression, unary_expression, row_expression, parentheses, Expressions, no_expressions, expressions_of, operands_of}
+use Rattle.fb_tree.specs.Expression.{ReferenceTree, Expression, literal_expression, reference_expression, unary_expression, row_expression, parentheses, Expressions, no_expressions, expressions_of, operands_of}
 use Rattle.fb_structured_text.specs.Operators.{signs, strengths, unary_use, binary_use}
 
 -- Expressions and statements nest at levels 0 to 64. The index of a form counts the levels below its own, so that level 0 has index 64.
 abbrev pub levels : ℕ
 levels = 64
 
-abbrev pub variable_of : NameUse → Option NameUse → Reference
+abbrev pub variable_of : NameUse → Option NameUse → ReferenceTree
 variable_of n None = record { name = n; member = None; span = n.span }
 variable_of n (Some m) = record { name = n; member = Some m; span = across n.span m.span }
 
@@ -26,7 +25,7 @@ unfoldable pub member_name : Form (NameUse × Option NameUse)
 member_name = both name (option (behind (key Point) name))
 
 -- the same, with its place
-abbrev pub variable : Form Reference
+abbrev pub variable : Form ReferenceTree
 variable = as_value (λ v. variable_of v.0 v.1) member_name
 
 -- expr {',' expr}
@@ -38,23 +37,23 @@ unfoldable pub subscripts : Form Expression → Form (List Expression × Lexeme)
 subscripts inner = behind (key OpenBracket) (both (expressions inner) (key CloseBracket))
 
 -- a variable without subscripts
-abbrev pub plain : Reference → Reference × Expressions
+abbrev pub plain : ReferenceTree → ReferenceTree × Expressions
 plain variable = (variable, no_expressions)
 
 -- a variable and its subscripts, through the bracket that closes them
-abbrev pub subscripted : Reference → Option (List Expression × Lexeme) → Reference × Expressions
+abbrev pub subscripted : ReferenceTree → Option (List Expression × Lexeme) → ReferenceTree × Expressions
 subscripted variable None = plain variable
 subscripted variable (Some s) = (record { name = variable.name; member = variable.member; span = across variable.span s.1.span }, expressions_of s.0)
 
 -- a reference at the last level: name ['.' name]
-unfoldable pub flat_reference : Form (Reference × Expressions)
+unfoldable pub flat_reference : Form (ReferenceTree × Expressions)
 flat_reference = as_value plain variable
 
 -- a reference at the others: name ['.' name] ['[' expr {',' expr} ']']
-unfoldable pub deep_reference : Form Expression → Form (Reference × Expressions)
+unfoldable pub deep_reference : Form Expression → Form (ReferenceTree × Expressions)
 deep_reference inner = as_value (λ v. subscripted v.0 v.1) (both variable (option (subscripts inner)))
 
-abbrev pub reference_value : Reference × Expressions → Expression
+abbrev pub reference_value : ReferenceTree × Expressions → Expression
 reference_value r = reference_expression r.0 r.1
 
 -- NUMBER | TYPED | STRING | 'TRUE' | 'FALSE'
@@ -113,6 +112,6 @@ primary zero = flat_primary
 primary (suc n) = deep_primary (expression n)
 
 -- a reference in it
-unfoldable pub reference : ℕ → Form (Reference × Expressions)
+unfoldable pub reference : ℕ → Form (ReferenceTree × Expressions)
 reference zero = flat_reference
 reference (suc n) = deep_reference (expression n)

@@ -20,7 +20,7 @@ ghost use Rattle.fb_structured_text.specs.Expression.{
   unary,
 };
 ghost use Rattle.fb_structured_text.specs.Operators.{operators, strengths};
-ghost use Rattle.fb_tree.specs.Expression.{expression_tree, expressions_of};
+ghost use Rattle.fb_tree.specs.Expression.{expression_tree, expressions_of, reference_tree};
 ghost use Rattle.std.specs.Prelude.{◌≡◌, ◌≤◌, ◌<◌, ◌+◌, drop, map};
 
 use crate::operators::{SIGNS, is_literal, literal, next_strength, operator, operators, sign};
@@ -106,7 +106,7 @@ fn deep_reference(
     below: u8,
     tokens: &[Lexeme],
 ) -> Result<((Box<Reference>, Vec<Expr>), &[Lexeme]), Stop<'_>>
-    ensures { Gives (λ x. ((x.0.0.value, expressions_of (map expression_tree x.0.1.items)), x.1.now)) result (read (deep_reference (expression below)) tokens.now) }
+    ensures { Gives (λ x. ((reference_tree x.0.0.value, expressions_of (map expression_tree x.0.1.items)), x.1.now)) result (read (deep_reference (expression below)) tokens.now) }
 {
     let ((name, member), rest) = member_name(tokens)?;
     let mut variable = variable(alloc, name, member)?;
@@ -273,7 +273,7 @@ pub fn reference(
     left: u8,
     tokens: &[Lexeme],
 ) -> Result<((Box<Reference>, Vec<Expr>), &[Lexeme]), Stop<'_>>
-    ensures { Gives (λ x. ((x.0.0.value, expressions_of (map expression_tree x.0.1.items)), x.1.now)) result (read (reference left) tokens.now) }
+    ensures { Gives (λ x. ((reference_tree x.0.0.value, expressions_of (map expression_tree x.0.1.items)), x.1.now)) result (read (reference left) tokens.now) }
 {
     if left == 0 {
         flat_reference(alloc, tokens)

@@ -3,7 +3,7 @@ ghost use Rattle.fb_forms.specs.Gives.{Gives};
 ghost use Rattle.fb_forms.specs.Reading.{read};
 ghost use Rattle.fb_forms.specs.Lexemes.Lexemes.{name_use};
 ghost use Rattle.fb_structured_text.specs.Expression.{flat_reference, member_name, variable_of};
-ghost use Rattle.fb_tree.specs.Expression.{expression_tree, expressions_of};
+ghost use Rattle.fb_tree.specs.Expression.{expression_tree, expressions_of, reference_tree};
 ghost use Rattle.std.specs.Prelude.{◌≡◌, IfOk, map, option_map};
 
 use fb_forms::lexemes::{Kind, Lexeme};
@@ -31,12 +31,12 @@ pub fn variable(
     name: &Lexeme,
     member: Option<&Lexeme>,
 ) -> Result<Box<Reference>, AllocError>
-    ensures { IfOk result (λ v. v.value ≡ variable_of (name_use name.now) (option_map (λ m. name_use m.now) member.entry)) }
+    ensures { IfOk result (λ v. reference_tree v.value ≡ variable_of (name_use name.now) (option_map (λ m. name_use m.now) member.entry)) }
 {
     let variable = match member {
         Some(member) => Reference {
             name: name.name_use(),
-            member: Some(member.name_use()),
+            member: Some(Box::new(alloc, member.name_use())?),
             span: across(name.span, member.span),
         },
         None => Reference {
@@ -54,7 +54,7 @@ pub fn flat_reference(
     alloc: Global,
     tokens: &[Lexeme],
 ) -> Result<((Box<Reference>, Vec<Expr>), &[Lexeme]), Stop<'_>>
-    ensures { Gives (λ x. ((x.0.0.value, expressions_of (map expression_tree x.0.1.items)), x.1.now)) result (read flat_reference tokens.now) }
+    ensures { Gives (λ x. ((reference_tree x.0.0.value, expressions_of (map expression_tree x.0.1.items)), x.1.now)) result (read flat_reference tokens.now) }
 {
     let ((name, member), rest) = member_name(tokens)?;
     let variable = variable(alloc, name, member)?;

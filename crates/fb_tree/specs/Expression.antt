@@ -1,5 +1,5 @@
 -- Expressions without where they lie in memory.
-use Rattle.std.specs.Prelude.{List, [], ◌∷◌, Option, box_value}
+use Rattle.std.specs.Prelude.{List, [], ◌∷◌, Option, option_map, box_value}
 use Rattle.fb_text.specs.declared.token.Span.{Span}
 use Rattle.fb_text.specs.declared.name.NameUse.{NameUse}
 use Rattle.fb_tree.specs.declared.constant.Literal.{Literal as LiteralUse}
@@ -10,11 +10,20 @@ use Rattle.fb_tree.specs.declared.expression.Expr.{Expr}
 use Rattle.fb_tree.specs.declared.expression.Expr.TheOpen.{Expr-F, Literal, Reference, Unary, Row, Parentheses}
 use Rattle.fb_tree.specs.declared.expression.Expr.TheFolds.{fold-Expr}
 
+-- a variable, or a variable of a plug or socket
+pub record ReferenceTree : Type 0 where
+  pub name : NameUse
+  pub member : Option NameUse
+  pub span : Span
+
+abbrev pub reference_tree : ReferenceUse → ReferenceTree
+reference_tree r = record { name = r.name; member = option_map box_value r.member; span = r.span }
+
 mutual
   pub data Expression : Type 0 where
     literal_expression : LiteralUse → Expression
     -- a variable with its subscripts
-    reference_expression : ReferenceUse → Expressions → Expression
+    reference_expression : ReferenceTree → Expressions → Expression
     unary_expression : UnaryUse → Expression → Expression
     -- an operand, and operators of one strength, each with the operand behind it
     row_expression : Expression → Operands → Expression
@@ -39,7 +48,7 @@ operands_of (o ∷ os) = operand_then o.0 o.1 (operands_of os)
 -- one level, with the expression of each part in its place
 abbrev pub expression_step : Expr-F Expression → Expression
 expression_step (Literal l) = literal_expression l
-expression_step (Reference r subscripts) = reference_expression (box_value r) (expressions_of subscripts.items)
+expression_step (Reference r subscripts) = reference_expression (reference_tree (box_value r)) (expressions_of subscripts.items)
 expression_step (Unary operator e) = unary_expression operator (box_value e)
 expression_step (Row e operands) = row_expression (box_value e) (operands_of operands.items)
 expression_step (Parentheses e span) = parentheses (box_value e) span

@@ -2,8 +2,7 @@
 use Rattle.std.specs.Prelude.{List, [], ◌∷◌, map, Option, option_map, box_value}
 use Rattle.fb_text.specs.declared.token.Span.{Span}
 use Rattle.fb_text.specs.declared.name.NameUse.{NameUse}
-use Rattle.fb_tree.specs.Expression.{Expression, Expressions, expressions_of, expression_tree}
-use Rattle.fb_tree.specs.declared.expression.Reference.{Reference}
+use Rattle.fb_tree.specs.Expression.{ReferenceTree, reference_tree, Expression, Expressions, expressions_of, expression_tree}
 use Rattle.fb_tree.specs.declared.statement.Stmt.{Stmt}
 use Rattle.fb_tree.specs.declared.statement.Stmt.TheOpen.{Stmt-F, Empty, Assign, Exit, Return, If, Case, For, While, Repeat}
 use Rattle.fb_tree.specs.declared.statement.Stmt.TheFolds.{fold-Stmt}
@@ -12,7 +11,7 @@ mutual
   pub data Statement : Type 0 where
     empty : Statement
     -- the variable with its subscripts, the place of ':=' and the value
-    assignment : Reference → Expressions → Span → Expression → Statement
+    assignment : ReferenceTree → Expressions → Span → Expression → Statement
     exit : Statement
     return : Statement
     -- conditions with what is done, and what is done behind ELSE
@@ -43,7 +42,7 @@ arms_of (a ∷ others) = arm_then a.0 (statements_of a.1) (arms_of others)
 -- one level, with the statement of each part in its place
 abbrev pub statement_step : Stmt-F Statement → Statement
 statement_step Empty = empty
-statement_step (Assign r subscripts place value) = assignment (box_value r) (expressions_of (map expression_tree subscripts.items)) place (expression_tree value)
+statement_step (Assign r subscripts place value) = assignment (reference_tree (box_value r)) (expressions_of (map expression_tree subscripts.items)) place (expression_tree value)
 statement_step Exit = exit
 statement_step Return = return
 statement_step (If arms otherwise) = choice (arms_of (map (λ a. (expression_tree a.0, a.1.items)) arms.items)) (statements_of otherwise.items)

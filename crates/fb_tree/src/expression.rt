@@ -46,10 +46,11 @@ pub struct BinaryUse {
 }
 
 /// A variable, or a variable of a plug or socket. Its subscripts stand beside it.
-#[derive(Clone, Copy, Debug)]
+#[derive(Debug, Drop)]
 pub struct Reference {
     pub name: NameUse,
-    pub member: Option<NameUse>,
+    /// Few references have one.
+    pub member: Option<Box<NameUse>>,
     /// From the name to the closing bracket of the subscripts.
     pub span: Span,
 }

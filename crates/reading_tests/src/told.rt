@@ -390,7 +390,10 @@ fn tell_reference(
     told: &mut String,
 ) -> Result<(), AllocError> {
     told.push_str(reference.name.name.as_str())?;
-    tell_name(".", &reference.member, told)?;
+    if let Some(member) = &reference.member {
+        told.push_str(".")?;
+        told.push_str(member.name.as_str())?;
+    }
     for subscript in subscripts {
         told.push_str("[")?;
         tell_expression(subscript, told)?;
