@@ -61,7 +61,7 @@ pub data IsEventOf (scope : Scope) (side : Side) : NameUse → Option NameUse �
   of_unusable_plug : {p X : NameUse} (i : DeclaredInstance) → stands_for scope.own.instances p.name ≡ Some i → i.role ≡ Plug → instance_ports scope i ≡ None → IsEventOf scope side p (Some X)
   of_unusable_socket : {p X : NameUse} (i : DeclaredInstance) → stands_for scope.own.instances p.name ≡ Some i → i.role ≡ Socket → instance_ports scope i ≡ None → IsEventOf scope side p (Some X)
 
--- a transition on what is no event that comes in
+-- a transition on what is not an input event
 pub record HasUnknownTrigger (sources : Sources) (unit : List ℕ) (span : Span) : Type 0 where
   pub block : TypeTree
   pub declared : IsBlockAt sources unit block
@@ -72,7 +72,7 @@ pub record HasUnknownTrigger (sources : Sources) (unit : List ℕ) (span : Span)
   pub unknown : ¬ IsEventOf (scope_of_type sources block) Input event.name event.port
   pub place : span ≡ span_from event.name.span event.port
 
--- an action that sends what is no event that goes out
+-- an action that sends what is not an output event
 pub record HasUnknownSent (sources : Sources) (unit : List ℕ) (span : Span) : Type 0 where
   pub block : TypeTree
   pub declared : IsBlockAt sources unit block

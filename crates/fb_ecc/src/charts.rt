@@ -50,11 +50,11 @@ fn report_block<V: View>(
         return Ok(());
     }
     let scope = Scope::of_type(alloc, view, declared)?;
-    report_chart(alloc, &scope, chart, found)
+    report_charts(alloc, &scope, chart, found)
 }
 
-/// Reports the faults of a chart.
-fn report_chart(
+/// Reports the faults of a chart, as they are found.
+pub fn report_charts(
     alloc: Global,
     scope: &Scope,
     chart: &Chart,

@@ -1,10 +1,9 @@
 //! The check of the expressions and statements of a unit (IEC 61499-1, 5.2.1 and 5.2.2: execution control charts and algorithms).
 ghost use Rattle.std.specs.Prelude.{◌≡◌, ◌++◌, IfOk, OnOk};
 ghost use Rattle.std.specs.List.{flat_map};
-ghost use Rattle.fb_tree.specs.Tree.{algorithm_tree, chart_tree, condition_tree, decl_tree, transition_tree, type_tree};
+ghost use Rattle.fb_tree.specs.Tree.{algorithm_tree, chart_tree, condition_tree, decl_tree, transition_tree};
 ghost use Rattle.fb_iface.specs.Library.View.{tree_at};
 ghost use Rattle.fb_iface.specs.Fault.{faults_in_order};
-ghost use Rattle.fb_iface.specs.Scope.{scope_of_type};
 ghost use Rattle.fb_iface.specs.Kept.{scope_in};
 ghost use Rattle.fb_expr.specs.Charts.{algorithm_faults, chart_faults, expr_faults_of, guard_faults, transition_faults};
 
@@ -14,7 +13,7 @@ use crate::statements::report_statements;
 use fb_iface::library::{View, tree_by_name};
 use fb_iface::{Fault, Scope, sorted_faults};
 use fb_text::Name;
-use fb_tree::{Algorithm, Chart, Condition, Decl, Transition, TypeDeclaration};
+use fb_tree::{Algorithm, Chart, Condition, Decl, Transition};
 use std::alloc::{AllocError, Global};
 
 /// The faults of the expressions and statements of a unit, in order, each once: names that are no variables, and values that do not suit
@@ -31,29 +30,20 @@ pub fn expr_faults<V: View>(alloc: Global, view: &V, unit: &Name) -> Result<Vec<
 fn reported<V: View>(alloc: Global, view: &V, unit: &Name) -> Result<Vec<Fault>, AllocError>
     ensures { IfOk result (λ faults. faults.items ≡ expr_faults_of (V.sources view.now) unit.now) }
 {
-    match tree_by_name(view, unit) {
-        Some(Decl::Block(declared)) => reported_in_type(alloc, view, declared),
-        _ => Ok(Vec::new(alloc)),
-    }
-}
-
-/// Those of a block type.
-fn reported_in_type<V: View>(
-    alloc: Global,
-    view: &V,
-    declared: &TypeDeclaration,
-) -> Result<Vec<Fault>, AllocError>
-    ensures { IfOk result (λ faults. faults.items
-        ≡ chart_faults (scope_of_type (V.sources view.now) (type_tree declared.now)) (chart_tree declared.now.chart)) }
-{
-    let scope = Scope::of_type(alloc, view, declared)?;
     let mut found = Vec::new(alloc);
-    report_chart(&scope, &declared.chart, &mut found)?;
+    if let Some(Decl::Block(declared)) = tree_by_name(view, unit) {
+        let scope = Scope::of_type(alloc, view, declared)?;
+        report_expressions(&scope, &declared.chart, &mut found)?;
+    }
     Ok(found)
 }
 
-/// Reports the faults of the guards and of the algorithms.
-fn report_chart(scope: &Scope, chart: &Chart, found: &mut Vec<Fault>) -> Result<(), AllocError>
+/// Reports the faults of the expressions of guards and of the statements of algorithms, as they are found.
+pub fn report_expressions(
+    scope: &Scope,
+    chart: &Chart,
+    found: &mut Vec<Fault>,
+) -> Result<(), AllocError>
     ensures { OnOk result (found.new.items ≡ found.old.items ++ chart_faults (scope_in scope.now) (chart_tree chart.now)) }
 {
     report_transitions(scope, chart.transitions.as_slice(), found)?;

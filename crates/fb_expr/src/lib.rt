@@ -10,5 +10,5 @@ mod rules;
 mod spans;
 mod statements;
 
-pub use charts::expr_faults;
+pub use charts::{expr_faults, report_expressions};
 pub use laws::{expr_faults_are_local, expr_faults_are_unmet};

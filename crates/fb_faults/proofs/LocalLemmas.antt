@@ -1,16 +1,13 @@
 -- The faults of a unit depend on the texts of the unit and of its mentions alone.
 use Rattle.std.proofs.Common.{◌≡◌, ℕ, List, [], ◌∷◌, ◌++◌, Option, Some, None, refl, ap, ◌∙◌, subst, arith}
-use Rattle.std.specs.FinMap.{get, slice_cmp-IsAntisymmetric, nat_cmp-IsAntisymmetric}
-use Rattle.std.specs.Cmp.Lexicographic.{nat_list_cmp_total}
+use Rattle.std.specs.FinMap.{get}
 use Rattle.std.specs.List.{Contains, flat_map}
 use Rattle.std.specs.Option.{option_and_then}
 use Rattle.std.proofs.lemmas.List.{map-append}
-use Rattle.std.proofs.lemmas.List.Elements.{Contains-append_left, Contains-append_right}
-use Rattle.fb_text.specs.Order.{name_cmp, names_in_order}
-use Rattle.fb_text.proofs.OrderLemmas.{in_order-members}
+use Rattle.std.proofs.lemmas.List.Elements.{Contains-append_right}
 use Rattle.fb_netcheck.specs.Tree.Mentions.{mentioned_in, types_in}
 use Rattle.fb_netcheck.specs.Tree.Tree.{ApplicationTree, DeclTree, InstanceTree, block_type, adapter_type, subapplication_type, system_configuration}
-use Rattle.fb_netcheck.specs.Library.View.{Sources, mentions_at, mentions_in, near_of, tree_at, tree_of}
+use Rattle.fb_netcheck.specs.Library.View.{Sources, mentions_in, near_of, tree_at, tree_of}
 use Rattle.fb_netcheck.proofs.Library.LocalLemmas.{near_unit}
 use Rattle.fb_netcheck.proofs.Iface.ScopeLocal.{in_order_has, near_mention}
 use Rattle.fb_netcheck.specs.Iface.Declarations.{iface_faults_of, declaration_faults, duplicate_faults, literal_faults_of, mixed_faults, name_faults, with_faults_of}

@@ -5,16 +5,22 @@ use Rattle.std.specs.FinMap.{get}
 use Rattle.std.specs.List.Sorted.{IsStrictlySortedBy}
 use Rattle.fb_text.specs.declared.token.Span.{Span}
 use Rattle.fb_netcheck.specs.Parse.Body.{BodyTree, Whole, BrokenAt, body_of}
+use Rattle.fb_netcheck.specs.Tree.Tree.{TypeTree}
+use Rattle.fb_netcheck.specs.Tree.declared.kinds.UnitKind.TheVariants.{Block}
 use Rattle.fb_netcheck.specs.Library.Local.{Agree}
-use Rattle.fb_netcheck.specs.Library.View.{Sources, near_of}
+use Rattle.fb_netcheck.specs.Library.View.{Sources, near_of, tree_in}
 use Rattle.fb_netcheck.specs.Iface.declared.code.Code.TheVariants.{Syntax}
 use Rattle.fb_netcheck.specs.Iface.declared.fault.Fault.{Fault}
 use Rattle.fb_netcheck.specs.Iface.Fault.{fault_cmp, faults_in_order}
-use Rattle.fb_netcheck.specs.Iface.Declarations.{iface_faults_of}
-use Rattle.fb_expr.specs.Charts.{expr_faults_of}
-use Rattle.fb_ecc.specs.Charts.{ecc_faults_of}
-use Rattle.fb_netcheck.specs.Networks.{net_faults_of}
-use Rattle.fb_faults.specs.Mappings.{mapping_faults_of}
+use Rattle.fb_netcheck.specs.Iface.Declarations.{declaration_faults, iface_faults_of}
+use Rattle.fb_expr.specs.Charts as expressions
+use Rattle.fb_expr.specs.Charts.{expr_faults_of, faults_in_unit}
+use Rattle.fb_ecc.specs.Charts as charts
+use Rattle.fb_ecc.specs.Charts.{chart_faults_in, ecc_faults_of}
+use Rattle.fb_netcheck.specs.Iface.Scope.{scope_of_type}
+use Rattle.fb_netcheck.specs.Settings.{Place}
+use Rattle.fb_netcheck.specs.Networks.{net_faults_of, network_faults, tree_faults}
+use Rattle.fb_faults.specs.Mappings.{declared_mapping_faults, mapping_faults_of}
 
 abbrev pub body_faults : BodyTree → List Fault
 body_faults (Whole decl) = []
@@ -41,15 +47,23 @@ reported_of sources unit =
 abbrev pub faults_of : Sources → List ℕ → List Fault
 faults_of sources unit = faults_in_order (reported_of sources unit)
 
--- what each check gives, one after the other
-abbrev pub found_in_turn : Sources → List ℕ → List Fault
-found_in_turn sources unit =
-    syntax_faults_of sources unit
-    ++ faults_in_order (iface_faults_of sources unit)
-    ++ faults_in_order (expr_faults_of sources unit)
-    ++ faults_in_order (ecc_faults_of sources unit)
-    ++ faults_in_order (net_faults_of sources unit)
-    ++ mapping_faults_of sources unit
+-- what the checks report of a unit whose text has this body
+abbrev pub reported_in : Sources → List ℕ → BodyTree → List Fault
+reported_in sources unit body =
+    body_faults body
+    ++ declaration_faults sources unit (tree_in body)
+    ++ faults_in_unit sources (tree_in body)
+    ++ chart_faults_in sources (tree_in body)
+    ++ tree_faults sources unit (tree_in body)
+    ++ declared_mapping_faults (tree_in body)
+
+-- what the checks of expressions, charts and networks report of a type, where its network stands here
+abbrev pub faults_here : Sources → Place → TypeTree → List Fault
+faults_here sources here d = expressions.chart_faults here.scope d.chart ++ charts.chart_faults here.scope d.chart ++ network_faults sources here d.network
+
+-- the same of a block type
+abbrev pub block_faults : Sources → List ℕ → TypeTree → List Fault
+block_faults sources unit d = faults_here sources (record { unit = unit; kind = Block; scope = scope_of_type sources d }) d
 
 -- the faults of a unit depend on the texts of the unit and of its mentions alone
 abbrev pub FaultsAreLocal : Type 0

@@ -1,14 +1,21 @@
 //! All faults of a unit.
 ghost use Rattle.std.specs.Prelude.{◌≡◌, ◌++◌, IfOk, OnOk};
-ghost use Rattle.fb_faults.specs.Faults.{faults_of, found_in_turn, syntax_faults_of};
+ghost use Rattle.fb_netcheck.specs.Tree.Tree.{decl_tree, type_tree};
+ghost use Rattle.fb_netcheck.specs.Tree.declared.kinds.UnitKind.TheVariants as kinds;
+ghost use Rattle.fb_netcheck.specs.Parse.Body.{Whole, body_tree};
+ghost use Rattle.fb_netcheck.specs.Iface.Ports.{meanings_in_type};
+ghost use Rattle.fb_netcheck.specs.Networks.{type_network};
+ghost use Rattle.fb_netcheck.specs.Settings.{place_in};
+ghost use Rattle.fb_faults.specs.Faults.{block_faults, faults_here, faults_of, reported_in, reported_of};
 
-use crate::mappings::mapping_faults;
-use fb_ecc::ecc_faults;
-use fb_expr::expr_faults;
-use fb_netcheck::iface::{Code, Fault, iface_faults, sorted_faults};
+use crate::mappings::report_mappings;
+use fb_ecc::report_charts;
+use fb_expr::report_expressions;
+use fb_netcheck::iface::{Code, Fault, Ports, Scope, ports_of, report_declarations, sorted_faults};
 use fb_netcheck::library::View;
-use fb_netcheck::net_faults;
 use fb_netcheck::parse::Body;
+use fb_netcheck::tree::{Decl, TypeDeclaration, UnitKind};
+use fb_netcheck::{Setting, report_network, report_networks};
 use fb_text::Name;
 use std::alloc::{AllocError, Global};
 
@@ -16,43 +23,120 @@ use std::alloc::{AllocError, Global};
 pub fn faults<V: View>(alloc: Global, view: &V, unit: &Name) -> Result<Vec<Fault>, AllocError>
     ensures { IfOk result (λ faults. faults.items ≡ faults_of (V.sources view.now) unit.now) }
 {
-    let found = found_by_checks(alloc, view, unit)?;
+    let found = reported(alloc, view, unit)?;
     sorted_faults(alloc, found.as_slice())
 }
 
-/// What each check finds, one after the other.
-fn found_by_checks<V: View>(alloc: Global, view: &V, unit: &Name) -> Result<Vec<Fault>, AllocError>
-    ensures { IfOk result (λ found. found.items ≡ found_in_turn (V.sources view.now) unit.now) }
-{
-    let mut found = syntax_faults(alloc, view, unit)?;
-    add(iface_faults(alloc, view, unit)?, &mut found)?;
-    add(expr_faults(alloc, view, unit)?, &mut found)?;
-    add(ecc_faults(alloc, view, unit)?, &mut found)?;
-    add(net_faults(alloc, view, unit)?, &mut found)?;
-    add(mapping_faults(alloc, view, unit)?, &mut found)?;
-    Ok(found)
-}
-
-/// Adds the faults that a check has found.
-fn add(faults: Vec<Fault>, found: &mut Vec<Fault>) -> Result<(), AllocError>
-    ensures { OnOk result (found.new.items ≡ found.old.items ++ faults.items) }
-{
-    found.extend_from_slice(faults.as_slice())?;
-    Ok(())
-}
-
-/// The fault of a broken text.
-fn syntax_faults<V: View>(alloc: Global, view: &V, unit: &Name) -> Result<Vec<Fault>, AllocError>
-    ensures { IfOk result (λ faults. faults.items ≡ syntax_faults_of (V.sources view.now) unit.now) }
+/// The faults as the checks find them.
+fn reported<V: View>(alloc: Global, view: &V, unit: &Name) -> Result<Vec<Fault>, AllocError>
+    ensures { IfOk result (λ found. found.items ≡ reported_of (V.sources view.now) unit.now) }
 {
     let mut found = Vec::new(alloc);
     if let Some(source) = view.get(unit) {
-        if let Body::Broken(span) = source.body() {
-            found.push(Fault {
-                code: Code::Syntax,
-                span: *span,
-            })?;
-        }
+        report_body(alloc, view, unit, source.body(), &mut found)?;
     }
     Ok(found)
+}
+
+/// Reports the place of a broken text, or the faults of what a text declares.
+fn report_body<V: View>(
+    alloc: Global,
+    view: &V,
+    unit: &Name,
+    body: &Body,
+    found: &mut Vec<Fault>,
+) -> Result<(), AllocError>
+    ensures { OnOk result (found.new.items
+        ≡ found.old.items ++ reported_in (V.sources view.now) unit.now (body_tree body.now)) }
+{
+    match body {
+        Body::Tree(decl) => report_declared(alloc, view, unit, decl, found)?,
+        Body::Broken(span) => found.push(Fault {
+            code: Code::Syntax,
+            span: *span,
+        })?,
+    }
+    Ok(())
+}
+
+/// Reports the faults of what a unit declares. Its ports are read once for all checks.
+fn report_declared<V: View>(
+    alloc: Global,
+    view: &V,
+    unit: &Name,
+    decl: &Decl,
+    found: &mut Vec<Fault>,
+) -> Result<(), AllocError>
+    ensures { OnOk result (found.new.items
+        ≡ found.old.items ++ reported_in (V.sources view.now) unit.now (Whole (decl_tree decl.now))) }
+{
+    let own = ports_of(alloc, decl)?;
+    report_declarations(alloc, view, unit, decl, &own, found)?;
+    match decl {
+        Decl::Block(declared) => report_block(alloc, view, unit, own, declared, found),
+        Decl::Adapter(_) => Ok(()),
+        Decl::Subapplication(declared) => {
+            report_subapplication(alloc, view, unit, own, declared, found)
+        }
+        Decl::System(system) => {
+            report_networks(alloc, view, unit, decl, found)?;
+            report_mappings(alloc, system, found)
+        }
+    }
+}
+
+/// Reports the faults of the chart and of the network of a block type with these ports. Both have one scope.
+fn report_block<V: View>(
+    alloc: Global,
+    view: &V,
+    unit: &Name,
+    own: Ports,
+    declared: &TypeDeclaration,
+    found: &mut Vec<Fault>,
+) -> Result<(), AllocError>
+    requires { own ≡ meanings_in_type (type_tree declared.now) }
+    ensures { OnOk result (found.new.items
+        ≡ found.old.items ++ block_faults (V.sources view.now) unit.now (type_tree declared.now)) }
+{
+    let scope = Scope::new(alloc, view, own, &declared.network)?;
+    let unit = *unit;
+    let kind = UnitKind::Block;
+    let here = Setting { unit, kind, scope };
+    report_here(alloc, view, &here, declared, found)
+}
+
+/// Reports the faults of the chart and of the network of a type, where the network stands here.
+fn report_here<V: View>(
+    alloc: Global,
+    view: &V,
+    here: &Setting,
+    declared: &TypeDeclaration,
+    found: &mut Vec<Fault>,
+) -> Result<(), AllocError>
+    ensures { OnOk result (found.new.items ≡ found.old.items
+        ++ faults_here (V.sources view.now) (place_in here.now) (type_tree declared.now)) }
+{
+    report_expressions(&here.scope, &declared.chart, found)?;
+    report_charts(alloc, &here.scope, &declared.chart, found)?;
+    report_network(alloc, view, here, &declared.network, found)
+}
+
+/// Reports the faults of the network of a subapplication with these ports.
+fn report_subapplication<V: View>(
+    alloc: Global,
+    view: &V,
+    unit: &Name,
+    own: Ports,
+    declared: &TypeDeclaration,
+    found: &mut Vec<Fault>,
+) -> Result<(), AllocError>
+    requires { own ≡ meanings_in_type (type_tree declared.now) }
+    ensures { OnOk result (found.new.items
+        ≡ found.old.items ++ type_network (V.sources view.now) unit.now kinds.Subapplication (type_tree declared.now)) }
+{
+    let scope = Scope::new(alloc, view, own, &declared.network)?;
+    let unit = *unit;
+    let kind = UnitKind::Subapplication;
+    let here = Setting { unit, kind, scope };
+    report_network(alloc, view, &here, &declared.network, found)
 }

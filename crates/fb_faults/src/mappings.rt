@@ -4,34 +4,22 @@ ghost use Rattle.std.specs.BTreeSet.{contains};
 ghost use Rattle.std.specs.List.{flat_map};
 ghost use Rattle.fb_netcheck.specs.Tree.Tree.{device_tree, mapping_tree, system_tree};
 ghost use Rattle.fb_netcheck.specs.Iface.Names.{has_name, is_same};
-ghost use Rattle.fb_faults.specs.Mappings.{has_resource, home_faults, home_span, mapping_faults_of, system_mapping_faults};
+ghost use Rattle.fb_faults.specs.Mappings.{has_resource, home_faults, home_span, system_mapping_faults};
 ghost use Rattle.fb_faults.specs.Pairs.{pair_cmp};
 
 use fb_netcheck::iface::{Code, Fault};
-use fb_netcheck::library::{View, tree_by_name};
 use fb_netcheck::report_repeated;
-use fb_netcheck::tree::{Decl, Device, Mapping, Resource, System};
+use fb_netcheck::tree::{Device, Mapping, Resource, System};
 use fb_text::{Name, Span};
 use std::alloc::{AllocError, Global};
 use std::collections::BTreeSet;
 
-/// The faults of the mappings of a unit, as they are found.
-pub fn mapping_faults<V: View>(
+/// Reports paths that are mapped twice, and mappings to what is no resource of the system, as they are found.
+pub fn report_mappings(
     alloc: Global,
-    view: &V,
-    unit: &Name,
-) -> Result<Vec<Fault>, AllocError>
-    ensures { IfOk result (λ faults. faults.items ≡ mapping_faults_of (V.sources view.now) unit.now) }
-{
-    let mut found = Vec::new(alloc);
-    if let Some(Decl::System(system)) = tree_by_name(view, unit) {
-        report_system(alloc, system, &mut found)?;
-    }
-    Ok(found)
-}
-
-/// Reports paths that are mapped twice, and mappings to what is no resource.
-fn report_system(alloc: Global, system: &System, found: &mut Vec<Fault>) -> Result<(), AllocError>
+    system: &System,
+    found: &mut Vec<Fault>,
+) -> Result<(), AllocError>
     ensures { OnOk result
         (found.new.items ≡ found.old.items ++ system_mapping_faults (system_tree system.now)) }
 {

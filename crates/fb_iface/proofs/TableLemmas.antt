@@ -1,5 +1,7 @@
 -- One more declaration in a table of first declarations.
-use Rattle.std.proofs.Common.{◌≡◌, ℕ, Bool, true, false, cond, not, nat_eq, ◌+◌, ◌<◌, length, get_or, take, is_none, List, [], ◌∷◌, ◌++◌, refl, sym, ap, ◌∙◌, Option, Some, None, is_some}
+use Rattle.std.proofs.Common.{◌≡◌, zero, suc, ℕ, Bool, true, false, cond, not, nat_eq, ◌+◌, ◌<◌, ◌≤◌, length, get_or, take, is_none, List, [], ◌∷◌, ◌++◌, append-nil, refl, sym, ap, ◌∙◌, Option, Some, None, is_some, arith}
+use Rattle.std.proofs.Math.Seq.{take-suc}
+use Rattle.std.proofs.lemmas.List.{get_or_default, take_all}
 use Rattle.std.specs.Option.{option_or}
 use Rattle.std.specs.Cmp.Lexicographic.{pointwise, nat_list_eq_equiv, same_text}
 use Rattle.std.specs.Map.{lookup}
@@ -67,6 +69,40 @@ module _ {D : Type 0} where
       twice : (b : Bool) → not (not b) ≡ b
       twice true = refl
       twice false = refl
+
+  -- by one more declaration a name stands for the same among the first ones and among all
+  one_more : (all : List (List ℕ × D)) (n : ℕ) (x : List ℕ × D) (q : List ℕ) → n < length all → x ≡ get_or all n x → stands_for (first_among n all) q ≡ stands_for (take n all) q → stands_for (first_among (n + 1) all) q ≡ stands_for (take n all ++ x ∷ []) q
+  one_more all n x q within here known = by (is_some (stands_for (take n all) x.0)) refl
+    where
+      by : (b : Bool) → is_some (stands_for (take n all) x.0) ≡ b → stands_for (first_among (n + 1) all) q ≡ stands_for (take n all ++ x ∷ []) q
+      by true there =
+          ap (λ l. stands_for l q) (first-more all n x false within here there ∙ append-nil (first_among n all))
+          ∙ known
+          ∙ known-old (take n all) x (stands_for (take n all)) (λ _. refl) there q
+      by false absent =
+          ap (λ l. stands_for l q) (first-more all n x true within here absent)
+          ∙ stands_for-push (first_among n all) x q
+          ∙ ap (λ o. option_or o (cond (is_same x.0 q) (Some x.1) None)) known
+          ∙ sym (stands_for-push (take n all) x q)
+
+  stands_among : (all : List (List ℕ × D)) (n : ℕ) (q : List ℕ) → n ≤ length all → stands_for (first_among n all) q ≡ stands_for (take n all) q
+  stands_among all zero q within = refl
+  stands_among [] (suc n) q within = absurd (omega arith)
+  stands_among (y ∷ ys) (suc n) q within =
+      let all = y ∷ ys in
+      let before : n < length all = omega arith in
+      let next : suc n ≡ n + 1 = omega arith in
+      let x = get_or all n y in
+      ap (λ m. stands_for (first_among m all) q) next
+      ∙ one_more all n x q before (get_or_default all n y x before) (stands_among all n q (omega arith))
+      ∙ ap (λ l. stands_for l q) (sym (take-suc all n y before))
+
+  -- a name stands for the same among the first declarations and among all
+  pub stands_for-first_ones : (all : List (List ℕ × D)) (q : List ℕ) → stands_for (first_ones all) q ≡ stands_for all q
+  stands_for-first_ones all q =
+      ap (λ l. stands_for l q) (sym (first_all all))
+      ∙ stands_among all (length all) q (omega arith)
+      ∙ ap (λ l. stands_for l q) (take_all (length all) all (omega arith))
 
   -- a table of first declarations finds what a name stands for
   pub found_by_name : (entries : List (List ℕ × D)) (name : List ℕ) → lookup (pointwise nat_eq name) entries ≡ stands_for entries name

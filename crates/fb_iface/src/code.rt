@@ -21,7 +21,7 @@ pub enum Code {
     WithUnknown,
     /// A state of a transition is not declared.
     StateUnknown,
-    /// The event of a transition is no event that comes in, or that of an action none that goes out.
+    /// The event of a transition is not an input event, or that of an action not an output event.
     EventUnknown,
     /// The algorithm of an action is not declared.
     AlgorithmUnknown,

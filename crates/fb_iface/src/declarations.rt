@@ -1,14 +1,17 @@
 //! The check of what a unit declares.
-ghost use Rattle.std.specs.Prelude.{◌≡◌, ◌++◌, IfOk, OnOk};
+ghost use Rattle.std.specs.Prelude.{◌≡◌, ◌++◌, IfOk, OnOk, Some};
 ghost use Rattle.fb_library.specs.Tree.Tree.{decl_tree};
 ghost use Rattle.fb_library.specs.View.{tree_at};
 ghost use Rattle.fb_iface.specs.Declarations.{declaration_faults, declared_name, iface_faults_of, mixed_faults, name_faults};
 ghost use Rattle.fb_iface.specs.Fault.{faults_in_order};
+ghost use Rattle.fb_iface.specs.Ports.{meanings_in};
 
 use crate::code::Code;
 use crate::fault::{Fault, sorted_faults};
 use crate::instances::report_types;
+use crate::interfaces::ports_of;
 use crate::literals::report_literals;
+use crate::ports::Ports;
 use crate::repeats::report_duplicates;
 use crate::withs::report_withs;
 use fb_library::tree::Decl;
@@ -31,14 +34,31 @@ fn reported<V: View>(alloc: Global, view: &V, unit: &Name) -> Result<Vec<Fault>,
 {
     let mut found = Vec::new(alloc);
     if let Some(decl) = tree_by_name(view, unit) {
-        report_name(decl, unit, &mut found)?;
-        report_duplicates(alloc, decl, &mut found)?;
-        report_mixed(decl, &mut found)?;
-        report_types(view, decl, &mut found)?;
-        report_withs(alloc, decl, &mut found)?;
-        report_literals(decl, &mut found)?;
+        let own = ports_of(alloc, decl)?;
+        report_declarations(alloc, view, unit, decl, &own, &mut found)?;
     }
     Ok(found)
+}
+
+/// Reports the faults of what a unit declares, as they are found. The unit has these ports.
+pub fn report_declarations<V: View>(
+    alloc: Global,
+    view: &V,
+    unit: &Name,
+    decl: &Decl,
+    own: &Ports,
+    found: &mut Vec<Fault>,
+) -> Result<(), AllocError>
+    requires { own.now ≡ meanings_in (decl_tree decl.now) }
+    ensures { OnOk result (found.new.items
+        ≡ found.old.items ++ declaration_faults (V.sources view.now) unit.now (Some (decl_tree decl.now))) }
+{
+    report_name(decl, unit, found)?;
+    report_duplicates(alloc, decl, found)?;
+    report_mixed(decl, found)?;
+    report_types(view, decl, found)?;
+    report_withs(own, decl, found)?;
+    report_literals(decl, found)
 }
 
 /// Reports a declared name that is not the unit's.

@@ -18,7 +18,7 @@ mod withs;
 
 pub use classes::{Class, class_by_form, class_by_name, class_of, class_of_constant, is_taken};
 pub use code::Code;
-pub use declarations::iface_faults;
+pub use declarations::{iface_faults, report_declarations};
 pub use fault::{Fault, sorted_faults};
 pub use instances::is_suited;
 pub use interfaces::{interface, ports_of};

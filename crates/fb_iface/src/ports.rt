@@ -252,7 +252,7 @@ fn declared_events(
 }
 
 /// The variables of an interface, in the order of the text.
-pub fn declared_variables(
+fn declared_variables(
     alloc: Global,
     interface: &Interface,
 ) -> Result<Vec<(Name, DeclaredVariable)>, AllocError>

@@ -4,7 +4,7 @@ ghost use Rattle.std.specs.Cmp.Lexicographic.{pointwise};
 ghost use Rattle.std.specs.Option.{option_map};
 ghost use Rattle.fb_library.specs.Tree.Tree.{instance_tree, network_tree, type_tree};
 ghost use Rattle.fb_library.specs.View.{tree_at};
-ghost use Rattle.fb_iface.specs.Scope.{instance_ports, mentioned_type, ports_of, scope_of_network, scope_of_type};
+ghost use Rattle.fb_iface.specs.Scope.{instance_ports, mentioned_type, ports_of, scope_of_network, scope_of_type, type_ports_of};
 ghost use Rattle.fb_iface.specs.Kept.{kept_of, scope_in, with_type};
 ghost use Rattle.indexmap.specs.IndexMap.{get};
 
@@ -32,6 +32,20 @@ pub struct Scope {
 }
 
 impl Scope {
+    /// What names stand for in a network, by the unit's own names.
+    pub fn new<V: View>(
+        alloc: Global,
+        view: &V,
+        own: Ports,
+        network: &Network,
+    ) -> Result<Scope, AllocError>
+        ensures { IfOk result (λ scope. scope_in scope
+            ≡ record { own = own; type_ports = type_ports_of (V.sources view.now) (network_tree network.now) }) }
+    {
+        let types = types_of(alloc, view, network.instances.as_slice())?;
+        Ok(Scope { own, types })
+    }
+
     /// What names stand for in a type.
     pub fn of_type<V: View>(
         alloc: Global,
@@ -40,10 +54,8 @@ impl Scope {
     ) -> Result<Scope, AllocError>
         ensures { IfOk result (λ scope. scope_in scope ≡ scope_of_type (V.sources view.now) (type_tree declared.now)) }
     {
-        Ok(Scope {
-            own: Ports::of_type(alloc, declared)?,
-            types: types_of(alloc, view, declared.network.instances.as_slice())?,
-        })
+        let own = Ports::of_type(alloc, declared)?;
+        Scope::new(alloc, view, own, &declared.network)
     }
 
     /// What names stand for in the network of an application.
@@ -54,10 +66,8 @@ impl Scope {
     ) -> Result<Scope, AllocError>
         ensures { IfOk result (λ scope. scope_in scope ≡ scope_of_network (V.sources view.now) (network_tree network.now)) }
     {
-        Ok(Scope {
-            own: Ports::of_network(alloc, network)?,
-            types: types_of(alloc, view, network.instances.as_slice())?,
-        })
+        let own = Ports::of_network(alloc, network)?;
+        Scope::new(alloc, view, own, network)
     }
 
     /// The unit's own names.

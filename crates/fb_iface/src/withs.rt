@@ -1,28 +1,27 @@
 //! Names behind `WITH` (IEC 61499-1, 5.2: the data that an event carries).
-ghost use Rattle.std.specs.Prelude.{◌≡◌, ◌++◌, OnOk, nat_eq};
+ghost use Rattle.std.specs.Prelude.{◌≡◌, ◌++◌, OnOk};
 ghost use Rattle.std.specs.List.{flat_map};
-ghost use Rattle.std.specs.Cmp.Lexicographic.{pointwise};
-ghost use Rattle.indexmap.specs.IndexMap.{get};
 ghost use Rattle.fb_library.specs.Tree.Tree.{decl_tree, event_tree, interface_tree};
 ghost use Rattle.fb_iface.specs.Declarations.{with_faults_of};
+ghost use Rattle.fb_iface.specs.Names.{first_ones, stands_for};
+ghost use Rattle.fb_iface.specs.Ports.{meanings_in, variables_in};
 ghost use Rattle.fb_iface.specs.Withs.{carries, event_withs, with_faults};
 
 use crate::code::Code;
 use crate::fault::Fault;
-use crate::names::first_declared;
-use crate::ports::{DeclaredVariable, declared_variables, is_beside};
+use crate::ports::{Ports, is_beside};
 use fb_library::tree::{Decl, Event, Interface, Side};
 use fb_text::Name;
-use indexmap::IndexMap;
-use std::alloc::{AllocError, Global};
+use std::alloc::AllocError;
 
-/// Reports the names behind `WITH` that are no data of the event's side.
-pub fn report_withs(alloc: Global, decl: &Decl, found: &mut Vec<Fault>) -> Result<(), AllocError>
+/// Reports the names behind `WITH` that are no data of the event's side. The unit has these ports.
+pub fn report_withs(own: &Ports, decl: &Decl, found: &mut Vec<Fault>) -> Result<(), AllocError>
+    requires { own.now ≡ meanings_in (decl_tree decl.now) }
     ensures { OnOk result (found.new.items ≡ found.old.items ++ with_faults_of (decl_tree decl.now)) }
 {
     match decl {
         Decl::Block(declared) | Decl::Adapter(declared) | Decl::Subapplication(declared) => {
-            report_in_interface(alloc, &declared.interface, found)
+            report_in_interface(own, &declared.interface, found)
         }
         Decl::System(_) => Ok(()),
     }
@@ -30,43 +29,34 @@ pub fn report_withs(alloc: Global, decl: &Decl, found: &mut Vec<Fault>) -> Resul
 
 /// Reports those of an interface.
 fn report_in_interface(
-    alloc: Global,
+    own: &Ports,
     interface: &Interface,
     found: &mut Vec<Fault>,
 ) -> Result<(), AllocError>
+    requires { own.now.variables ≡ first_ones (variables_in (interface_tree interface.now)) }
     ensures { OnOk result (found.new.items ≡ found.old.items ++ with_faults (interface_tree interface.now)) }
 {
-    let declared = declared_variables(alloc, interface)?;
-    let variables = first_declared(alloc, declared.as_slice())?;
-    report_events(&variables, interface.events.as_slice(), found)
+    report_events(own, interface.events.as_slice(), found)
 }
 
 /// Reports those of each event.
-fn report_events(
-    variables: &IndexMap<Name, DeclaredVariable>,
-    events: &[Event],
-    found: &mut Vec<Fault>,
-) -> Result<(), AllocError>
+fn report_events(own: &Ports, events: &[Event], found: &mut Vec<Fault>) -> Result<(), AllocError>
     ensures { OnOk result (found.new.items ≡ found.old.items
-        ++ flat_map (λ e. event_withs (get (pointwise nat_eq) variables.now) (event_tree e)) events.now) }
+        ++ flat_map (λ e. event_withs (stands_for own.now.variables) (event_tree e)) events.now) }
 {
     for event in events {
-        report_event(variables, event, found)?;
+        report_event(own, event, found)?;
     }
     Ok(())
 }
 
 /// Reports those of one event.
-fn report_event(
-    variables: &IndexMap<Name, DeclaredVariable>,
-    event: &Event,
-    found: &mut Vec<Fault>,
-) -> Result<(), AllocError>
+fn report_event(own: &Ports, event: &Event, found: &mut Vec<Fault>) -> Result<(), AllocError>
     ensures { OnOk result (found.new.items
-        ≡ found.old.items ++ event_withs (get (pointwise nat_eq) variables.now) (event_tree event.now)) }
+        ≡ found.old.items ++ event_withs (stands_for own.now.variables) (event_tree event.now)) }
 {
     for name in &event.with {
-        if !is_carried(variables, event.side, &name.name) {
+        if !is_carried(own, event.side, &name.name) {
             found.push(Fault::at(Code::WithUnknown, name))?;
         }
     }
@@ -74,10 +64,10 @@ fn report_event(
 }
 
 /// Whether an event of this side may carry what the name stands for.
-fn is_carried(variables: &IndexMap<Name, DeclaredVariable>, side: Side, name: &Name) -> bool
-    ensures { result ≡ carries side (get (pointwise nat_eq) variables.now name.now) }
+fn is_carried(own: &Ports, side: Side, name: &Name) -> bool
+    ensures { result ≡ carries side (stands_for own.now.variables name.now) }
 {
-    match variables.get(name) {
+    match own.variable(name) {
         Some(variable) => is_beside(side, variable.section),
         None => false,
     }

@@ -15,15 +15,17 @@ mod spellings;
 mod types;
 
 pub use laws::{connections_are_right, net_faults_are_local, networks_are_fine};
-pub use networks::net_faults;
+pub use networks::{net_faults, report_network, report_networks};
 pub use paths::{Placed, report_repeated};
+pub use setting::Setting;
 
 /// Of `fb_iface`, for the crates above.
 pub mod iface {
     pub use fb_iface::{
-        Code, Fault, Ports, duplicates_are_reported, first_declared, iface_faults, interface,
-        misfits_are_reported, mixed_kinds_are_reported, other_names_are_reported, sorted_faults,
-        unknown_types_are_reported, unknown_withs_are_reported, wrong_kinds_are_reported,
+        Code, Fault, Ports, Scope, duplicates_are_reported, first_declared, iface_faults,
+        interface, misfits_are_reported, mixed_kinds_are_reported, other_names_are_reported,
+        ports_of, report_declarations, sorted_faults, unknown_types_are_reported,
+        unknown_withs_are_reported, wrong_kinds_are_reported,
     };
 }
 
@@ -44,6 +46,6 @@ pub mod parse {
 pub mod tree {
     pub use fb_iface::tree::{
         Application, Connection, Constant, Decl, Device, End, Instance, Mapping, Network,
-        Parameter, Resource, Role, Side, Simple, Sort, System, TypeDeclaration, TypeUse,
+        Parameter, Resource, Role, Side, Simple, Sort, System, TypeDeclaration, TypeUse, UnitKind,
     };
 }

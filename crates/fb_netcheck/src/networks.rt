@@ -32,12 +32,13 @@ fn reported<V: View>(alloc: Global, view: &V, unit: &Name) -> Result<Vec<Fault>,
 {
     let mut found = Vec::new(alloc);
     if let Some(decl) = tree_by_name(view, unit) {
-        report_declared(alloc, view, unit, decl, &mut found)?;
+        report_networks(alloc, view, unit, decl, &mut found)?;
     }
     Ok(found)
 }
 
-fn report_declared<V: View>(
+/// Reports the faults of the networks of a unit, as they are found.
+pub fn report_networks<V: View>(
     alloc: Global,
     view: &V,
     unit: &Name,
@@ -114,7 +115,8 @@ fn report_application<V: View>(
     report_network(alloc, view, &here, &application.network, found)
 }
 
-fn report_network<V: View>(
+/// Reports the faults of a network, as they are found.
+pub fn report_network<V: View>(
     alloc: Global,
     view: &V,
     here: &Setting,

@@ -1,11 +1,10 @@
-use Rattle.std.proofs.Common.{rules, ◌≡◌, sym, ap, ◌∙◌, Some, option_map, is_some, nat_eq, false, arith}
+use Rattle.std.proofs.Common.{◌≡◌, sym, ◌∙◌, Some, is_some, nat_eq, false, arith}
 use Rattle.std.proofs.lemmas.Grind.{common_steps}
 use Rattle.std.specs.Cmp.Lexicographic.{pointwise}
 use Rattle.fb_library.specs.Tree.Tree.{decl_tree}
 use Rattle.fb_library.specs.View.{tree_at}
 use Rattle.indexmap.specs.IndexMap.{get}
 use Rattle.fb_iface.proofs.ScopeLemmas.{with_type-new}
-use Rattle.fb_iface.specs.Kept.{kept_of}
 use Rattle.fb_iface.proofs.scope.add_type.Goals as goal
 
 pub returns-in_ok-insert : goal.returns-in_ok-insert

@@ -1,4 +1,4 @@
-use Rattle.std.proofs.Common.{◌≡◌, ◌+◌, ◌<◌, ◌∷◌, [], ◌++◌, Some, None, cond, length, sym, ap, ◌∙◌, arith, take, nat_eq, option_map}
+use Rattle.std.proofs.Common.{◌≡◌, ◌+◌, ◌<◌, ◌∷◌, [], ◌++◌, None, cond, length, sym, ap, ◌∙◌, arith, take, nat_eq, option_map}
 use Rattle.std.proofs.lemmas.Grind.{common_steps}
 use Rattle.std.specs.Cmp.Lexicographic.{pointwise}
 use Rattle.indexmap.specs.IndexMap.{get}

@@ -10,7 +10,7 @@ use Rattle.fb_netcheck.specs.Iface.declared.code.Code.TheVariants.{MappedTwice}
 use Rattle.fb_netcheck.specs.Paths.{path_of_names, repeated_faults}
 use Rattle.fb_faults.specs.Mappings.{has_resource, home_faults, resource_faults, second_mappings}
 use Rattle.fb_faults.specs.Pairs.{pair_cmp}
-use Rattle.fb_faults.proofs.mappings.report_system.Goals as goal
+use Rattle.fb_faults.proofs.mappings.report_mappings.Goals as goal
 
 pub returns : goal.returns
 returns c =

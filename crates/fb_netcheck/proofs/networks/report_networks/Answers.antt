@@ -3,7 +3,7 @@ use Rattle.std.proofs.lemmas.List.Folds.{flat_map-map}
 use Rattle.std.proofs.lemmas.Result.{on_ok_weaker}
 use Rattle.fb_iface.specs.Tree.Tree.{application_tree, decl_tree}
 use Rattle.fb_netcheck.specs.Networks.{application_network, declared_faults}
-use Rattle.fb_netcheck.proofs.networks.report_declared.Goals as goal
+use Rattle.fb_netcheck.proofs.networks.report_networks.Goals as goal
 
 pub returns-in-System : goal.returns-in-System
 returns-in-System g c =
