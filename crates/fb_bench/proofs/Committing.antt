@@ -18,6 +18,7 @@ use Rattle.fb_bench.specs.Machine.{after_give_back, give_back_answer, State, Cal
 use Rattle.fb_bench.specs.Story.{Story, IsOrigin, opened, replay, calls_of, state_of}
 use Rattle.fb_bench.specs.Kept.{Agrees}
 use Rattle.fb_bench.specs.declared.renewal.Renewal.{Renewal}
+use Rattle.fb_bench.specs.Outcomes.{answer_at}
 use Rattle.fb_bench.specs.Renew.{is_of, waiting_if, IsRenewal, HasRoom, AreKeys, items_or}
 use Rattle.std.specs.declared.alloc.Global.{Global}
 use Rattle.fb_bench.proofs.Steps.{reply_commit, after_commit_is}
@@ -110,8 +111,8 @@ most_units_of story = replay_most (opened story.origin) (calls_of story.log)
 
 -- ---- the answer
 
-pub refused_answer : (s : State) (T : Texts) (edits : List Edit) (r : Committed) → T ≡ s.units → Some r ≡ refusal T edits → r ≡ commit_answer s edits
-refused_answer s T edits r same e = (λ i. or_else (e i) (count_answer s edits)) ∙ ap (λ us. or_else (refusal us edits) (count_answer s edits)) same
+pub refused_at : (most number : ℕ) (T : Texts) (edits : List Edit) (r : Committed) → Some r ≡ refusal T edits → r ≡ answer_at most number T edits
+refused_at most number T edits r e = λ i. or_else (e i) (cond (nat_lt most (length (all_edited number edits T))) TooManyUnits (Done number))
 
 less_true : (a b : ℕ) → a < b → nat_lt a b ≡ true
 less_true a b h = grind (arith, nat_tests)
@@ -119,20 +120,19 @@ less_true a b h = grind (arith, nat_tests)
 less_false : (a b : ℕ) → b ≤ a → nat_lt a b ≡ false
 less_false a b h = grind (arith, nat_tests)
 
-fitting : (s : State) (T : Texts) (edits : List Edit) → T ≡ s.units → None ≡ refusal T edits → count_answer s edits ≡ commit_answer s edits
-fitting s T edits same e = (λ i. or_else (e i) (count_answer s edits)) ∙ ap (λ us. or_else (refusal us edits) (count_answer s edits)) same
+pub too_many_at : (most number : ℕ) (T U : Texts) (edits : List Edit) → None ≡ refusal T edits → U ≡ all_edited number edits T → most < length U → TooManyUnits ≡ answer_at most number T edits
+too_many_at most number T U edits none is many =
+    let test : nat_lt most (length (all_edited number edits T)) ≡ true = ap (λ us. nat_lt most (length us)) (sym is) ∙ less_true most (length U) many in
+    sym (ap (λ b. cond b TooManyUnits (Done number)) test) ∙ (λ i. or_else (none i) (cond (nat_lt most (length (all_edited number edits T))) TooManyUnits (Done number)))
 
-pub too_many_answer : (s : State) (T U : Texts) (n : ℕ) (edits : List Edit) → T ≡ s.units → None ≡ refusal T edits → n ≡ s.commits → U ≡ all_edited (n + 1) edits T → s.most_units < length U → TooManyUnits ≡ commit_answer s edits
-too_many_answer s T U n edits same none number is many =
-    let units : U ≡ all_edited (s.commits + 1) edits s.units = is ∙ (λ i. all_edited (number i + 1) edits (same i)) in
-    let test : nat_lt s.most_units (length (all_edited (s.commits + 1) edits s.units)) ≡ true = ap (λ us. nat_lt s.most_units (length us)) (sym units) ∙ less_true s.most_units (length U) many in
-    sym (ap (λ b. cond b TooManyUnits (Done (s.commits + 1))) test) ∙ fitting s T edits same none
+pub done_at : (most number : ℕ) (T U : Texts) (edits : List Edit) → None ≡ refusal T edits → U ≡ all_edited number edits T → length U ≤ most → Done number ≡ answer_at most number T edits
+done_at most number T U edits none is few =
+    let test : nat_lt most (length (all_edited number edits T)) ≡ false = ap (λ us. nat_lt most (length us)) (sym is) ∙ less_false most (length U) few in
+    sym (ap (λ b. cond b TooManyUnits (Done number)) test) ∙ (λ i. or_else (none i) (cond (nat_lt most (length (all_edited number edits T))) TooManyUnits (Done number)))
 
-pub done_answer : (s : State) (T U : Texts) (n : ℕ) (edits : List Edit) → T ≡ s.units → None ≡ refusal T edits → n ≡ s.commits → U ≡ all_edited (n + 1) edits T → length U ≤ s.most_units → Done (n + 1) ≡ commit_answer s edits
-done_answer s T U n edits same none number is few =
-    let units : U ≡ all_edited (s.commits + 1) edits s.units = is ∙ (λ i. all_edited (number i + 1) edits (same i)) in
-    let test : nat_lt s.most_units (length (all_edited (s.commits + 1) edits s.units)) ≡ false = ap (λ us. nat_lt s.most_units (length us)) (sym units) ∙ less_false s.most_units (length U) few in
-    ap (λ m. Done (m + 1)) number ∙ sym (ap (λ b. cond b TooManyUnits (Done (s.commits + 1))) test) ∙ fitting s T edits same none
+-- what changes of the kept texts come to is the machine's answer
+pub answer_kept : (story : Story) (T : Texts) (n : ℕ) (edits : List Edit) → T ≡ (state_of story).units → n ≡ (state_of story).commits → answer_at story.origin.most_units (n + 1) T edits ≡ commit_answer (state_of story) edits
+answer_kept story T n edits same number = λ i. answer_at (sym (most_units_of story) i) (number i + 1) (same i) edits
 
 pub commits_is : (s : State) (made edits : List Edit) (answer : Committed) → made ≡ edits → answer ≡ commit_answer s edits → OfCommit answer ≡ reply s (ToCommit made)
 commits_is s made edits answer same is = ap OfCommit (is ∙ ap (λ es. commit_answer s es) (sym same)) ∙ sym (reply_commit s made)

@@ -5,6 +5,7 @@ pub mod Logs
 pub mod Kept
 pub mod Indexed
 pub mod Renew
+pub mod Outcomes
 pub mod Due
 pub mod Peeks
 pub mod Requests

@@ -4,7 +4,7 @@ ghost use Rattle.fb_jobs.specs.Values.{all_seen, seen_of};
 ghost use Rattle.fb_bench.specs.Records.{job_in};
 
 use crate::answers::{Answered, Asked, Committed, Delivered, GivenBack, Refused, Taken};
-use crate::commit::{first_changes, refusal};
+use crate::commit::{Outcome, first_changes, outcome_of, record_with_room};
 use crate::entries::Entries;
 use crate::entry::{join, keep, leave, mark_out};
 use crate::limits::Limits;
@@ -44,14 +44,17 @@ impl Model for Bench {
 }
 
 impl Bench {
-    ghost use Rattle.std.specs.Prelude.{◌≡◌, ◌≤◌, ◌↔◌, [], IfOk, OnErr, Err, IsTrue, is_some, length, slice_get, count_by};
+    ghost use Rattle.std.specs.Prelude.{◌≡◌, ◌≤◌, ◌<◌, ◌↔◌, [], true, false, Some, IfOk, OnOk, OnErr, Err, IsTrue, is_some, length, slice_get, count_by};
     ghost use Rattle.std.specs.Option.{option_map};
     ghost use Rattle.std.specs.List.Sorted.{IsStrictlySortedBy};
     ghost use Rattle.fb_jobs.specs.KeyOrder.{key_cmp};
     ghost use Rattle.fb_bench.specs.Machine.{Call, ToCommit, ToTake, ToDeliver, ToGiveBack, ToAsk, OfCommit, OfTake, OfDeliver, OfGiveBack, OfAsk, reply, shown, next, deliver_answer, keys_of};
+    ghost use Rattle.fb_jobs.specs.Keys.{scratch};
+    ghost use Rattle.fb_jobs.specs.Reads.{read_texts};
     ghost use Rattle.fb_jobs.specs.Values.{all_seen};
+    ghost use Rattle.fb_bench.specs.declared.answers.Delivered.TheVariants.{Accepted};
     ghost use Rattle.fb_bench.specs.Story.{Story, Log, IsOrigin, new_story, state_of, recorded, record_of, record_at, calls_of, IsReplay, AreTurns};
-    ghost use Rattle.fb_bench.specs.Records.{shown_in, job_in, listed};
+    ghost use Rattle.fb_bench.specs.Records.{call_of, reply_of, shown_in, job_in, listed};
     ghost use Rattle.fb_bench.specs.Requests.{call_for, reply_in};
     ghost use Rattle.fb_bench.specs.Peeks.{shown_by, is_pending};
     ghost use Rattle.fb_bench.specs.Due.{is_due};
@@ -237,19 +240,41 @@ impl Bench {
                 Ok((Taken::Nothing, share))
             }
             Some(key) => {
-                let wanted = key;
-                let job = Job::make(self.alloc, &self.library, wanted, &self.entries)?;
-                let wanted = Wanted {
-                    key: job.key(),
-                    reads: job.texts().clone()?,
-                };
-                let stored = Reply::Taking(Some(wanted));
-                let share = self.history.push(caller, Call::Take, stored)?;
-                mark_out(&mut self.entries.by_key, &key, true);
-                leave(&mut self.entries.ready, &key);
+                let (job, answer) = self.job_for(key)?;
+                let share = self.hand_out(caller, &key, answer)?;
                 Ok((Taken::Job(job), share))
             }
         }
+    }
+
+    // a job for the key that is next, and the answer that is recorded of it
+    fn job_for(&self, key: Key) -> Result<(Job, Reply), AllocError>
+        requires { Some key ≡ next (state_of self.now) }
+        ensures job { IfOk result (λ made. OfTake (Some made.0) ≡ reply (state_of self.now) ToTake) }
+        ensures answer { IfOk result (λ made. reply_of made.1 ≡ reply (state_of self.now) ToTake) }
+    {
+        let wanted = key;
+        let job = Job::make(self.alloc, &self.library, wanted, &self.entries)?;
+        let wanted = Wanted {
+            key: job.key(),
+            reads: job.texts().clone()?,
+        };
+        Ok((job, Reply::Taking(Some(wanted))))
+    }
+
+    // records that the key that is next is handed out
+    fn hand_out(&mut self, caller: u32, key: &Key, answer: Reply) -> Result<Arc<Record>, AllocError>
+        requires room { length self.old.log.records < self.old.log.limit }
+        requires next { Some key.now ≡ next (state_of self.old) }
+        requires answer { reply_of answer ≡ reply (state_of self.old) ToTake }
+        ensures step { OnOk result (self.new ≡ recorded self.old caller ToTake) }
+        ensures share { IfOk result (λ it. it.value ≡ record_of self.old caller ToTake) }
+        ensures err { OnErr result (self.new ≡ self.old) }
+    {
+        let share = self.history.push(caller, Call::Take, answer)?;
+        mark_out(&mut self.entries.by_key, key, true);
+        leave(&mut self.entries.ready, key);
+        Ok(share)
     }
 
     /// Changes the texts, or says what is first against it. More than sixteen changes are too many,
@@ -279,36 +304,39 @@ impl Bench {
         if self.history.is_full() {
             return Err(Refused::HistoryFull);
         }
+        let number = self.commits + 1;
         let changes = first_changes(changes);
         let call = Call::Commit(TextChange::of_changes(self.alloc, changes)?);
-        if let Some(refused) = refusal(&self.library, changes) {
-            let stored = Reply::Committing(refused);
-            let share = self.history.push(caller, call, stored)?;
-            return Ok((refused, share));
-        }
-        let number = self.commits + 1;
-        let library = self.library.edited(number, changes)?;
-        if self.most_units < library.len() as u64 {
-            let stored = Reply::Committing(Committed::TooManyUnits);
-            let share = self.history.push(caller, call, stored)?;
-            return Ok((Committed::TooManyUnits, share));
-        }
-        let found = self
-            .entries
-            .found(self.alloc, &self.index, &self.library, &library, changes)?;
-        self.entries.make_room(&found.renewal)?;
-        let stored = Reply::Committing(Committed::Done(number));
-        match self.history.push(caller, call, stored) {
-            Ok(share) => {
+        let outcome = outcome_of(
+            self.alloc,
+            self.most_units,
+            number,
+            &self.library,
+            &self.index,
+            &self.entries,
+            changes,
+        )?;
+        match outcome {
+            Outcome::Refused(refused) => {
+                let stored = Reply::Committing(refused);
+                let share = self.history.push(caller, call, stored)?;
+                Ok((refused, share))
+            }
+            Outcome::Done { library, found } => {
+                let stored = Reply::Committing(Committed::Done(number));
+                let share = record_with_room(
+                    &mut self.entries,
+                    &mut self.history,
+                    &found.renewal,
+                    caller,
+                    call,
+                    stored,
+                )?;
                 self.index = self.entries.carry_out(found);
                 self.library = library;
                 self.commits = number;
                 locality();
                 Ok((Committed::Done(number), share))
-            }
-            Err(_) => {
-                self.entries.take_back(&found.renewal);
-                Err(Refused::Memory)
             }
         }
     }
@@ -346,15 +374,8 @@ impl Bench {
         });
         match answer {
             Delivered::Accepted => {
-                let value = finished.value().clone()?;
-                let share = self
-                    .history
-                    .push(caller, call, Reply::Delivering(Delivered::Accepted))?;
-                let key = finished.key();
-                keep(&mut self.entries.by_key, &key, value);
-                leave(&mut self.entries.ready, &key);
-                leave(&mut self.entries.waiting, &key);
                 current_reads();
+                let share = self.take_in(caller, call, finished)?;
                 Ok((Delivered::Accepted, share))
             }
             refused => {
@@ -363,6 +384,31 @@ impl Bench {
                 Ok((refused, share))
             }
         }
+    }
+
+    // records a result that is accepted, and keeps its value
+    fn take_in(
+        &mut self,
+        caller: u32,
+        call: Call,
+        finished: &Finished,
+    ) -> Result<Arc<Record>, AllocError>
+        requires room { length self.old.log.records < self.old.log.limit }
+        requires call { call_of call ≡ ToDeliver finished.now }
+        requires accepted { Accepted ≡ deliver_answer (state_of self.old) finished.now }
+        requires value { scratch (state_of self.old).units finished.now.key ≡ scratch (read_texts finished.now.reads) finished.now.key }
+        ensures step { OnOk result (self.new ≡ recorded self.old caller (ToDeliver finished.now)) }
+        ensures share { IfOk result (λ it. it.value ≡ record_of self.old caller (ToDeliver finished.now)) }
+        ensures err { OnErr result (self.new ≡ self.old) }
+    {
+        let value = finished.value().clone()?;
+        let answer = Reply::Delivering(Delivered::Accepted);
+        let share = self.history.push(caller, call, answer)?;
+        let key = finished.key();
+        keep(&mut self.entries.by_key, &key, value);
+        leave(&mut self.entries.ready, &key);
+        leave(&mut self.entries.waiting, &key);
+        Ok(share)
     }
 
     /// Whether the key is handed out.
@@ -411,34 +457,55 @@ impl Bench {
         if self.history.is_full() {
             return Err(Refused::HistoryFull);
         }
-        let call = Call::GiveBack(key);
         if !self.is_out(&key) {
-            let share = self
-                .history
-                .push(caller, call, Reply::GivingBack(GivenBack::NothingOut))?;
+            let answer = Reply::GivingBack(GivenBack::NothingOut);
+            let share = self.history.push(caller, Call::GiveBack(key), answer)?;
             return Ok((GivenBack::NothingOut, share));
         }
-        if !self.waits(&key) {
-            let share = self
-                .history
-                .push(caller, call, Reply::GivingBack(GivenBack::Returned))?;
-            mark_out(&mut self.entries.by_key, &key, false);
-            return Ok((GivenBack::Returned, share));
-        }
-        join(&mut self.entries.ready, &key)?;
-        match self
-            .history
-            .push(caller, call, Reply::GivingBack(GivenBack::Returned))
-        {
+        let share = if self.waits(&key) {
+            self.make_ready(caller, &key)?
+        } else {
+            self.clear_out(caller, &key)?
+        };
+        Ok((GivenBack::Returned, share))
+    }
+
+    // records that a key is given back that waits for a result, and lets it be taken again
+    fn make_ready(&mut self, caller: u32, key: &Key) -> Result<Arc<Record>, AllocError>
+        requires room { length self.old.log.records < self.old.log.limit }
+        requires out { (state_of self.old).out key.now ≡ true }
+        requires waits { (state_of self.old).pending key.now ≡ true }
+        ensures step { OnOk result (self.new ≡ recorded self.old caller (ToGiveBack key.now)) }
+        ensures share { IfOk result (λ it. it.value ≡ record_of self.old caller (ToGiveBack key.now)) }
+        ensures err { OnErr result (self.new ≡ self.old) }
+    {
+        join(&mut self.entries.ready, key)?;
+        let answer = Reply::GivingBack(GivenBack::Returned);
+        match self.history.push(caller, Call::GiveBack(*key), answer) {
             Ok(share) => {
-                mark_out(&mut self.entries.by_key, &key, false);
-                Ok((GivenBack::Returned, share))
+                mark_out(&mut self.entries.by_key, key, false);
+                Ok(share)
             }
-            Err(_) => {
-                leave(&mut self.entries.ready, &key);
-                Err(Refused::Memory)
+            Err(error) => {
+                leave(&mut self.entries.ready, key);
+                Err(error)
             }
         }
+    }
+
+    // records that a key is given back that has a value
+    fn clear_out(&mut self, caller: u32, key: &Key) -> Result<Arc<Record>, AllocError>
+        requires room { length self.old.log.records < self.old.log.limit }
+        requires out { (state_of self.old).out key.now ≡ true }
+        requires kept { (state_of self.old).pending key.now ≡ false }
+        ensures step { OnOk result (self.new ≡ recorded self.old caller (ToGiveBack key.now)) }
+        ensures share { IfOk result (λ it. it.value ≡ record_of self.old caller (ToGiveBack key.now)) }
+        ensures err { OnErr result (self.new ≡ self.old) }
+    {
+        let answer = Reply::GivingBack(GivenBack::Returned);
+        let share = self.history.push(caller, Call::GiveBack(*key), answer)?;
+        mark_out(&mut self.entries.by_key, key, false);
+        Ok(share)
     }
 
     /// Makes any call. It gives a share of the record, and the answer.

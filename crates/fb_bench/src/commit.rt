@@ -1,12 +1,25 @@
-ghost use Rattle.std.specs.Prelude.{◌≡◌, map, take};
+//! What a commit comes to, and its record.
+ghost use Rattle.std.specs.Prelude.{◌≡◌, ◌<◌, length, map, take, IfOk, OnOk, OnErr};
 ghost use Rattle.fb_jobs.specs.Library.Texts.{unit_of};
 ghost use Rattle.fb_jobs.specs.Library.Changes.{edit_of, edits_of};
 ghost use Rattle.fb_jobs.specs.Reads.{is_among};
 ghost use Rattle.fb_bench.specs.Machine.{first_repeated, misfit, first_misfit, refusal};
+ghost use Rattle.fb_bench.specs.Indexed.{IsIndexOf};
+ghost use Rattle.fb_bench.specs.Outcomes.{IsOutcome};
+ghost use Rattle.fb_bench.specs.Records.{call_of, reply_of};
+ghost use Rattle.fb_bench.specs.Renew.{HasRoom, IsTakenBack};
+ghost use Rattle.fb_bench.specs.Story.{logged, record_after};
 
 use crate::answers::Committed;
+use crate::entries::{Entries, Found};
+use crate::log::History;
+use crate::record::{Call, Record, Reply};
+use crate::renewal::Renewal;
+use fb_index::Index;
 use fb_jobs::library::{Change, Library};
 use fb_text::{Name, same_name};
+use std::alloc::{AllocError, Global};
+use std::sync::Arc;
 
 /// The most changes of a commit.
 const MOST_CHANGES: usize = 16;
@@ -94,5 +107,67 @@ pub(crate) fn refusal(library: &Library, changes: &[Change]) -> Option<Committed
     match repeated(changes) {
         Some(unit) => Some(Committed::SameUnitTwice(unit)),
         None => first_misfit(library, changes),
+    }
+}
+
+/// What a commit comes to, found before anything is written.
+#[derive(Drop)]
+pub(crate) enum Outcome {
+    Refused(Committed),
+    /// The texts after it, and what else it leaves.
+    Done { library: Library, found: Found },
+}
+
+/// What the changes come to; `number` is that of the commit, if it is done.
+pub(crate) fn outcome_of(
+    alloc: Global,
+    most_units: u64,
+    number: u64,
+    library: &Library,
+    index: &Index,
+    entries: &Entries,
+    changes: &[Change],
+) -> Result<Outcome, AllocError>
+    requires { IsIndexOf library.now index.now }
+    ensures { IfOk result (IsOutcome most_units number library.now (edits_of changes.now) entries.now.by_key entries.now.ready entries.now.waiting) }
+{
+    if let Some(refused) = refusal(library, changes) {
+        return Ok(Outcome::Refused(refused));
+    }
+    let after = library.edited(number, changes)?;
+    if most_units < after.len() as u64 {
+        return Ok(Outcome::Refused(Committed::TooManyUnits));
+    }
+    let found = entries.found(alloc, index, library, &after, changes)?;
+    Ok(Outcome::Done {
+        library: after,
+        found,
+    })
+}
+
+/// Records a commit that is done, with room for the entries and marks that it brings, or leaves all as it was.
+pub(crate) fn record_with_room(
+    entries: &mut Entries,
+    history: &mut History,
+    renewal: &Renewal,
+    caller: u32,
+    call: Call,
+    answer: Reply,
+) -> Result<Arc<Record>, AllocError>
+    requires { length history.old.records < history.old.limit }
+    ensures room { OnOk result (HasRoom renewal.now entries.old.by_key entries.new.by_key entries.old.ready entries.new.ready entries.old.waiting entries.new.waiting) }
+    ensures back { OnErr result (IsTakenBack renewal.now entries.old.by_key entries.new.by_key entries.old.ready entries.new.ready entries.old.waiting entries.new.waiting) }
+    ensures logged { OnOk result (history.new ≡ logged history.old caller (call_of call) (reply_of answer)) }
+    ensures share { IfOk result (λ it. it.value ≡ record_after history.old caller (call_of call) (reply_of answer)) }
+    ensures unlogged { OnErr result (history.new ≡ history.old) }
+    ensures keys { entries.new.keys ≡ entries.old.keys }
+{
+    entries.make_room(renewal)?;
+    match history.push(caller, call, answer) {
+        Ok(share) => Ok(share),
+        Err(error) => {
+            entries.take_back(renewal);
+            Err(error)
+        }
     }
 }

@@ -1,0 +1,33 @@
+-- The key is marked as handed out, and is not among the ready ones.
+use Rattle.std.proofs.Common.{◌≡◌, sym, ap, subst, ◌∙◌, arith, Some}
+use Rattle.fb_bench.specs.Machine.{State, ToTake, reply, next}
+use Rattle.fb_bench.specs.Records.{reply_of}
+use Rattle.fb_bench.specs.Story.{Story, state_of, start}
+use Rattle.fb_bench.specs.Kept.{Agrees}
+use Rattle.fb_bench.proofs.Least.{next_passes}
+use Rattle.fb_bench.proofs.Marks.{agrees_take}
+use Rattle.fb_bench.proofs.Steps.{kept_pushed, story_pushed, share_pushed, stays_some}
+use Rattle.fb_bench.proofs.bench.Bench.hand_out.Goals as goal
+
+pub invariant_of-self-2 : goal.invariant_of-self-2
+invariant_of-self-2 c =
+    let story : Story = record { origin = start c.self.inside.most_units; log = c.self.inside.history } in
+    let s : State = state_of story in
+    let key = c.args.key.now in
+    let some : Some key ≡ next s = c.requires.next ∙ ap (λ st. next (state_of st)) (sym c.self.view_is) in
+    let answer : reply_of c.args.answer ≡ reply s ToTake = c.requires.answer ∙ ap (λ st. reply (state_of st) ToTake) (sym c.self.view_is) in
+    kept_pushed _ _ _ _ _ _ _ story _ c.args.caller ToTake _ c.self.invariant.begins c.in_ok-share.ensures.ok answer
+    (subst (λ t. Agrees c.self.inside.library c.self.inside.commits c.mark_out.new.entries c.leave.new.keys c.self.inside.entries.waiting t) (sym (stays_some s key some))
+    (agrees_take _ _ c.self.inside.entries.by_key _ c.self.inside.entries.ready _ c.self.inside.entries.waiting s key c.self.invariant.agrees (next_passes s key some) c.mark_out.ensures c.leave.ensures))
+    c.self.invariant.replayed c.self.invariant.keys_are c.self.invariant.indexed (omega (arith, c.self.invariant.few))
+
+pub returns : goal.returns
+returns c =
+    let story : Story = record { origin = start c.self.inside.most_units; log = c.self.inside.history } in
+    let s : State = state_of story in
+    let answer : reply_of c.args.answer ≡ reply s ToTake = c.requires.answer ∙ ap (λ st. reply (state_of st) ToTake) (sym c.self.view_is) in
+    record {
+      step = story_pushed story _ _ c.args.caller ToTake _ c.self.view_is c.in_ok-share.ensures.ok answer;
+      share = share_pushed story _ _ c.args.caller ToTake _ c.self.view_is c.in_ok-share.ensures.share answer;
+      err = tt;
+    }

@@ -1,0 +1,40 @@
+-- A key that is next is one of the library, whose kept values are those of its texts; the job is the machine's order.
+use Rattle.std.proofs.Common.{◌≡◌, true, sym, ap, subst, refl, ◌∙◌, Some}
+use Rattle.fb_jobs.specs.Keys.{has_key}
+use Rattle.fb_jobs.specs.Values.{texts_seen}
+use Rattle.fb_bench.specs.Machine.{State, ToTake, reply, next}
+use Rattle.fb_bench.specs.Story.{Story, state_of, start}
+use Rattle.fb_bench.proofs.Least.{next_passes}
+use Rattle.fb_bench.proofs.Marks.{ready_has, all_kept}
+use Rattle.fb_bench.proofs.Steps.{take_some}
+use Rattle.fb_bench.proofs.bench.Bench.job_for.Goals as goal
+
+pub make-requires-clause-has : goal.make-requires-clause-has
+make-requires-clause-has c =
+    let story : Story = record { origin = start c.self.inside.most_units; log = c.self.inside.history } in
+    let s : State = state_of story in
+    let key = c.args.key in
+    let some : Some key ≡ next s = c.requires ∙ ap (λ st. next (state_of st)) (sym c.self.view_is) in
+    let has = ready_has s key _ (c.self.invariant.agrees.each key) (next_passes s key some) in
+    subst (λ units. has_key units key ≡ true) (sym c.self.invariant.agrees.units_are) has
+
+pub make-requires-clause-kept : goal.make-requires-clause-kept
+make-requires-clause-kept c = all_kept (c.self.invariant.agrees)
+
+pub returns-clause-job : goal.returns-clause-job
+returns-clause-job c =
+    let story : Story = record { origin = start c.self.inside.most_units; log = c.self.inside.history } in
+    let s : State = state_of story in
+    let key = c.args.key in
+    let some : Some key ≡ next s = c.requires ∙ ap (λ st. next (state_of st)) (sym c.self.view_is) in
+    take_some s c.self.inside.library key c.in_ok-job.job _ _ c.self.invariant.agrees.units_are c.in_ok-job.ensures refl refl some
+    ∙ ap (λ st. reply (state_of st) ToTake) c.self.view_is
+
+pub returns-clause-answer : goal.returns-clause-answer
+returns-clause-answer c =
+    let story : Story = record { origin = start c.self.inside.most_units; log = c.self.inside.history } in
+    let s : State = state_of story in
+    let key = c.args.key in
+    let some : Some key ≡ next s = c.requires ∙ ap (λ st. next (state_of st)) (sym c.self.view_is) in
+    take_some s c.self.inside.library key c.in_ok-job.job c.key.result (texts_seen c.in_ok-clone.field-0.value.items) c.self.invariant.agrees.units_are c.in_ok-job.ensures c.key.ensures (ap (λ it. texts_seen it.items) c.in_ok-clone.ensures.cases ∙ c.texts.ensures) some
+    ∙ ap (λ st. reply (state_of st) ToTake) c.self.view_is

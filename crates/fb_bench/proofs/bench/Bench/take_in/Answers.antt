@@ -1,0 +1,39 @@
+-- The value that is kept is that of the present texts.
+use Rattle.std.proofs.Common.{◌≡◌, sym, ap, subst, refl, ◌∙◌, arith, rules}
+use Rattle.fb_jobs.specs.Keys.{scratch}
+use Rattle.fb_jobs.specs.Reads.{Order}
+use Rattle.fb_jobs.specs.Values.{finding_of}
+use Rattle.fb_bench.specs.declared.answers.Delivered.TheVariants.{Accepted}
+use Rattle.fb_bench.specs.Machine.{State, ToDeliver, OfDeliver, deliver_answer, reply}
+use Rattle.fb_bench.specs.Records.{call_of}
+use Rattle.fb_bench.specs.Story.{Story, state_of, recorded, record_of, start, logged, record_after}
+use Rattle.fb_bench.specs.Kept.{Agrees}
+use Rattle.fb_bench.proofs.Marks.{agrees_deliver}
+use Rattle.fb_bench.proofs.Steps.{kept_pushed, story_pushed, share_pushed, delivers_is, delivered_is}
+use Rattle.fb_bench.proofs.bench.Bench.take_in.Goals as goal
+
+pub invariant_of-self-2 : goal.invariant_of-self-2
+invariant_of-self-2 c =
+    let story : Story = record { origin = start c.self.inside.most_units; log = c.self.inside.history } in
+    let s : State = state_of story in
+    let now : Order = c.args.finished.now in
+    let accepted : Accepted ≡ deliver_answer s now = c.requires.accepted ∙ ap (λ st. deliver_answer (state_of st) now) (sym c.self.view_is) in
+    let law : scratch s.units now.key ≡ _ = ap (λ st. scratch (state_of st).units now.key) c.self.view_is ∙ c.requires.value in
+    let cloned : c.in_ok-value.value.value ≡ c.value.result.now.value = search rules in
+    let value : finding_of c.in_ok-value.value.value ≡ scratch s.units c.key-key.result = ap finding_of cloned ∙ c.value.ensures ∙ sym law ∙ ap (λ k. scratch s.units k) (sym c.key-key.ensures) in
+    kept_pushed _ _ _ _ _ _ _ story _ c.args.caller (ToDeliver now) _ c.self.invariant.begins (c.in_ok-share.ensures.ok ∙ ap (λ call. logged c.self.inside.history c.args.caller call (OfDeliver Accepted)) c.requires.call) (delivers_is s now now Accepted refl accepted)
+    (subst (λ t. Agrees c.self.inside.library c.self.inside.commits c.keep.new.entries c.leave.new.keys c.leave-2.new.keys t) (sym (delivered_is s now now c.key-key.result Accepted refl c.key-key.ensures accepted))
+    (agrees_deliver _ _ c.self.inside.entries.by_key _ c.self.inside.entries.ready _ c.self.inside.entries.waiting _ s c.key-key.result c.in_ok-value.value c.self.invariant.agrees value c.keep.ensures c.leave.ensures c.leave-2.ensures))
+    c.self.invariant.replayed c.self.invariant.keys_are c.self.invariant.indexed (omega (arith, c.self.invariant.few))
+
+pub returns : goal.returns
+returns c =
+    let story : Story = record { origin = start c.self.inside.most_units; log = c.self.inside.history } in
+    let s : State = state_of story in
+    let now : Order = c.args.finished.now in
+    let accepted : Accepted ≡ deliver_answer s now = c.requires.accepted ∙ ap (λ st. deliver_answer (state_of st) now) (sym c.self.view_is) in
+    record {
+      step = story_pushed story _ _ c.args.caller (ToDeliver now) _ c.self.view_is (c.in_ok-share.ensures.ok ∙ ap (λ call. logged c.self.inside.history c.args.caller call (OfDeliver Accepted)) c.requires.call) (delivers_is s now now Accepted refl accepted);
+      share = share_pushed story _ _ c.args.caller (ToDeliver now) _ c.self.view_is (c.in_ok-share.ensures.share ∙ ap (λ call. record_after c.self.inside.history c.args.caller call (OfDeliver Accepted)) c.requires.call) (delivers_is s now now Accepted refl accepted);
+      err = tt;
+    }

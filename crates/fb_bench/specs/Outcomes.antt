@@ -1,0 +1,30 @@
+-- What a commit comes to, before anything is written.
+use Rattle.std.specs.Prelude.{◌≡◌, ℕ, List, map, length, nat_lt, if◌then◌else◌}
+use Rattle.std.specs.BTreeMap as tree
+use Rattle.std.specs.BTreeSet as set
+use Rattle.fb_jobs.specs.Library.Texts.{Texts, Edit, unit_of, all_edited}
+use Rattle.fb_jobs.specs.declared.key.Key.{Key}
+use Rattle.fb_bench.specs.declared.answers.Committed.{Committed}
+use Rattle.fb_bench.specs.declared.answers.Committed.TheVariants as answer
+use Rattle.fb_bench.specs.declared.commit.Outcome.{Outcome}
+use Rattle.fb_bench.specs.declared.commit.Outcome.TheVariants.{Refused, Done}
+use Rattle.fb_bench.specs.declared.entry.Entry.{Entry}
+use Rattle.fb_bench.specs.Indexed.{IsIndexOf}
+use Rattle.fb_bench.specs.Machine.{State, refusal, or_else, after_commit}
+use Rattle.fb_bench.specs.Renew.{IsRenewal, AreKeys}
+
+-- the answer to changes of these texts, where at most so many units may be and a good commit has this number
+abbrev pub answer_at : ℕ → ℕ → Texts → List Edit → Committed
+answer_at most_units number texts edits =
+    or_else (refusal texts edits) (if nat_lt most_units (length (all_edited number edits texts)) then answer.TooManyUnits else answer.Done number)
+
+-- A refusal, which leaves every state. Or the texts after the changes, with their index, what the changes alter, and their keys.
+abbrev pub IsOutcome : ℕ → ℕ → Texts → List Edit → tree.BTreeMap Key Entry → set.BTreeSet Key → set.BTreeSet Key → Outcome → Type 0
+IsOutcome most_units number texts edits entries ready waiting (Refused refused) =
+    (refused ≡ answer_at most_units number texts edits) × ((state : State) → after_commit refused edits state ≡ state)
+IsOutcome most_units number texts edits entries ready waiting (Done library found) =
+    (answer.Done number ≡ answer_at most_units number texts edits)
+    × (library ≡ all_edited number edits texts)
+    × IsIndexOf library found.index
+    × IsRenewal library (map unit_of edits) entries ready waiting found.renewal
+    × AreKeys library entries found.renewal.fresh.items found.renewal.gone.items found.keys
