@@ -1,5 +1,5 @@
 -- A key that is not out stays as it is.
-use Rattle.std.proofs.Common.{◌≡◌, true, false, sym, ap, subst, ◌∙◌, arith, rules}
+use Rattle.std.proofs.Common.{◌≡◌, false, sym, ap, subst, ◌∙◌, arith, rules}
 use Rattle.fb_bench.specs.Machine.{State, ToGiveBack}
 use Rattle.fb_bench.specs.Story.{Story, state_of, start}
 use Rattle.fb_bench.specs.Kept.{Agrees}

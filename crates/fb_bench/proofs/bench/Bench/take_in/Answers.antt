@@ -4,9 +4,8 @@ use Rattle.fb_jobs.specs.Keys.{scratch}
 use Rattle.fb_jobs.specs.Reads.{Order}
 use Rattle.fb_jobs.specs.Values.{finding_of}
 use Rattle.fb_bench.specs.declared.answers.Delivered.TheVariants.{Accepted}
-use Rattle.fb_bench.specs.Machine.{State, ToDeliver, OfDeliver, deliver_answer, reply}
-use Rattle.fb_bench.specs.Records.{call_of}
-use Rattle.fb_bench.specs.Story.{Story, state_of, recorded, record_of, start, logged, record_after}
+use Rattle.fb_bench.specs.Machine.{State, ToDeliver, OfDeliver, deliver_answer}
+use Rattle.fb_bench.specs.Story.{Story, state_of, start, logged, record_after}
 use Rattle.fb_bench.specs.Kept.{Agrees}
 use Rattle.fb_bench.proofs.Marks.{agrees_deliver}
 use Rattle.fb_bench.proofs.Steps.{kept_pushed, story_pushed, share_pushed, delivers_is, delivered_is}
