@@ -183,19 +183,37 @@ impl Locked {
         ensures refused { OnErr result ((self.new ≡ self.old) × (seat.new ≡ seat.old)) }
     {
         self.admit(seat)?;
-        let caller = seat.caller();
-        let Ok(fresh) = book::open_page(&mut self.book, caller) else {
+        let Ok((receipt, answer)) = self.make_call(seat.caller(), request) else {
             return Err(SharedRefused::Memory);
         };
-        let Ok((record, answer)) = self.bench.perform(caller, request) else {
-            book::undo_page(&mut self.book, caller, fresh);
-            return Err(SharedRefused::Memory);
-        };
-        book::write_page(&mut self.book, caller, record.turn());
-        let number = self.bench.len() as u64;
-        seat.turns = record.turn();
-        seat.seen = number;
-        Ok((Receipt { number, record }, answer))
+        seat.turns = receipt.turn();
+        seat.seen = receipt.number();
+        Ok((receipt, answer))
+    }
+
+    // makes a call of this caller, and counts it in the book
+    fn make_call(
+        &mut self,
+        caller: u32,
+        request: &Request<'_>,
+    ) -> Result<(Receipt, Answered), AllocError>
+        ensures step { OnOk result (self.new ≡ hall_after self.old caller (call_for request.now)) }
+        ensures receipt { IfOk result (λ made. made.0 ≡ next_claim self.old caller (call_for request.now)) }
+        ensures answer { IfOk result (λ made. reply_in made.1 ≡ made.0.entry.reply) }
+        ensures err { OnErr result (self.new ≡ self.old) }
+    {
+        let fresh = book::open_page(&mut self.book, caller)?;
+        match self.bench.perform(caller, request) {
+            Ok((record, answer)) => {
+                book::write_page(&mut self.book, caller, record.turn());
+                let number = self.bench.len() as u64;
+                Ok((Receipt { number, record }, answer))
+            }
+            Err(_) => {
+                book::undo_page(&mut self.book, caller, fresh);
+                Err(AllocError)
+            }
+        }
     }
 
     /// Changes the texts, or says what is first against it.

@@ -1,5 +1,5 @@
 use Rattle.std.proofs.Common.{◌∙◌, ◌++◌, ◌∷◌, [], List, ap, sym}
-use Rattle.fb_bench.specs.Machine.{OfTake}
+use Rattle.fb_bench.specs.Machine.{Reply, OfTake}
 use Rattle.fb_shared.specs.Seats.{Claim}
 use Rattle.fb_shared.proofs.Desks.{taken_reply}
 use Rattle.fb_shared.proofs.seated.SeatedDesk.take.Goals as goal
@@ -11,8 +11,8 @@ returns-in-Ok g c =
     let reply = taken_reply receipt.entry.reply c.in-Ok.job answers.0.reply_fits c.in-Ok.ensures.job in
     rw (← c.self.view_is) (
       receipt,
-      c.push_reserved.ensures.items ∙ ap (λ (l : List Claim). l ++ receipt ∷ []) c.reserve.ensures.items,
+      ◌∙◌ {A = List Claim} c.push_reserved.ensures.items (ap (λ (l : List Claim). l ++ receipt ∷ []) c.reserve.ensures.items),
       answers.0,
-      reply ∙ ap OfTake (sym c.taken_from.ensures),
+      ◌∙◌ {A = Reply} reply (ap OfTake (sym c.taken_from.ensures)),
       answers.1,
     )
