@@ -15,6 +15,12 @@ fn place(alloc: Global, text: &str) -> Result<String, Fail> {
     }
 }
 
+/// Compares the place where a text is broken.
+fn compare_place(rt: &impl Abort, alloc: Global, text: &str, expected: &str) -> Result<(), Fail> {
+    same(rt, place(alloc, text)?.as_str(), expected, text);
+    Ok(())
+}
+
 // Broken texts with their places.
 static BROKEN: [(&str, &str); 11] = [
     // the end of a text that goes no further
@@ -49,7 +55,7 @@ static BROKEN: [(&str, &str); 11] = [
 #[test]
 fn broken_texts(rt: HostRuntime) -> Result<(), Fail> {
     for (text, expected) in &BROKEN {
-        same(&rt, place(rt.alloc(), text)?.as_str(), expected, text);
+        compare_place(&rt, rt.alloc(), text, expected)?;
     }
     Ok(())
 }
@@ -62,12 +68,7 @@ fn fault_of(alloc: Global, text: &str) -> Option<ReadFault> {
 #[test]
 fn the_longest_texts(rt: HostRuntime) -> Result<(), Fail> {
     let mut text = " ".repeat(rt.alloc(), 65_536)?;
-    same(
-        &rt,
-        place(rt.alloc(), text.as_str())?.as_str(),
-        "65536..65536",
-        "blanks",
-    );
+    compare_place(&rt, rt.alloc(), text.as_str(), "65536..65536")?;
     text.push(' ')?;
     let fault = fault_of(rt.alloc(), text.as_str());
     equal(&rt, &fault, &Some(ReadFault::TextTooLong), "a blank more");
@@ -301,40 +302,34 @@ fn broken(alloc: Global, whole: &str, old: &str, new: &str) -> Result<String, Fa
 }
 
 /// Breaks a text in each of these ways.
-fn compare(
-    rt: &impl Abort,
-    alloc: Global,
-    whole: &str,
-    breaks: &[(&str, &str, &str)],
-) -> Result<(), Fail> {
-    same(rt, place(alloc, whole)?.as_str(), "whole", whole);
-    for (old, new, expected) in breaks {
+fn compare(rt: &impl Abort, alloc: Global, (whole, breaks): &Breaks) -> Result<(), Fail> {
+    compare_place(rt, alloc, whole, "whole")?;
+    for (old, new, expected) in *breaks {
         let text = broken(alloc, whole, old, new)?;
-        let found = place(alloc, text.as_str())?;
-        same(rt, found.as_str(), expected, text.as_str());
+        compare_place(rt, alloc, text.as_str(), expected)?;
     }
     Ok(())
 }
 
 fn declarations(rt: &impl Abort, alloc: Global) -> Result<(), Fail> {
-    compare(rt, alloc, EVENTS.0, EVENTS.1)?;
-    compare(rt, alloc, VARIABLES.0, VARIABLES.1)?;
-    compare(rt, alloc, ADAPTER.0, ADAPTER.1)?;
-    compare(rt, alloc, INSTANCES.0, INSTANCES.1)
+    compare(rt, alloc, &EVENTS)?;
+    compare(rt, alloc, &VARIABLES)?;
+    compare(rt, alloc, &ADAPTER)?;
+    compare(rt, alloc, &INSTANCES)
 }
 
 fn networks_and_charts(rt: &impl Abort, alloc: Global) -> Result<(), Fail> {
-    compare(rt, alloc, CONNECTIONS.0, CONNECTIONS.1)?;
-    compare(rt, alloc, STATES.0, STATES.1)?;
-    compare(rt, alloc, TRANSITIONS.0, TRANSITIONS.1)?;
-    compare(rt, alloc, SYSTEM.0, SYSTEM.1)
+    compare(rt, alloc, &CONNECTIONS)?;
+    compare(rt, alloc, &STATES)?;
+    compare(rt, alloc, &TRANSITIONS)?;
+    compare(rt, alloc, &SYSTEM)
 }
 
 fn statements(rt: &impl Abort, alloc: Global) -> Result<(), Fail> {
-    compare(rt, alloc, ALGORITHMS.0, ALGORITHMS.1)?;
-    compare(rt, alloc, CHOICES.0, CHOICES.1)?;
-    compare(rt, alloc, LOOPS.0, LOOPS.1)?;
-    compare(rt, alloc, EXPRESSION.0, EXPRESSION.1)
+    compare(rt, alloc, &ALGORITHMS)?;
+    compare(rt, alloc, &CHOICES)?;
+    compare(rt, alloc, &LOOPS)?;
+    compare(rt, alloc, &EXPRESSION)
 }
 
 #[test]

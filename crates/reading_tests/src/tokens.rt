@@ -1,8 +1,8 @@
 //! Names and tokens.
-use crate::told::{equal, same, words};
+use crate::told::{equal, names_told, same, words};
 use fb_sections::lexemes::{Kind, lexemes};
 use fb_text::{Name, NameFault, TypeClass, same_name, sorted_names, tokens, type_class};
-use std::alloc::Global;
+use std::alloc::{AllocError, Global};
 use std::test::Fail;
 
 // Texts with their tokens.
@@ -144,29 +144,43 @@ fn are_same(text: &str, other: &str) -> Result<bool, NameFault> {
     Ok(same_name(&Name::read(text)?, &Name::read(other)?))
 }
 
-/// The names in a text in order, each with a blank behind it.
-fn sorted(alloc: Global, text: &str) -> Result<String, Fail> {
+/// The names in a text.
+fn names_in(alloc: Global, text: &str) -> Result<Vec<Name>, Fail> {
     let mut names = Vec::new(alloc);
     for word in text.split_whitespace() {
         names.push(Name::read(word)?)?;
     }
-    let mut found = String::new(alloc);
-    for name in &sorted_names(alloc, names.as_slice())? {
-        write!(found, "{name} ")?;
-    }
-    Ok(found)
+    Ok(names)
+}
+
+/// Names in order, each with a blank behind it.
+fn sorted_told(alloc: Global, names: &[Name]) -> Result<String, AllocError> {
+    let sorted = sorted_names(alloc, names)?;
+    names_told(alloc, sorted.as_slice())
 }
 
 #[test]
-fn names(rt: HostRuntime) -> Result<(), Fail> {
-    same(&rt, Name::read("ab_1")?.as_str(), "AB_1", "ab_1");
+fn names_are_sorted(rt: HostRuntime) -> Result<(), Fail> {
+    let text = "b a_ B ab a";
+    let names = names_in(rt.alloc(), text)?;
+    let sorted = sorted_told(rt.alloc(), names.as_slice())?;
+    same(&rt, sorted.as_str(), "A AB A_ B ", text);
+    Ok(())
+}
+
+#[test]
+fn texts_that_are_no_names(rt: HostRuntime) {
     equal(&rt, &TOO_LONG.len(), &65, TOO_LONG);
     for (text, fault) in &NO_NAMES {
         equal(&rt, &Name::read(text).err(), &Some(*fault), text);
     }
-    assert!(rt; are_same("b", "B")? && !are_same("b", "a_")?);
-    let text = "b a_ B ab a";
-    same(&rt, sorted(rt.alloc(), text)?.as_str(), "A AB A_ B ", text);
+}
+
+#[test]
+fn names_have_no_case(rt: HostRuntime) -> Result<(), Fail> {
+    same(&rt, Name::read("ab_1")?.as_str(), "AB_1", "ab_1");
+    let found = [are_same("b", "B")?, are_same("b", "a_")?];
+    equal(&rt, &found, &[true, false], "names that are the same");
     Ok(())
 }
 

@@ -5,7 +5,7 @@ use fb_parse::tree::{
     Transition, TypeDeclaration, Variables,
 };
 use fb_parse::{Body, Source};
-use fb_text::{NameUse, Span, Token, TokenFault};
+use fb_text::{Name, NameUse, Span, Token, TokenFault};
 use std::alloc::{AllocError, Global};
 use std::fmt::Debug;
 use std::process::Abort;
@@ -76,6 +76,15 @@ impl Tell for NameUse {
         told.push_str(self.name.as_str())?;
         self.span.tell(told)
     }
+}
+
+/// Names, each with a blank behind it.
+pub fn names_told(alloc: Global, names: &[Name]) -> Result<String, AllocError> {
+    let mut told = String::new(alloc);
+    for name in names {
+        write!(told, "{name} ")?;
+    }
+    Ok(told)
 }
 
 /// Names with a mark before the first, and one between any two.

@@ -1,9 +1,10 @@
 //! The texts of units that are whole.
-use crate::told::{same, words};
-use fb_parse::tree::mentions;
+use crate::told::{names_told, same, words};
+use fb_parse::tree::{Decl, mentions};
 use fb_parse::{Body, Source};
 use fb_text::Name;
-use std::alloc::Global;
+use std::alloc::{AllocError, Global};
+use std::process::Abort;
 use std::test::Fail;
 
 // Units with their texts, and what these declare.
@@ -51,13 +52,24 @@ static UNITS: [(&str, &str, &str); 8] = [
     ),
 ];
 
+/// Compares the text of a unit, and what it declares.
+fn compare(
+    rt: &impl Abort,
+    alloc: Global,
+    source: &Source,
+    text: &str,
+    expected: &str,
+) -> Result<(), AllocError> {
+    same(rt, source.text(), text, "the text");
+    same(rt, words(alloc, source)?.as_str(), expected, text);
+    Ok(())
+}
+
 #[test]
 fn texts_of_units(rt: HostRuntime) -> Result<(), Fail> {
     for (unit, text, expected) in &UNITS {
         let source = Source::read(rt.alloc(), Name::read(unit)?, text)?;
-        same(&rt, source.text(), text, unit);
-        let found = words(rt.alloc(), source.as_ref())?;
-        same(&rt, found.as_str(), expected, text);
+        compare(&rt, rt.alloc(), source.as_ref(), text, expected)?;
     }
     Ok(())
 }
@@ -78,16 +90,19 @@ static MENTIONS: [(&str, &str); 3] = [
     ),
 ];
 
-/// The types that a text mentions, each with a blank behind it.
+/// The types that a declaration mentions, each with a blank behind it.
+fn mentions_told(alloc: Global, declared: &Decl) -> Result<String, AllocError> {
+    let names = mentions(alloc, declared)?;
+    names_told(alloc, names.as_slice())
+}
+
+/// The types that a text mentions.
 fn mentioned(alloc: Global, text: &str) -> Result<String, Fail> {
     let source = Source::read(alloc, Name::underscore(), text)?;
-    let mut found = String::new(alloc);
-    if let Body::Tree(declared) = source.body() {
-        for name in &mentions(alloc, declared)? {
-            write!(found, "{name} ")?;
-        }
+    match source.body() {
+        Body::Tree(declared) => Ok(mentions_told(alloc, declared)?),
+        Body::Broken(_) => Err(Fail::from("a broken text")),
     }
-    Ok(found)
 }
 
 #[test]
