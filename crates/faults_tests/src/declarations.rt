@@ -1,5 +1,7 @@
 //! What a unit declares: its name, the names in it, their types, and initial values.
 use crate::plant::compare;
+use std::alloc::Global;
+use std::process::Abort;
 use std::test::Fail;
 
 // A broken text has no other fault, whatever it has.
@@ -194,18 +196,22 @@ static LITERAL_IN_LISTS: [(&str, &str); 7] = [
     ),
 ];
 
+/// Compares the faults of whole texts.
+fn compare_texts(rt: &impl Abort, alloc: Global, rows: &[(&str, &str)]) -> Result<(), Fail> {
+    compare(rt, alloc, ("", ""), "", rows)
+}
+
 #[test]
-fn faults_of_declarations(rt: HostRuntime) -> Result<(), Fail> {
-    for rows in [
-        SYNTAX.as_slice(),
-        NAME_DIFFERS_AND_MIXED_KIND.as_slice(),
-        DUPLICATE.as_slice(),
-        UNKNOWN_TYPE_AND_WRONG_KIND.as_slice(),
-        WITH_UNKNOWN.as_slice(),
-        LITERAL.as_slice(),
-        LITERAL_IN_LISTS.as_slice(),
-    ] {
-        compare(&rt, rt.alloc(), ("", ""), "", rows)?;
-    }
-    Ok(())
+fn faults_of_names_and_types(rt: HostRuntime) -> Result<(), Fail> {
+    compare_texts(&rt, rt.alloc(), &SYNTAX)?;
+    compare_texts(&rt, rt.alloc(), &NAME_DIFFERS_AND_MIXED_KIND)?;
+    compare_texts(&rt, rt.alloc(), &DUPLICATE)?;
+    compare_texts(&rt, rt.alloc(), &UNKNOWN_TYPE_AND_WRONG_KIND)
+}
+
+#[test]
+fn faults_of_withs_and_initial_values(rt: HostRuntime) -> Result<(), Fail> {
+    compare_texts(&rt, rt.alloc(), &WITH_UNKNOWN)?;
+    compare_texts(&rt, rt.alloc(), &LITERAL)?;
+    compare_texts(&rt, rt.alloc(), &LITERAL_IN_LISTS)
 }

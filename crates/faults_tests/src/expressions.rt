@@ -1,5 +1,7 @@
 //! Expressions and statements, in algorithms and guards.
 use crate::plant::compare;
+use std::alloc::Global;
+use std::process::Abort;
 use std::test::Fail;
 
 // What stands before and behind the statements of a row: variables, and plugs, sockets and instances whose types are judged or not.
@@ -159,14 +161,21 @@ static STATEMENTS: [(&str, &str); 20] = [
 
 #[test]
 fn faults_of_algorithms(rt: HostRuntime) -> Result<(), Fail> {
-    for rows in [
-        REFERENCES.as_slice(),
-        EXPRESSIONS.as_slice(),
-        STATEMENTS.as_slice(),
-    ] {
-        compare(&rt, rt.alloc(), (HEAD, FOOT), KNOWN, rows)?;
-    }
-    Ok(())
+    compare(&rt, rt.alloc(), (HEAD, FOOT), KNOWN, &REFERENCES)?;
+    compare(&rt, rt.alloc(), (HEAD, FOOT), KNOWN, &EXPRESSIONS)?;
+    compare(&rt, rt.alloc(), (HEAD, FOOT), KNOWN, &STATEMENTS)
+}
+
+/// Compares the faults of statements that stand within others, which open and close so.
+fn compare_within(
+    rt: &impl Abort,
+    alloc: Global,
+    (open, close): (&str, &str),
+    rows: &[(&str, &str)],
+) -> Result<(), Fail> {
+    let head = format!(in alloc; "{HEAD}{open}")?;
+    let foot = format!(in alloc; "{close}{FOOT}")?;
+    compare(rt, alloc, (head.as_str(), foot.as_str()), KNOWN, rows)
 }
 
 // What a statement may stand in, without a fault of its own.
@@ -183,16 +192,8 @@ static AROUND: [(&str, &str); 8] = [
 
 #[test]
 fn statements_in_each_other(rt: HostRuntime) -> Result<(), Fail> {
-    for (open, close) in &AROUND {
-        let head = format!(in rt.alloc(); "{HEAD}{open}")?;
-        let foot = format!(in rt.alloc(); "{close}{FOOT}")?;
-        compare(
-            &rt,
-            rt.alloc(),
-            (head.as_str(), foot.as_str()),
-            KNOWN,
-            &STATEMENTS,
-        )?;
+    for around in &AROUND {
+        compare_within(&rt, rt.alloc(), *around, &STATEMENTS)?;
     }
     Ok(())
 }
@@ -204,15 +205,7 @@ static DEEP: [(&str, &str); 1] = [("Y := X + TRUE;", "VARIABLE_UNKNOWN Y; CLASS 
 fn statements_at_the_last_level(rt: HostRuntime) -> Result<(), Fail> {
     let open = "IF B THEN ".repeat(rt.alloc(), 64)?;
     let close = " END_IF".repeat(rt.alloc(), 64)?;
-    let head = format!(in rt.alloc(); "{HEAD}{open}")?;
-    let foot = format!(in rt.alloc(); "{close}{FOOT}")?;
-    compare(
-        &rt,
-        rt.alloc(),
-        (head.as_str(), foot.as_str()),
-        KNOWN,
-        &DEEP,
-    )
+    compare_within(&rt, rt.alloc(), (open.as_str(), close.as_str()), &DEEP)
 }
 
 // Units with guards, with algorithms, and with neither.

@@ -78,20 +78,56 @@ fn text_of<'a>(library: &'a Library, name: &Name) -> &'a str {
 
 const SHORT: &str = "FUNCTION_BLOCK B END_FUNCTION_BLOCK";
 
-/// Puts a text for B and removes S, by copies of these changes.
-fn change(alloc: Global, library: &mut Library) -> Result<(), Fail> {
-    let changes = [
-        put(alloc, "B", 1, SHORT)?,
-        Change::Remove {
-            unit: Name::read("S")?,
-            base: 1,
-        },
-    ];
-    let kept = Change::copies(alloc, changes.as_slice())?;
-    if kept[0].unit() != Name::read("B")? {
-        return Err(Fail::from("another unit"));
+/// The changes that put a text for B and remove S.
+fn changes(alloc: Global) -> Result<[Change; 2], Fail> {
+    let unit = Name::read("S")?;
+    Ok([put(alloc, "B", 1, SHORT)?, Change::Remove { unit, base: 1 }])
+}
+
+fn first_unit(changes: &[Change]) -> Option<Name> {
+    match changes.first() {
+        Some(change) => Some(change.unit()),
+        None => None,
     }
-    Ok(library.apply(2, &kept)?)
+}
+
+/// Makes these changes, of which the first is for B.
+fn change(rt: &impl Abort, library: &mut Library, changes: &[Change]) -> Result<(), Fail> {
+    equal(rt, &first_unit(changes), &Some(Name::read("B")?), "B");
+    Ok(library.apply(2, changes)?)
+}
+
+/// Makes copies of the changes.
+fn change_by_copies(rt: &impl Abort, alloc: Global, library: &mut Library) -> Result<(), Fail> {
+    let changes = changes(alloc)?;
+    let copies = Change::copies(alloc, changes.as_slice())?;
+    change(rt, library, copies.as_slice())
+}
+
+fn compare_units(
+    rt: &impl Abort,
+    alloc: Global,
+    library: &Library,
+    expected: &str,
+) -> Result<(), Fail> {
+    same(rt, units(alloc, library)?.as_str(), expected, "units");
+    Ok(())
+}
+
+/// Compares the places of names in a library of three units.
+fn compare_places(rt: &impl Abort, library: &Library) -> Result<(), Fail> {
+    let found = [library.name_at(1), library.name_at(3)];
+    equal(rt, &found, &[Some(Name::read("B")?), None], "names");
+    Ok(())
+}
+
+/// Compares the texts of a library from which S was removed.
+fn compare_texts(rt: &impl Abort, library: &Library) -> Result<(), Fail> {
+    let [b, s] = [Name::read("B")?, Name::read("S")?];
+    equal(rt, &library.revision(&s), &0, "S");
+    same(rt, text_of(library, &b), SHORT, "B");
+    same(rt, text_of(library, &s), "", "S");
+    Ok(())
 }
 
 /// Changes a copy of these units, and compares both then.
@@ -101,26 +137,12 @@ fn compare_changed(
     library: &Library,
     copy: &mut Library,
 ) -> Result<(), Fail> {
-    let [b, s] = [Name::read("B")?, Name::read("S")?];
-    same(rt, units(alloc, copy)?.as_str(), "3: A 1 B 1 S 1", "copy");
-    equal(
-        rt,
-        &[copy.name_at(1), copy.name_at(3)],
-        &[Some(b), None],
-        "names",
-    );
-    change(alloc, copy)?;
-    same(rt, units(alloc, copy)?.as_str(), "2: A 1 B 2", "changed");
-    same(
-        rt,
-        units(alloc, library)?.as_str(),
-        "3: A 1 B 1 S 1",
-        "kept",
-    );
-    equal(rt, &copy.revision(&s), &0, "S");
-    same(rt, text_of(copy, &b), SHORT, "B");
-    same(rt, text_of(copy, &s), "", "S");
-    Ok(())
+    compare_units(rt, alloc, copy, "3: A 1 B 1 S 1")?;
+    compare_places(rt, copy)?;
+    change_by_copies(rt, alloc, copy)?;
+    compare_units(rt, alloc, copy, "2: A 1 B 2")?;
+    compare_units(rt, alloc, library, "3: A 1 B 1 S 1")?;
+    compare_texts(rt, copy)
 }
 
 fn compare_copy(rt: &impl Abort, alloc: Global, library: &Library) -> Result<(), Fail> {
@@ -139,21 +161,33 @@ fn count(alloc: Global, library: &Library, name: &str) -> Result<usize, Fail> {
     Ok(faults(alloc, library, &Name::read(name)?)?.len())
 }
 
-/// How many faults a unit has that is in no library, and one that is not in this one.
-fn counts(alloc: Global) -> Result<(usize, usize), Fail> {
-    let in_none = count(alloc, &Library::new(alloc), "A")?;
-    Ok((in_none, count(alloc, &library(alloc, &RECURSIVE)?, "C")?))
+/// How many faults a unit has that is in no library.
+fn count_in_none(alloc: Global) -> Result<usize, Fail> {
+    let none = Library::new(alloc);
+    count(alloc, &none, "A")
+}
+
+/// How many faults a unit has that is not in the library.
+fn count_of_absent(alloc: Global) -> Result<usize, Fail> {
+    let library = library(alloc, &RECURSIVE)?;
+    count(alloc, &library, "C")
+}
+
+fn has_interface(alloc: Global, source: &Source) -> Result<bool, AllocError> {
+    let found = interface(alloc, source)?;
+    Ok(found.is_some())
 }
 
 /// Whether the text of a unit has no interface.
 fn is_without_interface(alloc: Global, text: &str) -> Result<bool, Fail> {
     let source = Source::read(alloc, Name::read("A")?, text)?;
-    Ok(interface(alloc, &source)?.is_none())
+    Ok(!has_interface(alloc, &source)?)
 }
 
 #[test]
 fn what_is_absent_or_broken(rt: HostRuntime) -> Result<(), Fail> {
-    equal(&rt, &counts(rt.alloc())?, &(0, 0), "faults");
+    let counts = [count_in_none(rt.alloc())?, count_of_absent(rt.alloc())?];
+    equal(&rt, &counts, &[0, 0], "faults");
     assert!(rt; is_without_interface(rt.alloc(), "X")?);
     Ok(())
 }
@@ -173,18 +207,27 @@ fn faults_go_by_place_and_then_by_number(rt: HostRuntime) -> Result<(), Fail> {
     let longer = fault(Code::NameDiffers, 36, 40);
     let sorted = sorted_faults(rt.alloc(), [with, longer, twice, name, with].as_slice())?;
     assert!(rt; sorted.as_slice() == [name, twice, with, longer].as_slice());
+    Ok(())
+}
+
+#[test]
+fn codes_have_words_and_numbers(rt: HostRuntime) -> Result<(), Fail> {
     let code = Code::NoSuchResource;
     let word = format!(in rt.alloc(); "{code} {}", code.number())?;
     same(&rt, word.as_str(), "NO_SUCH_RESOURCE 22", "a code");
     Ok(())
 }
 
+/// The numbers that stand for two names, where X is declared twice, and how many names there are.
+fn first_numbers(alloc: Global, x: Name, y: Name) -> Result<([Option<i32>; 2], usize), AllocError> {
+    let table = first_declared(alloc, [(x, 1), (y, 2), (x, 3)].as_slice())?;
+    let numbers = [table.get(&x).copied(), table.get(&y).copied()];
+    Ok((numbers, table.len()))
+}
+
 #[test]
 fn a_name_stands_for_its_first_declaration(rt: HostRuntime) -> Result<(), Fail> {
-    let [x, y] = [Name::read("x")?, Name::read("y")?];
-    let table = first_declared(rt.alloc(), [(x, 1), (y, 2), (x, 3)].as_slice())?;
-    let found = [table.get(&x), table.get(&y)];
-    equal(&rt, &found, &[Some(&1), Some(&2)], "values");
-    equal(&rt, &table.len(), &2, "length");
+    let found = first_numbers(rt.alloc(), Name::read("x")?, Name::read("y")?)?;
+    equal(&rt, &found, &([Some(1), Some(2)], 2), "numbers");
     Ok(())
 }

@@ -1,5 +1,7 @@
 //! Networks: the ends and types of connections, and parameters.
 use crate::plant::compare;
+use std::alloc::Global;
+use std::process::Abort;
 use std::test::Fail;
 
 // Whole networks.
@@ -134,14 +136,25 @@ static IN_BLOCKS: [(&str, &str); 23] = [
     ),
 ];
 
+/// Compares the ends of instances, and others, in a network that stands between these texts.
+fn compare_ends(
+    rt: &impl Abort,
+    alloc: Global,
+    frame: (&str, &str),
+    known: &str,
+    others: &[(&str, &str)],
+) -> Result<(), Fail> {
+    compare(rt, alloc, frame, known, &OF_INSTANCES)?;
+    compare(rt, alloc, frame, known, others)
+}
+
 #[test]
 fn ends_in_a_block_type(rt: HostRuntime) -> Result<(), Fail> {
     let head = format!(in rt.alloc(); "FUNCTION_BLOCK U {INTERFACE} {INSTANCES} ")?;
     let frame = (head.as_str(), " END_CONNECTIONS END_FUNCTION_BLOCK");
     let known =
         "UNKNOWN_TYPE ABSENT; UNKNOWN_TYPE BAD; WRONG_KIND B; UNKNOWN_TYPE ABSENT #2; UNKNOWN_TYPE BAD #2; WRONG_KIND B #2; UNKNOWN_TYPE ABSENT #3; UNKNOWN_TYPE BAD #3; WRONG_KIND AD #3";
-    compare(&rt, rt.alloc(), frame, known, &OF_INSTANCES)?;
-    compare(&rt, rt.alloc(), frame, known, &IN_BLOCKS)
+    compare_ends(&rt, rt.alloc(), frame, known, &IN_BLOCKS)
 }
 
 // Ends in a subapplication, through which nothing passes.
@@ -187,8 +200,7 @@ fn ends_in_a_subapplication(rt: HostRuntime) -> Result<(), Fail> {
     let frame = (head.as_str(), " END_CONNECTIONS END_SUBAPPLICATION");
     let known =
         "UNKNOWN_TYPE ABSENT; UNKNOWN_TYPE BAD; WRONG_KIND B; UNKNOWN_TYPE ABSENT #2; UNKNOWN_TYPE BAD #2; WRONG_KIND B #2; UNKNOWN_TYPE ABSENT #3; UNKNOWN_TYPE BAD #3; WRONG_KIND AD #3; UNKNOWN_TYPE ABSENT #4; UNKNOWN_TYPE BAD #4; WRONG_KIND B #5";
-    compare(&rt, rt.alloc(), frame, known, &OF_INSTANCES)?;
-    compare(&rt, rt.alloc(), frame, known, &IN_SUBAPPLICATIONS)
+    compare_ends(&rt, rt.alloc(), frame, known, &IN_SUBAPPLICATIONS)
 }
 
 // Ends in the second application of a system, which has no ports of its own.
@@ -213,8 +225,7 @@ fn ends_in_an_application(rt: HostRuntime) -> Result<(), Fail> {
     let frame = (head.as_str(), " END_CONNECTIONS END_APPLICATION END_SYSTEM");
     let known =
         "UNKNOWN_TYPE ABSENT; UNKNOWN_TYPE BAD; WRONG_KIND AD; UNKNOWN_TYPE ABSENT #2; UNKNOWN_TYPE BAD #2; WRONG_KIND AD #2";
-    compare(&rt, rt.alloc(), frame, known, &OF_INSTANCES)?;
-    compare(&rt, rt.alloc(), frame, known, &IN_APPLICATIONS)
+    compare_ends(&rt, rt.alloc(), frame, known, &IN_APPLICATIONS)
 }
 
 // Types are the same where their tokens are.

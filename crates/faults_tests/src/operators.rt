@@ -6,6 +6,7 @@ use crate::plant::{faults_of, library, same};
 use fb_faults::iface::Code;
 use fb_faults::library::Library;
 use std::alloc::Global;
+use std::process::Abort;
 use std::test::Fail;
 
 const HEAD: &str =
@@ -100,14 +101,25 @@ fn letter(alloc: Global, none: &Library, expression: &str) -> Result<&'static st
     Ok(known.map_or("?", |(_, letter)| *letter))
 }
 
+/// Adds the letters of an operator behind an operand, which may be absent, and before each operand.
+fn say_row(
+    alloc: Global,
+    none: &Library,
+    (left, operator): (&str, &str),
+    table: &mut String,
+) -> Result<(), Fail> {
+    for right in &OPERANDS {
+        let expression = format!(in alloc; "{left} {operator} {right}")?;
+        table.push_str(letter(alloc, none, expression.as_str())?)?;
+    }
+    Ok(())
+}
+
 /// What an operator makes of all pairs of classes.
 fn pairs(alloc: Global, none: &Library, operator: &str) -> Result<String, Fail> {
     let mut table = String::new(alloc);
     for left in &OPERANDS {
-        for right in &OPERANDS {
-            let expression = format!(in alloc; "{left} {operator} {right}")?;
-            table.push_str(letter(alloc, none, expression.as_str())?)?;
-        }
+        say_row(alloc, none, (left, operator), &mut table)?;
         table.push_str(" ")?;
     }
     Ok(table)
@@ -116,23 +128,29 @@ fn pairs(alloc: Global, none: &Library, operator: &str) -> Result<String, Fail> 
 /// What an operator makes of each class.
 fn singles(alloc: Global, none: &Library, operator: &str) -> Result<String, Fail> {
     let mut table = String::new(alloc);
-    for operand in &OPERANDS {
-        let expression = format!(in alloc; "{operator} {operand}")?;
-        table.push_str(letter(alloc, none, expression.as_str())?)?;
-    }
+    say_row(alloc, none, ("", operator), &mut table)?;
     Ok(table)
+}
+
+fn compare_pairs(rt: &impl Abort, alloc: Global, none: &Library) -> Result<(), Fail> {
+    for (operator, expected) in &PAIRS {
+        let found = pairs(alloc, none, operator)?;
+        same(rt, found.as_str(), expected, operator);
+    }
+    Ok(())
+}
+
+fn compare_singles(rt: &impl Abort, alloc: Global, none: &Library) -> Result<(), Fail> {
+    for (operator, expected) in &SINGLES {
+        let found = singles(alloc, none, operator)?;
+        same(rt, found.as_str(), expected, operator);
+    }
+    Ok(())
 }
 
 #[test]
 fn operators_on_all_classes(rt: HostRuntime) -> Result<(), Fail> {
     let none = library(rt.alloc(), &[])?;
-    for (operator, expected) in &PAIRS {
-        let found = pairs(rt.alloc(), &none, operator)?;
-        same(&rt, found.as_str(), expected, operator);
-    }
-    for (operator, expected) in &SINGLES {
-        let found = singles(rt.alloc(), &none, operator)?;
-        same(&rt, found.as_str(), expected, operator);
-    }
-    Ok(())
+    compare_pairs(&rt, rt.alloc(), &none)?;
+    compare_singles(&rt, rt.alloc(), &none)
 }

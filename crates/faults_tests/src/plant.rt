@@ -159,21 +159,46 @@ fn told(
     Ok((in_head, behind))
 }
 
+/// Compares the faults of a text, of which those at its head, which ends at this place, come first.
+fn compare_told(
+    rt: &impl Abort,
+    alloc: Global,
+    plant: &Library,
+    (text, end): (&str, usize),
+    (known, expected): (&str, &str),
+) -> Result<(), Fail> {
+    let (in_head, behind) = told(alloc, plant, text, end)?;
+    same(rt, in_head.as_str(), known, text);
+    same(rt, behind.as_str(), expected, text);
+    Ok(())
+}
+
+/// Compares the faults of each row of a table, with what stands before and behind it.
+fn compare_rows(
+    rt: &impl Abort,
+    alloc: Global,
+    plant: &Library,
+    (head, foot): (&str, &str),
+    known: &str,
+    rows: &[(&str, &str)],
+) -> Result<(), Fail> {
+    for (row, expected) in rows {
+        let text = format!(in alloc; "{head}{row}{foot}")?;
+        let at = (text.as_str(), head.len());
+        compare_told(rt, alloc, plant, at, (known, expected))?;
+    }
+    Ok(())
+}
+
 /// Compares the faults of each row of a table, with what stands before and behind it, with those that it names. What stands before it has
 /// the faults that are known.
 pub fn compare(
     rt: &impl Abort,
     alloc: Global,
-    (head, foot): (&str, &str),
+    frame: (&str, &str),
     known: &str,
     rows: &[(&str, &str)],
 ) -> Result<(), Fail> {
     let plant = library(alloc, &UNITS)?;
-    for (row, expected) in rows {
-        let text = format!(in alloc; "{head}{row}{foot}")?;
-        let (in_head, in_row) = told(alloc, &plant, text.as_str(), head.len())?;
-        same(rt, in_head.as_str(), known, row);
-        same(rt, in_row.as_str(), expected, row);
-    }
-    Ok(())
+    compare_rows(rt, alloc, &plant, frame, known, rows)
 }
