@@ -2,13 +2,12 @@
 use Rattle.std.proofs.Math.Seq.{take-add}
 use Rattle.std.proofs.lemmas.List.{take_rest, take-append-drop}
 use Rattle.std.specs.Prelude.{⊤}
-use Rattle.std.specs.Io.KnownBytes.{Consumes}
-use Rattle.std.proofs.Common.{Option, Some, None, Bool, true, false, MatchBool, IsTrue, ◌↔◌, take, drop, ◌-◌, ◌≡◌, ◌+◌, ℕ, List, [], ◌∷◌, ◌++◌, length, Result, Ok, Err, refl, sym, ap, ◌∙◌, subst, append_assoc, append-nil, arith}
+use Rattle.std.proofs.Common.{Bool, true, false, MatchBool, take, drop, ◌-◌, ◌≡◌, ◌+◌, ℕ, List, [], ◌∷◌, ◌++◌, length, Result, Ok, Err, refl, sym, ap, ◌∙◌, subst, append_assoc, append-nil, arith}
 use Rattle.fb_bench.specs.Machine.{Call}
 use Rattle.fb_bench.specs.Calls.{Answer}
 use Rattle.fb_wire.specs.Lines.{Fits, lines_of, is_blank, IsLine}
 use Rattle.fb_wire.specs.Requests.{request_of}
-use Rattle.fb_wire.specs.Ends.{Stands, AnsweredEnded, AnsweredAll, IsNothing}
+use Rattle.fb_wire.specs.Ends.{Stands, AnsweredEnded, IsNothing}
 use Rattle.fb_wire.specs.Served.{LineSaid, Standing, PieceTaken, Extends}
 use Rattle.fb_wire.specs.Talk.{Jobs, Pair, Plan, plan_of, Leads, LineTalk, Talk, Runs}
 use Rattle.fb_wire.specs.declared.end.RunEnd.{RunEnd}
@@ -168,54 +167,46 @@ module _ {S : Type 0} (Step : S → Call → Answer → S → Type 0) where
       let P : List ℕ → Type 0 = λ xs. Stands stop xs x.1 x.0 in
       (x.1, x.0, x.3, x.2, subst P (append-nil bytes) x.4)
 
+  -- nothing was read
+  pub begins : (old : S) (held : List ℕ) → PieceTaken Step old [] [] held [] [] (Ok tt) old [] [] held
+  begins old held = λ start given out st.
+      ([], sym (append-nil held), (st.0, st.1, ap lines_of (append-nil given) ∙ st.2, st.3, rw (append-nil out) st.4, st.5))
+
+  -- the read failed
+  pub read_fails : (old : S) (line : List ℕ) (jobs : Jobs) (held : List ℕ) → PieceTaken Step old line jobs held [] [] (Err end.ReadFailed) old line jobs held
+  read_fails old line jobs held = λ start given out st.
+      ([], st.1, sym (append-nil held), st.5, (st.0, line, jobs, ap lines_of (append-nil given) ∙ st.2, st.3, rw (append-nil out) st.4))
+
   -- the last line was answered
-  pub run_ends : (old mid new : S) (line : List ℕ) (mid_jobs jobs : Jobs) (old_held mid_held held bytes : List ℕ) → PieceTaken Step old [] [] old_held bytes [] (Ok tt) mid line mid_jobs mid_held
-      → LineSaid Step line mid_jobs mid mid_held (Ok tt) jobs new held → (pairs : List Pair) × (out : List ℕ) × Runs Step old pairs new × (held ≡ old_held ++ out) × AnsweredAll bytes pairs out
-  run_ends old mid new line mid_jobs jobs old_held mid_held held bytes a said =
-      let x = a old [] [] (starts old) in
-      let talk = Talk-snoc x.2.0 line [] mid_jobs jobs x.2.1 said.0 x.0 said.1 x.2.4 x.2.3 said.2 in
-      let P : List (List ℕ) → Type 0 = λ ls. Talk ls [] (x.2.1 ++ said.0) (x.0 ++ said.1) jobs in
-      (x.2.1 ++ said.0, x.0 ++ said.1, Runs-append Step old mid new x.2.1 said.0 x.2.5 said.3, said.4 ∙ ap (λ xs. xs ++ said.1) x.1 ∙ append_assoc old_held x.0 said.1, (jobs, subst P (sym x.2.2) talk))
+  pub last_ends : (old new : S) (line new_line : List ℕ) (old_jobs jobs : Jobs) (old_held held : List ℕ) → LineSaid Step line old_jobs old old_held (Ok tt) jobs new held
+      → PieceTaken Step old line old_jobs old_held [] [] (Err end.End) new new_line jobs held
+  last_ends old new line new_line old_jobs jobs old_held held said = λ start given out st.
+      let talk = Talk-snoc st.0 line [] old_jobs jobs st.1 said.0 out said.1 st.4 st.3 said.2 in
+      let P : List (List ℕ) → Type 0 = λ ls. Talk ls [] (st.1 ++ said.0) (out ++ said.1) jobs in
+      let all : st.0 ++ line ∷ [] ≡ lines_of (given ++ []) = sym (ap lines_of (append-nil given) ∙ st.2) in
+      (said.1, st.1 ++ said.0, said.4, Runs-append Step start old new st.1 said.0 st.5 said.3, (jobs, subst P all talk))
 
   -- the last line was not answered whole
-  pub run_cut : (old mid new : S) (line : List ℕ) (mid_jobs jobs : Jobs) (old_held mid_held held bytes : List ℕ) (stop : RunEnd) → PieceTaken Step old [] [] old_held bytes [] (Ok tt) mid line mid_jobs mid_held
-      → LineSaid Step line mid_jobs mid mid_held (Err stop) jobs new held → (pairs : List Pair) × (out : List ℕ) × Runs Step old pairs new × (held ≡ old_held ++ out) × Stands stop bytes pairs out
-  run_cut old mid new line mid_jobs jobs old_held mid_held held bytes end.WriteFailed a said =
-      let x = a old [] [] (starts old) in (
-        x.2.1 ++ said.0,
-        x.0 ++ said.1,
-        Runs-append Step old mid new x.2.1 said.0 x.2.5 said.5,
-        said.6 ∙ ap (λ xs. xs ++ said.1) x.1 ∙ append_assoc old_held x.0 said.1,
-        (x.2.0, [], line, x.2.1, said.0, x.0, said.1, mid_jobs, x.2.2, x.2.3, refl, refl, x.2.4, rw said.3 (said.2, said.4, said.7)),
-      )
-  run_cut old mid new line mid_jobs jobs old_held mid_held held bytes end.Memory a said =
-      let x = a old [] [] (starts old) in (
-        x.2.1 ++ said.0,
-        x.0 ++ said.1,
-        Runs-append Step old mid new x.2.1 said.0 x.2.5 said.5,
-        said.6 ∙ ap (λ xs. xs ++ said.1) x.1 ∙ append_assoc old_held x.0 said.1,
-        (x.2.0, [], line, x.2.1, said.0, x.0, said.1, mid_jobs, x.2.2, x.2.3, refl, refl, x.2.4, rw said.3 (said.2, said.4, said.7)),
-      )
-  run_cut old mid new line mid_jobs jobs old_held mid_held held bytes end.End a said = absurd said.7
-  run_cut old mid new line mid_jobs jobs old_held mid_held held bytes end.ReadFailed a said = absurd said.7
-  run_cut old mid new line mid_jobs jobs old_held mid_held held bytes end.LineTooLong a said = absurd said.7
-  run_cut old mid new line mid_jobs jobs old_held mid_held held bytes end.TurnsOver a said = absurd said.7
-
--- known bytes that went in two steps, and in none
-pub Consumes-append : (a b c : Option (List ℕ)) (xs ys : List ℕ) → Consumes a b xs → Consumes b c ys → Consumes a c (xs ++ ys)
-Consumes-append None b c xs ys h k = tt
-Consumes-append (Some u) None c xs ys h k = absurd h
-Consumes-append (Some u) (Some v) None xs ys h k = absurd k
-Consumes-append (Some u) (Some v) (Some w) xs ys h k = h ∙ ap (λ zs. xs ++ zs) k ∙ sym (append_assoc xs ys w)
-
-pub write_not_failed : (line new_line part : List ℕ) (result : Result _ RunEnd) → Extends line part result new_line → result ≡ Err end.WriteFailed → ⊥
-write_not_failed line new_line part (Ok u) is failed = cc
-write_not_failed line new_line part (Err end.LineTooLong) is failed = cc
-write_not_failed line new_line part (Err end.Memory) is failed = cc
-write_not_failed line new_line part (Err end.End) is failed = absurd is
-write_not_failed line new_line part (Err end.ReadFailed) is failed = absurd is
-write_not_failed line new_line part (Err end.WriteFailed) is failed = absurd is
-write_not_failed line new_line part (Err end.TurnsOver) is failed = absurd is
+  pub last_cut : (old new : S) (line new_line : List ℕ) (old_jobs jobs : Jobs) (old_held held : List ℕ) (stop : RunEnd) → LineSaid Step line old_jobs old old_held (Err stop) jobs new held
+      → PieceTaken Step old line old_jobs old_held [] [] (Err stop) new new_line jobs held
+  last_cut old new line new_line old_jobs jobs old_held held end.WriteFailed said = λ start given out st. (
+    said.1,
+    st.1 ++ said.0,
+    said.6,
+    Runs-append Step start old new st.1 said.0 st.5 said.5,
+    (st.0, [], line, st.1, said.0, out, said.1, old_jobs, ap lines_of (append-nil given) ∙ st.2, st.3, refl, refl, st.4, rw said.3 (said.2, said.4, said.7)),
+  )
+  last_cut old new line new_line old_jobs jobs old_held held end.Memory said = λ start given out st. (
+    said.1,
+    st.1 ++ said.0,
+    said.6,
+    Runs-append Step start old new st.1 said.0 st.5 said.5,
+    (st.0, [], line, st.1, said.0, out, said.1, old_jobs, ap lines_of (append-nil given) ∙ st.2, st.3, refl, refl, st.4, rw said.3 (said.2, said.4, said.7)),
+  )
+  last_cut old new line new_line old_jobs jobs old_held held end.End said = absurd said.7
+  last_cut old new line new_line old_jobs jobs old_held held end.ReadFailed said = absurd said.7
+  last_cut old new line new_line old_jobs jobs old_held held end.LineTooLong said = absurd said.7
+  last_cut old new line new_line old_jobs jobs old_held held end.TurnsOver said = absurd said.7
 
 -- a line and its line feed, behind what was taken of the piece
 pub taken_on : (piece : List ℕ) (at len : ℕ) → (take (len + 1) (take (length piece - at) (drop at piece)) ≡ take len (take (length piece - at) (drop at piece)) ++ 10 ∷ [])
@@ -226,8 +217,3 @@ taken_on piece at len is =
 -- all of the piece
 pub taken_all : (piece : List ℕ) (at : ℕ) → take at piece ++ take (length piece - at) (drop at piece) ≡ piece
 taken_all piece at = rw (take_rest piece at) (take-append-drop at piece)
-
--- a call that gave an Ok left the writer as one that has not failed
-pub not_failed : (b : Bool) (r : Result ⊤ RunEnd) → (IsTrue b ↔ (r ≡ Err end.WriteFailed)) → r ≡ Ok tt → b ≡ false
-not_failed true r h is = let failed : r ≡ Err end.WriteFailed = h.0 refl in absurd cc
-not_failed false r h is = refl

@@ -17,6 +17,7 @@ mod to_json;
 pub use end::RunEnd;
 pub use fb_streams::{Failed, Feed, FromRead, IntoWrite, MemoryFeed, MemorySink, Sink};
 pub use laws::{one_script, one_talk};
+pub use line::write_all;
 pub use run::{run_lines, run_script};
 
 /// Of `fb_bench`, for the crates above.

@@ -1,9 +1,9 @@
 // What is said to one line.
-ghost use Rattle.std.specs.Prelude.{◌≡◌, ◌↔◌, IsTrue, IfOk, true, false, is_err};
+ghost use Rattle.std.specs.Prelude.{◌≡◌, ◌↔◌, [], IsTrue, IfOk, IfErr, true, false, is_err};
 ghost use Rattle.fb_wire.specs.Lines.{is_blank};
 ghost use Rattle.serde_json.specs.View.{view};
 ghost use Rattle.fb_wire.specs.Requests.{request_in, request_of};
-ghost use Rattle.fb_wire.specs.Served.{Served, LineServed, LineSaid};
+ghost use Rattle.fb_wire.specs.Served.{Served, LineServed, LineSaid, StopsInside};
 ghost use Rattle.fb_streams.specs.Streams.{WritesAll, StaysFlushed};
 ghost use Rattle.fb_wire.specs.Talk.{plan_of};
 
@@ -81,8 +81,8 @@ fn answer_line<D: Desk>(
     }
 }
 
-// Writes all the bytes, and flushes.
-fn write_all<S: Sink>(writer: &mut S, bytes: &[u8]) -> Result<(), Failed>
+/// Writes all the bytes, and flushes.
+pub fn write_all<S: Sink>(writer: &mut S, bytes: &[u8]) -> Result<(), Failed>
     requires { S.has_failed writer.old ≡ false }
     ensures held { WritesAll (S.held writer.old) bytes.now result (S.held writer.new) }
     ensures flushed { IfOk result (λ _. S.is_flushed writer.new ≡ true) }
@@ -98,26 +98,49 @@ fn write_all<S: Sink>(writer: &mut S, bytes: &[u8]) -> Result<(), Failed>
     writer.flush()
 }
 
-/// Answers a line, and writes its reply, which takes the room of the one before.
+/// What a conversation keeps from one piece of the bytes to the next.
+#[derive(Drop)]
+pub(crate) struct Conversation {
+    /// The jobs that were taken, in the order of their numbers.
+    pub(crate) held: Vec<Job>,
+    /// The bytes of a reply, which the next one takes over.
+    room: Vec<u8>,
+    /// What has come of the next line.
+    pub(crate) line: Vec<u8>,
+}
+
+impl Conversation {
+    pub(crate) fn new(alloc: Global) -> Conversation
+        ensures held { result.held.items ≡ [] }
+        ensures line { result.line.items ≡ [] }
+    {
+        Conversation {
+            held: Vec::new(alloc),
+            room: Vec::new(alloc),
+            line: Vec::new(alloc),
+        }
+    }
+}
+
+/// Answers the line that has come, and writes its reply.
 pub(crate) fn say_line<D: Desk, S: Sink>(
     alloc: Global,
     desk: &mut D,
-    held: &mut Vec<Job>,
-    room: &mut Vec<u8>,
+    talk: &mut Conversation,
     writer: &mut S,
-    line: &[u8],
 ) -> Result<(), RunEnd>
     requires { S.has_failed writer.old ≡ false }
-    ensures said { LineSaid D.step line.now held.old.items desk.old (S.held writer.old) result held.new.items desk.new (S.held writer.new) }
+    ensures said { LineSaid D.step talk.old.line.items talk.old.held.items desk.old (S.held writer.old) result talk.new.held.items desk.new (S.held writer.new) }
     ensures flushed { StaysFlushed (S.is_flushed writer.old) (S.has_failed writer.new) (S.is_flushed writer.new) }
     ensures failed { IsTrue (S.has_failed writer.new) ↔ (result ≡ Err RunEnd.WriteFailed) }
+    ensures inside { IfErr result StopsInside }
 {
-    let taken = mem::replace(room, Vec::new(alloc));
-    match answer_line(alloc, desk, held, taken, line) {
+    let room = mem::replace(&mut talk.room, Vec::new(alloc));
+    match answer_line(alloc, desk, &mut talk.held, room, &talk.line) {
         Ok(None) => Ok(()),
         Ok(Some(text)) => match write_all(writer, &text) {
             Ok(()) => {
-                *room = text;
+                talk.room = text;
                 Ok(())
             }
             Err(_) => Err(RunEnd::WriteFailed),

@@ -2,12 +2,12 @@
 ghost use Rattle.std.specs.Prelude.{◌≡◌, ◌↔◌, ◌≤◌, ◌<◌, ◌+◌, ◌==◌, ℕ, List, ◌∷◌, [], ◌++◌, length, take, IsTrue, false, MatchOption, MatchResult, IfErr};
 ghost use Rattle.fb_streams.specs.Streams.{StaysFlushed};
 ghost use Rattle.fb_wire.specs.Lines.{IsLine};
-ghost use Rattle.fb_wire.specs.Served.{PieceTaken, Extends, StopsInside};
+ghost use Rattle.fb_wire.specs.Served.{Extends, StopsInside};
+ghost use Rattle.fb_wire.specs.Turns.{TakesPiece};
 
 use crate::end::RunEnd;
-use crate::line::say_line;
+use crate::line::{Conversation, say_line};
 use fb_bench::Desk;
-use fb_bench::jobs::Job;
 use fb_streams::Sink;
 use std::alloc::Global;
 
@@ -46,27 +46,25 @@ fn extend_line(line: &mut Vec<u8>, bytes: &[u8]) -> Result<(), RunEnd>
 fn end_line<D: Desk, S: Sink>(
     alloc: Global,
     desk: &mut D,
-    held: &mut Vec<Job>,
-    room: &mut Vec<u8>,
+    talk: &mut Conversation,
     writer: &mut S,
-    line: &mut Vec<u8>,
     front: &[u8],
 ) -> Result<(), RunEnd>
     requires open { S.has_failed writer.old ≡ false }
     requires line { IsLine front.now }
     // whatever comes behind them
-    ensures taken { (behind : List ℕ) → PieceTaken D.step desk.old line.old.items held.old.items (S.held writer.old) (front.now ++ 10 ∷ []) behind result desk.new line.new.items held.new.items (S.held writer.new) }
+    ensures taken { (behind : List ℕ) → TakesPiece D.step desk.old talk.old (S.held writer.old) (front.now ++ 10 ∷ []) behind result desk.new talk.new (S.held writer.new) }
     ensures flushed { StaysFlushed (S.is_flushed writer.old) (S.has_failed writer.new) (S.is_flushed writer.new) }
     ensures failed { IsTrue (S.has_failed writer.new) ↔ (result ≡ Err RunEnd.WriteFailed) }
     ensures inside { IfErr result StopsInside }
 {
-    match extend_line(line, front) {
+    match extend_line(&mut talk.line, front) {
         Ok(()) => {}
         Err(end) => return Err(end),
     }
-    match say_line(alloc, desk, held, room, writer, line) {
+    match say_line(alloc, desk, talk, writer) {
         Ok(()) => {
-            line.clear();
+            talk.line.clear();
             Ok(())
         }
         Err(end) => Err(end),
@@ -77,14 +75,12 @@ fn end_line<D: Desk, S: Sink>(
 pub(crate) fn take_piece<D: Desk, S: Sink>(
     alloc: Global,
     desk: &mut D,
-    held: &mut Vec<Job>,
-    room: &mut Vec<u8>,
+    talk: &mut Conversation,
     writer: &mut S,
-    line: &mut Vec<u8>,
     piece: &[u8],
 ) -> Result<(), RunEnd>
     requires { S.has_failed writer.old ≡ false }
-    ensures taken { PieceTaken D.step desk.old line.old.items held.old.items (S.held writer.old) piece.now [] result desk.new line.new.items held.new.items (S.held writer.new) }
+    ensures taken { TakesPiece D.step desk.old talk.old (S.held writer.old) piece.now [] result desk.new talk.new (S.held writer.new) }
     ensures flushed { StaysFlushed (S.is_flushed writer.old) (S.has_failed writer.new) (S.is_flushed writer.new) }
     ensures failed { IsTrue (S.has_failed writer.new) ↔ (result ≡ Err RunEnd.WriteFailed) }
     ensures inside { IfErr result StopsInside }
@@ -94,9 +90,9 @@ pub(crate) fn take_piece<D: Desk, S: Sink>(
         let rest = &piece[at..];
         let len = line_len(rest);
         if len == rest.len() {
-            return extend_line(line, rest);
+            return extend_line(&mut talk.line, rest);
         }
-        match end_line(alloc, desk, held, room, writer, line, &rest[..len]) {
+        match end_line(alloc, desk, talk, writer, &rest[..len]) {
             Ok(()) => at += len + 1,
             Err(end) => return Err(end),
         }

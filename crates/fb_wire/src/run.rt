@@ -1,14 +1,15 @@
 // The whole conversation.
-ghost use Rattle.std.specs.Prelude.{◌≡◌, ◌↔◌, ◌≤◌, ◌+◌, ℕ, List, [], ◌++◌, IsTrue, false};
+ghost use Rattle.std.specs.Prelude.{◌≡◌, ◌↔◌, ◌≤◌, ◌<◌, ◌+◌, ℕ, List, [], ◌++◌, length, IsTrue, IfErr, Ok, Err, false};
 ghost use Rattle.std.specs.Io.KnownBytes.{Consumes, IsAtEnd};
 ghost use Rattle.fb_bench.specs.Solo.{IsStep};
 ghost use Rattle.fb_streams.specs.Streams.{StaysFlushed};
 ghost use Rattle.fb_wire.specs.Ends.{Stands};
 ghost use Rattle.fb_wire.specs.Script.{SaysBy};
+ghost use Rattle.fb_wire.specs.Turns.{StopsAtEnd, StopsRead, TakesPiece};
 ghost use Rattle.fb_wire.specs.Talk.{Pair, Runs};
 
 use crate::end::RunEnd;
-use crate::line::say_line;
+use crate::line::{Conversation, say_line};
 use crate::piece::take_piece;
 use fb_bench::{Bench, Desk, Solo};
 use fb_streams::{Feed, Sink};
@@ -16,6 +17,60 @@ use std::alloc::Global;
 
 // How many bytes one read may give.
 const READ_SIZE: usize = 8_192;
+
+// Answers the last line, which has no line feed, and ends the conversation.
+fn end_talk<D: Desk, S: Sink>(
+    alloc: Global,
+    desk: &mut D,
+    talk: &mut Conversation,
+    writer: &mut S,
+) -> RunEnd
+    requires { S.has_failed writer.old ≡ false }
+    ensures taken { TakesPiece D.step desk.old talk.old (S.held writer.old) [] [] (Err result) desk.new talk.new (S.held writer.new) }
+    ensures flushed { StaysFlushed (S.is_flushed writer.old) (S.has_failed writer.new) (S.is_flushed writer.new) }
+    ensures failed { IsTrue (S.has_failed writer.new) ↔ (result ≡ RunEnd.WriteFailed) }
+    ensures end { StopsAtEnd result }
+{
+    match say_line(alloc, desk, talk, writer) {
+        Ok(()) => RunEnd::End,
+        Err(end) => end,
+    }
+}
+
+// Reads once, and takes what was read; at the end of the input it ends the conversation.
+fn take_turn<F: Feed, S: Sink, D: Desk>(
+    alloc: Global,
+    reader: &mut F,
+    writer: &mut S,
+    desk: &mut D,
+    talk: &mut Conversation,
+    buffer: &mut [u8],
+) -> Result<(), RunEnd>
+    requires reader { F.has_failed reader.old ≡ false }
+    requires writer { S.has_failed writer.old ≡ false }
+    requires room { 0 < length buffer.old }
+    ensures taken { (bytes : List ℕ)
+        × (F.given reader.new ≡ F.given reader.old ++ bytes)
+        × Consumes (F.left reader.old) (F.left reader.new) bytes
+        × TakesPiece D.step desk.old talk.old (S.held writer.old) bytes [] result desk.new talk.new (S.held writer.new) }
+    ensures whole { result ≡ Err RunEnd.End → IsAtEnd (F.left reader.new) }
+    ensures turn { F.reads reader.new ≡ F.reads reader.old + 1 }
+    ensures read_failed { IsTrue (F.has_failed reader.new) ↔ (result ≡ Err RunEnd.ReadFailed) }
+    ensures flushed { StaysFlushed (S.is_flushed writer.old) (S.has_failed writer.new) (S.is_flushed writer.new) }
+    ensures write_failed { IsTrue (S.has_failed writer.new) ↔ (result ≡ Err RunEnd.WriteFailed) }
+    ensures end { IfErr result StopsRead }
+{
+    match reader.read(buffer) {
+        Ok(count) => {
+            if count == 0 {
+                Err(end_talk(alloc, desk, talk, writer))
+            } else {
+                take_piece(alloc, desk, talk, writer, &buffer[..count])
+            }
+        }
+        Err(_) => Err(RunEnd::ReadFailed),
+    }
+}
 
 /// Answers the lines of the reader, in order, by the calls of the desk, and writes the replies. A turn is one
 /// read.
@@ -42,23 +97,10 @@ pub fn run_lines<F: Feed, S: Sink, D: Desk>(
     ensures flushed { StaysFlushed (S.is_flushed writer.old) (S.has_failed writer.new) (S.is_flushed writer.new) }
     ensures write_failed { IsTrue (S.has_failed writer.new) ↔ (result ≡ RunEnd.WriteFailed) }
 {
-    let mut held = Vec::new(alloc);
-    let mut room = Vec::new(alloc);
-    let mut line = Vec::new(alloc);
+    let mut talk = Conversation::new(alloc);
     let mut buffer = [0; READ_SIZE];
     for _turn in 0..turns {
-        let count = match reader.read(&mut buffer) {
-            Ok(count) => count,
-            Err(_) => return RunEnd::ReadFailed,
-        };
-        if count == 0 {
-            match say_line(alloc, desk, &mut held, &mut room, writer, &line) {
-                Ok(()) => return RunEnd::End,
-                Err(end) => return end,
-            }
-        }
-        let piece = &buffer[..count];
-        match take_piece(alloc, desk, &mut held, &mut room, writer, &mut line, piece) {
+        match take_turn(alloc, reader, writer, desk, &mut talk, &mut buffer) {
             Ok(()) => {}
             Err(end) => return end,
         }

@@ -7,5 +7,5 @@ abbrev pub invariant-loop-turn : goal.invariant-loop-turn
 invariant-loop-turn g l =
     (g.F.Feed.has_failed l.reader ≡ false) × (g.S.Sink.has_failed l.writer ≡ false) × (g.F.Feed.reads l.reader ≡ g.F.Feed.reads l.fn.reader + l._turn)
     × (bytes : List ℕ) × (g.F.Feed.given l.reader ≡ g.F.Feed.given l.fn.reader ++ bytes) × Consumes (g.F.Feed.left l.fn.reader) (g.F.Feed.left l.reader) bytes
-    × PieceTaken g.D.Desk.step l.fn.desk [] [] (g.S.Sink.held l.fn.writer) bytes [] (Ok tt) l.desk l.line.items l.held.items (g.S.Sink.held l.writer)
+    × PieceTaken g.D.Desk.step l.fn.desk [] [] (g.S.Sink.held l.fn.writer) bytes [] (Ok tt) l.desk l.talk.line.items l.talk.held.items (g.S.Sink.held l.writer)
     × (g.S.Sink.is_flushed l.fn.writer ≡ true → g.S.Sink.is_flushed l.writer ≡ true)

@@ -1,0 +1,24 @@
+-- For private clauses: what one read comes to.
+use Rattle.std.specs.Prelude.{⊤, List, ℕ, Result}
+use Rattle.fb_bench.specs.Machine.{Call}
+use Rattle.fb_bench.specs.Calls.{Answer}
+use Rattle.fb_wire.specs.Served.{PieceTaken}
+use Rattle.fb_wire.specs.declared.end.RunEnd.{RunEnd}
+use Rattle.fb_wire.specs.declared.end.RunEnd.TheVariants as end
+use Rattle.fb_wire.specs.declared.line.Conversation.{Conversation}
+
+-- the conversation takes a piece of the bytes, by its line and its jobs
+abbrev pub TakesPiece : {S : Type 0} → (S → Call → Answer → S → Type 0) → S → Conversation → List ℕ → List ℕ → List ℕ → Result ⊤ RunEnd → S → Conversation → List ℕ → Type 0
+TakesPiece Step old old_talk old_held piece behind result new talk held =
+    PieceTaken Step old old_talk.line.items old_talk.held.items old_held piece behind result new talk.line.items talk.held.items held
+
+-- the ends that may come at the end of the input
+abbrev pub StopsAtEnd : RunEnd → Type 0
+StopsAtEnd end.ReadFailed = ⊥
+StopsAtEnd end.TurnsOver = ⊥
+StopsAtEnd _ = Unit {0}
+
+-- the ends that may come with a read
+abbrev pub StopsRead : RunEnd → Type 0
+StopsRead end.TurnsOver = ⊥
+StopsRead _ = Unit {0}
