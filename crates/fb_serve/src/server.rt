@@ -5,11 +5,11 @@ ghost use Rattle.fb_serve.specs.Lines.{SaysLines};
 ghost use Rattle.fb_serve.specs.Shown.{IsNew, ShowsAll};
 
 use crate::callers::{Gathered, NewSeat, SessionFault, run_callers};
-use crate::say::{greet, say};
+use crate::say::greet;
 use crossbeam_channel::{Receiver, bounded};
 use fb_shared::bench::Limits;
 use fb_shared::{Closed, Receipt, Seat, Shared};
-use fb_wire::Sink;
+use fb_wire::{Sink, write_all};
 use std::alloc::{AllocError, Global};
 use std::io::Write;
 use std::net::{Net, TcpListener, TcpStream};
@@ -129,7 +129,7 @@ pub fn serve_on<R: Threads + Wait + Sync, S: Sink, E: Write>(
         return FAILED;
     };
     match serve_sessions(rt, alloc, listener, numbers, errors) {
-        Ok(_served) => match say(out, b"closed\n") {
+        Ok(_served) => match write_all(out, b"closed\n") {
             Ok(()) => DONE,
             Err(_) => FAILED,
         },
