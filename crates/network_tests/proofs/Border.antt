@@ -1,6 +1,6 @@
 -- A network whose event input is joined to that of its block, and the type of the block: both are clean.
 use Rattle.std.proofs.Common.{ℕ, zero, suc, ◌≡◌, ◌<◌, List, [], ◌∷◌, Option, Some, None, ◌⊎◌, inl, inr, refl, sym, ◌∙◌, ap, subst, arith}
-use Rattle.std.specs.Prelude.{Contains, option_and_then}
+use Rattle.std.specs.Prelude.{Contains, option_and_then, slice_index_or, take}
 use Rattle.fb_network.specs.Tree.declared.network.Sort.{Sort}
 use Rattle.fb_network.specs.Tree.declared.network.Sort.TheVariants.{Event, Adapter}
 use Rattle.fb_network.specs.Tree.declared.interface.Side.TheVariants.{Input, Output}
@@ -13,6 +13,8 @@ use Rattle.fb_network.specs.declared.network.Connection.{Connection}
 use Rattle.fb_network.specs.Plain.{PlainNetwork}
 use Rattle.fb_network.specs.Network.{View, place_of, instance_named, IsConnected, IsInner}
 use Rattle.fb_network.specs.Clean.{IsClean, IsCleanThroughout, CleanThroughout, IsDeclared, IsSource, IsDestination, port_named, type_of, side_at, adapter_name_at}
+use Rattle.network_tests.specs.Border.{input, inner}
+use Rattle.fb_compose.specs.Ordered.{IsNext}
 use Rattle.fb_compose.proofs.Equals.{bytes_same}
 use Rattle.fb_compose.proofs.Members.{contains_nothing, contains_cases}
 use Rattle.fb_compose.proofs.Composing.{found_by_name}
@@ -23,13 +25,6 @@ only {X = X} x y c = by_case (contains_cases x [] y c)
     by_case : (x ≡ y) ⊎ Contains [] y → x ≡ y
     by_case (inl e) = e
     by_case (inr d) = absurd (contains_nothing y d)
-
-abbrev input : List ℕ → Port
-input event = record { sort = Event; side = Input; name = event; adapter = None }
-
--- a type with that event input
-abbrev pub inner : List ℕ → PlainNetwork
-inner event = record { ports = input event ∷ []; instances = []; connections = [] }
 
 abbrev held : List ℕ → List ℕ → Instance
 held block type = record { name = block; kind = Block; type_name = type }
@@ -86,6 +81,11 @@ pub clean_outer : {view : View} (event block type : List ℕ) → view type ≡ 
 clean_outer {view = view} event block type declared =
     CleanThroughout (clean_itself event block type declared)
     (λ name net i. absurd (let f = found_by_name (held block type ∷ []) name i.instance i.first in no_subapplication block type i.instance f.among i.kind))
+
+-- the type rests on nothing, so that an order of it alone is right
+pub ordered_alone : {view : View} (event type : List ℕ) → view type ≡ Some (inner event) → (k : ℕ) (d : List ℕ) → k < 1 → IsNext view (take k (type ∷ [])) (slice_index_or (type ∷ []) k d)
+ordered_alone event type declared zero d l = record { network = inner event; declared = declared; held = λ i c k. absurd (contains_nothing i c) }
+ordered_alone event type declared (suc k) d l = absurd (omega arith)
 
 -- networks of these lists
 pub inner_of : (event : List ℕ) {ports : List Port} {instances : List Instance} {connections : List Connection} (network : PlainNetwork) → network ≡ record { ports = ports; instances = instances; connections = connections } → ports ≡ input event ∷ [] → instances ≡ [] → connections ≡ [] → network ≡ inner event

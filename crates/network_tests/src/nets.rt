@@ -4,7 +4,7 @@ use fb_deploy::flatten::{
     all_far, far_is_all, far_of_is_local, flat_networks_are_local, has_net_by_text, is_of_net,
     net_at_is_local, net_at_is_net, net_is_local, net_of_unit, one_net,
 };
-use fb_deploy::library::Library;
+use fb_deploy::library::{Change, Library};
 use fb_text::Name;
 use std::alloc::Global;
 use std::process::Abort;
@@ -48,8 +48,15 @@ const CYCLE: &[&str] = &[
     "FUNCTION_BLOCK N FBS F:M; END_FBS END_FUNCTION_BLOCK",
 ];
 
-// Units, one of them, all that it rests on, and its net.
-const NETS: &[(&[&str], &str, &str, &str)] = &[
+/// Units, one of them, all that it rests on, and its net.
+type Row = (
+    &'static [&'static str],
+    &'static str,
+    &'static str,
+    &'static str,
+);
+
+const NETS: &[Row] = &[
     (
         TWO_TARGETS,
         "S",
@@ -119,47 +126,60 @@ fn compare_of(
     compare(rt, alloc, &library, unit, expected)
 }
 
-#[test]
-fn units_have_their_nets(rt: HostRuntime) -> Result<(), Fail> {
-    for (texts, unit, far, net) in NETS {
-        compare_of(&rt, rt.alloc(), texts, unit, (far, net))?;
+fn compare_rows(rt: &impl Abort, alloc: Global, rows: &[Row]) -> Result<(), Fail> {
+    for (texts, unit, far, net) in rows {
+        compare_of(rt, alloc, texts, unit, (far, net))?;
     }
     Ok(())
 }
 
+#[test]
+fn units_have_their_nets(rt: HostRuntime) -> Result<(), Fail> {
+    compare_rows(&rt, rt.alloc(), NETS)
+}
+
 const FIRST: &str = "SUBAPPLICATION S1 FBS X:B; Y:B; END_FBS END_SUBAPPLICATION";
+
+/// Adds the change that puts a subapplication which holds the one of this number twice.
+fn put_outer(alloc: Global, changes: &mut Vec<Change>, number: u32) -> Result<(), Fail> {
+    let outer = number.saturating_add(1);
+    let text = format!(in alloc;
+        "SUBAPPLICATION S{outer} SUBAPPS X:S{number}; Y:S{number}; END_SUBAPPS END_SUBAPPLICATION"
+    )?;
+    put(alloc, changes, text.as_str())
+}
+
+fn put_chain(alloc: Global, changes: &mut Vec<Change>) -> Result<(), Fail> {
+    put(alloc, changes, B)?;
+    put(alloc, changes, FIRST)?;
+    for number in 1..13u32 {
+        put_outer(alloc, changes, number)?;
+    }
+    Ok(())
+}
 
 /// Thirteen subapplications, each of which holds the one before it twice.
 fn chain(alloc: Global) -> Result<Library, Fail> {
     let mut changes = Vec::new(alloc);
-    put(alloc, &mut changes, B)?;
-    put(alloc, &mut changes, FIRST)?;
-    for i in 1..13u32 {
-        let outer = i + 1;
-        let text = format!(in alloc;
-            "SUBAPPLICATION S{outer} SUBAPPS X:S{i}; Y:S{i}; END_SUBAPPS END_SUBAPPLICATION"
-        )?;
-        put(alloc, &mut changes, text.as_str())?;
-    }
+    put_chain(alloc, &mut changes)?;
     Ok(Library::new(alloc).edited(1, changes.as_slice())?)
 }
 
 // S13 holds 2 + 4 + .. + 8192 instances
 const CHAINED: &[(&str, &str)] = &[("S2", "X.X:B; X.Y:B; Y.X:B; Y.Y:B"), ("S13", "too large")];
 
-#[test]
-fn a_chain_that_doubles(rt: HostRuntime) -> Result<(), Fail> {
-    let alloc = rt.alloc();
-    let library = chain(alloc)?;
+/// Compares the nets of the chain.
+fn compare_chain(rt: &impl Abort, alloc: Global, library: &Library) -> Result<(), Fail> {
     for (unit, net) in CHAINED {
-        same(
-            &rt,
-            unit_net_told(alloc, &library, unit)?.as_str(),
-            net,
-            unit,
-        );
+        same(rt, unit_net_told(alloc, library, unit)?.as_str(), net, unit);
     }
     Ok(())
+}
+
+#[test]
+fn a_chain_that_doubles(rt: HostRuntime) -> Result<(), Fail> {
+    let library = chain(rt.alloc())?;
+    compare_chain(&rt, rt.alloc(), &library)
 }
 
 #[test]

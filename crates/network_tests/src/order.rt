@@ -1,6 +1,6 @@
 //! An order with inner types first, and types that reach themselves.
 use crate::told::{equal, library_of, names_in, names_told, order_told, put, same};
-use fb_deploy::library::{Library, far};
+use fb_deploy::library::{Change, Library, far};
 use fb_order::{inner_first, ordered_is_not_recursive, recursion_is_local, recursive};
 use fb_text::Name;
 use std::alloc::Global;
@@ -22,8 +22,15 @@ const CYCLES: &[&str] = &[
     "FUNCTION_BLOCK T FBS X:T; END_FBS END_FUNCTION_BLOCK",
 ];
 
-// Units, one of them, the order of what it rests on, and the names of that which reach themselves.
-const ORDERS: &[(&[&str], &str, &str, &str)] = &[
+/// Units, one of them, the order of what it rests on, and the names of that which reach themselves.
+type Row = (
+    &'static [&'static str],
+    &'static str,
+    &'static str,
+    &'static str,
+);
+
+const ORDERS: &[Row] = &[
     (DIAMOND, "A", "D C B A", ""),
     (DIAMOND, "B", "D B", ""),
     (DIAMOND, "D", "D", ""),
@@ -67,28 +74,46 @@ fn compare_of(
     compare(rt, alloc, &library, unit, expected)
 }
 
+fn compare_rows(rt: &impl Abort, alloc: Global, rows: &[Row]) -> Result<(), Fail> {
+    for (texts, unit, order, loops) in rows {
+        compare_of(rt, alloc, texts, unit, (order, loops))?;
+    }
+    Ok(())
+}
+
 #[test]
 fn inner_types_come_first(rt: HostRuntime) -> Result<(), Fail> {
-    let alloc = rt.alloc();
-    for (texts, unit, order, loops) in ORDERS {
-        compare_of(&rt, alloc, texts, unit, (order, loops))?;
-    }
-    // they stand in the order of the names that are given
+    compare_rows(&rt, rt.alloc(), ORDERS)
+}
+
+/// Compares those of these names that reach themselves.
+fn compare_recursive(rt: &impl Abort, alloc: Global, library: &Library) -> Result<(), Fail> {
     let names = names_in(alloc, "T S B")?;
-    let found = recursive_told(alloc, &library_of(alloc, CYCLES)?, names.as_slice())?;
-    same(&rt, found.as_str(), "T B", "T S B");
+    let found = recursive_told(alloc, library, names.as_slice())?;
+    same(rt, found.as_str(), "T B", "T S B");
     Ok(())
+}
+
+#[test]
+fn those_that_reach_themselves_stand_as_given(rt: HostRuntime) -> Result<(), Fail> {
+    let library = library_of(rt.alloc(), CYCLES)?;
+    compare_recursive(&rt, rt.alloc(), &library)
+}
+
+/// Adds the change that puts U0 or one of those behind it, each of which holds the next.
+fn put_link(alloc: Global, changes: &mut Vec<Change>, number: u32) -> Result<(), Fail> {
+    let inner = number.saturating_add(1);
+    let text = format!(in alloc;
+        "FUNCTION_BLOCK U{number} FBS X:U{inner}; END_FBS END_FUNCTION_BLOCK"
+    )?;
+    put(alloc, changes, text.as_str())
 }
 
 /// A chain from U0, of which the last one, U4095, is absent.
 fn chain(alloc: Global) -> Result<Library, Fail> {
     let mut changes = Vec::new(alloc);
-    for i in 0..4095u32 {
-        let inner = i + 1;
-        let text = format!(in alloc;
-            "FUNCTION_BLOCK U{i} FBS X:U{inner}; END_FBS END_FUNCTION_BLOCK"
-        )?;
-        put(alloc, &mut changes, text.as_str())?;
+    for number in 0..4095u32 {
+        put_link(alloc, &mut changes, number)?;
     }
     Ok(Library::new(alloc).edited(1, changes.as_slice())?)
 }
@@ -101,12 +126,17 @@ fn ends_told(alloc: Global, names: &[Name]) -> Result<String, Fail> {
     }
 }
 
+fn compare_ends(rt: &impl Abort, alloc: Global, order: &[Name]) -> Result<(), Fail> {
+    equal(rt, &order.len(), &4096, "units");
+    let ends = ends_told(alloc, order)?;
+    same(rt, ends.as_str(), "U4095 U0", "ends");
+    Ok(())
+}
+
 /// Compares the order of all that U0 rests on, which has no cycle.
 fn compare_chain(rt: &impl Abort, alloc: Global, library: &Library) -> Result<(), Fail> {
     let order = inner_first(alloc, library, Name::read("U0")?)?.ok_or("no cycle")?;
-    equal(rt, &order.len(), &4096, "units");
-    let ends = ends_told(alloc, order.as_slice())?;
-    same(rt, ends.as_str(), "U4095 U0", "ends");
+    compare_ends(rt, alloc, order.as_slice())?;
     same(rt, loops_told(alloc, library, "U0")?.as_str(), "", "U0");
     Ok(())
 }

@@ -4,7 +4,7 @@ use fb_deploy::mapping::path_names;
 use fb_network::tree::{Side, Sort};
 use fb_network::{Border, Flat, FlatBlock, Link, Network, Path, Port, is_same_sort, sort_number};
 use fb_text::Name;
-use std::alloc::Global;
+use std::alloc::{AllocError, Global};
 use std::test::Fail;
 
 static SORTS: [(Sort, u8, [bool; 3]); 3] = [
@@ -63,30 +63,57 @@ fn path(alloc: Global, name: &str) -> Result<Path, Fail> {
     Ok(Path::of(alloc, &Name::read(name)?)?)
 }
 
-fn links_told(alloc: Global) -> Result<String, Fail> {
+fn link(alloc: Global, sort: Sort, from: &str, to: &str) -> Result<Link, Fail> {
+    Ok(Link {
+        sort,
+        from: path(alloc, from)?,
+        to: path(alloc, to)?,
+    })
+}
+
+fn links(alloc: Global) -> Result<Vec<Link>, Fail> {
     let mut links = Vec::new(alloc);
     for (sort, from, to) in &ENDS {
-        links.push(Link {
-            sort: *sort,
-            from: path(alloc, from)?,
-            to: path(alloc, to)?,
-        })?;
+        links.push(link(alloc, *sort, from, to)?)?;
     }
+    Ok(links)
+}
+
+/// The links in order.
+fn links_told(alloc: Global, links: &mut Vec<Link>) -> Result<String, AllocError> {
     links.sort()?;
     let mut told = String::new(alloc);
     say_links(&mut told, links.as_slice())?;
     Ok(told)
 }
 
-fn borders_told(alloc: Global) -> Result<String, Fail> {
+#[test]
+fn links_stand_in_their_order(rt: HostRuntime) -> Result<(), Fail> {
+    let mut links = links(rt.alloc())?;
+    let told = links_told(rt.alloc(), &mut links)?;
+    let expected = "Event A TO B; Event B TO A; Event B TO C; Data A TO D";
+    same(&rt, told.as_str(), expected, "links");
+    Ok(())
+}
+
+fn border(alloc: Global, sort: Sort, port: &str, place: &str) -> Result<Border, Fail> {
+    Ok(Border {
+        sort,
+        port: Name::read(port)?,
+        place: path(alloc, place)?,
+    })
+}
+
+fn borders(alloc: Global) -> Result<Vec<Border>, Fail> {
     let mut borders = Vec::new(alloc);
     for (sort, port, place) in &ENDS {
-        borders.push(Border {
-            sort: *sort,
-            port: Name::read(port)?,
-            place: path(alloc, place)?,
-        })?;
+        borders.push(border(alloc, *sort, port, place)?)?;
     }
+    Ok(borders)
+}
+
+/// The borders in order.
+fn borders_told(alloc: Global, borders: &mut Vec<Border>) -> Result<String, AllocError> {
     borders.sort()?;
     let mut told = String::new(alloc);
     say_borders(&mut told, borders.as_slice())?;
@@ -94,11 +121,11 @@ fn borders_told(alloc: Global) -> Result<String, Fail> {
 }
 
 #[test]
-fn links_and_borders_stand_in_their_order(rt: HostRuntime) -> Result<(), Fail> {
-    let links = "Event A TO B; Event B TO A; Event B TO C; Data A TO D";
-    same(&rt, links_told(rt.alloc())?.as_str(), links, "links");
-    let borders = "Event A AT B; Event B AT A; Event B AT C; Data A AT D";
-    same(&rt, borders_told(rt.alloc())?.as_str(), borders, "borders");
+fn borders_stand_in_their_order(rt: HostRuntime) -> Result<(), Fail> {
+    let mut borders = borders(rt.alloc())?;
+    let told = borders_told(rt.alloc(), &mut borders)?;
+    let expected = "Event A AT B; Event B AT A; Event B AT C; Data A AT D";
+    same(&rt, told.as_str(), expected, "borders");
     Ok(())
 }
 

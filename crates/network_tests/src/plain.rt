@@ -4,6 +4,8 @@ use fb_deploy::wiring::{
     applications_are_clean, networks_are_clean, networks_are_local,
     without_faults_nothing_is_reported,
 };
+use std::alloc::Global;
+use std::process::Abort;
 use std::test::Fail;
 
 const NETWORKS: &[(&str, &str, &str)] = &[
@@ -27,19 +29,30 @@ const NETWORKS: &[(&str, &str, &str)] = &[
     ),
 ];
 
-#[test]
-fn networks_are_what_the_texts_say(rt: HostRuntime) -> Result<(), Fail> {
-    let alloc = rt.alloc();
-    for (text, unit, network) in NETWORKS {
-        let library = library_of(alloc, &[*text])?;
-        same(
-            &rt,
-            plain_told(alloc, &library, unit)?.as_str(),
-            network,
-            unit,
-        );
+/// Compares the network of a unit of this text.
+fn compare(
+    rt: &impl Abort,
+    alloc: Global,
+    text: &str,
+    unit: &str,
+    network: &str,
+) -> Result<(), Fail> {
+    let library = library_of(alloc, &[text])?;
+    let found = plain_told(alloc, &library, unit)?;
+    same(rt, found.as_str(), network, unit);
+    Ok(())
+}
+
+fn compare_rows(rt: &impl Abort, alloc: Global, rows: &[(&str, &str, &str)]) -> Result<(), Fail> {
+    for (text, unit, network) in rows {
+        compare(rt, alloc, text, unit, network)?;
     }
     Ok(())
+}
+
+#[test]
+fn networks_are_what_the_texts_say(rt: HostRuntime) -> Result<(), Fail> {
+    compare_rows(&rt, rt.alloc(), NETWORKS)
 }
 
 #[test]

@@ -4,6 +4,7 @@ use fb_deploy::library::Library;
 use fb_deploy::mapping::{homes_are_nearest, one_place, place_is_local};
 use fb_deploy::{one_plan, plan_is_local};
 use std::alloc::Global;
+use std::process::Abort;
 use std::test::Fail;
 
 const TN: &str =
@@ -16,12 +17,57 @@ const SA: &str =
 const Y: &str =
     "SYSTEM Y APPLICATION APP SUBAPPS SUB:SA; END_SUBAPPS END_APPLICATION DEVICE D:DT RESOURCE R1:RT END_RESOURCE RESOURCE R2:RT END_RESOURCE END_DEVICE MAPPINGS APP ON D.R1; END_MAPPINGS END_SYSTEM";
 
-/// A library with the system Y and these mappings.
-fn mapped(alloc: Global, mappings: &str) -> Result<Library, Fail> {
+/// What is compared of a system.
+#[derive(Clone, Copy)]
+enum Part {
+    Placement,
+    Plan,
+}
+
+fn told(alloc: Global, part: Part, library: &Library, system: &str) -> Result<String, Fail> {
+    match part {
+        Part::Placement => placement_told(alloc, library, system),
+        Part::Plan => plan_told(alloc, library, system),
+    }
+}
+
+/// Compares a part of what is made of a system.
+fn compare(
+    rt: &impl Abort,
+    alloc: Global,
+    part: Part,
+    library: &Library,
+    (system, expected): (&str, &str),
+) -> Result<(), Fail> {
+    let found = told(alloc, part, library, system)?;
+    same(rt, found.as_str(), expected, system);
+    Ok(())
+}
+
+/// The same with a library of these texts.
+fn compare_of(
+    rt: &impl Abort,
+    alloc: Global,
+    part: Part,
+    texts: &[&str],
+    row: (&str, &str),
+) -> Result<(), Fail> {
+    let library = library_of(alloc, texts)?;
+    compare(rt, alloc, part, &library, row)
+}
+
+/// The same with the system Y and these mappings.
+fn compare_mapped(
+    rt: &impl Abort,
+    alloc: Global,
+    part: Part,
+    mappings: &str,
+    expected: &str,
+) -> Result<(), Fail> {
     let system = format!(in alloc;
         "SYSTEM Y APPLICATION APP SUBAPPS SUB:SA; END_SUBAPPS END_APPLICATION DEVICE D:DT RESOURCE R1:RT END_RESOURCE RESOURCE R2:RT END_RESOURCE END_DEVICE MAPPINGS {mappings} END_MAPPINGS END_SYSTEM"
     )?;
-    library_of(alloc, &[TN, SA, system.as_str()])
+    compare_of(rt, alloc, part, &[TN, SA, system.as_str()], ("Y", expected))
 }
 
 // The mappings of Y, and its placement.
@@ -69,8 +115,10 @@ const TWO_SYSTEMS: &[&str] = &[
     "SYSTEM Z APPLICATION A FBS B:TN; END_FBS END_APPLICATION DEVICE E:DT RESOURCE R:RT END_RESOURCE END_DEVICE MAPPINGS A.B ON E.R; END_MAPPINGS END_SYSTEM",
 ];
 
-// Units, one of them, and its placement.
-const PLACEMENTS: &[(&[&str], &str, &str)] = &[
+/// Units, one of them, and what is made of it.
+type Row = (&'static [&'static str], &'static str, &'static str);
+
+const PLACEMENTS: &[Row] = &[
     (&[Y], "Y", "blocked SA Y"),
     (
         COMPOSITE,
@@ -85,20 +133,6 @@ const PLACEMENTS: &[(&[&str], &str, &str)] = &[
         "APP.SUB.F ON D.R1; APP.SUB.G ON D.R1; APP.SUB.H ON D.R1",
     ),
 ];
-
-#[test]
-fn systems_have_their_placements(rt: HostRuntime) -> Result<(), Fail> {
-    let alloc = rt.alloc();
-    for (mappings, homes) in HOMES {
-        let found = placement_told(alloc, &mapped(alloc, mappings)?, "Y")?;
-        same(&rt, found.as_str(), homes, mappings);
-    }
-    for (texts, system, placement) in PLACEMENTS {
-        let found = placement_told(alloc, &library_of(alloc, texts)?, system)?;
-        same(&rt, found.as_str(), placement, system);
-    }
-    Ok(())
-}
 
 // The mappings of Y, and its plan.
 const COMMANDS: &[(&str, &str)] = &[
@@ -132,8 +166,7 @@ const TWO_APPLICATIONS: &[&str] = &[
     "SYSTEM Z APPLICATION V FBS B:TN(DT:=T#1s); END_FBS END_APPLICATION APPLICATION A FBS B:TN(DT:=T#2s); END_FBS END_APPLICATION DEVICE E:DT RESOURCE R:RT END_RESOURCE RESOURCE Q:RT END_RESOURCE END_DEVICE MAPPINGS V ON E.Q; A ON E.Q; END_MAPPINGS END_SYSTEM",
 ];
 
-// Units, one of them, and its plan.
-const PLANS: &[(&[&str], &str, &str)] = &[
+const PLANS: &[Row] = &[
     (&[Y], "Y", "blocked SA Y"),
     (&[SA], "SA", "no system"),
     (
@@ -148,18 +181,36 @@ const PLANS: &[(&[&str], &str, &str)] = &[
     ),
 ];
 
-#[test]
-fn systems_have_their_plans(rt: HostRuntime) -> Result<(), Fail> {
-    let alloc = rt.alloc();
-    for (mappings, commands) in COMMANDS {
-        let found = plan_told(alloc, &mapped(alloc, mappings)?, "Y")?;
-        same(&rt, found.as_str(), commands, mappings);
-    }
-    for (texts, system, plan) in PLANS {
-        let found = plan_told(alloc, &library_of(alloc, texts)?, system)?;
-        same(&rt, found.as_str(), plan, system);
+/// Compares a part of what is made of Y by each row.
+fn compare_rows(
+    rt: &impl Abort,
+    alloc: Global,
+    part: Part,
+    rows: &[(&str, &str)],
+) -> Result<(), Fail> {
+    for (mappings, expected) in rows {
+        compare_mapped(rt, alloc, part, mappings, expected)?;
     }
     Ok(())
+}
+
+#[test]
+fn mappings_place_blocks(rt: HostRuntime) -> Result<(), Fail> {
+    compare_rows(&rt, rt.alloc(), Part::Placement, HOMES)?;
+    compare_rows(&rt, rt.alloc(), Part::Plan, COMMANDS)
+}
+
+fn compare_systems(rt: &impl Abort, alloc: Global, part: Part, rows: &[Row]) -> Result<(), Fail> {
+    for (texts, system, expected) in rows {
+        compare_of(rt, alloc, part, texts, (system, expected))?;
+    }
+    Ok(())
+}
+
+#[test]
+fn systems_have_their_placements_and_plans(rt: HostRuntime) -> Result<(), Fail> {
+    compare_systems(&rt, rt.alloc(), Part::Placement, PLACEMENTS)?;
+    compare_systems(&rt, rt.alloc(), Part::Plan, PLANS)
 }
 
 #[test]

@@ -229,17 +229,22 @@ fn homes_told(alloc: Global, homes: &[Home], cuts: &[Link]) -> Result<String, Fa
     Ok(told)
 }
 
+fn placed_told(alloc: Global, placed: &Placed) -> Result<String, Fail> {
+    match placed {
+        Placed::Stopped(net) => net_told(alloc, net),
+        Placed::Faulty(found) => misplaced_told(alloc, found.as_slice()),
+        Placed::On { homes, cuts } => homes_told(alloc, homes.as_slice(), cuts.as_slice()),
+    }
+}
+
 /// The placement of a system.
 pub fn placement_told(alloc: Global, library: &Library, system: &str) -> Result<String, Fail> {
     let name = Name::read(system)?;
     if !is_system(library, &name) {
         return Ok(String::from_str(alloc, "no system")?);
     }
-    match place(alloc, library, name)? {
-        Placed::Stopped(net) => net_told(alloc, &net),
-        Placed::Faulty(found) => misplaced_told(alloc, found.as_slice()),
-        Placed::On { homes, cuts } => homes_told(alloc, homes.as_slice(), cuts.as_slice()),
-    }
+    let placed = place(alloc, library, name)?;
+    placed_told(alloc, &placed)
 }
 
 fn say_commands(told: &mut String, resource: &ResourcePlan) -> Result<(), AllocError> {
@@ -261,17 +266,22 @@ fn commands_told(alloc: Global, cuts: &[Link], resources: &[ResourcePlan]) -> Re
     Ok(told)
 }
 
+fn deploy_told(alloc: Global, deploy: &Deploy) -> Result<String, Fail> {
+    match deploy {
+        Deploy::Stopped(net) => net_told(alloc, net),
+        Deploy::Faulty(found) => misplaced_told(alloc, found.as_slice()),
+        Deploy::Plan { cuts, resources } => {
+            commands_told(alloc, cuts.as_slice(), resources.as_slice())
+        }
+    }
+}
+
 /// The plan of a system.
 pub fn plan_told(alloc: Global, library: &Library, system: &str) -> Result<String, Fail> {
     let name = Name::read(system)?;
     if !is_system(library, &name) {
         return Ok(String::from_str(alloc, "no system")?);
     }
-    match plan(alloc, library, name)? {
-        Deploy::Stopped(net) => net_told(alloc, &net),
-        Deploy::Faulty(found) => misplaced_told(alloc, found.as_slice()),
-        Deploy::Plan { cuts, resources } => {
-            commands_told(alloc, cuts.as_slice(), resources.as_slice())
-        }
-    }
+    let deploy = plan(alloc, library, name)?;
+    deploy_told(alloc, &deploy)
 }
