@@ -1,17 +1,8 @@
 //! The program `bench61499`: a workbench for IEC 61499 units that answers requests, one on each line.
 #![tactic(auto)]
 
-mod arguments;
-mod asked;
-mod program;
-#[cfg(test)]
-mod server_tests;
-#[cfg(test)]
-mod tests;
-
-use fb_serve::serve;
-use fb_serve::wire::{FromRead, IntoWrite};
-use program::{Outcome, refuse_words};
+use fb_program::server::{FromRead, IntoWrite, serve};
+use fb_program::{Outcome, refuse_words};
 use std::alloc::{AllocError, Global};
 use std::process::ExitCode;
 use std::{env, io};
@@ -34,7 +25,7 @@ fn run(rt: &HostRuntime, words: &[String]) -> Outcome {
     };
     let mut reader = FromRead::new(rt.stdin());
     let mut writer = IntoWrite::new(rt.stdout());
-    program::run(
+    fb_program::run(
         rt.alloc(),
         &texts,
         &mut reader,

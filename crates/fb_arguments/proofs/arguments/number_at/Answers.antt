@@ -3,8 +3,8 @@ use Rattle.std.specs.Str.Parse.{ParsesUnsigned, ExplainsUnsignedError, HasUnsign
 use Rattle.clap.specs.Words.{Text, one_text, ReadsOne, found_of, rows_of}
 use Rattle.clap.specs.declared.parser.matches.Found.{Found}
 use Rattle.clap.proofs.WalkLemmas.{one_text-rows}
-use Rattle.bench61499.specs.Words.{number_of}
-use Rattle.bench61499.proofs.arguments.number_at.Goals as goal
+use Rattle.fb_arguments.specs.Words.{number_of}
+use Rattle.fb_arguments.proofs.arguments.number_at.Goals as goal
 
 number_read : (f : Found) (name : Text) (n : ℕ) → (one_text f name ≡ None → Some n ≡ None)
     → ((t : List ℕ) → one_text f name ≡ Some t → ReadsOne (λ bs r. ParsesUnsigned 64 10 bs r × ExplainsUnsignedError 10 bs r × HasUnsignedDigitsIfOk bs r) t (Some n))

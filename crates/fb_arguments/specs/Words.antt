@@ -3,8 +3,8 @@ use Rattle.std.specs.Prelude.{◌≡◌, ◌≤◌, ℕ, List, [], ◌∷◌, co
 use Rattle.std.specs.Str.Parse.{digits_value, without_leading_plus}
 use Rattle.clap.specs.Words.{App, Row, Rule, Text, new_app, new_rule, one_of, subcommand_of, with_rule, with_subcommand}
 use Rattle.clap.specs.declared.builder.value_parser.ValueParser.TheVariants as reads
-use Rattle.bench61499.specs.declared.asked.Settings.{Settings}
-use Rattle.bench61499.specs.declared.asked.Settings.TheVariants.{Script, Serve}
+use Rattle.fb_arguments.specs.declared.asked.Settings.{Settings}
+use Rattle.fb_arguments.specs.declared.asked.Settings.TheVariants.{Script, Serve}
 
 -- an option `--name N` with N from 1 to a most, and its default
 abbrev pub number_option : Text → ℕ → Text → Rule

@@ -1,11 +1,12 @@
 // The program's words.
 ghost use Rattle.std.specs.Prelude.{◌≡◌, ◌≤◌, List, map, IfOk, IfSome, false, true, codes};
 ghost use Rattle.clap.specs.Words.{app_of, found_of, rows_of, rule_of, subcommand_rows_of};
-ghost use Rattle.bench61499.specs.Words.{IsNumberIn, IsAsked, Asks, IsScript, IsServe, bench_app, number_option, port_option};
+ghost use Rattle.fb_arguments.specs.Words.{IsNumberIn, IsAsked, Asks, IsScript, IsServe, bench_app, number_option, units_option, history_option, port_option};
 
 use crate::asked;
+use clap::builder::ValueParser;
 use clap::error::ErrorKind;
-use clap::{Arg, ArgMatches, Command, Error, value_parser};
+use clap::{Arg, ArgMatches, Command, Error};
 use std::alloc::{AllocError, Global};
 
 const MOST_PORT: u64 = 65_535;
@@ -18,24 +19,29 @@ const MOST_UNITS: u64 = 4096;
 
 const MOST_HISTORY: u64 = 1_000_000;
 
-fn units_option<'a>(alloc: Global) -> Arg<'a>
-    ensures rule { rule_of result ≡ number_option (codes "units") 4096 (codes "1024") }
+// An option `--NAME N`, with N from 1 to `most`, and its default.
+fn number_option<'a>(alloc: Global, name: &'a str, most: u64, default: &'a str) -> Arg<'a>
+    ensures rule { rule_of result ≡ number_option name.now most default.now }
     ensures local { result.global ≡ false }
 {
-    Arg::new(alloc, "units")
-        .long("units")
-        .value_parser(value_parser!(u64).range(1..=4096))
-        .default_value("1024")
+    Arg::new(alloc, name)
+        .long(name)
+        .value_parser(ValueParser::unsigned(1, most))
+        .default_value(default)
+}
+
+fn units_option<'a>(alloc: Global) -> Arg<'a>
+    ensures rule { rule_of result ≡ units_option }
+    ensures local { result.global ≡ false }
+{
+    number_option(alloc, "units", MOST_UNITS, "1024")
 }
 
 fn history_option<'a>(alloc: Global) -> Arg<'a>
-    ensures rule { rule_of result ≡ number_option (codes "history") 1000000 (codes "100000") }
+    ensures rule { rule_of result ≡ history_option }
     ensures local { result.global ≡ false }
 {
-    Arg::new(alloc, "history")
-        .long("history")
-        .value_parser(value_parser!(u64).range(1..=1_000_000))
-        .default_value("100000")
+    number_option(alloc, "history", MOST_HISTORY, "100000")
 }
 
 fn port_option<'a>(alloc: Global) -> Arg<'a>
@@ -44,28 +50,8 @@ fn port_option<'a>(alloc: Global) -> Arg<'a>
 {
     Arg::new(alloc, "port")
         .long("port")
-        .value_parser(value_parser!(u64).range(0..=65_535))
+        .value_parser(ValueParser::unsigned(0, MOST_PORT))
         .required(true)
-}
-
-fn workers_option<'a>(alloc: Global) -> Arg<'a>
-    ensures rule { rule_of result ≡ number_option (codes "workers") 16 (codes "2") }
-    ensures local { result.global ≡ false }
-{
-    Arg::new(alloc, "workers")
-        .long("workers")
-        .value_parser(value_parser!(u64).range(1..=16))
-        .default_value("2")
-}
-
-fn sessions_option<'a>(alloc: Global) -> Arg<'a>
-    ensures rule { rule_of result ≡ number_option (codes "sessions") 64 (codes "1") }
-    ensures local { result.global ≡ false }
-{
-    Arg::new(alloc, "sessions")
-        .long("sessions")
-        .value_parser(value_parser!(u64).range(1..=64))
-        .default_value("1")
 }
 
 fn command<'a>(alloc: Global) -> Result<Command<'a>, AllocError>
@@ -76,8 +62,8 @@ fn command<'a>(alloc: Global) -> Result<Command<'a>, AllocError>
         .arg(history_option(alloc))?;
     let serve = Command::new(alloc, "serve")
         .arg(port_option(alloc))?
-        .arg(workers_option(alloc))?
-        .arg(sessions_option(alloc))?
+        .arg(number_option(alloc, "workers", MOST_WORKERS, "2"))?
+        .arg(number_option(alloc, "sessions", MOST_SESSIONS, "1"))?
         .arg(units_option(alloc))?
         .arg(history_option(alloc))?;
     let command = Command::new(alloc, "bench61499")

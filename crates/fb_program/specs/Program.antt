@@ -1,12 +1,11 @@
 -- What a run of the program has said.
 use Rattle.std.specs.Prelude.{◌≡◌, ◌≤◌, ◌⊎◌, ℕ, List, []}
-use Rattle.clap.specs.Words.{Text}
 use Rattle.fb_serve.specs.Wire.Bench.Story.{new_story}
 use Rattle.fb_serve.specs.Wire.Script.{IsFrontOf, script}
-use Rattle.bench61499.specs.Words.{Asks}
-use Rattle.bench61499.specs.declared.asked.Settings.TheVariants.{Script, Serve}
-use Rattle.bench61499.specs.declared.program.Outcome.{Outcome}
-use Rattle.bench61499.specs.declared.program.Outcome.TheVariants.{Ended, Serves}
+use Rattle.fb_arguments.specs.Words.{Asks}
+use Rattle.fb_arguments.specs.declared.asked.Settings.TheVariants.{Script, Serve}
+use Rattle.fb_program.specs.declared.program.Outcome.{Outcome}
+use Rattle.fb_program.specs.declared.program.Outcome.TheVariants.{Ended, Serves}
 
 -- what a new workbench of these limits says to the bytes, to caller 1
 abbrev pub said_to : ℕ → ℕ → List ℕ → List ℕ
@@ -18,7 +17,7 @@ BenchSays units history status bytes out =
     (status ≡ 0 → out ≡ said_to units history bytes) × (status ≡ 1 → IsFrontOf out (said_to units history bytes))
 
 -- by the limits that the words ask for
-abbrev pub ScriptSays : List Text → ℕ → List ℕ → List ℕ → Type 0
+abbrev pub ScriptSays : List (List ℕ) → ℕ → List ℕ → List ℕ → Type 0
 ScriptSays words status bytes out = (units history : ℕ) × Asks words (Script units history) × BenchSays units history status bytes out
 
 -- nothing was read, and nothing was written
@@ -26,12 +25,12 @@ abbrev pub DoesNothing : List ℕ → List ℕ → Type 0
 DoesNothing bytes out = (bytes ≡ []) × (out ≡ [])
 
 -- Status 0: all was said to the bytes. 1: a front of it, or memory ran out for the words. 2: nothing, by words that ask for nothing.
-abbrev pub HasSaid : List Text → ℕ → List ℕ → List ℕ → Type 0
+abbrev pub HasSaid : List (List ℕ) → ℕ → List ℕ → List ℕ → Type 0
 HasSaid words status bytes out =
     (status ≡ 0 → ScriptSays words 0 bytes out) × (status ≡ 1 → ScriptSays words 1 bytes out ⊎ DoesNothing bytes out) × (status ≡ 2 → DoesNothing bytes out)
 
 -- a script was run, or the words were refused; or they ask for this server, and nothing was done
-abbrev pub HasDone : List Text → Outcome → List ℕ → List ℕ → Type 0
+abbrev pub HasDone : List (List ℕ) → Outcome → List ℕ → List ℕ → Type 0
 HasDone words (Ended status) bytes out = (status ≤ 2) × HasSaid words status bytes out
 HasDone words (Serves port numbers) bytes out =
     Asks words (Serve port numbers.workers numbers.sessions numbers.limits.units numbers.limits.history) × DoesNothing bytes out

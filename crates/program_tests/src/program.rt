@@ -1,8 +1,6 @@
 //! What the program's words ask for, and how its runs end.
-use crate::arguments::settings;
-use crate::asked::Settings;
-use crate::program::{Outcome, refuse_words, run};
-use fb_serve::wire::{MemoryFeed, MemorySink};
+use fb_program::server::{MemoryFeed, MemorySink};
+use fb_program::{Outcome, Settings, refuse_words, run, settings};
 use std::alloc::{AllocError, Global};
 use std::io::ErrorKind;
 use std::test::Fail;

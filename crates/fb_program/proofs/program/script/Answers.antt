@@ -1,5 +1,5 @@
 use Rattle.std.proofs.Common.{arith}
-use Rattle.bench61499.proofs.program.script.Goals as goal
+use Rattle.fb_program.proofs.program.script.Goals as goal
 
 pub returns-in-None-clause-said : goal.returns-in-None-clause-said
 returns-in-None-clause-said g c =

@@ -2,11 +2,10 @@
 ghost use Rattle.std.specs.Prelude.{◌≡◌, ◌≢◌, ◌<◌, ◌≤◌, ◌++◌, ℕ, List, map, false};
 ghost use Rattle.std.specs.Io.KnownBytes.{IsAtEnd};
 ghost use Rattle.std.specs.declared.io.ErrorKind.TheVariants.{InvalidData};
-ghost use Rattle.bench61499.specs.Program.{BenchSays, HasDone};
+ghost use Rattle.fb_program.specs.Program.{BenchSays, HasDone};
 
-use crate::arguments::settings;
-use crate::asked;
-use clap::error::ErrorKind;
+use fb_arguments::words::{Error, ErrorKind};
+use fb_arguments::{Settings, settings};
 use fb_serve::wire::{Bench, Feed, Limits, Sink, run_script};
 use fb_serve::{Numbers, fault_of};
 use std::alloc::Global;
@@ -69,7 +68,7 @@ fn out_of_memory<E: Write>(errors: &mut E) -> u8
     FAILED
 }
 
-fn refuse<E: Write>(error: &clap::Error, errors: &mut E) -> u8
+fn refuse<E: Write>(error: &Error, errors: &mut E) -> u8
     ensures some { 0 < result }
     ensures status { result ≤ 2 }
 {
@@ -116,12 +115,12 @@ pub fn run<F: Feed, S: Sink, E: Write>(
     ensures whole { result ≡ Outcome.Ended 0 → IsAtEnd (F.left reader.new) }
 {
     match settings(alloc, words) {
-        Ok(asked::Settings::Script { units, history }) => match Limits::new(units, history) {
+        Ok(Settings::Script { units, history }) => match Limits::new(units, history) {
             Some(limits) => Outcome::Ended(script(alloc, limits, reader, writer, errors, turns)),
             None => unreachable!(),
         },
         Ok(
-            asked::Settings::Serve {
+            Settings::Serve {
                 port,
                 workers,
                 sessions,

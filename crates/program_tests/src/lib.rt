@@ -1,0 +1,7 @@
+//! Tests of the words of the program, of its runs, and of servers and their clients.
+#![tactic(auto)]
+
+#[cfg(test)]
+mod program;
+#[cfg(test)]
+mod servers;
