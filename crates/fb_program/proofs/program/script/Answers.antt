@@ -15,3 +15,6 @@ returns-clause-said g c =
     let t = c.run_script-end.ensures.script in
     let says = rw c.new-bench.ensures at t.8 in
     (t.0, t.2, t.3, t.6, (λ zero. absurd (omega (arith, zero)), λ one. says.0))
+
+pub returns-clause-whole : goal.returns-clause-whole
+returns-clause-whole g c = λ zero. absurd (omega (arith, zero))
