@@ -2,6 +2,7 @@
 ghost use Rattle.std.specs.Prelude.{IfOk};
 ghost use Rattle.fb_network.specs.Clean.{IsCleanThroughout};
 ghost use Rattle.fb_network.specs.FlatNet.{IsFlat};
+ghost use Rattle.fb_compose.specs.Part.{IsFlatInWhole};
 ghost use Rattle.fb_compose.specs.Ready.{AreFinished};
 
 use crate::blocks::blocks_of_network;
@@ -24,9 +25,22 @@ pub fn compose<V: Networks, N: Nets>(
     requires finished { AreFinished (V.networks view.now) network.now (N.nets nets.now) }
     ensures { IfOk result (IsFlat (V.networks view.now) network.now) }
 {
+    compose_by_part(alloc, view, network, nets)
+}
+
+/// The same by a part of a view, which need have no more than the types of the network's instances and the adapters of ports, its own and
+/// theirs.
+pub fn compose_by_part<V: Networks, N: Nets>(
+    alloc: Global,
+    part: &V,
+    network: &Network,
+    nets: &N,
+) -> Result<Flat, AllocError>
+    ensures { IfOk result (IsFlatInWhole (V.networks part.now) network.now (N.nets nets.now)) }
+{
     let instances = table_of(alloc, network.instances())?;
     let blocks = blocks_of_network(alloc, network, nets)?;
-    let mut links = links_of_network(alloc, view, network, &instances, nets)?;
+    let mut links = links_of_network(alloc, part, network, &instances, nets)?;
     sort_once(&mut links)?;
     let mut borders = borders_of_network(alloc, network, &instances, nets)?;
     sort_once(&mut borders)?;

@@ -23,7 +23,7 @@ mod wanted;
 pub use application::FlatApplication;
 pub use beside::Beside;
 pub use count::count_instances;
-pub use flat_network::compose;
+pub use flat_network::{compose, compose_by_part};
 pub use in_order::compose_in_order;
 pub use laws::{chains_are_composed, flat_is_one, system_is_one};
 pub use look_up::{Nets, Networks};

@@ -1,23 +1,10 @@
--- What is composed is the flat network, and the sort keeps its members.
-use Rattle.std.proofs.Common.{sym, subst, ap, ◌∙◌}
-use Rattle.fb_network.specs.PlainFlat.{PlainFlat}
-use Rattle.fb_network.specs.Network.{instance_named}
-use Rattle.fb_network.specs.FlatNet.{IsFlat}
-use Rattle.fb_compose.proofs.Equals.{exact_border, exact_link}
-use Rattle.fb_compose.proofs.FlatLemmas.{flat_of}
+-- A view is a part of itself.
+use Rattle.std.proofs.Common.{refl}
+use Rattle.std.proofs.lemmas.Result.{IfOk-weaker}
 use Rattle.fb_compose.proofs.flat_network.compose.Goals as goal
 
 pub returns : goal.returns
 returns g c =
-    let view = g.V.Networks.networks c.args.view.now in
-    subst (λ (flat : PlainFlat). IsFlat view c.args.network.now flat) (sym c.new.ensures)
-    (flat_of _ _ _ _ _ _ c.requires.clean c.requires.finished (c.in_ok-instances.ensures ∙ ap instance_named c.instances.ensures) c.in_ok-blocks.ensures c.in_ok-links.ensures c.in_ok-borders.ensures
-    (record { kept = c.in_ok-sort_once.ensures.kept; added = c.in_ok-sort_once.ensures.added })
-    (record { kept = c.in_ok-sort_once-2.ensures.kept; added = c.in_ok-sort_once-2.ensures.added })
-    c.in_ok-sort_once.ensures.sorted c.in_ok-sort_once-2.ensures.sorted)
-
-pub sort_once-requires : goal.sort_once-requires
-sort_once-requires g c = λ a b e. exact_link a b e
-
-pub sort_once-requires-2 : goal.sort_once-requires-2
-sort_once-requires-2 g c = λ a b e. exact_border a b e
+    IfOk-weaker c.compose_by_part.result _ _
+    (λ flat is. is (g.V.Networks.networks c.args.view.now) (λ end. refl) c.requires.clean c.requires.finished)
+    c.compose_by_part.ensures
