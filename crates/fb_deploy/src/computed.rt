@@ -6,7 +6,7 @@ ghost use Rattle.fb_deploy.specs.Deploy.{plain_deploy};
 ghost use Rattle.fb_deploy.specs.Plans.{has_plan_in, plan_at};
 
 use crate::planning::{Deploy, plan_with};
-use fb_mapping::flatten::{Hints, NoHints};
+use fb_mapping::flatten::Hints;
 use fb_mapping::is_system;
 use fb_mapping::library::View;
 use fb_text::Name;
@@ -19,15 +19,7 @@ pub fn is_of_plan<V: View>(view: &V, unit: &Name) -> bool
     is_system(view, unit)
 }
 
-/// The plan of a system.
-pub fn plan_of_unit<V: View>(alloc: Global, view: &V, unit: Name) -> Result<Deploy, AllocError>
-    requires { has_plan_in (tree_at (V.sources view.now) unit) ≡ true }
-    ensures { IfOk result (λ deploy. plan_at (V.sources view.now) unit ≡ Some (plain_deploy deploy)) }
-{
-    plan_of_unit_with(alloc, view, unit, &NoHints)
-}
-
-/// The same, where the nets of some units are kept.
+/// The plan of a system, where the nets of some units are kept.
 pub fn plan_of_unit_with<V: View, H: Hints>(
     alloc: Global,
     view: &V,

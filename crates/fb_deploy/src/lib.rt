@@ -11,7 +11,7 @@ mod resources;
 mod written;
 
 pub use command::Command;
-pub use computed::{is_of_plan, plan_of_unit, plan_of_unit_with};
+pub use computed::{is_of_plan, plan_of_unit_with};
 pub use laws::{
     has_plan_by_text, one_plan, plan_at_is_local, plan_at_is_plan, plan_at_of_systems,
     plan_is_local,

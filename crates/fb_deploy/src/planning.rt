@@ -83,7 +83,7 @@ pub fn plan_with<V: View, H: Hints>(
     ensures { IfOk result (λ deploy. IsPlan (V.sources view.now) system (plain_deploy deploy)) }
 {
     match net_with(alloc, view, system, hints)? {
-        Net::Flat(flat) => plan_flat(alloc, view, &system, &flat),
+        Net::Flat { flat, .. } => plan_flat(alloc, view, &system, &flat),
         net => Ok(Deploy::Stopped(net)),
     }
 }

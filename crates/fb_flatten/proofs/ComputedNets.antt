@@ -69,7 +69,7 @@ module _ (sources : Sources) (unit : List ℕ) where
 
   -- ---- a sound unit
 
-  faultless : IsSound sources unit → (u : List ℕ) → Rests sources unit u → AreFaultless sources u
+  pub faultless : IsSound sources unit → (u : List ℕ) → Rests sources unit u → AreFaultless sources u
   faultless sound u r v s = (λ e. contains_nothing v ((sound.whole.members v).1 (rests_on r s, inl e)), by (faults_of sources v) refl)
     where
       rests_on : {a b c : List ℕ} → Rests sources a b → Rests sources b c → Rests sources a c
@@ -83,13 +83,13 @@ module _ (sources : Sources) (unit : List ℕ) where
   finite : IsSound sources unit → (v : List ℕ) → Rests sources unit v → IsRecursive sources v → ⊥
   finite sound v r rec = contains_nothing v ((sound.finite.members v).1 (r, rec))
 
-  done : IsSound sources unit → (v : List ℕ) → Rests sources unit v → IsDone sources (length (far_of sources unit)) v
+  pub done : IsSound sources unit → (v : List ℕ) → Rests sources unit v → IsDone sources (length (far_of sources unit)) v
   done sound v r = all_done (far_deep sources unit (finite sound) v r) (faultless sound v r)
 
-  done_mention : IsSound sources unit → (v : List ℕ) → Contains (mentions_at sources unit) v → IsDone sources (length (far_of sources unit)) v
+  pub done_mention : IsSound sources unit → (v : List ℕ) → Contains (mentions_at sources unit) v → IsDone sources (length (far_of sources unit)) v
   done_mention sound v m = done sound v (through m itself)
 
-  unit_faultless : IsSound sources unit → faults_of sources unit ≡ []
+  pub unit_faultless : IsSound sources unit → faults_of sources unit ≡ []
   unit_faultless sound = (faultless sound unit itself unit itself).1
 
   -- ---- its flat network
@@ -150,9 +150,9 @@ module _ (sources : Sources) (unit : List ℕ) where
   sized_is : (held : List Held) (flat : PlainFlat) → IsSound sources unit → Holds sources unit held → IsUnitFlat sources unit flat → IsNet sources unit (sized_net held flat)
   sized_is held flat sound holds is = by (nat_lt INSTANCE_LIMIT (length held)) refl
     where
-      by : (b : Bool) → nat_lt INSTANCE_LIMIT (length held) ≡ b → IsNet sources unit (cond b too_large (flat_net flat))
+      by : (b : Bool) → nat_lt INSTANCE_LIMIT (length held) ≡ b → IsNet sources unit (cond b too_large (flat_net flat (length held)))
       by true e = (sound, record { held = held; holds = holds; more = grind (arith, nat_tests) })
-      by false e = (sound, record { held = held; holds = holds; within = grind (arith, nat_tests) }, is)
+      by false e = (sound, record { held = held; holds = holds; number = refl; within = grind (arith, nat_tests) }, is)
 
   finite_is : (tree : DeclTree) → tree_at sources unit ≡ Some tree → has_net_tree tree ≡ true → IsSound sources unit → IsNet sources unit (finite_net (length (far_of sources unit)) sources tree)
   finite_is tree present has sound = sized_is _ _ sound (unit_held tree present sound) (unit_flat tree present has sound)

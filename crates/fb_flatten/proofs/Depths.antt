@@ -45,7 +45,7 @@ reaches_through : {sources : Sources} {u w v : List ℕ} → Contains (mentions_
 reaches_through m itself = directly m
 reaches_through m (through k r) = onward m (reaches_through k r)
 
-rests_of_reach : {sources : Sources} {u v : List ℕ} → Reaches sources u v → Rests sources u v
+pub rests_of_reach : {sources : Sources} {u v : List ℕ} → Reaches sources u v → Rests sources u v
 rests_of_reach (directly m) = through m itself
 rests_of_reach (onward m r) = through m (rests_of_reach r)
 

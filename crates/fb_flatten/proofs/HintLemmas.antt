@@ -1,32 +1,31 @@
 -- What kept nets tell of their units.
-use Rattle.std.proofs.Common.{ℕ, ◌≡◌, Bool, true, false, List, Option, Some, None, is_some, refl, sym, ◌∙◌, ap}
-use Rattle.std.specs.Prelude.{Contains, option_map}
+use Rattle.std.proofs.Common.{ℕ, ◌≡◌, ◌≤◌, ◌+◌, Bool, true, false, arith, length, List, Option, Some, None, refl, sym, ◌∙◌, ap, subst}
+use Rattle.std.proofs.lemmas.Bool.{false≢true}
+use Rattle.std.specs.Prelude.{option_map, is_none}
+use Rattle.std.specs.Option.{option_or}
+use Rattle.fb_wiring.specs.Tree.Mentions.{kind_of}
 use Rattle.fb_wiring.specs.Tree.Tree.{DeclTree, block_type, adapter_type, subapplication_type, system_configuration}
 use Rattle.fb_wiring.specs.Tree.declared.kinds.UnitKind.TheVariants as kinds
 use Rattle.fb_wiring.specs.Library.View.{Sources, tree_at}
 use Rattle.fb_wiring.specs.Library.Rests.{itself}
-use Rattle.fb_wiring.specs.Network.declared.network.Instance.{Instance}
+use Rattle.fb_wiring.specs.Network.declared.count.TheConstants.{INSTANCE_LIMIT}
+use Rattle.fb_wiring.specs.Network.Plain.{PlainNetwork}
 use Rattle.fb_wiring.specs.Network.PlainFlat.{PlainFlat}
 use Rattle.fb_wiring.specs.Network.Network.{View}
-use Rattle.fb_wiring.proofs.Iface.Members.{contains_nothing, origin_in_flat_map}
-use Rattle.fb_wiring.specs.Applications.{applications_of}
-use Rattle.fb_wiring.specs.Clean.{wanted_kind}
+use Rattle.fb_wiring.specs.Network.Instances.{Held, AreInstances}
+use Rattle.fb_wiring.specs.Network.Count.{IsCount}
+use Rattle.fb_wiring.proofs.Iface.Members.{contains_nothing}
+use Rattle.fb_wiring.specs.ByName.{declared, kind_at}
 use Rattle.fb_wiring.specs.Networks.{network_of}
-use Rattle.fb_wiring.specs.ByName.{kind_at}
-use Rattle.fb_wiring.specs.declared.systems.Application.{Application}
-use Rattle.fb_wiring.proofs.UnitLemmas.{applications_clean, networks_clean}
 use Rattle.fb_compose.specs.Ready.{Nets, IsFinished}
-use Rattle.fb_compose.specs.Missing.{AreRight, AreRightWithin}
+use Rattle.fb_compose.proofs.BlockLemmas.{same_instances}
 use Rattle.fb_flatten.specs.Blocking.{is_blocking}
-use Rattle.fb_flatten.specs.Hints.{AreRightHints, flat_of_hint, flat_of_net, is_whole_hint, is_whole_net}
+use Rattle.fb_flatten.specs.Hints.{AreRightHints, count_of_hint, count_of_net, flat_of_hint, is_whole_hint, is_whole_net}
 use Rattle.fb_flatten.specs.Net.{PlainNet, blocked, recursive, too_large, flat_net, IsNet, IsWhole}
-use Rattle.fb_flatten.specs.Tables.{IsSoundOrder, IsTable}
-use Rattle.fb_flatten.specs.Units.{IsUnitFlat, OfSubapplication, OfSystem, own_instances}
+use Rattle.fb_flatten.specs.Tables.{IsSmallType, known_flats}
+use Rattle.fb_flatten.specs.Units.{IsTooLarge, IsUnitFlat, OfSubapplication, OfSystem, own_instances}
 use Rattle.fb_flatten.proofs.ComputedNets.{net_at_is}
-use Rattle.fb_flatten.proofs.LocalLemmas.{same_flats}
 use Rattle.fb_flatten.proofs.NetLemmas.{blocking_is}
-use Rattle.fb_flatten.proofs.OrderLemmas.{same_in_order, within_order}
-use Rattle.fb_flatten.proofs.UnitLemmas.{own_in_order, system_applications}
 
 -- ---- faults
 not_blocking : (sources : Sources) (name : List ℕ) → IsWhole sources name → is_blocking sources name ≡ false
@@ -40,7 +39,7 @@ whole_net : (sources : Sources) (name : List ℕ) (net : PlainNet) → IsNet sou
 whole_net sources name (blocked names) is e = absurd (let no : ⊥ = cc in no)
 whole_net sources name (recursive names) is e = is.0
 whole_net sources name too_large is e = is.0.whole
-whole_net sources name (flat_net flat) is e = is.0.whole
+whole_net sources name (flat_net flat instances) is e = is.0.whole
 
 -- a unit of which the kept net tells it is whole
 pub whole_hint : (sources : Sources) (hints : List ℕ → Option PlainNet) (name : List ℕ) → AreRightHints sources hints → is_whole_hint (hints name) ≡ true → IsWhole sources name
@@ -54,60 +53,83 @@ whole_hint sources hints name right known = by (hints name) refl known
 pub known_whole : (sources : Sources) (hints : List ℕ → Option PlainNet) (name : List ℕ) → AreRightHints sources hints → is_whole_hint (hints name) ≡ true → is_blocking sources name ≡ false
 known_whole sources hints name right known = not_blocking sources name (whole_hint sources hints name right known)
 
--- ---- flat networks
-flat_net_of : (net : PlainNet) (flat : PlainFlat) → flat_of_net net ≡ Some flat → net ≡ flat_net flat
-flat_net_of (blocked names) flat e = absurd (let no : ⊥ = cc in no)
-flat_net_of (recursive names) flat e = absurd (let no : ⊥ = cc in no)
-flat_net_of too_large flat e = absurd (let no : ⊥ = cc in no)
-flat_net_of (flat_net other) flat e = let same : other ≡ flat = cc in ap flat_net same
+-- ---- instances and flat networks
 
-hint_of_flat : (o : Option PlainNet) (flat : PlainFlat) → flat_of_hint o ≡ Some flat → o ≡ Some (flat_net flat)
-hint_of_flat None flat e = absurd (let no : ⊥ = cc in no)
-hint_of_flat (Some net) flat e = ap (λ (n : PlainNet). Some n) (flat_net_of net flat e)
+-- a net without a count is not flat
+pub no_flat : (o : Option PlainNet) → is_none (count_of_hint o) ≡ true → flat_of_hint o ≡ None
+no_flat None e = refl
+no_flat (Some (blocked names)) e = refl
+no_flat (Some (recursive names)) e = refl
+no_flat (Some too_large) e = absurd (false≢true e)
+no_flat (Some (flat_net flat instances)) e = absurd (false≢true e)
 
-module _ {sources : Sources} {table : View} {unit : List ℕ} {order : List (List ℕ)} {hints : List ℕ → Option PlainNet} (sound : IsSoundOrder sources unit order) (t : IsTable sources table order) (right : AreRightHints sources hints) where
-  abbrev kept : Nets
-  kept name = flat_of_hint (hints name)
+pub none_of : {X : Type 0} (o : Option X) → is_none o ≡ true → o ≡ None
+none_of None e = refl
+none_of (Some x) e = absurd (false≢true e)
 
-  -- what is kept of a subapplication type is its flat network
-  finished_unit : (name : List ℕ) (flat : PlainFlat) → Contains order name → kept name ≡ Some flat → kind_at sources name ≡ Some kinds.Subapplication → IsUnitFlat sources name flat → IsFinished table kept name
-  finished_unit name flat c found kind (OfSubapplication network k d is) = record {
-    inner = network;
-    declared = sym (same_in_order sound t name c) ∙ d;
-    net = flat;
-    found = found;
-    flat = ((same_flats (within_order sound) (same_in_order sound t) (within_order sound name network c d)).flats flat).0 is;
-  }
-  finished_unit name flat c found kind (OfSystem applications flats k at each joined) = let two = kind in absurd (let no : ⊥ = cc in no)
+module _ (sources : Sources) (name : List ℕ) (kind : kind_at sources name ≡ Some kinds.Subapplication) (network : PlainNetwork) (there : declared sources name ≡ Some network) where
+  -- the instances of a subapplication are those of its network
+  of_type : (held : List Held) (tree : DeclTree) → tree_at sources name ≡ Some tree → AreInstances (declared sources) (own_instances tree) held → AreInstances (declared sources) network.instances held
+  of_type held (block_type d) present is = let same : kind_at sources name ≡ Some kinds.Block = ap (option_map kind_of) present in absurd (let no : ⊥ = cc in no)
+  of_type held (adapter_type d) present is = let same : kind_at sources name ≡ Some kinds.Adapter = ap (option_map kind_of) present in absurd (let no : ⊥ = cc in no)
+  of_type held (system_configuration s) present is = let same : kind_at sources name ≡ Some kinds.System = ap (option_map kind_of) present in absurd (let no : ⊥ = cc in no)
+  of_type held (subapplication_type d) present is =
+      let found : declared sources name ≡ Some (network_of (subapplication_type d)) = ap (option_map network_of) present in
+      let same : network_of (subapplication_type d) ≡ network = cc in
+      subst (λ (n : PlainNetwork). AreInstances (declared sources) n.instances held) same is
 
-  finished_kept : (name : List ℕ) → Contains order name → kind_at sources name ≡ Some kinds.Subapplication → is_some (kept name) ≡ true → IsFinished table kept name
-  finished_kept name c kind some = by (kept name) refl some
-    where
-      by : (o : Option PlainFlat) → kept name ≡ o → is_some o ≡ true → IsFinished table kept name
-      by None e s = absurd (let no : ⊥ = cc in no)
-      by (Some flat) e s =
-          let net = ((net_at_is sources name (flat_net flat)).0 (right name (flat_net flat) (hint_of_flat (hints name) flat e))).1 in
-          finished_unit name flat c e kind net.2
+  count_net : (net : PlainNet) (count : ℕ) → IsNet sources name net → count_of_net net ≡ Some count → IsCount (declared sources) network.instances count
+  count_net (blocked names) count is e = absurd (let no : ⊥ = cc in no)
+  count_net (recursive names) count is e = absurd (let no : ⊥ = cc in no)
+  count_net too_large count is e =
+      let large = is.1 in
+      record {
+        held = large.held;
+        instances = of_type large.held large.holds.tree large.holds.present large.holds.instances;
+        count_is = let same : INSTANCE_LIMIT + 1 ≡ count = cc in let more = large.more in omega (arith, same, more);
+      }
+  count_net (flat_net flat instances) count is e =
+      let few = is.1 in
+      record {
+        held = few.held;
+        instances = of_type few.held few.holds.tree few.holds.present few.holds.instances;
+        count_is = let same : instances ≡ count = cc in let number = few.number in let within = few.within in omega (arith, same, number, within);
+      }
 
-  right_of_kinds : (list : List Instance) → ((i : Instance) → Contains list i → Contains order i.type_name) → ((i : Instance) → Contains list i → kind_at sources i.type_name ≡ Some (wanted_kind i.kind)) → AreRight table kept list
-  right_of_kinds list among kinds i c k some = finished_kept i.type_name (among i c) (kinds i c ∙ ap (λ kind. Some (wanted_kind kind)) k) some
+  not_large : IsTooLarge sources name → IsSmallType (declared sources) name → ⊥
+  not_large large small =
+      let own = small.declared in
+      let one : small.network ≡ network = cc in
+      let is = of_type large.held large.holds.tree large.holds.present large.holds.instances in
+      let held = same_instances is (subst (λ (n : PlainNetwork). AreInstances (declared sources) n.instances small.held) one small.instances) in
+      let same = ap (λ (l : List Held). length l) held in
+      let more = large.more in
+      let within = small.within in
+      omega (arith, same, more, within)
 
-  -- of the types that the networks of the order hold
-  pub right_within : AreRightWithin table kept order
-  right_within name network c e =
-      let d = t.sound name network e in
-      right_of_kinds network.instances (within_order sound name network c d).types (networks_clean sources name network d (sound.faultless name ((sound.whole name).0 c))).kinds
+  finished_unit : (nets : Nets) (flat : PlainFlat) → nets name ≡ Some flat → IsUnitFlat sources name flat → IsFinished (declared sources) nets name
+  finished_unit nets flat found (OfSubapplication it k d is) = record { inner = it; declared = d; net = flat; found = found; flat = is }
+  finished_unit nets flat found (OfSystem applications flats k at each joined) = let two = kind in absurd (let no : ⊥ = cc in no)
 
-  own_kinds : (tree : DeclTree) → tree_at sources unit ≡ Some tree → (i : Instance) → Contains (own_instances tree) i → kind_at sources i.type_name ≡ Some (wanted_kind i.kind)
-  own_kinds (block_type d) present i c = absurd (contains_nothing i c)
-  own_kinds (adapter_type d) present i c = absurd (contains_nothing i c)
-  own_kinds (subapplication_type d) present i c =
-      (networks_clean sources unit (network_of (subapplication_type d)) (ap (option_map network_of) present) (sound.faultless unit itself)).kinds i c
-  own_kinds (system_configuration s) present i c =
-      let list = applications_of (system_configuration s) in
-      let o = origin_in_flat_map (λ (a : Application). a.network.instances) list i c in
-      ((applications_clean sources unit list (system_applications sources unit (system_configuration s) present) (sound.faultless unit itself)).sound o.origin o.among).kinds i o.has
+  module _ (hints : List ℕ → Option PlainNet) (right : AreRightHints sources hints) where
+    -- the count of a kept net is right
+    pub kept_counted : (count : ℕ) → count_of_hint (hints name) ≡ Some count → IsCount (declared sources) network.instances count
+    kept_counted count known = by (hints name) refl known
+      where
+        by : (o : Option PlainNet) → hints name ≡ o → count_of_hint o ≡ Some count → IsCount (declared sources) network.instances count
+        by None e k = absurd (let no : ⊥ = cc in no)
+        by (Some net) e k = count_net net count ((net_at_is sources name net).0 (right name net e)).1 k
 
-  -- of the types that the unit itself holds
-  pub right_own : (tree : DeclTree) → tree_at sources unit ≡ Some tree → AreRight table kept (own_instances tree)
-  right_own tree present = right_of_kinds (own_instances tree) (own_in_order tree sound present) (own_kinds tree present)
+    -- a kept net that tells the count of a type that is not too large is flat
+    pub kept_finished : (composed : Nets) → is_none (count_of_hint (hints name)) ≡ false → IsSmallType (declared sources) name → IsFinished (declared sources) (known_flats hints composed) name
+    kept_finished composed known small = by (hints name) refl known
+      where
+        by_net : (net : PlainNet) → hints name ≡ Some net → IsNet sources name net → is_none (count_of_net net) ≡ false → IsFinished (declared sources) (known_flats hints composed) name
+        by_net (blocked names) e is k = absurd (false≢true (sym k))
+        by_net (recursive names) e is k = absurd (false≢true (sym k))
+        by_net too_large e is k = absurd (not_large is.1 small)
+        by_net (flat_net flat instances) e is k = finished_unit (known_flats hints composed) flat (ap (λ (o : Option PlainNet). option_or (flat_of_hint o) (composed name)) e) is.2
+
+        by : (o : Option PlainNet) → hints name ≡ o → is_none (count_of_hint o) ≡ false → IsFinished (declared sources) (known_flats hints composed) name
+        by None e k = absurd (false≢true (sym k))
+        by (Some net) e k = by_net net e ((net_at_is sources name net).0 (right name net e)).1 k

@@ -1,11 +1,12 @@
 -- Subapplications and systems have nets.
-use Rattle.std.proofs.Common.{ℕ, ◌≡◌, Bool, true, false, List, Some, None, inl, inr, ap}
+use Rattle.std.proofs.Common.{ℕ, ◌≡◌, Bool, true, false, List, Option, Some, None, inl, inr, refl, ap}
 use Rattle.std.specs.Prelude.{◌↔◌, option_map}
 use Rattle.fb_wiring.specs.Tree.Mentions.{kind_of}
 use Rattle.fb_wiring.specs.Tree.Tree.{DeclTree, block_type, adapter_type, subapplication_type, system_configuration}
 use Rattle.fb_wiring.specs.Tree.declared.kinds.UnitKind.TheVariants as kinds
 use Rattle.fb_wiring.specs.Library.View.{Sources, tree_at}
 use Rattle.fb_wiring.specs.ByName.{kind_at}
+use Rattle.fb_flatten.specs.Tables.{is_subapplication_in}
 use Rattle.fb_flatten.specs.Units.{HasNet, has_net_tree}
 
 pub net_kind : (sources : Sources) (unit : List ℕ) (tree : DeclTree) (b : Bool) → tree_at sources unit ≡ Some tree → b ≡ has_net_tree tree → (b ≡ true) ↔ HasNet sources unit
@@ -37,3 +38,14 @@ no_net_kind sources unit absent = (λ t. absurd (let no : ⊥ = cc in no), no_ne
     no_net : HasNet sources unit → false ≡ true
     no_net (inl k) = let same = kind in absurd (let no : ⊥ = cc in no)
     no_net (inr k) = let same = kind in absurd (let no : ⊥ = cc in no)
+
+-- a subapplication is told by its tree
+pub subapplication_told : (sources : Sources) (unit : List ℕ) → kind_at sources unit ≡ Some kinds.Subapplication → is_subapplication_in (tree_at sources unit) ≡ true
+subapplication_told sources unit kind = by (tree_at sources unit) kind
+  where
+    by : (o : Option DeclTree) → option_map kind_of o ≡ Some kinds.Subapplication → is_subapplication_in o ≡ true
+    by None e = absurd (let no : ⊥ = cc in no)
+    by (Some (block_type d)) e = absurd (let no : ⊥ = cc in no)
+    by (Some (adapter_type d)) e = absurd (let no : ⊥ = cc in no)
+    by (Some (subapplication_type d)) e = refl
+    by (Some (system_configuration s)) e = absurd (let no : ⊥ = cc in no)

@@ -1,7 +1,6 @@
 -- Lemmas of the proofs.
 pub mod LocalLemmas
 pub mod MentionLemmas
-pub mod CleanLemmas
 pub mod OrderLemmas
 pub mod TableLemmas
 pub mod UnitLemmas
@@ -14,6 +13,11 @@ pub mod Depths
 pub mod ComputedFlats
 pub mod ComputedNets
 pub mod HintLemmas
+pub mod SoundLemmas
+pub mod RestLemmas
+pub mod CountLemmas
+pub mod ComposeLemmas
+pub mod FlatsLemmas
 pub mod SuspectLemmas
 -- Passed on to the crates above, which do not list these libraries.
 pub use Rattle.fb_wiring.proofs.Tree as Tree

@@ -10,11 +10,8 @@ use Rattle.fb_wiring.specs.Library.Rests.{Rests}
 use Rattle.fb_wiring.specs.Iface.declared.fault.Fault.{Fault}
 use Rattle.fb_wiring.proofs.Iface.Members.{contains_nothing, contains_filter, passes_in_filter}
 use Rattle.fb_wiring.specs.Faults.Faults.{faults_of}
-use Rattle.fb_order.specs.Order.{IsOrdered}
 use Rattle.fb_order.specs.Reaches.{IsRecursive, RestsOnRecursive}
 use Rattle.fb_flatten.specs.Blocking.{AreThose, IsBlocking, is_blocking, is_some_fault, is_some_name}
-use Rattle.fb_flatten.specs.Net.{IsWhole}
-use Rattle.fb_flatten.specs.Tables.{IsSoundOrder}
 
 pub blocking_is : (sources : Sources) (v : List ℕ) → is_blocking sources v ≡ true → IsBlocking sources v
 blocking_is sources v h = by (get sources v) refl (faults_of sources v) refl h
@@ -52,20 +49,6 @@ recursive_those names found sound complete sorted members =
 
 pub some_recursive : {sources : Sources} {unit : List ℕ} (found : List (List ℕ)) → AreThose sources unit (IsRecursive sources) found → RestsOnRecursive sources unit → found ≢ []
 some_recursive found those r none = contains_nothing r.0 (subst (λ (l : List (List ℕ)). Contains l r.0) none ((those.members r.0).1 r.1))
-
--- where none blocks, an order of all is a sound one
-pub sound_order : {sources : Sources} {unit : List ℕ} (order : List (List ℕ)) → IsWhole sources unit → IsOrdered sources order → ((v : List ℕ) → Contains order v ↔ Rests sources unit v) → IsSoundOrder sources unit order
-sound_order {sources = sources} {unit = unit} order none ordered whole =
-    record {
-      ordered = ordered;
-      whole = whole;
-      present = λ v r e. contains_nothing v ((none.members v).1 (r, inl e));
-      faultless = λ v r. by v r (faults_of sources v) refl;
-    }
-  where
-    by : (v : List ℕ) → Rests sources unit v → (fs : List Fault) → faults_of sources v ≡ fs → faults_of sources v ≡ []
-    by v r [] f = f
-    by v r (x ∷ fs) f = absurd (contains_nothing v ((none.members v).1 (r, inr (λ n. let no : ⊥ = cc in no))))
 
 pub some_not_none : (names : List (List ℕ)) → is_some_name names ≡ true → names ≢ []
 some_not_none [] h e = let no : ⊥ = cc in no

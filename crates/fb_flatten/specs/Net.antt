@@ -8,19 +8,19 @@ use Rattle.fb_flatten.specs.declared.net.Net.TheVariants.{Blocked, Recursive, To
 use Rattle.fb_flatten.specs.Blocking.{IsBlocking, AreThose}
 use Rattle.fb_flatten.specs.Units.{IsTooLarge, IsWithinLimit, IsUnitFlat}
 
--- a net in plain
+-- a net in plain; a flat network stands with the number of instances of all depths
 pub data PlainNet : Type 0 where
   blocked : List (List ℕ) → PlainNet
   recursive : List (List ℕ) → PlainNet
   too_large : PlainNet
-  flat_net : PlainFlat → PlainNet
+  flat_net : PlainFlat → ℕ → PlainNet
 
 -- a net without where it lies in memory
 abbrev pub plain_net : Net → PlainNet
 plain_net (Blocked names) = blocked names.items
 plain_net (Recursive names) = recursive names.items
 plain_net TooLarge = too_large
-plain_net (Flat flat) = flat_net flat
+plain_net (Flat flat instances) = flat_net flat instances
 
 -- all that the unit rests on is present and without faults
 abbrev pub IsWhole : Sources → List ℕ → Type 0
@@ -32,9 +32,13 @@ pub record IsSound (sources : Sources) (unit : List ℕ) : Type 0 where
   pub finite : AreThose sources unit (IsRecursive sources) []
 
 -- The first of these that applies: the names that the unit rests on that are absent or have faults, if any; those that reach
--- themselves, if any; too many instances; the flat network.
+-- themselves, if any; too many instances; the flat network, with the number of instances.
 abbrev pub IsNet : Sources → List ℕ → PlainNet → Type 0
 IsNet sources unit (blocked names) = AreThose sources unit (IsBlocking sources) names × (names ≢ [])
 IsNet sources unit (recursive names) = IsWhole sources unit × AreThose sources unit (IsRecursive sources) names × (names ≢ [])
 IsNet sources unit too_large = IsSound sources unit × IsTooLarge sources unit
-IsNet sources unit (flat_net flat) = IsSound sources unit × IsWithinLimit sources unit × IsUnitFlat sources unit flat
+IsNet sources unit (flat_net flat instances) = IsSound sources unit × IsWithinLimit sources unit instances × IsUnitFlat sources unit flat
+
+-- the unit has this flat network
+abbrev pub HasFlat : Sources → List ℕ → PlainFlat → Type 0
+HasFlat sources unit flat = (instances : ℕ) × IsNet sources unit (flat_net flat instances)

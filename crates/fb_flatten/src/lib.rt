@@ -3,10 +3,12 @@
 
 mod blocking;
 mod computed;
+mod flats;
 mod hints;
 mod kinds;
 mod laws;
 mod net;
+mod rest;
 mod suspects;
 mod tables;
 mod units;

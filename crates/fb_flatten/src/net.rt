@@ -2,11 +2,12 @@
 ghost use Rattle.std.specs.Prelude.{IfOk};
 ghost use Rattle.fb_flatten.specs.Hints.{AreRightHints};
 ghost use Rattle.fb_flatten.specs.Net.{IsNet, plain_net};
-ghost use Rattle.fb_flatten.specs.Tables.{IsSoundOrder};
+ghost use Rattle.fb_flatten.specs.Tables.{IsUnitOrder};
 ghost use Rattle.fb_flatten.specs.Units.{HasNet};
 
 use crate::blocking::{blocking, has_some};
 use crate::hints::{Hints, NoHints};
+use crate::rest::Rest;
 use crate::suspects::suspects;
 use crate::tables::networks_of;
 use crate::units::{count_of_unit, flat_of_unit};
@@ -25,7 +26,8 @@ pub enum Net {
     Recursive(Vec<Name>),
     /// More instances than the limit.
     TooLarge,
-    Flat(Flat),
+    /// The flat network, and how many instances the unit holds at all depths.
+    Flat { flat: Flat, instances: u32 },
 }
 
 /// The flat network of a subapplication or a system, or the first reason why it has none: that it rests on units that are absent or have
@@ -37,7 +39,7 @@ pub fn net_of<V: View>(alloc: Global, view: &V, unit: Name) -> Result<Net, Alloc
     net_with(alloc, view, unit, &NoHints)
 }
 
-/// The same, where the nets of some units are kept: their flat networks are not composed anew, and they are not searched for faults.
+/// The same, where the nets of some units are kept. Below a unit whose kept net tells that it is flat or too large nothing is looked at.
 pub fn net_with<V: View, H: Hints>(
     alloc: Global,
     view: &V,
@@ -53,7 +55,8 @@ pub fn net_with<V: View, H: Hints>(
     if has_some(found.as_slice()) {
         return Ok(Net::Blocked(found));
     }
-    match inner_first(alloc, view, unit)? {
+    let rest = Rest { view, hints, unit };
+    match inner_first(alloc, &rest, unit)? {
         None => {
             let names = far(alloc, view, unit)?;
             Ok(Net::Recursive(recursive(alloc, view, names.as_slice())?))
@@ -62,7 +65,7 @@ pub fn net_with<V: View, H: Hints>(
     }
 }
 
-/// The same where all that the unit rests on is without faults, and stands in an order with inner types first.
+/// The same where all that the unit rests on is without faults, and what is left to look at stands in an order with inner types first.
 fn net_in_order<V: View, H: Hints>(
     alloc: Global,
     view: &V,
@@ -71,15 +74,15 @@ fn net_in_order<V: View, H: Hints>(
     order: &[Name],
 ) -> Result<Net, AllocError>
     requires net { HasNet (V.sources view.now) unit.now }
-    requires sound { IsSoundOrder (V.sources view.now) unit.now order.now }
+    requires order { IsUnitOrder (V.sources view.now) (H.hints hints.now) unit.now order.now }
     requires right { AreRightHints (V.sources view.now) (H.hints hints.now) }
     ensures { IfOk result (λ net. IsNet (V.sources view.now) unit.now (plain_net net)) }
 {
     let table = networks_of(alloc, view, order)?;
-    let count = count_of_unit(alloc, view, &table, order, unit)?;
-    if count > INSTANCE_LIMIT {
+    let instances = count_of_unit(alloc, view, hints, &table, order, unit)?;
+    if instances > INSTANCE_LIMIT {
         return Ok(Net::TooLarge);
     }
     let flat = flat_of_unit(alloc, view, hints, &table, order, unit)?;
-    Ok(Net::Flat(flat))
+    Ok(Net::Flat { flat, instances })
 }

@@ -1,15 +1,17 @@
 //! Networks and counts of types.
-ghost use Rattle.std.specs.Prelude.{◌≡◌, ℕ, List, [], ◌∷◌, ◌++◌, IfOk, OnOk};
+ghost use Rattle.std.specs.Prelude.{◌≡◌, true, is_some, IfOk, OnOk};
 ghost use Rattle.std.specs.BTreeMap.{get};
 ghost use Rattle.fb_text.specs.Order.{name_cmp};
-ghost use Rattle.fb_compose.specs.Ordered.{IsOrdered};
-ghost use Rattle.fb_flatten.specs.Tables.{AddsCount, AllCounted, IsCountable, IsTable};
+ghost use Rattle.fb_flatten.specs.Hints.{AreRightHints, count_of_hint};
+ghost use Rattle.fb_flatten.specs.Tables.{AllCounted, Grows, Has, HasAdapter, HasAdapters, HasType, IsCountByTable, IsCountedWhereKnown, IsSoundOrder, IsTable, IsTrue, IsTypeCount, SameOthers};
 
+use crate::hints::{Hints, kept_count};
+use crate::kinds::is_subapplication;
 use fb_compose::count_instances;
 use fb_text::Name;
 use fb_wiring::library::{View, tree_by_name};
 use fb_wiring::network;
-use fb_wiring::plain::Network;
+use fb_wiring::plain::{Network, Port};
 use std::alloc::{AllocError, Global};
 use std::collections::BTreeMap;
 
@@ -19,16 +21,20 @@ pub(crate) type Table = BTreeMap<Name, Network>;
 /// How many instances types hold, by their names.
 pub(crate) type Counts = BTreeMap<Name, u32>;
 
-/// Adds the network of a unit.
-fn add_network<V: View>(
+/// Adds the network of an adapter that is not there.
+fn add_adapter<V: View>(
     alloc: Global,
     view: &V,
     table: &mut Table,
     name: &Name,
 ) -> Result<(), AllocError>
-    ensures { OnOk result ((names : List (List ℕ)) → IsTable (V.sources view.now) (get name_cmp table.old) names
-        → IsTable (V.sources view.now) (get name_cmp table.new) (names ++ name.now ∷ [])) }
+    requires { IsTrue (V.sources view.now) (get name_cmp table.old) }
+    ensures grows { OnOk result (Grows (V.sources view.now) (get name_cmp table.old) (get name_cmp table.new)) }
+    ensures has { OnOk result (Has (V.sources view.now) (get name_cmp table.new) name.now) }
 {
+    if table.contains_key(name) {
+        return Ok(());
+    }
     if let Some(decl) = tree_by_name(view, name) {
         let it = network(alloc, decl)?;
         table.insert(*name, it)?;
@@ -36,7 +42,60 @@ fn add_network<V: View>(
     Ok(())
 }
 
-/// The networks of these units.
+/// Adds the network of the adapter of a plug or socket.
+fn add_adapter_of<V: View>(
+    alloc: Global,
+    view: &V,
+    table: &mut Table,
+    port: &Port,
+) -> Result<(), AllocError>
+    requires { IsTrue (V.sources view.now) (get name_cmp table.old) }
+    ensures grows { OnOk result (Grows (V.sources view.now) (get name_cmp table.old) (get name_cmp table.new)) }
+    ensures has { OnOk result (HasAdapter (V.sources view.now) (get name_cmp table.new) port.now.adapter) }
+{
+    match &port.adapter {
+        Some(adapter) => add_adapter(alloc, view, table, adapter),
+        None => Ok(()),
+    }
+}
+
+/// Adds the networks of the adapters of ports.
+fn add_adapters<V: View>(
+    alloc: Global,
+    view: &V,
+    table: &mut Table,
+    ports: &[Port],
+) -> Result<(), AllocError>
+    requires { IsTrue (V.sources view.now) (get name_cmp table.old) }
+    ensures grows { OnOk result (Grows (V.sources view.now) (get name_cmp table.old) (get name_cmp table.new)) }
+    ensures has { OnOk result (HasAdapters (V.sources view.now) (get name_cmp table.new) ports.now) }
+{
+    for port in ports {
+        add_adapter_of(alloc, view, table, port)?;
+    }
+    Ok(())
+}
+
+/// Adds the network of a type and those of the adapters of its ports.
+fn add_type<V: View>(
+    alloc: Global,
+    view: &V,
+    table: &mut Table,
+    name: &Name,
+) -> Result<(), AllocError>
+    requires { IsTrue (V.sources view.now) (get name_cmp table.old) }
+    ensures grows { OnOk result (Grows (V.sources view.now) (get name_cmp table.old) (get name_cmp table.new)) }
+    ensures has { OnOk result (HasType (V.sources view.now) (get name_cmp table.new) name.now) }
+{
+    if let Some(decl) = tree_by_name(view, name) {
+        let it = network(alloc, decl)?;
+        add_adapters(alloc, view, table, it.ports())?;
+        table.insert(*name, it)?;
+    }
+    Ok(())
+}
+
+/// The networks of these types and of the adapters of their ports.
 pub(crate) fn networks_of<V: View>(
     alloc: Global,
     view: &V,
@@ -46,34 +105,66 @@ pub(crate) fn networks_of<V: View>(
 {
     let mut table = BTreeMap::new(alloc);
     for name in names {
-        add_network(alloc, view, &mut table, name)?;
+        add_type(alloc, view, &mut table, name)?;
     }
     Ok(table)
 }
 
-/// Adds how many instances a type holds.
-fn add_count(table: &Table, counts: &mut Counts, name: &Name) -> Result<(), AllocError>
-    requires { IsCountable (get name_cmp table.now) (get name_cmp counts.old) name.now }
-    ensures { OnOk result (AddsCount (get name_cmp table.now) (get name_cmp counts.old) (get name_cmp counts.new) name.now) }
+/// How many instances a type holds, by the counts of its inner types.
+fn count_by_table(table: &Table, counts: &Counts, name: &Name) -> u32
+    requires { is_some (get name_cmp table.now name.now) ≡ true }
+    ensures { IsCountByTable (get name_cmp table.now) (get name_cmp counts.now) name.now result }
 {
     let network = table.get(name).unwrap();
-    let count = count_instances(counts, network);
+    count_instances(counts, network)
+}
+
+/// The same where its net may be kept.
+fn count_of_type<H: Hints>(hints: &H, table: &Table, counts: &Counts, name: &Name) -> u32
+    requires { is_some (get name_cmp table.now name.now) ≡ true }
+    ensures { IsTypeCount (get name_cmp table.now) (count_of_hint (H.hints hints.now name.now)) (get name_cmp counts.now) name.now result }
+{
+    match kept_count(hints, name) {
+        Some(count) => count,
+        None => count_by_table(table, counts, name),
+    }
+}
+
+/// Adds how many instances a type holds.
+fn add_count<H: Hints>(
+    hints: &H,
+    table: &Table,
+    counts: &mut Counts,
+    name: &Name,
+) -> Result<(), AllocError>
+    requires { is_some (get name_cmp table.now name.now) ≡ true }
+    ensures others { OnOk result (SameOthers (get name_cmp counts.old) (get name_cmp counts.new) name.now) }
+    ensures counted { OnOk result (IsCountedWhereKnown (get name_cmp table.now) (count_of_hint (H.hints hints.now name.now))
+        (get name_cmp counts.old) (get name_cmp counts.new) name.now) }
+{
+    let count = count_of_type(hints, table, counts, name);
     counts.insert(*name, count)?;
     Ok(())
 }
 
-/// How many instances each type of the order holds.
-pub(crate) fn counts_in_order(
+/// How many instances each subapplication of the order holds.
+pub(crate) fn counts_in_order<V: View, H: Hints>(
     alloc: Global,
+    view: &V,
+    hints: &H,
     table: &Table,
     order: &[Name],
 ) -> Result<Counts, AllocError>
-    requires { IsOrdered (get name_cmp table.now) order.now }
-    ensures { IfOk result (λ counts. AllCounted (get name_cmp table.now) (get name_cmp counts) order.now) }
+    requires order { IsSoundOrder (V.sources view.now) (H.hints hints.now) order.now }
+    requires table { IsTable (V.sources view.now) (get name_cmp table.now) order.now }
+    requires right { AreRightHints (V.sources view.now) (H.hints hints.now) }
+    ensures { IfOk result (λ counts. AllCounted (V.sources view.now) (get name_cmp counts) order.now) }
 {
     let mut counts = BTreeMap::new(alloc);
     for name in order {
-        add_count(table, &mut counts, name)?;
+        if is_subapplication(view, name) {
+            add_count(hints, table, &mut counts, name)?;
+        }
     }
     Ok(counts)
 }

@@ -3,29 +3,21 @@ ghost use Rattle.std.specs.Prelude.{◌≡◌, IfOk};
 ghost use Rattle.std.specs.BTreeMap.{get};
 ghost use Rattle.fb_text.specs.Order.{name_cmp};
 ghost use Rattle.fb_wiring.specs.Tree.Tree.{decl_tree};
-ghost use Rattle.fb_compose.specs.Ordered.{IsReady};
 ghost use Rattle.fb_flatten.specs.Hints.{AreRightHints};
-ghost use Rattle.fb_flatten.specs.Tables.{AreComposable, IsComposable, IsFlatTogether, IsFlatUnder, IsSoundOrder, IsTable, IsUnitCount, is_system_tree};
-ghost use Rattle.fb_flatten.specs.Units.{AreFlatApplications, HasNet, IsFlatApplication, IsUnitFlat, instances_in, own_instances};
+ghost use Rattle.fb_flatten.specs.Tables.{AreComposedApplications, AreComposedTogether, IsComposedApplication, IsSmall, IsTable, IsUnitCount, IsUnitOrder};
+ghost use Rattle.fb_flatten.specs.Units.{HasNet, IsUnitFlat, instances_in, own_instances};
 
-use crate::hints::{Hints, KeptFlats};
+use crate::flats::{flat_of_type, missing_flats};
+use crate::hints::{Hints, KnownFlats};
+use crate::kinds::is_system;
 use crate::tables::{Table, counts_in_order};
-use fb_compose::{Beside, FlatApplication, Nets, compose, compose_missing, count_instances, join};
+use fb_compose::{FlatApplication, Nets, compose_by_part, count_instances, join};
 use fb_text::Name;
 use fb_wiring::library::{View, tree_by_name};
 use fb_wiring::plain::{Flat, Instance, Network};
 use fb_wiring::tree::Decl;
 use fb_wiring::{Application, applications, network};
 use std::alloc::{AllocError, Global};
-
-fn is_system(decl: &Decl) -> bool
-    ensures { result ≡ is_system_tree (decl_tree decl.now) }
-{
-    match decl {
-        Decl::Block(_) | Decl::Adapter(_) | Decl::Subapplication(_) => false,
-        Decl::System(_) => true,
-    }
-}
 
 /// The instances of all applications.
 fn instances_of(alloc: Global, applications: &[Application]) -> Result<Vec<Instance>, AllocError>
@@ -52,35 +44,23 @@ fn own_network(alloc: Global, decl: &Decl) -> Result<Network, AllocError>
 }
 
 /// How many instances a unit holds at all depths, up to one past the limit.
-pub(crate) fn count_of_unit<V: View>(
+pub(crate) fn count_of_unit<V: View, H: Hints>(
     alloc: Global,
     view: &V,
+    hints: &H,
     table: &Table,
     order: &[Name],
     unit: &Name,
 ) -> Result<u32, AllocError>
-    requires sound { IsSoundOrder (V.sources view.now) unit.now order.now }
+    requires order { IsUnitOrder (V.sources view.now) (H.hints hints.now) unit.now order.now }
     requires table { IsTable (V.sources view.now) (get name_cmp table.now) order.now }
+    requires right { AreRightHints (V.sources view.now) (H.hints hints.now) }
     ensures { IfOk result (IsUnitCount (V.sources view.now) unit.now) }
 {
     let decl = tree_by_name(view, unit).unwrap();
-    let counts = counts_in_order(alloc, table, order)?;
+    let counts = counts_in_order(alloc, view, hints, table, order)?;
     let own = own_network(alloc, decl)?;
     Ok(count_instances(&counts, &own))
-}
-
-/// The flat network of a type.
-fn flat_of_type<N: Nets>(
-    alloc: Global,
-    table: &Table,
-    nets: &N,
-    unit: &Name,
-) -> Result<Flat, AllocError>
-    requires { IsReady (get name_cmp table.now) (N.nets nets.now) unit.now }
-    ensures { IfOk result (IsFlatUnder (get name_cmp table.now) unit.now) }
-{
-    let network = table.get(unit).unwrap();
-    compose(alloc, table, network, nets)
 }
 
 fn flat_of_application<N: Nets>(
@@ -89,10 +69,9 @@ fn flat_of_application<N: Nets>(
     nets: &N,
     application: &Application,
 ) -> Result<FlatApplication, AllocError>
-    requires { IsComposable (get name_cmp table.now) (N.nets nets.now) application.now.network }
-    ensures { IfOk result (IsFlatApplication (get name_cmp table.now) application.now) }
+    ensures { IfOk result (IsComposedApplication (get name_cmp table.now) (N.nets nets.now) application.now) }
 {
-    let flat = compose(alloc, table, &application.network, nets)?;
+    let flat = compose_by_part(alloc, table, &application.network, nets)?;
     Ok(FlatApplication {
         name: application.name,
         flat,
@@ -105,8 +84,8 @@ fn flats_of_applications<N: Nets>(
     nets: &N,
     applications: &[Application],
 ) -> Result<Vec<FlatApplication>, AllocError>
-    requires { AreComposable (get name_cmp table.now) (N.nets nets.now) applications.now }
-    ensures { IfOk result (λ flats. AreFlatApplications (get name_cmp table.now) applications.now flats.items) }
+    ensures { IfOk result (λ flats.
+        AreComposedApplications (get name_cmp table.now) (N.nets nets.now) applications.now flats.items) }
 {
     let mut flats = Vec::new(alloc);
     for application in applications {
@@ -122,14 +101,13 @@ fn flat_of_applications<N: Nets>(
     nets: &N,
     applications: &[Application],
 ) -> Result<Flat, AllocError>
-    requires { AreComposable (get name_cmp table.now) (N.nets nets.now) applications.now }
-    ensures { IfOk result (IsFlatTogether (get name_cmp table.now) applications.now) }
+    ensures { IfOk result (AreComposedTogether (get name_cmp table.now) (N.nets nets.now) applications.now) }
 {
     let flats = flats_of_applications(alloc, table, nets, applications)?;
     join(alloc, flats.as_slice())
 }
 
-/// The flat network of a unit, composed of kept ones and of those that are missing beside them.
+/// The flat network of a unit that is not too large, composed of kept ones and of those that are missing beside them.
 pub(crate) fn flat_of_unit<V: View, H: Hints>(
     alloc: Global,
     view: &V,
@@ -139,17 +117,16 @@ pub(crate) fn flat_of_unit<V: View, H: Hints>(
     unit: &Name,
 ) -> Result<Flat, AllocError>
     requires net { HasNet (V.sources view.now) unit.now }
-    requires sound { IsSoundOrder (V.sources view.now) unit.now order.now }
+    requires order { IsUnitOrder (V.sources view.now) (H.hints hints.now) unit.now order.now }
     requires table { IsTable (V.sources view.now) (get name_cmp table.now) order.now }
     requires right { AreRightHints (V.sources view.now) (H.hints hints.now) }
+    requires small { IsSmall (V.sources view.now) unit.now }
     ensures { IfOk result (IsUnitFlat (V.sources view.now) unit.now) }
 {
     let decl = tree_by_name(view, unit).unwrap();
-    let own = own_network(alloc, decl)?;
-    let kept = KeptFlats { hints };
-    let composed = compose_missing(alloc, table, &kept, order, own.instances())?;
-    let nets = Beside {
-        kept: &kept,
+    let composed = missing_flats(alloc, view, hints, table, order, unit)?;
+    let nets = KnownFlats {
+        hints,
         composed: &composed,
     };
     if is_system(decl) {

@@ -22,7 +22,7 @@ use Rattle.fb_deploy.specs.Network.Places.{dotted}
 use Rattle.fb_deploy.specs.Network.Plain.{PlainNetwork}
 use Rattle.fb_deploy.specs.Network.PlainFlat.{PlainFlat}
 use Rattle.fb_deploy.specs.Network.Printed.{printed}
-use Rattle.fb_deploy.specs.Flatten.Net.{IsNet, flat_net}
+use Rattle.fb_deploy.specs.Flatten.Net.{HasFlat}
 use Rattle.fb_deploy.specs.Flatten.Units.{AreFlatApplications, IsUnitFlat, NoApplication, OfSubapplication, OfSystem, ThenApplication}
 use Rattle.fb_deploy.specs.Flatten.Wiring.declared.systems.Application.{Application}
 use Rattle.fb_compose.specs.Composed.{block_within}
@@ -219,5 +219,5 @@ unit_fronts : (sources : Sources) (unit : List ℕ) (flat : PlainFlat) → IsUni
 unit_fronts sources unit flat (OfSubapplication network kind there net) link c = flat_fronts net link c
 unit_fronts sources unit flat (OfSystem applications flats kind there are net) link c = system_fronts are net link c
 
-pub net_fronts : (sources : Sources) (unit : List ℕ) (flat : PlainFlat) → IsNet sources unit (flat_net flat) → (link : Link) → Contains flat.links link → HasFront flat.blocks link.from × HasFront flat.blocks link.to
-net_fronts sources unit flat is link c = unit_fronts sources unit flat is.2 link c
+pub net_fronts : (sources : Sources) (unit : List ℕ) (flat : PlainFlat) → HasFlat sources unit flat → (link : Link) → Contains flat.links link → HasFront flat.blocks link.from × HasFront flat.blocks link.to
+net_fronts sources unit flat is link c = unit_fronts sources unit flat is.1.2 link c

@@ -21,7 +21,7 @@ use Rattle.fb_deploy.specs.Faults.Mappings.{declared_mapping_faults, has_resourc
 use Rattle.fb_deploy.specs.Network.Places.{dotted}
 use Rattle.fb_deploy.specs.Network.PlainFlat.{PlainFlat}
 use Rattle.fb_deploy.specs.Network.declared.flat.Link.{Link}
-use Rattle.fb_deploy.specs.Flatten.Net.{IsNet, flat_net}
+use Rattle.fb_deploy.specs.Flatten.Net.{HasFlat}
 use Rattle.fb_deploy.specs.Mapping.Fronts.{IsNearest, nearest}
 use Rattle.fb_deploy.specs.Mapping.Mappings.{mapping_home, mapping_path}
 use Rattle.fb_deploy.specs.Mapping.Systems.{applications_in, devices_in, mappings_in}
@@ -35,14 +35,14 @@ use Rattle.fb_plan_rows.specs.Rows.{HomesHaveCommands}
 
 -- ---- a system with a flat network has no faults
 
-no_faults : (sources : Sources) (system : List ℕ) (flat : PlainFlat) → IsNet sources system (flat_net flat) → faults_of sources system ≡ []
+no_faults : (sources : Sources) (system : List ℕ) (flat : PlainFlat) → HasFlat sources system flat → faults_of sources system ≡ []
 no_faults sources system flat is = by (faults_of sources system) refl
   where
     by : (found : List Fault) → faults_of sources system ≡ found → faults_of sources system ≡ []
     by [] e = e
-    by (f ∷ fs) e = absurd (contains_nothing system ((is.0.whole.members system).1 (itself, inr (λ none. let both : f ∷ fs ≡ [] = sym e ∙ none in cc))))
+    by (f ∷ fs) e = absurd (contains_nothing system ((is.1.0.whole.members system).1 (itself, inr (λ none. let both : f ∷ fs ≡ [] = sym e ∙ none in cc))))
 
-no_mapping_fault : (sources : Sources) (system : List ℕ) (flat : PlainFlat) → IsNet sources system (flat_net flat) → (f : Fault) → Contains (mapping_faults_of sources system) f → ⊥
+no_mapping_fault : (sources : Sources) (system : List ℕ) (flat : PlainFlat) → HasFlat sources system flat → (f : Fault) → Contains (mapping_faults_of sources system) f → ⊥
 no_mapping_fault sources system flat is f c =
     contains_nothing f (subst (λ (l : List Fault). Contains l f) (no_faults sources system flat is) ((those_reported sources system f).1 (Contains-append_right _ (mapping_faults_of sources system) f c)))
 
@@ -62,7 +62,7 @@ device_has (d ∷ ds) device resource e = by (is_same d.name.name device) refl e
         Contains-append_left (device_resources d) (resources_of ds) (dotted device resource) (subst (λ (t : List ℕ). Contains (device_resources d) t) is at)
     by false differs g more = Contains-append_right (device_resources d) (resources_of ds) (dotted device resource) (more g)
 
-module _ (sources : Sources) (system : List ℕ) (flat : PlainFlat) (is : IsNet sources system (flat_net flat)) where
+module _ (sources : Sources) (system : List ℕ) (flat : PlainFlat) (is : HasFlat sources system flat) where
   in_system : (s : SystemTree) (m : MappingTree) → tree_at sources system ≡ Some (system_configuration s) → Contains s.mappings m → Contains (resources_of s.devices) (mapping_home m)
   in_system s m e c = by (has_resource s.devices m.device.name m.resource.name) refl
     where

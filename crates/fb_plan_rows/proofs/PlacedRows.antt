@@ -13,7 +13,7 @@ use Rattle.fb_deploy.specs.Tree.Tree.{MappingTree}
 use Rattle.fb_deploy.specs.Library.View.{Sources, tree_at}
 use Rattle.fb_deploy.specs.Network.declared.flat.FlatBlock.{FlatBlock}
 use Rattle.fb_deploy.specs.Network.PlainFlat.{PlainFlat}
-use Rattle.fb_deploy.specs.Flatten.Net.{IsNet, flat_net}
+use Rattle.fb_deploy.specs.Flatten.Net.{HasFlat, flat_net}
 use Rattle.fb_deploy.specs.Mapping.Cuts.{cuts_of, home_at}
 use Rattle.fb_deploy.specs.Mapping.Fronts.{nearest}
 use Rattle.fb_deploy.specs.Mapping.Homes.{astray, homeless, misplaced, unless_faulty}
@@ -86,7 +86,7 @@ module _ (sources : Sources) (system : List ℕ) (flat : PlainFlat) where
           let kept = passes_in_filter nowhere mappings o.origin o.among in
           false≢true (sym (w.mappings o.origin kept.among) ∙ kept.passes)
 
-  pub commands_of : IsSystem sources system → IsNet sources system (flat_net flat) → IsPlacedWhole sources system flat → HasCommands sources system flat
+  pub commands_of : IsSystem sources system → HasFlat sources system flat → IsPlacedWhole sources system flat → HasCommands sources system flat
   commands_of is net w =
       let cuts = cuts_of (home_at (homes_in sources system flat)) flat.links in
       let resources = resource_plans (orders_of sources system (applications_in (tree_at sources system)) (names_in sources system) flat (homes_in sources system flat)) (names_in sources system) in
@@ -100,8 +100,8 @@ module _ (sources : Sources) (system : List ℕ) (flat : PlainFlat) where
           plan = (plan_at_is sources system (planned cuts resources)).1 (
             is,
             record {
-              net = flat_net flat;
-              is_net = net;
+              net = flat_net flat net.0;
+              is_net = net.1;
               plan_is = sym (ap (λ (found : List Misplaced). with_homes sources system flat (unless_faulty found (homes_in sources system flat))) nothing);
             },
           );

@@ -14,7 +14,7 @@ use Rattle.fb_deploy.specs.Library.View.{Sources, tree_at}
 use Rattle.fb_deploy.specs.Network.declared.flat.FlatBlock.{FlatBlock}
 use Rattle.fb_deploy.specs.Network.declared.flat.Link.{Link}
 use Rattle.fb_deploy.specs.Network.PlainFlat.{PlainFlat}
-use Rattle.fb_deploy.specs.Flatten.Net.{IsNet, flat_net}
+use Rattle.fb_deploy.specs.Flatten.Net.{HasFlat, flat_net}
 use Rattle.fb_deploy.specs.Flatten.Units.{IsUnitFlat, OfSubapplication, OfSystem}
 use Rattle.fb_deploy.specs.Network.LinkOrder.{link_cmp}
 use Rattle.fb_deploy.specs.Mapping.Cuts.{cuts_of, home_at}
@@ -67,7 +67,7 @@ known sources system flat cuts resources p = by (misplaced sources system (tree_
     both = (plan_at_is sources system (planned cuts resources)).0 p.plan
 
     whole : planned cuts resources ≡ with_homes sources system flat (unless_faulty (misplaced sources system (tree_at sources system) flat.blocks) (homes_in sources system flat))
-    whole = both.1.plan_is ∙ ap (planned_by sources system) (one_net_only sources system both.1.net (flat_net flat) both.1.is_net p.is_flat)
+    whole = both.1.plan_is ∙ ap (planned_by sources system) (one_net_only sources system both.1.net (flat_net flat p.is_flat.0) both.1.is_net p.is_flat.1)
 
     by_home : misplaced sources system (tree_at sources system) flat.blocks ≡ [] → (b : FlatBlock) → Contains flat.blocks b → (o : Option (List ℕ)) → nearest (mapped sources system) b.path ≡ o → HasHome (mapped sources system) b
     by_home nothing b c None e = absurd (is_unmapped sources system flat.blocks b c e nothing)
@@ -88,8 +88,8 @@ unit_sorted : (sources : Sources) (unit : List ℕ) (flat : PlainFlat) → IsUni
 unit_sorted sources unit flat (OfSubapplication network kind there net) = net.links_sorted
 unit_sorted sources unit flat (OfSystem applications flats kind there are net) = net.links_sorted
 
-pub links_sorted : (sources : Sources) (unit : List ℕ) (flat : PlainFlat) → IsNet sources unit (flat_net flat) → IsStrictlySortedBy link_cmp flat.links
-links_sorted sources unit flat is = unit_sorted sources unit flat is.2
+pub links_sorted : (sources : Sources) (unit : List ℕ) (flat : PlainFlat) → HasFlat sources unit flat → IsStrictlySortedBy link_cmp flat.links
+links_sorted sources unit flat is = unit_sorted sources unit flat is.1.2
 
 -- where the ends of links stand
 module _ (sources : Sources) (system : List ℕ) (flat : PlainFlat) (all : (b : FlatBlock) → Contains flat.blocks b → HasHome (mapped sources system) b) where

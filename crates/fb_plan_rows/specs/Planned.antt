@@ -5,7 +5,7 @@ use Rattle.fb_deploy.specs.Library.View.{Sources, tree_at}
 use Rattle.fb_deploy.specs.Network.declared.flat.FlatBlock.{FlatBlock}
 use Rattle.fb_deploy.specs.Network.declared.flat.Link.{Link}
 use Rattle.fb_deploy.specs.Network.PlainFlat.{PlainFlat}
-use Rattle.fb_deploy.specs.Flatten.Net.{IsNet, flat_net}
+use Rattle.fb_deploy.specs.Flatten.Net.{HasFlat}
 use Rattle.fb_deploy.specs.Mapping.Fronts.{IsFront, IsNearest}
 use Rattle.fb_deploy.specs.Mapping.Mappings.{names_used, resource_at}
 use Rattle.fb_deploy.specs.Mapping.Standing.{leads_nowhere}
@@ -16,7 +16,7 @@ use Rattle.fb_deploy.specs.Plans.{plan_at}
 
 -- the system has this flat network, and its plan has these cut links and these resources with their commands
 pub record IsPlanned (sources : Sources) (system : List ℕ) (flat : PlainFlat) (cuts : List Link) (resources : List PlainResource) : Type 0 where
-  pub is_flat : IsNet sources system (flat_net flat)
+  pub is_flat : HasFlat sources system flat
   pub plan : plan_at sources system ≡ Some (planned cuts resources)
 
 -- The home of what stands at a path is the resource of the mapping with the longest path that is this path or stands in front of it by whole

@@ -10,7 +10,7 @@ use Rattle.fb_deploy.specs.Network.declared.flat.FlatBlock.{FlatBlock}
 use Rattle.fb_deploy.specs.Network.declared.flat.Link.{Link}
 use Rattle.fb_deploy.specs.Network.PlainFlat.{PlainFlat}
 use Rattle.fb_deploy.specs.Mapping.Placed.{IsSystem}
-use Rattle.fb_deploy.specs.Flatten.Net.{IsNet, flat_net}
+use Rattle.fb_deploy.specs.Flatten.Net.{HasFlat}
 use Rattle.fb_deploy.specs.Mapping.Netcheck.Spellings.{text_at}
 use Rattle.fb_deploy.specs.Mapping.Standing.{PlainStanding, path_names, standing_at}
 use Rattle.fb_deploy.specs.Mapping.Systems.{applications_in}
@@ -156,7 +156,7 @@ HoldsOfResources Fact =
 -- a system with a flat network has commands where nothing is misplaced
 abbrev pub PlacedSystemsHaveCommands : Type 0
 PlacedSystemsHaveCommands =
-    (sources : Sources) (system : List ℕ) (flat : PlainFlat) → IsSystem sources system → IsNet sources system (flat_net flat)
+    (sources : Sources) (system : List ℕ) (flat : PlainFlat) → IsSystem sources system → HasFlat sources system flat
     → HasCommands sources system flat ↔ IsPlacedWhole sources system flat
 
 -- what stands at a path has one home

@@ -5,8 +5,9 @@ use Rattle.std.specs.List.Sorted.{IsStrictlySortedBy}
 use Rattle.fb_text.specs.Order.{name_cmp}
 use Rattle.fb_order.specs.Reaches.{IsRecursive}
 use Rattle.fb_flatten.specs.Blocking.{AreThose, IsBlocking, is_blocking, is_some_name}
-use Rattle.fb_flatten.specs.Tables.{IsSoundOrder}
-use Rattle.fb_flatten.proofs.NetLemmas.{blocking_those, none_of_not, recursive_those, some_not_none, some_recursive, sound_order}
+use Rattle.fb_flatten.specs.Tables.{IsUnitOrder}
+use Rattle.fb_flatten.proofs.NetLemmas.{blocking_those, none_of_not, recursive_those, some_not_none, some_recursive}
+use Rattle.fb_flatten.proofs.RestLemmas.{recursive_within, unit_order}
 use Rattle.fb_flatten.proofs.net.net_with.Goals as goal
 
 pub returns-then-has_some : goal.returns-then-has_some
@@ -37,10 +38,10 @@ returns-in-None g c =
     recursive_those all back far.sound far.complete
     (c.in_ok-recursive-in-None.ensures.sorted (subst (λ (l : List (List ℕ)). IsStrictlySortedBy name_cmp l) (sym same) far.ordered))
     (λ v. subst (λ (l : List (List ℕ)). Contains back v ↔ (Contains l v × IsRecursive sources v)) same (c.in_ok-recursive-in-None.ensures.members v)) in
-    (whole, those, some_recursive back those (c.in_ok-inner_first.ensures.recursive.0 (ap is_some c.in-None.is)))
+    (whole, those, some_recursive back those (recursive_within (g.H.Hints.hints c.args.hints.now) sources c.args.unit (c.in_ok-inner_first.ensures.recursive.0 (ap is_some c.in-None.is))))
 
-pub net_in_order-requires-clause-sound : goal.net_in_order-requires-clause-sound
-net_in_order-requires-clause-sound g c =
+pub net_in_order-requires-clause-order : goal.net_in_order-requires-clause-order
+net_in_order-requires-clause-order g c =
     let sources = g.V.View.sources c.args.view.now in
     let names = c.in_ok-suspects.suspects.items in
     let found = c.in_ok-found.found.items in
@@ -49,5 +50,6 @@ net_in_order-requires-clause-sound g c =
     let none : is_some_name found ≡ false = ap is_some_name (sym c.as_slice-2.ensures.value) ∙ sym c.has_some.ensures ∙ c.if-has_some.false in
     let whole : AreThose sources c.args.unit (IsBlocking sources) [] =
     subst (λ (l : List (List ℕ)). AreThose sources c.args.unit (IsBlocking sources) l) (none_of_not found none) (blocking_those names found known.sorted known.sound known.complete is) in
-    subst (λ (l : List (List ℕ)). IsSoundOrder sources c.args.unit l) (sym c.as_slice-in-Some.ensures.value)
-    (sound_order c.in-Some.order.items whole (rw c.in-Some.is at c.in_ok-inner_first.ensures.ordered) (rw c.in-Some.is at c.in_ok-inner_first.ensures.whole))
+    let hints = g.H.Hints.hints c.args.hints.now in
+    subst (λ (l : List (List ℕ)). IsUnitOrder sources hints c.args.unit l) (sym c.as_slice-in-Some.ensures.value)
+    (unit_order hints sources c.args.unit c.requires.right c.in-Some.order.items whole (rw c.in-Some.is at c.in_ok-inner_first.ensures.ordered) (rw c.in-Some.is at c.in_ok-inner_first.ensures.whole))

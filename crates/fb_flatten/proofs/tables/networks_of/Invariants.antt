@@ -1,4 +1,4 @@
--- The names passed so far have their networks.
+-- The types passed so far have their networks.
 use Rattle.std.proofs.Common.{take}
 use Rattle.std.specs.BTreeMap.{get}
 use Rattle.fb_text.specs.Order.{name_cmp}

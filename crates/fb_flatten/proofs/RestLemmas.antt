@@ -1,0 +1,116 @@
+-- What is left to look at where nets are kept.
+use Rattle.std.proofs.Common.{ℕ, ◌≡◌, ◌<◌, Bool, true, false, cond, ◌||◌, List, [], Option, Some, None, refl, sym, ◌∙◌, ap, subst, take, get_or, length}
+use Rattle.std.proofs.lemmas.Bool.{false≢true}
+use Rattle.std.proofs.lemmas.List.{get_or_default}
+use Rattle.std.specs.Prelude.{Contains, ◌↔◌, is_none}
+use Rattle.std.specs.BTreeMap.{is_at}
+use Rattle.std.specs.Option.{option_and_then}
+use Rattle.std.specs.FinMap.{get, get-retain_keys, slice_cmp-IsAntisymmetric, nat_cmp-IsAntisymmetric}
+use Rattle.fb_text.specs.Order.{name_cmp}
+use Rattle.fb_wiring.specs.Library.View.{Sources, tree_of, mentions_at, mentions_in}
+use Rattle.fb_wiring.specs.Library.Rests.{Rests, itself, through}
+use Rattle.fb_wiring.proofs.Iface.Members.{contains_nothing}
+use Rattle.fb_order.specs.Order.{IsOrdered}
+use Rattle.fb_order.specs.Reaches.{Reaches, directly, onward, IsRecursive, RestsOnRecursive}
+use Rattle.fb_order.proofs.OrderLemmas.{ordered_not_recursive}
+use Rattle.fb_compose.proofs.Equals.{bytes_same}
+use Rattle.fb_flatten.specs.Hints.{AreRightHints, count_of_hint, count_of_net, is_left, left_of}
+use Rattle.fb_flatten.specs.Net.{PlainNet, blocked, recursive, too_large, flat_net, IsNet, IsSound, IsWhole}
+use Rattle.fb_flatten.specs.Tables.{IsUnitOrder}
+use Rattle.fb_flatten.proofs.ComputedNets.{net_at_is}
+use Rattle.fb_flatten.proofs.Depths.{by_bool, or_right, rests_of_reach}
+use Rattle.fb_flatten.proofs.SoundLemmas.{sound_below, sound_where}
+
+or_false : (a b : Bool) → (a || b) ≡ false → b ≡ false
+or_false true b e = absurd (false≢true (sym e))
+or_false false b e = e
+
+sound_net : (sources : Sources) (name : List ℕ) (net : PlainNet) → IsNet sources name net → is_none (count_of_net net) ≡ false → IsSound sources name
+sound_net sources name (blocked names) is e = absurd (false≢true (sym e))
+sound_net sources name (recursive names) is e = absurd (false≢true (sym e))
+sound_net sources name too_large is e = is.0
+sound_net sources name (flat_net flat instances) is e = is.0
+
+-- a unit of which the kept net tells how many instances it holds
+counted_sound : (sources : Sources) (hints : List ℕ → Option PlainNet) (name : List ℕ) → AreRightHints sources hints → is_none (count_of_hint (hints name)) ≡ false → IsSound sources name
+counted_sound sources hints name right known = by (hints name) refl known
+  where
+    by : (o : Option PlainNet) → hints name ≡ o → is_none (count_of_hint o) ≡ false → IsSound sources name
+    by None e k = absurd (false≢true (sym k))
+    by (Some net) e k = sound_net sources name net ((net_at_is sources name net).0 (right name net e)).1 k
+
+module _ (hints : List ℕ → Option PlainNet) (sources : Sources) (unit : List ℕ) where
+  abbrev left : Sources
+  left = left_of hints sources unit
+
+  pub get_left : (n : List ℕ) → get left n ≡ cond (is_left hints unit n) (get sources n) None
+  get_left n = get-retain_keys sources (is_left hints unit) n (λ x e. ap (is_left hints unit) (sym (slice_cmp-IsAntisymmetric nat_cmp-IsAntisymmetric n x e)))
+
+  mentions_by : (n : List ℕ) (b : Bool) → is_left hints unit n ≡ b → mentions_at left n ≡ mentions_in (option_and_then tree_of (cond b (get sources n) None))
+  mentions_by n b e = ap (λ o. mentions_in (option_and_then tree_of o)) (get_left n ∙ ap (λ c. cond c (get sources n) None) e)
+
+  mentioned : (n w : List ℕ) → is_left hints unit n ≡ true → Contains (mentions_at sources n) w → Contains (mentions_at left n) w
+  mentioned n w t m = subst (λ (l : List (List ℕ)). Contains l w) (sym (mentions_by n true t)) m
+
+  mentioned_within : (n w : List ℕ) → Contains (mentions_at left n) w → Contains (mentions_at sources n) w
+  mentioned_within n w m =
+      by_bool (is_left hints unit n)
+      (λ t. subst (λ (l : List (List ℕ)). Contains l w) (mentions_by n true t) m)
+      (λ f. absurd (contains_nothing w (subst (λ (l : List (List ℕ)). Contains l w) (mentions_by n false f) m)))
+
+  rests_within : {u v : List ℕ} → Rests left u v → Rests sources u v
+  rests_within itself = itself
+  rests_within {u} (through {w = w} m r) = through (mentioned_within u w m) (rests_within r)
+
+  reaches_within : {u v : List ℕ} → Reaches left u v → Reaches sources u v
+  reaches_within {u} {v} (directly m) = directly (mentioned_within u v m)
+  reaches_within {u} (onward {w = w} m r) = onward (mentioned_within u w m) (reaches_within r)
+
+  -- a cycle among what is left is one of all
+  pub recursive_within : RestsOnRecursive left unit → RestsOnRecursive sources unit
+  recursive_within r = (r.0, (rests_within r.1.0, reaches_within r.1.1))
+
+  module _ (right : AreRightHints sources hints) where
+    settled_finite : (n v : List ℕ) → is_left hints unit n ≡ false → Rests sources n v → IsRecursive sources v → ⊥
+    settled_finite n v f r rec =
+        contains_nothing v (((counted_sound sources hints n right (or_false (is_at (name_cmp unit) n) _ f)).finite.members v).1 (r, rec))
+
+    -- what rests on a type that reaches itself is left
+    rests_left : {u v : List ℕ} → Rests sources u v → IsRecursive sources v → Rests left u v
+    rests_left itself rec = itself
+    rests_left {u} {v} (through {w = w} m r) rec =
+        by_bool (is_left hints unit u)
+        (λ t. through (mentioned u w t m) (rests_left r rec))
+        (λ f. absurd (settled_finite u v f (through m r) rec))
+
+    reaches_left : {u v : List ℕ} → Reaches sources u v → IsRecursive sources v → Reaches left u v
+    reaches_left {u} {v} (directly m) rec =
+        by_bool (is_left hints unit u)
+        (λ t. directly (mentioned u v t m))
+        (λ f. absurd (settled_finite u v f (through m itself) rec))
+    reaches_left {u} {v} (onward {w = w} m r) rec =
+        by_bool (is_left hints unit u)
+        (λ t. onward (mentioned u w t m) (reaches_left r rec))
+        (λ f. absurd (settled_finite u v f (through m (rests_of_reach r)) rec))
+
+    -- an order of what is left, where none blocks
+    pub unit_order : (order : List (List ℕ)) → IsWhole sources unit → IsOrdered left order → ((v : List ℕ) → Contains order v ↔ Rests left unit v) → IsUnitOrder sources hints unit order
+    unit_order order none ordered whole =
+        record {
+          names = record { inner_first = inner; sound = λ name c. sound_below sound name (rests_within ((whole name).0 c)) };
+          own = (whole unit).1 itself;
+          mentions = λ w m. (whole w).1 (through (mentioned unit w unit_left m) itself);
+          below = λ name c. rests_within ((whole name).0 c);
+        }
+      where
+        unit_left : is_left hints unit unit ≡ true
+        unit_left = ap (λ b. b || is_none (count_of_hint (hints unit))) (bytes_same unit)
+
+        sound : IsSound sources unit
+        sound = sound_where none (λ v r rec. ordered_not_recursive left order ordered v ((whole v).1 (rests_left r rec)) (reaches_left rec rec))
+
+        inner : (k : ℕ) (name w : List ℕ) → k < length order → name ≡ get_or order k name → count_of_hint (hints name) ≡ None → Contains (mentions_at sources name) w → Contains (take k order) w
+        inner k name w lt e unknown m =
+            let place : name ≡ get_or order k [] = e ∙ get_or_default order k name [] lt in
+            let there = mentioned name w (or_right (is_at (name_cmp unit) name) _ (ap is_none unknown)) m in
+            ordered.inner_first k lt w (subst (λ (n : List ℕ). Contains (mentions_at left n) w) place there)
