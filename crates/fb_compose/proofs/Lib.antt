@@ -7,8 +7,6 @@ pub mod AdapterLemmas
 pub mod Composing
 pub mod BlockLemmas
 pub mod InOrder
-pub mod MissingLemmas
-pub mod WantedLemmas
 pub mod Counting
 pub mod SameSorted
 pub mod OneFlat

@@ -3,7 +3,6 @@ pub mod Composition
 pub mod Composed
 pub mod Ready
 pub mod Ordered
-pub mod Missing
 pub mod Part
 pub mod Counts
 pub mod SystemFlat

@@ -5,7 +5,6 @@
 mod adapters;
 mod application;
 mod behind;
-mod beside;
 mod blocks;
 mod borders;
 mod count;
@@ -14,19 +13,15 @@ mod in_order;
 mod laws;
 mod links;
 mod look_up;
-mod missing;
 mod sorted;
 mod system;
 mod table;
-mod wanted;
 
 pub use application::FlatApplication;
-pub use beside::Beside;
 pub use count::count_instances;
 pub use flat_network::{compose, compose_by_part};
 pub use in_order::compose_in_order;
 pub use laws::{chains_are_composed, flat_is_one, system_is_one};
 pub use look_up::{Nets, Networks};
-pub use missing::compose_missing;
 pub use sorted::sort_once;
 pub use system::join;
