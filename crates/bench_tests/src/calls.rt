@@ -4,10 +4,10 @@ use fb_text::Name;
 use fb_wire::bench::jobs::{Key, Kind};
 use fb_wire::bench::{Asked, Bench, Call, Limits, Reply, Shown};
 use std::alloc::Global;
+use std::process::Abort;
 use std::test::Fail;
 
 /// A step of a conversation: lines of a caller, or what the workbench then shows.
-#[derive(Clone, Copy)]
 enum Step<'a> {
     /// A run of this caller. The numbers of its jobs begin at 1.
     Lines(u32, &'a str),
@@ -76,17 +76,17 @@ fn are_keys(bench: &Bench, wanted: &[(Kind, &str)]) -> Result<bool, Fail> {
 }
 
 // Whether the step goes as it says.
-fn goes(alloc: Global, bench: &mut Bench, step: Step<'_>) -> Result<bool, Fail> {
+fn goes(alloc: Global, bench: &mut Bench, step: &Step<'_>) -> Result<bool, Fail> {
     match step {
-        Step::Lines(caller, text) => Ok(talk(alloc, bench, caller, text)?.is_none()),
+        Step::Lines(caller, text) => Ok(talk(alloc, bench, *caller, text)?.is_none()),
         Step::Value(unit) => peeks_a_value(bench, unit),
         Step::Pending(unit) => peeks_pending(bench, unit),
         Step::Out(unit) => is_out(bench, unit),
-        Step::Revision(unit, revision) => Ok(bench.revision(&Name::read(unit)?) == revision),
+        Step::Revision(unit, revision) => Ok(bench.revision(&Name::read(unit)?) == *revision),
         Step::Keys(wanted) => are_keys(bench, wanted),
-        Step::Records(count) => Ok(bench.len() == count),
-        Step::Answer(number, turn) => Ok(is_answer(bench, number, turn)),
-        Step::NoRecord(number) => Ok(bench.record(number).is_none()),
+        Step::Records(count) => Ok(bench.len() == *count),
+        Step::Answer(number, turn) => Ok(is_answer(bench, *number, *turn)),
+        Step::NoRecord(number) => Ok(bench.record(*number).is_none()),
     }
 }
 
@@ -97,22 +97,25 @@ fn first_wrong_step(
     steps: &[Step<'_>],
 ) -> Result<Option<usize>, Fail> {
     for place in 0..steps.len() {
-        if !goes(alloc, bench, steps[place])? {
+        if !goes(alloc, bench, &steps[place])? {
             return Ok(Some(place));
         }
     }
     Ok(None)
 }
 
-// The same with a new workbench of these limits.
-fn first_wrong_step_within(
+/// Goes through steps with a new workbench of these limits.
+fn compare_steps(
+    rt: &impl Abort,
     alloc: Global,
-    units: u64,
-    history: u64,
+    about: &str,
+    (units, history): (u64, u64),
     steps: &[Step<'_>],
-) -> Result<Option<usize>, Fail> {
+) -> Result<(), Fail> {
     let mut bench = new_bench(alloc, units, history)?;
-    first_wrong_step(alloc, &mut bench, steps)
+    let wrong = first_wrong_step(alloc, &mut bench, steps)?;
+    all_right(rt, wrong, about);
+    Ok(())
 }
 
 // A commit on an old base is refused.
@@ -380,7 +383,7 @@ const PLANNED: &[Step<'static>] = &[
     Step::Lines(
         1,
         r#"
-> {"op":"commit","changes":[{"put":"TN","base":0,"text":"FUNCTION_BLOCK TN EVENT_INPUT I; END_EVENT EVENT_OUTPUT O; END_EVENT VAR_INPUT DT:TIME; END_VAR END_FUNCTION_BLOCK"},{"put":"SA","base":0,"text":"SUBAPPLICATION SA FBS F:TN; G:TN(DT:=T#250ms); H:TN; END_FBS EVENT_CONNECTIONS F.O TO G.I; G.O TO H.I; END_CONNECTIONS END_SUBAPPLICATION"},{"put":"Y","base":0,"text":"SYSTEM Y APPLICATION APP SUBAPPS SUB:SA; END_SUBAPPS END_APPLICATION DEVICE D:DT RESOURCE R1:RT END_RESOURCE RESOURCE R2:RT END_RESOURCE END_DEVICE MAPPINGS APP.SUB ON D.R1; APP.SUB.F ON D.R2; END_MAPPINGS END_SYSTEM"}]}
+> plant
 < {"commit":1}
 > {"op":"work","turns":5}
 < {"accepted":5}
@@ -426,8 +429,10 @@ const PLANNED: &[Step<'static>] = &[
     ]),
 ];
 
-// With the most units and the most records.
-const TALKS: &[(&str, u64, u64, &[Step<'static>])] = &[
+/// What is gone through, the most units and the most records, and the steps.
+type Talk = (&'static str, u64, u64, &'static [Step<'static>]);
+
+const TALKS: &[Talk] = &[
     ("old base", 4, 100, OLD_BASE),
     ("full", 1, 3, FULL),
     ("crowded", 1, 100, CROWDED),
@@ -438,13 +443,16 @@ const TALKS: &[(&str, u64, u64, &[Step<'static>])] = &[
     ("planned", 4, 100, PLANNED),
 ];
 
-#[test]
-fn talks(rt: HostRuntime) -> Result<(), Fail> {
-    for (about, units, history, steps) in TALKS {
-        let wrong = first_wrong_step_within(rt.alloc(), *units, *history, steps)?;
-        all_right(&rt, wrong, about);
+fn compare_all(rt: &impl Abort, alloc: Global, talks: &[Talk]) -> Result<(), Fail> {
+    for (about, units, history, steps) in talks {
+        compare_steps(rt, alloc, about, (*units, *history), steps)?;
     }
     Ok(())
+}
+
+#[test]
+fn talks(rt: HostRuntime) -> Result<(), Fail> {
+    compare_all(&rt, rt.alloc(), TALKS)
 }
 
 #[test]

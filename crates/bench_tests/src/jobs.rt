@@ -6,6 +6,7 @@ use fb_wire::bench::library::Change;
 use fb_wire::bench::parse::Source;
 use fb_wire::bench::{Answered, Bench, Call, Delivered, Request, Shown, Taken, TextChange};
 use std::alloc::Global;
+use std::process::Abort;
 use std::test::Fail;
 
 const PLAIN: &str = r#"
@@ -95,8 +96,16 @@ fn is_accepted(bench: &mut Bench, finished: &Finished) -> Result<bool, Fail> {
     Ok(bench.deliver(1, finished)? == Delivered::Accepted)
 }
 
-// A commit, a key, what a job for it reads, and what is said of it then.
-const JOBS: &[(&str, Kind, &str, &[(&str, u64)], &str)] = &[
+/// A commit, a key, what a job for it reads, and what is said of it then.
+type Row = (
+    &'static str,
+    Kind,
+    &'static str,
+    &'static [(&'static str, u64)],
+    &'static str,
+);
+
+const JOBS: &[Row] = &[
     (
         r#"
 > {"op":"commit","changes":[{"put":"A","base":0,"text":"FUNCTION_BLOCK A EVENT_INPUT"}]}
@@ -125,7 +134,7 @@ const JOBS: &[(&str, Kind, &str, &[(&str, u64)], &str)] = &[
     ),
     (
         r#"
-> {"op":"commit","changes":[{"put":"TN","base":0,"text":"FUNCTION_BLOCK TN EVENT_INPUT I; END_EVENT EVENT_OUTPUT O; END_EVENT VAR_INPUT DT:TIME; END_VAR END_FUNCTION_BLOCK"},{"put":"SA","base":0,"text":"SUBAPPLICATION SA FBS F:TN; G:TN(DT:=T#250ms); H:TN; END_FBS EVENT_CONNECTIONS F.O TO G.I; G.O TO H.I; END_CONNECTIONS END_SUBAPPLICATION"},{"put":"Y","base":0,"text":"SYSTEM Y APPLICATION APP SUBAPPS SUB:SA; END_SUBAPPS END_APPLICATION DEVICE D:DT RESOURCE R1:RT END_RESOURCE RESOURCE R2:RT END_RESOURCE END_DEVICE MAPPINGS APP.SUB ON D.R1; APP.SUB.F ON D.R2; END_MAPPINGS END_SYSTEM"}]}
+> plant
 < {"commit":1}
 "#,
         Kind::Deploy,
@@ -188,14 +197,18 @@ fn goes_after(
     goes(alloc, &mut bench, key, reads, after)
 }
 
-#[test]
-fn jobs_of_one_text(rt: HostRuntime) -> Result<(), Fail> {
-    for (before, kind, unit, reads, after) in JOBS {
+fn compare_jobs(rt: &impl Abort, alloc: Global, rows: &[Row]) -> Result<(), Fail> {
+    for (before, kind, unit, reads, after) in rows {
         let key = key_of(*kind, unit)?;
-        let goes = goes_after(rt.alloc(), before, key, reads, after)?;
+        let goes = goes_after(alloc, before, key, reads, after)?;
         assert!(rt; goes, "{unit}");
     }
     Ok(())
+}
+
+#[test]
+fn jobs_of_one_text(rt: HostRuntime) -> Result<(), Fail> {
+    compare_jobs(&rt, rt.alloc(), JOBS)
 }
 
 // What is no key where B alone is a unit, and its text is empty.

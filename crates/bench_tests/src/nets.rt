@@ -1,6 +1,7 @@
 //! Flat networks of subapplications and systems.
 use crate::talk::{all_right, compare, talk_alone};
 use std::alloc::{AllocError, Global};
+use std::process::Abort;
 use std::test::Fail;
 
 // A subapplication that rests on two types that hold each other.
@@ -69,13 +70,13 @@ const ADAPTERS: &str = r#"
 
 // A system with one application. Its own change reaches its own net alone.
 const SYSTEM: &str = r#"
-> {"op":"commit","changes":[{"put":"TN","base":0,"text":"FUNCTION_BLOCK TN EVENT_INPUT I; END_EVENT EVENT_OUTPUT O; END_EVENT VAR_INPUT DT:TIME; END_VAR END_FUNCTION_BLOCK"},{"put":"SA","base":0,"text":"SUBAPPLICATION SA FBS F:TN; G:TN(DT:=T#250ms); H:TN; END_FBS EVENT_CONNECTIONS F.O TO G.I; G.O TO H.I; END_CONNECTIONS END_SUBAPPLICATION"},{"put":"Y","base":0,"text":"SYSTEM Y APPLICATION APP SUBAPPS SUB:SA; END_SUBAPPS END_APPLICATION DEVICE D:DT RESOURCE R1:RT END_RESOURCE RESOURCE R2:RT END_RESOURCE END_DEVICE MAPPINGS APP.SUB ON D.R1; APP.SUB.F ON D.R2; END_MAPPINGS END_SYSTEM"}]}
+> plant
 < {"commit":1}
 > {"op":"work","turns":9}
 < {"accepted":6}
 > {"op":"ask","kind":"net","unit":"Y"}
 < {"net":{"blocks":[["APP.SUB.F","TN"],["APP.SUB.G","TN"],["APP.SUB.H","TN"]],"borders":[],"links":[["event","APP.SUB.F.O","APP.SUB.G.I"],["event","APP.SUB.G.O","APP.SUB.H.I"]]}}
-> {"op":"commit","changes":[{"put":"Y","base":1,"text":"SYSTEM Y APPLICATION APP SUBAPPS SUB:SA; END_SUBAPPS END_APPLICATION DEVICE D:DT RESOURCE R1:RT END_RESOURCE RESOURCE R2:RT END_RESOURCE END_DEVICE MAPPINGS APP.Z ON D.R1; APP.SUB.F ON D.R2; END_MAPPINGS END_SYSTEM"}]}
+> misplaced
 < {"commit":2}
 > {"op":"ask","kind":"net","unit":"SA"}
 < {"net":{"blocks":[["F","TN"],["G","TN"],["H","TN"]],"borders":[],"links":[["event","F.O","G.I"],["event","G.O","H.I"]]}}
@@ -160,53 +161,68 @@ fn held(alloc: Global, instances: u32, net: &str) -> Result<String, AllocError> 
     )
 }
 
+// Compares the net of a subapplication with so many blocks.
+fn compare_held(rt: &impl Abort, alloc: Global, instances: u32, net: &str) -> Result<(), Fail> {
+    let text = held(alloc, instances, net)?;
+    all_right(rt, talk_alone(alloc, text.as_str())?, "instances");
+    Ok(())
+}
+
 // As many blocks as a network may have, and one more.
 #[test]
 fn many_instances(rt: HostRuntime) -> Result<(), Fail> {
     let flat = flat_of(rt.alloc(), 4096)?;
-    for (instances, net) in [(4096, flat.as_str()), (4097, r#"< {"net":"too_large"}"#)] {
-        let text = held(rt.alloc(), instances, net)?;
-        all_right(&rt, talk_alone(rt.alloc(), text.as_str())?, "instances");
-    }
-    Ok(())
+    compare_held(&rt, rt.alloc(), 4096, flat.as_str())?;
+    compare_held(&rt, rt.alloc(), 4097, r#"< {"net":"too_large"}"#)
 }
 
-// A commit of subapplications from one number to before another, each of which holds the next one twice.
-fn doubling(alloc: Global, from: u32, to: u32) -> Result<String, AllocError> {
-    let mut line = String::from_str(alloc, r#"> {"op":"commit","changes":["#)?;
+// Adds a commit of subapplications from one number to before another, each of which holds the next one twice.
+fn say_doubling(text: &mut String, from: u32, to: u32) -> Result<(), AllocError> {
+    text.push_str(r#"> {"op":"commit","changes":["#)?;
     let mut comma = "";
     for i in from..to {
         let next = i + 1;
         write!(
-            line,
+            text,
             r#"{comma}{{"put":"S{i}","base":0,"text":"SUBAPPLICATION S{i} SUBAPPS X:S{next}; Y:S{next}; END_SUBAPPS END_SUBAPPLICATION"}}"#
         )?;
         comma = ",";
     }
-    line.push_str("]}\n")?;
-    Ok(line)
+    text.push_str("]}\n")
 }
 
-// The commits of forty subapplications in a chain, and what is known of it then.
+// The numbers of three commits, and the subapplications of each.
+static DOUBLED: [(u32, u32, u32); 3] = [(2, 0, 14), (3, 14, 28), (4, 28, 39)];
+
+// The commits of forty subapplications in a chain.
+fn say_chain(text: &mut String) -> Result<(), AllocError> {
+    for (commit, from, to) in &DOUBLED {
+        say_doubling(text, *from, *to)?;
+        write!(text, "< {{\"commit\":{commit}}}\n")?;
+    }
+    Ok(())
+}
+
+// These commits, and what is known then.
 fn chain(alloc: Global) -> Result<String, AllocError> {
-    let inner = doubling(alloc, 0, 14)?;
-    let middle = doubling(alloc, 14, 28)?;
-    let outer = doubling(alloc, 28, 39)?;
-    format!(in alloc;
+    let mut text = String::from_str(
+        alloc,
         r#"
-> {{"op":"commit","changes":[{{"put":"S39","base":0,"text":"SUBAPPLICATION S39 END_SUBAPPLICATION"}}]}}
-< {{"commit":1}}
-{inner}< {{"commit":2}}
-{middle}< {{"commit":3}}
-{outer}< {{"commit":4}}
-> {{"op":"work","turns":1000}}
-< {{"accepted":80}}
-> {{"op":"ask","kind":"net","unit":"S0"}}
-< {{"net":"too_large"}}
-> {{"op":"ask","kind":"net","unit":"S38"}}
-< {{"net":{{"blocks":[],"borders":[],"links":[]}}}}
-"#
-    )
+> {"op":"commit","changes":[{"put":"S39","base":0,"text":"SUBAPPLICATION S39 END_SUBAPPLICATION"}]}
+< {"commit":1}
+"#,
+    )?;
+    say_chain(&mut text)?;
+    text.push_str(
+        r#"> {"op":"work","turns":1000}
+< {"accepted":80}
+> {"op":"ask","kind":"net","unit":"S0"}
+< {"net":"too_large"}
+> {"op":"ask","kind":"net","unit":"S38"}
+< {"net":{"blocks":[],"borders":[],"links":[]}}
+"#,
+    )?;
+    Ok(text)
 }
 
 #[test]

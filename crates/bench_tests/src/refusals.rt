@@ -1,6 +1,7 @@
 //! Lines that are no request or that are refused, by their form, by the limits or by what there is.
 use crate::talk::{all_right, compare, talk_alone, talk_within};
 use std::alloc::{AllocError, Global};
+use std::process::Abort;
 use std::test::Fail;
 
 // Typing errors, and what is refused for another reason.
@@ -141,21 +142,22 @@ const LIMITED: &[(u64, u64, &str)] = &[
     (1, 100_000, FULL_LIBRARY),
 ];
 
+fn compare_limited(rt: &impl Abort, alloc: Global, talks: &[(u64, u64, &str)]) -> Result<(), Fail> {
+    for (units, history, text) in talks {
+        all_right(rt, talk_within(alloc, *units, *history, text)?, text);
+    }
+    Ok(())
+}
+
 #[test]
 fn talks(rt: HostRuntime) -> Result<(), Fail> {
-    for (units, history, text) in LIMITED {
-        let wrong = talk_within(rt.alloc(), *units, *history, text)?;
-        all_right(&rt, wrong, text);
-    }
+    compare_limited(&rt, rt.alloc(), LIMITED)?;
     compare(&rt, rt.alloc(), TALKS)
 }
 
-// A text of the greatest length, and one of a byte more.
-#[test]
-fn long_texts(rt: HostRuntime) -> Result<(), Fail> {
-    let alloc = rt.alloc();
-    let spaces = String::from_utf8(vec![in alloc; b' '; 65_536]?)?;
-    let text = format!(in alloc;
+// A conversation with a text of these spaces, and one of a space more.
+fn with_spaces(alloc: Global, spaces: &str) -> Result<String, AllocError> {
+    format!(in alloc;
         r#"
 > {{"op":"commit","changes":[{{"put":"A","base":0,"text":"{0}"}}]}}
 < {{"commit":1}}
@@ -167,12 +169,35 @@ fn long_texts(rt: HostRuntime) -> Result<(), Fail> {
 < {{"refused":"TextTooLong"}}
 "#,
         spaces
-    )?;
-    all_right(&rt, talk_alone(alloc, text.as_str())?, "long texts");
+    )
+}
+
+// A text of the greatest length, and one of a byte more.
+#[test]
+fn long_texts(rt: HostRuntime) -> Result<(), Fail> {
+    let spaces = " ".repeat(rt.alloc(), 65_536)?;
+    let text = with_spaces(rt.alloc(), spaces.as_str())?;
+    all_right(&rt, talk_alone(rt.alloc(), text.as_str())?, "long texts");
     Ok(())
 }
 
-// A conversation in which 64 jobs are taken and given back, and then one more is asked for.
+// Adds 64 jobs that are taken and given back.
+fn say_jobs(text: &mut String) -> Result<(), AllocError> {
+    for job in 1..65u32 {
+        write!(
+            text,
+            r#"
+> {{"op":"take"}}
+< {{"job":{job},"kind":"faults","unit":"A"}}
+> {{"op":"give_back","kind":"faults","unit":"A"}}
+< {{"returned":true}}
+"#
+        )?;
+    }
+    Ok(())
+}
+
+// A conversation with these jobs, in which then one more is asked for.
 fn jobs(alloc: Global) -> Result<String, AllocError> {
     let mut text = String::from_str(
         alloc,
@@ -181,17 +206,7 @@ fn jobs(alloc: Global) -> Result<String, AllocError> {
 < {"commit":1}
 "#,
     )?;
-    for job in 1..65u32 {
-        text.push_str(format!(in alloc;
-            r#"
-> {{"op":"take"}}
-< {{"job":{job},"kind":"faults","unit":"A"}}
-> {{"op":"give_back","kind":"faults","unit":"A"}}
-< {{"returned":true}}
-"#
-        )?
-        .as_str())?;
-    }
+    say_jobs(&mut text)?;
     text.push_str(
         r#"
 > {"op":"take"}

@@ -2,6 +2,7 @@
 use crate::talk::{
     ALWAYS, GOOD, Run, Streams, new_bench, replies_in, replies_within, requests_in, run_over,
 };
+use fb_wire::bench::Bench;
 use fb_wire::{Feed, FromRead, IntoWrite, RunEnd, Sink, run_script};
 use std::alloc::Global;
 use std::process::Abort;
@@ -33,40 +34,59 @@ fn run_alone(alloc: Global, input: &[u8], streams: Streams) -> Result<Run, Fail>
     Ok(run_over(alloc, &mut bench, 1, input, streams)?)
 }
 
-// A run whose reads of 50 bytes are good so many times answers the lines that have come whole.
+// Compares a run whose reads of 50 bytes are good so many times: it answers the lines that have come whole.
+fn compare_reads(rt: &impl Abort, alloc: Global, requests: &[u8], good: u8) -> Result<(), Fail> {
+    let streams = Streams {
+        read: (50, u64::from(good)),
+        write: (50, ALWAYS),
+        turns: 1_000_000,
+    };
+    let replies = replies_within(alloc, LATE, 50 * usize::from(good))?;
+    let output = replies.as_bytes();
+    compare(rt, alloc, requests, streams, RunEnd::ReadFailed, output)
+}
+
 #[test]
 fn failing_reads(rt: HostRuntime) -> Result<(), Fail> {
-    let alloc = rt.alloc();
-    let requests = requests_in(alloc, LATE)?;
+    let requests = requests_in(rt.alloc(), LATE)?;
     for good in 0..12u8 {
-        let streams = Streams {
-            read: (50, u64::from(good)),
-            write: (50, ALWAYS),
-            turns: 1_000_000,
-        };
-        let replies = replies_within(alloc, LATE, 50 * usize::from(good))?;
-        let (input, output) = (requests.as_bytes(), replies.as_bytes());
-        compare(&rt, alloc, input, streams, RunEnd::ReadFailed, output)?;
+        compare_reads(&rt, rt.alloc(), requests.as_bytes(), good)?;
     }
     Ok(())
 }
 
-// A run whose writes of 10 bytes are good so many times writes a front of the replies.
+// Compares what a run writes of these replies, where its writes of 10 bytes are good so many times.
+fn compare_front(rt: &impl Abort, run: &Run, replies: &[u8], good: u8) {
+    assert_eq!(rt; run.end, RunEnd::WriteFailed);
+    assert!(rt; run.output.len() <= 10 * usize::from(good), "at {good}");
+    assert!(rt; replies.starts_with(&run.output), "at {good}");
+}
+
+fn compare_writes(
+    rt: &impl Abort,
+    alloc: Global,
+    requests: &[u8],
+    replies: &[u8],
+    good: u8,
+) -> Result<(), Fail> {
+    let streams = Streams {
+        read: (10, ALWAYS),
+        write: (10, u64::from(good)),
+        turns: 1_000_000,
+    };
+    let run = run_alone(alloc, requests, streams)?;
+    compare_front(rt, &run, replies, good);
+    Ok(())
+}
+
+// A run whose writes are good so many times writes a front of the replies.
 #[test]
 fn failing_writes(rt: HostRuntime) -> Result<(), Fail> {
-    let alloc = rt.alloc();
-    let requests = requests_in(alloc, LATE)?;
-    let replies = replies_in(alloc, LATE)?;
+    let requests = requests_in(rt.alloc(), LATE)?;
+    let replies = replies_in(rt.alloc(), LATE)?;
     for good in 0..14u8 {
-        let streams = Streams {
-            read: (10, ALWAYS),
-            write: (10, u64::from(good)),
-            turns: 1_000_000,
-        };
-        let run = run_alone(alloc, requests.as_bytes(), streams)?;
-        assert_eq!(rt; run.end, RunEnd::WriteFailed);
-        assert!(rt; run.output.len() <= 10 * usize::from(good), "at {good}");
-        assert!(rt; replies.as_bytes().starts_with(&run.output), "at {good}");
+        let (requests, replies) = (requests.as_bytes(), replies.as_bytes());
+        compare_writes(&rt, rt.alloc(), requests, replies, good)?;
     }
     Ok(())
 }
@@ -79,8 +99,10 @@ const SLOW: Pace = (1, ALWAYS);
 
 const WIDE: Pace = (100, ALWAYS);
 
-// The input, its reads, the writes, and the turns; then the end and what is written.
-const RUNS: &[(&[u8], Pace, Pace, u64, RunEnd, &[u8])] = &[
+/// The input, its reads, the writes, and the turns; then the end and what is written.
+type Row = (&'static [u8], Pace, Pace, u64, RunEnd, &'static [u8]);
+
+const RUNS: &[Row] = &[
     (TAKE, SLOW, (3, ALWAYS), 13, RunEnd::TurnsOver, b""),
     (TAKE, SLOW, (3, ALWAYS), 14, RunEnd::TurnsOver, NO_JOB),
     (TAKE, SLOW, (3, ALWAYS), 15, RunEnd::End, NO_JOB),
@@ -139,7 +161,15 @@ const RUNS: &[(&[u8], Pace, Pace, u64, RunEnd, &[u8])] = &[
     (b" \t\r\n", WIDE, WIDE, 1000, RunEnd::End, b""),
 ];
 
-// Compares how a run on a new workbench ends, what it writes, and whether a read or a write has failed.
+// Compares how a run ended, what it wrote, and whether a read or a write has failed.
+fn compare_run(rt: &impl Abort, run: &Run, end: RunEnd, output: &[u8]) {
+    assert_eq!(rt; run.end, end);
+    assert!(rt; run.output.as_slice() == output);
+    let failed = [run.read_failed, run.write_failed];
+    assert!(rt; failed == [end == RunEnd::ReadFailed, end == RunEnd::WriteFailed]);
+}
+
+// The same of a run on a new workbench.
 fn compare(
     rt: &impl Abort,
     alloc: Global,
@@ -149,24 +179,25 @@ fn compare(
     output: &[u8],
 ) -> Result<(), Fail> {
     let run = run_alone(alloc, input, streams)?;
-    assert_eq!(rt; run.end, end);
-    assert!(rt; run.output.as_slice() == output);
-    let failed = [run.read_failed, run.write_failed];
-    assert!(rt; failed == [end == RunEnd::ReadFailed, end == RunEnd::WriteFailed]);
+    compare_run(rt, &run, end, output);
     Ok(())
 }
 
-#[test]
-fn runs(rt: HostRuntime) -> Result<(), Fail> {
-    for (input, read, write, turns, end, output) in RUNS {
+fn compare_rows(rt: &impl Abort, alloc: Global, rows: &[Row]) -> Result<(), Fail> {
+    for (input, read, write, turns, end, output) in rows {
         let streams = Streams {
             read: *read,
             write: *write,
             turns: *turns,
         };
-        compare(&rt, rt.alloc(), input, streams, *end, output)?;
+        compare(rt, alloc, input, streams, *end, output)?;
     }
     Ok(())
+}
+
+#[test]
+fn runs(rt: HostRuntime) -> Result<(), Fail> {
+    compare_rows(&rt, rt.alloc(), RUNS)
 }
 
 // A line that asks for a job, and one that is a byte too long.
@@ -177,27 +208,37 @@ fn long(alloc: Global, spaces: &[u8]) -> Result<Vec<u8>, Fail> {
     Ok(long)
 }
 
+fn compare_long(rt: &impl Abort, alloc: Global, spaces: &[u8]) -> Result<(), Fail> {
+    let long = long(alloc, spaces)?;
+    compare(rt, alloc, &long, GOOD, RunEnd::LineTooLong, NO_JOB)
+}
+
 // Spaces as long as a line may be are passed over, and a byte more is too long.
 #[test]
 fn long_lines(rt: HostRuntime) -> Result<(), Fail> {
-    let alloc = rt.alloc();
-    let spaces = vec![in alloc; b' '; 1_048_576]?;
-    compare(&rt, alloc, &spaces, GOOD, RunEnd::End, b"")?;
-    let long = long(alloc, &spaces)?;
-    compare(&rt, alloc, &long, GOOD, RunEnd::LineTooLong, NO_JOB)
+    let spaces = vec![in rt.alloc(); b' '; 1_048_576]?;
+    compare(&rt, rt.alloc(), &spaces, GOOD, RunEnd::End, b"")?;
+    compare_long(&rt, rt.alloc(), &spaces)
 }
 
-// Std's readers and writers.
+// How a run over std's readers and writers ends, whether one of them has failed, and what is written.
+fn run_of_std(bench: &mut Bench, alloc: Global, output: &mut Vec<u8>) -> (RunEnd, bool) {
+    let mut feed = FromRead::new(TAKE);
+    let mut sink = IntoWrite::new(output);
+    let end = run_script(alloc, &mut feed, &mut sink, bench, 1, 2);
+    (end, feed.failed() || sink.failed())
+}
+
+fn compare_std(rt: &impl Abort, alloc: Global, bench: &mut Bench) {
+    let mut output = Vec::new(alloc);
+    let found = run_of_std(bench, alloc, &mut output);
+    assert_eq!(rt; found, (RunEnd::End, false));
+    assert!(rt; output.as_slice() == NO_JOB);
+}
+
 #[test]
 fn streams_of_std(rt: HostRuntime) -> Result<(), Fail> {
-    let alloc = rt.alloc();
-    let mut bench = new_bench(alloc, 10, 1000)?;
-    let mut output = Vec::new(alloc);
-    let mut feed = FromRead::new(TAKE);
-    let mut sink = IntoWrite::new(&mut output);
-    let end = run_script(alloc, &mut feed, &mut sink, &mut bench, 1, 2);
-    assert_eq!(rt; end, RunEnd::End);
-    assert!(rt; !feed.failed() && !sink.failed());
-    assert!(rt; output.as_slice() == NO_JOB);
+    let mut bench = new_bench(rt.alloc(), 10, 1000)?;
+    compare_std(&rt, rt.alloc(), &mut bench);
     Ok(())
 }

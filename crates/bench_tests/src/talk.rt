@@ -1,4 +1,7 @@
 //! Conversations with a workbench, and whether its replies are those wanted.
+//!
+//! A conversation is a text in which `> ` comes before a request, `< ` before the reply to it and `// ` before a remark; other lines are
+//! empty. The requests `plant` and `misplaced` stand for commits that several conversations begin with.
 ghost use Rattle.std.specs.Prelude.{◌<◌};
 
 use fb_wire::bench::{Bench, Limits};
@@ -6,6 +9,14 @@ use fb_wire::{Feed, MemoryFeed, MemorySink, RunEnd, Sink, run_script};
 use std::alloc::{AllocError, Global};
 use std::process::Abort;
 use std::test::Fail;
+
+// A type, a subapplication of its instances, and a system that holds the subapplication and maps it to two resources.
+const PLANT: &str =
+    r#"{"op":"commit","changes":[{"put":"TN","base":0,"text":"FUNCTION_BLOCK TN EVENT_INPUT I; END_EVENT EVENT_OUTPUT O; END_EVENT VAR_INPUT DT:TIME; END_VAR END_FUNCTION_BLOCK"},{"put":"SA","base":0,"text":"SUBAPPLICATION SA FBS F:TN; G:TN(DT:=T#250ms); H:TN; END_FBS EVENT_CONNECTIONS F.O TO G.I; G.O TO H.I; END_CONNECTIONS END_SUBAPPLICATION"},{"put":"Y","base":0,"text":"SYSTEM Y APPLICATION APP SUBAPPS SUB:SA; END_SUBAPPS END_APPLICATION DEVICE D:DT RESOURCE R1:RT END_RESOURCE RESOURCE R2:RT END_RESOURCE END_DEVICE MAPPINGS APP.SUB ON D.R1; APP.SUB.F ON D.R2; END_MAPPINGS END_SYSTEM"}]}"#;
+
+// The same system with a mapping of what it does not hold, in the place of one.
+const MISPLACED: &str =
+    r#"{"op":"commit","changes":[{"put":"Y","base":1,"text":"SYSTEM Y APPLICATION APP SUBAPPS SUB:SA; END_SUBAPPS END_APPLICATION DEVICE D:DT RESOURCE R1:RT END_RESOURCE RESOURCE R2:RT END_RESOURCE END_DEVICE MAPPINGS APP.Z ON D.R1; APP.SUB.F ON D.R2; END_MAPPINGS END_SYSTEM"}]}"#;
 
 /// A number that nothing reaches.
 pub(crate) const ALWAYS: u64 = u64::MAX;
@@ -60,14 +71,27 @@ pub(crate) fn run_over(
     })
 }
 
-/// The request lines of a conversation. It is a text in which `> ` comes before a request, `< ` before the reply to
-/// it and `// ` before a remark; other lines are empty.
+/// The request in a line of a conversation.
+fn request_in(line: &str) -> Option<&str> {
+    match line.strip_prefix("> ") {
+        Some("plant") => Some(PLANT),
+        Some("misplaced") => Some(MISPLACED),
+        request => request,
+    }
+}
+
+// Whether a line is no request, and is a reply, a remark or empty.
+fn is_beside(line: &str) -> bool {
+    line.is_empty() || line.starts_with("< ") || line.starts_with("// ")
+}
+
+/// The request lines of a conversation.
 pub(crate) fn requests_in(alloc: Global, text: &str) -> Result<String, Fail> {
     let mut requests = String::new(alloc);
     for line in text.split('\n') {
-        if let Some(request) = line.strip_prefix("> ") {
+        if let Some(request) = request_in(line) {
             writeln!(requests, "{request}")?;
-        } else if !(line.is_empty() || line.starts_with("< ") || line.starts_with("// ")) {
+        } else if !is_beside(line) {
             return Err(Fail::from("a line of no kind"));
         }
     }
@@ -83,7 +107,7 @@ pub(crate) fn replies_within(
     let mut replies = String::new(alloc);
     let mut left = bytes;
     for line in text.split('\n') {
-        if let Some(request) = line.strip_prefix("> ") {
+        if let Some(request) = request_in(line) {
             if left <= request.len() {
                 return Ok(replies);
             }
@@ -109,6 +133,15 @@ fn alike(a: &str, b: &str) -> Option<usize> {
     Some(place.unwrap_or(0))
 }
 
+// What is said to a caller with these requests, in a run that comes to its end.
+fn said(alloc: Global, bench: &mut Bench, caller: u32, requests: &str) -> Result<String, Fail> {
+    let run = run_over(alloc, bench, caller, requests.as_bytes(), GOOD)?;
+    match run.end {
+        RunEnd::End => Ok(String::from_utf8(run.output)?),
+        _ => Err(Fail::from("the run did not come to its end")),
+    }
+}
+
 /// Has a caller say the requests of a conversation. Where the replies are not those that stand there, it gives how many at
 /// the front are.
 pub(crate) fn talk(
@@ -118,11 +151,7 @@ pub(crate) fn talk(
     text: &str,
 ) -> Result<Option<usize>, Fail> {
     let requests = requests_in(alloc, text)?;
-    let run = run_over(alloc, bench, caller, requests.as_bytes(), GOOD)?;
-    if run.end != RunEnd::End {
-        return Err(Fail::from("the run did not come to its end"));
-    }
-    let said = String::from_utf8(run.output)?;
+    let said = said(alloc, bench, caller, requests.as_str())?;
     let wanted = replies_in(alloc, text)?;
     Ok(alike(said.as_str(), wanted.as_str()))
 }

@@ -1,30 +1,38 @@
 //! The receipts of calls, with the lock and without, and calls that are refused.
-use crate::play::{Played, are_played, are_same, counts_in, played_locked, played_shared};
+use crate::play::{
+    Counts, Played, are_played, are_same, closed, counts_in, played_locked, played_shared,
+};
 use crate::setup::{faults_of, new_shared, pair};
-use fb_shared::{Locked, Seat, Shared, SharedRefused};
+use fb_shared::{Locked, Receipt, Seat, Shared, SharedRefused};
 use std::alloc::Global;
 use std::sync::Wait;
 use std::test::Fail;
-
-// how many records there are after the conversation, and how many each caller has
-type Counts = Option<(usize, u64, u64)>;
-
-fn closed_shared(alloc: Global, played: Played<Shared>) -> Counts {
-    let seats = pair(alloc, played.first, played.second)?;
-    counts_in(played.owner.close(alloc, seats, &played.receipts))
-}
-
-fn closed_locked(alloc: Global, played: Played<Locked>) -> Counts {
-    let seats = pair(alloc, played.first, played.second)?;
-    counts_in(played.owner.close(alloc, seats, &played.receipts))
-}
 
 #[test]
 fn receipts_of_a_conversation(rt: HostRuntime) -> Result<(), Fail> {
     let played = played_shared(&rt, rt.alloc(), 1000).ok_or("a conversation")?;
     assert!(rt; are_played(&played.receipts) && played.second.seen() == 6);
-    assert_eq!(rt; closed_shared(rt.alloc(), played), Some((6, 1, 5)));
+    let Played {
+        owner,
+        first,
+        second,
+        receipts,
+    } = played;
+    let counts = closed(rt.alloc(), owner, first, second, &receipts);
+    assert_eq!(rt; counts, Some((6, 1, 5)));
     Ok(())
+}
+
+// closes a workbench with no lock
+fn closed_locked(
+    alloc: Global,
+    owner: Locked,
+    first: Seat,
+    second: Seat,
+    receipts: &[Receipt],
+) -> Option<Counts> {
+    let seats = pair(alloc, first, second)?;
+    counts_in(owner.close(alloc, seats, receipts))
 }
 
 // whether the receipts are those of a conversation with the lock, and the second caller has five
@@ -38,7 +46,14 @@ fn is_as_shared<R: Wait>(rt: &R, alloc: Global, locked: &Played<Locked>) -> Opti
 fn the_lock_changes_no_receipt(rt: HostRuntime) -> Result<(), Fail> {
     let played = played_locked(rt.alloc()).ok_or("a conversation")?;
     assert_eq!(rt; is_as_shared(&rt, rt.alloc(), &played), Some(true));
-    assert_eq!(rt; closed_locked(rt.alloc(), played), Some((6, 1, 5)));
+    let Played {
+        owner,
+        first,
+        second,
+        receipts,
+    } = played;
+    let counts = closed_locked(rt.alloc(), owner, first, second, &receipts);
+    assert_eq!(rt; counts, Some((6, 1, 5)));
     Ok(())
 }
 
@@ -47,27 +62,44 @@ fn refused_ask<R: Wait>(rt: &R, shared: &Shared, seat: &mut Seat) -> Option<Shar
     shared.ask(rt, seat, faults_of("A")?).err()
 }
 
-// why a new workbench refuses a seat of the conversation, and one of its own that was shown what it has not
+// Why calls are refused: with a full history, with a seat of another workbench, and with one that has seen more than there is.
+type Refusals = (
+    Option<SharedRefused>,
+    Option<SharedRefused>,
+    Option<SharedRefused>,
+);
+
+// why the workbench of a conversation refuses its second seat, and a new one both this seat and one of its own
 fn refused_asks<R: Wait>(
+    rt: &R,
+    played: &mut Played<Shared>,
+    fresh: &Shared,
+    stranger: &mut Seat,
+) -> Refusals {
+    let full = refused_ask(rt, &played.owner, &mut played.second);
+    let differs = refused_ask(rt, fresh, &mut played.second);
+    if let Some(receipt) = played.receipts.get(4) {
+        stranger.show(receipt);
+    }
+    (full, differs, refused_ask(rt, fresh, stranger))
+}
+
+fn refused_beside_another<R: Wait>(
     rt: &R,
     alloc: Global,
     played: &mut Played<Shared>,
-) -> Option<(SharedRefused, SharedRefused)> {
+) -> Option<Refusals> {
     let (fresh, mut stranger, _other) = new_shared(alloc, 6)?;
-    let differs = refused_ask(rt, &fresh, &mut played.second)?;
-    stranger.show(played.receipts.get(4)?);
-    Some((differs, refused_ask(rt, &fresh, &mut stranger)?))
+    Some(refused_asks(rt, played, &fresh, &mut stranger))
 }
 
-// A full history, a seat of another workbench, and a seat that has seen more than there is.
 #[test]
 fn calls_that_are_refused(rt: HostRuntime) -> Result<(), Fail> {
     let mut played = played_shared(&rt, rt.alloc(), 6).ok_or("a conversation")?;
-    let full = refused_ask(&rt, &played.owner, &mut played.second);
-    assert_eq!(rt; full, Some(SharedRefused::HistoryFull));
-    let differs = SharedRefused::SeatDiffers { turns: 5, book: 0 };
-    let behind = SharedRefused::Behind { seen: 5, len: 0 };
-    let refused = refused_asks(&rt, rt.alloc(), &mut played);
-    assert_eq!(rt; refused, Some((differs, behind)));
+    let refused = refused_beside_another(&rt, rt.alloc(), &mut played);
+    let full = Some(SharedRefused::HistoryFull);
+    let differs = Some(SharedRefused::SeatDiffers { turns: 5, book: 0 });
+    let behind = Some(SharedRefused::Behind { seen: 5, len: 0 });
+    assert_eq!(rt; refused, Some((full, differs, behind)));
     Ok(())
 }

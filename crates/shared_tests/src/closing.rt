@@ -1,12 +1,12 @@
 //! Seats and receipts with which a workbench does not close.
-use crate::play::{Played, counts_in, played_locked, played_shared};
+use crate::play::{Counts, Played, counts_in, played_locked, played_shared};
 use crate::setup::{faults_of, new_locked, new_shared, pair};
 use fb_shared::{CloseFault, NotClosed, Receipt, Seat, Shared};
 use std::alloc::Global;
 use std::test::Fail;
 
 // what refuses the first two attempts to close, and the counts of the third
-type Attempts = (CloseFault, CloseFault, Option<(usize, u64, u64)>);
+type Attempts = (CloseFault, CloseFault, Option<Counts>);
 
 // closes with the second seat missing, which is refused
 fn with_one_seat(
@@ -39,7 +39,7 @@ fn with_second(
     attempt: NotClosed<Shared>,
     second: Seat,
     receipts: &[Receipt],
-) -> Option<(usize, u64, u64)> {
+) -> Option<Counts> {
     let NotClosed { owner, seats, .. } = attempt;
     let mut seats = seats;
     seats.pop();
@@ -52,7 +52,20 @@ fn strange_seat(alloc: Global) -> Option<Seat> {
     Some(stranger)
 }
 
-fn close_with_seats(alloc: Global, played: Played<Shared>) -> Option<Attempts> {
+// closes with this stranger as the second seat, and then with the second
+fn with_both(
+    alloc: Global,
+    attempt: NotClosed<Shared>,
+    stranger: Seat,
+    second: Seat,
+    receipts: &[Receipt],
+) -> Option<(CloseFault, Option<Counts>)> {
+    let strange = with_stranger(alloc, attempt, stranger, receipts)?;
+    let fault = strange.fault;
+    Some((fault, with_second(alloc, strange, second, receipts)))
+}
+
+fn close_with_seats(alloc: Global, played: Played<Shared>, stranger: Seat) -> Option<Attempts> {
     let Played {
         owner,
         first,
@@ -60,18 +73,17 @@ fn close_with_seats(alloc: Global, played: Played<Shared>) -> Option<Attempts> {
         receipts,
     } = played;
     let missing = with_one_seat(alloc, owner, first, &receipts)?;
-    let is_missing = missing.fault;
-    let strange = with_stranger(alloc, missing, strange_seat(alloc)?, &receipts)?;
-    let is_strange = strange.fault;
-    let counts = with_second(alloc, strange, second, &receipts);
-    Some((is_missing, is_strange, counts))
+    let fault = missing.fault;
+    let (strange, counts) = with_both(alloc, missing, stranger, second, &receipts)?;
+    Some((fault, strange, counts))
 }
 
 #[test]
 fn seats_that_do_not_fit(rt: HostRuntime) -> Result<(), Fail> {
     let alloc: Global = rt.alloc();
+    let stranger = strange_seat(alloc).ok_or("a seat")?;
     let played = played_shared(&rt, alloc, 1000).ok_or("a conversation")?;
-    let attempts = close_with_seats(alloc, played);
+    let attempts = close_with_seats(alloc, played, stranger);
     let faults = (CloseFault::SeatMissing(2), CloseFault::SeatDiffers(2));
     assert_eq!(rt; attempts, Some((faults.0, faults.1, Some((6, 1, 5)))));
     Ok(())
@@ -104,30 +116,61 @@ fn with_receipt(
     attempt
 }
 
-fn close_with_receipts(alloc: Global, played: Played<Shared>) -> Option<Attempts> {
+// closes with this stranger behind the receipts, and then with these alone
+fn with_strange_receipt(
+    alloc: Global,
+    attempt: NotClosed<Shared>,
+    receipts: &mut Vec<Receipt>,
+    stranger: Receipt,
+) -> Option<(CloseFault, Option<Counts>)> {
+    let NotClosed { owner, seats, .. } = attempt;
+    let strange = with_receipt(alloc, owner, seats, receipts, stranger)?;
+    let fault = strange.fault;
+    let counts = counts_in(strange.owner.close(alloc, strange.seats, receipts));
+    Some((fault, counts))
+}
+
+// closes with the first of these receipts again, and then with the other one
+fn with_receipts(
+    alloc: Global,
+    owner: Shared,
+    seats: Vec<Seat>,
+    receipts: &mut Vec<Receipt>,
+    (again, stranger): (Receipt, Receipt),
+) -> Option<Attempts> {
+    let twice = with_receipt(alloc, owner, seats, receipts, again)?;
+    let fault = twice.fault;
+    let (strange, counts) = with_strange_receipt(alloc, twice, receipts, stranger)?;
+    Some((fault, strange, counts))
+}
+
+fn close_with_receipts(
+    alloc: Global,
+    played: Played<Shared>,
+    others: (Receipt, Receipt),
+) -> Option<Attempts> {
     let Played {
         owner,
         first,
         second,
-        receipts,
+        mut receipts,
     } = played;
-    let mut receipts = receipts;
     let seats = pair(alloc, first, second)?;
+    with_receipts(alloc, owner, seats, &mut receipts, others)
+}
+
+// the first receipt of another conversation, and one of another call
+fn strange_receipts(alloc: Global) -> Option<(Receipt, Receipt)> {
     let again = first_of_another(alloc)?;
-    let twice = with_receipt(alloc, owner, seats, &mut receipts, again)?;
-    let is_twice = twice.fault;
-    let strange = strange_receipt(alloc)?;
-    let strange = with_receipt(alloc, twice.owner, twice.seats, &mut receipts, strange)?;
-    let is_strange = strange.fault;
-    let counts = counts_in(strange.owner.close(alloc, strange.seats, &receipts));
-    Some((is_twice, is_strange, counts))
+    Some((again, strange_receipt(alloc)?))
 }
 
 #[test]
 fn receipts_that_do_not_fit(rt: HostRuntime) -> Result<(), Fail> {
     let alloc: Global = rt.alloc();
+    let others = strange_receipts(alloc).ok_or("receipts")?;
     let played = played_shared(&rt, alloc, 1000).ok_or("a conversation")?;
-    let attempts = close_with_receipts(alloc, played);
+    let attempts = close_with_receipts(alloc, played, others);
     let faults = (CloseFault::ReceiptTwice(1), CloseFault::ReceiptDiffers(1));
     assert_eq!(rt; attempts, Some((faults.0, faults.1, Some((6, 1, 5)))));
     Ok(())

@@ -1,6 +1,6 @@
 //! A conversation of two callers, with the lock and without: the first commits A; the second, which is shown that, asks
 //! for its faults, takes the job, runs it, delivers the result, asks again and gives back what is not out.
-use crate::setup::{faults_of, new_locked, new_shared, puts};
+use crate::setup::{faults_of, new_locked, new_shared, pair, puts};
 use fb_shared::bench::jobs::{Job, Value};
 use fb_shared::bench::{Asked, Committed, Delivered, GivenBack, Reply};
 use fb_shared::{Closed, Locked, NotClosed, Receipt, Seat, Shared, SharedRefused};
@@ -263,13 +263,33 @@ pub(crate) fn are_same(receipts: &[Receipt], others: &[Receipt]) -> bool {
     are_same
 }
 
-/// How many records there are, and how many of them the callers 1 and 2 have, who are all.
-pub(crate) fn counts_in<T: Drop>(
-    closed: Result<Closed, NotClosed<T>>,
-) -> Option<(usize, u64, u64)> {
-    let closed = closed.ok()?;
+/// How many records there are, and how many of them the callers 1 and 2 have.
+pub(crate) type Counts = (usize, u64, u64);
+
+// the counts of a closed workbench, where these callers are all
+fn counts_of(closed: &Closed) -> Option<Counts> {
     let first = closed.counts.get(&1).copied()?;
     let second = closed.counts.get(&2).copied()?;
     let is_all = closed.counts.len() == 2;
     is_all.then_some((closed.bench.len(), first, second))
+}
+
+/// The counts of a workbench, if it was closed and these callers are all.
+pub(crate) fn counts_in<T: Drop>(closed: Result<Closed, NotClosed<T>>) -> Option<Counts> {
+    match closed {
+        Ok(closed) => counts_of(&closed),
+        Err(_) => None,
+    }
+}
+
+/// Closes a shared workbench.
+pub(crate) fn closed(
+    alloc: Global,
+    owner: Shared,
+    first: Seat,
+    second: Seat,
+    receipts: &[Receipt],
+) -> Option<Counts> {
+    let seats = pair(alloc, first, second)?;
+    counts_in(owner.close(alloc, seats, receipts))
 }

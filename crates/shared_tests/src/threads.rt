@@ -1,6 +1,6 @@
 //! Two threads that ask, and two that work.
-use crate::play::{counts_in, is_accepted, is_done, is_taken, keep};
-use crate::setup::{faults_of, new_shared, pair, puts};
+use crate::play::{Counts, closed, is_accepted, is_done, is_taken, keep};
+use crate::setup::{faults_of, new_shared, puts};
 use fb_shared::bench::Limits;
 use fb_shared::bench::jobs::{Finished, Job};
 use fb_shared::{Gate, Plain, Receipt, Seat, Shared, WorkEnd, work_on};
@@ -26,12 +26,24 @@ fn ask_often<R: Wait>(
     Some((seat, receipts))
 }
 
-// all receipts in one list
-fn all_of(mut receipts: Vec<Receipt>, others: Vec<Receipt>) -> Option<Vec<Receipt>> {
+// A seat after its calls, with their receipts.
+type Asked = Option<(Seat, Vec<Receipt>)>;
+
+// adds the other receipts to the first
+fn add_all(receipts: &mut Vec<Receipt>, others: Vec<Receipt>) -> Option<()> {
     for receipt in others {
         receipts.push(receipt).ok()?;
     }
-    Some(receipts)
+    Some(())
+}
+
+// closes a workbench after the calls of two callers; gives how many receipts there are too
+fn closed_after(alloc: Global, shared: Shared, a: Asked, b: Asked) -> Option<(usize, Counts)> {
+    let (first, mut receipts) = a?;
+    let (second, others) = b?;
+    add_all(&mut receipts, others)?;
+    let counts = closed(alloc, shared, first, second, &receipts)?;
+    Some((receipts.len(), counts))
 }
 
 #[test]
@@ -43,13 +55,8 @@ fn two_threads_ask(rt: HostRuntime) -> Result<(), Fail> {
         || ask_often(&rt, alloc, &shared, first, 200),
         || ask_often(&rt, alloc, &shared, second, 200),
     );
-    let (first, receipts) = a.ok_or("the first thread")?;
-    let (second, others) = b.ok_or("the second thread")?;
-    let receipts = all_of(receipts, others).ok_or("receipts")?;
-    assert_eq!(rt; receipts.len(), 400);
-    let seats = pair(alloc, first, second).ok_or("seats")?;
-    let closed = shared.close(alloc, seats, &receipts);
-    assert_eq!(rt; counts_in(closed), Some((400, 200, 200)));
+    let closed = closed_after(alloc, shared, a, b);
+    assert_eq!(rt; closed, Some((400, (400, 200, 200))));
     Ok(())
 }
 
@@ -151,9 +158,13 @@ fn two_jobs_run_at_once(rt: HostRuntime) -> Result<(), Fail> {
         },
         || stop_both(&rt, &shared, &gate),
     );
-    assert_eq!(rt; gate.begun.load(Ordering::SeqCst), 2);
-    assert_eq!(rt; gate.late.load(Ordering::SeqCst), 0);
-    assert!(rt; has_worked(&a));
-    assert!(rt; has_worked(&b));
+    assert_eq!(rt;
+        [
+            gate.begun.load(Ordering::SeqCst),
+            gate.late.load(Ordering::SeqCst)
+        ],
+        [2, 0]
+    );
+    assert_eq!(rt; [has_worked(&a), has_worked(&b)], [true, true]);
     Ok(())
 }

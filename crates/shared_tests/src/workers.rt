@@ -33,36 +33,63 @@ fn is_known<R: Wait>(rt: &R, shared: &Shared, seat: &mut Seat) -> Option<bool> {
     Some(is_without_faults(asked.reply()))
 }
 
-// Two jobs in as many turns, and then the stop.
+// How a worker ends, and how many receipts it then has.
+type Ended = (WorkEnd, usize);
+
+// how a worker ends after two jobs in as many turns, whether A is known then, and how it ends after the stop
+fn ends_in_turns<R: Wait>(
+    rt: &R,
+    alloc: Global,
+    shared: &Shared,
+    first: &mut Seat,
+    second: &mut Seat,
+) -> (Ended, Option<bool>, Ended) {
+    let worked = work(rt, alloc, shared, second, 2);
+    let is_known = is_known(rt, shared, first);
+    shared.stop(rt);
+    (worked, is_known, work(rt, alloc, shared, second, 2))
+}
+
 #[test]
 fn jobs_in_turns(rt: HostRuntime) -> Result<(), Fail> {
     let alloc: Global = rt.alloc();
     let committed = committed(&rt, alloc, &["A", "B"]);
     let (shared, mut first, mut second) = committed.ok_or("a workbench")?;
-    let worked = work(&rt, alloc, &shared, &mut second, 2);
+    let (worked, is_known, stopped) = ends_in_turns(&rt, alloc, &shared, &mut first, &mut second);
     assert_eq!(rt; worked, (WorkEnd::TurnsOver, 4));
-    assert_eq!(rt; is_known(&rt, &shared, &mut first), Some(true));
-    shared.stop(&rt);
-    let stopped = work(&rt, alloc, &shared, &mut second, 2);
+    assert_eq!(rt; is_known, Some(true));
     assert_eq!(rt; stopped, (WorkEnd::Stopped, 0));
     Ok(())
 }
 
-// how a worker of a new workbench ends with a seat of the conversation, and with one of its own that was shown what it has not
+// how a worker ends with no turn and with a full history, each with the first seat of a conversation
+fn ends_there<R: Wait>(rt: &R, alloc: Global, played: &mut Played<Shared>) -> (Ended, Ended) {
+    let over = work(rt, alloc, &played.owner, &mut played.first, 0);
+    (over, work(rt, alloc, &played.owner, &mut played.first, 1))
+}
+
+// how a worker of another workbench ends with the second seat, and with one of its own that was shown what it has not
 fn ends_elsewhere<R: Wait>(
     rt: &R,
     alloc: Global,
     played: &mut Played<Shared>,
-) -> Option<(WorkEnd, WorkEnd)> {
+    fresh: &Shared,
+    stranger: &mut Seat,
+) -> (Ended, Ended) {
+    let differs = work(rt, alloc, fresh, &mut played.second, 1);
+    if let Some(receipt) = played.receipts.get(4) {
+        stranger.show(receipt);
+    }
+    (differs, work(rt, alloc, fresh, stranger, 1))
+}
+
+fn ends_beside_another<R: Wait>(
+    rt: &R,
+    alloc: Global,
+    played: &mut Played<Shared>,
+) -> Option<(Ended, Ended)> {
     let (fresh, mut stranger, _other) = new_shared(alloc, 6)?;
-    let (differs, 0) = work(rt, alloc, &fresh, &mut played.second, 1) else {
-        return None;
-    };
-    stranger.show(played.receipts.get(4)?);
-    let (behind, 0) = work(rt, alloc, &fresh, &mut stranger, 1) else {
-        return None;
-    };
-    Some((differs, behind))
+    Some(ends_elsewhere(rt, alloc, played, &fresh, &mut stranger))
 }
 
 // Workers that end before they take.
@@ -70,13 +97,12 @@ fn ends_elsewhere<R: Wait>(
 fn workers_that_take_nothing(rt: HostRuntime) -> Result<(), Fail> {
     let alloc: Global = rt.alloc();
     let mut played = played_shared(&rt, alloc, 6).ok_or("a conversation")?;
-    let over = work(&rt, alloc, &played.owner, &mut played.first, 0);
-    assert_eq!(rt; over, (WorkEnd::TurnsOver, 0));
-    let full = work(&rt, alloc, &played.owner, &mut played.first, 1);
-    assert_eq!(rt; full, (WorkEnd::HistoryFull, 0));
+    let there = ends_there(&rt, alloc, &mut played);
+    let elsewhere = ends_beside_another(&rt, alloc, &mut played);
+    let (over, full) = (WorkEnd::TurnsOver, WorkEnd::HistoryFull);
+    assert_eq!(rt; there, ((over, 0), (full, 0)));
     let differs = WorkEnd::SeatDiffers { turns: 5, book: 0 };
     let behind = WorkEnd::Behind { seen: 5, len: 0 };
-    let ends = ends_elsewhere(&rt, alloc, &mut played);
-    assert_eq!(rt; ends, Some((differs, behind)));
+    assert_eq!(rt; elsewhere, Some(((differs, 0), (behind, 0))));
     Ok(())
 }
