@@ -28,7 +28,7 @@ pub mod faults {
 pub mod flatten {
     pub use fb_mapping::flatten::{
         Hints, Net, NoHints, all_far, far_is_all, far_of_is_local, flat_networks_are_local,
-        has_net, has_net_by_text, is_of_net, net_at_is_local, net_at_is_net, net_is_local, net_of,
+        has_net, has_net_by_text, is_of_net, net, net_at_is_local, net_at_is_net, net_is_local,
         net_of_unit, net_of_unit_with, net_with, one_net,
     };
 }

@@ -8,7 +8,8 @@ ghost use Rattle.fb_flatten.specs.Nets.{has_net_in, net_at};
 
 use crate::hints::Hints;
 use crate::kinds::has_net;
-use crate::net::{Net, net_of, net_with};
+use crate::scratch::net;
+use crate::unit_net::{Net, net_with};
 use fb_text::Name;
 use fb_wiring::library::{View, far};
 use std::alloc::{AllocError, Global};
@@ -32,7 +33,7 @@ pub fn net_of_unit<V: View>(alloc: Global, view: &V, unit: Name) -> Result<Net, 
     requires { has_net_in (tree_at (V.sources view.now) unit) ≡ true }
     ensures { IfOk result (λ net. net_at (V.sources view.now) unit ≡ Some (plain_net net)) }
 {
-    net_of(alloc, view, unit)
+    net(alloc, view, unit)
 }
 
 /// The same, where the nets of some units are kept.

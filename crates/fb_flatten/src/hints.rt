@@ -7,7 +7,7 @@ ghost use Rattle.fb_flatten.specs.Hints.{count_of_hint, flat_of_hint, is_whole_h
 ghost use Rattle.fb_flatten.specs.Net.{PlainNet, plain_net};
 ghost use Rattle.fb_flatten.specs.Tables.{known_flats};
 
-use crate::net::Net;
+use crate::unit_net::Net;
 use fb_compose::Nets;
 use fb_text::Name;
 use fb_wiring::plain::{Flat, INSTANCE_LIMIT};

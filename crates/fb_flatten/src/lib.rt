@@ -7,10 +7,11 @@ mod flats;
 mod hints;
 mod kinds;
 mod laws;
-mod net;
 mod rest;
+mod scratch;
 mod suspects;
 mod tables;
+mod unit_net;
 mod units;
 
 pub use computed::{all_far, is_of_net, net_of_unit, net_of_unit_with};
@@ -20,7 +21,8 @@ pub use laws::{
     far_is_all, far_of_is_local, flat_networks_are_local, has_net_by_text, net_at_is_local,
     net_at_is_net, net_is_local, one_net,
 };
-pub use net::{Net, net_of, net_with};
+pub use scratch::net;
+pub use unit_net::{Net, net_with};
 
 /// Of `fb_compose`, for the crates above.
 pub mod compose {

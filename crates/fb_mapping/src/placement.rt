@@ -6,7 +6,7 @@ use crate::cuts::{cuts_of, home_table};
 use crate::homes::{Home, Homes, Misplaced, homes_of};
 use fb_flatten::library::View;
 use fb_flatten::network::{Flat, Link};
-use fb_flatten::{Net, net_of};
+use fb_flatten::{Net, net};
 use fb_text::Name;
 use std::alloc::{AllocError, Global};
 
@@ -46,8 +46,8 @@ pub fn place<V: View>(alloc: Global, view: &V, system: Name) -> Result<Placed, A
     requires { IsSystem (V.sources view.now) system }
     ensures { IfOk result (λ placed. IsPlaced (V.sources view.now) system (plain_placed placed)) }
 {
-    match net_of(alloc, view, system)? {
+    match net(alloc, view, system)? {
         Net::Flat { flat, .. } => place_flat(alloc, view, &system, &flat),
-        net => Ok(Placed::Stopped(net)),
+        stopped => Ok(Placed::Stopped(stopped)),
     }
 }

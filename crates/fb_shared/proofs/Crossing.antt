@@ -30,7 +30,7 @@ use Rattle.fb_bench.specs.Network.contracts.flat.FlatBlock as FlatBlock
 use Rattle.fb_bench.specs.Network.contracts.flat.Link as Link
 use Rattle.fb_bench.specs.Network.contracts.flat.Border as Border
 use Rattle.fb_bench.specs.Network.contracts.flat.Flat as Flat
-use Rattle.fb_bench.specs.Flatten.contracts.net.Net as Net
+use Rattle.fb_bench.specs.Flatten.contracts.unit_net.Net as Net
 use Rattle.fb_bench.specs.Mapping.contracts.homes.Misplaced as Misplaced
 use Rattle.fb_bench.specs.Deploy.contracts.command.Command as Command
 use Rattle.fb_bench.specs.Deploy.contracts.resources.ResourcePlan as ResourcePlan

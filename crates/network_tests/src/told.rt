@@ -1,5 +1,5 @@
 //! Texts of units in, and what is made of them out, as phrases with `; ` between.
-use fb_deploy::flatten::{Net, has_net, net_of};
+use fb_deploy::flatten::{Net, has_net, net};
 use fb_deploy::library::{Change, Library, tree_by_name};
 use fb_deploy::mapping::{Home, Misplaced, Placed, is_system, place};
 use fb_deploy::parse::Source;
@@ -201,7 +201,7 @@ pub fn unit_net_told(alloc: Global, library: &Library, unit: &str) -> Result<Str
     if !has_net(library, &name) {
         return Ok(String::from_str(alloc, "no net")?);
     }
-    net_told(alloc, &net_of(alloc, library, name)?)
+    net_told(alloc, &net(alloc, library, name)?)
 }
 
 /// What is misplaced.

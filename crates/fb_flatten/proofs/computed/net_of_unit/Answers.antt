@@ -8,4 +8,4 @@ pub returns : goal.returns
 returns g c =
     let sources = g.V.View.sources c.args.view.now in
     let unit = c.args.unit in
-    IfOk-weaker c.net_of.result _ _ (λ net is. (net_at_is sources unit (plain_net net)).1 ((has_by_text sources unit).0 c.requires, is)) c.net_of.ensures
+    IfOk-weaker c.net.result _ _ (λ net is. (net_at_is sources unit (plain_net net)).1 ((has_by_text sources unit).0 c.requires, is)) c.net.ensures

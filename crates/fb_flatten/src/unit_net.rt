@@ -6,7 +6,7 @@ ghost use Rattle.fb_flatten.specs.Tables.{IsUnitOrder};
 ghost use Rattle.fb_flatten.specs.Units.{HasNet};
 
 use crate::blocking::{blocking, has_some};
-use crate::hints::{Hints, NoHints};
+use crate::hints::Hints;
 use crate::rest::Rest;
 use crate::suspects::suspects;
 use crate::tables::networks_of;
@@ -30,16 +30,8 @@ pub enum Net {
     Flat { flat: Flat, instances: u32 },
 }
 
-/// The flat network of a subapplication or a system, or the first reason why it has none: that it rests on units that are absent or have
-/// faults, that it rests on types that reach themselves, that it holds more than 4,096 instances.
-pub fn net_of<V: View>(alloc: Global, view: &V, unit: Name) -> Result<Net, AllocError>
-    requires { HasNet (V.sources view.now) unit }
-    ensures { IfOk result (λ net. IsNet (V.sources view.now) unit (plain_net net)) }
-{
-    net_with(alloc, view, unit, &NoHints)
-}
-
-/// The same, where the nets of some units are kept. Below a unit whose kept net tells that it is flat or too large nothing is looked at.
+/// The flat network of a subapplication or a system, or the first reason why it has none, where the nets of some units are kept. Below a unit
+/// whose kept net tells that it is flat or too large nothing is looked at.
 pub fn net_with<V: View, H: Hints>(
     alloc: Global,
     view: &V,

@@ -8,7 +8,7 @@ use Rattle.fb_flatten.specs.Blocking.{AreThose, IsBlocking, is_blocking, is_some
 use Rattle.fb_flatten.specs.Tables.{IsUnitOrder}
 use Rattle.fb_flatten.proofs.NetLemmas.{blocking_those, none_of_not, recursive_those, some_not_none, some_recursive}
 use Rattle.fb_flatten.proofs.RestLemmas.{recursive_within, unit_order}
-use Rattle.fb_flatten.proofs.net.net_with.Goals as goal
+use Rattle.fb_flatten.proofs.unit_net.net_with.Goals as goal
 
 pub returns-then-has_some : goal.returns-then-has_some
 returns-then-has_some g c =
