@@ -10,6 +10,8 @@ use Rattle.fb_bench.specs.Machine.{ToCommit, ToTake, ToDeliver, ToGiveBack, ToAs
 use Rattle.fb_bench.specs.Story.{Record}
 use Rattle.fb_bench.specs.declared.answers.Asked.{Asked}
 use Rattle.fb_bench.specs.declared.answers.Asked.TheVariants.{Value, Pending, NoSuchKey}
+use Rattle.fb_bench.specs.declared.answers.Delivered.{Delivered}
+use Rattle.fb_bench.specs.declared.answers.Delivered.TheVariants.{Accepted}
 use Rattle.fb_bench.specs.declared.answers.Taken.{Taken}
 use Rattle.fb_bench.specs.declared.answers.Taken.TheVariants.{Job, Nothing}
 use Rattle.fb_bench.specs.declared.record.Wanted.{Wanted}
@@ -19,15 +21,16 @@ use Rattle.fb_bench.specs.declared.record.Call.{Call}
 use Rattle.fb_bench.specs.declared.record.Call.TheVariants.{Commit, Take, Deliver, GiveBack, Ask}
 use Rattle.fb_bench.specs.declared.record.Reply.{Reply}
 use Rattle.fb_bench.specs.declared.record.Reply.TheVariants.{Committing, Taking, Delivering, GivingBack, Asking}
+use Rattle.std.specs.declared.boxed.Box.{Box}
 use Rattle.std.specs.declared.sync.Arc.{Arc}
 use Rattle.std.specs.declared.alloc.Global.{Global}
 
 abbrev pub order_of : Wanted → Order
 order_of it = record { key = it.key; reads = texts_seen it.reads.value.items }
 
-abbrev pub order_in : Option Wanted → Option Order
+abbrev pub order_in : Option (Box Wanted Global) → Option Order
 order_in None = None
-order_in (Some it) = Some (order_of it)
+order_in (Some it) = Some (order_of it.value)
 
 abbrev pub text_edit : TextChange → Edit
 text_edit (Put unit base text) = Puts unit base (string_bytes text.value)
@@ -39,7 +42,7 @@ text_edits changes = map text_edit changes
 abbrev pub call_of : Call → machine.Call
 call_of (Commit changes) = ToCommit (text_edits changes.items)
 call_of Take = ToTake
-call_of (Deliver it) = ToDeliver (order_of it)
+call_of (Deliver it) = ToDeliver (order_of it.value)
 call_of (GiveBack key) = ToGiveBack key
 call_of (Ask key) = ToAsk key
 
@@ -48,10 +51,15 @@ shown_in (Value value) = Finds (finding_of value.value)
 shown_in Pending = Waits
 shown_in NoSuchKey = Unknown
 
+-- a record keeps the answer to a delivery that is refused, and none where the result is taken in
+abbrev pub delivered_in : Option (Box Delivered Global) → Delivered
+delivered_in None = Accepted
+delivered_in (Some it) = it.value
+
 abbrev pub reply_of : Reply → machine.Reply
-reply_of (Committing answer) = OfCommit answer
+reply_of (Committing answer) = OfCommit answer.value
 reply_of (Taking order) = OfTake (order_in order)
-reply_of (Delivering answer) = OfDeliver answer
+reply_of (Delivering answer) = OfDeliver (delivered_in answer)
 reply_of (GivingBack answer) = OfGiveBack answer
 reply_of (Asking answer) = OfAsk (shown_in answer)
 

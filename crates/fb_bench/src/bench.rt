@@ -10,7 +10,7 @@ use crate::entry::{join, keep, leave, mark_out};
 use crate::limits::Limits;
 use crate::log::History;
 use crate::peek::Shown;
-use crate::record::{Call, Record, Reply, Request, TextChange, Wanted};
+use crate::record::{Call, Record, Reply, Request, TextChange};
 use fb_index::Index;
 use fb_jobs::library::{Change, Library};
 use fb_jobs::{Finished, Job, Key, Read, current_reads, locality};
@@ -255,11 +255,8 @@ impl Bench {
     {
         let wanted = key;
         let job = Job::make(self.alloc, &self.library, wanted, &self.entries)?;
-        let wanted = Wanted {
-            key: job.key(),
-            reads: job.texts().clone()?,
-        };
-        Ok((job, Reply::Taking(Some(wanted))))
+        let answer = Reply::of_job(self.alloc, &job)?;
+        Ok((job, answer))
     }
 
     // records that the key that is next is handed out
@@ -318,12 +315,12 @@ impl Bench {
         )?;
         match outcome {
             Outcome::Refused(refused) => {
-                let stored = Reply::Committing(refused);
+                let stored = Reply::of_commit(self.alloc, refused)?;
                 let share = self.history.push(caller, call, stored)?;
                 Ok((refused, share))
             }
             Outcome::Done { library, found } => {
-                let stored = Reply::Committing(Committed::Done(number));
+                let stored = Reply::of_commit(self.alloc, Committed::Done(number))?;
                 let share = record_with_room(
                     &mut self.entries,
                     &mut self.history,
@@ -368,10 +365,7 @@ impl Bench {
             return Err(Refused::HistoryFull);
         }
         let answer = self.judged(finished.key(), finished.reads());
-        let call = Call::Deliver(Wanted {
-            key: finished.key(),
-            reads: finished.texts().clone()?,
-        });
+        let call = Call::of_result(self.alloc, finished)?;
         match answer {
             Delivered::Accepted => {
                 current_reads();
@@ -380,7 +374,8 @@ impl Bench {
             }
             refused => {
                 let stored = refused;
-                let share = self.history.push(caller, call, Reply::Delivering(stored))?;
+                let reply = Reply::of_delivery(self.alloc, stored)?;
+                let share = self.history.push(caller, call, reply)?;
                 Ok((refused, share))
             }
         }
@@ -402,7 +397,7 @@ impl Bench {
         ensures err { OnErr result (self.new ≡ self.old) }
     {
         let value = finished.value().clone()?;
-        let answer = Reply::Delivering(Delivered::Accepted);
+        let answer = Reply::Delivering(None);
         let share = self.history.push(caller, call, answer)?;
         let key = finished.key();
         keep(&mut self.entries.by_key, &key, value);

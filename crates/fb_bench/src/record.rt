@@ -1,12 +1,13 @@
 //! The records of a history. They keep texts, and no trees.
-ghost use Rattle.std.specs.Prelude.{◌≡◌, IfOk};
+ghost use Rattle.std.specs.Prelude.{◌≡◌, IfOk, Some};
 ghost use Rattle.fb_jobs.specs.Library.Changes.{edit_of, edits_of};
-ghost use Rattle.fb_bench.specs.Records.{text_edit, text_edits};
+ghost use Rattle.fb_bench.specs.Machine.{ToDeliver, OfCommit, OfTake, OfDeliver};
+ghost use Rattle.fb_bench.specs.Records.{text_edit, text_edits, call_of, reply_of};
 
 use crate::answers::{Asked, Committed, Delivered, GivenBack};
 use crate::same::{is_same_call, is_same_reply};
 use fb_jobs::library::Change;
-use fb_jobs::{Finished, Key, TextRead};
+use fb_jobs::{Finished, Job, Key, TextRead};
 use fb_text::Name;
 use std::alloc::{AllocError, Global};
 use std::marker::Model;
@@ -68,24 +69,68 @@ impl TextChange {
     }
 }
 
-/// A recorded call.
+/// A recorded call. It has room for a key, since most calls ask; what is larger stands in a box.
 #[derive(Drop)]
 pub enum Call {
     Commit(Vec<TextChange>),
     Take,
-    Deliver(Wanted),
+    Deliver(Box<Wanted>),
     GiveBack(Key),
     Ask(Key),
 }
 
-/// The answer to a recorded call.
+impl Call {
+    /// The delivery of a result, sharing its texts.
+    pub(crate) fn of_result(alloc: Global, finished: &Finished) -> Result<Call, AllocError>
+        ensures { IfOk result (λ it. call_of it ≡ ToDeliver finished.now) }
+    {
+        let wanted = Wanted {
+            key: finished.key(),
+            reads: finished.texts().clone()?,
+        };
+        Ok(Call::Deliver(Box::new(alloc, wanted)?))
+    }
+}
+
+/// The answer to a recorded call. What is large stands in a box.
 #[derive(Drop)]
 pub enum Reply {
-    Committing(Committed),
-    Taking(Option<Wanted>),
-    Delivering(Delivered),
+    Committing(Box<Committed>),
+    Taking(Option<Box<Wanted>>),
+    /// None where the result was taken in.
+    Delivering(Option<Box<Delivered>>),
     GivingBack(GivenBack),
     Asking(Asked),
+}
+
+impl Reply {
+    /// What a commit comes to.
+    pub(crate) fn of_commit(alloc: Global, answer: Committed) -> Result<Reply, AllocError>
+        ensures { IfOk result (λ it. reply_of it ≡ OfCommit answer) }
+    {
+        Ok(Reply::Committing(Box::new(alloc, answer)?))
+    }
+
+    /// The job that is handed out, sharing its texts.
+    pub(crate) fn of_job(alloc: Global, job: &Job) -> Result<Reply, AllocError>
+        ensures { IfOk result (λ it. reply_of it ≡ OfTake (Some job.now)) }
+    {
+        let wanted = Wanted {
+            key: job.key(),
+            reads: job.texts().clone()?,
+        };
+        Ok(Reply::Taking(Some(Box::new(alloc, wanted)?)))
+    }
+
+    /// Whether a result was taken in.
+    pub(crate) fn of_delivery(alloc: Global, answer: Delivered) -> Result<Reply, AllocError>
+        ensures { IfOk result (λ it. reply_of it ≡ OfDeliver answer) }
+    {
+        match answer {
+            Delivered::Accepted => Ok(Reply::Delivering(None)),
+            refused => Ok(Reply::Delivering(Some(Box::new(alloc, refused)?))),
+        }
+    }
 }
 
 /// One call of the history. `turn` counts its caller's recorded calls up to this one.

@@ -3,7 +3,7 @@ ghost use Rattle.std.specs.Prelude.{◌≡◌, ◌↔◌, IsTrue, string_bytes};
 ghost use Rattle.fb_jobs.specs.Values.{text_found, text_seen, texts_seen, finding_of};
 ghost use Rattle.fb_jobs.specs.Flatten.Net.{plain_net};
 ghost use Rattle.fb_jobs.specs.Deploy.Deploy.{plain_deploy};
-ghost use Rattle.fb_bench.specs.Records.{order_of, order_in, text_edit, text_edits, call_of, shown_in, reply_of};
+ghost use Rattle.fb_bench.specs.Records.{order_of, order_in, text_edit, text_edits, call_of, shown_in, delivered_in, reply_of};
 
 use crate::answers::{Asked, Committed, Delivered, GivenBack};
 use crate::record::{Call, Reply, TextChange, Wanted};
@@ -37,7 +37,10 @@ pub(crate) fn is_same_reply(a: &Reply, b: &Reply) -> bool
         (Reply::Committing(a), Reply::Committing(b)) => is_same_end(a, b),
         (Reply::Taking(None), Reply::Taking(None)) => true,
         (Reply::Taking(Some(a)), Reply::Taking(Some(b))) => is_same_wanted(a, b),
-        (Reply::Delivering(a), Reply::Delivering(b)) => is_same_delivery(a, b),
+        (Reply::Delivering(a), Reply::Delivering(b)) => is_same_delivery(
+            &delivered(a),
+            &delivered(b),
+        ),
         (Reply::GivingBack(a), Reply::GivingBack(b)) => is_same_return(a, b),
         (Reply::Asking(a), Reply::Asking(b)) => is_same_asked(a, b),
         _ => false,
@@ -301,6 +304,16 @@ fn is_same_end(a: &Committed, b: &Committed) -> bool
         (Committed::NoSuchUnit(a), Committed::NoSuchUnit(b)) => is_one_name(a, b),
         (Committed::TooManyUnits, Committed::TooManyUnits) => true,
         _ => false,
+    }
+}
+
+// the answer that a record keeps
+fn delivered(answer: &Option<Box<Delivered>>) -> Delivered
+    ensures { result ≡ delivered_in answer.now }
+{
+    match answer {
+        None => Delivered::Accepted,
+        Some(refused) => **refused,
     }
 }
 

@@ -28,7 +28,7 @@ invariant_of-self-in-Refused c =
     let copied : made ≡ edits = c.in_ok-of_changes.ensures in
     let refused = rw c.in-Refused.is at c.in_ok-outcome.ensures in
     let answer : c.in-Refused.refused ≡ commit_answer s edits = refused.0 ∙ answer_kept story c.self.inside.library c.self.inside.commits edits c.self.invariant.agrees.units_are c.self.invariant.agrees.commits_are in
-    kept_pushed _ _ _ _ _ _ _ story _ c.args.caller (ToCommit made) _ c.self.invariant.begins c.in_ok-share-in-Refused.ensures.ok (commits_is s made edits c.in-Refused.refused copied answer)
+    kept_pushed _ _ _ _ _ _ _ story _ c.args.caller (ToCommit made) _ c.self.invariant.begins c.in_ok-share-in-Refused.ensures.ok (c.in_ok-stored-in-Refused.ensures ∙ commits_is s made edits c.in-Refused.refused copied answer)
     (subst (λ t. Agrees c.self.inside.library c.self.inside.commits c.self.inside.entries.by_key c.self.inside.entries.ready c.self.inside.entries.waiting t) (sym (committed_is s made edits c.in-Refused.refused copied answer ∙ refused.1 s)) c.self.invariant.agrees)
     c.self.invariant.replayed c.self.invariant.keys_are c.self.invariant.indexed (omega (arith, c.self.invariant.few))
 
@@ -43,9 +43,9 @@ returns-in_ok-share-in-Refused c =
     let refused = rw c.in-Refused.is at c.in_ok-outcome.ensures in
     let answer : c.in-Refused.refused ≡ commit_answer s edits = refused.0 ∙ answer_kept story c.self.inside.library c.self.inside.commits edits c.self.invariant.agrees.units_are c.self.invariant.agrees.commits_are in
     record {
-      step = story_pushed story _ _ c.args.caller (ToCommit made) _ c.self.view_is c.in_ok-share-in-Refused.ensures.ok (commits_is s made edits c.in-Refused.refused copied answer) ∙ ap (λ es. recorded c.args.self.now c.args.caller (ToCommit es)) (copied ∙ front);
+      step = story_pushed story _ _ c.args.caller (ToCommit made) _ c.self.view_is c.in_ok-share-in-Refused.ensures.ok (c.in_ok-stored-in-Refused.ensures ∙ commits_is s made edits c.in-Refused.refused copied answer) ∙ ap (λ es. recorded c.args.self.now c.args.caller (ToCommit es)) (copied ∙ front);
       answer = commits_is s (listed c.args.changes.now) edits c.in-Refused.refused (sym front) answer ∙ ap (λ st. reply (state_of st) (ToCommit (listed c.args.changes.now))) c.self.view_is;
-      share = share_pushed story _ _ c.args.caller (ToCommit made) _ c.self.view_is c.in_ok-share-in-Refused.ensures.share (commits_is s made edits c.in-Refused.refused copied answer) ∙ ap (λ es. record_of c.args.self.now c.args.caller (ToCommit es)) (copied ∙ front);
+      share = share_pushed story _ _ c.args.caller (ToCommit made) _ c.self.view_is c.in_ok-share-in-Refused.ensures.share (c.in_ok-stored-in-Refused.ensures ∙ commits_is s made edits c.in-Refused.refused copied answer) ∙ ap (λ es. record_of c.args.self.now c.args.caller (ToCommit es)) (copied ∙ front);
       full = search rules;
       err = tt;
     }
@@ -82,7 +82,7 @@ invariant_of-self-in-Done c =
     let old = c.self.inside.entries in
     let room = c.record_with_room.new.entries in
     let new = c.carry_out.new.self in
-    kept_pushed _ _ _ _ _ _ _ story _ c.args.caller (ToCommit made) _ c.self.invariant.begins c.in_ok-share-in-Done.ensures.logged (commits_is s made edits (Done number) copied answer)
+    kept_pushed _ _ _ _ _ _ _ story _ c.args.caller (ToCommit made) _ c.self.invariant.begins c.in_ok-share-in-Done.ensures.logged (c.in_ok-stored-in-Done.ensures ∙ commits_is s made edits (Done number) copied answer)
     (subst (λ t. Agrees c.in-Done.library number new.by_key new.ready new.waiting t) (sym (committed_is s made edits (Done number) copied answer))
     (agrees_renewed c.locality.ensures.value c.self.inside.commits edits c.self.inside.library c.in-Done.library old.by_key room.by_key new.by_key old.ready room.ready new.ready old.waiting room.waiting new.waiting s it done.1 agrees done.3 c.in_ok-share-in-Done.ensures.room c.carry_out.ensures.entries c.carry_out.ensures.ready c.carry_out.ensures.waiting))
     c.self.invariant.replayed
@@ -102,9 +102,9 @@ returns-in_ok-share-in-Done c =
     let done = rw c.in-Done.is at c.in_ok-outcome.ensures in
     let answer : Done number ≡ commit_answer s edits = done.0 ∙ answer_kept story c.self.inside.library c.self.inside.commits edits c.self.invariant.agrees.units_are c.self.invariant.agrees.commits_are in
     record {
-      step = story_pushed story _ _ c.args.caller (ToCommit made) _ c.self.view_is c.in_ok-share-in-Done.ensures.logged (commits_is s made edits (Done number) copied answer) ∙ ap (λ es. recorded c.args.self.now c.args.caller (ToCommit es)) (copied ∙ front);
+      step = story_pushed story _ _ c.args.caller (ToCommit made) _ c.self.view_is c.in_ok-share-in-Done.ensures.logged (c.in_ok-stored-in-Done.ensures ∙ commits_is s made edits (Done number) copied answer) ∙ ap (λ es. recorded c.args.self.now c.args.caller (ToCommit es)) (copied ∙ front);
       answer = commits_is s (listed c.args.changes.now) edits (Done number) (sym front) answer ∙ ap (λ st. reply (state_of st) (ToCommit (listed c.args.changes.now))) c.self.view_is;
-      share = share_pushed story _ _ c.args.caller (ToCommit made) _ c.self.view_is c.in_ok-share-in-Done.ensures.share (commits_is s made edits (Done number) copied answer) ∙ ap (λ es. record_of c.args.self.now c.args.caller (ToCommit es)) (copied ∙ front);
+      share = share_pushed story _ _ c.args.caller (ToCommit made) _ c.self.view_is c.in_ok-share-in-Done.ensures.share (c.in_ok-stored-in-Done.ensures ∙ commits_is s made edits (Done number) copied answer) ∙ ap (λ es. record_of c.args.self.now c.args.caller (ToCommit es)) (copied ∙ front);
       full = search rules;
       err = tt;
     }

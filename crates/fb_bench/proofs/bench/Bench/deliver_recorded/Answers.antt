@@ -1,10 +1,10 @@
 -- A result that is accepted was read from texts that are still there. One that is not is recorded, and nothing else changes.
 use Rattle.std.proofs.Common.{◌≡◌, sym, ap, subst, refl, ◌∙◌, arith, rules}
 use Rattle.fb_jobs.specs.Reads.{Order}
-use Rattle.fb_jobs.specs.Values.{all_seen, texts_seen}
+use Rattle.fb_jobs.specs.Values.{all_seen}
 use Rattle.fb_bench.specs.declared.answers.Delivered.TheVariants.{Accepted}
 use Rattle.fb_bench.specs.Machine.{State, ToDeliver, deliver_answer}
-use Rattle.fb_bench.specs.Story.{Story, state_of, recorded, record_of, start}
+use Rattle.fb_bench.specs.Story.{Story, state_of, start, logged, record_after}
 use Rattle.fb_bench.specs.Kept.{Agrees}
 use Rattle.fb_bench.proofs.Marks.{accepted_fresh, deliver_stays}
 use Rattle.fb_bench.proofs.Steps.{kept_pushed, story_pushed, share_pushed, delivers_is, delivered_is}
@@ -17,7 +17,7 @@ take_in-requires c =
     let accepted : Accepted ≡ deliver_answer (state_of c.args.self.now) now = c.in-Accepted.ensures ∙ ap (λ o. deliver_answer (state_of c.args.self.now) o) judged in
     record {
       room = search rules;
-      call = λ i. ToDeliver (record { key = c.key-2.ensures i; reads = (ap (λ it. texts_seen it.items) c.in_ok-clone.ensures.cases ∙ c.texts.ensures) i });
+      call = c.in_ok-call.ensures;
       accepted = accepted;
       value = c.current_reads.ensures (state_of c.args.self.now).units now c.reads.ensures.right (accepted_fresh (state_of c.args.self.now) now accepted);
     }
@@ -33,12 +33,12 @@ invariant_of-self-in_default c =
     let story : Story = record { origin = start c.self.inside.most_units; log = c.self.inside.history } in
     let s : State = state_of story in
     let now : Order = c.args.finished.now in
-    let order : Order = record { key = c.key-2.result; reads = texts_seen c.in_ok-clone.field-0.value.items } in
-    let same : order ≡ now = λ i. record { key = c.key-2.ensures i; reads = (ap (λ it. texts_seen it.items) c.in_ok-clone.ensures.cases ∙ c.texts.ensures) i } in
     let judged : ◌≡◌ {A = Order} (record { key = c.key.result; reads = all_seen c.reads.result.now }) now = λ i. record { key = c.key.ensures i; reads = c.reads.ensures.same i } in
     let answer : c.judged-answer.result ≡ deliver_answer s now = c.judged-answer.ensures ∙ (λ i. deliver_answer (state_of (sym c.self.view_is i)) (judged i)) in
-    kept_pushed _ _ _ _ _ _ _ story _ c.args.caller (ToDeliver order) _ c.self.invariant.begins c.in_ok-share-in_default.ensures.ok (delivers_is s order now c.judged-answer.result same answer)
-    (subst (λ t. Agrees c.self.inside.library c.self.inside.commits c.self.inside.entries.by_key c.self.inside.entries.ready c.self.inside.entries.waiting t) (sym (delivered_is s order now now.key c.judged-answer.result same refl answer ∙ deliver_stays c.judged-answer.result now.key s c.in_default.not-Accepted)) c.self.invariant.agrees)
+    kept_pushed _ _ _ _ _ _ _ story _ c.args.caller (ToDeliver now) _ c.self.invariant.begins
+    (c.in_ok-share-in_default.ensures.ok ∙ (λ i. logged c.self.inside.history c.args.caller (c.in_ok-call.ensures i) (c.in_ok-reply-in_default.ensures i)))
+    (delivers_is s now now c.judged-answer.result refl answer)
+    (subst (λ t. Agrees c.self.inside.library c.self.inside.commits c.self.inside.entries.by_key c.self.inside.entries.ready c.self.inside.entries.waiting t) (sym (delivered_is s now now now.key c.judged-answer.result refl refl answer ∙ deliver_stays c.judged-answer.result now.key s c.in_default.not-Accepted)) c.self.invariant.agrees)
     c.self.invariant.replayed c.self.invariant.keys_are c.self.invariant.indexed (omega (arith, c.self.invariant.few))
 
 pub returns-in_ok-share-in_default : goal.returns-in_ok-share-in_default
@@ -46,13 +46,15 @@ returns-in_ok-share-in_default c =
     let story : Story = record { origin = start c.self.inside.most_units; log = c.self.inside.history } in
     let s : State = state_of story in
     let now : Order = c.args.finished.now in
-    let order : Order = record { key = c.key-2.result; reads = texts_seen c.in_ok-clone.field-0.value.items } in
-    let same : order ≡ now = λ i. record { key = c.key-2.ensures i; reads = (ap (λ it. texts_seen it.items) c.in_ok-clone.ensures.cases ∙ c.texts.ensures) i } in
     let judged : ◌≡◌ {A = Order} (record { key = c.key.result; reads = all_seen c.reads.result.now }) now = λ i. record { key = c.key.ensures i; reads = c.reads.ensures.same i } in
     let answer : c.judged-answer.result ≡ deliver_answer s now = c.judged-answer.ensures ∙ (λ i. deliver_answer (state_of (sym c.self.view_is i)) (judged i)) in
     record {
-      step = story_pushed story _ _ c.args.caller (ToDeliver order) _ c.self.view_is c.in_ok-share-in_default.ensures.ok (delivers_is s order now c.judged-answer.result same answer) ∙ ap (λ o. recorded c.args.self.now c.args.caller (ToDeliver o)) same;
-      share = share_pushed story _ _ c.args.caller (ToDeliver order) _ c.self.view_is c.in_ok-share-in_default.ensures.share (delivers_is s order now c.judged-answer.result same answer) ∙ ap (λ o. record_of c.args.self.now c.args.caller (ToDeliver o)) same;
+      step = story_pushed story _ _ c.args.caller (ToDeliver now) _ c.self.view_is
+          (c.in_ok-share-in_default.ensures.ok ∙ (λ i. logged c.self.inside.history c.args.caller (c.in_ok-call.ensures i) (c.in_ok-reply-in_default.ensures i)))
+          (delivers_is s now now c.judged-answer.result refl answer);
+      share = share_pushed story _ _ c.args.caller (ToDeliver now) _ c.self.view_is
+          (c.in_ok-share-in_default.ensures.share ∙ (λ i. record_after c.self.inside.history c.args.caller (c.in_ok-call.ensures i) (c.in_ok-reply-in_default.ensures i)))
+          (delivers_is s now now c.judged-answer.result refl answer);
       answer = delivers_is (state_of c.args.self.now) now now c.judged-answer.result refl (c.judged-answer.ensures ∙ ap (λ o. deliver_answer (state_of c.args.self.now) o) judged);
       full = search rules;
       err = search rules;

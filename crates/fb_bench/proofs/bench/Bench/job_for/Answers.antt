@@ -1,7 +1,6 @@
 -- A key that is next is one of the library, whose kept values are those of its texts; the job is the machine's order.
 use Rattle.std.proofs.Common.{◌≡◌, true, sym, ap, subst, refl, ◌∙◌, Some}
 use Rattle.fb_jobs.specs.Keys.{has_key}
-use Rattle.fb_jobs.specs.Values.{texts_seen}
 use Rattle.fb_bench.specs.Machine.{State, ToTake, reply, next}
 use Rattle.fb_bench.specs.Story.{Story, state_of, start}
 use Rattle.fb_bench.proofs.Least.{next_passes}
@@ -36,5 +35,6 @@ returns-clause-answer c =
     let s : State = state_of story in
     let key = c.args.key in
     let some : Some key ≡ next s = c.requires ∙ ap (λ st. next (state_of st)) (sym c.self.view_is) in
-    take_some s c.self.inside.library key c.in_ok-job.job c.key.result (texts_seen c.in_ok-clone.field-0.value.items) c.self.invariant.agrees.units_are c.in_ok-job.ensures c.key.ensures (ap (λ it. texts_seen it.items) c.in_ok-clone.ensures.cases ∙ c.texts.ensures) some
+    c.in_ok-answer.ensures
+    ∙ take_some s c.self.inside.library key c.in_ok-job.job _ _ c.self.invariant.agrees.units_are c.in_ok-job.ensures refl refl some
     ∙ ap (λ st. reply (state_of st) ToTake) c.self.view_is
