@@ -355,10 +355,10 @@ pub value_sync : IsSync Value.the_row
 value_sync = search (value_field_sync, crosses, maps.crosses, sendable) depth 60 fits 20000
 
 pub call_field_send : IsSend (Call.the_field).row
-call_field_send = search (wanted_field_send, crosses, maps.crosses, sendable) depth 60 fits 20000
+call_field_send = search (wanted_send, crosses, maps.crosses, sendable) depth 60 fits 20000
 
 pub call_field_sync : IsSync (Call.the_field).row
-call_field_sync = search (wanted_field_sync, crosses, maps.crosses, sendable) depth 60 fits 20000
+call_field_sync = search (wanted_sync, crosses, maps.crosses, sendable) depth 60 fits 20000
 
 pub asked_field_send : IsSend (Asked.the_field).row
 asked_field_send = search (value_send, value_sync, crosses, maps.crosses, sendable) depth 60 fits 20000

@@ -75,7 +75,7 @@ fn committed_in(receipt: &Receipt) -> Committed
     ensures { OfCommit result ≡ receipt.now.entry.reply }
 {
     match receipt.reply() {
-        Reply::Committing(answer) => *answer,
+        Reply::Committing(answer) => **answer,
         Reply::Taking(_) | Reply::Delivering(_) | Reply::GivingBack(_) | Reply::Asking(_) =>
             unreachable!(),
     }
@@ -87,7 +87,8 @@ fn delivered_in(receipt: &Receipt) -> Delivered
     ensures { OfDeliver result ≡ receipt.now.entry.reply }
 {
     match receipt.reply() {
-        Reply::Delivering(answer) => *answer,
+        Reply::Delivering(None) => Delivered::Accepted,
+        Reply::Delivering(Some(refused)) => **refused,
         Reply::Committing(_) | Reply::Taking(_) | Reply::GivingBack(_) | Reply::Asking(_) =>
             unreachable!(),
     }

@@ -187,7 +187,10 @@ pub(crate) fn played_locked(alloc: Global) -> Option<Played<Locked>> {
 
 /// Whether it is the first commit.
 pub(crate) fn is_done(reply: &Reply) -> bool {
-    matches!(reply, Reply::Committing(Committed::Done(1)))
+    match reply {
+        Reply::Committing(answer) => **answer == Committed::Done(1),
+        _ => false,
+    }
 }
 
 /// Whether a job was taken.
@@ -197,7 +200,7 @@ pub(crate) fn is_taken(reply: &Reply) -> bool {
 
 /// Whether a result was taken in.
 pub(crate) fn is_accepted(reply: &Reply) -> bool {
-    matches!(reply, Reply::Delivering(Delivered::Accepted))
+    matches!(reply, Reply::Delivering(None))
 }
 
 fn has_no_faults(value: &Value) -> bool {
