@@ -4,6 +4,8 @@
 #[cfg(test)]
 mod composing;
 #[cfg(test)]
+mod kept;
+#[cfg(test)]
 mod nets;
 #[cfg(test)]
 mod order;

@@ -10,18 +10,18 @@ use std::alloc::Global;
 use std::process::Abort;
 use std::test::Fail;
 
-const B: &str =
+pub const B: &str =
     "FUNCTION_BLOCK B EVENT_INPUT I; END_EVENT EVENT_OUTPUT O; END_EVENT END_FUNCTION_BLOCK";
 
 // A border with two inner targets.
-const TWO_TARGETS: &[&str] = &[
+pub const TWO_TARGETS: &[&str] = &[
     B,
     "SUBAPPLICATION S EVENT_INPUT I; END_EVENT FBS F:B; G:B; END_FBS EVENT_CONNECTIONS I TO G.I; I TO F.I; F.O TO G.I; END_CONNECTIONS END_SUBAPPLICATION",
     "SUBAPPLICATION T FBS K:B; END_FBS SUBAPPS X:S; END_SUBAPPS EVENT_CONNECTIONS K.O TO X.I; END_CONNECTIONS END_SUBAPPLICATION",
 ];
 
 // An adapter through a subapplication.
-const ADAPTERS: &[&str] = &[
+pub const ADAPTERS: &[&str] = &[
     "ADAPTER A EVENT_INPUT R; END_EVENT EVENT_OUTPUT Q; END_EVENT END_ADAPTER",
     "FUNCTION_BLOCK P PLUGS X:A; END_PLUGS END_FUNCTION_BLOCK",
     "FUNCTION_BLOCK K SOCKETS Y:A; END_SOCKETS END_FUNCTION_BLOCK",
@@ -29,20 +29,20 @@ const ADAPTERS: &[&str] = &[
     "SUBAPPLICATION S FBS G:K; END_FBS SUBAPPS H:T; END_SUBAPPS ADAPTER_CONNECTIONS H.Z TO G.Y; END_CONNECTIONS END_SUBAPPLICATION",
 ];
 
-const TWO_APPLICATIONS: &[&str] = &[
+pub const TWO_APPLICATIONS: &[&str] = &[
     B,
     "SUBAPPLICATION C EVENT_INPUT I; END_EVENT FBS F:B; END_FBS EVENT_CONNECTIONS I TO F.I; END_CONNECTIONS END_SUBAPPLICATION",
     "SYSTEM Z APPLICATION A2 FBS F:B; END_FBS END_APPLICATION APPLICATION A1 FBS K:B; END_FBS SUBAPPS G:C; END_SUBAPPS EVENT_CONNECTIONS K.O TO G.I; END_CONNECTIONS END_APPLICATION END_SYSTEM",
 ];
 
 // NO is absent, and BAD has a fault.
-const FAULTY: &[&str] = &[
+pub const FAULTY: &[&str] = &[
     B,
     "SUBAPPLICATION S FBS F:NO; G:B; END_FBS SUBAPPS H:BAD; END_SUBAPPS END_SUBAPPLICATION",
     "SUBAPPLICATION BAD FBS F:B; F:B; END_FBS END_SUBAPPLICATION",
 ];
 
-const CYCLE: &[&str] = &[
+pub const CYCLE: &[&str] = &[
     "SUBAPPLICATION S FBS F:M; END_FBS END_SUBAPPLICATION",
     "FUNCTION_BLOCK M FBS F:N; END_FBS END_FUNCTION_BLOCK",
     "FUNCTION_BLOCK N FBS F:M; END_FBS END_FUNCTION_BLOCK",
@@ -159,7 +159,7 @@ fn put_chain(alloc: Global, changes: &mut Vec<Change>) -> Result<(), Fail> {
 }
 
 /// Thirteen subapplications, each of which holds the one before it twice.
-fn chain(alloc: Global) -> Result<Library, Fail> {
+pub fn chain(alloc: Global) -> Result<Library, Fail> {
     let mut changes = Vec::new(alloc);
     put_chain(alloc, &mut changes)?;
     Ok(Library::new(alloc).edited(1, changes.as_slice())?)

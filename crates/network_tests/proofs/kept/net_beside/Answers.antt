@@ -1,0 +1,22 @@
+-- The one net that is kept is that of the unit of its name.
+use Rattle.std.proofs.Common.{◌≡◌, ℕ, Bool, true, false, cond, List, Option, Some, None, refl, subst, ◌∙◌}
+use Rattle.std.specs.BTreeMap.{is_at}
+use Rattle.fb_text.specs.Order.{name_cmp}
+use Rattle.fb_deploy.specs.Library.View.{Sources}
+use Rattle.fb_deploy.specs.Library.Texts.{sources_of}
+use Rattle.fb_deploy.specs.Flatten.Net.{PlainNet, plain_net}
+use Rattle.fb_deploy.specs.Flatten.Nets.{net_at}
+use Rattle.fb_deploy.specs.Flatten.Hints.{AreRightHints}
+use Rattle.fb_compose.proofs.Equals.{same_bytes}
+use Rattle.network_tests.specs.Kept.{hint_of}
+use Rattle.network_tests.proofs.kept.net_beside.Goals as goal
+
+by_name : (sources : Sources) (unit name : List ℕ) (kept net : PlainNet) (same : Bool) → is_at (name_cmp unit) name ≡ same → net_at sources unit ≡ Some kept → cond same (Some kept) None ≡ Some net → net_at sources name ≡ Some net
+by_name sources unit name kept net true is own e = subst (λ (n : List ℕ). net_at sources n ≡ Some net) (same_bytes unit name is) (own ∙ e)
+by_name sources unit name kept net false is own e = absurd (let no : ⊥ = cc in no)
+
+one_is_right : (sources : Sources) (unit : List ℕ) (kept : PlainNet) → net_at sources unit ≡ Some kept → AreRightHints sources (hint_of unit kept)
+one_is_right sources unit kept own name net e = by_name sources unit name kept net (is_at (name_cmp unit) name) refl own e
+
+pub net_of_unit_with-requires-clause-right : goal.net_of_unit_with-requires-clause-right
+net_of_unit_with-requires-clause-right c = one_is_right (sources_of c.args.library.now) c.args.kept.now.unit (plain_net c.args.kept.now.net) c.requires.kept
