@@ -1,9 +1,9 @@
 -- A network whose event input is joined to that of its block, and the type of the block: both are clean.
-use Rattle.std.proofs.Common.{ℕ, zero, suc, ◌≡◌, ◌<◌, List, [], ◌∷◌, Option, Some, None, ◌⊎◌, inl, inr, refl, sym, ◌∙◌, ap, subst, arith}
+use Rattle.std.proofs.Common.{ℕ, zero, suc, ◌≡◌, ◌<◌, List, [], ◌∷◌, Some, ◌⊎◌, inl, inr, ◌∙◌, ap, subst, arith}
 use Rattle.std.specs.Prelude.{Contains, option_and_then, slice_index_or, take}
 use Rattle.fb_network.specs.Tree.declared.network.Sort.{Sort}
-use Rattle.fb_network.specs.Tree.declared.network.Sort.TheVariants.{Event, Adapter}
-use Rattle.fb_network.specs.Tree.declared.interface.Side.TheVariants.{Input, Output}
+use Rattle.fb_network.specs.Tree.declared.network.Sort.TheVariants.{Event}
+use Rattle.fb_network.specs.Tree.declared.interface.Side.TheVariants.{Input}
 use Rattle.fb_network.specs.declared.network.Port.{Port}
 use Rattle.fb_network.specs.declared.network.InstanceKind.TheVariants.{Block, Subapplication}
 use Rattle.fb_network.specs.declared.network.Instance.{Instance}
@@ -11,8 +11,8 @@ use Rattle.fb_network.specs.declared.network.End.{End}
 use Rattle.fb_network.specs.declared.network.End.TheVariants.{Own, Of}
 use Rattle.fb_network.specs.declared.network.Connection.{Connection}
 use Rattle.fb_network.specs.Plain.{PlainNetwork}
-use Rattle.fb_network.specs.Network.{View, place_of, instance_named, IsConnected, IsInner}
-use Rattle.fb_network.specs.Clean.{IsClean, IsCleanThroughout, CleanThroughout, IsDeclared, IsSource, IsDestination, port_named, type_of, side_at, adapter_name_at}
+use Rattle.fb_network.specs.Network.{View, instance_named, IsConnected}
+use Rattle.fb_network.specs.Clean.{IsClean, IsCleanThroughout, CleanThroughout, IsDeclared, IsSource, IsDestination, type_of, side_at}
 use Rattle.network_tests.specs.Border.{input, inner}
 use Rattle.fb_compose.specs.Ordered.{IsNext}
 use Rattle.fb_compose.proofs.Equals.{bytes_same}

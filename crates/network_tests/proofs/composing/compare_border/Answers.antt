@@ -1,5 +1,5 @@
 -- The network and the type of its block are clean.
-use Rattle.std.proofs.Common.{◌≡◌, sym, subst}
+use Rattle.std.proofs.Common.{sym, subst}
 use Rattle.std.specs.BTreeMap.{get}
 use Rattle.fb_text.specs.Order.{name_cmp}
 use Rattle.fb_network.specs.Plain.{PlainNetwork}

@@ -1,5 +1,5 @@
 -- The one net that is kept is that of the unit of its name.
-use Rattle.std.proofs.Common.{◌≡◌, ℕ, Bool, true, false, cond, List, Option, Some, None, refl, subst, ◌∙◌}
+use Rattle.std.proofs.Common.{◌≡◌, ℕ, Bool, true, false, cond, List, Some, None, refl, subst, ◌∙◌}
 use Rattle.std.specs.BTreeMap.{is_at}
 use Rattle.fb_text.specs.Order.{name_cmp}
 use Rattle.fb_deploy.specs.Library.View.{Sources}
