@@ -20,6 +20,26 @@ const RECURSIVE: &str = r#"
 < {"net":{"recursive":["A","B"]}}
 "#;
 
+// Two subapplications that hold each other, and others above them whose nets are worked later.
+const RECURSIVE_BELOW: &str = r#"
+> {"op":"commit","changes":[{"put":"A","base":0,"text":"SUBAPPLICATION A SUBAPPS X:B; END_SUBAPPS END_SUBAPPLICATION"},{"put":"B","base":0,"text":"SUBAPPLICATION B SUBAPPS Y:A; END_SUBAPPS END_SUBAPPLICATION"},{"put":"C","base":0,"text":"SUBAPPLICATION C SUBAPPS Z:A; END_SUBAPPS END_SUBAPPLICATION"},{"put":"D","base":0,"text":"SYSTEM D APPLICATION P SUBAPPS Z:C; END_SUBAPPS END_APPLICATION END_SYSTEM"}]}
+< {"commit":1}
+> {"op":"work","turns":5}
+< {"accepted":5}
+> {"op":"ask","kind":"net","unit":"A"}
+< {"net":{"recursive":["A","B"]}}
+> {"op":"ask","kind":"net","unit":"C"}
+< {"answer":"pending"}
+> {"op":"work","turns":9}
+< {"accepted":4}
+> {"op":"ask","kind":"net","unit":"C"}
+< {"net":{"recursive":["A","B"]}}
+> {"op":"ask","kind":"net","unit":"D"}
+< {"net":{"recursive":["A","B"]}}
+> {"op":"ask","kind":"deploy","unit":"D"}
+< {"deploy":{"stopped":{"recursive":["A","B"]}}}
+"#;
+
 // An event through two borders to two blocks; and then a type that all of it rests on is taken away and comes back.
 const NESTED: &str = r#"
 > {"op":"commit","changes":[{"put":"T","base":0,"text":"FUNCTION_BLOCK T EVENT_INPUT I; END_EVENT EVENT_OUTPUT O; END_EVENT END_FUNCTION_BLOCK"},{"put":"INNER","base":0,"text":"SUBAPPLICATION INNER EVENT_INPUT E; END_EVENT FBS F1:T; F2:T; END_FBS EVENT_CONNECTIONS E TO F1.I; E TO F2.I; END_CONNECTIONS END_SUBAPPLICATION"},{"put":"MID","base":0,"text":"SUBAPPLICATION MID EVENT_INPUT E; END_EVENT SUBAPPS K:INNER; END_SUBAPPS EVENT_CONNECTIONS E TO K.E; END_CONNECTIONS END_SUBAPPLICATION"},{"put":"OUTER","base":0,"text":"SUBAPPLICATION OUTER FBS G:T; END_FBS SUBAPPS N:MID; END_SUBAPPS EVENT_CONNECTIONS G.O TO N.E; END_CONNECTIONS END_SUBAPPLICATION"}]}
@@ -110,6 +130,7 @@ const LATE: &str = r#"
 
 const TALKS: &[(&str, &str)] = &[
     ("recursive types", RECURSIVE),
+    ("recursive types below", RECURSIVE_BELOW),
     ("events through borders", NESTED),
     ("adapters through a subapplication", ADAPTERS),
     ("a system", SYSTEM),
@@ -121,7 +142,7 @@ fn talks(rt: HostRuntime) -> Result<(), Fail> {
     compare(&rt, rt.alloc(), TALKS)
 }
 
-// A type, and a subapplication that holds it so many times.
+// A type, a subapplication that holds it so many times, and one that holds the subapplication.
 fn holding(alloc: Global, instances: u32) -> Result<String, AllocError> {
     let mut line = String::from_str(
         alloc,
@@ -130,7 +151,9 @@ fn holding(alloc: Global, instances: u32) -> Result<String, AllocError> {
     for i in 0..instances {
         write!(line, "B{i}:T; ")?;
     }
-    line.push_str(r#"END_FBS END_SUBAPPLICATION"}]}"#)?;
+    line.push_str(
+        r#"END_FBS END_SUBAPPLICATION"},{"put":"U","base":0,"text":"SUBAPPLICATION U SUBAPPS X:S; END_SUBAPPS END_SUBAPPLICATION"}]}"#,
+    )?;
     Ok(line)
 }
 
@@ -146,7 +169,8 @@ fn flat_of(alloc: Global, blocks: u32) -> Result<String, AllocError> {
     Ok(reply)
 }
 
-// A conversation on a subapplication with so many blocks, of which this is the net.
+// A conversation on a subapplication with so many blocks, of which this is the net. The one above it, whose net is worked later, is
+// too large.
 fn held(alloc: Global, instances: u32, net: &str) -> Result<String, AllocError> {
     let commit = holding(alloc, instances)?;
     format!(in alloc;
@@ -154,9 +178,11 @@ fn held(alloc: Global, instances: u32, net: &str) -> Result<String, AllocError> 
 {commit}
 < {{"commit":1}}
 > {{"op":"work","turns":9}}
-< {{"accepted":3}}
+< {{"accepted":5}}
 > {{"op":"ask","kind":"net","unit":"S"}}
 {net}
+> {{"op":"ask","kind":"net","unit":"U"}}
+< {{"net":"too_large"}}
 "#
     )
 }
