@@ -4,7 +4,11 @@
 #![tactic(auto)]
 
 #[cfg(test)]
+mod alone;
+#[cfg(test)]
 mod charts;
+#[cfg(test)]
+mod checkers;
 #[cfg(test)]
 mod declarations;
 #[cfg(test)]

@@ -1,7 +1,8 @@
 //! The units that the texts of the tables speak of, and the notation of faults.
 //!
 //! Faults are told as `CODE words; CODE words`, the words being those at the place of the fault. Where they stand there for the second time
-//! in the text, `#2` follows, and so on.
+//! in the text, `#2` follows, and so on. The faults of each text of a table are compared with those that the checkers find together, too.
+use crate::checkers::are_found_together;
 use fb_faults::faults;
 use fb_faults::iface::Fault;
 use fb_faults::library::{Change, Library};
@@ -87,10 +88,27 @@ pub fn library(alloc: Global, units: &[(&str, &str)]) -> Result<Library, Fail> {
     Ok(Library::new(alloc).edited(1, changes.as_slice())?)
 }
 
+/// A library with this text as the unit `U` beside its units.
+fn with_text(alloc: Global, library: &Library, text: &str) -> Result<Library, Fail> {
+    Ok(library.edited(2, [put(alloc, "U", 0, text)?].as_slice())?)
+}
+
+/// The units of the tables, with this text as the unit `U` beside them.
+pub fn plant_with(alloc: Global, text: &str) -> Result<Library, Fail> {
+    let plant = library(alloc, &UNITS)?;
+    with_text(alloc, &plant, text)
+}
+
 /// The faults of this text as the unit `U`, beside the units of a library.
 pub fn faults_of(alloc: Global, library: &Library, text: &str) -> Result<Vec<Fault>, Fail> {
-    let changed = library.edited(2, [put(alloc, "U", 0, text)?].as_slice())?;
+    let changed = with_text(alloc, library, text)?;
     Ok(faults(alloc, &changed, &Name::read("U")?)?)
+}
+
+/// Whether the faults of this text as the unit `U` are those that the checkers find together.
+fn are_found_in(alloc: Global, library: &Library, text: &str) -> Result<bool, Fail> {
+    let changed = with_text(alloc, library, text)?;
+    Ok(are_found_together(alloc, &changed, &Name::read("U")?)?)
 }
 
 /// Whether both are bytes of one word.
@@ -140,6 +158,15 @@ fn tell(text: &str, from: usize, fault: &Fault, told: &mut String) -> Result<(),
     }
 }
 
+/// These faults of a text.
+pub fn all_told(alloc: Global, text: &str, faults: &[Fault]) -> Result<String, AllocError> {
+    let mut told = String::new(alloc);
+    for fault in faults {
+        tell(text, 0, fault, &mut told)?;
+    }
+    Ok(told)
+}
+
 /// The faults of a text: those at its head, which ends at this place, and those behind.
 fn told(
     alloc: Global,
@@ -173,6 +200,20 @@ fn compare_told(
     Ok(())
 }
 
+/// Compares the faults of a text with those that are known of its head, those that are expected behind, and those of the checkers.
+fn compare_text(
+    rt: &impl Abort,
+    alloc: Global,
+    plant: &Library,
+    at: (&str, usize),
+    told: (&str, &str),
+) -> Result<(), Fail> {
+    compare_told(rt, alloc, plant, at, told)?;
+    let are_found = are_found_in(alloc, plant, at.0)?;
+    equal(rt, &are_found, &true, at.0);
+    Ok(())
+}
+
 /// Compares the faults of each row of a table, with what stands before and behind it.
 fn compare_rows(
     rt: &impl Abort,
@@ -185,7 +226,7 @@ fn compare_rows(
     for (row, expected) in rows {
         let text = format!(in alloc; "{head}{row}{foot}")?;
         let at = (text.as_str(), head.len());
-        compare_told(rt, alloc, plant, at, (known, expected))?;
+        compare_text(rt, alloc, plant, at, (known, expected))?;
     }
     Ok(())
 }
