@@ -9,14 +9,14 @@ use Rattle.fb_bench.specs.Jobs.Reads.{Order}
 use Rattle.std.specs.Result.{result_ok}
 use Rattle.fb_bench.specs.declared.answers.Taken.{Taken}
 use Rattle.fb_bench.specs.declared.answers.Delivered.{Delivered}
-use Rattle.fb_wire.specs.declared.answer.Turn.{Turn}
+use Rattle.fb_wire.specs.declared.answer.Round.{Round}
 use Rattle.fb_bench.specs.declared.desk.DeskRefused.{DeskRefused}
 use Rattle.fb_bench.specs.declared.desk.DeskRefused.TheVariants.{HistoryFull, Behind, Memory}
 use Rattle.serde_json.specs.Data.{Data}
 use Rattle.fb_wire.specs.Lines.{is_blank}
 use Rattle.fb_wire.specs.Replies.{said_to, work_done}
 use Rattle.fb_wire.specs.ReplyView.{data_of}
-use Rattle.fb_wire.specs.Served.{Reaches, LineSaid, Served, TurnServed, KeepsTaken, left_after, answer_in, reply_in}
+use Rattle.fb_wire.specs.Served.{Reaches, LineSaid, Served, RoundServed, KeepsTaken, left_after, answer_in, reply_in}
 use Rattle.fb_wire.specs.Talk.{Jobs, Pair, Plan, says, asks, Leads, Runs, call_once, take_plan, held_after, after_take, after_deliver, work_plan}
 use Rattle.fb_wire.specs.declared.reply.Reply.{Reply}
 
@@ -125,34 +125,34 @@ module _ {S : Type 0} (Step : S → Call → Answer → S → Type 0) where
       let open_plan : asks ToTake next ≡ take_plan held = rw room refl in
       subst P open_plan (by_any old new ToTake next take_reply r step)
 
-  -- a turn whose job was taken, run and delivered
-  pub turn_served : (old mid new : S) (held : Jobs) (count : ℕ) (more : ℕ → Plan) (order : Order) (taken : Result Taken DeskRefused) (r : Result Delivered DeskRefused) (turn : Result Turn AllocError)
+  -- a round whose job was taken, run and delivered
+  pub round_served : (old mid new : S) (held : Jobs) (count : ℕ) (more : ℕ → Plan) (order : Order) (taken : Result Taken DeskRefused) (r : Result Delivered DeskRefused) (round : Result Round AllocError)
       → Serves Step old ToTake take_reply taken mid → answer_in take_reply taken ≡ Some (Replied (OfTake (Some order)))
       → Serves Step mid (ToDeliver order) OfDeliver r new
-      → option_map (after_deliver held count more) (answer_in OfDeliver r) ≡ option_map (left_after held count more) (result_ok turn)
-      → TurnServed Step held count more old turn new
-  turn_served old mid new held count more order taken r (Ok turn) first is second ends =
-      reaches_on (asks ToTake (after_take held count more)) (asks (ToDeliver order) (after_deliver held count more)) (left_after held count more turn) old mid new
+      → option_map (after_deliver held count more) (answer_in OfDeliver r) ≡ option_map (left_after held count more) (result_ok round)
+      → RoundServed Step held count more old round new
+  round_served old mid new held count more order taken r (Ok round) first is second ends =
+      reaches_on (asks ToTake (after_take held count more)) (asks (ToDeliver order) (after_deliver held count more)) (left_after held count more round) old mid new
       (reaches_by_call old mid ToTake (after_take held count more) (Replied (OfTake (Some order))) (serves_some old mid ToTake take_reply taken (Replied (OfTake (Some order))) first is))
-      (by_answer mid new (ToDeliver order) (after_deliver held count more) OfDeliver r (left_after held count more turn) second ends)
-  turn_served old mid new held count more order taken r (Err e) first is second ends =
+      (by_answer mid new (ToDeliver order) (after_deliver held count more) OfDeliver r (left_after held count more round) second ends)
+  round_served old mid new held count more order taken r (Err e) first is second ends =
       let far = by_any mid new (ToDeliver order) (after_deliver held count more) OfDeliver r second in (
         far.0,
         reaches_on (asks ToTake (after_take held count more)) (asks (ToDeliver order) (after_deliver held count more)) far.0 old mid new
             (reaches_by_call old mid ToTake (after_take held count more) (Replied (OfTake (Some order))) (serves_some old mid ToTake take_reply taken (Replied (OfTake (Some order))) first is)) far.1,
       )
 
-  -- one more turn of a work
-  pub work_goes_on : (plan : Plan) (old mid new : S) (held : Jobs) (turns i count : ℕ) (turn : Turn) → i < turns → Reaches Step plan old (work_plan held (turns - i) count) mid
-      → TurnServed Step held count (work_plan held (turns - (i + 1))) mid (Ok turn) new → Reaches Step plan old (left_after held count (work_plan held (turns - (i + 1))) turn) new
+  -- one more round of a work
+  pub work_goes_on : (plan : Plan) (old mid new : S) (held : Jobs) (turns i count : ℕ) (round : Round) → i < turns → Reaches Step plan old (work_plan held (turns - i) count) mid
+      → RoundServed Step held count (work_plan held (turns - (i + 1))) mid (Ok round) new → Reaches Step plan old (left_after held count (work_plan held (turns - (i + 1))) round) new
   unfolding work_plan
-  work_goes_on plan old mid new held turns i count turn within far served =
+  work_goes_on plan old mid new held turns i count round within far served =
       let width : turns - i ≡ suc (turns - (i + 1)) = omega arith in
       let Q : ℕ → Type 0 = λ n. Reaches Step plan old (work_plan held n count) mid in
       reaches_on plan (work_plan held (suc (turns - (i + 1))) count) _ old mid new (subst Q width far) served
 
   pub work_stops : (plan : Plan) (old mid new : S) (held : Jobs) (turns i count : ℕ) (e : AllocError) → i < turns → Reaches Step plan old (work_plan held (turns - i) count) mid
-      → TurnServed Step held count (work_plan held (turns - (i + 1))) mid (Err e) new → (rest : Plan) × Reaches Step plan old rest new
+      → RoundServed Step held count (work_plan held (turns - (i + 1))) mid (Err e) new → (rest : Plan) × Reaches Step plan old rest new
   unfolding work_plan
   work_stops plan old mid new held turns i count e within far served =
       let width : turns - i ≡ suc (turns - (i + 1)) = omega arith in

@@ -23,30 +23,30 @@ pub data Request : Type 0 where
 
 -- ---- members
 
-abbrev pub text_at : List ℕ → Data → Option (List ℕ)
-text_at name d = option_and_then as_str (get name d)
+abbrev pub member_text : List ℕ → Data → Option (List ℕ)
+member_text name d = option_and_then as_str (get name d)
 
 abbrev pub number_at : List ℕ → Data → Option ℕ
 number_at name d = option_and_then as_u64 (option_and_then as_number (get name d))
 
-abbrev pub kind_of : List ℕ → Option Kind
-kind_of text =
+abbrev pub kind_called : List ℕ → Option Kind
+kind_called text =
     if bytes_eq text (codes "faults") then Some Faults
     else (if bytes_eq text (codes "net") then Some Net
     else (if bytes_eq text (codes "deploy") then Some Deploy else None))
 
 abbrev pub kind_at : List ℕ → Data → Option Kind
-kind_at name d = option_and_then kind_of (text_at name d)
+kind_at name d = option_and_then kind_called (member_text name d)
 
 -- ---- the changes of a commit
 
 abbrev pub put_in : Data → Option Change
 put_in d =
-    option_and_then (λ unit. option_and_then (λ base. option_map (puts unit base) (text_at (codes "text") d)) (number_at (codes "base") d))
-    (text_at (codes "put") d)
+    option_and_then (λ unit. option_and_then (λ base. option_map (puts unit base) (member_text (codes "text") d)) (number_at (codes "base") d))
+    (member_text (codes "put") d)
 
 abbrev pub remove_in : Data → Option Change
-remove_in d = option_and_then (λ unit. option_map (removes unit) (number_at (codes "base") d)) (text_at (codes "remove") d)
+remove_in d = option_and_then (λ unit. option_map (removes unit) (number_at (codes "base") d)) (member_text (codes "remove") d)
 
 -- by what stands under `put` and under `remove`: one of them alone
 abbrev pub change_by : Option Data → Option Data → Data → Option Change
@@ -69,10 +69,10 @@ commit_in d = option_map commit (option_and_then changes_of (option_and_then as_
 -- ---- requests
 
 abbrev pub ask_in : Data → Option Request
-ask_in d = option_and_then (λ kind. option_map (ask kind) (text_at (codes "unit") d)) (kind_at (codes "kind") d)
+ask_in d = option_and_then (λ kind. option_map (ask kind) (member_text (codes "unit") d)) (kind_at (codes "kind") d)
 
 abbrev pub give_back_in : Data → Option Request
-give_back_in d = option_and_then (λ kind. option_map (give_back kind) (text_at (codes "unit") d)) (kind_at (codes "kind") d)
+give_back_in d = option_and_then (λ kind. option_map (give_back kind) (member_text (codes "unit") d)) (kind_at (codes "kind") d)
 
 -- 1 to 1,000 turns
 abbrev pub work_of : ℕ → Option Request
@@ -88,7 +88,7 @@ request_by op d =
     else (if bytes_eq op (codes "give_back") then give_back_in d else None)))))
 
 unfoldable pub request_in : Data → Option Request
-request_in d = option_and_then (λ op. request_by op d) (text_at (codes "op") d)
+request_in d = option_and_then (λ op. request_by op d) (member_text (codes "op") d)
 
 -- a line that is not UTF-8, no JSON or no request has none
 unfoldable pub request_of : List ℕ → Option Request

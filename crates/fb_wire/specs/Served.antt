@@ -20,8 +20,8 @@ use Rattle.fb_wire.specs.declared.end.RunEnd.TheVariants as end
 use Rattle.fb_wire.specs.Talk.{plan_of, LineTalk, Talk, Jobs, Pair, Plan, says, asks, Leads, Runs, after_take, held_after}
 use Rattle.fb_wire.specs.Replies.{work_done, work_refused, said_to, reply_line}
 use Rattle.fb_wire.specs.ReplyView.{data_of, refusal_text}
-use Rattle.fb_wire.specs.declared.answer.Turn.{Turn}
-use Rattle.fb_wire.specs.declared.answer.Turn.TheVariants as turns
+use Rattle.fb_wire.specs.declared.answer.Round.{Round}
+use Rattle.fb_wire.specs.declared.answer.Round.TheVariants as rounds
 use Rattle.fb_wire.specs.declared.reply.Reply.{Reply}
 use Rattle.fb_wire.specs.declared.answer.Taking.{Taking}
 use Rattle.fb_wire.specs.declared.answer.Taking.TheVariants.{Job, Ended}
@@ -47,21 +47,21 @@ abbrev pub reply_in : Result Reply AllocError → Option Data
 reply_in (Ok reply) = Some (data_of reply)
 reply_in (Err e) = None
 
--- what is left of a work's plan after one turn, where `more` goes on with a count
-abbrev pub left_after : Jobs → ℕ → (ℕ → Plan) → Turn → Plan
-left_after held count more turns.Accepted = more (count + 1)
-left_after held count more turns.Refused = more count
-left_after held count more turns.Nothing = says (work_done count) held
-left_after held count more (turns.Stopped refusal) = says (work_refused count (refusal_text refusal)) held
+-- what is left of a work's plan after one round, where `more` goes on with a count
+abbrev pub left_after : Jobs → ℕ → (ℕ → Plan) → Round → Plan
+left_after held count more rounds.Accepted = more (count + 1)
+left_after held count more rounds.Refused = more count
+left_after held count more rounds.Nothing = says (work_done count) held
+left_after held count more (rounds.Stopped refusal) = says (work_refused count (refusal_text refusal)) held
 
-abbrev pub TurnServed : {S : Type 0} → (S → Call → Answer → S → Type 0) → Jobs → ℕ → (ℕ → Plan) → S → Result Turn AllocError → S → Type 0
-TurnServed Step held count more old (Ok turn) new = Reaches Step (asks ToTake (after_take held count more)) old (left_after held count more turn) new
-TurnServed Step held count more old (Err e) new = (rest : Plan) × Reaches Step (asks ToTake (after_take held count more)) old rest new
+abbrev pub RoundServed : {S : Type 0} → (S → Call → Answer → S → Type 0) → Jobs → ℕ → (ℕ → Plan) → S → Result Round AllocError → S → Type 0
+RoundServed Step held count more old (Ok round) new = Reaches Step (asks ToTake (after_take held count more)) old (left_after held count more round) new
+RoundServed Step held count more old (Err e) new = (rest : Plan) × Reaches Step (asks ToTake (after_take held count more)) old rest new
 
--- the job is the one that was taken, or the turn says how the answer ends the work
+-- the job is the one that was taken, or the round says how the answer ends the work
 abbrev pub Takes : Option Answer → Result Taking AllocError → Type 0
 Takes answered (Ok (Job found)) = answered ≡ Some (Replied (OfTake (Some found)))
-Takes answered (Ok (Ended turn)) = (held : Jobs) (count : ℕ) (more : ℕ → Plan) → option_map (after_take held count more) answered ≡ Some (left_after held count more turn)
+Takes answered (Ok (Ended round)) = (held : Jobs) (count : ℕ) (more : ℕ → Plan) → option_map (after_take held count more) answered ≡ Some (left_after held count more round)
 Takes answered (Err e) = answered ≡ None
 
 -- the reply to a take, and the jobs that are held after it

@@ -1,4 +1,4 @@
-// What is asked of a desk for a request, and what is said.
+//! What is asked of a desk for a request, and what is said.
 ghost use Rattle.std.specs.Prelude.{◌≡◌, ℕ, Some, option_map, length, map};
 ghost use Rattle.std.specs.Option.{option_copied};
 ghost use Rattle.std.specs.Result.{result_ok};
@@ -8,7 +8,7 @@ ghost use Rattle.fb_bench.specs.Machine.{ToCommit, ToDeliver, ToGiveBack, ToAsk,
 ghost use Rattle.fb_bench.specs.Records.{listed};
 ghost use Rattle.fb_wire.specs.Replies.{said_to};
 ghost use Rattle.fb_wire.specs.RequestView.{change_view, request_view};
-ghost use Rattle.fb_wire.specs.Served.{Served, TurnServed, KeepsTaken, Takes, left_after, answer_in, reply_in};
+ghost use Rattle.fb_wire.specs.Served.{Served, RoundServed, KeepsTaken, Takes, left_after, answer_in, reply_in};
 ghost use Rattle.fb_wire.specs.Talk.{plan_of, with_name, commit_plan, edits_in, Jobs, Plan, after_deliver, call_once, job_at, take_plan, deliver_plan, work_plan};
 
 use crate::change::{ChangeFault, changes_of};
@@ -84,7 +84,7 @@ fn shown_reply(asked: Result<Asked, DeskRefused>) -> Result<Reply, AllocError>
     }
 }
 
-// Asks for a commit of changes that were read.
+/// Asks for a commit of changes that were read.
 fn answer_changes<D: Desk>(desk: &mut D, changes: &[Change]) -> Result<Reply, AllocError>
     ensures { (held : Jobs)
         → Served D.step (call_once held (ToCommit (listed changes.now))) desk.old result held desk.new }
@@ -130,7 +130,7 @@ fn answer_deliver<D: Desk>(desk: &mut D, finished: &Finished) -> Result<Reply, A
     deliver_reply(&delivered)
 }
 
-// Keeps a taken job with those that are held.
+/// Keeps a taken job with those that are held.
 fn keep_taken(held: &mut Vec<Job>, taken: Result<Taken, DeskRefused>) -> Result<Reply, AllocError>
     ensures { KeepsTaken held.old.items (answer_in take_reply taken) (reply_in result) held.new.items }
 {
@@ -160,7 +160,7 @@ fn answer_take<D: Desk>(desk: &mut D, held: &mut Vec<Job>) -> Result<Reply, Allo
     keep_taken(held, taken)
 }
 
-// The held job of this number, counted from 1.
+/// The held job of this number, counted from 1.
 fn held_job(held: &[Job], number: u64) -> Option<&Job>
     ensures { option_copied result ≡ job_at held.now number }
 {
@@ -171,7 +171,7 @@ fn held_job(held: &[Job], number: u64) -> Option<&Job>
     }
 }
 
-// Runs a job, and delivers its result.
+/// Runs a job, and delivers its result.
 fn answer_job<D: Desk>(alloc: Global, desk: &mut D, job: &Job) -> Result<Reply, AllocError>
     ensures { (held : Jobs)
         → Served D.step (call_once held (ToDeliver job.now)) desk.old result held desk.new }
@@ -196,9 +196,9 @@ fn answer_number<D: Desk>(
     }
 }
 
-/// How one turn of a work went.
+/// How one round of a `work` request went: its take, run and deliver.
 #[derive(Clone, Copy)]
-pub(crate) enum Turn {
+pub(crate) enum Round {
     Accepted,
     /// The result was refused as any result may be, and the work goes on.
     Refused,
@@ -210,74 +210,74 @@ pub(crate) enum Turn {
 #[derive(Drop)]
 enum Taking {
     Job(Job),
-    Ended(Turn),
+    Ended(Round),
 }
 
-fn job_or_turn(taken: Result<Taken, DeskRefused>) -> Result<Taking, AllocError>
+fn job_or_round(taken: Result<Taken, DeskRefused>) -> Result<Taking, AllocError>
     ensures { Takes (answer_in take_reply taken) result }
 {
     match taken {
         Ok(Taken::Job(job)) => Ok(Taking::Job(job)),
-        Ok(Taken::Nothing) => Ok(Taking::Ended(Turn::Nothing)),
-        Err(DeskRefused::HistoryFull) => Ok(Taking::Ended(Turn::Stopped(Refusal::HistoryFull))),
-        Err(DeskRefused::Behind) => Ok(Taking::Ended(Turn::Stopped(Refusal::Behind))),
+        Ok(Taken::Nothing) => Ok(Taking::Ended(Round::Nothing)),
+        Err(DeskRefused::HistoryFull) => Ok(Taking::Ended(Round::Stopped(Refusal::HistoryFull))),
+        Err(DeskRefused::Behind) => Ok(Taking::Ended(Round::Stopped(Refusal::Behind))),
         Err(DeskRefused::Memory) => Err(AllocError),
     }
 }
 
-fn turn_by(delivered: Result<Delivered, DeskRefused>) -> Result<Turn, AllocError>
+fn round_by(delivered: Result<Delivered, DeskRefused>) -> Result<Round, AllocError>
     ensures { (held : Jobs) (count : ℕ) (more : ℕ → Plan)
         → option_map (after_deliver held count more) (answer_in OfDeliver delivered)
         ≡ option_map (left_after held count more) (result_ok result) }
 {
     match delivered {
-        Ok(Delivered::Accepted) => Ok(Turn::Accepted),
-        Ok(Delivered::NoSuchKey) => Ok(Turn::Refused),
-        Ok(Delivered::NotPending) => Ok(Turn::Refused),
-        Ok(Delivered::Stale(_)) => Ok(Turn::Refused),
-        Err(DeskRefused::HistoryFull) => Ok(Turn::Stopped(Refusal::HistoryFull)),
-        Err(DeskRefused::Behind) => Ok(Turn::Stopped(Refusal::Behind)),
+        Ok(Delivered::Accepted) => Ok(Round::Accepted),
+        Ok(Delivered::NoSuchKey) => Ok(Round::Refused),
+        Ok(Delivered::NotPending) => Ok(Round::Refused),
+        Ok(Delivered::Stale(_)) => Ok(Round::Refused),
+        Err(DeskRefused::HistoryFull) => Ok(Round::Stopped(Refusal::HistoryFull)),
+        Err(DeskRefused::Behind) => Ok(Round::Stopped(Refusal::Behind)),
         Err(DeskRefused::Memory) => Err(AllocError),
     }
 }
 
-// Takes a job, runs it and delivers its result.
-fn work_once<D: Desk>(alloc: Global, desk: &mut D) -> Result<Turn, AllocError>
-    ensures { (held : Jobs) (count : ℕ) (more : ℕ → Plan) → TurnServed D.step held count more desk.old result desk.new }
+/// Takes a job, runs it and delivers its result.
+fn work_once<D: Desk>(alloc: Global, desk: &mut D) -> Result<Round, AllocError>
+    ensures { (held : Jobs) (count : ℕ) (more : ℕ → Plan) → RoundServed D.step held count more desk.old result desk.new }
 {
     let taken = desk.take();
-    let job = match job_or_turn(taken) {
+    let job = match job_or_round(taken) {
         Ok(Taking::Job(job)) => job,
-        Ok(Taking::Ended(turn)) => return Ok(turn),
+        Ok(Taking::Ended(round)) => return Ok(round),
         Err(e) => return Err(e),
     };
     let Ok(finished) = job.run(alloc) else {
         return Err(AllocError);
     };
     let delivered = desk.deliver(&finished);
-    turn_by(delivered)
+    round_by(delivered)
 }
 
 fn answer_work<D: Desk>(alloc: Global, desk: &mut D, turns: u64) -> Result<Reply, AllocError>
     ensures { (held : Jobs) → Served D.step (work_plan held turns 0) desk.old result held desk.new }
 {
     let mut accepted = 0;
-    for _turn in 0..turns {
-        let turn = match work_once(alloc, desk) {
-            Ok(turn) => turn,
+    for _round in 0..turns {
+        let round = match work_once(alloc, desk) {
+            Ok(round) => round,
             Err(e) => return Err(e),
         };
-        match turn {
-            Turn::Accepted => accepted += 1,
-            Turn::Refused => {}
-            Turn::Nothing => return Ok(Reply::Worked(accepted)),
-            Turn::Stopped(refusal) => return Ok(Reply::WorkRefused(accepted, refusal)),
+        match round {
+            Round::Accepted => accepted += 1,
+            Round::Refused => {}
+            Round::Nothing => return Ok(Reply::Worked(accepted)),
+            Round::Stopped(refusal) => return Ok(Reply::WorkRefused(accepted, refusal)),
         }
     }
     Ok(Reply::Worked(accepted))
 }
 
-// Asks for the key of a kind and a name.
+/// Asks for the key of a kind and a name.
 fn answer_ask_named<D: Desk>(desk: &mut D, kind: Kind, unit: &str) -> Result<Reply, AllocError>
     ensures { (held : Jobs)
         → Served D.step (with_name held (name_of unit.now) (λ name. call_once held (ToAsk (record { kind = kind; unit = name })))) desk.old result held desk.new }
@@ -288,7 +288,7 @@ fn answer_ask_named<D: Desk>(desk: &mut D, kind: Kind, unit: &str) -> Result<Rep
     }
 }
 
-// Gives back the key of a kind and a name.
+/// Gives back the key of a kind and a name.
 fn answer_back_named<D: Desk>(desk: &mut D, kind: Kind, unit: &str) -> Result<Reply, AllocError>
     ensures { (held : Jobs)
         → Served D.step (with_name held (name_of unit.now) (λ name. call_once held (ToGiveBack (record { kind = kind; unit = name })))) desk.old result held desk.new }

@@ -1,4 +1,4 @@
-// The changes of a commit, with their names and texts read.
+//! The changes of a commit, with their names and texts read.
 ghost use Rattle.std.specs.Prelude.{map};
 ghost use Rattle.fb_wire.specs.RequestView.{change_view};
 ghost use Rattle.fb_wire.specs.Served.{ChangeMade, ChangesMade};

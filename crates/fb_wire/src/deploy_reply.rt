@@ -1,4 +1,4 @@
-// The replies that show plans.
+//! The replies that show plans.
 ghost use Rattle.serde_json.specs.Data.{string};
 ghost use Rattle.fb_bench.specs.Deploy.Deploy.{plain_deploy};
 ghost use Rattle.fb_wire.specs.DeployReplies.{deploy_said, misplaced_item, plan_said, resource_item};

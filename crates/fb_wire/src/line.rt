@@ -1,4 +1,4 @@
-// What is said to one line.
+//! What is said to one line.
 ghost use Rattle.std.specs.Prelude.{◌≡◌, ◌↔◌, [], IsTrue, IfOk, IfErr, true, false, is_err};
 ghost use Rattle.fb_wire.specs.Lines.{is_blank};
 ghost use Rattle.serde_json.specs.View.{view};
@@ -59,7 +59,7 @@ fn answer_bytes<D: Desk>(
     }
 }
 
-// The line of the reply, which takes this room, or none for a blank line.
+/// The line of the reply, which takes this room, or none for a blank line.
 fn answer_line<D: Desk>(
     alloc: Global,
     desk: &mut D,

@@ -1,4 +1,4 @@
-// The replies that show nets.
+//! The replies that show nets.
 ghost use Rattle.std.specs.Prelude.{◌≡◌};
 ghost use Rattle.fb_bench.specs.Flatten.Net.{plain_net};
 ghost use Rattle.fb_wire.specs.NetReplies.{block_item, border_item, flat_said, link_item, net_said, sort_text};

@@ -1,4 +1,4 @@
-// Bytes as they come, and the lines in them.
+//! Bytes as they come, and the lines in them.
 ghost use Rattle.std.specs.Prelude.{◌≡◌, ◌↔◌, ◌≤◌, ◌<◌, ◌+◌, ◌==◌, ℕ, List, ◌∷◌, [], ◌++◌, length, take, IsTrue, false, MatchOption, MatchResult, IfErr};
 ghost use Rattle.fb_streams.specs.Streams.{StaysFlushed};
 ghost use Rattle.fb_wire.specs.Lines.{IsLine};
@@ -14,7 +14,7 @@ use std::alloc::Global;
 /// How long a line may be.
 const MAX_LINE: usize = 1_048_576;
 
-// How many bytes stand before the first line feed.
+/// How many bytes stand before the first line feed.
 #[tactic(auto, using(crate::proofs::Cuts::is_line_more, crate::proofs::Cuts::take_feed))]
 fn line_len(bytes: &[u8]) -> usize
     ensures within { result ≤ length bytes.now }
@@ -29,7 +29,7 @@ fn line_len(bytes: &[u8]) -> usize
     bytes.len()
 }
 
-// Adds bytes to a line that is not too long.
+/// Adds bytes to a line that is not too long.
 fn extend_line(line: &mut Vec<u8>, bytes: &[u8]) -> Result<(), RunEnd>
     ensures { Extends line.old.items bytes.now result line.new.items }
 {
@@ -42,7 +42,7 @@ fn extend_line(line: &mut Vec<u8>, bytes: &[u8]) -> Result<(), RunEnd>
     }
 }
 
-// Takes the rest of a line and its line feed, and answers the line.
+/// Takes the rest of a line and its line feed, and answers the line.
 fn end_line<D: Desk, S: Sink>(
     alloc: Global,
     desk: &mut D,

@@ -1,4 +1,4 @@
-// The replies, and their lines.
+//! The replies, and their lines.
 ghost use Rattle.std.specs.Prelude.{◌≡◌, IfOk};
 ghost use Rattle.fb_bench.specs.Jobs.Values.{finding_of};
 ghost use Rattle.fb_wire.specs.Replies.{fault_item, job_given, kind_text, refused_base, refused_unit, reply_line, value_said, work_refused};

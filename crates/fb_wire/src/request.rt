@@ -1,7 +1,7 @@
-// From a line to the request that it is.
+//! From a line to the request that it is.
 ghost use Rattle.std.specs.Prelude.{◌≡◌, map, codes, option_map, option_and_then, IfOk};
 ghost use Rattle.serde_json.specs.View.{view, items_view};
-ghost use Rattle.fb_wire.specs.Requests.{text_at, number_at, kind_of, kind_at, put_in, remove_in, change_in, changes_of, request_in, request_by, commit_in, ask_in, give_back_in, work_of, deliver};
+ghost use Rattle.fb_wire.specs.Requests.{member_text, number_at, kind_called, kind_at, put_in, remove_in, change_in, changes_of, request_in, request_by, commit_in, ask_in, give_back_in, work_of, deliver};
 ghost use Rattle.fb_wire.specs.RequestView.{change_view, request_view};
 
 use fb_bench::jobs::Kind;
@@ -33,8 +33,8 @@ pub(crate) enum Request<'a> {
     GiveBack { kind: Kind, unit: &'a str },
 }
 
-fn text_at<'a>(value: &'a Value, name: &str) -> Option<&'a str>
-    ensures { option_map (λ s. s.now) result ≡ text_at name.now (view value.now) }
+fn member_text<'a>(value: &'a Value, name: &str) -> Option<&'a str>
+    ensures { option_map (λ s. s.now) result ≡ member_text name.now (view value.now) }
 {
     value.get(name).and_then(Value::as_str)
 }
@@ -45,8 +45,8 @@ fn number_at(value: &Value, name: &str) -> Option<u64>
     value.get(name).and_then(Value::as_u64)
 }
 
-fn kind_of(text: &str) -> Option<Kind>
-    ensures { result ≡ kind_of text.now }
+fn kind_called(text: &str) -> Option<Kind>
+    ensures { result ≡ kind_called text.now }
 {
     if text == "faults" {
         Some(Kind::Faults)
@@ -62,27 +62,27 @@ fn kind_of(text: &str) -> Option<Kind>
 fn kind_at(value: &Value, name: &str) -> Option<Kind>
     ensures { result ≡ kind_at name.now (view value.now) }
 {
-    kind_of(text_at(value, name)?)
+    kind_called(member_text(value, name)?)
 }
 
 fn put_in(value: &Value) -> Option<AskedChange<'_>>
     ensures { option_map change_view result ≡ put_in (view value.now) }
 {
-    let unit = text_at(value, "put")?;
+    let unit = member_text(value, "put")?;
     let base = number_at(value, "base")?;
-    let text = text_at(value, "text")?;
+    let text = member_text(value, "text")?;
     Some(AskedChange::Put { unit, base, text })
 }
 
 fn remove_in(value: &Value) -> Option<AskedChange<'_>>
     ensures { option_map change_view result ≡ remove_in (view value.now) }
 {
-    let unit = text_at(value, "remove")?;
+    let unit = member_text(value, "remove")?;
     let base = number_at(value, "base")?;
     Some(AskedChange::Remove { unit, base })
 }
 
-// A change has one of `put` and `remove`.
+/// A change has one of `put` and `remove`.
 fn change_in(value: &Value) -> Option<AskedChange<'_>>
     ensures { option_map change_view result ≡ change_in (view value.now) }
 {
@@ -125,7 +125,7 @@ fn ask_in(value: &Value) -> Option<Request<'_>>
     ensures { option_map request_view result ≡ ask_in (view value.now) }
 {
     let kind = kind_at(value, "kind")?;
-    let unit = text_at(value, "unit")?;
+    let unit = member_text(value, "unit")?;
     Some(Request::Ask { kind, unit })
 }
 
@@ -133,7 +133,7 @@ fn give_back_in(value: &Value) -> Option<Request<'_>>
     ensures { option_map request_view result ≡ give_back_in (view value.now) }
 {
     let kind = kind_at(value, "kind")?;
-    let unit = text_at(value, "unit")?;
+    let unit = member_text(value, "unit")?;
     Some(Request::GiveBack { kind, unit })
 }
 
@@ -183,7 +183,7 @@ fn request_by<'a>(
 pub(crate) fn request_in(alloc: Global, value: &Value) -> Result<Option<Request<'_>>, AllocError>
     ensures { IfOk result (λ found. option_map request_view found ≡ request_in (view value.now)) }
 {
-    match text_at(value, "op") {
+    match member_text(value, "op") {
         None => Ok(None),
         Some(op) => request_by(alloc, op, value),
     }

@@ -1,4 +1,4 @@
-// The whole conversation.
+//! The whole conversation.
 ghost use Rattle.std.specs.Prelude.{◌≡◌, ◌↔◌, ◌≤◌, ◌<◌, ◌+◌, ℕ, List, [], ◌++◌, length, IsTrue, IfErr, Ok, Err, false};
 ghost use Rattle.std.specs.Io.KnownBytes.{Consumes, IsAtEnd};
 ghost use Rattle.fb_bench.specs.Solo.{IsStep};
@@ -15,10 +15,10 @@ use fb_bench::{Bench, Desk, Solo};
 use fb_streams::{Feed, Sink};
 use std::alloc::Global;
 
-// How many bytes one read may give.
+/// How many bytes one read may give.
 const READ_SIZE: usize = 8_192;
 
-// Answers the last line, which has no line feed, and ends the conversation.
+/// Answers the last line, which has no line feed, and ends the conversation.
 fn end_talk<D: Desk, S: Sink>(
     alloc: Global,
     desk: &mut D,
@@ -37,7 +37,7 @@ fn end_talk<D: Desk, S: Sink>(
     }
 }
 
-// Reads once, and takes what was read; at the end of the input it ends the conversation.
+/// Reads once, and takes what was read; at the end of the input it ends the conversation.
 fn take_turn<F: Feed, S: Sink, D: Desk>(
     alloc: Global,
     reader: &mut F,

@@ -1,4 +1,4 @@
-// What is written as JSON, token by token. The writer places the quotes, the colons and the commas.
+//! What is written as JSON, token by token. The writer places the quotes, the colons and the commas.
 ghost use Rattle.std.specs.Prelude.{map};
 ghost use Rattle.serde_json.specs.Data.{Data, array, boolean, string};
 ghost use Rattle.serde_json.specs.View.{items_of};
