@@ -18,7 +18,7 @@ use std::sync::Arc;
 /// Which units mention a name, directly or through others. A unit stays indexed from its first `replace` on.
 #[derive(Drop)]
 pub struct Index {
-    // under each name the indexed units that are the name or mention it
+    /// Under each name the indexed units that are the name or mention it.
     users: Table<Vec<Name>>,
 }
 
@@ -102,7 +102,7 @@ impl Index {
         names_of(alloc, &seen)
     }
 
-    // the units under a name
+    /// The units under a name.
     fn under(&self, name: &Name) -> &[Name]
         ensures { result.now ≡ users_of self.now name.now }
     {
@@ -112,14 +112,14 @@ impl Index {
         }
     }
 
-    // whether the unit stands under a name
+    /// Whether the unit stands under a name.
     fn has(&self, name: &Name, unit: &Name) -> bool
         ensures { result ≡ is_near self.now unit.now name.now }
     {
         self.under(name).iter().any(|user| same_name(unit, user))
     }
 
-    // puts these units under a name, in the place of those that were there
+    /// Puts these units under a name, in the place of those that were there.
     fn set(&mut self, alloc: Global, name: &Name, units: Vec<Name>) -> Result<(), AllocError>
         ensures { OnOk result ((other : List ℕ) → users_of self.new other ≡ (if is_at (name_cmp name.now) other then units.items else users_of self.old other)) }
     {
@@ -129,7 +129,7 @@ impl Index {
         self.users.put(*name, Arc::new(alloc, units)?)
     }
 
-    // takes the unit out under a name
+    /// Takes the unit out under a name.
     fn leave(&mut self, alloc: Global, name: &Name, unit: &Name) -> Result<(), AllocError>
         ensures { OnOk result ((other at : List ℕ) → is_near self.new other at ≡ (is_near self.old other at && not (is_at (name_cmp unit.now) other && is_at (name_cmp name.now) at))) }
     {
@@ -137,7 +137,7 @@ impl Index {
         self.set(alloc, name, others)
     }
 
-    // puts the unit under a name
+    /// Puts the unit under a name.
     fn join(&mut self, alloc: Global, name: &Name, unit: &Name) -> Result<(), AllocError>
         ensures { OnOk result ((other at : List ℕ) → is_near self.new other at ≡ (is_near self.old other at || (is_at (name_cmp unit.now) other && is_at (name_cmp name.now) at))) }
     {
@@ -150,7 +150,7 @@ impl Index {
         self.set(alloc, name, units)
     }
 
-    // takes the unit out under the names that are not kept
+    /// Takes the unit out under the names that are not kept.
     fn take_out(
         &mut self,
         alloc: Global,
@@ -168,7 +168,7 @@ impl Index {
         Ok(())
     }
 
-    // puts the unit under the names that are not known
+    /// Puts the unit under the names that are not known.
     fn put_in(
         &mut self,
         alloc: Global,
@@ -187,14 +187,14 @@ impl Index {
     }
 }
 
-// the names as a set
+/// The names as a set.
 fn set_of(alloc: Global, names: &[Name]) -> Result<BTreeSet<Name>, AllocError>
     ensures { IfOk result (λ made. (name : List ℕ) → set.contains name_cmp made name ≡ has_name names.now name) }
 {
     names.iter().copied().collect(alloc)
 }
 
-// the units but one
+/// The units but one.
 fn without(alloc: Global, units: &[Name], unit: &Name) -> Result<Vec<Name>, AllocError>
     ensures { IfOk result (λ others. (other : List ℕ) → has_name others.items other ≡ (has_name units.now other && not (is_at (name_cmp unit.now) other))) }
 {

@@ -1,4 +1,4 @@
-// Std's readers as feeds.
+//! Std's readers as feeds.
 ghost use Rattle.std.specs.Prelude.{◌≡◌, [], length, false};
 ghost use Rattle.std.specs.List.{concat};
 

@@ -1,4 +1,4 @@
-// Std's writers as sinks.
+//! Std's writers as sinks.
 ghost use Rattle.std.specs.Prelude.{◌≡◌, ◌++◌, ◌≤◌, ◌<◌, [], length, true, false, IfOk, is_err};
 ghost use Rattle.std.specs.Io.KnownBytes.{Appends, Keeps};
 ghost use Rattle.std.specs.List.{concat};
