@@ -1,4 +1,4 @@
-// The program's words.
+//! The program's words.
 ghost use Rattle.std.specs.Prelude.{◌≡◌, ◌≤◌, List, map, IfOk, IfSome, false, true, codes};
 ghost use Rattle.clap.specs.Words.{app_of, found_of, rows_of, rule_of, subcommand_rows_of};
 ghost use Rattle.fb_arguments.specs.Words.{IsNumberIn, IsAsked, Asks, IsScript, IsServe, bench_app, number_option, units_option, history_option, port_option};
@@ -19,7 +19,7 @@ const MOST_UNITS: u64 = 4096;
 
 const MOST_HISTORY: u64 = 1_000_000;
 
-// An option `--NAME N`, with N from 1 to `most`, and its default.
+/// An option `--NAME N`, with N from 1 to `most`, and its default.
 fn number_option<'a>(alloc: Global, name: &'a str, most: u64, default: &'a str) -> Arg<'a>
     ensures rule { rule_of result ≡ number_option name.now most default.now }
     ensures local { result.global ≡ false }

@@ -1,3 +1,5 @@
+//! The settings of the program.
+
 /// What the program is asked to do.
 #[derive(Clone, Copy, Debug, PartialEq, Eq)]
 pub enum Settings {

@@ -1,3 +1,4 @@
+//! What the five recorded calls answer.
 ghost use Rattle.std.specs.Prelude.{◌≡◌};
 ghost use Rattle.fb_bench.specs.declared.answers.Refused.TheVariants.{Memory};
 

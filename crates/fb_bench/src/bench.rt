@@ -1,3 +1,4 @@
+//! The workbench: its texts, its entries and its history, and the calls that change them.
 ghost use Rattle.std.specs.Prelude.{◌≡◌};
 ghost use Rattle.fb_jobs.specs.Reads.{stale, is_current};
 ghost use Rattle.fb_jobs.specs.Values.{all_seen, seen_of};
@@ -128,7 +129,7 @@ impl Bench {
         self.entries.waiting.len()
     }
 
-    // what is known of a key
+    /// What is known of a key.
     fn shown(&self, key: &Key) -> Result<Asked, AllocError>
         ensures { IfOk result (λ asked. shown_in asked ≡ shown (state_of self.now) key.now) }
     {
@@ -152,7 +153,7 @@ impl Bench {
         Ok(answer)
     }
 
-    // as `ask`, with a share of the record
+    /// As `ask`, with a share of the record.
     fn ask_recorded(&mut self, caller: u32, key: Key) -> Result<(Asked, Arc<Record>), Refused>
         ensures step { IfOk result (λ _. self.new ≡ recorded self.old caller (ToAsk key)) }
         ensures answer { IfOk result (λ made. OfAsk (shown_in made.0) ≡ reply (state_of self.old) (ToAsk key)) }
@@ -202,7 +203,7 @@ impl Bench {
         self.library.revision(unit)
     }
 
-    // the least key that is pending and not handed out
+    /// The least key that is pending and not handed out.
     fn next(&self) -> Option<Key>
         ensures { result ≡ next (state_of self.now) }
     {
@@ -223,7 +224,7 @@ impl Bench {
         Ok(answer)
     }
 
-    // as `take`, with a share of the record
+    /// As `take`, with a share of the record.
     fn take_recorded(&mut self, caller: u32) -> Result<(Taken, Arc<Record>), Refused>
         ensures step { IfOk result (λ _. self.new ≡ recorded self.old caller ToTake) }
         ensures answer { IfOk result (λ made. OfTake (job_in made.0) ≡ reply (state_of self.old) ToTake) }
@@ -247,7 +248,7 @@ impl Bench {
         }
     }
 
-    // a job for the key that is next, and the answer that is recorded of it
+    /// A job for the key that is next, and the answer that is recorded of it.
     fn job_for(&self, key: Key) -> Result<(Job, Reply), AllocError>
         requires { Some key ≡ next (state_of self.now) }
         ensures job { IfOk result (λ made. OfTake (Some made.0) ≡ reply (state_of self.now) ToTake) }
@@ -259,7 +260,7 @@ impl Bench {
         Ok((job, answer))
     }
 
-    // records that the key that is next is handed out
+    /// Records that the key that is next is handed out.
     fn hand_out(&mut self, caller: u32, key: &Key, answer: Reply) -> Result<Arc<Record>, AllocError>
         requires room { length self.old.log.records < self.old.log.limit }
         requires next { Some key.now ≡ next (state_of self.old) }
@@ -286,7 +287,7 @@ impl Bench {
         Ok(answer)
     }
 
-    // as `commit`, with a share of the record
+    /// As `commit`, with a share of the record.
     fn commit_recorded(
         &mut self,
         caller: u32,
@@ -349,7 +350,7 @@ impl Bench {
         Ok(answer)
     }
 
-    // as `deliver`, with a share of the record
+    /// As `deliver`, with a share of the record.
     fn deliver_recorded(
         &mut self,
         caller: u32,
@@ -381,7 +382,7 @@ impl Bench {
         }
     }
 
-    // records a result that is accepted, and keeps its value
+    /// Records a result that is accepted, and keeps its value.
     fn take_in(
         &mut self,
         caller: u32,
@@ -416,7 +417,7 @@ impl Bench {
         }
     }
 
-    // whether the key waits for a result
+    /// Whether the key waits for a result.
     fn waits(&self, key: &Key) -> bool
         ensures { result ≡ (state_of self.now).pending key.now }
     {
@@ -437,7 +438,7 @@ impl Bench {
         Ok(answer)
     }
 
-    // as `give_back`, with a share of the record
+    /// As `give_back`, with a share of the record.
     fn give_back_recorded(
         &mut self,
         caller: u32,
@@ -465,7 +466,7 @@ impl Bench {
         Ok((GivenBack::Returned, share))
     }
 
-    // records that a key is given back that waits for a result, and lets it be taken again
+    /// Records that a key is given back that waits for a result, and lets it be taken again.
     fn make_ready(&mut self, caller: u32, key: &Key) -> Result<Arc<Record>, AllocError>
         requires room { length self.old.log.records < self.old.log.limit }
         requires out { (state_of self.old).out key.now ≡ true }
@@ -488,7 +489,7 @@ impl Bench {
         }
     }
 
-    // records that a key is given back that has a value
+    /// Records that a key is given back that has a value.
     fn clear_out(&mut self, caller: u32, key: &Key) -> Result<Arc<Record>, AllocError>
         requires room { length self.old.log.records < self.old.log.limit }
         requires out { (state_of self.old).out key.now ≡ true }
@@ -539,7 +540,7 @@ impl Bench {
         }
     }
 
-    // whether a result is taken in, by what the library has now
+    /// Whether a result is taken in, by what the library has now.
     fn judged(&self, key: Key, reads: &[Read]) -> Delivered
         ensures { result ≡ deliver_answer (state_of self.now) (record { key = key; reads = all_seen reads.now }) }
     {
@@ -558,7 +559,7 @@ impl Bench {
     }
 }
 
-// the first read that is not as the library has it
+/// The first read that is not as the library has it.
 fn first_stale(library: &Library, reads: &[Read]) -> Option<Name>
     ensures { result ≡ stale library.now (all_seen reads.now) }
 {
@@ -570,7 +571,7 @@ fn first_stale(library: &Library, reads: &[Read]) -> Option<Name>
     None
 }
 
-// absent now as then, or present with the same revision and the same text
+/// Whether the unit is absent now as then, or present with the same revision and the same text.
 fn is_current(library: &Library, read: &Read) -> bool
     ensures { result ≡ is_current library.now (seen_of read.now) }
 {

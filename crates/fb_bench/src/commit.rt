@@ -35,7 +35,7 @@ pub(crate) fn first_changes(changes: &[Change]) -> &[Change]
     }
 }
 
-// whether one of the changes is of the unit
+/// Whether one of the changes is of the unit.
 fn is_changed(changes: &[Change], unit: Name) -> bool
     ensures { result ≡ is_among unit (map unit_of (edits_of changes.now)) }
 {
@@ -47,7 +47,7 @@ fn is_changed(changes: &[Change], unit: Name) -> bool
     false
 }
 
-// the unit of the first change whose unit came before
+/// The unit of the first change whose unit came before.
 fn repeated(changes: &[Change]) -> Option<Name>
     ensures { result ≡ first_repeated (map unit_of (edits_of changes.now)) }
 {
@@ -60,7 +60,7 @@ fn repeated(changes: &[Change]) -> Option<Name>
     None
 }
 
-// what is wrong with a change on its own
+/// What is wrong with a change on its own.
 fn misfit(library: &Library, change: &Change) -> Option<Committed>
     ensures { result ≡ misfit library.now (edit_of change.now) }
 {

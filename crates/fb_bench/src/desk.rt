@@ -1,3 +1,4 @@
+//! Desks: the recorded calls, as one session makes them.
 ghost use Rattle.std.specs.Prelude.{◌≡◌};
 ghost use Rattle.fb_bench.specs.Refusals.{as_desk};
 

@@ -29,22 +29,22 @@ use std::sync::Arc;
 /// The keys of a library, what is kept of each, and which of them wait.
 #[derive(Drop)]
 pub(crate) struct Entries {
-    // the keys, in order
+    /// The keys, in order.
     pub(crate) keys: Vec<Key>,
     pub(crate) by_key: BTreeMap<Key, Entry>,
-    // the keys that are pending and not handed out
+    /// The keys that are pending and not handed out.
     pub(crate) ready: BTreeSet<Key>,
-    // the keys that are pending
+    /// The keys that are pending.
     pub(crate) waiting: BTreeSet<Key>,
 }
 
 /// What a good commit leaves, found before anything is written.
 #[derive(Drop)]
 pub(crate) struct Found {
-    // of the texts after the commit
+    /// The index of the texts after the commit.
     pub(crate) index: Index,
     pub(crate) renewal: Renewal,
-    // the keys after it, where they are others
+    /// The keys after the commit, where they are others.
     pub(crate) keys: Option<Vec<Key>>,
 }
 

@@ -1,3 +1,4 @@
+//! What is kept of a key.
 ghost use Rattle.std.specs.Prelude.{◌≡◌, Some, true, false, OnOk, OnErr, if◌then◌else◌};
 ghost use Rattle.std.specs.Option.{option_map};
 ghost use Rattle.std.specs.BTreeMap as tree;

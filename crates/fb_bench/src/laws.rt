@@ -1,3 +1,4 @@
+//! Laws of a workbench: its entries follow its texts, whatever the calls are.
 ghost use Rattle.std.specs.Prelude.{◌≡◌, ℕ, true, List};
 ghost use Rattle.fb_jobs.specs.Library.Texts.{Texts};
 ghost use Rattle.fb_jobs.specs.declared.key.Key.{Key};

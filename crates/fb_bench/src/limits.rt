@@ -1,3 +1,4 @@
+//! How many units and recorded calls there may be.
 ghost use Rattle.std.specs.Prelude.{◌≡◌};
 ghost use Rattle.std.specs.Option.{SomeIff};
 ghost use Rattle.fb_bench.specs.Limits.{AreLimits};

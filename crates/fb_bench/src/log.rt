@@ -1,3 +1,5 @@
+//! The history: the recorded calls, and how many each caller has made.
+
 use crate::answers::Refused;
 use crate::record::{Call, Record, Reply};
 use std::alloc::{AllocError, Global};
@@ -72,7 +74,7 @@ impl History {
         }
     }
 
-    // how many recorded calls the caller has made
+    /// How many recorded calls the caller has made.
     fn turns_of(&self, caller: u32) -> u64
         ensures count { result ≡ turns_of caller self.now.records }
     {

@@ -20,17 +20,17 @@ use std::collections::{BTreeMap, BTreeSet};
 /// The keys that a commit makes, reaches and ends. Nothing is changed by finding them.
 #[derive(Drop)]
 pub(crate) struct Renewal {
-    // new keys, which have no entry yet
+    /// New keys, which have no entry yet.
     pub(crate) fresh: Vec<Key>,
-    // keys of changed units that the new texts don't have
+    /// Keys of changed units that the new texts don't have.
     pub(crate) gone: Vec<Key>,
-    // new and reached keys, which are to wait for a result, and which of them are to join the sets
+    /// New and reached keys, which are to wait for a result, and which of them are to join the sets.
     pub(crate) renewed: Vec<Key>,
     pub(crate) unready: Vec<Key>,
     pub(crate) unwaiting: Vec<Key>,
 }
 
-// the units of the changes
+/// The units of the changes.
 pub(crate) fn changed_units(alloc: Global, changes: &[Change]) -> Result<Vec<Name>, AllocError>
     ensures { IfOk result (λ names. names.items ≡ map unit_of (edits_of changes.now)) }
 {
@@ -41,7 +41,7 @@ pub(crate) fn changed_units(alloc: Global, changes: &[Change]) -> Result<Vec<Nam
     Ok(names)
 }
 
-// those that have no entry
+/// The keys of these that have no entry.
 pub(crate) fn without_entry(
     alloc: Global,
     entries: &BTreeMap<Key, Entry>,
@@ -58,7 +58,7 @@ pub(crate) fn without_entry(
     Ok(fresh)
 }
 
-// those that the library doesn't have
+/// The keys of these that the library doesn't have.
 pub(crate) fn absent(alloc: Global, library: &Library, keys: &[Key]) -> Result<Vec<Key>, AllocError>
     ensures { IfOk result (λ gone. gone.items ≡ filter (λ key. not (has_key library.now key)) keys.now) }
 {
@@ -71,7 +71,7 @@ pub(crate) fn absent(alloc: Global, library: &Library, keys: &[Key]) -> Result<V
     Ok(gone)
 }
 
-// those that are not in the set
+/// The keys of these that are not in the set.
 pub(crate) fn not_in(
     alloc: Global,
     keys: &BTreeSet<Key>,
@@ -88,7 +88,7 @@ pub(crate) fn not_in(
     Ok(others)
 }
 
-// whether one of the keys has an entry
+/// Whether one of the keys has an entry.
 fn have_entries(entries: &BTreeMap<Key, Entry>, keys: &[Key]) -> bool
     ensures { result ≡ have_entries entries.now keys.now }
 {
@@ -121,7 +121,7 @@ pub(crate) fn replace(keys: &mut Vec<Key>, others: Option<Vec<Key>>)
     }
 }
 
-// entries that wait for a result
+/// Makes an entry that waits for a result for each of these keys.
 pub(crate) fn put_blank(entries: &mut BTreeMap<Key, Entry>, keys: &[Key]) -> Result<(), AllocError>
     ensures others { (other : Key) → is_of other keys.now ≡ false → tree.get key_cmp entries.new other ≡ tree.get key_cmp entries.old other }
     ensures there { OnOk result ((other : Key) → is_of other keys.now ≡ true → is_none (tree.get key_cmp entries.new other) ≡ false) }
@@ -138,7 +138,7 @@ pub(crate) fn put_blank(entries: &mut BTreeMap<Key, Entry>, keys: &[Key]) -> Res
     Ok(())
 }
 
-// takes the entries of these keys out
+/// Takes the entries of these keys out.
 pub(crate) fn take_out(entries: &mut BTreeMap<Key, Entry>, keys: &[Key])
     ensures { (other : Key) → tree.get key_cmp entries.new other ≡ (if is_of other keys.now then None else tree.get key_cmp entries.old other) }
 {
@@ -165,7 +165,7 @@ pub(crate) fn leave_all(members: &mut BTreeSet<Key>, keys: &[Key])
     }
 }
 
-// lets all of these keys wait for a result
+/// Lets all of these keys wait for a result.
 pub(crate) fn renew_all(entries: &mut BTreeMap<Key, Entry>, keys: &[Key])
     ensures { (other : Key) → tree.get key_cmp entries.new other ≡ waiting_if (is_of other keys.now) (tree.get key_cmp entries.old other) }
 {

@@ -109,7 +109,7 @@ fn are_same_changes(a: &[TextChange], b: &[TextChange]) -> bool
     true
 }
 
-// the same text at the same revision, or none
+/// The same text at the same revision, or none.
 fn is_same_find(
     revision: u64,
     text: &Option<Arc<String>>,
@@ -151,7 +151,7 @@ fn is_same_wanted(a: &Wanted, b: &Wanted) -> bool
     is_one_key(&a.key, &b.key) && are_same_reads(&a.reads, &b.reads)
 }
 
-// the same items, where items that compare equal are one
+/// The same items, where items that compare equal are one.
 fn are_equal<T: PartialEq>(a: &[T], b: &[T]) -> bool
     requires { (x y : T) → IsTrue (T.eq x y) ↔ (x ≡ y) }
     ensures { IsTrue result ↔ (a.now ≡ b.now) }

@@ -1,4 +1,4 @@
-// The program, over the streams that it is given.
+//! The program, over the streams that it is given.
 ghost use Rattle.std.specs.Prelude.{◌≡◌, ◌≢◌, ◌<◌, ◌≤◌, ◌++◌, ℕ, List, map, false};
 ghost use Rattle.std.specs.Io.KnownBytes.{IsAtEnd};
 ghost use Rattle.std.specs.declared.io.ErrorKind.TheVariants.{InvalidData};

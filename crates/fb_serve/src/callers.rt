@@ -1,4 +1,4 @@
-// The threads of a server: a session for each connection, and the workers beside them.
+//! The threads of a server: a session for each connection, and the workers beside them.
 ghost use Rattle.std.specs.Prelude.{List};
 ghost use Rattle.fb_serve.specs.Shown.{IsNew, IsShown, AreShown};
 
@@ -38,7 +38,7 @@ impl NewSeat {
     }
 }
 
-// What a thread leaves: its seat, and the receipts of all calls with it.
+/// What a thread leaves: its seat, and the receipts of all calls with it.
 #[derive(Drop)]
 struct Left {
     seat: Seat,
@@ -94,7 +94,7 @@ impl Gathered {
     }
 }
 
-// Threads that were started, and whether all of them were.
+/// Threads that were started, and whether all of them were.
 #[derive(Drop)]
 struct Started {
     threads: Vec<JoinHandle<Left>>,
@@ -150,7 +150,7 @@ fn start_workers<'s, E, R: Threads + Wait + Sync>(
     Started { threads, is_whole }
 }
 
-// Lets in a connection for each seat.
+/// Lets in a connection for each seat.
 fn start_sessions<'s, E, R: Threads + Wait + Sync>(
     scope: &Scope<'s, E>,
     rt: &'s R,
@@ -182,7 +182,7 @@ fn start_sessions<'s, E, R: Threads + Wait + Sync>(
     Started { threads, is_whole }
 }
 
-// A worker's thread.
+/// A worker's thread.
 fn work<R: Wait>(rt: &R, alloc: Global, shared: &Shared, seat: NewSeat) -> Left {
     let NewSeat { mut seat } = seat;
     let mut receipts = Vec::new(alloc);
@@ -190,7 +190,7 @@ fn work<R: Wait>(rt: &R, alloc: Global, shared: &Shared, seat: NewSeat) -> Left 
     Left::of(seat, receipts)
 }
 
-// A session's thread, which owns its stream. It tells a fault before it ends.
+/// A session's thread, which owns its stream. It tells a fault before it ends.
 fn talk<R: Wait>(
     rt: &R,
     alloc: Global,

@@ -1,4 +1,4 @@
-// Why a run fails.
+//! Why a run fails.
 ghost use Rattle.std.specs.Prelude.{◌≡◌, ◌↔◌, None};
 
 use fb_wire::RunEnd;

@@ -1,4 +1,4 @@
-// The line that the server prints first.
+//! The line that the server prints first.
 ghost use Rattle.std.specs.Prelude.{◌≡◌, ◌<◌, ◌^◌, ℕ, IfOk, false};
 ghost use Rattle.fb_streams.specs.Streams.{WritesAll};
 ghost use Rattle.fb_serve.specs.Lines.{greeting};

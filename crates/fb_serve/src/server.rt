@@ -1,4 +1,4 @@
-// The server, on the listener that it is given.
+//! The server, on the listener that it is given.
 ghost use Rattle.std.specs.Prelude.{◌≡◌, ◌≤◌, ℕ, All, IfOk, true, false};
 ghost use Rattle.fb_shared.specs.Book.{IsBookOf};
 ghost use Rattle.fb_serve.specs.Lines.{SaysLines};
@@ -72,7 +72,7 @@ pub fn serve_sessions<R: Threads + Wait + Sync, E: Write>(
     close(alloc, shared, gathered)
 }
 
-// The seats of a new workbench.
+/// The seats of a new workbench.
 fn new_seats(alloc: Global, seats: Vec<Seat>) -> Result<Vec<NewSeat>, AllocError>
     requires { All IsNew seats.items }
 {
@@ -83,7 +83,7 @@ fn new_seats(alloc: Global, seats: Vec<Seat>) -> Result<Vec<NewSeat>, AllocError
     Ok(fresh)
 }
 
-// Closes with all that the threads left.
+/// Closes with all that the threads left.
 fn close(alloc: Global, shared: Shared, gathered: Gathered) -> Result<Served, NotServed>
     ensures all { IfOk result (λ served. ShowsAll served.closed.bench.log.records served.receipts.items) }
     ensures counts { IfOk result (λ served. (callers : ℕ) × IsBookOf served.closed.counts callers served.closed.bench.log.records) }
@@ -102,7 +102,7 @@ fn close(alloc: Global, shared: Shared, gathered: Gathered) -> Result<Served, No
     }
 }
 
-// Tells the faults of the sessions, which have all ended.
+/// Tells the faults of the sessions, which have all ended.
 fn tell<R: Wait, E: Write>(rt: &R, told: &Receiver<SessionFault>, errors: &mut E) {
     for it in told.iter(rt) {
         let SessionFault { caller, fault } = it;

@@ -1,4 +1,4 @@
-// One session.
+//! One session.
 ghost use Rattle.std.specs.Prelude.{◌≡◌, ◌↔◌, ◌≤◌, ◌+◌, ◌++◌, ℕ, List, map, IsTrue, false};
 ghost use Rattle.std.specs.Io.KnownBytes.{Consumes, IsAtEnd};
 ghost use Rattle.fb_streams.specs.Streams.{StaysFlushed};

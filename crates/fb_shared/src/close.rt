@@ -1,3 +1,4 @@
+//! The end of the calls, by all seats and receipts.
 ghost use Rattle.std.specs.Prelude.{◌≡◌, ◌==◌, ◌&&◌, ◌<◌, ℕ, not, true, false, ◌↔◌, length, replicate, IsTrue, MatchOption, MatchResult, find, IfErr, IfOk};
 ghost use Rattle.std.specs.BTreeMap.{keys, IsOrdered};
 ghost use Rattle.std.specs.Ordering.{nat_cmp};
@@ -67,7 +68,7 @@ impl Locked {
         Ok(Closed { bench, counts })
     }
 
-    // the first fault of seats and receipts, if there is one.
+    /// The first fault of seats and receipts, if there is one.
     fn first_fault(&self, alloc: Global, seats: &[Seat], receipts: &[Receipt]) -> Option<CloseFault>
         ensures { MatchOption result (AgreesWith self.now seats.now receipts.now) (IsFirstFault self.now seats.now receipts.now) }
     {
@@ -83,7 +84,7 @@ impl Locked {
         }
     }
 
-    // the least caller with a seat that differs from the book.
+    /// The least caller with a seat that differs from the book.
     fn wrong_seat(&self, seats: &[Seat]) -> Option<u32>
         ensures { IsLeast (has_wrong_seat self.now.bench.log.records seats.now) result }
     {
@@ -96,7 +97,7 @@ impl Locked {
     }
 }
 
-// the caller, where it is wrong and below the one that was found, and else that one.
+/// The caller, where it is wrong and below the one that was found, and else that one.
 fn lesser(least: Option<u32>, caller: u32, wrong: bool) -> Option<u32>
     ensures { result ≡ lesser_of least caller wrong }
 {
@@ -107,7 +108,7 @@ fn lesser(least: Option<u32>, caller: u32, wrong: bool) -> Option<u32>
     }
 }
 
-// the first of the book's callers without a seat.
+/// The first of the book's callers without a seat.
 fn missing_seat(book: &BTreeMap<u32, u64>, seats: &[Seat]) -> Option<u32>
     ensures found { result ≡ find (λ q. not (has_seat seats.now q)) (keys book.now) }
     ensures ordered { IsOrdered nat_cmp book.now }
@@ -123,7 +124,7 @@ fn is_seated(seats: &[Seat], caller: u32) -> bool
     seats.iter().any(|seat| seat.caller() == caller)
 }
 
-// whether each receipt is the record at its number, and none comes twice.
+/// Whether each receipt is the record at its number, and none comes twice.
 fn check_receipts(alloc: Global, bench: &Bench, receipts: &[Receipt]) -> Result<(), CloseFault>
     ensures { MatchResult result (λ _. AreReceiptsRight bench.now.log.records receipts.now) (IsReceiptFault bench.now.log.records receipts.now) }
 {
@@ -144,14 +145,14 @@ fn check_receipts(alloc: Global, bench: &Bench, receipts: &[Receipt]) -> Result<
     Ok(())
 }
 
-// a mark for each record.
+/// A mark for each record.
 fn marks_for(alloc: Global, bench: &Bench) -> Result<Vec<bool>, AllocError>
     ensures { IfOk result (λ marks. marks.items ≡ replicate (length bench.now.log.records) false) }
 {
     vec![in alloc; false; bench.len()]
 }
 
-// whether the receipt is the record at its number.
+/// Whether the receipt is the record at its number.
 fn is_record(bench: &Bench, receipt: &Receipt) -> bool
     ensures { IsTrue result ↔ IsReceiptRight bench.now.log.records receipt.now }
 {

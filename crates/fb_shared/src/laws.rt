@@ -1,3 +1,4 @@
+//! Laws of histories and of the receipts of their calls.
 ghost use Rattle.std.specs.Prelude.{◌≡◌, ◌<◌, ℕ, List, Some};
 ghost use Rattle.std.specs.List.{Contains};
 ghost use Rattle.fb_bench.specs.Story.{Record, record_at, turns_of, AreTurns};

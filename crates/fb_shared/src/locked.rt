@@ -1,3 +1,4 @@
+//! What lies under the lock, and the calls on it.
 ghost use Rattle.std.specs.Prelude.{◌≡◌, [], true, false, IfOk, IfErr, IfSome, OnOk, OnErr, length, None, Some, ◌≤◌, vec_len, vec_capacity};
 ghost use Rattle.fb_bench.specs.Machine.{ToCommit, ToTake, ToDeliver, ToGiveBack, ToAsk, OfAsk};
 ghost use Rattle.fb_bench.specs.Records.{listed, shown_in};
@@ -97,7 +98,7 @@ impl Locked {
         self.stopped = true;
     }
 
-    // the first thing that ends a worker before it takes
+    /// The first thing that ends a worker before it takes.
     pub(crate) fn end_of_work(&self, seat: &Seat) -> Option<WorkEnd>
         ensures first { result ≡ end_before_take self.now seat.now }
         ensures names { IfSome result (NamesSeat seat.now) }
@@ -111,7 +112,7 @@ impl Locked {
         }
     }
 
-    // a look of a worker for a job, with room for two receipts where it takes one
+    /// A look of a worker for a job, with room for two receipts where it takes one.
     pub(crate) fn look(&mut self, seat: &mut Seat, receipts: &mut Vec<Receipt>) -> Look
         ensures looks { Looks self.old seat.old result self.new }
         ensures adds { AddsLook result (vec_len receipts.new) (vec_capacity receipts.new) seat.old receipts.old.items receipts.new.items seat.new }
@@ -138,12 +139,12 @@ impl Locked {
         }
     }
 
-    // whether a worker that waits has to look again
+    /// Whether a worker that waits has to look again.
     pub(crate) fn calls_workers(&self) -> bool {
         self.stopped || self.bench.has_work() || self.bench.is_full()
     }
 
-    // the first cause against a call with this seat
+    /// The first cause against a call with this seat.
     pub(crate) fn admit(&self, seat: &Seat) -> Result<(), SharedRefused>
         ensures ok { OnOk result (refusal_of self.now seat.now ≡ None) }
         ensures fits { OnOk result ((turns_of seat.now.caller self.now.bench.log.records ≡ seat.now.turns) × (seat.now.seen ≤ length self.now.bench.log.records)) }
@@ -166,7 +167,7 @@ impl Locked {
         Ok(())
     }
 
-    // makes a call with a seat, and gives its receipt and the answer
+    /// Makes a call with a seat, and gives its receipt and the answer.
     pub(crate) fn perform(
         &mut self,
         seat: &mut Seat,
@@ -191,7 +192,7 @@ impl Locked {
         Ok((receipt, answer))
     }
 
-    // makes a call of this caller, and counts it in the book
+    /// Makes a call of this caller, and counts it in the book.
     fn make_call(
         &mut self,
         caller: u32,
@@ -268,7 +269,7 @@ impl Locked {
         Ok(self.ask_with(seat, key)?.0)
     }
 
-    // as `ask`, with an answer that is the caller's own
+    /// As `ask`, with an answer that is the caller's own.
     pub(crate) fn ask_with(
         &mut self,
         seat: &mut Seat,
@@ -295,7 +296,7 @@ pub(crate) fn job_from(answer: Answered) -> Option<Job>
     }
 }
 
-// the answer to a question
+/// The answer to a question.
 fn asked_from(answer: Answered) -> Asked
     requires { IsAsked (reply_in answer) }
     ensures { OfAsk (shown_in result) ≡ reply_in answer }
@@ -307,7 +308,7 @@ fn asked_from(answer: Answered) -> Asked
     }
 }
 
-// the book in which each of the first callers has an empty page
+/// The book in which each of the first callers has an empty page.
 fn open_book(alloc: Global, callers: u32) -> Result<BTreeMap<u32, u64>, AllocError>
     ensures { IfOk result (λ book. IsBookOf book callers []) }
 {

@@ -1,3 +1,4 @@
+//! The seats of callers, and the receipts of their calls.
 ghost use Rattle.std.specs.Prelude.{◌≡◌, ◌↔◌, IsTrue, max};
 ghost use Rattle.fb_bench.specs.Records.{call_of, reply_of};
 

@@ -1,3 +1,4 @@
+//! A shared workbench as the desk of one seat.
 ghost use Rattle.std.specs.Prelude.{◌≡◌};
 ghost use Rattle.fb_bench.specs.Machine.{OfCommit, OfDeliver, OfGiveBack};
 ghost use Rattle.fb_bench.specs.Records.{job_in};
@@ -58,7 +59,7 @@ impl<'a, R: Wait> Seated<'a, R> {
     }
 }
 
-// why a call is refused, as a desk says it
+/// Why a call is refused, as a desk says it.
 fn desk_refused(refused: SharedRefused) -> DeskRefused
     ensures { result ≡ desk_refused refused }
 {
@@ -69,7 +70,7 @@ fn desk_refused(refused: SharedRefused) -> DeskRefused
     }
 }
 
-// the answer to a commit
+/// The answer to a commit.
 fn committed_in(receipt: &Receipt) -> Committed
     requires { IsCommitted receipt.now.entry.reply }
     ensures { OfCommit result ≡ receipt.now.entry.reply }
@@ -81,7 +82,7 @@ fn committed_in(receipt: &Receipt) -> Committed
     }
 }
 
-// the answer to a delivery
+/// The answer to a delivery.
 fn delivered_in(receipt: &Receipt) -> Delivered
     requires { IsDelivered receipt.now.entry.reply }
     ensures { OfDeliver result ≡ receipt.now.entry.reply }
@@ -94,7 +95,7 @@ fn delivered_in(receipt: &Receipt) -> Delivered
     }
 }
 
-// the answer to a key that is given back
+/// The answer to a key that is given back.
 fn returned_in(receipt: &Receipt) -> GivenBack
     requires { IsReturned receipt.now.entry.reply }
     ensures { OfGiveBack result ≡ receipt.now.entry.reply }
@@ -180,7 +181,7 @@ impl<R: Wait> Desk for Seated<'_, R> {
     }
 }
 
-// a job that is handed out, or nothing to do
+/// A job that is handed out, or nothing to do.
 fn taken_from(job: Option<Job>) -> Taken
     ensures { job_in result ≡ job }
 {

@@ -1,3 +1,4 @@
+//! The workbench that threads share, behind its lock.
 ghost use Rattle.std.specs.Prelude.{◌≡◌, IfOk, IfErr};
 ghost use Rattle.fb_bench.specs.Machine.{ToCommit, ToTake, ToDeliver, ToGiveBack, ToAsk, OfAsk};
 ghost use Rattle.fb_bench.specs.Records.{listed, shown_in};
@@ -40,7 +41,7 @@ impl Shared {
         Ok((shared, seats))
     }
 
-    // wakes the workers that wait, where there is something for them
+    /// Wakes the workers that wait, where there is something for them.
     fn wake(&self, locked: &Locked) {
         if locked.calls_workers() {
             self.changed.notify_all();
@@ -114,7 +115,7 @@ impl Shared {
         Ok(self.ask_with(rt, seat, key)?.0)
     }
 
-    // as `ask`, with an answer that is the caller's own
+    /// As `ask`, with an answer that is the caller's own.
     pub(crate) fn ask_with<R: Wait>(
         &self,
         rt: &R,

@@ -1,3 +1,4 @@
+//! Workers, which take jobs, run them and deliver the results.
 ghost use Rattle.std.specs.Prelude.{◌≡◌, ◌*◌, ◌<◌, IfOk, IfSome, Some, vec_len, vec_capacity};
 ghost use Rattle.fb_shared.specs.Ends.{end_of, NamesSeat, LookNames};
 ghost use Rattle.fb_shared.specs.Runs.{Works, AddsLook, Empty, Holds};
@@ -30,7 +31,7 @@ impl Gate for Plain {
 /// Why a worker ended.
 #[derive(Clone, Copy, PartialEq, Eq, Debug)]
 pub enum WorkEnd {
-    /// All its turns are used.
+    /// All its turns are used. A turn of a worker is one look for a job.
     TurnsOver,
     /// The workers are to stop.
     Stopped,
@@ -56,7 +57,7 @@ impl WorkEnd {
     }
 }
 
-// what a look for a job found
+/// What a look for a job found.
 pub(crate) enum Look {
     Ended(WorkEnd),
     Nothing,
@@ -88,7 +89,7 @@ pub fn work_on<R: Wait, G: Gate>(
     WorkEnd::TurnsOver
 }
 
-// one look for a job and, where there is one, its run
+/// One look for a job and, where there is one, its run.
 fn work_turn<R: Wait, G: Gate>(
     rt: &R,
     alloc: Global,
@@ -107,7 +108,7 @@ fn work_turn<R: Wait, G: Gate>(
     }
 }
 
-// takes a job under one hold of the lock; where there is none, it waits for a change
+/// Takes a job under one hold of the lock; where there is none, it waits for a change.
 fn take_job<R: Wait>(rt: &R, shared: &Shared, seat: &mut Seat, receipts: &mut Vec<Receipt>) -> Look
     ensures adds { AddsLook result (vec_len receipts.new) (vec_capacity receipts.new) seat.old receipts.old.items receipts.new.items seat.new }
     ensures names { LookNames seat.new result }
@@ -120,7 +121,7 @@ fn take_job<R: Wait>(rt: &R, shared: &Shared, seat: &mut Seat, receipts: &mut Ve
     look
 }
 
-// runs a job that was taken, and delivers its result; where memory is wanting, it gives the key back
+/// Runs a job that was taken, and delivers its result; where memory is wanting, it gives the key back.
 fn finish<R: Wait, G: Gate>(
     rt: &R,
     alloc: Global,
@@ -152,7 +153,7 @@ fn finish<R: Wait, G: Gate>(
     }
 }
 
-// gives the key of a job back, if it can
+/// Gives the key of a job back, if it can.
 fn give_back<R: Wait>(
     rt: &R,
     shared: &Shared,
