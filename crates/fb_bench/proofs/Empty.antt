@@ -15,7 +15,7 @@ use Rattle.fb_bench.specs.Story.{Log, IsOrigin, opened, start, replay, replies}
 use Rattle.fb_bench.specs.Kept.{Agrees, IsKept, EntryFits}
 use Rattle.fb_index.specs.Near.{Users}
 use Rattle.fb_bench.proofs.Indexing.{indexed_none}
-use Rattle.fb_bench.proofs.Least.{no_kind}
+use Rattle.fb_jobs.proofs.KindLemmas.{no_kind}
 
 no_key : (key : Key) → has_key [] key ≡ false
 unfolding has_key

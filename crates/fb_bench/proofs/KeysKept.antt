@@ -16,7 +16,8 @@ use Rattle.fb_jobs.specs.Keys.{has_key}
 use Rattle.fb_jobs.specs.KeyOrder.{key_cmp, same_key}
 use Rattle.fb_bench.specs.declared.entry.Entry.{Entry}
 use Rattle.fb_bench.specs.declared.renewal.Renewal.{Renewal}
-use Rattle.fb_bench.specs.Machine.{State, all_keys, keys_of}
+use Rattle.fb_jobs.specs.Kinds.{all_keys}
+use Rattle.fb_bench.specs.Machine.{State, keys_of}
 use Rattle.fb_bench.specs.Story.{Story, IsOrigin, state_of}
 use Rattle.fb_bench.specs.Kept.{EntryFits, Agrees}
 use Rattle.fb_bench.specs.Renew.{is_of, is_own, have_entries, AreKeys, items_or, IsRenewal}

@@ -1,23 +1,21 @@
 -- The least of the keys that pass a test.
-use Rattle.std.proofs.Common.{◌≡◌, ℕ, Bool, true, false, ◌||◌, List, [], ◌∷◌, ◌++◌, filter, refl, sym, ap, ◌∙◌, subst, Option, Some, None, cond}
+use Rattle.std.proofs.Common.{◌≡◌, ℕ, Bool, true, false, ◌||◌, List, [], ◌∷◌, filter, refl, sym, ap, ◌∙◌, subst, Option, Some, None, cond}
 use Rattle.std.specs.List.{list_any}
 use Rattle.std.specs.BTreeMap.{is_at}
 use Rattle.std.specs.Ordering.{is_eq, is_lt, is_gt, ordering_reverse}
 use Rattle.std.specs.declared.cmp.Ordering.{Ordering}
 use Rattle.std.specs.declared.cmp.Ordering.TheVariants.{Less, Equal, Greater}
-use Rattle.std.proofs.lemmas.List.Folds.{list_any-append}
-use Rattle.fb_jobs.proofs.Library.Names.{exact_name}
 use Rattle.std.specs.Option.{option_map}
 use Rattle.fb_jobs.specs.Library.Texts.{Texts, held, names_of, text_in}
 use Rattle.fb_text.specs.Order.{name_cmp}
 use Rattle.fb_jobs.specs.Reads.{is_among}
 use Rattle.fb_jobs.specs.declared.key.Key.{Key}
-use Rattle.fb_jobs.specs.declared.key.Kind.{Kind}
-use Rattle.fb_jobs.specs.declared.key.Kind.TheVariants.{Faults, Net, Deploy}
 use Rattle.fb_jobs.specs.Keys.{has_key, has_kind_at}
 use Rattle.fb_jobs.specs.KeyOrder.{key_cmp, same_key}
-use Rattle.fb_bench.specs.Machine.{State, is_ready, all_keys, keys_of_kind, keys_of, least, lesser, next}
-use Rattle.fb_bench.proofs.Order.{key_total, keys_equal, same_itself, is_equal}
+use Rattle.fb_jobs.specs.Kinds.{all_keys}
+use Rattle.fb_bench.specs.Machine.{State, is_ready, keys_of, least, lesser, next}
+use Rattle.fb_jobs.proofs.KindLemmas.{in_all_keys, no_kind}
+use Rattle.fb_bench.proofs.Order.{key_total, keys_equal}
 
 -- ---- the keys of texts
 
@@ -27,37 +25,6 @@ or_left a b e = ap (λ x. x || b) e
 or_right : (a b : Bool) → b ≡ true → (a || b) ≡ true
 or_right true b e = refl
 or_right false b e = e
-
-of_kind : (kind : Kind) (name : List ℕ) (names : List (List ℕ)) → is_among name names ≡ true → list_any (same_key (record { kind = kind; unit = name })) (keys_of_kind names kind) ≡ true
-of_kind kind name [] among = cc
-of_kind kind name (n ∷ ns) among =
-    elim (is_at (name_cmp name) n) as (λ b. is_at (name_cmp name) n ≡ b → (b || is_among name ns) ≡ true → list_any (same_key (record { kind = kind; unit = name })) (keys_of_kind (n ∷ ns) kind) ≡ true) [
-      | true ↦ λ at _. or_left _ _ (subst (λ m. same_key (record { kind = kind; unit = name }) (record { kind = kind; unit = m }) ≡ true) (exact_name name n (is_equal _ at)) (same_itself (record { kind = kind; unit = name })))
-      | false ↦ λ _ rest. or_right _ _ (of_kind kind name ns rest)
-    ] refl among
-
--- whether one of three lists has it
-in_three : (p : Key → Bool) (xs ys zs : List Key) → list_any p (xs ++ (ys ++ (zs ++ []))) ≡ (list_any p xs || (list_any p ys || (list_any p zs || false)))
-in_three p xs ys zs =
-    list_any-append p xs (ys ++ (zs ++ []))
-    ∙ ap (λ b. list_any p xs || b) (list_any-append p ys (zs ++ []) ∙ ap (λ b. list_any p ys || b) (list_any-append p zs []))
-
--- each name with each kind is one of all keys
-pub at_name : (kind : Kind) (name : List ℕ) (names : List (List ℕ)) → is_among name names ≡ true → list_any (same_key (record { kind = kind; unit = name })) (all_keys names) ≡ true
-at_name Faults name names among =
-    in_three (same_key (record { kind = Faults; unit = name })) (keys_of_kind names Faults) (keys_of_kind names Net) (keys_of_kind names Deploy)
-    ∙ or_left _ _ (of_kind Faults name names among)
-at_name Net name names among =
-    in_three (same_key (record { kind = Net; unit = name })) (keys_of_kind names Faults) (keys_of_kind names Net) (keys_of_kind names Deploy)
-    ∙ or_right _ _ (or_left _ _ (of_kind Net name names among))
-at_name Deploy name names among =
-    in_three (same_key (record { kind = Deploy; unit = name })) (keys_of_kind names Faults) (keys_of_kind names Net) (keys_of_kind names Deploy)
-    ∙ or_right _ _ (or_right _ _ (or_left _ _ (of_kind Deploy name names among)))
-
-pub no_kind : (kind : Kind) → has_kind_at kind None ≡ false
-no_kind Faults = refl
-no_kind Net = refl
-no_kind Deploy = refl
 
 held_named : (T : Texts) (name : List ℕ) (b : Bool) → is_among name (names_of T) ≡ b → b ≡ false → held T name ≡ None
 held_named [] name b is none = refl
@@ -84,7 +51,7 @@ filtered p k (x ∷ xs) here among =
 pub key_named : (T : Texts) (key : Key) → has_key T key ≡ true → list_any (same_key key) (all_keys (names_of T)) ≡ true
 key_named T key has =
     elim (is_among key.unit (names_of T)) as (λ b. is_among key.unit (names_of T) ≡ b → list_any (same_key key) (all_keys (names_of T)) ≡ true) [
-      | true ↦ λ among. at_name key.kind key.unit (names_of T) among
+      | true ↦ λ among. in_all_keys (names_of T) key ∙ among
       | false ↦ λ none. let not : has_key T key ≡ false = no_key_unnamed T key none in cc
     ] refl
 

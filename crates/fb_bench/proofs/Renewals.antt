@@ -12,12 +12,13 @@ use Rattle.fb_jobs.specs.Reads.{is_among}
 use Rattle.fb_jobs.proofs.SameNeeds.{has_key_local}
 use Rattle.fb_bench.specs.declared.entry.Entry.{Entry}
 use Rattle.fb_bench.specs.declared.renewal.Renewal.{Renewal}
-use Rattle.fb_bench.specs.Machine.{State, is_ready, after_done, reaches, all_keys}
+use Rattle.fb_jobs.specs.Kinds.{all_keys}
+use Rattle.fb_bench.specs.Machine.{State, is_ready, after_done, reaches}
 use Rattle.fb_bench.specs.Kept.{EntryFits, Agrees}
 use Rattle.fb_bench.specs.Renew.{is_of, waiting_if, is_own, is_fresh, is_renewed, IsRenewal, HasRoom, IsTakenBack}
 use Rattle.fb_index.specs.Near.{Users}
 use Rattle.fb_bench.specs.Indexed.{IsIndexOf, IsReached}
-use Rattle.fb_bench.proofs.Least.{at_name}
+use Rattle.fb_jobs.proofs.KindLemmas.{in_all_keys}
 use Rattle.fb_bench.proofs.Renewing.{of_filtered, held_all_edited, agree_unreached, ScratchLocal, blank_fits, kept_fits, gone_fits}
 use Rattle.fb_bench.proofs.Reached.{reached_by}
 
@@ -33,7 +34,7 @@ and_false false = refl
 
 apart_of : (commit : ℕ) (es : List Edit) (T : Texts) (kind : Kind) (unit : List ℕ) (b : Bool) → is_among unit (map unit_of es) ≡ b → is_own (map unit_of es) (record { kind = kind; unit = unit }) ≡ false → has_key (all_edited commit es T) (record { kind = kind; unit = unit }) ≡ has_key T (record { kind = kind; unit = unit })
 unfolding has_key
-apart_of commit es T kind unit true among apart = let own : is_own (map unit_of es) (record { kind = kind; unit = unit }) ≡ true = at_name kind unit (map unit_of es) among in cc
+apart_of commit es T kind unit true among apart = let own : is_own (map unit_of es) (record { kind = kind; unit = unit }) ≡ true = in_all_keys (map unit_of es) (record { kind = kind; unit = unit }) ∙ among in cc
 apart_of commit es T kind unit false among apart = ap (λ o. has_kind_at kind (option_map text_in o)) (held_all_edited unit commit es T among)
 
 -- is there after the commit where it was before

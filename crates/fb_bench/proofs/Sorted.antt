@@ -1,5 +1,5 @@
 -- The texts of every workbench stand by rising name, and its keys by rising key.
-use Rattle.std.proofs.Common.{◌≡◌, ℕ, ◌<◌, true, false, List, [], ◌∷◌, ◌++◌, refl, ap, ◌∙◌, Option, Some, None, cond, arith}
+use Rattle.std.proofs.Common.{◌≡◌, ℕ, true, false, List, [], ◌∷◌, refl, ap, ◌∙◌, Option, Some, None, cond}
 use Rattle.std.specs.List.{AllByRecursion}
 use Rattle.std.specs.List.Sorted.{IsStrictlySortedBy}
 use Rattle.std.specs.Map.{remove_entry}
@@ -11,17 +11,17 @@ use Rattle.fb_jobs.proofs.Library.Names.{name_total}
 use Rattle.fb_jobs.specs.Library.Texts.{Texts, Held, Edit, Puts, Removes, edited, all_edited, names_of}
 use Rattle.fb_text.specs.Order.{name_cmp}
 use Rattle.fb_jobs.specs.declared.key.Key.{Key}
-use Rattle.fb_jobs.specs.declared.key.Kind.{Kind}
-use Rattle.fb_jobs.specs.declared.key.Kind.TheVariants.{Faults, Net, Deploy}
 use Rattle.fb_jobs.specs.Keys.{has_key}
-use Rattle.fb_jobs.specs.KeyOrder.{key_cmp, kind_number}
+use Rattle.fb_jobs.specs.KeyOrder.{key_cmp}
 use Rattle.fb_bench.specs.declared.answers.Committed.{Committed}
 use Rattle.fb_bench.specs.declared.answers.Committed.TheVariants.{Done, NoChange, TooManyChanges, SameUnitTwice, StaleBase, NoSuchUnit, TooManyUnits}
 use Rattle.fb_bench.specs.declared.answers.Delivered.{Delivered}
 use Rattle.fb_bench.specs.declared.answers.Delivered.TheVariants.{Accepted, NoSuchKey, NotPending, Stale}
 use Rattle.fb_bench.specs.declared.answers.GivenBack.{GivenBack}
 use Rattle.fb_bench.specs.declared.answers.GivenBack.TheVariants.{Returned, NothingOut}
-use Rattle.fb_bench.specs.Machine.{State, Call, ToCommit, ToTake, ToDeliver, ToGiveBack, ToAsk, commit_answer, after_commit, next, after_take, deliver_answer, after_deliver, give_back_answer, after_give_back, after, keys_of_kind, all_keys, keys_of}
+use Rattle.fb_jobs.specs.Kinds.{all_keys}
+use Rattle.fb_bench.specs.Machine.{State, Call, ToCommit, ToTake, ToDeliver, ToGiveBack, ToAsk, commit_answer, after_commit, next, after_take, deliver_answer, after_deliver, give_back_answer, after_give_back, after, keys_of}
+use Rattle.fb_jobs.proofs.KindLemmas.{all_keys_rise}
 use Rattle.fb_bench.specs.Story.{Story, IsOrigin, opened, replay, calls_of, state_of}
 
 abbrev Rise : Texts → Type 0
@@ -120,72 +120,8 @@ rise_replay s (call ∷ calls) rise = rise_replay (after s call) calls (rise_aft
 
 -- ---- the keys
 
-below_of_kind : (kind : Kind) (name : List ℕ) (names : List (List ℕ)) → AllByRecursion (λ other. name_cmp name other ≡ Less) names → AllByRecursion (λ other. key_cmp (record { kind = kind; unit = name }) other ≡ Less) (keys_of_kind names kind)
-below_of_kind kind name [] below = tt
-below_of_kind Faults name (n ∷ ns) below = (below.0, below_of_kind Faults name ns below.1)
-below_of_kind Net name (n ∷ ns) below = (below.0, below_of_kind Net name ns below.1)
-below_of_kind Deploy name (n ∷ ns) below = (below.0, below_of_kind Deploy name ns below.1)
-
-sorted_of_kind : (kind : Kind) (names : List (List ℕ)) → IsStrictlySortedBy name_cmp names → IsStrictlySortedBy key_cmp (keys_of_kind names kind)
-unfolding IsStrictlySortedBy
-sorted_of_kind kind [] rise = tt
-sorted_of_kind kind (n ∷ ns) rise = (below_of_kind kind n ns rise.0, sorted_of_kind kind ns rise.1)
-
--- keys of one kind, before keys that are all greater
-below_before : (first : Key) (keys others : List Key) → AllByRecursion (λ other. key_cmp first other ≡ Less) keys → AllByRecursion (λ other. key_cmp first other ≡ Less) others → AllByRecursion (λ other. key_cmp first other ≡ Less) (keys ++ others)
-below_before first [] others below above = above
-below_before first (key ∷ keys) others below above = (below.0, below_before first keys others below.1 above)
-
-sorted_before : (keys others : List Key) → IsStrictlySortedBy key_cmp keys → AllByRecursion (λ key. AllByRecursion (λ other. key_cmp key other ≡ Less) others) keys → IsStrictlySortedBy key_cmp others → IsStrictlySortedBy key_cmp (keys ++ others)
-unfolding IsStrictlySortedBy
-sorted_before [] others rise below above = above
-sorted_before (key ∷ keys) others rise below above = (below_before key keys others rise.0 below.0, sorted_before keys others rise.1 below.1 above)
-
--- a key of a lesser kind
-lesser_kind : (first kind : Kind) (unit name : List ℕ) → kind_number first < kind_number kind → key_cmp (record { kind = first; unit = unit }) (record { kind = kind; unit = name }) ≡ Less
-lesser_kind Faults Faults unit name lt = absurd (omega arith)
-lesser_kind Faults Net unit name lt = refl
-lesser_kind Faults Deploy unit name lt = refl
-lesser_kind Net Faults unit name lt = absurd (omega arith)
-lesser_kind Net Net unit name lt = absurd (omega arith)
-lesser_kind Net Deploy unit name lt = refl
-lesser_kind Deploy Faults unit name lt = absurd (omega arith)
-lesser_kind Deploy Net unit name lt = absurd (omega arith)
-lesser_kind Deploy Deploy unit name lt = absurd (omega arith)
-
-below_kind : (first kind : Kind) (unit : List ℕ) (names : List (List ℕ)) → kind_number first < kind_number kind → AllByRecursion (λ other. key_cmp (record { kind = first; unit = unit }) other ≡ Less) (keys_of_kind names kind)
-below_kind first kind unit [] lt = tt
-below_kind first kind unit (n ∷ ns) lt = (lesser_kind first kind unit n lt, below_kind first kind unit ns lt)
-
-sorted_all : (names : List (List ℕ)) → IsStrictlySortedBy name_cmp names → IsStrictlySortedBy key_cmp (all_keys names)
-unfolding IsStrictlySortedBy
-sorted_all names rise =
-    sorted_before (keys_of_kind names Faults) (keys_of_kind names Net ++ (keys_of_kind names Deploy ++ [])) (sorted_of_kind Faults names rise) (faults names)
-    (sorted_before (keys_of_kind names Net) (keys_of_kind names Deploy ++ []) (sorted_of_kind Net names rise) (nets names)
-    (sorted_before (keys_of_kind names Deploy) [] (sorted_of_kind Deploy names rise) (deploys names) tt))
-  where
-    none : (keys : List Key) → AllByRecursion (λ key. AllByRecursion (λ other. key_cmp key other ≡ Less) []) keys
-    none [] = tt
-    none (key ∷ keys) = (tt, none keys)
-
-    deploys : (units : List (List ℕ)) → AllByRecursion (λ key. AllByRecursion (λ other. key_cmp key other ≡ Less) []) (keys_of_kind units Deploy)
-    deploys units = none (keys_of_kind units Deploy)
-
-    nets : (units : List (List ℕ)) → AllByRecursion (λ key. AllByRecursion (λ other. key_cmp key other ≡ Less) (keys_of_kind names Deploy ++ [])) (keys_of_kind units Net)
-    nets [] = tt
-    nets (unit ∷ units) = (below_before (record { kind = Net; unit = unit }) (keys_of_kind names Deploy) [] (below_kind Net Deploy unit names (omega arith)) tt, nets units)
-
-    faults : (units : List (List ℕ)) → AllByRecursion (λ key. AllByRecursion (λ other. key_cmp key other ≡ Less) (keys_of_kind names Net ++ (keys_of_kind names Deploy ++ []))) (keys_of_kind units Faults)
-    faults [] = tt
-    faults (unit ∷ units) = (
-      below_before (record { kind = Faults; unit = unit }) (keys_of_kind names Net) (keys_of_kind names Deploy ++ [])
-          (below_kind Faults Net unit names (omega arith))
-          (below_before (record { kind = Faults; unit = unit }) (keys_of_kind names Deploy) [] (below_kind Faults Deploy unit names (omega arith)) tt),
-      faults units,
-    )
-
 keys_sorted : (texts : Texts) → Rise texts → IsStrictlySortedBy key_cmp (keys_of texts)
-keys_sorted texts rise = IsStrictlySortedBy-filter key_cmp (has_key texts) (all_keys (names_of texts)) (sorted_all (names_of texts) rise)
+keys_sorted texts rise = IsStrictlySortedBy-filter key_cmp (has_key texts) (all_keys (names_of texts)) (all_keys_rise (names_of texts) rise)
 
 rise_story : (story : Story) → IsOrigin story.origin → Rise (state_of story).units
 rise_story story begins = rise_replay (opened story.origin) (calls_of story.log) begins.rise

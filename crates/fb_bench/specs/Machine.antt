@@ -1,13 +1,12 @@
 -- The workbench as a machine: its states, its calls, and what each call answers and leaves.
 use Rattle.std.specs.Prelude.{ℕ, ◌+◌, Bool, ◌&&◌, ◌||◌, not, List, [], ◌∷◌, map, filter, take, find, length, Option, Some, None, if◌then◌else◌, nat_lt, ◌==◌}
-use Rattle.std.specs.List.{list_any, flat_map, enumerate_from}
+use Rattle.std.specs.List.{list_any, enumerate_from}
 use Rattle.std.specs.Option.{option_map}
 use Rattle.std.specs.Ordering.{is_lt}
 use Rattle.fb_jobs.specs.Library.Texts.{Texts, Held, held, Edit, Puts, Removes, unit_of, names_of, all_edited}
-use Rattle.fb_jobs.specs.declared.key.Kind.{Kind}
-use Rattle.fb_jobs.specs.declared.key.Kind.TheVariants.{Faults, Net, Deploy}
 use Rattle.fb_jobs.specs.declared.key.Key.{Key}
 use Rattle.fb_jobs.specs.Keys.{has_key, needs, scratch, Finding}
+use Rattle.fb_jobs.specs.Kinds.{all_keys}
 use Rattle.fb_jobs.specs.KeyOrder.{key_cmp, same_key}
 use Rattle.fb_jobs.specs.Reads.{Order, reads_for, stale, is_among}
 use Rattle.fb_bench.specs.declared.answers.Committed.{Committed}
@@ -48,17 +47,6 @@ pub data Reply : Type 0 where
   OfAsk : (shown : Shown) → Reply
 
 -- ---- keys
-
--- the kinds, in order
-abbrev pub all_kinds : List Kind
-all_kinds = Faults ∷ Net ∷ Deploy ∷ []
-
-abbrev pub keys_of_kind : List (List ℕ) → Kind → List Key
-keys_of_kind names kind = map (λ name. record { kind = kind; unit = name }) names
-
--- each name with each kind, by kind and then by name
-abbrev pub all_keys : List (List ℕ) → List Key
-all_keys names = flat_map (keys_of_kind names) all_kinds
 
 -- the keys of the texts, in order
 abbrev pub keys_of : Texts → List Key

@@ -10,7 +10,8 @@ use Rattle.fb_jobs.specs.declared.key.Key.{Key}
 use Rattle.fb_jobs.specs.Keys.{has_key}
 use Rattle.fb_jobs.specs.KeyOrder.{key_cmp, same_key}
 use Rattle.fb_jobs.specs.Library.Texts.{Texts}
-use Rattle.fb_bench.specs.Machine.{all_keys, keys_of, reaches}
+use Rattle.fb_jobs.specs.Kinds.{all_keys}
+use Rattle.fb_bench.specs.Machine.{keys_of, reaches}
 use Rattle.fb_bench.specs.declared.entry.Entry.{Entry}
 use Rattle.fb_bench.specs.declared.renewal.Renewal.{Renewal}
 

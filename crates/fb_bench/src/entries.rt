@@ -12,7 +12,7 @@ ghost use Rattle.fb_bench.specs.Machine.{first_repeated};
 ghost use Rattle.fb_bench.specs.Renew.{is_of, waiting_if, AreKeys, IsRenewal, HasRoom, IsTakenBack, items_or};
 
 use crate::entry::Entry;
-use crate::keys::{keys_by_name, only_present};
+use crate::keys::only_present;
 use crate::reach::{reached_keys, reindexed};
 use crate::renewal::{
     Renewal, absent, changed_units, join_all, leave_all, not_in, put_blank, renew_all, replace,
@@ -20,7 +20,7 @@ use crate::renewal::{
 };
 use fb_index::Index;
 use fb_jobs::library::{Change, Library};
-use fb_jobs::{Kept, Key, Value};
+use fb_jobs::{Kept, Key, Value, keys_by_name};
 use fb_text::Name;
 use std::alloc::{AllocError, Global};
 use std::collections::{BTreeMap, BTreeSet};

@@ -1,33 +1,12 @@
 //! The keys of a library, in order.
-ghost use Rattle.std.specs.Prelude.{◌≡◌, ◌++◌, filter, IfOk, OnOk};
+ghost use Rattle.std.specs.Prelude.{◌≡◌, filter, IfOk};
 ghost use Rattle.fb_jobs.specs.Keys.{has_key};
-ghost use Rattle.fb_bench.specs.Machine.{keys_of_kind, all_keys, keys_of};
+ghost use Rattle.fb_bench.specs.Machine.{keys_of};
 
 use fb_jobs::library::Library;
-use fb_jobs::{Key, Kind, has_key};
+use fb_jobs::{Key, has_key, keys_by_name};
 use fb_text::Name;
 use std::alloc::{AllocError, Global};
-
-// the names with one kind
-pub(crate) fn add_keys(keys: &mut Vec<Key>, names: &[Name], kind: Kind) -> Result<(), AllocError>
-    ensures { OnOk result (keys.new.items ≡ keys.old.items ++ keys_of_kind names.now kind) }
-{
-    for name in names {
-        keys.push(Key { kind, unit: *name })?;
-    }
-    Ok(())
-}
-
-/// The names with each kind, by kind and then by name.
-pub(crate) fn keys_by_name(alloc: Global, names: &[Name]) -> Result<Vec<Key>, AllocError>
-    ensures { IfOk result (λ keys. keys.items ≡ all_keys names.now) }
-{
-    let mut keys = Vec::new(alloc);
-    add_keys(&mut keys, names, Kind::Faults)?;
-    add_keys(&mut keys, names, Kind::Net)?;
-    add_keys(&mut keys, names, Kind::Deploy)?;
-    Ok(keys)
-}
 
 /// Those that the library has.
 pub(crate) fn only_present(

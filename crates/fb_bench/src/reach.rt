@@ -6,10 +6,9 @@ ghost use Rattle.fb_bench.specs.Indexed.{IsIndexOf, IsReached};
 ghost use Rattle.fb_bench.specs.Laws.{AgreeApartFrom};
 ghost use Rattle.fb_bench.specs.Renew.{is_of};
 
-use crate::keys::add_keys;
 use fb_index::Index;
 use fb_jobs::library::{Library, near};
-use fb_jobs::{Key, Kind};
+use fb_jobs::{Key, keys_near_and_far};
 use fb_text::Name;
 use std::alloc::{AllocError, Global};
 
@@ -35,8 +34,8 @@ pub(crate) fn reindexed(
     Ok(index)
 }
 
-/// The keys whose values one of the changed names decides: the faults of what the name is near, and the nets and
-/// plans of what it is far of.
+/// The keys whose values one of the changed names decides: those of what the name is far of for the kinds that need all that a
+/// unit rests on, those of what it is near for the others.
 pub(crate) fn reached_keys(
     alloc: Global,
     index: &Index,
@@ -46,9 +45,5 @@ pub(crate) fn reached_keys(
 {
     let near = index.near_of(alloc, changed)?;
     let far = index.far_of(alloc, changed)?;
-    let mut keys = Vec::new(alloc);
-    add_keys(&mut keys, &near, Kind::Faults)?;
-    add_keys(&mut keys, &far, Kind::Net)?;
-    add_keys(&mut keys, &far, Kind::Deploy)?;
-    Ok(keys)
+    keys_near_and_far(alloc, &near, &far)
 }

@@ -22,9 +22,10 @@ use Rattle.fb_jobs.specs.declared.key.Key.{Key}
 use Rattle.fb_jobs.specs.declared.value.Value.{Value}
 use Rattle.fb_jobs.specs.declared.value.Value.TheVariants.{Faults, Net, Deploy}
 use Rattle.fb_jobs.specs.Keys.{Finding, NetFound, needs, needs_of, scratch, net_finding}
+use Rattle.fb_jobs.specs.Kinds.{needs_all}
 use Rattle.fb_jobs.specs.Reads.{Seen, is_among, read_names, read_texts, reads_for}
 use Rattle.fb_jobs.specs.Values.{finding_of, all_seen}
-use Rattle.fb_jobs.specs.Hints.{Nets, AreKept, AreHints, AreChosen, AreOfReads, AddsHint, needs_all, net_key, net_in, hint_in}
+use Rattle.fb_jobs.specs.Hints.{Nets, AreKept, AreHints, AreChosen, AreOfReads, AddsHint, net_key, net_in, hint_in}
 use Rattle.fb_jobs.specs.declared.read.Read.{Read}
 use Rattle.fb_jobs.proofs.SameNeeds.{scratch_local, same_at, at_itself}
 use Rattle.fb_jobs.proofs.Currents.{agree_for, names_under}

@@ -10,7 +10,7 @@ use Rattle.fb_jobs.specs.declared.key.Kind.TheVariants.{Faults, Net, Deploy}
 use Rattle.fb_jobs.specs.declared.key.Key.{Key}
 use Rattle.fb_jobs.specs.KeyOrder.{kind_number, key_cmp, same_key}
 
-exact_kind : (a b : Kind) → kind_number a ≡ kind_number b → a ≡ b
+pub exact_kind : (a b : Kind) → kind_number a ≡ kind_number b → a ≡ b
 exact_kind Faults Faults e = refl
 exact_kind Faults Net e = absurd (omega arith)
 exact_kind Faults Deploy e = absurd (omega arith)
@@ -33,7 +33,7 @@ exact_key a b e =
     let units = exact_name a.unit b.unit parts.1 in
     λ i. record { kind = kinds i; unit = units i }
 
-is_equal : (o : Ordering) → is_eq o ≡ true → o ≡ Equal
+pub is_equal : (o : Ordering) → is_eq o ≡ true → o ≡ Equal
 is_equal Less e = cc
 is_equal Equal e = refl
 is_equal Greater e = cc

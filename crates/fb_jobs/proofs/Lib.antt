@@ -1,6 +1,7 @@
 pub mod Currents
 pub mod HintLemmas
 pub mod KeyLemmas
+pub mod KindLemmas
 pub mod SameNeeds
 pub mod Searches
 pub mod Sources

@@ -1,5 +1,5 @@
 -- Values that are kept from before, and the nets among them that a job is given along.
-use Rattle.std.specs.Prelude.{◌≡◌, ◌⊎◌, ℕ, Bool, true, false, List, Option, Some, None}
+use Rattle.std.specs.Prelude.{◌≡◌, ◌⊎◌, ℕ, true, List, Option, Some, None}
 use Rattle.std.specs.BTreeMap as tree
 use Rattle.std.specs.declared.sync.Arc.{Arc}
 use Rattle.std.specs.declared.alloc.Global.{Global}
@@ -12,6 +12,7 @@ use Rattle.fb_jobs.specs.declared.key.Key.{Key}
 use Rattle.fb_jobs.specs.declared.value.Value.{Value}
 use Rattle.fb_jobs.specs.declared.value.Value.TheVariants.{Faults, Net, Deploy}
 use Rattle.fb_jobs.specs.Keys.{Finding, scratch}
+use Rattle.fb_jobs.specs.Kinds.{needs_all}
 use Rattle.fb_jobs.specs.Reads.{Seen, read_names, is_among}
 use Rattle.fb_jobs.specs.Values.{finding_of}
 
@@ -30,12 +31,6 @@ Nets = tree.BTreeMap (List ℕ) (Arc Value Global)
 -- each of them is what the texts give from scratch
 abbrev pub AreHints : Texts → Nets → Type 0
 AreHints texts nets = (name : List ℕ) (value : Arc Value Global) → tree.get name_cmp nets name ≡ Some value → finding_of value.value ≡ scratch texts (net_key name)
-
--- whether a key of the kind needs all that its unit rests on
-abbrev pub needs_all : Kind → Bool
-needs_all kind.Faults = false
-needs_all kind.Net = true
-needs_all kind.Deploy = true
 
 -- each is what is kept of the net of a unit that is read
 abbrev pub AreOfReads : (Key → Option Finding) → List Seen → Nets → Type 0

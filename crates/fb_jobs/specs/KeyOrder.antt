@@ -14,6 +14,9 @@ kind_number Faults = 0
 kind_number Net = 1
 kind_number Deploy = 2
 
+abbrev pub kind_cmp : Kind → Kind → Ordering
+kind_cmp = on kind_number nat_cmp
+
 -- by kind, then by the bytes of the unit's name
 abbrev pub key_cmp : Key → Key → Ordering
 key_cmp = then_cmp (on (λ (key : Key). kind_number key.kind) nat_cmp) (on (λ (key : Key). key.unit) name_cmp)

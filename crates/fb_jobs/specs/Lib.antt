@@ -1,6 +1,7 @@
 -- What the contracts of this crate cite.
 pub mod KeyOrder
 pub mod Keys
+pub mod Kinds
 pub mod Reads
 pub mod Values
 pub mod Hints

@@ -3,6 +3,7 @@ ghost use Rattle.std.specs.Prelude.{◌≡◌, refl};
 ghost use Rattle.std.specs.Ordering.{eq_by_cmp, as_partial_cmp};
 ghost use Rattle.std.specs.Cmp.{eq_by_cmp_equiv, partial_equiv_from_equiv, partial_order_from_total};
 ghost use Rattle.fb_jobs.specs.KeyOrder.{kind_number, key_cmp, key_cmp_total};
+ghost use Rattle.fb_jobs.specs.Kinds.{needs_all};
 
 use fb_text::Name;
 use std::cmp::Ordering;
@@ -24,6 +25,16 @@ impl Kind {
             Kind::Faults => 0,
             Kind::Net => 1,
             Kind::Deploy => 2,
+        }
+    }
+
+    /// Whether a key of the kind needs all that its unit rests on.
+    pub fn needs_all(self) -> bool
+        ensures { result ≡ needs_all self }
+    {
+        match self {
+            Kind::Faults => false,
+            Kind::Net | Kind::Deploy => true,
         }
     }
 }

@@ -4,6 +4,7 @@
 mod job;
 mod kept;
 mod key;
+mod kinds;
 mod laws;
 mod read;
 mod reads;
@@ -13,7 +14,8 @@ mod value;
 pub use job::Job;
 pub use kept::Kept;
 pub use key::{Key, Kind};
-pub use laws::{current_reads, least_stale, locality, needs_in_order};
+pub use kinds::{all_kinds, keys_by_name, keys_near_and_far};
+pub use laws::{current_reads, kinds_in_order, least_stale, locality, needs_in_order};
 pub use read::{Read, TextRead, has_key, needed};
 pub use result::Finished;
 pub use value::Value;
