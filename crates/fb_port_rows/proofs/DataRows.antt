@@ -12,7 +12,7 @@ use Rattle.fb_iface.specs.declared.ports.DeclaredVariable.{DeclaredVariable}
 use Rattle.fb_iface.specs.Names.{first_ones, stands_for}
 use Rattle.fb_iface.specs.Ports.{variables_in, variables_together}
 use Rattle.fb_iface.specs.Sides.{goes_with}
-use Rattle.fb_port_rows.specs.Declared.{IsBefore, IsDataOn, IsFirstVariable, IsVariableIn, Place, StandsAt, data_input, data_output, of_adapter, of_block, of_subapplication}
+use Rattle.fb_port_rows.specs.Declared.{Cell, IsBefore, IsDataOn, IsFirstVariable, IsVariableIn, StandsAt, data_input, data_output, of_adapter, of_block, of_subapplication}
 use Rattle.fb_port_rows.specs.Rows.{AreExactly, ComeAsDeclared, DataAreDeclared, HaveOwnNames}
 use Rattle.fb_port_rows.proofs.FirstLemmas.{IsFirst, IsPort, NoneBefore, among_ports, first_stands, in_turn, is_port, once, ports, stands_first}
 use Rattle.fb_port_rows.proofs.ItemLemmas.{got_in_map, map_gets}
@@ -33,18 +33,18 @@ output_section sections.Output e = refl
 output_section section e = absurd (true≢false (sym e))
 
 module _ (i : InterfaceTree) where
-  abbrev number : Place → ℕ
+  abbrev number : Cell → ℕ
   number p = number_of variables_together i.variables p.row p.column
 
-  abbrev is_there : (p : Place) (row : VariablesTree) (n : NameUse) → StandsAt i p row n → IsAt variables_together i.variables p.row p.column (declared_as row n)
+  abbrev is_there : (p : Cell) (row : VariablesTree) (n : NameUse) → StandsAt i p row n → IsAt variables_together i.variables p.row p.column (declared_as row n)
   is_there p row n s = record { item = row; row_there = s.row_there; there = map_gets (declared_as row) row.names p.column n s.name_there }
 
-  listed : (p : Place) (row : VariablesTree) (n : NameUse) → StandsAt i p row n → slice_get (variables_in i) (number p) ≡ Some (declared_as row n)
+  listed : (p : Cell) (row : VariablesTree) (n : NameUse) → StandsAt i p row n → slice_get (variables_in i) (number p) ≡ Some (declared_as row n)
   listed p row n s = at_number variables_together i.variables p.row p.column (declared_as row n) (is_there p row n s)
 
   -- what is declared at a number, by its place
   record IsVariable (k : ℕ) (x : List ℕ × DeclaredVariable) : Type 0 where
-    place : Place
+    place : Cell
     row : VariablesTree
     spelled : NameUse
     stands : StandsAt i place row spelled
@@ -68,7 +68,7 @@ module _ (i : InterfaceTree) where
   abbrev variable_of : (name : List ℕ) (m : DeclaredVariable) (o : IsFirst (variables_in i) name m) → IsVariable o.place (name, m)
   variable_of name m o = variable_at o.place (name, m) o.there
 
-  none_earlier : (name : List ℕ) (m : DeclaredVariable) (o : IsFirst (variables_in i) name m) (earlier : Place) (row : VariablesTree) (other : NameUse) → IsBefore earlier (variable_of name m o).place → StandsAt i earlier row other → other.name ≢ name
+  none_earlier : (name : List ℕ) (m : DeclaredVariable) (o : IsFirst (variables_in i) name m) (earlier : Cell) (row : VariablesTree) (other : NameUse) → IsBefore earlier (variable_of name m o).place → StandsAt i earlier row other → other.name ≢ name
   none_earlier name m o earlier row other before stands =
       let v = variable_of name m o in
       let less : number earlier < number v.place = numbers_in_turn variables_together i.variables earlier v.place (declared_as row other) (is_there earlier row other stands) before in
@@ -89,7 +89,7 @@ module _ (i : InterfaceTree) where
         typed = ap (λ (x : List ℕ × DeclaredVariable). x.1.type_use) v.is;
       }
 
-  none_before : (name : List ℕ) (place : Place) → IsFirstVariable i name place → NoneBefore (variables_in i) (number place) name
+  none_before : (name : List ℕ) (place : Cell) → IsFirstVariable i name place → NoneBefore (variables_in i) (number place) name
   none_before name place v k y less at same =
       let o = variable_at k y at in
       let earlier : number o.place < number place = subst (λ (n : ℕ). n < number place) o.numbered less in

@@ -8,7 +8,7 @@ use Rattle.fb_iface.specs.Tree.declared.interface.Section.TheVariants as section
 use Rattle.fb_iface.specs.Tree.declared.interface.Side.{Side}
 use Rattle.fb_iface.specs.Tree.declared.interface.TypeUse.{TypeUse}
 use Rattle.fb_iface.specs.Ports.{meanings_in_type}
-use Rattle.fb_port_rows.specs.Declared.{IsBefore, IsDataOn, IsFirstVariable, IsVariableIn, Place, data_input, data_output, in_earlier_row, of_adapter, of_block, of_subapplication}
+use Rattle.fb_port_rows.specs.Declared.{Cell, IsBefore, IsDataOn, IsFirstVariable, IsVariableIn, data_input, data_output, in_earlier_row, of_adapter, of_block, of_subapplication}
 use Rattle.fb_port_rows.specs.Rows.{ComeAsDeclaredEach, HaveOwnNamesEach, InternalVariablesAreNoPorts, NamesStandForFirst, PortsComeAsDeclared, PortsHaveOwnNames, StandForFirst}
 use Rattle.fb_port_rows.proofs.EventRows.{events_in_turn, events_once, events_stand}
 use Rattle.fb_port_rows.proofs.DataRows.{data_declared, data_in_turn, data_once, variables_stand}
@@ -35,11 +35,11 @@ come_as_declared decl type (of_block d) = in_order d
 come_as_declared decl type (of_adapter d) = in_order d
 come_as_declared decl type (of_subapplication d) = in_order d
 
-not_before : (i : InterfaceTree) (name : List ℕ) (p q : Place) → IsFirstVariable i name p → IsFirstVariable i name q → IsBefore p q → ⊥
+not_before : (i : InterfaceTree) (name : List ℕ) (p q : Cell) → IsFirstVariable i name p → IsFirstVariable i name q → IsBefore p q → ⊥
 not_before i name p q v w h = w.first p v.row v.spelled h v.there v.named
 
 -- a name is declared first in one row
-one_row : (i : InterfaceTree) (name : List ℕ) (p q : Place) → IsFirstVariable i name p → IsFirstVariable i name q → p.row ≡ q.row
+one_row : (i : InterfaceTree) (name : List ℕ) (p q : Cell) → IsFirstVariable i name p → IsFirstVariable i name q → p.row ≡ q.row
 one_row i name p q v w = by (cases_order p.row q.row)
   where
     by : (p.row ≡ q.row) ⊎ ((p.row < q.row) ⊎ (q.row < p.row)) → p.row ≡ q.row

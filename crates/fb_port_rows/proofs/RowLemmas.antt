@@ -3,7 +3,7 @@ use Rattle.std.proofs.Common.{◌≡◌, zero, suc, ℕ, ◌+◌, ◌<◌, List,
 use Rattle.std.specs.List.{flat_map, slice_get}
 use Rattle.std.proofs.lemmas.Bool.{cases_order}
 use Rattle.std.proofs.lemmas.Option.{slice_get_within}
-use Rattle.fb_port_rows.specs.Declared.{IsBefore, Place, in_earlier_row, in_same_row}
+use Rattle.fb_port_rows.specs.Declared.{Cell, IsBefore, in_earlier_row, in_same_row}
 
 in_either : {Y : Type 0} (xs ys : List Y) (k : ℕ) (y : Y) → slice_get (xs ++ ys) k ≡ Some y → (slice_get xs k ≡ Some y) ⊎ ((j : ℕ) × (k ≡ length xs + j) × (slice_get ys j ≡ Some y))
 in_either [] ys k y e = inr (k, (let start : k ≡ 0 + k = omega arith in start), e)
@@ -87,12 +87,12 @@ module _ {X Y : Type 0} (f : X → List Y) where
   columns_in_turn (x ∷ xs) zero column column' less = less
   columns_in_turn (x ∷ xs) (suc row) column column' less = let more = columns_in_turn xs row column column' less in omega (arith, more)
 
-  pub numbers_in_turn : (xs : List X) (a b : Place) (y : Y) → IsAt xs a.row a.column y → IsBefore a b → number_of xs a.row a.column < number_of xs b.row b.column
+  pub numbers_in_turn : (xs : List X) (a b : Cell) (y : Y) → IsAt xs a.row a.column y → IsBefore a b → number_of xs a.row a.column < number_of xs b.row b.column
   numbers_in_turn xs a b y o (in_earlier_row less) = rows_in_turn xs a.row a.column b.row b.column y o less
   numbers_in_turn xs a b y o (in_same_row same less) =
       subst (λ (row : ℕ). number_of xs a.row a.column < number_of xs row b.column) same (columns_in_turn xs a.row a.column b.column less)
 
-  pub before_by_numbers : (xs : List X) (a b : Place) (y : Y) → IsAt xs b.row b.column y → number_of xs a.row a.column < number_of xs b.row b.column → IsBefore a b
+  pub before_by_numbers : (xs : List X) (a b : Cell) (y : Y) → IsAt xs b.row b.column y → number_of xs a.row a.column < number_of xs b.row b.column → IsBefore a b
   before_by_numbers xs a b y o less = by (cases_order a.row b.row) (cases_order a.column b.column)
     where
       not_after : IsBefore b a → ⊥

@@ -33,32 +33,32 @@ pub record IsEventOn (interface : InterfaceTree) (side : Side) (name : List ℕ)
 
 -- ---- data
 
--- the place of the name of a variable: its row, as `A, B : INT;`, and its place in that
-pub record Place : Type 0 where
+-- the cell of the name of a variable: its row, as `A, B : INT;`, and its place in that
+pub record Cell : Type 0 where
   pub row : ℕ
   pub column : ℕ
 
 -- in an earlier row, or earlier in the same row
-pub data IsBefore (a b : Place) : Type 0 where
+pub data IsBefore (a b : Cell) : Type 0 where
   in_earlier_row : a.row < b.row → IsBefore a b
   in_same_row : a.row ≡ b.row → a.column < b.column → IsBefore a b
 
 -- at this place stands this name, in this row
-pub record StandsAt (interface : InterfaceTree) (place : Place) (row : VariablesTree) (name : NameUse) : Type 0 where
+pub record StandsAt (interface : InterfaceTree) (place : Cell) (row : VariablesTree) (name : NameUse) : Type 0 where
   pub row_there : slice_get interface.variables place.row ≡ Some row
   pub name_there : slice_get row.names place.column ≡ Some name
 
 -- at this place a variable of this name is declared, input, output or internal, and none at an earlier place
-pub record IsFirstVariable (interface : InterfaceTree) (name : List ℕ) (place : Place) : Type 0 where
+pub record IsFirstVariable (interface : InterfaceTree) (name : List ℕ) (place : Cell) : Type 0 where
   pub row : VariablesTree
   pub spelled : NameUse
   pub there : StandsAt interface place row spelled
   pub named : spelled.name ≡ name
-  pub first : (earlier : Place) (other_row : VariablesTree) (other : NameUse) → IsBefore earlier place → StandsAt interface earlier other_row other → other.name ≢ name
+  pub first : (earlier : Cell) (other_row : VariablesTree) (other : NameUse) → IsBefore earlier place → StandsAt interface earlier other_row other → other.name ≢ name
 
 -- a variable of this section, VAR_INPUT, VAR_OUTPUT or VAR, with its type
 pub record IsVariableIn (interface : InterfaceTree) (section : Section) (name : List ℕ) (type_use : TypeUse) : Type 0 where
-  pub place : Place
+  pub place : Cell
   pub declared : IsFirstVariable interface name place
   pub in_section : declared.row.section ≡ section
   pub typed : declared.row.type_use ≡ type_use
