@@ -27,7 +27,7 @@ use Rattle.fb_netcheck.specs.Parameters.{all_parameters}
 use Rattle.fb_netcheck.specs.Repeats.{second_adapters, second_sources}
 use Rattle.fb_netcheck.specs.Settings.{Place}
 use Rattle.fb_netcheck.specs.Spellings.{part, same_by_form, words}
-use Rattle.fb_netcheck.specs.Types.{home, home_of, joined_types, type_faults}
+use Rattle.fb_netcheck.specs.Types.{flow_faults, home, home_of, joined_types}
 
 -- each item of a list has the fact
 abbrev pub Each : {A : Type 0} → (A → Type 0) → List A → Type 0
@@ -91,7 +91,7 @@ module _ (a b : Sources) (unit : List ℕ) (own : get a unit ≡ get b unit) whe
   network_local kind scope n declared agree =
       let here : Place = record { unit = unit; kind = kind; scope = scope } in
       let text : (end : End) → get a (home here end) ≡ get b (home here end) = λ end. home_local kind scope n declared agree end.name end.port in
-      let types : (c : Connection) → joined_types a here c ≡ joined_types b here c = λ c. (λ i. type_faults (λ x y. same_by_form x.form y.form (is_same x.name.name y.name.name) (pointwise nat_eq (words (part (unwrap_or (text c.source i) []) x.span)) (words (part (unwrap_or (text c.destination i) []) y.span)))) c (target here c.sort c.source) (target here c.sort c.destination)) in
+      let types : (c : Connection) → joined_types a here c ≡ joined_types b here c = λ c. (λ i. flow_faults (λ x y. same_by_form x.form y.form (is_same x.name.name y.name.name) (pointwise nat_eq (words (part (unwrap_or (text c.source i) []) x.span)) (words (part (unwrap_or (text c.destination i) []) y.span)))) c (target here c.sort c.source) (target here c.sort c.destination)) in
       λ i. flat_map (connection_faults here) n.connections ++ flat_map (λ c. types c i) n.connections ++ second_sources n.connections ++ second_adapters n.connections ++ all_parameters scope n.instances
 
   type_local : (kind : UnitKind) (d : TypeTree) → ((name : List ℕ) → Contains (types_in d.network.instances) name → get a name ≡ get b name) → type_network a unit kind d ≡ type_network b unit kind d

@@ -39,8 +39,8 @@ targets_agree same (Found holder port) (Found other_holder other) = flows_agree 
 targets_agree same a b = true
 
 -- the ports at both ends are of one type, where they are of the right sides
-abbrev pub type_faults : (TypeUse → TypeUse → Bool) → Connection → Target → Target → List Fault
-type_faults same c source destination =
+abbrev pub flow_faults : (TypeUse → TypeUse → Bool) → Connection → Target → Target → List Fault
+flow_faults same c source destination =
     if is_right Source source && is_right Destination destination && not (targets_agree same source destination) then fault_of DataType c.destination ∷ [] else []
 
 -- whether two types are spelled alike, one at the source of a connection and the other at its destination
@@ -49,4 +49,4 @@ same_at_ends sources here c a b = same_type sources (home here c.source) a (home
 
 -- the ports that a connection joins are of one type
 abbrev pub joined_types : Sources → Place → Connection → List Fault
-joined_types sources here c = type_faults (same_at_ends sources here c) c (target here c.sort c.source) (target here c.sort c.destination)
+joined_types sources here c = flow_faults (same_at_ends sources here c) c (target here c.sort c.source) (target here c.sort c.destination)
