@@ -2,13 +2,12 @@
 ghost use Rattle.std.specs.Prelude.{◌≡◌};
 ghost use Rattle.std.specs.Option.{option_and_then, option_copied, option_map};
 ghost use Rattle.fb_iface.specs.Names.{stands_for};
-ghost use Rattle.fb_iface.specs.Ports.{same_side};
 ghost use Rattle.fb_netcheck.specs.Settings.{place_in};
 ghost use Rattle.fb_netcheck.specs.Ends.{adapter_port, data_port, end_span, event_port, holder_of, is_right, last_name, port_in, right_side, target, target_in, target_of, target_of_instance};
 
 use crate::setting::Setting;
 use fb_iface::tree::{End, Role, Section, Side, Sort, TypeUse, UnitKind};
-use fb_iface::{DeclaredEvent, DeclaredInstance, DeclaredVariable, Ports};
+use fb_iface::{DeclaredEvent, DeclaredInstance, DeclaredVariable, Ports, is_same_side};
 use fb_text::{Name, NameUse, Span};
 
 /// Where an end stands in its connection.
@@ -70,16 +69,7 @@ pub fn is_right_target(position: Position, target: &Target) -> bool
 {
     match target {
         Target::Unknown | Target::NotJudged => false,
-        Target::Found(holder, port) => is_same(port.side, side_at(position, *holder)),
-    }
-}
-
-fn is_same(a: Side, b: Side) -> bool
-    ensures { result ≡ same_side a b }
-{
-    match (a, b) {
-        (Side::Input, Side::Input) | (Side::Output, Side::Output) => true,
-        _ => false,
+        Target::Found(holder, port) => is_same_side(port.side, side_at(position, *holder)),
     }
 }
 
