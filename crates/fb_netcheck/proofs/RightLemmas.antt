@@ -3,6 +3,7 @@ use Rattle.std.proofs.Common.{◌≡◌, ℕ, Bool, true, false, cond, ◌||◌,
 use Rattle.std.specs.Cmp.Lexicographic.{nat_list_eq_equiv}
 use Rattle.std.specs.List.{All, flat_map}
 use Rattle.std.specs.Option.{option_and_then}
+use Rattle.std.proofs.lemmas.Bool.{or_right}
 use Rattle.std.proofs.lemmas.Grind.{flat_map-append}
 use Rattle.std.proofs.lemmas.List.Elements.{All-cons, All-map, All-nil}
 use Rattle.fb_text.proofs.OrderLemmas.{same_name}
@@ -42,10 +43,6 @@ usable_some role name (Some decl) e = by (suits role (kind_of decl)) _ e
     by : (b : Bool) (fault : Fault) → cond b [] (fault ∷ []) ≡ [] → is_some (cond b (Some (meanings_in decl)) None) ≡ true
     by true fault e = refl
     by false fault e = absurd (let no : ⊥ = cc in no)
-
-or_right : (a b : Bool) → b ≡ true → (a || b) ≡ true
-or_right true b e = refl
-or_right false b e = e
 
 -- the type of each instance is usable
 each_usable : (sources : Sources) (all instances : List InstanceTree) → ((q : List ℕ) → has_name (map (λ i. i.type_name) instances) q ≡ true → has_name (map (λ i. i.type_name) all) q ≡ true) → flat_map (instance_faults sources) instances ≡ [] → Each (λ (i : InstanceTree). is_some (usable i.role (mentioned_type sources all i.type_name.name)) ≡ true) instances
