@@ -1,11 +1,12 @@
 -- Deciding which names reach themselves, one round after another.
 use Rattle.std.proofs.Common.{◌≡◌, ℕ, Bool, true, false, cond, ◌||◌, List, [], ◌∷◌, ◌++◌, refl, sym, ap, subst, ◌∙◌}
-use Rattle.std.proofs.lemmas.Bool.{false≢true}
+use Rattle.std.proofs.lemmas.Bool.{false≢true, or_left, or_right}
 use Rattle.std.specs.List.{Contains}
+use Rattle.fb_table.proofs.SeenLemmas.{by_bool, no_both, or_cases, same, same_is}
 use Rattle.fb_library.specs.Seen.{has_name}
 use Rattle.fb_library.proofs.WalkLemmas.{Contains-has, has-Contains, has-push}
 use Rattle.fb_order.specs.Graph.{Follows, IsDecided, AreDecided}
-use Rattle.fb_order.proofs.NameLemmas.{by_bool, no_both, or_left, or_right, or_cases, or_none, or_none_left, same, same_is}
+use Rattle.fb_order.proofs.NameLemmas.{or_none, or_none_left}
 use Rattle.fb_order.proofs.GraphLemmas.{follow_both, no_follow}
 
 gone : (b x : Bool) → b ≡ true → cond b false x ≡ false

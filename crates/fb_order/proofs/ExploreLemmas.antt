@@ -1,5 +1,6 @@
 -- The search that makes a graph: what it keeps.
 use Rattle.std.proofs.Common.{◌≡◌, ℕ, ◌<◌, Bool, true, false, cond, ◌||◌, ◌&&◌, List, [], ◌∷◌, ◌++◌, Option, Some, refl, sym, ap, subst, ◌∙◌, append_assoc, nat_cmp}
+use Rattle.std.proofs.lemmas.Bool.{or_left, or_right}
 use Rattle.std.proofs.lemmas.List.Elements.{Contains-append_left, Contains-append_right}
 use Rattle.std.specs.Option.{option_map_or}
 use Rattle.std.specs.BTreeMap.{Updates, get, is_at}
@@ -8,6 +9,7 @@ use Rattle.std.specs.Cmp.Lexicographic.{slice_cmp}
 use Rattle.std.specs.declared.vec.Vec.{Vec}
 use Rattle.std.specs.declared.alloc.Global.{Global}
 use Rattle.fb_text.specs.Order.{name_cmp}
+use Rattle.fb_table.proofs.SeenLemmas.{by_bool, no_both, or_cases, or_assoc, or_false, same, same_is, same_self}
 use Rattle.fb_library.specs.View.{Sources, mentions_at}
 use Rattle.fb_library.specs.Seen.{has_name}
 use Rattle.fb_library.proofs.WalkLemmas.{Contains-has, has-Contains, has-push, all_mentions, mentioned_somewhere}
@@ -15,7 +17,7 @@ use Rattle.fb_order.specs.Graph.{Edges, edges_at, IsReverse, IsGraph}
 use Rattle.fb_order.specs.Steps.{enters}
 use Rattle.fb_order.specs.declared.search.Step.{Step}
 use Rattle.fb_order.specs.declared.search.Step.TheVariants.{Enter, Leave}
-use Rattle.fb_order.proofs.NameLemmas.{by_bool, no_both, or_left, or_right, or_cases, or_none_left, or_none_right, or_assoc, or_false, same, same_is, same_self, same_swap}
+use Rattle.fb_order.proofs.NameLemmas.{or_none_left, or_none_right, same_swap}
 use Rattle.fb_order.proofs.SearchLemmas.{reachable, fuel, fuel_opens, at_step}
 
 -- ---- names that are still to be entered

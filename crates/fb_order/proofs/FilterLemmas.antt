@@ -1,10 +1,10 @@
 -- The names that a test keeps.
 use Rattle.std.proofs.Common.{◌≡◌, ℕ, Bool, true, false, cond, List, [], ◌∷◌, ◌++◌, sym, ap, ◌∙◌, filter}
-use Rattle.std.proofs.lemmas.Bool.{false≢true}
+use Rattle.std.proofs.lemmas.Bool.{false≢true, or_left, or_right}
 use Rattle.std.proofs.lemmas.List.{append-nil}
 use Rattle.std.proofs.lemmas.List.Elements.{filter-append}
+use Rattle.fb_table.proofs.SeenLemmas.{by_bool, or_cases, same, same_is}
 use Rattle.fb_library.specs.Seen.{has_name}
-use Rattle.fb_order.proofs.NameLemmas.{by_bool, or_left, or_right, or_cases, same, same_is}
 
 module _ (p : List ℕ → Bool) where
   pub in_filter : (xs : List (List ℕ)) (q : List ℕ) → p q ≡ true → has_name xs q ≡ true → has_name (filter p xs) q ≡ true

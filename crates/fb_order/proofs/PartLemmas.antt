@@ -1,17 +1,17 @@
 -- The names of a list that reach themselves.
 use Rattle.std.proofs.Common.{◌≡◌, ℕ, Bool, true, cond, List, [], ◌∷◌, refl, sym, ap, subst, ◌∙◌}
-use Rattle.std.proofs.lemmas.Bool.{false≢true}
+use Rattle.std.proofs.lemmas.Bool.{false≢true, or_left, or_right}
 use Rattle.std.proofs.lemmas.List.Kept.{IsStrictlySortedBy-filter}
 use Rattle.std.specs.List.{Contains, filter}
 use Rattle.std.specs.List.Sorted.{IsStrictlySortedBy}
 use Rattle.fb_text.specs.Order.{name_cmp}
+use Rattle.fb_table.proofs.SeenLemmas.{by_bool, no_both, or_cases, same, same_is, same_self}
 use Rattle.fb_library.specs.View.{Sources, mentions_at}
 use Rattle.fb_library.specs.Rests.{itself}
 use Rattle.fb_library.specs.Seen.{has_name}
 use Rattle.fb_library.proofs.WalkLemmas.{Contains-has, has-Contains}
 use Rattle.fb_order.specs.Reaches.{Reaches, directly, onward, IsRecursive, RecursivePart, none, keeps, skips, SomeRestsOnRecursive}
 use Rattle.fb_order.specs.Graph.{Edges, edges_at, Follows, one, more, IsGraph}
-use Rattle.fb_order.proofs.NameLemmas.{by_bool, no_both, or_left, or_right, or_cases, same, same_is, same_self}
 use Rattle.fb_order.proofs.GraphLemmas.{follow_first}
 use Rattle.fb_order.proofs.StackLemmas.{reaches_more}
 

@@ -1,11 +1,11 @@
 -- A walk along edges: what it keeps.
 use Rattle.std.proofs.Common.{◌≡◌, ℕ, ◌+◌, ◌<◌, true, false, ◌||◌, List, [], ◌∷◌, ◌++◌, length, refl, sym, ap, subst, ◌∙◌, arith}
-use Rattle.std.proofs.lemmas.Bool.{false≢true}
+use Rattle.std.proofs.lemmas.Bool.{false≢true, or_left, or_right}
 use Rattle.std.specs.List.{Contains}
+use Rattle.fb_table.proofs.SeenLemmas.{by_bool, no_both, or_cases, or_false, same, same_is, same_self}
 use Rattle.fb_library.specs.Seen.{has_name, unseen, Opens}
 use Rattle.fb_library.proofs.WalkLemmas.{Contains-has, has-Contains, has-push, longer}
 use Rattle.fb_order.specs.Graph.{Follows, one, more}
-use Rattle.fb_order.proofs.NameLemmas.{by_bool, no_both, or_left, or_right, or_cases, or_false, same, same_is, same_self}
 
 -- seen names are reached; the edges of those that are not pending lead to seen ones, and so do those of the first name
 pub record IsWalk (next : List ℕ → List (List ℕ)) (unit : List ℕ) (seen pending : List (List ℕ)) : Type 0 where

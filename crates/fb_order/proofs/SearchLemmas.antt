@@ -1,10 +1,11 @@
 -- The search: what it keeps, and that it ends.
 use Rattle.std.proofs.Common.{◌≡◌, ℕ, ◌+◌, ◌<◌, ◌≤◌, Bool, true, false, cond, ◌||◌, List, [], ◌∷◌, ◌++◌, length, refl, sym, ap, subst, ◌∙◌, arith, length-append}
-use Rattle.std.proofs.lemmas.Bool.{false≢true}
+use Rattle.std.proofs.lemmas.Bool.{false≢true, or_left, or_right}
 use Rattle.std.proofs.lemmas.List.{map_push, length-map}
 use Rattle.std.proofs.Common.{append_assoc}
 use Rattle.std.specs.List.{Contains}
 use Rattle.std.proofs.lemmas.List.Elements.{Contains-append_left, Contains-append_right}
+use Rattle.fb_table.proofs.SeenLemmas.{by_bool, no_both, or_cases, or_assoc, or_false, same, same_is, same_self}
 use Rattle.fb_library.specs.View.{Sources, mentions_at}
 use Rattle.fb_library.specs.Rests.{Rests, itself, through}
 use Rattle.fb_library.specs.Seen.{has_name}
@@ -14,7 +15,7 @@ use Rattle.fb_order.specs.Reaches.{SomeRests, SomeRestsOnRecursive}
 use Rattle.fb_order.specs.Steps.{enters}
 use Rattle.fb_order.specs.declared.search.Step.{Step}
 use Rattle.fb_order.specs.declared.search.Step.TheVariants.{Enter, Leave}
-use Rattle.fb_order.proofs.NameLemmas.{by_bool, no_both, or_left, or_right, or_cases, or_none_right, or_assoc, or_false, or_swap, same, same_is, same_self}
+use Rattle.fb_order.proofs.NameLemmas.{or_none_right, or_swap}
 use Rattle.fb_order.proofs.OrderLemmas.{IsOrdered-none, IsOrdered-push, all_listed, not_recursive}
 use Rattle.fb_order.proofs.StackLemmas.{has_step, on_path, has_step-append, on_path-append, has_step-enters, on_path-enters, Stands, enters_stand, skips, opens, leaves, unlisted_last, ready_last, meets}
 

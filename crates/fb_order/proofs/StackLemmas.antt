@@ -1,6 +1,8 @@
 -- The steps that are left: what a search keeps of them.
 use Rattle.std.proofs.Common.{◌≡◌, ℕ, Bool, true, false, ◌||◌, List, [], ◌∷◌, ◌++◌, refl, sym, ap, subst, ◌∙◌}
+use Rattle.std.proofs.lemmas.Bool.{or_left, or_right}
 use Rattle.std.specs.List.{Contains}
+use Rattle.fb_table.proofs.SeenLemmas.{or_cases, or_assoc, or_false, same, same_is, same_self}
 use Rattle.fb_library.specs.View.{Sources, mentions_at}
 use Rattle.fb_library.specs.Seen.{has_name}
 use Rattle.fb_library.proofs.WalkLemmas.{Contains-has, has-Contains, has-push}
@@ -8,7 +10,7 @@ use Rattle.fb_order.specs.Reaches.{Reaches, directly, onward}
 use Rattle.fb_order.specs.Steps.{enters}
 use Rattle.fb_order.specs.declared.search.Step.{Step}
 use Rattle.fb_order.specs.declared.search.Step.TheVariants.{Enter, Leave}
-use Rattle.fb_order.proofs.NameLemmas.{or_left, or_right, or_cases, or_none, or_none_left, or_none_right, or_assoc, or_false, or_under, same, same_is, same_self, same_swap}
+use Rattle.fb_order.proofs.NameLemmas.{or_none, or_none_left, or_none_right, or_under, same_swap}
 
 -- ---- reaching
 pub reaches_more : {sources : Sources} {u v w : List ℕ} → Reaches sources u v → Contains (mentions_at sources v) w → Reaches sources u w

@@ -1,12 +1,13 @@
 -- A search from one unit.
 use Rattle.std.proofs.Common.{ℕ, List, [], ◌∷◌, Option, Some, None, IfSome, sym, subst, ◌∙◌}
+use Rattle.std.proofs.lemmas.Bool.{or_left}
 use Rattle.std.specs.List.{Contains}
+use Rattle.fb_table.proofs.SeenLemmas.{or_false, same, same_is, same_self}
 use Rattle.fb_library.specs.View.{Sources}
 use Rattle.fb_library.specs.Rests.{Rests}
 use Rattle.fb_library.specs.Seen.{has_name}
 use Rattle.fb_library.proofs.WalkLemmas.{Contains-has, has-Contains}
 use Rattle.fb_order.specs.Reaches.{RestsOnRecursive, SomeRests, SomeRestsOnRecursive}
-use Rattle.fb_order.proofs.NameLemmas.{or_left, or_false, same, same_is, same_self}
 
 pub some_weaker : {X : Type 0} (o : Option X) (P Q : X → Type 0) → ((x : X) → P x → Q x) → IfSome o P → IfSome o Q
 some_weaker None P Q weaker h = h

@@ -1,9 +1,10 @@
 use Rattle.std.proofs.Common.{◌≡◌, List, ℕ, ◌<◌, ◌||◌, ◌&&◌, ◌++◌, sym, ap, subst, ◌∙◌}
+use Rattle.fb_table.proofs.SeenLemmas.{same}
 use Rattle.fb_library.proofs.WalkLemmas.{has-updates, not_true, not_false}
 use Rattle.fb_library.specs.Seen.{has_name}
 use Rattle.fb_order.specs.Graph.{edges_at}
 use Rattle.fb_order.specs.Steps.{enters}
-use Rattle.fb_order.proofs.NameLemmas.{on_false, same}
+use Rattle.fb_order.proofs.NameLemmas.{on_false}
 use Rattle.fb_order.proofs.ExploreLemmas.{IsExplored, IsExplored-begin, IsExplored-leave, IsExplored-skip, IsExplored-enter, explored_falls}
 use Rattle.fb_order.proofs.SearchLemmas.{fuel, fuel_pop}
 use Rattle.fb_order.proofs.graph.explore.Goals as goal
