@@ -13,7 +13,7 @@ use Rattle.fb_iface.specs.Scope.{Scope, scope_of_type}
 use Rattle.fb_iface.specs.declared.classes.Class.{Class as ValueClass}
 use Rattle.fb_iface.specs.declared.code.Code.TheVariants.{VariableUnknown}
 use Rattle.fb_iface.specs.declared.fault.Fault.{Fault}
-use Rattle.fb_expr.specs.Charts.{algorithm_faults, chart_faults, faults_in_unit, guard_faults, transition_faults}
+use Rattle.fb_expr.specs.Charts.{algorithm_faults, expression_faults, faults_in_unit, guard_faults, transition_faults}
 use Rattle.fb_expr.specs.Classes.{pair_class}
 use Rattle.fb_expr.specs.Demands.{Demand, suits_operand, suits_operands, suits_place, assigns, is_known, is_met, fault_of, demands_in, row_demands, subscript_demands, demands_at, name_alone, counter_demands, range_demands, assignment_demands, statement_demands, statements_demands, arms_demands, guard_demands, transition_demands, algorithm_demands, chart_demands, IsUnmet, FaultsAreUnmet}
 use Rattle.fb_expr.specs.Expressions.{class_in, faults_in, row_faults, subscript_faults}
@@ -143,7 +143,7 @@ module _ (scope : Scope) where
   in_algorithms (a ∷ others) =
       joined (algorithm_demands scope a) (flat_map (algorithm_demands scope) others) (algorithm_faults scope a) (flat_map (algorithm_faults scope) others) (in_statements (statements_of a.statements)) (in_algorithms others)
 
-  in_chart : (c : ChartTree) → chart_faults scope c ≡ of_all (chart_demands scope c)
+  in_chart : (c : ChartTree) → expression_faults scope c ≡ of_all (chart_demands scope c)
   in_chart c =
       joined (flat_map (transition_demands scope) c.transitions) (flat_map (algorithm_demands scope) c.algorithms) (flat_map (transition_faults scope) c.transitions) (flat_map (algorithm_faults scope) c.algorithms) (in_transitions c.transitions) (in_algorithms c.algorithms)
 

@@ -8,12 +8,12 @@ use Rattle.fb_tree.specs.Tree.{DeclTree, block_type, adapter_type, subapplicatio
 use Rattle.fb_iface.specs.Library.View.{Sources, mentions_in, tree_at, tree_of}
 use Rattle.fb_iface.proofs.Library.LocalLemmas.{near_unit}
 use Rattle.fb_iface.proofs.ScopeLocal.{in_order_has, near_mention, scope_local}
-use Rattle.fb_expr.specs.Charts.{ExprFaultsAreLocal, chart_faults, faults_in_unit}
+use Rattle.fb_expr.specs.Charts.{ExprFaultsAreLocal, expression_faults, faults_in_unit}
 
 declared_local : (a b : Sources) (tree : Option DeclTree) → ((name : List ℕ) → Contains (mentions_in tree) name → get a name ≡ get b name) → faults_in_unit a tree ≡ faults_in_unit b tree
 declared_local a b None agree = refl
 declared_local a b (Some (block_type d)) agree =
-    ap (λ scope. chart_faults scope d.chart) (scope_local a b d (λ name h. agree name (in_order_has (types_in d.network.instances) name h)))
+    ap (λ scope. expression_faults scope d.chart) (scope_local a b d (λ name h. agree name (in_order_has (types_in d.network.instances) name h)))
 declared_local a b (Some (adapter_type d)) agree = refl
 declared_local a b (Some (subapplication_type d)) agree = refl
 declared_local a b (Some (system_configuration s)) agree = refl

@@ -25,13 +25,13 @@ abbrev pub algorithm_faults : Scope → AlgorithmTree → List Fault
 algorithm_faults scope a = statements_faults scope (statements_of a.statements)
 
 -- all transitions and all algorithms, later ones of a name too
-abbrev pub chart_faults : Scope → ChartTree → List Fault
-chart_faults scope c = flat_map (transition_faults scope) c.transitions ++ flat_map (algorithm_faults scope) c.algorithms
+abbrev pub expression_faults : Scope → ChartTree → List Fault
+expression_faults scope c = flat_map (transition_faults scope) c.transitions ++ flat_map (algorithm_faults scope) c.algorithms
 
 -- a block type alone has a chart and algorithms
 abbrev pub faults_in_unit : Sources → Option DeclTree → List Fault
 faults_in_unit sources None = []
-faults_in_unit sources (Some (block_type d)) = chart_faults (scope_of_type sources d) d.chart
+faults_in_unit sources (Some (block_type d)) = expression_faults (scope_of_type sources d) d.chart
 faults_in_unit sources (Some (adapter_type d)) = []
 faults_in_unit sources (Some (subapplication_type d)) = []
 faults_in_unit sources (Some (system_configuration s)) = []

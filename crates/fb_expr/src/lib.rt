@@ -1,7 +1,7 @@
 //! The faults of the expressions and statements of a unit.
 #![tactic(auto)]
 
-mod charts;
+mod check;
 mod classes;
 mod expressions;
 mod laws;
@@ -10,5 +10,5 @@ mod rules;
 mod spans;
 mod statements;
 
-pub use charts::{expr_faults, report_expressions};
+pub use check::{expr_faults, report_expressions};
 pub use laws::{expr_faults_are_local, expr_faults_are_unmet};

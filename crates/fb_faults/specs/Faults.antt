@@ -13,10 +13,8 @@ use Rattle.fb_netcheck.specs.Iface.declared.code.Code.TheVariants.{Syntax}
 use Rattle.fb_netcheck.specs.Iface.declared.fault.Fault.{Fault}
 use Rattle.fb_netcheck.specs.Iface.Fault.{fault_cmp, faults_in_order}
 use Rattle.fb_netcheck.specs.Iface.Declarations.{declaration_faults, iface_faults_of}
-use Rattle.fb_expr.specs.Charts as expressions
-use Rattle.fb_expr.specs.Charts.{expr_faults_of, faults_in_unit}
-use Rattle.fb_ecc.specs.Charts as charts
-use Rattle.fb_ecc.specs.Charts.{chart_faults_in, ecc_faults_of}
+use Rattle.fb_expr.specs.Charts.{expr_faults_of, expression_faults, faults_in_unit}
+use Rattle.fb_ecc.specs.Charts.{chart_faults, chart_faults_in, ecc_faults_of}
 use Rattle.fb_netcheck.specs.Iface.Scope.{scope_of_type}
 use Rattle.fb_netcheck.specs.Settings.{Place}
 use Rattle.fb_netcheck.specs.Networks.{net_faults_of, network_faults, tree_faults}
@@ -59,7 +57,7 @@ reported_in sources unit body =
 
 -- what the checks of expressions, charts and networks report of a type, where its network stands here
 abbrev pub faults_here : Sources → Place → TypeTree → List Fault
-faults_here sources here d = expressions.chart_faults here.scope d.chart ++ charts.chart_faults here.scope d.chart ++ network_faults sources here d.network
+faults_here sources here d = expression_faults here.scope d.chart ++ chart_faults here.scope d.chart ++ network_faults sources here d.network
 
 -- the same of a block type
 abbrev pub block_faults : Sources → List ℕ → TypeTree → List Fault

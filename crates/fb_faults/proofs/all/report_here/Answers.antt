@@ -3,8 +3,8 @@ use Rattle.std.proofs.lemmas.Result.{on_ok_weaker}
 use Rattle.fb_netcheck.specs.Tree.Tree.{type_tree}
 use Rattle.fb_netcheck.specs.Networks.{network_faults}
 use Rattle.fb_netcheck.specs.Settings.{place_in}
-use Rattle.fb_expr.specs.Charts as expressions
-use Rattle.fb_ecc.specs.Charts as charts
+use Rattle.fb_expr.specs.Charts.{expression_faults}
+use Rattle.fb_ecc.specs.Charts.{chart_faults}
 use Rattle.fb_faults.proofs.JoinLemmas.{three_joined}
 use Rattle.fb_faults.proofs.all.report_here.Goals as goal
 
@@ -13,8 +13,8 @@ returns g c =
     let here = place_in c.args.here.now in
     let d = type_tree c.args.declared.now in
     let old = c.args.found.now.items in
-    let tests = expressions.chart_faults here.scope d.chart in
-    let chart = charts.chart_faults here.scope d.chart in
+    let tests = expression_faults here.scope d.chart in
+    let chart = chart_faults here.scope d.chart in
     let network = network_faults (g.V.View.sources c.args.view.now) here d.network in
     let second : c.report_charts.new.found.items ≡ (old ++ tests) ++ chart = c.in_ok-report_charts.ensures ∙ ap (λ l. l ++ chart) c.in_ok-report_expressions.ensures in
     on_ok_weaker c.report_network.result

@@ -3,7 +3,7 @@ use Rattle.std.specs.List.{flat_map}
 use Rattle.fb_tree.specs.Tree.{transition_tree}
 use Rattle.fb_iface.specs.Kept.{scope_in}
 use Rattle.fb_expr.specs.Charts.{transition_faults}
-use Rattle.fb_expr.proofs.charts.report_transitions.Given as goal
+use Rattle.fb_expr.proofs.check.report_transitions.Given as goal
 
 abbrev pub invariant-loop-transition : goal.invariant-loop-transition
 invariant-loop-transition l =

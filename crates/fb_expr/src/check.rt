@@ -5,7 +5,7 @@ ghost use Rattle.fb_tree.specs.Tree.{algorithm_tree, chart_tree, condition_tree,
 ghost use Rattle.fb_iface.specs.Library.View.{tree_at};
 ghost use Rattle.fb_iface.specs.Fault.{faults_in_order};
 ghost use Rattle.fb_iface.specs.Kept.{scope_in};
-ghost use Rattle.fb_expr.specs.Charts.{algorithm_faults, chart_faults, expr_faults_of, guard_faults, transition_faults};
+ghost use Rattle.fb_expr.specs.Charts.{algorithm_faults, expr_faults_of, expression_faults, guard_faults, transition_faults};
 
 use crate::expressions::judge_at;
 use crate::rules::Place;
@@ -44,7 +44,7 @@ pub fn report_expressions(
     chart: &Chart,
     found: &mut Vec<Fault>,
 ) -> Result<(), AllocError>
-    ensures { OnOk result (found.new.items ≡ found.old.items ++ chart_faults (scope_in scope.now) (chart_tree chart.now)) }
+    ensures { OnOk result (found.new.items ≡ found.old.items ++ expression_faults (scope_in scope.now) (chart_tree chart.now)) }
 {
     report_transitions(scope, chart.transitions.as_slice(), found)?;
     report_algorithms(scope, chart.algorithms.as_slice(), found)

@@ -5,7 +5,7 @@ use Rattle.std.specs.List.{flat_map}
 use Rattle.fb_tree.specs.Tree.{algorithm_tree, transition_tree}
 use Rattle.fb_iface.specs.Kept.{scope_in}
 use Rattle.fb_expr.specs.Charts.{algorithm_faults, transition_faults}
-use Rattle.fb_expr.proofs.charts.report_expressions.Goals as goal
+use Rattle.fb_expr.proofs.check.report_expressions.Goals as goal
 
 pub returns : goal.returns
 returns c =
