@@ -16,6 +16,5 @@ pub mod Renewals
 pub mod KeySteps
 pub mod KeysKept
 pub mod Again
-pub mod Alike
 -- Passed on to the crates above, which do not list these libraries.
 pub use Rattle.fb_jobs.proofs.Tree as Tree

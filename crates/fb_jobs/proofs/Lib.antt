@@ -1,3 +1,4 @@
+pub mod Alike
 pub mod Currents
 pub mod HintLemmas
 pub mod KeyLemmas

@@ -9,6 +9,7 @@ mod laws;
 mod read;
 mod reads;
 mod result;
+mod same;
 mod value;
 
 pub use job::Job;
@@ -18,6 +19,7 @@ pub use kinds::{all_kinds, keys_by_name, keys_near_and_far};
 pub use laws::{current_reads, kinds_in_order, least_stale, locality, needs_in_order};
 pub use read::{Read, TextRead, has_key, needed};
 pub use result::Finished;
+pub use same::is_same_value;
 pub use value::Value;
 
 /// Of `fb_deploy`, for the crates above.

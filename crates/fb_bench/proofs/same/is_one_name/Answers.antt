@@ -1,4 +1,4 @@
-use Rattle.fb_bench.proofs.Alike.{one_name}
+use Rattle.fb_jobs.proofs.Alike.{one_name}
 use Rattle.fb_bench.proofs.same.is_one_name.Goals as goal
 
 pub returns : goal.returns

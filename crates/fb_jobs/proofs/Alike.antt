@@ -8,17 +8,17 @@ use Rattle.std.specs.BTreeMap.{is_at}
 use Rattle.std.proofs.lemmas.Cmp.{tied_itself}
 use Rattle.std.proofs.lemmas.List.{drop_all, map-id}
 use Rattle.fb_text.specs.Order.{name_cmp}
-use Rattle.fb_jobs.proofs.Library.Names.{name_total, exact_name}
-use Rattle.fb_jobs.specs.Iface.declared.fault.Fault.{Fault}
-use Rattle.fb_jobs.specs.Iface.Fault.{fault_cmp, fault_cmp_total}
-use Rattle.fb_jobs.proofs.Iface.FaultLemmas.{fault_cmp-exact}
-use Rattle.fb_jobs.specs.Network.declared.flat.Link.{Link}
-use Rattle.fb_jobs.specs.Network.declared.flat.Border.{Border}
-use Rattle.fb_jobs.specs.Network.LinkOrder.{border_cmp, border_cmp_total, link_cmp, link_cmp_total}
-use Rattle.fb_jobs.proofs.Compose.Equals.{exact_border, exact_link}
+use Rattle.fb_deploy.proofs.Library.Names.{name_total, exact_name}
+use Rattle.fb_deploy.specs.Iface.declared.fault.Fault.{Fault}
+use Rattle.fb_deploy.specs.Iface.Fault.{fault_cmp, fault_cmp_total}
+use Rattle.fb_deploy.proofs.Iface.FaultLemmas.{fault_cmp-exact}
+use Rattle.fb_deploy.specs.Network.declared.flat.Link.{Link}
+use Rattle.fb_deploy.specs.Network.declared.flat.Border.{Border}
+use Rattle.fb_deploy.specs.Network.LinkOrder.{border_cmp, border_cmp_total, link_cmp, link_cmp_total}
+use Rattle.fb_deploy.proofs.Compose.Equals.{exact_border, exact_link}
 use Rattle.fb_jobs.specs.declared.key.Key.{Key}
-use Rattle.fb_jobs.specs.KeyOrder.{same_key}
-use Rattle.fb_bench.proofs.Order.{is_equal, key_total, same_keys}
+use Rattle.fb_jobs.specs.KeyOrder.{key_cmp_total, same_key}
+use Rattle.fb_jobs.proofs.KeyLemmas.{exact_key, is_equal}
 
 -- what is told by an order in which only equal items are equal
 told_by : {X : Type 0} {order : X → X → Ordering} → IsTotalOrder order → ((a b : X) → order a b ≡ Equal → a ≡ b) → (a b : X) → IsTrue (eq_by_cmp order a b) ↔ (a ≡ b)
@@ -31,7 +31,7 @@ pub one_name : (a b : List ℕ) → IsTrue (is_at (name_cmp a) b) ↔ (a ≡ b)
 one_name = told_by name_total exact_name
 
 pub one_key : (a b : Key) → IsTrue (same_key a b) ↔ (a ≡ b)
-one_key = told_by key_total same_keys
+one_key = told_by key_cmp_total exact_key
 
 pub one_fault : (a b : Fault) → IsTrue (eq_by_cmp fault_cmp a b) ↔ (a ≡ b)
 one_fault = told_by fault_cmp_total fault_cmp-exact

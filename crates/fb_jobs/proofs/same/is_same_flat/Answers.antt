@@ -1,5 +1,5 @@
-use Rattle.fb_bench.proofs.Alike.{one_border, one_link}
-use Rattle.fb_bench.proofs.same.is_same_flat.Goals as goal
+use Rattle.fb_jobs.proofs.Alike.{one_border, one_link}
+use Rattle.fb_jobs.proofs.same.is_same_flat.Goals as goal
 
 pub are_equal-requires : goal.are_equal-requires
 are_equal-requires c = one_link

@@ -1,6 +1,0 @@
-use Rattle.fb_jobs.specs.Mapping.declared.homes.Misplaced.{Misplaced}
-use Rattle.fb_bench.proofs.Alike.{SameLeft}
-use Rattle.fb_bench.proofs.same.are_same_misplaced.Given as goal
-
-abbrev pub invariant-loop-place : goal.invariant-loop-place
-invariant-loop-place l = SameLeft (λ (it : Misplaced). it) l.a l.b l.place
