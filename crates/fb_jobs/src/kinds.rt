@@ -15,7 +15,7 @@ pub fn all_kinds() -> &'static [Kind]
     &KINDS
 }
 
-// the names with one kind
+/// The names with one kind.
 fn add_keys(keys: &mut Vec<Key>, names: &[Name], kind: Kind) -> Result<(), AllocError>
     ensures { OnOk result (keys.new.items ≡ keys.old.items ++ keys_of_kind names.now kind) }
 {

@@ -17,7 +17,7 @@ fn is_one_name(a: &Name, b: &Name) -> bool
     same_name(a, b)
 }
 
-// the same items, where items that compare equal are one
+/// The same items, where items that compare equal are one.
 fn are_equal<T: PartialEq>(a: &[T], b: &[T]) -> bool
     requires { (x y : T) → IsTrue (T.eq x y) ↔ (x ≡ y) }
     ensures { IsTrue result ↔ (a.now ≡ b.now) }
