@@ -40,9 +40,10 @@ pub enum Referent {
 pub fn referred(scope: &Scope, reference: &Reference) -> Referent
     ensures { result ≡ referent_of (scope_in scope.now) (reference_tree reference.now) }
 {
-    match &reference.member {
-        Some(member) => referred_member(scope, &reference.name.name, &member.name),
-        None => referred_variable(scope, &reference.name.name),
+    let name = reference.name();
+    match reference.member() {
+        Some(member) => referred_member(scope, &name, &member.name),
+        None => referred_variable(scope, &name),
     }
 }
 

@@ -20,9 +20,10 @@ fn across(first: Span, last: Span) -> Span
 pub fn span_of_names(reference: &Reference) -> Span
     ensures { result ≡ names_span (reference_tree reference.now) }
 {
-    match &reference.member {
-        Some(member) => across(reference.name.span, member.span),
-        None => reference.name.span,
+    let first = reference.name_span();
+    match reference.member() {
+        Some(member) => across(first, member.span),
+        None => first,
     }
 }
 

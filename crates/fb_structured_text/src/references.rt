@@ -7,7 +7,7 @@ ghost use Rattle.fb_tree.specs.Expression.{expression_tree, expressions_of, refe
 ghost use Rattle.std.specs.Prelude.{◌≡◌, IfOk, map, option_map};
 
 use fb_forms::lexemes::{Kind, Lexeme};
-use fb_forms::{Stop, across, is_next, key, name};
+use fb_forms::{Stop, is_next, key, name};
 use fb_tree::{Expr, Reference};
 use std::alloc::{AllocError, Global};
 
@@ -34,16 +34,11 @@ pub fn variable(
     ensures { IfOk result (λ v. reference_tree v.value ≡ variable_of (name_use name.now) (option_map (λ m. name_use m.now) member.entry)) }
 {
     let variable = match member {
-        Some(member) => Reference {
-            name: name.name_use(),
-            member: Some(Box::new(alloc, member.name_use())?),
-            span: across(name.span, member.span),
-        },
-        None => Reference {
-            name: name.name_use(),
-            member: None,
-            span: name.span,
-        },
+        Some(member) => {
+            let member = member.name_use();
+            Reference::new(alloc, name.name_use(), Some(member), member.span.end)?
+        }
+        None => Reference::new(alloc, name.name_use(), None, name.span.end)?,
     };
     Ok(Box::new(alloc, variable)?)
 }

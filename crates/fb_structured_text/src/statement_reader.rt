@@ -132,7 +132,8 @@ fn statements_at(
 ) -> Result<(Vec<Stmt>, &[Lexeme]), Stop<'_>>
     ensures { Gives (λ x. (map statement_tree x.0.items, x.1.now)) result (read (many (statement left)) tokens.now) }
 {
-    let mut statements = Vec::new(alloc);
+    // Many are one statement alone.
+    let mut statements = Vec::with_capacity(alloc, 1)?;
     let mut rest = tokens;
     while begins_statement(left, rest) {
         let (next, behind) = statement(alloc, left, rest)?;

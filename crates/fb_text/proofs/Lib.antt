@@ -1,3 +1,4 @@
+mod StoredLemmas
 pub mod NameLemmas
 pub mod ScanLemmas
 pub mod Longest

@@ -3,6 +3,7 @@ pub mod Words
 pub mod Spelling
 pub mod Name
 pub mod Stored
+pub mod ShortName
 pub mod Forms
 pub mod Scan
 pub mod Tokens

@@ -8,6 +8,7 @@ mod name;
 mod order;
 mod quotes;
 mod scan;
+mod short_name;
 mod token;
 
 pub use elementary::{TypeClass, type_class};
@@ -15,4 +16,5 @@ pub use lexer::{longest_token, one_reading, tokens};
 pub use name::{Name, NameFault, NameUse};
 pub use order::{names_once_and_in_order, once_and_in_order, same_name, sorted_names, sorted_once};
 pub use scan::same_word;
+pub use short_name::ShortName;
 pub use token::{Span, Token, TokenFault, TokenKind};

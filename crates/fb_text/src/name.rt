@@ -111,8 +111,21 @@ impl Name {
         Name::of_word(b"_")
     }
 
+    /// The name with this spelling, which is in upper case.
+    pub(crate) fn of_spelling(spelling: &[u8]) -> Name
+        requires { IsName spelling.now }
+        ensures { result ≡ spelling.now }
+    {
+        let mut bytes = [0; 64];
+        bytes[..spelling.len()].copy_from_slice(spelling);
+        Name {
+            bytes,
+            len: spelling.len() as u8,
+        }
+    }
+
     /// The bytes of the name.
-    fn as_bytes(&self) -> &[u8]
+    pub(crate) fn as_bytes(&self) -> &[u8]
         ensures bytes { result.now ≡ self.now }
         ensures name { IsName self.now }
     {

@@ -1,11 +1,12 @@
 -- Expressions without where they lie in memory.
-use Rattle.std.specs.Prelude.{List, [], ◌∷◌, Option, option_map, box_value}
+use Rattle.std.specs.Prelude.{List, [], ◌∷◌, Option, box_value}
 use Rattle.fb_text.specs.declared.token.Span.{Span}
 use Rattle.fb_text.specs.declared.name.NameUse.{NameUse}
+use Rattle.fb_tree.specs.Reference.{first_name, second_name}
 use Rattle.fb_tree.specs.declared.constant.Literal.{Literal as LiteralUse}
 use Rattle.fb_tree.specs.declared.expression.BinaryUse.{BinaryUse}
 use Rattle.fb_tree.specs.declared.expression.UnaryUse.{UnaryUse}
-use Rattle.fb_tree.specs.declared.expression.Reference.{Reference as ReferenceUse}
+use Rattle.fb_tree.specs.declared.reference.Reference.{Reference as ReferenceUse}
 use Rattle.fb_tree.specs.declared.expression.Expr.{Expr}
 use Rattle.fb_tree.specs.declared.expression.Expr.TheOpen.{Expr-F, Literal, Reference, Unary, Row, Parentheses}
 use Rattle.fb_tree.specs.declared.expression.Expr.TheFolds.{fold-Expr}
@@ -16,8 +17,13 @@ pub record ReferenceTree : Type 0 where
   pub member : Option NameUse
   pub span : Span
 
+-- the first name stands where the reference begins
 abbrev pub reference_tree : ReferenceUse → ReferenceTree
-reference_tree r = record { name = r.name; member = option_map box_value r.member; span = r.span }
+reference_tree r = record {
+  name = record { name = first_name r.names; span = record { start = r.span.start; end = r.name_end } };
+  member = second_name r.names;
+  span = r.span;
+}
 
 mutual
   pub data Expression : Type 0 where

@@ -1,4 +1,5 @@
 -- What the contracts of this crate cite.
+pub mod Reference
 pub mod Expression
 pub mod Statement
 pub mod Tree

@@ -1,7 +1,8 @@
 //! Expressions of Structured Text.
 
 use crate::constant::Literal;
-use fb_text::{NameUse, Span};
+use crate::reference::Reference;
+use fb_text::Span;
 
 /// What stands before an operand.
 #[derive(Clone, Copy, Debug, PartialEq, Eq)]
@@ -42,16 +43,6 @@ pub struct UnaryUse {
 #[derive(Clone, Copy, Debug)]
 pub struct BinaryUse {
     pub operator: BinaryOperator,
-    pub span: Span,
-}
-
-/// A variable, or a variable of a plug or socket. Its subscripts stand beside it.
-#[derive(Debug, Drop)]
-pub struct Reference {
-    pub name: NameUse,
-    /// Few references have one.
-    pub member: Option<Box<NameUse>>,
-    /// From the name to the closing bracket of the subscripts.
     pub span: Span,
 }
 

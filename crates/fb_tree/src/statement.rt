@@ -1,6 +1,7 @@
 //! Statements of Structured Text.
 
-use crate::expression::{Expr, Reference};
+use crate::expression::Expr;
+use crate::reference::Reference;
 use fb_text::{NameUse, Span};
 
 /// How a `FOR` counts: its variable, from where, to where, and by what step.

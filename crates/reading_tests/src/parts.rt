@@ -1,9 +1,10 @@
 //! The parts of declarations.
 use crate::readers::{Part, read};
-use crate::told::{equal, same};
+use crate::told::{equal, same, words};
 use fb_parse::tree::{Expr, LiteralForm};
 use fb_sections::lexemes::lexemes;
 use fb_structured_text::expression;
+use fb_text::Span;
 use std::alloc::{AllocError, Global};
 use std::process::Abort;
 use std::test::Fail;
@@ -107,8 +108,27 @@ static SECTIONS: [(Part, &str, &str, usize); 25] = [
     (Part::Service, "SERVICE a ; -> END_SERVICE", "", 0),
 ];
 
-static EXPRESSIONS: [(Part, &str, &str, usize); 10] = [
+static EXPRESSIONS: [(Part, &str, &str, usize); 13] = [
     (Part::Expression, "A", "A", 0),
+    // names of 22, 23 and 64 bytes
+    (
+        Part::Expression,
+        "abcdefghijklmnopqrst_v",
+        "ABCDEFGHIJKLMNOPQRST_V",
+        0,
+    ),
+    (
+        Part::Expression,
+        "abcdefghijklmnopqrst_vw[1] + abcdefghijklmnopqrst_v",
+        "{ABCDEFGHIJKLMNOPQRST_VW[Bit] Add 27..28 ABCDEFGHIJKLMNOPQRST_V}",
+        0,
+    ),
+    (
+        Part::Expression,
+        "abcdefgh1abcdefgh2abcdefgh3abcdefgh4abcdefgh5abcdefgh6abcdefgh7_.Pabcdefghijklmnopqrstuv",
+        "ABCDEFGH1ABCDEFGH2ABCDEFGH3ABCDEFGH4ABCDEFGH5ABCDEFGH6ABCDEFGH7_.PABCDEFGHIJKLMNOPQRSTUV",
+        0,
+    ),
     (
         Part::Expression,
         "P.X[1, I + 1] = T#5s;",
@@ -281,6 +301,43 @@ fn form_of(alloc: Global, text: &str) -> Result<LiteralForm, Fail> {
         (Expr::Literal(literal), _) => Ok(literal.form),
         _ => Err(Fail::from("no literal")),
     }
+}
+
+/// The variable that a text is, in words, with where it and its first name stand.
+fn variable_told(alloc: Global, text: &str) -> Result<String, Fail> {
+    let tokens = lexemes(alloc, text)?;
+    match expression(alloc, tokens.as_slice())? {
+        (Expr::Reference(variable, _), _) => {
+            let Span { start, end } = variable.span;
+            let first = variable.name_span();
+            let mut told = format!(in alloc; "{} ", variable.name())?;
+            write!(told, "{}..{} in {start}..{end}", first.start, first.end)?;
+            if let Some(member) = variable.member() {
+                write!(told, " with {}", words(alloc, member)?)?;
+            }
+            Ok(told)
+        }
+        _ => Err(Fail::from("no variable")),
+    }
+}
+
+// Variables, with their names and where they stand.
+static VARIABLES: [(&str, &str); 3] = [
+    (" ab [1]", "AB 1..3 in 1..7"),
+    (" p . x", "P 1..2 in 1..6 with X 5..6"),
+    (
+        "abcdefghijklmnopqrst_vw",
+        "ABCDEFGHIJKLMNOPQRST_VW 0..23 in 0..23",
+    ),
+];
+
+#[test]
+fn variables(rt: HostRuntime) -> Result<(), Fail> {
+    for (text, expected) in &VARIABLES {
+        let told = variable_told(rt.alloc(), text)?;
+        same(&rt, told.as_str(), expected, text);
+    }
+    Ok(())
 }
 
 #[test]

@@ -184,6 +184,26 @@ fn names_have_no_case(rt: HostRuntime) -> Result<(), Fail> {
     Ok(())
 }
 
+// Names, and whether they are short.
+static SHORT_NAMES: [(&str, bool); 4] = [
+    ("A", true),
+    ("ABCDEFGHIJKLMNOPQRST_V", true),
+    ("ABCDEFGHIJKLMNOPQRST_VW", false),
+    (LONGEST, false),
+];
+
+#[test]
+fn short_names(rt: HostRuntime) -> Result<(), Fail> {
+    for (text, is_short) in &SHORT_NAMES {
+        let short = Name::read(text)?.shortened();
+        equal(&rt, &short.is_some(), is_short, text);
+        if let Some(short) = short {
+            same(&rt, short.name().as_str(), text, text);
+        }
+    }
+    Ok(())
+}
+
 static CLASSES: [(&str, TypeClass); 9] = [
     ("bool", TypeClass::Truth),
     ("USINT", TypeClass::Integer),

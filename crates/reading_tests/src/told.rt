@@ -398,8 +398,9 @@ fn tell_reference(
     subscripts: &[Expr],
     told: &mut String,
 ) -> Result<(), AllocError> {
-    told.push_str(reference.name.name.as_str())?;
-    if let Some(member) = &reference.member {
+    let name = reference.name();
+    told.push_str(name.as_str())?;
+    if let Some(member) = reference.member() {
         told.push_str(".")?;
         told.push_str(member.name.as_str())?;
     }

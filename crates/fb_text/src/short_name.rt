@@ -1,0 +1,66 @@
+//! Short names, which take less memory.
+ghost use Rattle.std.specs.Prelude.{◌≡◌};
+ghost use Rattle.fb_text.specs.ShortName.{shortened};
+
+use crate::name::Name;
+use std::fmt;
+use std::marker::Model;
+
+/// How many bytes a short name has at most.
+const SHORT_ROOM: usize = 22;
+
+/// A name of at most 22 bytes. A contract sees it as the list of these bytes.
+#[derive(Clone, Copy)]
+pub struct ShortName {
+    // The bytes after the first `len` are 0, so equal names have equal fields.
+    bytes: [u8; SHORT_ROOM],
+    len: u8,
+}
+
+impl Model for ShortName {
+    ghost use Rattle.std.specs.Prelude.{◌-◌, ◌++◌, List, ℕ, length, replicate};
+    ghost use Rattle.fb_text.specs.Stored.{IsStoredShort, short_spelling, short_again};
+
+    ghost Value = { List ℕ };
+
+    ghost view = { short_spelling };
+
+    ghost invariant = { IsStoredShort };
+
+    ghost inverse = { λ bytes. record { bytes = bytes ++ replicate (22 - length bytes) 0; len = length bytes } };
+
+    ghost inverse_ok = { short_again };
+}
+
+impl ShortName {
+    /// The name.
+    pub fn name(&self) -> Name
+        ensures { result ≡ self.now }
+    {
+        Name::of_spelling(&self.bytes[..self.len as usize])
+    }
+}
+
+impl Name {
+    /// The name as a short one, where it has at most 22 bytes.
+    pub fn shortened(&self) -> Option<ShortName>
+        ensures { result ≡ shortened self.now }
+    {
+        let name = self.as_bytes();
+        if name.len() > SHORT_ROOM {
+            return None;
+        }
+        let mut bytes = [0; SHORT_ROOM];
+        bytes[..name.len()].copy_from_slice(name);
+        Some(ShortName {
+            bytes,
+            len: name.len() as u8,
+        })
+    }
+}
+
+impl fmt::Debug for ShortName {
+    fn fmt<W: fmt::Write>(&self, f: &mut fmt::Formatter<W>) -> fmt::Result {
+        fmt::Debug::fmt(&self.name(), f)
+    }
+}
