@@ -192,3 +192,11 @@ module _ (old a b new : Users) (unit : List ℕ) (was now : List (List ℕ)) (be
       all other n =
           put other n
           ∙ ap (λ x. x || (is_at (name_cmp unit) other && (has_name now n && not (set.contains name_cmp before n)))) (own other n ∙ ap (λ x. x || (is_at (name_cmp unit) other && is_at (name_cmp unit) n)) (out other n))
+
+-- a unit that is indexed with its mentions need not be indexed anew
+pub unchanged : (users : Users) (unit : List ℕ) (was now : List (List ℕ)) → IsIndexedAs users unit was → was ≡ now → is_near users unit unit ≡ true → IsReplaced users unit now users
+unchanged users unit was now known same there = record { own = λ n. by n (is_at (name_cmp unit) n) refl; others = λ other n apart. refl }
+  where
+    by : (n : List ℕ) (here : Bool) → is_at (name_cmp unit) n ≡ here → is_near users unit n ≡ (is_at (name_cmp unit) n || has_name now n)
+    by n true e = ap (is_near users unit) (sym (same_is unit n e)) ∙ there ∙ sym (ap (λ b. b || has_name now n) e)
+    by n false e = known n e ∙ ap (λ ms. has_name ms n) same ∙ sym (ap (λ b. b || has_name now n) e)

@@ -1,5 +1,5 @@
 //! The index of the units by what they mention.
-ghost use Rattle.std.specs.Prelude.{◌≡◌, ◌↔◌, ℕ, ◌&&◌, ◌||◌, not, true, List, [], filter, IfOk, OnOk, OnErr, if◌then◌else◌};
+ghost use Rattle.std.specs.Prelude.{◌≡◌, ◌↔◌, ℕ, true, List, [], IfOk, OnOk, OnErr};
 ghost use Rattle.std.specs.List.{list_any};
 ghost use Rattle.std.specs.List.Sorted.{IsStrictlySortedBy};
 ghost use Rattle.std.specs.BTreeMap.{is_at};
@@ -7,6 +7,7 @@ ghost use Rattle.std.specs.BTreeSet as set;
 ghost use Rattle.fb_text.specs.Order.{name_cmp};
 ghost use Rattle.fb_table.specs.Seen.{has_name, Opens};
 ghost use Rattle.fb_index.specs.Near.{users_of, is_near, IsIndexedAs, IsReplaced, ReachesSome};
+ghost use Rattle.fb_index.specs.Steps.{is_only_in, AreWithout, HasJoined, HasLeft, IsPutUnder};
 
 use fb_table::{Table, names_of, open_new};
 use fb_text::{Name, same_name, sorted_names};
@@ -65,6 +66,9 @@ impl Index {
         ensures ok { OnOk result (IsReplaced self.old unit new.now self.new) }
         ensures err { OnErr result (self.new ≡ self.old) }
     {
+        if old == new && self.has(&unit, &unit) {
+            return Ok(());
+        }
         let before = set_of(alloc, old)?;
         let after = set_of(alloc, new)?;
         let mut index = self.copy()?;
@@ -78,7 +82,8 @@ impl Index {
     /// The indexed units that are one of the names or mention one, in order.
     pub fn near_of(&self, alloc: Global, names: &[Name]) -> Result<Vec<Name>, AllocError>
         ensures ordered { IfOk result (λ units. IsStrictlySortedBy name_cmp units.items) }
-        ensures exact { IfOk result (λ units. (unit : List ℕ) → has_name units.items unit ≡ list_any (is_near self.now unit) names.now) }
+        ensures exact { IfOk result
+            (λ units. (unit : List ℕ) → has_name units.items unit ≡ list_any (is_near self.now unit) names.now) }
     {
         let mut units = Vec::new(alloc);
         for name in names {
@@ -90,7 +95,8 @@ impl Index {
     /// The indexed units that are one of the names or lead to one by mentions, in order.
     pub fn far_of(&self, alloc: Global, names: &[Name]) -> Result<Vec<Name>, AllocError>
         ensures ordered { IfOk result (λ units. IsStrictlySortedBy name_cmp units.items) }
-        ensures exact { IfOk result (λ units. (unit : List ℕ) → (has_name units.items unit ≡ true) ↔ ReachesSome self.now unit names.now) }
+        ensures exact { IfOk result
+            (λ units. (unit : List ℕ) → (has_name units.items unit ≡ true) ↔ ReachesSome self.now unit names.now) }
     {
         let first = self.near_of(alloc, names)?;
         let mut seen = BTreeSet::new(alloc);
@@ -121,7 +127,7 @@ impl Index {
 
     /// Puts these units under a name, in the place of those that were there.
     fn set(&mut self, alloc: Global, name: &Name, units: Vec<Name>) -> Result<(), AllocError>
-        ensures { OnOk result ((other : List ℕ) → users_of self.new other ≡ (if is_at (name_cmp name.now) other then units.items else users_of self.old other)) }
+        ensures { OnOk result (IsPutUnder self.old name.now units.items self.new) }
     {
         if units.is_empty() {
             return self.users.remove(name);
@@ -131,7 +137,7 @@ impl Index {
 
     /// Takes the unit out under a name.
     fn leave(&mut self, alloc: Global, name: &Name, unit: &Name) -> Result<(), AllocError>
-        ensures { OnOk result ((other at : List ℕ) → is_near self.new other at ≡ (is_near self.old other at && not (is_at (name_cmp unit.now) other && is_at (name_cmp name.now) at))) }
+        ensures { OnOk result (HasLeft self.old unit.now (is_at (name_cmp name.now)) self.new) }
     {
         let others = without(alloc, self.under(name), unit)?;
         self.set(alloc, name, others)
@@ -139,7 +145,7 @@ impl Index {
 
     /// Puts the unit under a name.
     fn join(&mut self, alloc: Global, name: &Name, unit: &Name) -> Result<(), AllocError>
-        ensures { OnOk result ((other at : List ℕ) → is_near self.new other at ≡ (is_near self.old other at || (is_at (name_cmp unit.now) other && is_at (name_cmp name.now) at))) }
+        ensures { OnOk result (HasJoined self.old unit.now (is_at (name_cmp name.now)) self.new) }
     {
         if self.has(name, unit) {
             return Ok(());
@@ -158,7 +164,7 @@ impl Index {
         names: &[Name],
         kept: &BTreeSet<Name>,
     ) -> Result<(), AllocError>
-        ensures { OnOk result ((other at : List ℕ) → is_near self.new other at ≡ (is_near self.old other at && not (is_at (name_cmp unit.now) other && (has_name names.now at && not (set.contains name_cmp kept.now at))))) }
+        ensures { OnOk result (HasLeft self.old unit.now (is_only_in names.now kept.now) self.new) }
     {
         for name in names {
             if !kept.contains(name) {
@@ -176,7 +182,7 @@ impl Index {
         names: &[Name],
         known: &BTreeSet<Name>,
     ) -> Result<(), AllocError>
-        ensures { OnOk result ((other at : List ℕ) → is_near self.new other at ≡ (is_near self.old other at || (is_at (name_cmp unit.now) other && (has_name names.now at && not (set.contains name_cmp known.now at))))) }
+        ensures { OnOk result (HasJoined self.old unit.now (is_only_in names.now known.now) self.new) }
     {
         for name in names {
             if !known.contains(name) {
@@ -196,7 +202,7 @@ fn set_of(alloc: Global, names: &[Name]) -> Result<BTreeSet<Name>, AllocError>
 
 /// The units but one.
 fn without(alloc: Global, units: &[Name], unit: &Name) -> Result<Vec<Name>, AllocError>
-    ensures { IfOk result (λ others. (other : List ℕ) → has_name others.items other ≡ (has_name units.now other && not (is_at (name_cmp unit.now) other))) }
+    ensures { IfOk result (λ others. AreWithout units.now unit.now others.items) }
 {
     let mut others = Vec::new(alloc);
     for other in units {

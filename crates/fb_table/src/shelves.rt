@@ -39,22 +39,26 @@ pub(crate) fn shelf_for<V>(shelves: &[Shelf<V>], name: &Name) -> usize
     }
 }
 
-/// Puts a value under a name, in place of what was there.
+/// Puts a value under a name, in place of what was there. There are `len` entries, and the answer says how many there are then.
 pub(crate) fn put<V: Drop>(
     shelves: &mut Vec<Shelf<V>>,
+    len: usize,
     name: Name,
     value: Arc<V>,
-) -> Result<(), AllocError>
-    requires { AreShelves (shelves_of shelves.old.items) }
+) -> Result<usize, AllocError>
+    requires order { AreShelves (shelves_of shelves.old.items) }
+    requires counted { len ≡ length (entries_in shelves.old.items) }
     ensures order { AreShelves (shelves_of shelves.new.items) }
+    ensures counted { IfOk result (λ len. len ≡ length (entries_in shelves.new.items)) }
     ensures ok { OnOk result (entries_in shelves.new.items ≡ insert_entry name_cmp (entries_in shelves.old.items) name value.value) }
     ensures err { OnErr result (entries_in shelves.new.items ≡ entries_in shelves.old.items) }
 {
-    make_room(shelves, &name)?;
-    let at = shelf_for(shelves.as_slice(), &name);
+    let at = make_room(shelves, &name)?;
+    let others = len - shelves[at].places.len();
     let places = shelves[at].with(name, value)?;
+    let len = others.checked_add(places.len()).ok_or(AllocError)?;
     shelves[at].places = places;
-    Ok(())
+    Ok(len)
 }
 
 /// Removes a name that is there.
@@ -71,14 +75,30 @@ pub(crate) fn remove<V: Drop>(shelves: &mut Vec<Shelf<V>>, name: &Name) -> Resul
     Ok(())
 }
 
-/// Has a shelf for the name, with room.
-fn make_room<V: Drop>(shelves: &mut Vec<Shelf<V>>, name: &Name) -> Result<(), AllocError>
+/// Has a shelf for the name, with room, and gives its index.
+fn make_room<V: Drop>(shelves: &mut Vec<Shelf<V>>, name: &Name) -> Result<usize, AllocError>
     requires { AreShelves (shelves_of shelves.old.items) }
+    ensures order { AreShelves (shelves_of shelves.new.items) }
+    ensures same { entries_in shelves.new.items ≡ entries_in shelves.old.items }
+    ensures at { IfOk result (IsShelfFor (lasts_in shelves.new.items) name.now) }
+    ensures room { IfOk result (λ at. at < length shelves.new.items) }
+{
+    let at = shelf_for(shelves.as_slice(), name);
+    if at < shelves.len() && shelves[at].places.len() < FULL {
+        return Ok(at);
+    }
+    widen(shelves, at, name)?;
+    Ok(shelf_for(shelves.as_slice(), name))
+}
+
+/// Has a shelf for the name, with room, where `at` is the index of the one for it, or no shelf is.
+fn widen<V: Drop>(shelves: &mut Vec<Shelf<V>>, at: usize, name: &Name) -> Result<(), AllocError>
+    requires order { AreShelves (shelves_of shelves.old.items) }
+    requires at { IsShelfFor (lasts_in shelves.old.items) name.now at }
     ensures order { AreShelves (shelves_of shelves.new.items) }
     ensures same { entries_in shelves.new.items ≡ entries_in shelves.old.items }
     ensures room { OnOk result (reaches (lasts_in shelves.new.items) name.now ≡ true) }
 {
-    let at = shelf_for(shelves.as_slice(), name);
     if at < shelves.len() {
         halve_full(shelves, at)
     } else {

@@ -105,12 +105,7 @@ impl<V: Drop> Table<V> {
         ensures ok { OnOk result (self.new ≡ insert_entry name_cmp self.old name value.value) }
         ensures err { OnErr result (self.new ≡ self.old) }
     {
-        let len = match self.get(&name) {
-            Some(_) => self.len,
-            None => self.len.checked_add(1).ok_or(AllocError)?,
-        };
-        shelves::put(&mut self.shelves, name, value)?;
-        self.len = len;
+        self.len = shelves::put(&mut self.shelves, self.len, name, value)?;
         Ok(())
     }
 
