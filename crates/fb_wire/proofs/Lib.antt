@@ -2,12 +2,9 @@ pub mod Changes
 pub mod Cuts
 pub mod Ends
 pub mod Jobs
-pub mod Members
 pub mod OneTalk
 pub mod Pieces
-pub mod Printed
 pub mod Replied
-pub mod RequestReads
 pub mod Scripts
 pub mod Takings
 pub mod Talks

@@ -6,8 +6,8 @@ use Rattle.fb_bench.specs.Calls.{Answer, Replied, FullHistory, BehindHistory}
 use Rattle.fb_bench.specs.Solo.{IsStep}
 use Rattle.fb_bench.specs.Story.{Story}
 use Rattle.fb_wire.specs.Lines.{Fits, IsTooLong, is_blank, lines_of}
-use Rattle.fb_wire.specs.Requests.{request_of}
-use Rattle.fb_wire.specs.Replies.{reply_line}
+use Rattle.fb_messages.specs.Requests.{request_of}
+use Rattle.fb_messages.specs.Replies.{reply_line}
 use Rattle.fb_wire.specs.Ends.{AnsweredAll, AnsweredEnded, IsBetweenLines, Stands}
 use Rattle.fb_wire.specs.Talk.{Jobs, Pair, Plan, says, asks, Leads, Talk, Runs, answers_of, plan_of}
 use Rattle.fb_wire.specs.declared.end.RunEnd.{RunEnd}

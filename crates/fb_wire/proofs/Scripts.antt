@@ -9,8 +9,8 @@ use Rattle.fb_bench.specs.Solo.{IsStep}
 use Rattle.fb_bench.specs.Story.{Story}
 use Rattle.fb_wire.specs.Ends.{IsFrontOfReply, IsNothing, Stands}
 use Rattle.fb_wire.specs.Lines.{is_blank, lines_of}
-use Rattle.fb_wire.specs.Replies.{reply_line}
-use Rattle.fb_wire.specs.Requests.{request_of}
+use Rattle.fb_messages.specs.Replies.{reply_line}
+use Rattle.fb_messages.specs.Requests.{request_of}
 use Rattle.fb_wire.specs.Script.{answer_from, story_after, told, Script, script_from, reply_before, script, IsFrontOf, SaysBy}
 use Rattle.fb_wire.specs.Talk.{Jobs, Pair, Plan, says, asks, Leads, plan_of, Talk, Runs}
 use Rattle.fb_wire.specs.declared.end.RunEnd.{RunEnd}

@@ -6,7 +6,7 @@ use Rattle.std.proofs.Common.{Bool, true, false, MatchBool, take, drop, ◌-◌,
 use Rattle.fb_bench.specs.Machine.{Call}
 use Rattle.fb_bench.specs.Calls.{Answer}
 use Rattle.fb_wire.specs.Lines.{Fits, lines_of, is_blank, IsLine}
-use Rattle.fb_wire.specs.Requests.{request_of}
+use Rattle.fb_messages.specs.Requests.{request_of}
 use Rattle.fb_wire.specs.Ends.{Stands, AnsweredEnded, IsNothing}
 use Rattle.fb_wire.specs.Served.{LineSaid, Standing, PieceTaken, Extends}
 use Rattle.fb_wire.specs.Talk.{Jobs, Pair, Plan, plan_of, Leads, LineTalk, Talk, Runs}

@@ -14,11 +14,12 @@ use Rattle.fb_bench.specs.declared.desk.DeskRefused.{DeskRefused}
 use Rattle.fb_bench.specs.declared.desk.DeskRefused.TheVariants.{HistoryFull, Behind, Memory}
 use Rattle.serde_json.specs.Data.{Data}
 use Rattle.fb_wire.specs.Lines.{is_blank}
-use Rattle.fb_wire.specs.Replies.{said_to, work_done}
-use Rattle.fb_wire.specs.ReplyView.{data_of}
+use Rattle.fb_messages.specs.Replies.{work_done}
+use Rattle.fb_wire.specs.Said.{said_to}
+use Rattle.fb_messages.specs.ReplyView.{data_of}
 use Rattle.fb_wire.specs.Served.{Reaches, LineSaid, Served, RoundServed, KeepsTaken, left_after, answer_in, reply_in}
 use Rattle.fb_wire.specs.Talk.{Jobs, Pair, Plan, says, asks, Leads, Runs, call_once, take_plan, held_after, after_take, after_deliver, work_plan}
-use Rattle.fb_wire.specs.declared.reply.Reply.{Reply}
+use Rattle.fb_messages.specs.declared.reply.Reply.{Reply}
 
 pub Leads-append : (plan mid rest : Plan) (ps qs : List Pair) → Leads plan ps mid → Leads mid qs rest → Leads plan (ps ++ qs) rest
 Leads-append plan mid rest [] qs first more = let P : Plan → Type 0 = λ q. Leads q qs rest in subst P first more

@@ -2,7 +2,7 @@
 use Rattle.std.specs.Prelude.{◌≡◌, ℕ, List, [], ◌∷◌, ◌++◌, take}
 use Rattle.serde_json.specs.Data.{Data}
 use Rattle.fb_wire.specs.Lines.{Fits, IsTooLong, lines_of}
-use Rattle.fb_wire.specs.Replies.{reply_line}
+use Rattle.fb_messages.specs.Replies.{reply_line}
 use Rattle.fb_wire.specs.Talk.{Jobs, LinePart, Pair, Plan, says, Talk}
 use Rattle.fb_wire.specs.declared.end.RunEnd.{RunEnd}
 use Rattle.fb_wire.specs.declared.end.RunEnd.TheVariants.{End, LineTooLong, ReadFailed, WriteFailed, TurnsOver, Memory}

@@ -5,8 +5,8 @@ use Rattle.fb_bench.specs.Machine.{Call, reply}
 use Rattle.fb_bench.specs.Story.{Story, state_of, recorded}
 use Rattle.fb_bench.specs.Calls.{Answer, Replied, FullHistory}
 use Rattle.fb_wire.specs.Lines.{is_blank, lines_of}
-use Rattle.fb_wire.specs.Replies.{reply_line}
-use Rattle.fb_wire.specs.Requests.{request_of}
+use Rattle.fb_messages.specs.Replies.{reply_line}
+use Rattle.fb_messages.specs.Requests.{request_of}
 use Rattle.fb_wire.specs.Talk.{Jobs, Plan, says, asks, plan_of}
 use Rattle.fb_wire.specs.declared.end.RunEnd.{RunEnd}
 use Rattle.fb_wire.specs.declared.end.RunEnd.TheVariants.{End}

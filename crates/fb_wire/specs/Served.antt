@@ -13,16 +13,17 @@ use Rattle.fb_bench.specs.Library.declared.change.Change.{Change}
 use Rattle.fb_wire.specs.declared.change.ChangeFault.{ChangeFault}
 use Rattle.fb_wire.specs.declared.change.ChangeFault.TheVariants as fault
 use Rattle.fb_wire.specs.Lines.{Fits, IsTooLong, lines_of, is_blank}
-use Rattle.fb_wire.specs.Requests.{request_of}
+use Rattle.fb_messages.specs.Requests.{request_of}
 use Rattle.fb_wire.specs.Ends.{IsFrontOfReply, IsNothing, Stands}
 use Rattle.fb_wire.specs.declared.end.RunEnd.{RunEnd}
 use Rattle.fb_wire.specs.declared.end.RunEnd.TheVariants as end
 use Rattle.fb_wire.specs.Talk.{plan_of, LineTalk, Talk, Jobs, Pair, Plan, says, asks, Leads, Runs, after_take, held_after}
-use Rattle.fb_wire.specs.Replies.{work_done, work_refused, said_to, reply_line}
-use Rattle.fb_wire.specs.ReplyView.{data_of, refusal_text}
+use Rattle.fb_messages.specs.Replies.{work_done, work_refused, reply_line}
+use Rattle.fb_wire.specs.Said.{said_to}
+use Rattle.fb_messages.specs.ReplyView.{data_of, refusal_text}
 use Rattle.fb_wire.specs.declared.answer.Round.{Round}
 use Rattle.fb_wire.specs.declared.answer.Round.TheVariants as rounds
-use Rattle.fb_wire.specs.declared.reply.Reply.{Reply}
+use Rattle.fb_messages.specs.declared.reply.Reply.{Reply}
 use Rattle.fb_wire.specs.declared.answer.Taking.{Taking}
 use Rattle.fb_wire.specs.declared.answer.Taking.TheVariants.{Job, Ended}
 

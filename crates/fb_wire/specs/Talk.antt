@@ -9,9 +9,10 @@ use Rattle.fb_bench.specs.Machine.{Call, ToCommit, ToTake, ToDeliver, ToGiveBack
 use Rattle.fb_bench.specs.Calls.{Answer, Replied, FullHistory, BehindHistory}
 use Rattle.fb_bench.specs.declared.answers.Delivered.TheVariants.{Accepted}
 use Rattle.fb_wire.specs.Lines.{Fits, is_blank}
-use Rattle.fb_wire.specs.Replies.{refused, said_to, work_done, work_refused, reply_line}
-use Rattle.fb_wire.specs.Requests as asked
-use Rattle.fb_wire.specs.Requests.{Request, Change, puts, removes, request_of}
+use Rattle.fb_messages.specs.Replies.{refused, work_done, work_refused, reply_line}
+use Rattle.fb_wire.specs.Said.{said_to}
+use Rattle.fb_messages.specs.Requests as asked
+use Rattle.fb_messages.specs.Requests.{Request, Change, puts, removes, request_of}
 
 -- the jobs that a run holds, by their keys and what they read
 abbrev pub Jobs : Type 0

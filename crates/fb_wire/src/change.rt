@@ -1,14 +1,13 @@
 //! The changes of a commit, with their names and texts read.
 ghost use Rattle.std.specs.Prelude.{map};
-ghost use Rattle.fb_wire.specs.RequestView.{change_view};
+ghost use Rattle.fb_messages.specs.RequestView.{change_view};
 ghost use Rattle.fb_wire.specs.Served.{ChangeMade, ChangesMade};
-ghost use Rattle.fb_wire.specs.Requests.{puts, removes};
+ghost use Rattle.fb_messages.specs.Requests.{puts, removes};
 ghost use Rattle.fb_wire.specs.Talk.{edit_in, edits_in};
 
-use crate::reply::Refusal;
-use crate::request::AskedChange;
 use fb_bench::library::Change;
 use fb_bench::parse::{ReadFault, Source};
+use fb_messages::{AskedChange, Refusal};
 use fb_text::Name;
 use std::alloc::Global;
 

@@ -1,18 +1,13 @@
-//! The line engine: requests in, replies out.
+//! The line engine: conversations of requests and replies, line by line.
 #![tactic(auto)]
 
 mod answer;
 mod change;
-mod deploy_reply;
 mod end;
 mod laws;
 mod line;
-mod net_reply;
 mod piece;
-mod reply;
-mod request;
 mod run;
-mod to_json;
 
 pub use end::RunEnd;
 pub use fb_streams::{Failed, Feed, FromRead, IntoWrite, MemoryFeed, MemorySink, Sink};

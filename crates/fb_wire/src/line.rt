@@ -2,17 +2,16 @@
 ghost use Rattle.std.specs.Prelude.{◌≡◌, ◌↔◌, [], IsTrue, IfOk, IfErr, true, false, is_err};
 ghost use Rattle.fb_wire.specs.Lines.{is_blank};
 ghost use Rattle.serde_json.specs.View.{view};
-ghost use Rattle.fb_wire.specs.Requests.{request_in, request_of};
+ghost use Rattle.fb_messages.specs.Requests.{request_in, request_of};
 ghost use Rattle.fb_wire.specs.Served.{Served, LineServed, LineSaid, StopsInside};
 ghost use Rattle.fb_streams.specs.Streams.{WritesAll, StaysFlushed};
 ghost use Rattle.fb_wire.specs.Talk.{plan_of};
 
 use crate::answer::answer;
 use crate::end::RunEnd;
-use crate::reply::Reply;
-use crate::request::request_in;
 use fb_bench::Desk;
 use fb_bench::jobs::Job;
+use fb_messages::{Reply, request_in};
 use fb_streams::{Failed, Sink};
 use serde_json::Value;
 use std::alloc::{AllocError, Global};

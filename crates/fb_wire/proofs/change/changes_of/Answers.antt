@@ -4,9 +4,9 @@ use Rattle.fb_bench.specs.Library.Texts.{Edit}
 use Rattle.fb_bench.specs.Library.Changes.{edit_of, edits_of}
 use Rattle.fb_wire.specs.declared.change.ChangeFault.{ChangeFault}
 use Rattle.fb_wire.specs.declared.change.ChangeFault.TheVariants as fault
-use Rattle.fb_wire.specs.declared.request.AskedChange.{AskedChange}
-use Rattle.fb_wire.specs.ReplyView.{refusal_text}
-use Rattle.fb_wire.specs.RequestView.{change_view}
+use Rattle.fb_messages.specs.declared.request.AskedChange.{AskedChange}
+use Rattle.fb_messages.specs.ReplyView.{refusal_text}
+use Rattle.fb_messages.specs.RequestView.{change_view}
 use Rattle.fb_wire.specs.Served.{ChangeMade, ChangesMade}
 use Rattle.fb_wire.specs.Talk.{edit_in, edits_in}
 use Rattle.fb_wire.proofs.Changes.{one_more_edit, one_refused}

@@ -1,5 +1,5 @@
 use Rattle.std.proofs.lemmas.Bool.{false≢true}
-use Rattle.fb_wire.proofs.RequestReads.{request_of-read, request_of-unread}
+use Rattle.fb_messages.proofs.RequestReads.{request_of-read, request_of-unread}
 use Rattle.fb_wire.proofs.Talks.{reaches_itself}
 use Rattle.fb_wire.proofs.line.answer_bytes.Goals as goal
 

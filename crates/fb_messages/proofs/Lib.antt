@@ -1,0 +1,4 @@
+pub mod Changes
+pub mod Members
+pub mod Printed
+pub mod RequestReads

@@ -1,0 +1,19 @@
+-- The request of a line, by what was read of it.
+use Rattle.std.proofs.Common.{◌≡◌, ℕ, List, Bool, true, false, Some, None, refl}
+use Rattle.std.specs.Str.{IsUtf8, is_utf8}
+use Rattle.std.proofs.lemmas.Str.{IsUtf8-from_is_utf8, is_utf8-from_IsUtf8}
+use Rattle.serde_json.specs.Data.{Data}
+use Rattle.serde_json.specs.Read.{read}
+use Rattle.fb_messages.specs.Requests.{request_in, request_of}
+
+pub request_of-read : (line : List ℕ) (d : Data) → IsUtf8 line → read line ≡ Some d → request_of line ≡ request_in d
+unfolding request_of
+request_of-read line d text is = rw (is_utf8-from_IsUtf8 line text, is) refl
+
+unread : (line : List ℕ) (b : Bool) → is_utf8 line ≡ b → (IsUtf8 line → read line ≡ None) → request_of line ≡ None
+unfolding request_of
+unread line true text none = rw (text, none (IsUtf8-from_is_utf8 line text)) refl
+unread line false text none = rw text refl
+
+pub request_of-unread : (line : List ℕ) → (IsUtf8 line → read line ≡ None) → request_of line ≡ None
+request_of-unread line none = unread line (is_utf8 line) refl none

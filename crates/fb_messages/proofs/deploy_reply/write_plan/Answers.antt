@@ -1,0 +1,15 @@
+use Rattle.std.proofs.Common.{◌∷◌, codes}
+use Rattle.json.specs.Token.{key}
+use Rattle.serde_json.specs.Data.{array}
+use Rattle.fb_messages.specs.NetReplies.{link_items}
+use Rattle.fb_messages.specs.DeployReplies.{resource_items}
+use Rattle.fb_messages.specs.Tokens.{tokens_of}
+use Rattle.fb_messages.proofs.Members.{two_members}
+use Rattle.fb_messages.proofs.deploy_reply.write_plan.Goals as goal
+
+pub returns : goal.returns
+returns c =
+    let begun = c.in_ok-begin_object.ensures in
+    two_members c.end_object.result c.args.out.now c.begin_object.new.self c.write_list_member.new.out c.write_list_member-2.new.out c.end_object.new.self
+    (key (codes "cuts") ∷ tokens_of (array (link_items c.args.cuts.now))) (key (codes "resources") ∷ tokens_of (array (resource_items c.args.resources.now)))
+    (begun.room.0, begun.ok) c.in_ok-write_list_member.ensures c.in_ok-write_list_member-2.ensures c.end_object.ensures

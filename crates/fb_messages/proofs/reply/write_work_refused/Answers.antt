@@ -1,0 +1,14 @@
+use Rattle.std.proofs.Common.{◌∷◌, codes}
+use Rattle.json.specs.Token.{key}
+use Rattle.serde_json.specs.Data.{string}
+use Rattle.fb_messages.specs.Replies.{count}
+use Rattle.fb_messages.specs.Tokens.{tokens_of}
+use Rattle.fb_messages.proofs.Members.{two_members}
+use Rattle.fb_messages.proofs.reply.write_work_refused.Goals as goal
+
+pub returns : goal.returns
+returns c =
+    let begun = c.in_ok-begin_object.ensures in
+    rw (← c.as_str.ensures) (two_members c.end_object.result c.args.out.now c.begin_object.new.self c.write_member.new.out c.write_text_member.new.out c.end_object.new.self
+    (key (codes "accepted") ∷ tokens_of (count c.args.accepted)) (key (codes "refused") ∷ tokens_of (string c.as_str.result.now))
+    (begun.room.0, begun.ok) c.in_ok-write_member.ensures c.in_ok-write_text_member.ensures c.end_object.ensures)

@@ -1,0 +1,8 @@
+-- What the contracts of this crate cite.
+pub mod Requests
+pub mod RequestView
+pub mod Replies
+pub mod NetReplies
+pub mod DeployReplies
+pub mod ReplyView
+pub mod Tokens

@@ -1,0 +1,95 @@
+-- The request that a line is.
+use Rattle.std.specs.Prelude.{ℕ, List, [], ◌∷◌, codes, ◌&&◌, bytes_eq, nat_le, Option, Some, None, option_map, option_and_then, if◌then◌else◌}
+use Rattle.std.specs.Str.{is_utf8}
+use Rattle.fb_jobs.specs.declared.key.Kind.{Kind}
+use Rattle.fb_jobs.specs.declared.key.Kind.TheVariants.{Faults, Net, Deploy}
+use Rattle.serde_json.specs.Data.{Data, Items, no_items, item}
+use Rattle.serde_json.specs.Read.{read}
+use Rattle.serde_json.specs.Find.{get, as_array, as_str, as_number, as_u64}
+
+-- a change of a commit, before its name is read
+pub data Change : Type 0 where
+  puts : (unit : List ℕ) → (base : ℕ) → (text : List ℕ) → Change
+  removes : (unit : List ℕ) → (base : ℕ) → Change
+
+-- a request, before its names are read
+pub data Request : Type 0 where
+  commit : (changes : List Change) → Request
+  ask : Kind → List ℕ → Request
+  work : ℕ → Request
+  take : Request
+  deliver : ℕ → Request
+  give_back : Kind → List ℕ → Request
+
+-- ---- members
+
+abbrev pub member_text : List ℕ → Data → Option (List ℕ)
+member_text name d = option_and_then as_str (get name d)
+
+abbrev pub number_at : List ℕ → Data → Option ℕ
+number_at name d = option_and_then as_u64 (option_and_then as_number (get name d))
+
+abbrev pub kind_called : List ℕ → Option Kind
+kind_called text =
+    if bytes_eq text (codes "faults") then Some Faults
+    else (if bytes_eq text (codes "net") then Some Net
+    else (if bytes_eq text (codes "deploy") then Some Deploy else None))
+
+abbrev pub kind_at : List ℕ → Data → Option Kind
+kind_at name d = option_and_then kind_called (member_text name d)
+
+-- ---- the changes of a commit
+
+abbrev pub put_in : Data → Option Change
+put_in d =
+    option_and_then (λ unit. option_and_then (λ base. option_map (puts unit base) (member_text (codes "text") d)) (number_at (codes "base") d))
+    (member_text (codes "put") d)
+
+abbrev pub remove_in : Data → Option Change
+remove_in d = option_and_then (λ unit. option_map (removes unit) (number_at (codes "base") d)) (member_text (codes "remove") d)
+
+-- by what stands under `put` and under `remove`: one of them alone
+abbrev pub change_by : Option Data → Option Data → Data → Option Change
+change_by None None d = None
+change_by None (Some removed) d = remove_in d
+change_by (Some put) None d = put_in d
+change_by (Some put) (Some removed) d = None
+
+abbrev pub change_in : Data → Option Change
+change_in d = change_by (get (codes "put") d) (get (codes "remove") d) d
+
+-- each item is a change
+abbrev pub changes_of : Items → Option (List Change)
+changes_of no_items = Some []
+changes_of (item d ds) = option_and_then (λ change. option_map (λ changes. change ∷ changes) (changes_of ds)) (change_in d)
+
+abbrev pub commit_in : Data → Option Request
+commit_in d = option_map commit (option_and_then changes_of (option_and_then as_array (get (codes "changes") d)))
+
+-- ---- requests
+
+abbrev pub ask_in : Data → Option Request
+ask_in d = option_and_then (λ kind. option_map (ask kind) (member_text (codes "unit") d)) (kind_at (codes "kind") d)
+
+abbrev pub give_back_in : Data → Option Request
+give_back_in d = option_and_then (λ kind. option_map (give_back kind) (member_text (codes "unit") d)) (kind_at (codes "kind") d)
+
+-- 1 to 1,000 turns
+abbrev pub work_of : ℕ → Option Request
+work_of turns = if nat_le 1 turns && nat_le turns 1000 then Some (work turns) else None
+
+abbrev pub request_by : List ℕ → Data → Option Request
+request_by op d =
+    if bytes_eq op (codes "commit") then commit_in d
+    else (if bytes_eq op (codes "ask") then ask_in d
+    else (if bytes_eq op (codes "work") then option_and_then work_of (number_at (codes "turns") d)
+    else (if bytes_eq op (codes "take") then Some take
+    else (if bytes_eq op (codes "deliver") then option_map deliver (number_at (codes "job") d)
+    else (if bytes_eq op (codes "give_back") then give_back_in d else None)))))
+
+unfoldable pub request_in : Data → Option Request
+request_in d = option_and_then (λ op. request_by op d) (member_text (codes "op") d)
+
+-- a line that is not UTF-8, no JSON or no request has none
+unfoldable pub request_of : List ℕ → Option Request
+request_of line = if is_utf8 line then option_and_then request_in (read line) else None

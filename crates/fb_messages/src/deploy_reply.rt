@@ -1,0 +1,63 @@
+//! The replies that show plans.
+ghost use Rattle.serde_json.specs.Data.{string};
+ghost use Rattle.fb_jobs.specs.Deploy.Deploy.{plain_deploy};
+ghost use Rattle.fb_messages.specs.DeployReplies.{deploy_said, misplaced_item, plan_said, resource_item};
+ghost use Rattle.fb_messages.specs.Tokens.{IsSaid};
+
+use crate::to_json::{ToJson, write_list, write_list_member, write_one, write_one_list, write_two};
+use fb_jobs::deploy::{Command, Deploy, ResourcePlan};
+use fb_jobs::mapping::Misplaced;
+use fb_jobs::network::Link;
+use json::Writer;
+use std::alloc::AllocError;
+
+impl ToJson for Misplaced {
+    ghost said = { misplaced_item };
+
+    fn write(&self, out: &mut Writer) -> Result<(), AllocError> {
+        match self {
+            Misplaced::Unmapped(path) => write_two(out, "UNMAPPED", path.as_str()),
+            Misplaced::NoSuchBlock(path) => write_two(out, "NO_SUCH_BLOCK", path.as_str()),
+        }
+    }
+}
+
+impl ToJson for Command {
+    ghost said = { string };
+
+    fn write(&self, out: &mut Writer) -> Result<(), AllocError> {
+        out.string(self.as_str())
+    }
+}
+
+impl ToJson for ResourcePlan {
+    ghost said = { resource_item };
+
+    fn write(&self, out: &mut Writer) -> Result<(), AllocError> {
+        out.begin_array()?;
+        out.string(self.name().as_str())?;
+        write_list(out, self.commands())?;
+        out.end_array()
+    }
+}
+
+fn write_plan(out: &mut Writer, cuts: &[Link], resources: &[ResourcePlan]) -> Result<(), AllocError>
+    ensures { IsSaid result out.old out.new (plan_said cuts.now resources.now) }
+{
+    out.begin_object()?;
+    write_list_member(out, "cuts", cuts)?;
+    write_list_member(out, "resources", resources)?;
+    out.end_object()
+}
+
+impl ToJson for Deploy {
+    ghost said = { λ deploy. deploy_said (plain_deploy deploy) };
+
+    fn write(&self, out: &mut Writer) -> Result<(), AllocError> {
+        match self {
+            Deploy::Stopped(net) => write_one(out, "stopped", net),
+            Deploy::Faulty(found) => write_one_list(out, "faulty", found),
+            Deploy::Plan { cuts, resources } => write_plan(out, cuts, resources),
+        }
+    }
+}

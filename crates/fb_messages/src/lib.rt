@@ -1,0 +1,11 @@
+//! Requests as they are read from JSON, and replies as they are written.
+#![tactic(auto)]
+
+mod deploy_reply;
+mod net_reply;
+mod reply;
+mod request;
+mod to_json;
+
+pub use reply::{Refusal, Reply};
+pub use request::{AskedChange, Request, request_in};

@@ -1,0 +1,191 @@
+//! From a JSON value to the request that it is.
+ghost use Rattle.std.specs.Prelude.{◌≡◌, map, codes, option_map, option_and_then, IfOk};
+ghost use Rattle.serde_json.specs.View.{view, items_view};
+ghost use Rattle.fb_messages.specs.Requests.{member_text, number_at, kind_called, kind_at, put_in, remove_in, change_in, changes_of, request_in, request_by, commit_in, ask_in, give_back_in, work_of, deliver};
+ghost use Rattle.fb_messages.specs.RequestView.{change_view, request_view};
+
+use fb_jobs::Kind;
+use serde_json::Value;
+use std::alloc::{AllocError, Global};
+
+/// A change of a commit, before its name is read. It lends its texts from the value.
+#[derive(Clone, Copy)]
+pub enum AskedChange<'a> {
+    Put {
+        unit: &'a str,
+        base: u64,
+        text: &'a str,
+    },
+    Remove {
+        unit: &'a str,
+        base: u64,
+    },
+}
+
+/// A request, before its names are read. It lends its texts from the value.
+#[derive(Drop)]
+pub enum Request<'a> {
+    Commit(Vec<AskedChange<'a>>),
+    Ask { kind: Kind, unit: &'a str },
+    Work(u64),
+    Take,
+    Deliver(u64),
+    GiveBack { kind: Kind, unit: &'a str },
+}
+
+fn member_text<'a>(value: &'a Value, name: &str) -> Option<&'a str>
+    ensures { option_map (λ s. s.now) result ≡ member_text name.now (view value.now) }
+{
+    value.get(name).and_then(Value::as_str)
+}
+
+fn number_at(value: &Value, name: &str) -> Option<u64>
+    ensures { result ≡ number_at name.now (view value.now) }
+{
+    value.get(name).and_then(Value::as_u64)
+}
+
+fn kind_called(text: &str) -> Option<Kind>
+    ensures { result ≡ kind_called text.now }
+{
+    if text == "faults" {
+        Some(Kind::Faults)
+    } else if text == "net" {
+        Some(Kind::Net)
+    } else if text == "deploy" {
+        Some(Kind::Deploy)
+    } else {
+        None
+    }
+}
+
+fn kind_at(value: &Value, name: &str) -> Option<Kind>
+    ensures { result ≡ kind_at name.now (view value.now) }
+{
+    kind_called(member_text(value, name)?)
+}
+
+fn put_in(value: &Value) -> Option<AskedChange<'_>>
+    ensures { option_map change_view result ≡ put_in (view value.now) }
+{
+    let unit = member_text(value, "put")?;
+    let base = number_at(value, "base")?;
+    let text = member_text(value, "text")?;
+    Some(AskedChange::Put { unit, base, text })
+}
+
+fn remove_in(value: &Value) -> Option<AskedChange<'_>>
+    ensures { option_map change_view result ≡ remove_in (view value.now) }
+{
+    let unit = member_text(value, "remove")?;
+    let base = number_at(value, "base")?;
+    Some(AskedChange::Remove { unit, base })
+}
+
+/// A change has one of `put` and `remove`.
+fn change_in(value: &Value) -> Option<AskedChange<'_>>
+    ensures { option_map change_view result ≡ change_in (view value.now) }
+{
+    match (value.get("put"), value.get("remove")) {
+        (Some(_), None) => put_in(value),
+        (None, Some(_)) => remove_in(value),
+        _ => None,
+    }
+}
+
+fn changes_of<'a>(
+    alloc: Global,
+    values: &'a [Value],
+) -> Result<Option<Vec<AskedChange<'a>>>, AllocError>
+    ensures { IfOk result (λ found. option_map (λ changes. map change_view changes.items) found ≡ changes_of (items_view values.now)) }
+{
+    let mut changes = Vec::new(alloc);
+    for value in values {
+        match change_in(value) {
+            Some(change) => changes.push(change)?,
+            None => return Ok(None),
+        }
+    }
+    Ok(Some(changes))
+}
+
+fn commit_in(alloc: Global, value: &Value) -> Result<Option<Request<'_>>, AllocError>
+    ensures { IfOk result (λ found. option_map request_view found ≡ commit_in (view value.now)) }
+{
+    match value.get("changes").and_then(Value::as_array) {
+        None => Ok(None),
+        Some(values) => match changes_of(alloc, values)? {
+            None => Ok(None),
+            Some(changes) => Ok(Some(Request::Commit(changes))),
+        },
+    }
+}
+
+fn ask_in(value: &Value) -> Option<Request<'_>>
+    ensures { option_map request_view result ≡ ask_in (view value.now) }
+{
+    let kind = kind_at(value, "kind")?;
+    let unit = member_text(value, "unit")?;
+    Some(Request::Ask { kind, unit })
+}
+
+fn give_back_in(value: &Value) -> Option<Request<'_>>
+    ensures { option_map request_view result ≡ give_back_in (view value.now) }
+{
+    let kind = kind_at(value, "kind")?;
+    let unit = member_text(value, "unit")?;
+    Some(Request::GiveBack { kind, unit })
+}
+
+fn work_in(value: &Value) -> Option<Request<'_>>
+    ensures { option_map request_view result ≡ option_and_then work_of (number_at (codes "turns") (view value.now)) }
+{
+    let turns = number_at(value, "turns")?;
+    if 1 <= turns && turns <= 1000 {
+        Some(Request::Work(turns))
+    } else {
+        None
+    }
+}
+
+fn deliver_in(value: &Value) -> Option<Request<'_>>
+    ensures { option_map request_view result ≡ option_map deliver (number_at (codes "job") (view value.now)) }
+{
+    Some(Request::Deliver(number_at(value, "job")?))
+}
+
+fn request_by<'a>(
+    alloc: Global,
+    op: &str,
+    value: &'a Value,
+) -> Result<Option<Request<'a>>, AllocError>
+    ensures { IfOk result (λ found. option_map request_view found ≡ request_by op.now (view value.now)) }
+{
+    if op == "commit" {
+        commit_in(alloc, value)
+    } else if op == "ask" {
+        Ok(ask_in(value))
+    } else if op == "work" {
+        Ok(work_in(value))
+    } else if op == "take" {
+        Ok(Some(Request::Take))
+    } else if op == "deliver" {
+        Ok(deliver_in(value))
+    } else if op == "give_back" {
+        Ok(give_back_in(value))
+    } else {
+        Ok(None)
+    }
+}
+
+/// The request that a value is, None where it is none: where its op is unknown, or a member is missing, is of another kind or out of its
+/// range. Fails where there is no memory for the changes of a commit.
+#[tactic(auto, unfolding(crate::specs::Requests::request_in))]
+pub fn request_in(alloc: Global, value: &Value) -> Result<Option<Request<'_>>, AllocError>
+    ensures { IfOk result (λ found. option_map request_view found ≡ request_in (view value.now)) }
+{
+    match member_text(value, "op") {
+        None => Ok(None),
+        Some(op) => request_by(alloc, op, value),
+    }
+}

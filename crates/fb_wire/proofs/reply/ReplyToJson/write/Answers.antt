@@ -1,7 +1,0 @@
-use Rattle.fb_wire.proofs.reply.ReplyToJson.write.Goals as goal
-
-pub returns-in-Worked : goal.returns-in-Worked
-returns-in-Worked c = rw c.in-Worked.is c.write_one-in-Worked.ensures
-
-pub returns-in-Delivered : goal.returns-in-Delivered
-returns-in-Delivered c = rw c.in-Delivered.is c.write_one_text-in-Delivered.ensures

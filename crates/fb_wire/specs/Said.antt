@@ -1,0 +1,55 @@
+-- What is said to each answer of the machine.
+use Rattle.std.specs.Prelude.{ℕ, codes, true, false, Option, Some, None}
+use Rattle.serde_json.specs.Data.{Data}
+use Rattle.fb_bench.specs.Jobs.Reads.{Order}
+use Rattle.fb_bench.specs.Machine.{Reply, OfCommit, OfTake, OfDeliver, OfGiveBack, OfAsk, Shown, Finds, Waits, Unknown}
+use Rattle.fb_bench.specs.Calls.{Answer, Replied, FullHistory, BehindHistory}
+use Rattle.fb_bench.specs.declared.answers.Committed.{Committed}
+use Rattle.fb_bench.specs.declared.answers.Committed.TheVariants.{Done, NoChange, TooManyChanges, SameUnitTwice, StaleBase, NoSuchUnit, TooManyUnits}
+use Rattle.fb_bench.specs.declared.answers.Delivered.{Delivered}
+use Rattle.fb_bench.specs.declared.answers.Delivered.TheVariants.{Accepted, NoSuchKey, NotPending, Stale}
+use Rattle.fb_bench.specs.declared.answers.GivenBack.{GivenBack}
+use Rattle.fb_bench.specs.declared.answers.GivenBack.TheVariants.{Returned, NothingOut}
+use Rattle.fb_messages.specs.Replies.{refused, refused_unit, committed, refused_base, job_given, no_job, delivered, returned, value_said, pending_said}
+
+abbrev pub commit_said : Committed → Data
+commit_said (Done commit) = committed commit
+commit_said NoChange = refused (codes "NoChange")
+commit_said TooManyChanges = refused (codes "TooManyChanges")
+commit_said (SameUnitTwice unit) = refused_unit (codes "SameUnitTwice") unit
+commit_said (StaleBase unit current) = refused_base unit current
+commit_said (NoSuchUnit unit) = refused_unit (codes "NoSuchUnit") unit
+commit_said TooManyUnits = refused (codes "TooManyUnits")
+
+-- a job gets this number
+abbrev pub take_said : ℕ → Option Order → Data
+take_said n None = no_job
+take_said n (Some order) = job_given n order.key
+
+abbrev pub deliver_said : Delivered → Data
+deliver_said Accepted = delivered
+deliver_said NoSuchKey = refused (codes "NoSuchKey")
+deliver_said NotPending = refused (codes "NotPending")
+deliver_said (Stale unit) = refused_unit (codes "Stale") unit
+
+abbrev pub give_back_said : GivenBack → Data
+give_back_said Returned = returned true
+give_back_said NothingOut = returned false
+
+abbrev pub ask_said : Shown → Data
+ask_said (Finds finding) = value_said finding
+ask_said Waits = pending_said
+ask_said Unknown = refused (codes "NoSuchKey")
+
+abbrev pub reply_said : ℕ → Reply → Data
+reply_said n (OfCommit answer) = commit_said answer
+reply_said n (OfTake order) = take_said n order
+reply_said n (OfDeliver answer) = deliver_said answer
+reply_said n (OfGiveBack answer) = give_back_said answer
+reply_said n (OfAsk shown) = ask_said shown
+
+-- what is said to an answer; a job gets this number
+abbrev pub said_to : ℕ → Answer → Data
+said_to n (Replied reply) = reply_said n reply
+said_to n FullHistory = refused (codes "HistoryFull")
+said_to n BehindHistory = refused (codes "Behind")
