@@ -29,7 +29,7 @@ pub fn one_of<'a>(
     tokens: &'a [Lexeme],
     kinds: &[Kind],
 ) -> Result<(&'a Lexeme, &'a [Lexeme]), Stop<'a>>
-    ensures { Gives (λ x. (x.0.now, x.1.now)) result (read (one kinds.now) tokens.now) }
+    ensures { Gives (λ x. x.now) result (read (one kinds.now) tokens.now) }
 {
     match tokens {
         [token, rest @ ..] if token.kind.is_among(kinds) => Ok((token, rest)),
@@ -39,7 +39,7 @@ pub fn one_of<'a>(
 
 /// A token of this kind.
 pub fn key(tokens: &[Lexeme], kind: Kind) -> Result<(&Lexeme, &[Lexeme]), Stop<'_>>
-    ensures { Gives (λ x. (x.0.now, x.1.now)) result (read (key kind) tokens.now) }
+    ensures { Gives (λ x. x.now) result (read (key kind) tokens.now) }
 {
     one_of(tokens, &[kind])
 }
@@ -50,7 +50,7 @@ pub const NAMES: [Kind; 4] = [Kind::Name, Kind::NameIn, Kind::NameOn, Kind::Name
 /// A name. It comes as its token, since `?` takes no copied name beside a reference.
 #[tactic(auto, unfolding(crate::specs::Words::name))]
 pub fn name(tokens: &[Lexeme]) -> Result<(&Lexeme, &[Lexeme]), Stop<'_>>
-    ensures { Gives (λ x. (name_use x.0.now, x.1.now)) result (read name tokens.now) }
+    ensures { Gives (λ x. name_use x.now) result (read name tokens.now) }
 {
     one_of(tokens, &NAMES)
 }
@@ -81,7 +81,7 @@ impl Reader for NameReader {
 /// One name or more, with commas between them.
 #[tactic(auto, unfolding(crate::specs::Words::names), using(crate::proofs::Repeating::as_they_are))]
 pub fn names(alloc: Global, tokens: &[Lexeme]) -> Result<(Vec<NameUse>, &[Lexeme]), Stop<'_>>
-    ensures { Gives (λ x. (x.0.items, x.1.now)) result (read names tokens.now) }
+    ensures { Gives (λ x. x.items) result (read names tokens.now) }
 {
     listed(&NameReader, alloc, tokens)
 }

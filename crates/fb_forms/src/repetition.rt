@@ -1,6 +1,6 @@
 //! Values that come one after the other.
 
-ghost use Rattle.fb_forms.specs.Gives.{Gives};
+ghost use Rattle.fb_forms.specs.Gives.{Gives, GivesEach};
 ghost use Rattle.fb_forms.specs.Reading.{Outcome, read_each};
 ghost use Rattle.fb_forms.specs.Repetition.{read_behind, read_separated, with_front};
 ghost use Rattle.fb_lexemes.specs.declared.kind.Kind.TheVariants.{Comma};
@@ -30,7 +30,7 @@ pub trait Reader {
         alloc: Global,
         tokens: &'a [Lexeme],
     ) -> Result<(Self::Item, &'a [Lexeme]), Stop<'a>>
-        ensures { Gives (λ x. (view x.0, x.1.now)) result (reads self.now tokens.now) };
+        ensures { Gives view result (reads self.now tokens.now) };
 }
 
 /// A token of a kind, and a value behind it.
@@ -67,7 +67,7 @@ fn append_each<'a, R: Reader>(
     mut items: Vec<R::Item>,
     tokens: &'a [Lexeme],
 ) -> Result<(Vec<R::Item>, &'a [Lexeme]), Stop<'a>>
-    ensures { Gives (λ x. (map R.view x.0.items, x.1.now)) result
+    ensures { GivesEach R.view result
         (with_front (map R.view items.items) (read_each (R.reads reader.now) kinds.now (length tokens.now) tokens.now)) }
 {
     let mut rest = tokens;
@@ -90,7 +90,7 @@ pub fn several<'a, R: Reader>(
     kinds: &[Kind],
     tokens: &'a [Lexeme],
 ) -> Result<(Vec<R::Item>, &'a [Lexeme]), Stop<'a>>
-    ensures { Gives (λ x. (map R.view x.0.items, x.1.now)) result
+    ensures { GivesEach R.view result
         (read_each (R.reads reader.now) kinds.now (length tokens.now) tokens.now) }
 {
     append_each(reader, alloc, kinds, Vec::new(alloc), tokens)
@@ -103,7 +103,7 @@ pub fn separated<'a, R: Reader>(
     alloc: Global,
     tokens: &'a [Lexeme],
 ) -> Result<(Vec<R::Item>, &'a [Lexeme]), Stop<'a>>
-    ensures { Gives (λ x. (map R.view x.0.items, x.1.now)) result (read_separated kind (R.reads reader.now) tokens.now) }
+    ensures { GivesEach R.view result (read_separated kind (R.reads reader.now) tokens.now) }
 {
     let (first, rest) = reader.read(alloc, tokens)?;
     // Most lists have one item.
@@ -118,7 +118,7 @@ pub fn listed<'a, R: Reader>(
     alloc: Global,
     tokens: &'a [Lexeme],
 ) -> Result<(Vec<R::Item>, &'a [Lexeme]), Stop<'a>>
-    ensures { Gives (λ x. (map R.view x.0.items, x.1.now)) result (read_separated Comma (R.reads reader.now) tokens.now) }
+    ensures { GivesEach R.view result (read_separated Comma (R.reads reader.now) tokens.now) }
 {
     separated(reader, Kind::Comma, alloc, tokens)
 }

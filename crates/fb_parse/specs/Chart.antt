@@ -1,5 +1,5 @@
 -- The forms of transitions and algorithms.
-use Rattle.std.specs.Prelude.{List, [], ◌∷◌, Option, Some, None}
+use Rattle.std.specs.Prelude.{List, [], ◌∷◌, map, Option, Some, None}
 use Rattle.fb_text.specs.declared.name.NameUse.{NameUse}
 use Rattle.fb_sections.specs.Lexemes.declared.kind.Kind.TheVariants.{One, OpenBracket, CloseBracket, Ampersand, And, To, Assign, Semicolon, Colon, EcTransitions, EndTransitions, Algorithm, EndAlgorithm, Name, NameIn, NameOn, NameSt}
 use Rattle.fb_sections.specs.Lexemes.Lexemes.{name_use}
@@ -7,9 +7,10 @@ use Rattle.fb_sections.specs.Forms.Form.{Form, one, both, either, option, many, 
 use Rattle.fb_sections.specs.Forms.Words.{key, before, behind, passed}
 unfoldable pub use Rattle.fb_sections.specs.Forms.Words.{name}
 use Rattle.fb_tree.specs.Expression.{Expression}
-use Rattle.fb_tree.specs.Statement.{Statement}
+use Rattle.fb_tree.specs.Statement.{Statement, statement_tree}
 use Rattle.fb_tree.specs.Tree.{ConditionTree, always, on_event, guarded, guard, TransitionTree, AlgorithmTree}
 use Rattle.fb_tree.specs.declared.network.End.{End}
+use Rattle.fb_parse.specs.declared.chart.AlgorithmBody.{AlgorithmBody}
 use Rattle.fb_sections.specs.Network.{end}
 use Rattle.fb_sections.specs.Sections.{section}
 use Rattle.fb_sections.specs.Skipped.{skipped}
@@ -67,6 +68,9 @@ other_language = both (as_value name_use (one (Name ∷ NameIn ∷ NameOn ∷ []
 -- the language and the body of an algorithm
 unfoldable pub algorithm_body : Form (NameUse × List Statement)
 algorithm_body = either structured_text other_language
+
+abbrev pub algorithm_body_tree : AlgorithmBody → NameUse × List Statement
+algorithm_body_tree body = (body.language, map statement_tree body.statements.items)
 
 -- 'ALGORITHM' name 'IN' name body 'END_ALGORITHM'
 unfoldable pub algorithm : Form AlgorithmTree

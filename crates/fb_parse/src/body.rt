@@ -72,7 +72,8 @@ impl Body {
 
 /// Tokens spell one declaration at most.
 pub fn one_tree()
-    ensures { (lexemes : List Lexeme) (a b : DeclTree) → Spells unit lexemes a → Spells unit lexemes b → a ≡ b }
+    ensures { (lexemes : List Lexeme) (a b : DeclTree)
+        → Spells unit lexemes a → Spells unit lexemes b → a ≡ b }
 {}
 
 /// Each text has one body, that which is computed.

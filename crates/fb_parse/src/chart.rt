@@ -1,8 +1,8 @@
 //! Transitions and algorithms (IEC 61499-1, 5.2.1 and 5.2.2).
 
-ghost use Rattle.fb_sections.specs.Forms.Gives.{Gives};
+ghost use Rattle.fb_sections.specs.Forms.Gives.{Gives, GivesEach};
 ghost use Rattle.fb_sections.specs.Forms.Reading.{read};
-ghost use Rattle.fb_parse.specs.Chart.{algorithm, algorithm_body, bracketed, condition, event_condition, joined_test, optional_colon, optional_test, other_language, structured_text, transition, transitions};
+ghost use Rattle.fb_parse.specs.Chart.{algorithm, algorithm_body, algorithm_body_tree, bracketed, condition, event_condition, joined_test, optional_colon, optional_test, other_language, structured_text, transition, transitions};
 ghost use Rattle.fb_tree.specs.Expression.{expression_tree};
 ghost use Rattle.fb_tree.specs.Statement.{statement_tree};
 ghost use Rattle.fb_tree.specs.Tree.{TransitionTree, algorithm_tree, condition_tree, transition_tree};
@@ -19,7 +19,7 @@ use std::alloc::Global;
 /// An expression in brackets.
 #[tactic(auto, unfolding(crate::specs::Chart::bracketed))]
 fn bracketed(alloc: Global, tokens: &[Lexeme]) -> Result<(Expr, &[Lexeme]), Stop<'_>>
-    ensures { Gives (λ x. (expression_tree x.0, x.1.now)) result (read bracketed tokens.now) }
+    ensures { Gives expression_tree result (read bracketed tokens.now) }
 {
     let (_, rest) = key(tokens, Kind::OpenBracket)?;
     let (test, rest) = expression(alloc, rest)?;
@@ -30,7 +30,7 @@ fn bracketed(alloc: Global, tokens: &[Lexeme]) -> Result<(Expr, &[Lexeme]), Stop
 /// An expression behind `&` or `AND`.
 #[tactic(auto, unfolding(crate::specs::Chart::joined_test))]
 fn joined_test(alloc: Global, tokens: &[Lexeme]) -> Result<(Expr, &[Lexeme]), Stop<'_>>
-    ensures { Gives (λ x. (expression_tree x.0, x.1.now)) result (read joined_test tokens.now) }
+    ensures { Gives expression_tree result (read joined_test tokens.now) }
 {
     let (_, rest) = one_of(tokens, &[Kind::Ampersand, Kind::And])?;
     expression(alloc, rest)
@@ -39,7 +39,7 @@ fn joined_test(alloc: Global, tokens: &[Lexeme]) -> Result<(Expr, &[Lexeme]), St
 /// What is tested when an event comes, where it is written.
 #[tactic(auto, unfolding(crate::specs::Chart::optional_test, crate::specs::Chart::bracketed, crate::specs::Chart::joined_test))]
 fn optional_test(alloc: Global, tokens: &[Lexeme]) -> Result<(Option<Expr>, &[Lexeme]), Stop<'_>>
-    ensures { Gives (λ x. (option_map expression_tree x.0, x.1.now)) result (read optional_test tokens.now) }
+    ensures { Gives (option_map expression_tree) result (read optional_test tokens.now) }
 {
     if is_next(tokens, &[Kind::OpenBracket]) {
         let (test, rest) = bracketed(alloc, tokens)?;
@@ -55,7 +55,7 @@ fn optional_test(alloc: Global, tokens: &[Lexeme]) -> Result<(Option<Expr>, &[Le
 /// An event, and what is tested when it comes.
 #[tactic(auto, unfolding(crate::specs::Chart::event_condition))]
 fn event_condition(alloc: Global, tokens: &[Lexeme]) -> Result<(Condition, &[Lexeme]), Stop<'_>>
-    ensures { Gives (λ x. (condition_tree x.0, x.1.now)) result (read event_condition tokens.now) }
+    ensures { Gives condition_tree result (read event_condition tokens.now) }
 {
     let (event, rest) = end(tokens)?;
     let (test, rest) = optional_test(alloc, rest)?;
@@ -69,7 +69,7 @@ fn event_condition(alloc: Global, tokens: &[Lexeme]) -> Result<(Condition, &[Lex
 /// The condition of a transition.
 #[tactic(auto, unfolding(crate::specs::Chart::condition, crate::specs::Chart::bracketed))]
 fn condition(alloc: Global, tokens: &[Lexeme]) -> Result<(Condition, &[Lexeme]), Stop<'_>>
-    ensures { Gives (λ x. (condition_tree x.0, x.1.now)) result (read condition tokens.now) }
+    ensures { Gives condition_tree result (read condition tokens.now) }
 {
     if is_next(tokens, &[Kind::One]) {
         let (one, rest) = key(tokens, Kind::One)?;
@@ -122,7 +122,7 @@ pub fn transitions(
     alloc: Global,
     tokens: &[Lexeme],
 ) -> Result<(Vec<Transition>, &[Lexeme]), Stop<'_>>
-    ensures { Gives (λ x. (map transition_tree x.0.items, x.1.now)) result (read transitions tokens.now) }
+    ensures { GivesEach transition_tree result (read transitions tokens.now) }
 {
     section(
         Kind::EcTransitions,
@@ -154,7 +154,7 @@ fn optional_colon(tokens: &[Lexeme]) -> &[Lexeme]
 /// An algorithm in Structured Text.
 #[tactic(auto, unfolding(crate::specs::Chart::structured_text))]
 fn structured_text(alloc: Global, tokens: &[Lexeme]) -> Result<(AlgorithmBody, &[Lexeme]), Stop<'_>>
-    ensures { Gives (λ x. ((x.0.language, map statement_tree x.0.statements.items), x.1.now)) result (read structured_text tokens.now) }
+    ensures { Gives algorithm_body_tree result (read structured_text tokens.now) }
 {
     let (language, rest) = key(tokens, Kind::NameSt)?;
     let (statements, rest) = statements(alloc, optional_colon(rest))?;
@@ -168,7 +168,7 @@ fn structured_text(alloc: Global, tokens: &[Lexeme]) -> Result<(AlgorithmBody, &
 /// An algorithm in another language, which is not kept.
 #[tactic(auto, unfolding(crate::specs::Chart::other_language))]
 fn other_language(alloc: Global, tokens: &[Lexeme]) -> Result<(AlgorithmBody, &[Lexeme]), Stop<'_>>
-    ensures { Gives (λ x. ((x.0.language, map statement_tree x.0.statements.items), x.1.now)) result (read other_language tokens.now) }
+    ensures { Gives algorithm_body_tree result (read other_language tokens.now) }
 {
     let (language, rest) = one_of(tokens, &[Kind::Name, Kind::NameIn, Kind::NameOn])?;
     let body = AlgorithmBody {
@@ -180,7 +180,7 @@ fn other_language(alloc: Global, tokens: &[Lexeme]) -> Result<(AlgorithmBody, &[
 
 #[tactic(auto, unfolding(crate::specs::Chart::algorithm_body, crate::specs::Chart::structured_text))]
 fn algorithm_body(alloc: Global, tokens: &[Lexeme]) -> Result<(AlgorithmBody, &[Lexeme]), Stop<'_>>
-    ensures { Gives (λ x. ((x.0.language, map statement_tree x.0.statements.items), x.1.now)) result (read algorithm_body tokens.now) }
+    ensures { Gives algorithm_body_tree result (read algorithm_body tokens.now) }
 {
     if is_next(tokens, &[Kind::NameSt]) {
         structured_text(alloc, tokens)
@@ -192,7 +192,7 @@ fn algorithm_body(alloc: Global, tokens: &[Lexeme]) -> Result<(AlgorithmBody, &[
 /// An algorithm.
 #[tactic(auto, unfolding(crate::specs::Chart::algorithm))]
 pub fn algorithm(alloc: Global, tokens: &[Lexeme]) -> Result<(Algorithm, &[Lexeme]), Stop<'_>>
-    ensures { Gives (λ x. (algorithm_tree x.0, x.1.now)) result (read algorithm tokens.now) }
+    ensures { Gives algorithm_tree result (read algorithm tokens.now) }
 {
     let (_, rest) = key(tokens, Kind::Algorithm)?;
     let (name, rest) = name(rest)?;

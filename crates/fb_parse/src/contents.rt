@@ -103,7 +103,8 @@ impl Contents {
     }
 
     pub fn of_algorithm(alloc: Global, algorithm: Algorithm) -> Result<Contents, AllocError>
-        ensures { IfOk result (λ contents. contents_tree contents ≡ of_algorithm (algorithm_tree algorithm)) }
+        ensures { IfOk result
+            (λ contents. contents_tree contents ≡ of_algorithm (algorithm_tree algorithm)) }
     {
         let mut contents = Contents::nothing(alloc);
         contents.chart.algorithms.push(algorithm)?;
@@ -112,7 +113,8 @@ impl Contents {
 
     /// Appends what another section holds.
     fn append(&mut self, other: Contents) -> Result<(), AllocError>
-        ensures { IfOk result (λ _. contents_tree self.new ≡ merged (contents_tree self.old) (contents_tree other)) }
+        ensures { IfOk result
+            (λ _. contents_tree self.new ≡ merged (contents_tree self.old) (contents_tree other)) }
     {
         append_interface(&mut self.interface, other.interface)?;
         append_network(&mut self.network, other.network)?;
@@ -121,14 +123,16 @@ impl Contents {
 }
 
 fn append_interface(whole: &mut Interface, mut part: Interface) -> Result<(), AllocError>
-    ensures { IfOk result (λ _. interface_tree whole.new ≡ interfaces_merged (interface_tree whole.old) (interface_tree part)) }
+    ensures { IfOk result (λ _. interface_tree whole.new
+        ≡ interfaces_merged (interface_tree whole.old) (interface_tree part)) }
 {
     whole.events.append(&mut part.events)?;
     whole.variables.append(&mut part.variables)
 }
 
 fn append_network(whole: &mut Network, mut part: Network) -> Result<(), AllocError>
-    ensures { IfOk result (λ _. network_tree whole.new ≡ networks_merged (network_tree whole.old) (network_tree part)) }
+    ensures { IfOk result (λ _. network_tree whole.new
+        ≡ networks_merged (network_tree whole.old) (network_tree part)) }
 {
     whole.instances.append(&mut part.instances)?;
     whole.connections.append(&mut part.connections)?;
@@ -137,7 +141,8 @@ fn append_network(whole: &mut Network, mut part: Network) -> Result<(), AllocErr
 }
 
 fn append_chart(whole: &mut Chart, mut part: Chart) -> Result<(), AllocError>
-    ensures { IfOk result (λ _. chart_tree whole.new ≡ charts_merged (chart_tree whole.old) (chart_tree part)) }
+    ensures { IfOk result (λ _. chart_tree whole.new
+        ≡ charts_merged (chart_tree whole.old) (chart_tree part)) }
 {
     whole.states.append(&mut part.states)?;
     whole.transitions.append(&mut part.transitions)?;
@@ -149,7 +154,8 @@ fn append_chart(whole: &mut Chart, mut part: Chart) -> Result<(), AllocError>
 /// What all sections hold.
 #[tactic(auto, using(crate::proofs::Joining::joined_of_push))]
 pub fn joined(alloc: Global, sections: Vec<Contents>) -> Result<Contents, AllocError>
-    ensures { IfOk result (λ contents. contents_tree contents ≡ joined (map contents_tree sections.items)) }
+    ensures { IfOk result
+        (λ contents. contents_tree contents ≡ joined (map contents_tree sections.items)) }
 {
     let mut contents = Contents::nothing(alloc);
     for section in sections {

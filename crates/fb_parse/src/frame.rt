@@ -70,7 +70,8 @@ fn sections<'a>(
     tokens: &'a [Lexeme],
 ) -> Result<(Contents, &'a [Lexeme]), Stop<'a>>
     requires { first (section_of frame) ≡ firsts.now }
-    ensures { Gives (λ x. (contents_tree x.0, x.1.now)) result (read (as_value joined (many (section_of frame))) tokens.now) }
+    ensures { Gives contents_tree result
+        (read (as_value joined (many (section_of frame))) tokens.now) }
 {
     let (sections, rest) = several(&SectionReader { frame }, alloc, firsts, tokens)?;
     Ok((joined(alloc, sections)?, rest))
@@ -86,7 +87,8 @@ pub fn framed<'a>(
     tokens: &'a [Lexeme],
 ) -> Result<(Named, &'a [Lexeme]), Stop<'a>>
     requires { first (section_of frame) ≡ firsts.now }
-    ensures { Gives (λ x. ((x.0.name, contents_tree x.0.contents), x.1.now)) result (read (framed start (section_of frame) end) tokens.now) }
+    ensures { Gives (λ named. (named.name, contents_tree named.contents)) result
+        (read (framed start (section_of frame) end) tokens.now) }
 {
     let (_, rest) = key(tokens, start)?;
     let (name, rest) = name(rest)?;

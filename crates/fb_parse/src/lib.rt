@@ -1,4 +1,5 @@
-//! Reading of the texts of units: the declaration that a text spells, or the place from which it can no longer spell one.
+//! Reading of the texts of units: the declaration that a text spells, or the place from which it can
+//! no longer spell one.
 #![tactic(auto)]
 
 mod body;

@@ -40,7 +40,7 @@ const NETWORK: [Kind; 4] = [
 /// Events or data.
 #[tactic(auto, unfolding(crate::specs::Grammar::data_section, fb_sections::specs::Interface::events))]
 fn data_section(alloc: Global, tokens: &[Lexeme]) -> Result<(Contents, &[Lexeme]), Stop<'_>>
-    ensures { Gives (λ x. (contents_tree x.0, x.1.now)) result (read data_section tokens.now) }
+    ensures { Gives contents_tree result (read data_section tokens.now) }
 {
     if is_next(tokens, &[Kind::EventInput, Kind::EventOutput]) {
         let (events, rest) = events(alloc, tokens)?;
@@ -54,7 +54,7 @@ fn data_section(alloc: Global, tokens: &[Lexeme]) -> Result<(Contents, &[Lexeme]
 /// A section that is not kept.
 #[tactic(auto, unfolding(crate::specs::Grammar::service_section))]
 fn service_section(alloc: Global, tokens: &[Lexeme]) -> Result<(Contents, &[Lexeme]), Stop<'_>>
-    ensures { Gives (λ x. (contents_tree x.0, x.1.now)) result (read service_section tokens.now) }
+    ensures { Gives contents_tree result (read service_section tokens.now) }
 {
     let rest = service(tokens)?;
     Ok((Contents::nothing(alloc), rest))
@@ -63,7 +63,7 @@ fn service_section(alloc: Global, tokens: &[Lexeme]) -> Result<(Contents, &[Lexe
 /// Events, data, plugs or sockets.
 #[tactic(auto, unfolding(crate::specs::Grammar::interface_section, crate::specs::Grammar::data_section, fb_sections::specs::Interface::events, fb_sections::specs::Interface::data_variables, fb_sections::specs::Network::plugs))]
 fn interface_section(alloc: Global, tokens: &[Lexeme]) -> Result<(Contents, &[Lexeme]), Stop<'_>>
-    ensures { Gives (λ x. (contents_tree x.0, x.1.now)) result (read interface_section tokens.now) }
+    ensures { Gives contents_tree result (read interface_section tokens.now) }
 {
     if is_next(
         tokens,
@@ -87,7 +87,7 @@ fn interface_section(alloc: Global, tokens: &[Lexeme]) -> Result<(Contents, &[Le
 /// Block instances or connections.
 #[tactic(auto, unfolding(crate::specs::Grammar::network_section, fb_sections::specs::Network::blocks))]
 fn network_section(alloc: Global, tokens: &[Lexeme]) -> Result<(Contents, &[Lexeme]), Stop<'_>>
-    ensures { Gives (λ x. (contents_tree x.0, x.1.now)) result (read network_section tokens.now) }
+    ensures { Gives contents_tree result (read network_section tokens.now) }
 {
     if is_next(tokens, &[Kind::Fbs]) {
         let (instances, rest) = blocks(alloc, tokens)?;
@@ -101,7 +101,7 @@ fn network_section(alloc: Global, tokens: &[Lexeme]) -> Result<(Contents, &[Lexe
 /// States, transitions or an algorithm.
 #[tactic(auto, unfolding(crate::specs::Grammar::chart_section, fb_sections::specs::Chart::states, crate::specs::Chart::transitions))]
 fn chart_section(alloc: Global, tokens: &[Lexeme]) -> Result<(Contents, &[Lexeme]), Stop<'_>>
-    ensures { Gives (λ x. (contents_tree x.0, x.1.now)) result (read chart_section tokens.now) }
+    ensures { Gives contents_tree result (read chart_section tokens.now) }
 {
     if is_next(tokens, &[Kind::EcStates]) {
         let (states, rest) = states(alloc, tokens)?;
@@ -117,7 +117,8 @@ fn chart_section(alloc: Global, tokens: &[Lexeme]) -> Result<(Contents, &[Lexeme
 
 /// Internal variables.
 fn internal_section(alloc: Global, tokens: &[Lexeme]) -> Result<(Contents, &[Lexeme]), Stop<'_>>
-    ensures { Gives (λ x. (contents_tree x.0, x.1.now)) result (read (as_value of_variables internal_variables) tokens.now) }
+    ensures { Gives contents_tree result
+        (read (as_value of_variables internal_variables) tokens.now) }
 {
     let (variables, rest) = internal_variables(alloc, tokens)?;
     Ok((Contents::of_variables(alloc, variables), rest))
@@ -126,7 +127,7 @@ fn internal_section(alloc: Global, tokens: &[Lexeme]) -> Result<(Contents, &[Lex
 /// A section of a block type.
 #[tactic(auto, unfolding(crate::specs::Grammar::block_section, crate::specs::Grammar::interface_section, crate::specs::Grammar::data_section, crate::specs::Grammar::network_section, crate::specs::Grammar::chart_section, fb_sections::specs::Interface::events, fb_sections::specs::Interface::data_variables, fb_sections::specs::Interface::internal_variables, fb_sections::specs::Network::plugs, fb_sections::specs::Network::sockets, fb_sections::specs::Network::blocks, fb_sections::specs::Network::connections, fb_sections::specs::Chart::states, crate::specs::Chart::transitions, crate::specs::Chart::algorithm))]
 pub fn block_section(alloc: Global, tokens: &[Lexeme]) -> Result<(Contents, &[Lexeme]), Stop<'_>>
-    ensures { Gives (λ x. (contents_tree x.0, x.1.now)) result (read block_section tokens.now) }
+    ensures { Gives contents_tree result (read block_section tokens.now) }
 {
     if is_next(tokens, &INTERFACE) {
         interface_section(alloc, tokens)
@@ -147,7 +148,7 @@ pub fn block_section(alloc: Global, tokens: &[Lexeme]) -> Result<(Contents, &[Le
 /// A section of an adapter type.
 #[tactic(auto, unfolding(crate::specs::Grammar::adapter_section, crate::specs::Grammar::data_section, fb_sections::specs::Interface::events, fb_sections::specs::Interface::data_variables))]
 pub fn adapter_section(alloc: Global, tokens: &[Lexeme]) -> Result<(Contents, &[Lexeme]), Stop<'_>>
-    ensures { Gives (λ x. (contents_tree x.0, x.1.now)) result (read adapter_section tokens.now) }
+    ensures { Gives contents_tree result (read adapter_section tokens.now) }
 {
     if is_next(
         tokens,
@@ -169,7 +170,7 @@ fn subapplication_instances(
     alloc: Global,
     tokens: &[Lexeme],
 ) -> Result<(Contents, &[Lexeme]), Stop<'_>>
-    ensures { Gives (λ x. (contents_tree x.0, x.1.now)) result (read (as_value of_instances subapplications) tokens.now) }
+    ensures { Gives contents_tree result (read (as_value of_instances subapplications) tokens.now) }
 {
     let (instances, rest) = subapplications(alloc, tokens)?;
     Ok((Contents::of_instances(alloc, instances), rest))
@@ -181,7 +182,7 @@ pub fn application_section(
     alloc: Global,
     tokens: &[Lexeme],
 ) -> Result<(Contents, &[Lexeme]), Stop<'_>>
-    ensures { Gives (λ x. (contents_tree x.0, x.1.now)) result (read application_section tokens.now) }
+    ensures { Gives contents_tree result (read application_section tokens.now) }
 {
     if is_next(tokens, &NETWORK) {
         network_section(alloc, tokens)
@@ -196,7 +197,7 @@ pub fn subapplication_section(
     alloc: Global,
     tokens: &[Lexeme],
 ) -> Result<(Contents, &[Lexeme]), Stop<'_>>
-    ensures { Gives (λ x. (contents_tree x.0, x.1.now)) result (read subapplication_section tokens.now) }
+    ensures { Gives contents_tree result (read subapplication_section tokens.now) }
 {
     if is_next(tokens, &INTERFACE) {
         interface_section(alloc, tokens)

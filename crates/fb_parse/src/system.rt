@@ -25,7 +25,8 @@ pub struct SystemContents {
 
 impl SystemContents {
     fn of_application(alloc: Global, application: Application) -> Result<SystemContents, AllocError>
-        ensures { IfOk result (λ contents. system_contents_tree contents ≡ of_application (application_tree application)) }
+        ensures { IfOk result (λ contents. system_contents_tree contents
+            ≡ of_application (application_tree application)) }
     {
         let mut applications = Vec::new(alloc);
         applications.push(application)?;
@@ -37,7 +38,8 @@ impl SystemContents {
     }
 
     fn of_device(alloc: Global, device: Device) -> Result<SystemContents, AllocError>
-        ensures { IfOk result (λ contents. system_contents_tree contents ≡ of_device (device_tree device)) }
+        ensures { IfOk result (λ contents. system_contents_tree contents
+            ≡ of_device (device_tree device)) }
     {
         let mut devices = Vec::new(alloc);
         devices.push(device)?;
@@ -60,7 +62,8 @@ impl SystemContents {
 
     /// Appends what another section holds.
     fn append(&mut self, mut other: SystemContents) -> Result<(), AllocError>
-        ensures { IfOk result (λ _. system_contents_tree self.new ≡ systems_merged (system_contents_tree self.old) (system_contents_tree other)) }
+        ensures { IfOk result (λ _. system_contents_tree self.new
+            ≡ systems_merged (system_contents_tree self.old) (system_contents_tree other)) }
     {
         self.applications.append(&mut other.applications)?;
         self.devices.append(&mut other.devices)?;
@@ -71,7 +74,8 @@ impl SystemContents {
 /// What all sections hold.
 #[tactic(auto, using(crate::proofs::Joining::system_joined_of_push))]
 fn joined(alloc: Global, sections: Vec<SystemContents>) -> Result<SystemContents, AllocError>
-    ensures { IfOk result (λ contents. system_contents_tree contents ≡ system_joined (map system_contents_tree sections.items)) }
+    ensures { IfOk result (λ contents. system_contents_tree contents
+        ≡ system_joined (map system_contents_tree sections.items)) }
 {
     let mut contents = SystemContents::of_mappings(alloc, Vec::new(alloc));
     for section in sections {
@@ -83,7 +87,7 @@ fn joined(alloc: Global, sections: Vec<SystemContents>) -> Result<SystemContents
 /// An application, a device or mappings.
 #[tactic(auto, unfolding(crate::specs::Grammar::system_section, crate::specs::Grammar::application, fb_sections::specs::SystemParts::device))]
 fn system_section(alloc: Global, tokens: &[Lexeme]) -> Result<(SystemContents, &[Lexeme]), Stop<'_>>
-    ensures { Gives (λ x. (system_contents_tree x.0, x.1.now)) result (read system_section tokens.now) }
+    ensures { Gives system_contents_tree result (read system_section tokens.now) }
 {
     if is_next(tokens, &[Kind::Application]) {
         let (application, rest) = application(alloc, tokens)?;
@@ -122,7 +126,8 @@ impl Reader for SystemReader {
 /// Sections of a system, as long as they come.
 #[tactic(auto, unfolding(crate::specs::Grammar::system_section, crate::specs::Grammar::application, fb_sections::specs::SystemParts::device, fb_sections::specs::SystemParts::mappings))]
 fn sections(alloc: Global, tokens: &[Lexeme]) -> Result<(SystemContents, &[Lexeme]), Stop<'_>>
-    ensures { Gives (λ x. (system_contents_tree x.0, x.1.now)) result (read (as_value system_joined (many system_section)) tokens.now) }
+    ensures { Gives system_contents_tree result
+        (read (as_value system_joined (many system_section)) tokens.now) }
 {
     let firsts = [Kind::Application, Kind::Device, Kind::Mappings];
     let (sections, rest) = several(&SystemReader, alloc, &firsts, tokens)?;
@@ -131,7 +136,7 @@ fn sections(alloc: Global, tokens: &[Lexeme]) -> Result<(SystemContents, &[Lexem
 
 #[tactic(auto, unfolding(crate::specs::Grammar::system))]
 pub fn system(alloc: Global, tokens: &[Lexeme]) -> Result<(System, &[Lexeme]), Stop<'_>>
-    ensures { Gives (λ x. (system_tree x.0, x.1.now)) result (read system tokens.now) }
+    ensures { Gives system_tree result (read system tokens.now) }
 {
     let (_, rest) = key(tokens, Kind::System)?;
     let (name, rest) = name(rest)?;

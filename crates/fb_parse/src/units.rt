@@ -80,7 +80,7 @@ fn type_of(named: Named) -> TypeDeclaration
 
 #[tactic(auto, unfolding(crate::specs::Grammar::block), using(crate::proofs::Predictive::block_sections_begin))]
 fn block(alloc: Global, tokens: &[Lexeme]) -> Result<(TypeDeclaration, &[Lexeme]), Stop<'_>>
-    ensures { Gives (λ x. (type_tree x.0, x.1.now)) result (read block tokens.now) }
+    ensures { Gives type_tree result (read block tokens.now) }
 {
     let (named, rest) = framed(
         alloc,
@@ -95,7 +95,7 @@ fn block(alloc: Global, tokens: &[Lexeme]) -> Result<(TypeDeclaration, &[Lexeme]
 
 #[tactic(auto, unfolding(crate::specs::Grammar::adapter), using(crate::proofs::Predictive::adapter_sections_begin))]
 fn adapter(alloc: Global, tokens: &[Lexeme]) -> Result<(TypeDeclaration, &[Lexeme]), Stop<'_>>
-    ensures { Gives (λ x. (type_tree x.0, x.1.now)) result (read adapter tokens.now) }
+    ensures { Gives type_tree result (read adapter tokens.now) }
 {
     let (named, rest) = framed(
         alloc,
@@ -113,7 +113,7 @@ fn subapplication(
     alloc: Global,
     tokens: &[Lexeme],
 ) -> Result<(TypeDeclaration, &[Lexeme]), Stop<'_>>
-    ensures { Gives (λ x. (type_tree x.0, x.1.now)) result (read subapplication tokens.now) }
+    ensures { Gives type_tree result (read subapplication tokens.now) }
 {
     let (named, rest) = framed(
         alloc,
@@ -129,7 +129,7 @@ fn subapplication(
 /// An application of a system.
 #[tactic(auto, unfolding(crate::specs::Grammar::application), using(crate::proofs::Predictive::application_sections_begin))]
 pub fn application(alloc: Global, tokens: &[Lexeme]) -> Result<(Application, &[Lexeme]), Stop<'_>>
-    ensures { Gives (λ x. (application_tree x.0, x.1.now)) result (read application tokens.now) }
+    ensures { Gives application_tree result (read application tokens.now) }
 {
     let (named, rest) = framed(
         alloc,
@@ -149,7 +149,7 @@ pub fn application(alloc: Global, tokens: &[Lexeme]) -> Result<(Application, &[L
 /// A unit at the front of the tokens.
 #[tactic(auto, unfolding(crate::specs::Grammar::unit, crate::specs::Grammar::block, crate::specs::Grammar::adapter, crate::specs::Grammar::subapplication))]
 pub fn unit(alloc: Global, tokens: &[Lexeme]) -> Result<(Decl, &[Lexeme]), Stop<'_>>
-    ensures { Gives (λ x. (decl_tree x.0, x.1.now)) result (read unit tokens.now) }
+    ensures { Gives decl_tree result (read unit tokens.now) }
 {
     if is_next(tokens, &[Kind::FunctionBlock]) {
         let (block, rest) = block(alloc, tokens)?;

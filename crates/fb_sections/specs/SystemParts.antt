@@ -1,10 +1,12 @@
 -- The forms of mappings, resources and devices.
-use Rattle.std.specs.Prelude.{List}
+use Rattle.std.specs.Prelude.{List, map}
 use Rattle.fb_text.specs.declared.name.NameUse.{NameUse}
 use Rattle.fb_forms.specs.Lexemes.declared.kind.Kind.TheVariants.{Mappings, EndMappings, Resource, EndResource, Device, EndDevice, NameOn, Colon, Semicolon, Point}
+use Rattle.fb_forms.specs.Lexemes.Lexemes.{name_use}
 use Rattle.fb_forms.specs.Form.{Form, both, option, many, as_value}
 use Rattle.fb_forms.specs.Words.{key, before, behind, passed, separated, name}
-use Rattle.fb_forms.specs.Tree.Tree.{ParameterTree, MappingTree, ResourceTree, DeviceTree}
+use Rattle.fb_forms.specs.Tree.Tree.{ParameterTree, parameter_tree, MappingTree, ResourceTree, DeviceTree}
+use Rattle.fb_sections.specs.declared.system_parts.HeaderParts.{HeaderParts}
 use Rattle.fb_sections.specs.Network.{optional_parameters}
 use Rattle.fb_sections.specs.Sections.{section}
 
@@ -29,6 +31,9 @@ optional_semicolon = passed (option (key Semicolon))
 -- name ':' name [params] [';']
 unfoldable pub header : Form (NameUse × (NameUse × List ParameterTree))
 header = both name (behind (key Colon) (both name (before optional_parameters optional_semicolon)))
+
+abbrev pub header_tree : HeaderParts → NameUse × (NameUse × List ParameterTree)
+header_tree h = (name_use h.name.now, (name_use h.type_name.now, map parameter_tree h.parameters.items))
 
 -- 'RESOURCE' name ':' name [params] [';'] 'END_RESOURCE'
 unfoldable pub resource : Form ResourceTree

@@ -1,6 +1,6 @@
 //! States and their actions.
 
-ghost use Rattle.fb_forms.specs.Gives.{Gives};
+ghost use Rattle.fb_forms.specs.Gives.{Gives, GivesEach};
 ghost use Rattle.fb_forms.specs.Reading.{read};
 ghost use Rattle.fb_sections.specs.Chart.{action, actions, sent_event, state, states};
 ghost use Rattle.fb_sections.specs.Network.{end_in};
@@ -18,7 +18,7 @@ use std::alloc::Global;
 /// An arrow and the event that is sent.
 #[tactic(auto, unfolding(crate::specs::Chart::sent_event))]
 fn sent_event(tokens: &[Lexeme]) -> Result<(EndTokens<'_>, &[Lexeme]), Stop<'_>>
-    ensures { Gives (λ x. (end_in x.0, x.1.now)) result (read sent_event tokens.now) }
+    ensures { Gives end_in result (read sent_event tokens.now) }
 {
     let (_, rest) = key(tokens, Kind::Arrow)?;
     end(rest)
@@ -26,7 +26,7 @@ fn sent_event(tokens: &[Lexeme]) -> Result<(EndTokens<'_>, &[Lexeme]), Stop<'_>>
 
 #[tactic(auto, unfolding(crate::specs::Chart::action, crate::specs::Chart::sent_event, fb_forms::specs::Words::name))]
 fn action(tokens: &[Lexeme]) -> Result<(Action, &[Lexeme]), Stop<'_>>
-    ensures { Gives (λ x. (x.0, x.1.now)) result (read action tokens.now) }
+    ensures { Gives (λ action. action) result (read action tokens.now) }
 {
     let mut action = Action {
         algorithm: None,
@@ -71,7 +71,7 @@ impl Reader for ActionReader {
 /// The actions of a state, where they are written.
 #[tactic(auto, unfolding(crate::specs::Chart::actions), using(fb_forms::proofs::Repeating::as_they_are))]
 fn actions(alloc: Global, tokens: &[Lexeme]) -> Result<(Vec<Action>, &[Lexeme]), Stop<'_>>
-    ensures { Gives (λ x. (x.0.items, x.1.now)) result (read actions tokens.now) }
+    ensures { Gives (λ actions. actions.items) result (read actions tokens.now) }
 {
     if !is_next(tokens, &[Kind::Colon]) {
         return Ok((Vec::new(alloc), tokens));
@@ -113,7 +113,7 @@ impl Reader for StateReader {
 /// A section of states.
 #[tactic(auto, unfolding(crate::specs::Chart::states, crate::specs::Chart::state, fb_forms::specs::Words::name))]
 pub fn states(alloc: Global, tokens: &[Lexeme]) -> Result<(Vec<State>, &[Lexeme]), Stop<'_>>
-    ensures { Gives (λ x. (map state_tree x.0.items, x.1.now)) result (read states tokens.now) }
+    ensures { GivesEach state_tree result (read states tokens.now) }
 {
     section(Kind::EcStates, &StateReader, Kind::EndStates, alloc, tokens)
 }

@@ -12,7 +12,8 @@ use fb_forms::tree::{Connection, End, Sort};
 use fb_forms::{Reader, Stop, is_next, key, name};
 use std::alloc::Global;
 
-/// The tokens of an end. An end itself, with its copied names, is nothing that `?` takes beside a reference.
+/// The tokens of an end. An end itself, with its copied names, is nothing that `?` takes beside a
+/// reference.
 #[derive(Clone, Copy)]
 pub struct EndTokens<'a> {
     pub name: &'a Lexeme,
@@ -34,7 +35,7 @@ impl EndTokens<'_> {
 /// An end of a connection, by its tokens.
 #[tactic(auto, unfolding(crate::specs::Network::end))]
 pub fn end(tokens: &[Lexeme]) -> Result<(EndTokens<'_>, &[Lexeme]), Stop<'_>>
-    ensures { Gives (λ x. (end_in x.0, x.1.now)) result (read end tokens.now) }
+    ensures { Gives end_in result (read end tokens.now) }
 {
     let (name, rest) = name(tokens)?;
     let (port, rest) = optional_name(rest, Kind::Point)?;
@@ -81,7 +82,7 @@ pub fn connections(
     alloc: Global,
     tokens: &[Lexeme],
 ) -> Result<(Vec<Connection>, &[Lexeme]), Stop<'_>>
-    ensures { Gives (λ x. (x.0.items, x.1.now)) result (read connections tokens.now) }
+    ensures { Gives (λ connections. connections.items) result (read connections tokens.now) }
 {
     if is_next(tokens, &[Kind::EventConnections]) {
         section(

@@ -1,6 +1,6 @@
 //! Types and constants.
 
-ghost use Rattle.fb_forms.specs.Gives.{Gives};
+ghost use Rattle.fb_forms.specs.Gives.{Gives, Passes};
 ghost use Rattle.fb_forms.specs.Reading.{read};
 ghost use Rattle.fb_sections.specs.Constants.{array_type, constant, constant_list, length_of_string, number, plain_type, range, ranges, signed_form, simple, type_use};
 ghost use Rattle.fb_forms.specs.Tree.Tree.{constant_tree};
@@ -41,7 +41,7 @@ fn signed_form(form: LiteralForm) -> LiteralForm
 /// A number, perhaps with a sign.
 #[tactic(auto, unfolding(crate::specs::Constants::number))]
 fn number(tokens: &[Lexeme]) -> Result<(Literal, &[Lexeme]), Stop<'_>>
-    ensures { Gives (λ x. (x.0, x.1.now)) result (read number tokens.now) }
+    ensures { Gives (λ number. number) result (read number tokens.now) }
 {
     if !is_next(tokens, &SIGNS) {
         let (token, rest) = one_of(tokens, &NUMBERS)?;
@@ -85,7 +85,7 @@ impl Reader for RangeReader {
 /// Ranges with commas between them.
 #[tactic(auto, unfolding(crate::specs::Constants::ranges))]
 fn ranges(alloc: Global, tokens: &[Lexeme]) -> Result<&[Lexeme], Stop<'_>>
-    ensures { Gives (λ x. (tt, x.now)) result (read ranges tokens.now) }
+    ensures { Passes result (read ranges tokens.now) }
 {
     let (_, rest) = listed(&RangeReader, alloc, tokens)?;
     Ok(rest)
@@ -94,7 +94,7 @@ fn ranges(alloc: Global, tokens: &[Lexeme]) -> Result<&[Lexeme], Stop<'_>>
 /// A length in brackets. The closing one is given.
 #[tactic(auto, unfolding(crate::specs::Constants::length_of_string))]
 fn length_of_string(tokens: &[Lexeme]) -> Result<(&Lexeme, &[Lexeme]), Stop<'_>>
-    ensures { Gives (λ x. (x.0.now, x.1.now)) result (read length_of_string tokens.now) }
+    ensures { Gives (λ token. token.now) result (read length_of_string tokens.now) }
 {
     let (_, rest) = key(tokens, Kind::OpenBracket)?;
     let (_, rest) = one_of(rest, &NUMBERS)?;
@@ -103,7 +103,7 @@ fn length_of_string(tokens: &[Lexeme]) -> Result<(&Lexeme, &[Lexeme]), Stop<'_>>
 
 #[tactic(auto, unfolding(crate::specs::Constants::plain_type, crate::specs::Constants::length_of_string))]
 fn plain_type(tokens: &[Lexeme]) -> Result<(TypeUse, &[Lexeme]), Stop<'_>>
-    ensures { Gives (λ x. (x.0, x.1.now)) result (read plain_type tokens.now) }
+    ensures { Gives (λ type. type) result (read plain_type tokens.now) }
 {
     let (name, rest) = name(tokens)?;
     if !is_next(rest, &[Kind::OpenBracket]) {
@@ -125,7 +125,7 @@ fn plain_type(tokens: &[Lexeme]) -> Result<(TypeUse, &[Lexeme]), Stop<'_>>
 
 #[tactic(auto, unfolding(crate::specs::Constants::array_type))]
 fn array_type(alloc: Global, tokens: &[Lexeme]) -> Result<(TypeUse, &[Lexeme]), Stop<'_>>
-    ensures { Gives (λ x. (x.0, x.1.now)) result (read array_type tokens.now) }
+    ensures { Gives (λ type. type) result (read array_type tokens.now) }
 {
     let (array, rest) = key(tokens, Kind::Array)?;
     let (_, rest) = key(rest, Kind::OpenBracket)?;
@@ -144,7 +144,7 @@ fn array_type(alloc: Global, tokens: &[Lexeme]) -> Result<(TypeUse, &[Lexeme]), 
 /// A type where it is used.
 #[tactic(auto, unfolding(crate::specs::Constants::type_use, crate::specs::Constants::plain_type, fb_forms::specs::Words::name))]
 pub fn type_use(alloc: Global, tokens: &[Lexeme]) -> Result<(TypeUse, &[Lexeme]), Stop<'_>>
-    ensures { Gives (λ x. (x.0, x.1.now)) result (read type_use tokens.now) }
+    ensures { Gives (λ type. type) result (read type_use tokens.now) }
 {
     if is_next(tokens, &NAMES) {
         plain_type(tokens)
@@ -155,7 +155,7 @@ pub fn type_use(alloc: Global, tokens: &[Lexeme]) -> Result<(TypeUse, &[Lexeme])
 
 #[tactic(auto, unfolding(crate::specs::Constants::simple, fb_forms::specs::Words::name))]
 fn simple(tokens: &[Lexeme]) -> Result<(Simple, &[Lexeme]), Stop<'_>>
-    ensures { Gives (λ x. (x.0, x.1.now)) result (read simple tokens.now) }
+    ensures { Gives (λ constant. constant) result (read simple tokens.now) }
 {
     if is_next(tokens, &NAMES) {
         let (token, rest) = name(tokens)?;
@@ -194,7 +194,7 @@ impl Reader for SimpleReader {
 /// Simple constants in brackets.
 #[tactic(auto, unfolding(crate::specs::Constants::constant_list), using(fb_forms::proofs::Repeating::as_they_are))]
 fn constant_list(alloc: Global, tokens: &[Lexeme]) -> Result<(Constant, &[Lexeme]), Stop<'_>>
-    ensures { Gives (λ x. (constant_tree x.0, x.1.now)) result (read constant_list tokens.now) }
+    ensures { Gives constant_tree result (read constant_list tokens.now) }
 {
     let (open, rest) = key(tokens, Kind::OpenBracket)?;
     let (values, rest) = listed(&SimpleReader, alloc, rest)?;
@@ -205,7 +205,7 @@ fn constant_list(alloc: Global, tokens: &[Lexeme]) -> Result<(Constant, &[Lexeme
 /// A constant.
 #[tactic(auto, unfolding(crate::specs::Constants::constant, crate::specs::Constants::constant_list))]
 pub fn constant(alloc: Global, tokens: &[Lexeme]) -> Result<(Constant, &[Lexeme]), Stop<'_>>
-    ensures { Gives (λ x. (constant_tree x.0, x.1.now)) result (read constant tokens.now) }
+    ensures { Gives constant_tree result (read constant tokens.now) }
 {
     if is_next(tokens, &[Kind::OpenBracket]) {
         return constant_list(alloc, tokens);

@@ -1,6 +1,6 @@
 //! What sections have in common.
 
-ghost use Rattle.fb_forms.specs.Gives.{Gives};
+ghost use Rattle.fb_forms.specs.Gives.{Gives, GivesEach};
 ghost use Rattle.fb_forms.specs.Reading.{read};
 ghost use Rattle.fb_forms.specs.Lexemes.Lexemes.{name_use};
 ghost use Rattle.fb_sections.specs.Sections.{optional_name, read_section};
@@ -17,7 +17,8 @@ pub fn optional_name(
     tokens: &[Lexeme],
     kind: Kind,
 ) -> Result<(Option<&Lexeme>, &[Lexeme]), Stop<'_>>
-    ensures { Gives (λ x. (option_map (λ l. name_use l.now) x.0, x.1.now)) result (read (optional_name kind) tokens.now) }
+    ensures { Gives (option_map (λ token. name_use token.now)) result
+        (read (optional_name kind) tokens.now) }
 {
     if !is_next(tokens, &[kind]) {
         return Ok((None, tokens));
@@ -29,7 +30,7 @@ pub fn optional_name(
 
 /// The name of a token, where there is one.
 pub fn name_in(token: Option<&Lexeme>) -> Option<NameUse>
-    ensures { result ≡ option_map (λ l. name_use l.now) token.entry }
+    ensures { result ≡ option_map (λ t. name_use t.now) token.entry }
 {
     match token {
         Some(token) => Some(token.name_use()),
@@ -45,7 +46,7 @@ pub fn section<'a, R: Reader>(
     alloc: Global,
     tokens: &'a [Lexeme],
 ) -> Result<(Vec<R::Item>, &'a [Lexeme]), Stop<'a>>
-    ensures { Gives (λ x. (map R.view x.0.items, x.1.now)) result (read_section start (R.reads reader.now) end tokens.now) }
+    ensures { GivesEach R.view result (read_section start (R.reads reader.now) end tokens.now) }
 {
     let (_, rest) = key(tokens, start)?;
     let (items, rest) = several(reader, alloc, &NAMES, rest)?;

@@ -1,6 +1,6 @@
 //! Instances with their parameters.
 
-ghost use Rattle.fb_forms.specs.Gives.{Gives};
+ghost use Rattle.fb_forms.specs.Gives.{GivesEach};
 ghost use Rattle.fb_forms.specs.Reading.{read};
 ghost use Rattle.fb_sections.specs.Network.{blocks, instance, listed_parameters, optional_parameters, parameter, parameters, plugs, sockets, subapplication, subapplications};
 ghost use Rattle.fb_forms.specs.Tree.Tree.{InstanceTree, ParameterTree, instance_tree, parameter_tree};
@@ -49,7 +49,7 @@ fn listed_parameters(
     alloc: Global,
     tokens: &[Lexeme],
 ) -> Result<(Vec<Parameter>, &[Lexeme]), Stop<'_>>
-    ensures { Gives (λ x. (map parameter_tree x.0.items, x.1.now)) result (read listed_parameters tokens.now) }
+    ensures { GivesEach parameter_tree result (read listed_parameters tokens.now) }
 {
     if is_next(tokens, &NAMES) {
         listed(&ParameterReader, alloc, tokens)
@@ -64,7 +64,7 @@ pub fn optional_parameters(
     alloc: Global,
     tokens: &[Lexeme],
 ) -> Result<(Vec<Parameter>, &[Lexeme]), Stop<'_>>
-    ensures { Gives (λ x. (map parameter_tree x.0.items, x.1.now)) result (read optional_parameters tokens.now) }
+    ensures { GivesEach parameter_tree result (read optional_parameters tokens.now) }
 {
     if !is_next(tokens, &[Kind::OpenParenthesis]) {
         return Ok((Vec::new(alloc), tokens));
@@ -114,7 +114,7 @@ impl Reader for InstanceReader {
 /// A section of plugs.
 #[tactic(auto, unfolding(crate::specs::Network::plugs, crate::specs::Network::instance, fb_forms::specs::Words::name))]
 pub fn plugs(alloc: Global, tokens: &[Lexeme]) -> Result<(Vec<Instance>, &[Lexeme]), Stop<'_>>
-    ensures { Gives (λ x. (map instance_tree x.0.items, x.1.now)) result (read plugs tokens.now) }
+    ensures { GivesEach instance_tree result (read plugs tokens.now) }
 {
     section(
         Kind::Plugs,
@@ -128,7 +128,7 @@ pub fn plugs(alloc: Global, tokens: &[Lexeme]) -> Result<(Vec<Instance>, &[Lexem
 /// A section of sockets.
 #[tactic(auto, unfolding(crate::specs::Network::sockets, crate::specs::Network::instance, fb_forms::specs::Words::name))]
 pub fn sockets(alloc: Global, tokens: &[Lexeme]) -> Result<(Vec<Instance>, &[Lexeme]), Stop<'_>>
-    ensures { Gives (λ x. (map instance_tree x.0.items, x.1.now)) result (read sockets tokens.now) }
+    ensures { GivesEach instance_tree result (read sockets tokens.now) }
 {
     section(
         Kind::Sockets,
@@ -142,7 +142,7 @@ pub fn sockets(alloc: Global, tokens: &[Lexeme]) -> Result<(Vec<Instance>, &[Lex
 /// A section of block instances.
 #[tactic(auto, unfolding(crate::specs::Network::blocks, crate::specs::Network::instance, fb_forms::specs::Words::name))]
 pub fn blocks(alloc: Global, tokens: &[Lexeme]) -> Result<(Vec<Instance>, &[Lexeme]), Stop<'_>>
-    ensures { Gives (λ x. (map instance_tree x.0.items, x.1.now)) result (read blocks tokens.now) }
+    ensures { GivesEach instance_tree result (read blocks tokens.now) }
 {
     section(
         Kind::Fbs,
@@ -192,7 +192,7 @@ pub fn subapplications(
     alloc: Global,
     tokens: &[Lexeme],
 ) -> Result<(Vec<Instance>, &[Lexeme]), Stop<'_>>
-    ensures { Gives (λ x. (map instance_tree x.0.items, x.1.now)) result (read subapplications tokens.now) }
+    ensures { GivesEach instance_tree result (read subapplications tokens.now) }
 {
     section(
         Kind::Subapps,

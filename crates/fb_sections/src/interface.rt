@@ -1,6 +1,6 @@
 //! Events and variables.
 
-ghost use Rattle.fb_forms.specs.Gives.{Gives};
+ghost use Rattle.fb_forms.specs.Gives.{Gives, GivesEach};
 ghost use Rattle.fb_forms.specs.Reading.{read};
 ghost use Rattle.fb_sections.specs.Interface.{data_variables, event, events, initial, internal_variables, variables, with_names};
 ghost use Rattle.fb_forms.specs.Tree.Tree.{EventTree, VariablesTree, constant_tree, event_tree, variables_tree};
@@ -17,7 +17,7 @@ use std::alloc::Global;
 /// The names behind WITH, where it is written.
 #[tactic(auto, unfolding(crate::specs::Interface::with_names))]
 fn with_names(alloc: Global, tokens: &[Lexeme]) -> Result<(Vec<NameUse>, &[Lexeme]), Stop<'_>>
-    ensures { Gives (λ x. (x.0.items, x.1.now)) result (read with_names tokens.now) }
+    ensures { Gives (λ names. names.items) result (read with_names tokens.now) }
 {
     if !is_next(tokens, &[Kind::With]) {
         return Ok((Vec::new(alloc), tokens));
@@ -64,7 +64,7 @@ impl Reader for EventReader {
 /// A section of events.
 #[tactic(auto, unfolding(crate::specs::Interface::events, crate::specs::Interface::event, fb_forms::specs::Words::name))]
 pub fn events(alloc: Global, tokens: &[Lexeme]) -> Result<(Vec<Event>, &[Lexeme]), Stop<'_>>
-    ensures { Gives (λ x. (map event_tree x.0.items, x.1.now)) result (read events tokens.now) }
+    ensures { GivesEach event_tree result (read events tokens.now) }
 {
     if is_next(tokens, &[Kind::EventInput]) {
         section(
@@ -88,7 +88,7 @@ pub fn events(alloc: Global, tokens: &[Lexeme]) -> Result<(Vec<Event>, &[Lexeme]
 /// The initial value, where one is written.
 #[tactic(auto, unfolding(crate::specs::Interface::initial))]
 fn initial(alloc: Global, tokens: &[Lexeme]) -> Result<(Option<Constant>, &[Lexeme]), Stop<'_>>
-    ensures { Gives (λ x. (option_map constant_tree x.0, x.1.now)) result (read initial tokens.now) }
+    ensures { Gives (option_map constant_tree) result (read initial tokens.now) }
 {
     if !is_next(tokens, &[Kind::Assign]) {
         return Ok((None, tokens));
@@ -143,7 +143,7 @@ pub fn data_variables(
     alloc: Global,
     tokens: &[Lexeme],
 ) -> Result<(Vec<Variables>, &[Lexeme]), Stop<'_>>
-    ensures { Gives (λ x. (map variables_tree x.0.items, x.1.now)) result (read data_variables tokens.now) }
+    ensures { GivesEach variables_tree result (read data_variables tokens.now) }
 {
     if is_next(tokens, &[Kind::VarInput]) {
         section(
@@ -174,7 +174,7 @@ pub fn internal_variables(
     alloc: Global,
     tokens: &[Lexeme],
 ) -> Result<(Vec<Variables>, &[Lexeme]), Stop<'_>>
-    ensures { Gives (λ x. (map variables_tree x.0.items, x.1.now)) result (read internal_variables tokens.now) }
+    ensures { GivesEach variables_tree result (read internal_variables tokens.now) }
 {
     section(
         Kind::Var,

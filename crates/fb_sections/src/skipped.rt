@@ -1,6 +1,6 @@
 //! What is skipped token by token.
 
-ghost use Rattle.fb_forms.specs.Gives.{Gives};
+ghost use Rattle.fb_forms.specs.Gives.{Passes};
 ghost use Rattle.fb_forms.specs.Reading.{read};
 ghost use Rattle.fb_sections.specs.Skipped.{service, skipped};
 ghost use Rattle.std.specs.Prelude.{◌≡◌, Ok};
@@ -26,7 +26,7 @@ pub fn skip(tokens: &[Lexeme], end: Kind) -> &[Lexeme]
 /// A description of services, which is not kept.
 #[tactic(auto, unfolding(crate::specs::Skipped::service))]
 pub fn service(tokens: &[Lexeme]) -> Result<&[Lexeme], Stop<'_>>
-    ensures { Gives (λ x. (tt, x.now)) result (read service tokens.now) }
+    ensures { Passes result (read service tokens.now) }
 {
     let (_, rest) = key(tokens, Kind::Service)?;
     let (_, rest) = key(skip(rest, Kind::EndService), Kind::EndService)?;

@@ -1,9 +1,9 @@
 //! Mappings, resources and devices.
 
-ghost use Rattle.fb_forms.specs.Gives.{Gives};
+ghost use Rattle.fb_forms.specs.Gives.{Gives, GivesEach};
 ghost use Rattle.fb_forms.specs.Reading.{read};
 ghost use Rattle.fb_forms.specs.Lexemes.Lexemes.{name_use};
-ghost use Rattle.fb_sections.specs.SystemParts.{device, header, mapping, mappings, optional_semicolon, path, resource};
+ghost use Rattle.fb_sections.specs.SystemParts.{device, header, header_tree, mapping, mappings, optional_semicolon, path, resource};
 ghost use Rattle.fb_forms.specs.Tree.Tree.{MappingTree, ResourceTree, device_tree, mapping_tree, parameter_tree, resource_tree};
 ghost use Rattle.std.specs.Prelude.{◌≡◌, Ok, map};
 
@@ -18,7 +18,7 @@ use std::alloc::Global;
 /// Names with points between them.
 #[tactic(auto, unfolding(crate::specs::SystemParts::path), using(fb_forms::proofs::Repeating::as_they_are))]
 fn path(alloc: Global, tokens: &[Lexeme]) -> Result<(Vec<NameUse>, &[Lexeme]), Stop<'_>>
-    ensures { Gives (λ x. (x.0.items, x.1.now)) result (read path tokens.now) }
+    ensures { Gives (λ names. names.items) result (read path tokens.now) }
 {
     separated(&NameReader, Kind::Point, alloc, tokens)
 }
@@ -60,7 +60,7 @@ impl Reader for MappingReader {
 /// A section of mappings.
 #[tactic(auto, unfolding(crate::specs::SystemParts::mappings, crate::specs::SystemParts::mapping, crate::specs::SystemParts::path, fb_forms::specs::Words::name))]
 pub fn mappings(alloc: Global, tokens: &[Lexeme]) -> Result<(Vec<Mapping>, &[Lexeme]), Stop<'_>>
-    ensures { Gives (λ x. (map mapping_tree x.0.items, x.1.now)) result (read mappings tokens.now) }
+    ensures { GivesEach mapping_tree result (read mappings tokens.now) }
 {
     section(
         Kind::Mappings,
@@ -92,8 +92,7 @@ struct HeaderParts<'a> {
 
 #[tactic(auto, unfolding(crate::specs::SystemParts::header))]
 fn header(alloc: Global, tokens: &[Lexeme]) -> Result<(HeaderParts<'_>, &[Lexeme]), Stop<'_>>
-    ensures { Gives (λ x. ((name_use x.0.name.now, (name_use x.0.type_name.now, map parameter_tree x.0.parameters.items)), x.1.now)) result
-        (read header tokens.now) }
+    ensures { Gives header_tree result (read header tokens.now) }
 {
     let (own_name, rest) = name(tokens)?;
     let (_, rest) = key(rest, Kind::Colon)?;
@@ -141,7 +140,7 @@ impl Reader for ResourceReader {
 /// A device with its resources.
 #[tactic(auto, unfolding(crate::specs::SystemParts::device, crate::specs::SystemParts::resource))]
 pub fn device(alloc: Global, tokens: &[Lexeme]) -> Result<(Device, &[Lexeme]), Stop<'_>>
-    ensures { Gives (λ x. (device_tree x.0, x.1.now)) result (read device tokens.now) }
+    ensures { Gives device_tree result (read device tokens.now) }
 {
     let (_, rest) = key(tokens, Kind::Device)?;
     let (header, rest) = header(alloc, rest)?;

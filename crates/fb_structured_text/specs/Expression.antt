@@ -1,5 +1,7 @@
 -- The forms of expressions at each level.
-use Rattle.std.specs.Prelude.{ℕ, zero, suc, List, [], ◌∷◌, Option, Some, None}
+use Rattle.std.specs.Prelude.{ℕ, zero, suc, ◌+◌, List, [], ◌∷◌, Vec, drop, map, Option, Some, None}
+use Rattle.std.specs.declared.alloc.Global.{Global}
+use Rattle.std.specs.declared.boxed.Box.{Box}
 use Rattle.fb_text.specs.declared.name.NameUse.{NameUse}
 use Rattle.fb_forms.specs.Lexemes.declared.kind.Kind.{Kind}
 use Rattle.fb_forms.specs.Lexemes.declared.kind.Kind.TheVariants.{Point, OpenBracket, CloseBracket, OpenParenthesis, CloseParenthesis}
@@ -8,9 +10,11 @@ use Rattle.fb_forms.specs.Form.{Form, one, both, either, option, many, as_value}
 use Rattle.fb_forms.specs.Literals.{across, literal_kinds, literal_use}
 use Rattle.fb_forms.specs.Words.{key, behind, list, name}
 use Rattle.fb_tree.specs.declared.expression.BinaryUse.{BinaryUse}
+use Rattle.fb_tree.specs.declared.expression.Expr.{Expr}
+use Rattle.fb_tree.specs.declared.expression.Reference.{Reference}
 use Rattle.fb_tree.specs.declared.expression.UnaryUse.{UnaryUse}
-use Rattle.fb_tree.specs.Expression.{ReferenceTree, Expression, literal_expression, reference_expression, unary_expression, row_expression, parentheses, Expressions, no_expressions, expressions_of, operands_of}
-use Rattle.fb_structured_text.specs.Operators.{signs, strengths, unary_use, binary_use}
+use Rattle.fb_tree.specs.Expression.{ReferenceTree, reference_tree, Expression, expression_tree, literal_expression, reference_expression, unary_expression, row_expression, parentheses, Expressions, no_expressions, expressions_of, operands_of}
+use Rattle.fb_structured_text.specs.Operators.{signs, strengths, operators, unary_use, binary_use}
 
 -- Expressions and statements nest at levels 0 to 64. The index of a form counts the levels below its own, so that level 0 has index 64.
 abbrev pub levels : ℕ
@@ -44,6 +48,10 @@ plain variable = (variable, no_expressions)
 abbrev pub subscripted : ReferenceTree → Option (List Expression × Lexeme) → ReferenceTree × Expressions
 subscripted variable None = plain variable
 subscripted variable (Some s) = (record { name = variable.name; member = variable.member; span = across variable.span s.1.span }, expressions_of s.0)
+
+-- the same, of what a reader returned
+abbrev pub variable_tree : Box Reference Global × Vec Expr Global → ReferenceTree × Expressions
+variable_tree v = (reference_tree v.0.value, expressions_of (map expression_tree v.1.items))
 
 -- a reference at the last level: name ['.' name]
 unfoldable pub flat_reference : Form (ReferenceTree × Expressions)
@@ -110,6 +118,14 @@ expression (suc n) = rows strengths (unary (deep_primary (expression n)))
 abbrev pub primary : ℕ → Form Expression
 primary zero = flat_primary
 primary (suc n) = deep_primary (expression n)
+
+-- in it, an expression with the operators of a strength and of the stronger ones
+abbrev pub row_at : ℕ → ℕ → Form Expression
+row_at strength n = rows (drop strength strengths) (unary (primary n))
+
+-- in it, an operator of a strength with its operand
+abbrev pub operand_at : ℕ → ℕ → Form (BinaryUse × Expression)
+operand_at strength n = operand (operators strength) (row_at (strength + 1) n)
 
 -- a reference in it
 unfoldable pub reference : ℕ → Form (ReferenceTree × Expressions)

@@ -1,5 +1,5 @@
 -- The forms of statements at each level.
-use Rattle.std.specs.Prelude.{ℕ, zero, suc, List, [], ◌∷◌}
+use Rattle.std.specs.Prelude.{ℕ, zero, suc, ◌-◌, List, [], ◌∷◌}
 use Rattle.std.specs.List.{flat_map}
 use Rattle.fb_forms.specs.Lexemes.declared.kind.Kind.{Kind}
 use Rattle.fb_forms.specs.Lexemes.declared.kind.Kind.TheVariants.{Assign, Semicolon, Colon, Range, Plus, Minus, Exit, Return, If, Then, Elsif, Else, EndIf, Case, Of, EndCase, For, To, By, Do, EndFor, While, EndWhile, Repeat, Until, EndRepeat}
@@ -108,3 +108,7 @@ nested_statement e inner =
 unfoldable pub statement : ℕ → Form Statement
 statement zero = simple_statement zero
 statement (suc n) = either (simple_statement (suc n)) (nested_statement (expression (suc n)) (statement n))
+
+-- a form with expressions and statements in it, of a statement with so many levels below its own
+abbrev pub at_level : {A : Type 0} → (Form Expression → Form Statement → Form A) → ℕ → Form A
+at_level form n = form (expression n) (statement (n - 1))

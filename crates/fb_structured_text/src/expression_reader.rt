@@ -1,6 +1,6 @@
 //! Reading expressions.
 ghost use Rattle.fb_forms.specs.Form.{as_value, many};
-ghost use Rattle.fb_forms.specs.Gives.{Gives};
+ghost use Rattle.fb_forms.specs.Gives.{Gives, GivesEach};
 ghost use Rattle.fb_forms.specs.Reading.{read};
 ghost use Rattle.fb_forms.specs.Words.{further};
 ghost use Rattle.fb_structured_text.specs.Expression.{
@@ -10,18 +10,18 @@ ghost use Rattle.fb_structured_text.specs.Expression.{
   expressions,
   flat_primary,
   levels,
-  operand,
+  operand_at,
   parenthesized,
   primary,
   reference,
   reference_value,
-  rows,
+  row_at,
   subscripts,
   unary,
+  variable_tree,
 };
-ghost use Rattle.fb_structured_text.specs.Operators.{operators, strengths};
-ghost use Rattle.fb_tree.specs.Expression.{expression_tree, expressions_of, reference_tree};
-ghost use Rattle.std.specs.Prelude.{◌≡◌, ◌≤◌, ◌<◌, ◌+◌, drop, map};
+ghost use Rattle.fb_tree.specs.Expression.{expression_tree, operand_tree};
+ghost use Rattle.std.specs.Prelude.{◌≡◌, ◌≤◌, ◌<◌, map};
 
 use crate::operators::{SIGNS, is_literal, literal, next_strength, operator, operators, sign};
 use crate::references::{flat_reference, member_name, variable};
@@ -36,7 +36,7 @@ pub const LEVELS: u8 = 64;
 /// An operand at the last level: a literal, or a variable without subscripts.
 #[tactic(auto, unfolding(crate::specs::Expression::flat_primary, crate::specs::Expression::literal))]
 fn flat_primary(alloc: Global, tokens: &[Lexeme]) -> Result<(Expr, &[Lexeme]), Stop<'_>>
-    ensures { Gives (λ x. (expression_tree x.0, x.1.now)) result (read flat_primary tokens.now) }
+    ensures { Gives expression_tree result (read flat_primary tokens.now) }
 {
     if is_literal(tokens) {
         return literal(tokens);
@@ -49,7 +49,7 @@ fn flat_primary(alloc: Global, tokens: &[Lexeme]) -> Result<(Expr, &[Lexeme]), S
 #[cycle(expression)]
 #[tactic(auto, unfolding(crate::specs::Expression::parenthesized))]
 fn parenthesized(alloc: Global, below: u8, tokens: &[Lexeme]) -> Result<(Expr, &[Lexeme]), Stop<'_>>
-    ensures { Gives (λ x. (expression_tree x.0, x.1.now)) result (read (parenthesized (expression below)) tokens.now) }
+    ensures { Gives expression_tree result (read (parenthesized (expression below)) tokens.now) }
 {
     let (open, rest) = key(tokens, Kind::OpenParenthesis)?;
     let (inner, rest) = expression_at(alloc, below, rest)?;
@@ -61,7 +61,7 @@ fn parenthesized(alloc: Global, below: u8, tokens: &[Lexeme]) -> Result<(Expr, &
 /// An operand, with so many levels below it.
 #[cycle(expression)]
 fn primary(alloc: Global, left: u8, tokens: &[Lexeme]) -> Result<(Expr, &[Lexeme]), Stop<'_>>
-    ensures { Gives (λ x. (expression_tree x.0, x.1.now)) result (read (primary left) tokens.now) }
+    ensures { Gives expression_tree result (read (primary left) tokens.now) }
 {
     if left == 0 {
         flat_primary(alloc, tokens)
@@ -74,7 +74,7 @@ fn primary(alloc: Global, left: u8, tokens: &[Lexeme]) -> Result<(Expr, &[Lexeme
 #[cycle(expression)]
 #[tactic(auto, unfolding(crate::specs::Expression::deep_primary))]
 fn deep_primary(alloc: Global, below: u8, tokens: &[Lexeme]) -> Result<(Expr, &[Lexeme]), Stop<'_>>
-    ensures { Gives (λ x. (expression_tree x.0, x.1.now)) result (read (deep_primary (expression below)) tokens.now) }
+    ensures { Gives expression_tree result (read (deep_primary (expression below)) tokens.now) }
 {
     if is_literal(tokens) {
         literal(tokens)
@@ -92,7 +92,8 @@ fn variable_operand(
     below: u8,
     tokens: &[Lexeme],
 ) -> Result<(Expr, &[Lexeme]), Stop<'_>>
-    ensures { Gives (λ x. (expression_tree x.0, x.1.now)) result (read (as_value reference_value (deep_reference (expression below))) tokens.now) }
+    ensures { Gives expression_tree result
+        (read (as_value reference_value (deep_reference (expression below))) tokens.now) }
 {
     let ((variable, subscripts), rest) = deep_reference(alloc, below, tokens)?;
     Ok((Expr::Reference(variable, subscripts), rest))
@@ -106,7 +107,7 @@ fn deep_reference(
     below: u8,
     tokens: &[Lexeme],
 ) -> Result<((Box<Reference>, Vec<Expr>), &[Lexeme]), Stop<'_>>
-    ensures { Gives (λ x. ((reference_tree x.0.0.value, expressions_of (map expression_tree x.0.1.items)), x.1.now)) result (read (deep_reference (expression below)) tokens.now) }
+    ensures { Gives variable_tree result (read (deep_reference (expression below)) tokens.now) }
 {
     let ((name, member), rest) = member_name(tokens)?;
     let mut variable = variable(alloc, name, member)?;
@@ -126,7 +127,8 @@ fn subscripts(
     below: u8,
     tokens: &[Lexeme],
 ) -> Result<((Vec<Expr>, &Lexeme), &[Lexeme]), Stop<'_>>
-    ensures { Gives (λ x. ((map expression_tree x.0.0.items, x.0.1.now), x.1.now)) result (read (subscripts (expression below)) tokens.now) }
+    ensures { Gives (λ s. (map expression_tree s.0.items, s.1.now)) result
+        (read (subscripts (expression below)) tokens.now) }
 {
     let (_, rest) = key(tokens, Kind::OpenBracket)?;
     let (subscripts, rest) = expressions(alloc, below, rest)?;
@@ -142,7 +144,7 @@ fn expressions(
     below: u8,
     tokens: &[Lexeme],
 ) -> Result<(Vec<Expr>, &[Lexeme]), Stop<'_>>
-    ensures { Gives (λ x. (map expression_tree x.0.items, x.1.now)) result (read (expressions (expression below)) tokens.now) }
+    ensures { GivesEach expression_tree result (read (expressions (expression below)) tokens.now) }
 {
     let (first, mut rest) = expression_at(alloc, below, tokens)?;
     // Most variables have one subscript.
@@ -163,7 +165,7 @@ fn further_expression(
     below: u8,
     tokens: &[Lexeme],
 ) -> Result<(Expr, &[Lexeme]), Stop<'_>>
-    ensures { Gives (λ x. (expression_tree x.0, x.1.now)) result (read (further (expression below)) tokens.now) }
+    ensures { Gives expression_tree result (read (further (expression below)) tokens.now) }
 {
     let (_, rest) = key(tokens, Kind::Comma)?;
     expression_at(alloc, below, rest)
@@ -173,7 +175,7 @@ fn further_expression(
 #[cycle(expression)]
 #[tactic(auto, unfolding(crate::specs::Expression::unary))]
 fn unary(alloc: Global, left: u8, tokens: &[Lexeme]) -> Result<(Expr, &[Lexeme]), Stop<'_>>
-    ensures { Gives (λ x. (expression_tree x.0, x.1.now)) result (read (unary (primary left)) tokens.now) }
+    ensures { Gives expression_tree result (read (unary (primary left)) tokens.now) }
 {
     if !is_next(tokens, &SIGNS) {
         return primary(alloc, left, tokens);
@@ -183,8 +185,8 @@ fn unary(alloc: Global, left: u8, tokens: &[Lexeme]) -> Result<(Expr, &[Lexeme])
     Ok((Expr::Unary(sign, Box::new(alloc, value)?), rest))
 }
 
-/// An expression with the operators of a strength and of the stronger ones. The first operand is read once; then rows are built from the
-/// strongest operators to the weakest, where one comes next.
+/// An expression with the operators of a strength and of the stronger ones. The first operand is
+/// read once; then rows are built from the strongest operators to the weakest, where one is next.
 #[cycle(expression)]
 fn row(
     alloc: Global,
@@ -193,7 +195,7 @@ fn row(
     tokens: &[Lexeme],
 ) -> Result<(Expr, &[Lexeme]), Stop<'_>>
     requires { strength ≤ 8 }
-    ensures { Gives (λ x. (expression_tree x.0, x.1.now)) result (read (rows (drop strength strengths) (unary (primary left))) tokens.now) }
+    ensures { Gives expression_tree result (read (row_at strength left) tokens.now) }
 {
     let (mut value, mut rest) = unary(alloc, left, tokens)?;
     let mut level = 8;
@@ -217,7 +219,7 @@ fn operands(
     tokens: &[Lexeme],
 ) -> Result<(Vec<(BinaryUse, Expr)>, &[Lexeme]), Stop<'_>>
     requires { strength < 8 }
-    ensures { Gives (λ x. (map (λ o. (o.0, expression_tree o.1)) x.0.items, x.1.now)) result (read (many (operand (operators strength) (rows (drop (strength + 1) strengths) (unary (primary left))))) tokens.now) }
+    ensures { GivesEach operand_tree result (read (many (operand_at strength left)) tokens.now) }
 {
     // Most rows have one operator.
     let mut operands = Vec::with_capacity(alloc, 1)?;
@@ -240,7 +242,7 @@ fn operand(
     tokens: &[Lexeme],
 ) -> Result<((BinaryUse, Expr), &[Lexeme]), Stop<'_>>
     requires { strength < 8 }
-    ensures { Gives (λ x. ((x.0.0, expression_tree x.0.1), x.1.now)) result (read (operand (operators strength) (rows (drop (strength + 1) strengths) (unary (primary left)))) tokens.now) }
+    ensures { Gives operand_tree result (read (operand_at strength left) tokens.now) }
 {
     let (operator, rest) = operator(tokens, strength)?;
     let (value, rest) = row(alloc, strength + 1, left, rest)?;
@@ -254,14 +256,15 @@ pub fn expression_at(
     left: u8,
     tokens: &[Lexeme],
 ) -> Result<(Expr, &[Lexeme]), Stop<'_>>
-    ensures { Gives (λ x. (expression_tree x.0, x.1.now)) result (read (expression left) tokens.now) }
+    ensures { Gives expression_tree result (read (expression left) tokens.now) }
 {
     row(alloc, 0, left, tokens)
 }
 
-/// An expression at the outermost level, and the tokens behind it. On a fault the tokens from the first one that does not go on.
+/// An expression at the outermost level, and the tokens behind it. On a fault the tokens from the
+/// first one that does not go on.
 pub fn expression(alloc: Global, tokens: &[Lexeme]) -> Result<(Expr, &[Lexeme]), Stop<'_>>
-    ensures { Gives (λ x. (expression_tree x.0, x.1.now)) result (read (expression levels) tokens.now) }
+    ensures { Gives expression_tree result (read (expression levels) tokens.now) }
 {
     expression_at(alloc, LEVELS, tokens)
 }
@@ -273,7 +276,7 @@ pub fn reference(
     left: u8,
     tokens: &[Lexeme],
 ) -> Result<((Box<Reference>, Vec<Expr>), &[Lexeme]), Stop<'_>>
-    ensures { Gives (λ x. ((reference_tree x.0.0.value, expressions_of (map expression_tree x.0.1.items)), x.1.now)) result (read (reference left) tokens.now) }
+    ensures { Gives variable_tree result (read (reference left) tokens.now) }
 {
     if left == 0 {
         flat_reference(alloc, tokens)

@@ -1,5 +1,5 @@
 //! Labels of `CASE`, which are read and not kept.
-ghost use Rattle.fb_forms.specs.Gives.{Gives};
+ghost use Rattle.fb_forms.specs.Gives.{Passes};
 ghost use Rattle.fb_forms.specs.Reading.{first, is_next, read};
 ghost use Rattle.fb_forms.specs.Words.{further};
 ghost use Rattle.fb_structured_text.specs.Statement.{int, label, labels};
@@ -21,7 +21,7 @@ const TYPED: [Kind; 5] = [
 /// Passes over a number with its sign, or a typed literal.
 #[tactic(auto, unfolding(crate::specs::Statement::int))]
 fn int(tokens: &[Lexeme]) -> Result<&[Lexeme], Stop<'_>>
-    ensures { Gives (λ rest. (tt, rest.now)) result (read int tokens.now) }
+    ensures { Passes result (read int tokens.now) }
 {
     if is_next(tokens, &TYPED) {
         let (_, rest) = one_of(tokens, &TYPED)?;
@@ -39,7 +39,7 @@ fn int(tokens: &[Lexeme]) -> Result<&[Lexeme], Stop<'_>>
 /// Passes over a label: one number, or a range of numbers.
 #[tactic(auto, unfolding(crate::specs::Statement::label))]
 fn label(tokens: &[Lexeme]) -> Result<&[Lexeme], Stop<'_>>
-    ensures { Gives (λ rest. (tt, rest.now)) result (read label tokens.now) }
+    ensures { Passes result (read label tokens.now) }
 {
     let rest = int(tokens)?;
     if !is_next(rest, &[Kind::Range]) {
@@ -51,7 +51,7 @@ fn label(tokens: &[Lexeme]) -> Result<&[Lexeme], Stop<'_>>
 
 /// Passes over a comma and a label.
 fn further_label(tokens: &[Lexeme]) -> Result<&[Lexeme], Stop<'_>>
-    ensures { Gives (λ rest. (tt, rest.now)) result (read (further label) tokens.now) }
+    ensures { Passes result (read (further label) tokens.now) }
 {
     let (_, rest) = key(tokens, Kind::Comma)?;
     label(rest)
@@ -60,7 +60,7 @@ fn further_label(tokens: &[Lexeme]) -> Result<&[Lexeme], Stop<'_>>
 /// Passes over one label or more, with commas between them.
 #[tactic(auto, unfolding(crate::specs::Statement::labels))]
 pub fn labels(tokens: &[Lexeme]) -> Result<&[Lexeme], Stop<'_>>
-    ensures { Gives (λ rest. (tt, rest.now)) result (read labels tokens.now) }
+    ensures { Passes result (read labels tokens.now) }
 {
     let mut rest = label(tokens)?;
     while is_next(rest, &[Kind::Comma]) {

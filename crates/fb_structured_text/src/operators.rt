@@ -105,7 +105,7 @@ fn binary_operator(kind: Kind) -> BinaryOperator
 
 /// An operator before an operand.
 pub fn sign(tokens: &[Lexeme]) -> Result<(UnaryUse, &[Lexeme]), Stop<'_>>
-    ensures { Gives (λ x. (x.0, x.1.now)) result (read (as_value unary_use (one signs)) tokens.now) }
+    ensures { Gives (λ sign. sign) result (read (as_value unary_use (one signs)) tokens.now) }
 {
     let (token, rest) = one_of(tokens, &SIGNS)?;
     let sign = UnaryUse {
@@ -118,7 +118,8 @@ pub fn sign(tokens: &[Lexeme]) -> Result<(UnaryUse, &[Lexeme]), Stop<'_>>
 /// An operator of this strength between operands.
 pub fn operator(tokens: &[Lexeme], strength: u8) -> Result<(BinaryUse, &[Lexeme]), Stop<'_>>
     requires { strength < 8 }
-    ensures { Gives (λ x. (x.0, x.1.now)) result (read (as_value binary_use (one (operators strength))) tokens.now) }
+    ensures { Gives (λ operator. operator) result
+        (read (as_value binary_use (one (operators strength))) tokens.now) }
 {
     let (token, rest) = one_of(tokens, operators(strength))?;
     let operator = BinaryUse {
@@ -154,7 +155,7 @@ pub fn is_literal(tokens: &[Lexeme]) -> bool
 /// A literal.
 #[tactic(auto, unfolding(crate::specs::Expression::literal))]
 pub fn literal(tokens: &[Lexeme]) -> Result<(Expr, &[Lexeme]), Stop<'_>>
-    ensures { Gives (λ x. (expression_tree x.0, x.1.now)) result (read literal tokens.now) }
+    ensures { Gives expression_tree result (read literal tokens.now) }
 {
     let (token, rest) = one_of(tokens, &LITERALS)?;
     Ok((Expr::Literal(literal_use(token)), rest))

@@ -2,9 +2,9 @@
 ghost use Rattle.fb_forms.specs.Gives.{Gives};
 ghost use Rattle.fb_forms.specs.Reading.{read};
 ghost use Rattle.fb_forms.specs.Lexemes.Lexemes.{name_use};
-ghost use Rattle.fb_structured_text.specs.Expression.{flat_reference, member_name, variable_of};
-ghost use Rattle.fb_tree.specs.Expression.{expression_tree, expressions_of, reference_tree};
-ghost use Rattle.std.specs.Prelude.{◌≡◌, IfOk, map, option_map};
+ghost use Rattle.fb_structured_text.specs.Expression.{flat_reference, member_name, variable_of, variable_tree};
+ghost use Rattle.fb_tree.specs.Expression.{reference_tree};
+ghost use Rattle.std.specs.Prelude.{◌≡◌, IfOk, option_map};
 
 use fb_forms::lexemes::{Kind, Lexeme};
 use fb_forms::{Stop, is_next, key, name};
@@ -14,7 +14,8 @@ use std::alloc::{AllocError, Global};
 /// A name, and the name behind a point where one is written.
 #[tactic(auto, unfolding(crate::specs::Expression::member_name))]
 pub fn member_name(tokens: &[Lexeme]) -> Result<((&Lexeme, Option<&Lexeme>), &[Lexeme]), Stop<'_>>
-    ensures { Gives (λ x. ((name_use x.0.0.now, option_map (λ m. name_use m.now) x.0.1), x.1.now)) result (read member_name tokens.now) }
+    ensures { Gives (λ v. (name_use v.0.now, option_map (λ m. name_use m.now) v.1)) result
+        (read member_name tokens.now) }
 {
     let (first, rest) = name(tokens)?;
     if !is_next(rest, &[Kind::Point]) {
@@ -49,7 +50,7 @@ pub fn flat_reference(
     alloc: Global,
     tokens: &[Lexeme],
 ) -> Result<((Box<Reference>, Vec<Expr>), &[Lexeme]), Stop<'_>>
-    ensures { Gives (λ x. ((reference_tree x.0.0.value, expressions_of (map expression_tree x.0.1.items)), x.1.now)) result (read flat_reference tokens.now) }
+    ensures { Gives variable_tree result (read flat_reference tokens.now) }
 {
     let ((name, member), rest) = member_name(tokens)?;
     let variable = variable(alloc, name, member)?;

@@ -1,6 +1,6 @@
 //! Reading statements.
 ghost use Rattle.fb_forms.specs.Form.{many, option};
-ghost use Rattle.fb_forms.specs.Gives.{Gives};
+ghost use Rattle.fb_forms.specs.Gives.{Gives, GivesEach};
 ghost use Rattle.fb_forms.specs.Reading.{first, is_next, read};
 ghost use Rattle.fb_structured_text.specs.Expression.{expression, levels, reference};
 ghost use Rattle.fb_structured_text.specs.Statement.{
@@ -9,6 +9,7 @@ ghost use Rattle.fb_structured_text.specs.Statement.{
   arm,
   arms,
   assignment_statement,
+  at_level,
   case,
   case_statement,
   cases,
@@ -24,9 +25,9 @@ ghost use Rattle.fb_structured_text.specs.Statement.{
   while_statement,
 };
 ghost use Rattle.fb_forms.specs.Lexemes.declared.kind.Kind.TheVariants.{By};
-ghost use Rattle.fb_tree.specs.Expression.{expression_tree, expressions_of};
-ghost use Rattle.fb_tree.specs.Statement.{statement_tree};
-ghost use Rattle.std.specs.Prelude.{◌≡◌, ◌<◌, ◌-◌, map, option_map};
+ghost use Rattle.fb_tree.specs.Expression.{expression_tree};
+ghost use Rattle.fb_tree.specs.Statement.{arm_tree, statement_tree};
+ghost use Rattle.std.specs.Prelude.{◌≡◌, ◌<◌, option_map};
 
 use crate::expression_reader::{LEVELS, expression_at, reference};
 use crate::labels::{begins_label, labels};
@@ -38,7 +39,7 @@ use std::alloc::Global;
 /// A word with `;` behind it.
 #[tactic(auto, unfolding(crate::specs::Statement::ended))]
 fn ended(tokens: &[Lexeme], word: Kind) -> Result<(&Lexeme, &[Lexeme]), Stop<'_>>
-    ensures { Gives (λ x. (x.0.now, x.1.now)) result (read (ended word) tokens.now) }
+    ensures { Gives (λ token. token.now) result (read (ended word) tokens.now) }
 {
     let (first, rest) = key(tokens, word)?;
     let (_, rest) = key(rest, Kind::Semicolon)?;
@@ -53,7 +54,7 @@ fn announced(
     left: u8,
     tokens: &[Lexeme],
 ) -> Result<(Expr, &[Lexeme]), Stop<'_>>
-    ensures { Gives (λ x. (expression_tree x.0, x.1.now)) result (read (announced word (expression left)) tokens.now) }
+    ensures { Gives expression_tree result (read (announced word (expression left)) tokens.now) }
 {
     let (_, rest) = key(tokens, word)?;
     expression_at(alloc, left, rest)
@@ -61,7 +62,7 @@ fn announced(
 
 #[tactic(auto, unfolding(crate::specs::Statement::assignment_statement))]
 fn assignment(alloc: Global, left: u8, tokens: &[Lexeme]) -> Result<(Stmt, &[Lexeme]), Stop<'_>>
-    ensures { Gives (λ x. (statement_tree x.0, x.1.now)) result (read (assignment_statement left) tokens.now) }
+    ensures { Gives statement_tree result (read (assignment_statement left) tokens.now) }
 {
     let ((variable, subscripts), rest) = reference(alloc, left, tokens)?;
     let (assign, rest) = key(rest, Kind::Assign)?;
@@ -77,7 +78,7 @@ fn simple_statement(
     left: u8,
     tokens: &[Lexeme],
 ) -> Result<(Stmt, &[Lexeme]), Stop<'_>>
-    ensures { Gives (λ x. (statement_tree x.0, x.1.now)) result (read (simple_statement left) tokens.now) }
+    ensures { Gives statement_tree result (read (simple_statement left) tokens.now) }
 {
     if is_next(tokens, &[Kind::Semicolon]) {
         let (_, rest) = key(tokens, Kind::Semicolon)?;
@@ -130,7 +131,7 @@ fn statements_at(
     left: u8,
     tokens: &[Lexeme],
 ) -> Result<(Vec<Stmt>, &[Lexeme]), Stop<'_>>
-    ensures { Gives (λ x. (map statement_tree x.0.items, x.1.now)) result (read (many (statement left)) tokens.now) }
+    ensures { GivesEach statement_tree result (read (many (statement left)) tokens.now) }
 {
     // Many are one statement alone.
     let mut statements = Vec::with_capacity(alloc, 1)?;
@@ -146,7 +147,7 @@ fn statements_at(
 /// A statement with so many levels below it.
 #[cycle(statement)]
 fn statement(alloc: Global, left: u8, tokens: &[Lexeme]) -> Result<(Stmt, &[Lexeme]), Stop<'_>>
-    ensures { Gives (λ x. (statement_tree x.0, x.1.now)) result (read (statement left) tokens.now) }
+    ensures { Gives statement_tree result (read (statement left) tokens.now) }
 {
     if left == 0 || begins_simple(tokens) {
         simple_statement(alloc, left, tokens)
@@ -164,7 +165,7 @@ fn nested_statement(
     tokens: &[Lexeme],
 ) -> Result<(Stmt, &[Lexeme]), Stop<'_>>
     requires { 0 < left }
-    ensures { Gives (λ x. (statement_tree x.0, x.1.now)) result (read (nested_statement (expression left) (statement (left - 1))) tokens.now) }
+    ensures { Gives statement_tree result (read (at_level nested_statement left) tokens.now) }
 {
     if is_next(tokens, &[Kind::If]) {
         if_statement(alloc, left, tokens)
@@ -189,7 +190,8 @@ fn enclosed(
     end: Kind,
     tokens: &[Lexeme],
 ) -> Result<(Vec<Stmt>, &[Lexeme]), Stop<'_>>
-    ensures { Gives (λ x. (map statement_tree x.0.items, x.1.now)) result (read (enclosed word (statement below) end) tokens.now) }
+    ensures { GivesEach statement_tree result
+        (read (enclosed word (statement below) end) tokens.now) }
 {
     let (_, rest) = key(tokens, word)?;
     let (statements, rest) = statements_at(alloc, below, rest)?;
@@ -205,7 +207,7 @@ fn otherwise(
     below: u8,
     tokens: &[Lexeme],
 ) -> Result<(Vec<Stmt>, &[Lexeme]), Stop<'_>>
-    ensures { Gives (λ x. (map statement_tree x.0.items, x.1.now)) result (read (otherwise (statement below)) tokens.now) }
+    ensures { GivesEach statement_tree result (read (otherwise (statement below)) tokens.now) }
 {
     if !is_next(tokens, &[Kind::Else]) {
         return Ok((Vec::new(alloc), tokens));
@@ -224,7 +226,7 @@ fn arm(
     tokens: &[Lexeme],
 ) -> Result<((Expr, Vec<Stmt>), &[Lexeme]), Stop<'_>>
     requires { 0 < left }
-    ensures { Gives (λ x. ((expression_tree x.0.0, map statement_tree x.0.1.items), x.1.now)) result (read (arm word (expression left) (statement (left - 1))) tokens.now) }
+    ensures { Gives arm_tree result (read (at_level (arm word) left) tokens.now) }
 {
     let (condition, rest) = announced(alloc, word, left, tokens)?;
     let (_, rest) = key(rest, Kind::Then)?;
@@ -241,7 +243,7 @@ fn arms(
     tokens: &[Lexeme],
 ) -> Result<(Vec<(Expr, Vec<Stmt>)>, &[Lexeme]), Stop<'_>>
     requires { 0 < left }
-    ensures { Gives (λ x. (map (λ a. (expression_tree a.0, map statement_tree a.1.items)) x.0.items, x.1.now)) result (read (arms (expression left) (statement (left - 1))) tokens.now) }
+    ensures { GivesEach arm_tree result (read (at_level arms left) tokens.now) }
 {
     let (first, mut rest) = arm(alloc, Kind::If, left, tokens)?;
     // Most have no `ELSIF`.
@@ -259,7 +261,7 @@ fn arms(
 #[tactic(auto, unfolding(crate::specs::Statement::if_statement))]
 fn if_statement(alloc: Global, left: u8, tokens: &[Lexeme]) -> Result<(Stmt, &[Lexeme]), Stop<'_>>
     requires { 0 < left }
-    ensures { Gives (λ x. (statement_tree x.0, x.1.now)) result (read (if_statement (expression left) (statement (left - 1))) tokens.now) }
+    ensures { Gives statement_tree result (read (at_level if_statement left) tokens.now) }
 {
     let (arms, rest) = arms(alloc, left, tokens)?;
     let (otherwise, rest) = otherwise(alloc, left - 1, rest)?;
@@ -271,7 +273,7 @@ fn if_statement(alloc: Global, left: u8, tokens: &[Lexeme]) -> Result<(Stmt, &[L
 #[cycle(statement)]
 #[tactic(auto, unfolding(crate::specs::Statement::case))]
 fn case(alloc: Global, below: u8, tokens: &[Lexeme]) -> Result<(Vec<Stmt>, &[Lexeme]), Stop<'_>>
-    ensures { Gives (λ x. (map statement_tree x.0.items, x.1.now)) result (read (case (statement below)) tokens.now) }
+    ensures { GivesEach statement_tree result (read (case (statement below)) tokens.now) }
 {
     let rest = labels(tokens)?;
     let (_, rest) = key(rest, Kind::Colon)?;
@@ -282,7 +284,7 @@ fn case(alloc: Global, below: u8, tokens: &[Lexeme]) -> Result<(Vec<Stmt>, &[Lex
 #[cycle(statement)]
 #[tactic(auto, unfolding(crate::specs::Statement::cases))]
 fn cases(alloc: Global, below: u8, tokens: &[Lexeme]) -> Result<(Vec<Stmt>, &[Lexeme]), Stop<'_>>
-    ensures { Gives (λ x. (map statement_tree x.0.items, x.1.now)) result (read (cases (statement below)) tokens.now) }
+    ensures { GivesEach statement_tree result (read (cases (statement below)) tokens.now) }
 {
     let (mut statements, mut rest) = case(alloc, below, tokens)?;
     while begins_label(rest) {
@@ -297,7 +299,7 @@ fn cases(alloc: Global, below: u8, tokens: &[Lexeme]) -> Result<(Vec<Stmt>, &[Le
 #[tactic(auto, unfolding(crate::specs::Statement::case_statement))]
 fn case_statement(alloc: Global, left: u8, tokens: &[Lexeme]) -> Result<(Stmt, &[Lexeme]), Stop<'_>>
     requires { 0 < left }
-    ensures { Gives (λ x. (statement_tree x.0, x.1.now)) result (read (case_statement (expression left) (statement (left - 1))) tokens.now) }
+    ensures { Gives statement_tree result (read (at_level case_statement left) tokens.now) }
 {
     let (selector, rest) = announced(alloc, Kind::Case, left, tokens)?;
     let (_, rest) = key(rest, Kind::Of)?;
@@ -310,7 +312,8 @@ fn case_statement(alloc: Global, left: u8, tokens: &[Lexeme]) -> Result<(Stmt, &
 /// `BY` and an expression, where they are written.
 #[tactic(auto, unfolding(crate::specs::Statement::announced))]
 fn step(alloc: Global, left: u8, tokens: &[Lexeme]) -> Result<(Option<Expr>, &[Lexeme]), Stop<'_>>
-    ensures { Gives (λ x. (option_map expression_tree x.0, x.1.now)) result (read (option (announced By (expression left))) tokens.now) }
+    ensures { Gives (option_map expression_tree) result
+        (read (option (announced By (expression left))) tokens.now) }
 {
     if !is_next(tokens, &[Kind::By]) {
         return Ok((None, tokens));
@@ -323,7 +326,7 @@ fn step(alloc: Global, left: u8, tokens: &[Lexeme]) -> Result<(Option<Expr>, &[L
 #[tactic(auto, unfolding(crate::specs::Statement::for_statement))]
 fn for_statement(alloc: Global, left: u8, tokens: &[Lexeme]) -> Result<(Stmt, &[Lexeme]), Stop<'_>>
     requires { 0 < left }
-    ensures { Gives (λ x. (statement_tree x.0, x.1.now)) result (read (for_statement (expression left) (statement (left - 1))) tokens.now) }
+    ensures { Gives statement_tree result (read (at_level for_statement left) tokens.now) }
 {
     let (_, rest) = key(tokens, Kind::For)?;
     let (variable, rest) = name(rest)?;
@@ -348,7 +351,7 @@ fn while_statement(
     tokens: &[Lexeme],
 ) -> Result<(Stmt, &[Lexeme]), Stop<'_>>
     requires { 0 < left }
-    ensures { Gives (λ x. (statement_tree x.0, x.1.now)) result (read (while_statement (expression left) (statement (left - 1))) tokens.now) }
+    ensures { Gives statement_tree result (read (at_level while_statement left) tokens.now) }
 {
     let (condition, rest) = announced(alloc, Kind::While, left, tokens)?;
     let (body, rest) = enclosed(alloc, Kind::Do, left - 1, Kind::EndWhile, rest)?;
@@ -363,7 +366,7 @@ fn repeat_statement(
     tokens: &[Lexeme],
 ) -> Result<(Stmt, &[Lexeme]), Stop<'_>>
     requires { 0 < left }
-    ensures { Gives (λ x. (statement_tree x.0, x.1.now)) result (read (repeat_statement (expression left) (statement (left - 1))) tokens.now) }
+    ensures { Gives statement_tree result (read (at_level repeat_statement left) tokens.now) }
 {
     let (body, rest) = enclosed(alloc, Kind::Repeat, left - 1, Kind::Until, tokens)?;
     let (condition, rest) = expression_at(alloc, left, rest)?;
@@ -371,9 +374,10 @@ fn repeat_statement(
     Ok((Stmt::Repeat(body, condition), rest))
 }
 
-/// The statements at the outermost level, and the tokens behind them. On a fault the tokens from the first one that does not go on.
+/// The statements at the outermost level, and the tokens behind them. On a fault the tokens from
+/// the first one that does not go on.
 pub fn statements(alloc: Global, tokens: &[Lexeme]) -> Result<(Vec<Stmt>, &[Lexeme]), Stop<'_>>
-    ensures { Gives (λ x. (map statement_tree x.0.items, x.1.now)) result (read (many (statement levels)) tokens.now) }
+    ensures { GivesEach statement_tree result (read (many (statement levels)) tokens.now) }
 {
     statements_at(alloc, LEVELS, tokens)
 }

@@ -61,3 +61,6 @@ expression_step (Parentheses e span) = parentheses (box_value e) span
 
 abbrev pub expression_tree : Expr → Expression
 expression_tree = fold-Expr Expression expression_step
+
+abbrev pub operand_tree : BinaryUse × Expr → BinaryUse × Expression
+operand_tree o = (o.0, expression_tree o.1)

@@ -1,8 +1,10 @@
 -- Statements without where they lie in memory.
-use Rattle.std.specs.Prelude.{List, [], ◌∷◌, map, Option, option_map, box_value}
+use Rattle.std.specs.Prelude.{List, [], ◌∷◌, Vec, map, Option, option_map, box_value}
+use Rattle.std.specs.declared.alloc.Global.{Global}
 use Rattle.fb_text.specs.declared.token.Span.{Span}
 use Rattle.fb_text.specs.declared.name.NameUse.{NameUse}
 use Rattle.fb_tree.specs.Expression.{ReferenceTree, reference_tree, Expression, Expressions, expressions_of, expression_tree}
+use Rattle.fb_tree.specs.declared.expression.Expr.{Expr}
 use Rattle.fb_tree.specs.declared.statement.Stmt.{Stmt}
 use Rattle.fb_tree.specs.declared.statement.Stmt.TheOpen.{Stmt-F, Empty, Assign, Exit, Return, If, Case, For, While, Repeat}
 use Rattle.fb_tree.specs.declared.statement.Stmt.TheFolds.{fold-Stmt}
@@ -55,3 +57,6 @@ statement_step (Repeat body condition) = repeat_loop (statements_of body.items) 
 
 abbrev pub statement_tree : Stmt → Statement
 statement_tree = fold-Stmt Statement statement_step
+
+abbrev pub arm_tree : Expr × Vec Stmt Global → Expression × List Statement
+arm_tree a = (expression_tree a.0, map statement_tree a.1.items)

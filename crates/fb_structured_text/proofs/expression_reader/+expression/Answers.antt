@@ -1,16 +1,15 @@
-use Rattle.std.proofs.Common.{◌≡◌, ◌+◌, ◌∷◌, [], true, false, Ok, List, map, drop, ap, sym, refl, ◌∙◌, arith}
+use Rattle.std.proofs.Common.{◌≡◌, ◌+◌, ◌∷◌, [], true, false, Ok, List, map, ap, sym, refl, ◌∙◌, arith}
 use Rattle.std.proofs.lemmas.Result.{err_from_is_err_and}
 use Rattle.fb_forms.specs.Lexemes.declared.kind.Kind.{Kind}
 use Rattle.fb_forms.specs.Lexemes.declared.kind.Kind.TheVariants.{Comma}
-use Rattle.fb_tree.specs.declared.expression.BinaryUse.{BinaryUse}
 use Rattle.fb_tree.specs.declared.expression.Expr.{Expr}
 use Rattle.fb_tree.specs.declared.expression.Expr.TheOpen.{Row as RowF}
 use denote.Hole.Carrier.{roll}
 use Rattle.fb_tree.specs.declared.expression.Expr.TheViews.{roll-Expr}
 use Rattle.fb_tree.specs.declared.expression.Expr.TheFolds.{fold-roll-Expr}
-use Rattle.fb_tree.specs.Expression.{Expression, row_expression, operands_of, expression_step, expression_tree}
-use Rattle.fb_structured_text.specs.Expression.{expression, expressions, operand, primary, rows, unary}
-use Rattle.fb_structured_text.specs.Operators.{operators, strengths}
+use Rattle.fb_tree.specs.Expression.{Expression, row_expression, operand_tree, operands_of, expression_step, expression_tree}
+use Rattle.fb_structured_text.specs.Expression.{expression, expressions, operand, primary, row_at, unary}
+use Rattle.fb_structured_text.specs.Operators.{operators}
 use Rattle.fb_structured_text.proofs.Rows.{begins-operand, level_passed, level_read, level_fails, rows_first_fails, rows_none, expression_is, primary_reference, primary_parentheses}
 use Rattle.fb_forms.specs.Form.{many}
 use Rattle.fb_forms.specs.Reading.{is_next, read}
@@ -37,38 +36,35 @@ expressions-loop-alloc-preserved t c =
     push_more expression_tree (further (expression c.args.below)) (Comma ∷ []) c.loop-alloc.expressions.items c.push-in-loop-alloc.new.self.items c.in_ok-next.next c.loop-alloc.rest.now c.in_ok-next.behind.now (read (expressions (expression c.args.below)) c.args.tokens.now)
     (record { filled = refl; first = refl }) (sym c.is_next.ensures ∙ c.loop-alloc-test.true) c.in_ok-next.ensures c.in_ok-push-2.ensures.items c.loop-alloc.invariant
 
-abbrev pair_tree : BinaryUse × Expr → BinaryUse × Expression
-pair_tree o = (o.0, expression_tree o.1)
-
 pub operands-loop-alloc-smaller : goal.operands-loop-alloc-smaller
 operands-loop-alloc-smaller t c =
     let kinds = operators c.args.strength in
-    let x = rows (drop (c.args.strength + 1) strengths) (unary (primary c.args.left)) in
-    shorter (operand kinds x) c.loop-alloc.rest.now (pair_tree c.in_ok-next.next) c.in_ok-next.behind.now (begins-operand kinds x).filled c.in_ok-next.ensures
+    let x = row_at (c.args.strength + 1) c.args.left in
+    shorter (operand kinds x) c.loop-alloc.rest.now (operand_tree c.in_ok-next.next) c.in_ok-next.behind.now (begins-operand kinds x).filled c.in_ok-next.ensures
 
 pub operands-loop-alloc-preserved : goal.operands-loop-alloc-preserved
 operands-loop-alloc-preserved t c =
     let kinds = operators c.args.strength in
-    let x = rows (drop (c.args.strength + 1) strengths) (unary (primary c.args.left)) in
+    let x = row_at (c.args.strength + 1) c.args.left in
     let next : is_next kinds c.loop-alloc.rest.now ≡ true = ap (λ (k : List Kind). is_next k c.loop-alloc.rest.now) (sym c.operators.ensures) ∙ sym c.is_next.ensures ∙ c.loop-alloc-test.true in
-    push_more pair_tree (operand kinds x) kinds c.loop-alloc.operands.items c.push.new.self.items c.in_ok-next.next c.loop-alloc.rest.now c.in_ok-next.behind.now (read (many (operand kinds x)) c.args.tokens.now)
+    push_more operand_tree (operand kinds x) kinds c.loop-alloc.operands.items c.push.new.self.items c.in_ok-next.next c.loop-alloc.rest.now c.in_ok-next.behind.now (read (many (operand kinds x)) c.args.tokens.now)
     (begins-operand kinds x) next c.in_ok-next.ensures c.in_ok-push.ensures.items c.loop-alloc.invariant
 
 pub operands-returns-in_err-next : goal.operands-returns-in_err-next
 operands-returns-in_err-next t c =
     let p = err_from_is_err_and c.from_residual-in_err-next.result c.from_residual-in_err-next.ensures.1 in
     let kinds = operators c.args.strength in
-    let x = rows (drop (c.args.strength + 1) strengths) (unary (primary c.args.left)) in
+    let x = row_at (c.args.strength + 1) c.args.left in
     let next : is_next kinds c.loop-alloc.rest.now ≡ true = ap (λ (k : List Kind). is_next k c.loop-alloc.rest.now) (sym c.operators.ensures) ∙ sym c.is_next.ensures ∙ c.loop-alloc-test.true in
-    rw (p.1, p.2) (push_fails (operand kinds x) kinds (map pair_tree c.loop-alloc.operands.items) c.loop-alloc.rest.now c.in_err-next.field-0.0 (read (many (operand kinds x)) c.args.tokens.now)
+    rw (p.1, p.2) (push_fails (operand kinds x) kinds (map operand_tree c.loop-alloc.operands.items) c.loop-alloc.rest.now c.in_err-next.field-0.0 (read (many (operand kinds x)) c.args.tokens.now)
     (begins-operand kinds x) next c.in_err-next.ensures c.loop-alloc.invariant)
 
 pub operands-returns : goal.operands-returns
 operands-returns t c =
     let kinds = operators c.args.strength in
-    let x = rows (drop (c.args.strength + 1) strengths) (unary (primary c.args.left)) in
+    let x = row_at (c.args.strength + 1) c.args.left in
     let next : is_next kinds c.loop-alloc.rest.now ≡ false = ap (λ (k : List Kind). is_next k c.loop-alloc.rest.now) (sym c.operators.ensures) ∙ sym c.is_next.ensures ∙ c.loop-alloc-test.false in
-    push_done (operand kinds x) kinds (map pair_tree c.loop-alloc.operands.items) c.loop-alloc.rest.now (read (many (operand kinds x)) c.args.tokens.now) (begins-operand kinds x) next c.loop-alloc.invariant
+    push_done (operand kinds x) kinds (map operand_tree c.loop-alloc.operands.items) c.loop-alloc.rest.now (read (many (operand kinds x)) c.args.tokens.now) (begins-operand kinds x) next c.loop-alloc.invariant
 
 pub row-returns-in_err-value : goal.row-returns-in_err-value
 row-returns-in_err-value t c =
@@ -88,13 +84,13 @@ row-returns-in_err-operands t c =
 pub row-loop-level-preserved-then-next_strength-level : goal.row-loop-level-preserved-then-next_strength-level
 unfolding roll-Expr roll
 row-loop-level-preserved-then-next_strength-level t c =
-    let read_on = level_read c.loop-level.level (unary (primary c.args.left)) c.args.tokens.now (expression_tree c.loop-level.value) c.loop-level.rest.now (map pair_tree c.in_ok-operands.operands.items) c.in_ok-operands.behind.now
+    let read_on = level_read c.loop-level.level (unary (primary c.args.left)) c.args.tokens.now (expression_tree c.loop-level.value) c.loop-level.rest.now (map operand_tree c.in_ok-operands.operands.items) c.in_ok-operands.behind.now
     (omega arith) c.loop-level.invariant.high c.loop-level.invariant.so_far (sym c.next_strength.ensures ∙ c.if-next_strength-level.true) c.in_ok-operands.ensures in
     record {
       low = omega arith;
       high = omega arith;
       so_far = read_on
-          ∙ ap (λ (z : Expr). Ok (row_expression (expression_tree z) (operands_of (map pair_tree c.in_ok-operands.operands.items)), c.in_ok-operands.behind.now)) (sym c.in_ok-new.ensures.ok)
+          ∙ ap (λ (z : Expr). Ok (row_expression (expression_tree z) (operands_of (map operand_tree c.in_ok-operands.operands.items)), c.in_ok-operands.behind.now)) (sym c.in_ok-new.ensures.ok)
           ∙ ap (λ (z : Expression). Ok (z, c.in_ok-operands.behind.now)) (sym (fold-roll-Expr Expression expression_step (RowF c.in_ok-new.field-0 c.in_ok-operands.operands)));
     }
 

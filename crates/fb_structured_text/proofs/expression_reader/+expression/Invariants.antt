@@ -1,7 +1,6 @@
-use Rattle.std.proofs.Common.{◌≡◌, ◌≤◌, ◌+◌, ◌-◌, ◌*◌, Ok, length, map, drop}
-use Rattle.fb_tree.specs.Expression.{expression_tree}
-use Rattle.fb_structured_text.specs.Expression.{expression, expressions, operand, primary, rows, unary}
-use Rattle.fb_structured_text.specs.Operators.{operators, strengths}
+use Rattle.std.proofs.Common.{◌≡◌, ◌≤◌, ◌+◌, ◌-◌, ◌*◌, Ok, length, map}
+use Rattle.fb_tree.specs.Expression.{expression_tree, operand_tree}
+use Rattle.fb_structured_text.specs.Expression.{expression, expressions, operand_at, row_at}
 use Rattle.fb_forms.specs.Form.{many}
 use Rattle.fb_forms.specs.Reading.{read}
 use Rattle.fb_forms.specs.Words.{further}
@@ -20,7 +19,7 @@ abbrev pub invariant-row-loop-level : goal.invariant-row-loop-level
 invariant-row-loop-level l = record {
   low : l.strength ≤ l.level;
   high : l.level ≤ 8;
-  so_far : read (rows (drop l.level strengths) (unary (primary l.left))) l.tokens ≡ Ok (expression_tree l.value, l.rest);
+  so_far : read (row_at l.level l.left) l.tokens ≡ Ok (expression_tree l.value, l.rest);
 }
 
 abbrev pub decreases-row-loop-level : goal.decreases-row-loop-level
@@ -67,8 +66,8 @@ decreases-expressions-loop-alloc l = length l.rest
 
 abbrev pub invariant-operands-loop-alloc : goal.invariant-operands-loop-alloc
 invariant-operands-loop-alloc l =
-    let several = many (operand (operators l.strength) (rows (drop (l.strength + 1) strengths) (unary (primary l.left)))) in
-    with_front (map (λ o. (o.0, expression_tree o.1)) l.operands.items) (read several l.rest) ≡ read several l.tokens
+    let several = many (operand_at l.strength l.left) in
+    with_front (map operand_tree l.operands.items) (read several l.rest) ≡ read several l.tokens
 
 abbrev pub decreases-operands-loop-alloc : goal.decreases-operands-loop-alloc
 decreases-operands-loop-alloc l = length l.rest

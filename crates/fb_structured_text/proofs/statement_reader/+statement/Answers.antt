@@ -1,22 +1,17 @@
-use Rattle.std.proofs.Common.{◌≡◌, ◌-◌, ◌∷◌, [], true≢false, eq-eqb, List, map, ap, sym, refl, ◌∙◌, arith}
+use Rattle.std.proofs.Common.{◌≡◌, ◌-◌, ◌∷◌, [], true≢false, eq-eqb, map, ap, sym, refl, ◌∙◌, arith}
 use Rattle.std.proofs.lemmas.List.{map-append}
 use Rattle.std.proofs.lemmas.Simd.{map-map}
 use Rattle.std.proofs.lemmas.Result.{err_from_is_err_and}
-use Rattle.std.specs.declared.alloc.Global.{Global}
-use Rattle.std.proofs.Common.{Vec}
 use Rattle.fb_forms.specs.Lexemes.declared.kind.Kind.TheVariants.{Elsif}
 use Rattle.fb_forms.specs.Form.{many}
 use Rattle.fb_forms.specs.Reading.{first, read}
 use Rattle.fb_forms.proofs.Loops.{shorter, push_more, push_fails, push_done}
-use Rattle.fb_tree.specs.declared.expression.Expr.{Expr}
-use Rattle.fb_tree.specs.declared.statement.Stmt.{Stmt}
 use Rattle.fb_tree.specs.declared.statement.Stmt as Stmt
 use Rattle.fb_tree.specs.declared.statement.Stmt.TheOpen.{If as IfF}
 use Rattle.fb_tree.specs.declared.statement.Stmt.TheViews.{roll-Stmt}
 use Rattle.fb_tree.specs.declared.statement.Stmt.TheFolds.{fold-roll-Stmt}
-use Rattle.fb_tree.specs.Expression.{Expression, expression_tree}
 use denote.Hole.Carrier.{roll}
-use Rattle.fb_tree.specs.Statement.{Statement, choice, arms_of, statements_of, statement_step, statement_tree}
+use Rattle.fb_tree.specs.Statement.{Statement, arm_tree, choice, arms_of, statements_of, statement_step, statement_tree}
 use Rattle.fb_structured_text.specs.Expression.{expression}
 use Rattle.fb_structured_text.specs.Statement.{arm, arms, case, cases, if_statement, nested_statement, simple_statement, statement}
 use Rattle.fb_structured_text.proofs.Bodies.{begins-statement, begins-arm, begins-case, cases_more, cases_fails, cases_done, statement_zero, statement_simple, statement_nested, nested_if, nested_case, nested_for, nested_while, nested_repeat}
@@ -31,9 +26,6 @@ pub statements_at-loop-alloc-preserved : goal.statements_at-loop-alloc-preserved
 statements_at-loop-alloc-preserved t c =
     push_more statement_tree (statement c.args.left) (first (statement c.args.left)) c.loop-alloc.statements.items c.push.new.self.items c.in_ok-next.next c.loop-alloc.rest.now c.in_ok-next.behind.now (read (many (statement c.args.left)) c.args.tokens.now)
     (begins-statement c.args.left) (sym c.begins_statement.ensures ∙ c.loop-alloc-test.true) c.in_ok-next.ensures c.in_ok-push.ensures.items c.loop-alloc.invariant
-
-abbrev arm_tree : Expr × Vec Stmt Global → Expression × List Statement
-arm_tree a = (expression_tree a.0, map statement_tree a.1.items)
 
 pub arms-loop-alloc-smaller : goal.arms-loop-alloc-smaller
 arms-loop-alloc-smaller t c =

@@ -3,8 +3,7 @@ use Rattle.fb_forms.specs.Lexemes.declared.kind.Kind.TheVariants.{Elsif}
 use Rattle.fb_forms.specs.Form.{many}
 use Rattle.fb_forms.specs.Reading.{read}
 use Rattle.fb_forms.specs.Repetition.{with_front}
-use Rattle.fb_tree.specs.Expression.{expression_tree}
-use Rattle.fb_tree.specs.Statement.{statement_tree}
+use Rattle.fb_tree.specs.Statement.{arm_tree, statement_tree}
 use Rattle.fb_structured_text.specs.Expression.{expression}
 use Rattle.fb_structured_text.specs.Statement.{arm, arms, case, cases, statement}
 use Rattle.fb_structured_text.proofs.Bodies.{flat}
@@ -63,7 +62,7 @@ abbrev pub invariant-arms-loop-alloc : goal.invariant-arms-loop-alloc
 invariant-arms-loop-alloc l =
     let e = expression l.left in
     let inner = statement (l.left - 1) in
-    with_front (map (λ a. (expression_tree a.0, map statement_tree a.1.items)) l.arms.items) (read (many (arm Elsif e inner)) l.rest) ≡ read (arms e inner) l.tokens
+    with_front (map arm_tree l.arms.items) (read (many (arm Elsif e inner)) l.rest) ≡ read (arms e inner) l.tokens
 
 abbrev pub decreases-arms-loop-alloc : goal.decreases-arms-loop-alloc
 decreases-arms-loop-alloc l = length l.rest
