@@ -26,7 +26,7 @@ use Rattle.fb_faults.specs.Expr.Demands.{Demand, IsUnmet, assigns, chart_demands
 use Rattle.fb_faults.specs.Ecc.Algorithms.{algorithm_fault, algorithm_faults, algorithm_names, run_faults}
 use Rattle.fb_faults.specs.Ecc.Charts.{chart_faults, chart_faults_in}
 use Rattle.fb_faults.specs.Ecc.Events.{event_fault, event_faults, event_in, is_event, sent_faults, span_from, trigger_faults, written_fault}
-use Rattle.fb_faults.specs.Ecc.States.{end_faults, state_fault, state_faults, state_names}
+use Rattle.fb_faults.specs.Ecc.States.{transition_faults, state_fault, state_faults, state_names}
 use Rattle.fb_faults.specs.Mappings.{declared_mapping_faults}
 use Rattle.fb_faults.proofs.Iface.Members.{contains_nothing, contains_single, in_unless, in_written, origin_in_flat_map, origin_in_map}
 use Rattle.fb_expr.proofs.DemandLemmas.{faults_unmet}
@@ -169,7 +169,7 @@ state_code listed name f c =
 states_code : (chart : ChartTree) (f : Fault) → Contains (state_faults chart) f → IsCodeOf Charts f.code
 states_code chart f c =
     let listed = has_name (state_names chart) in
-    let t = origin_in_flat_map (end_faults listed) chart.transitions f c in
+    let t = origin_in_flat_map (transition_faults listed) chart.transitions f c in
     by t.origin (Contains-append_cases (state_fault listed t.origin.source) (state_fault listed t.origin.destination) f t.has)
   where
     by : (t : TransitionTree) → Contains (state_fault (has_name (state_names chart)) t.source) f ⊎ Contains (state_fault (has_name (state_names chart)) t.destination) f → IsCodeOf Charts f.code
