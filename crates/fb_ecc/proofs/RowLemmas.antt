@@ -1,5 +1,5 @@
 -- Each code of charts, by what its list of faults has.
-use Rattle.std.proofs.Common.{◌≡◌, ◌≢◌, ℕ, Bool, true, false, List, [], ◌∷◌, ◌++◌, Option, Some, None, map, refl, sym, ap, ◌∙◌, subst, true≢false, ◌⊎◌, inl, inr}
+use Rattle.std.proofs.Common.{◌≡◌, ◌≢◌, ℕ, Bool, true, false, List, [], ◌∷◌, ◌++◌, Option, Some, None, map, refl, sym, ap, ◌∙◌, subst, true≢false, ◌⊎◌, inl, inr, if◌then◌else◌}
 use Rattle.std.specs.List.{Contains, flat_map}
 use Rattle.std.specs.Option.{option_map_or}
 use Rattle.std.proofs.lemmas.List.Elements.{Contains-append_left, Contains-append_right, Contains-append_cases}
@@ -24,9 +24,11 @@ use Rattle.fb_iface.specs.Scope.{Scope, instance_ports, scope_of_type}
 use Rattle.fb_iface.proofs.Members.{contains_cases, contains_flat_map, contains_here, contains_later, contains_map, contains_nothing, contains_single, in_unless, in_written, origin_in_flat_map, origin_in_map, unless, written}
 use Rattle.fb_ecc.specs.Algorithms.{algorithm_fault, algorithm_faults, algorithm_names, run_faults}
 use Rattle.fb_ecc.specs.Charts.{chart_faults, chart_faults_in}
-use Rattle.fb_ecc.specs.Events.{adapter_has, event_fault, event_faults, event_in, has_behind, has_event, is_event, is_on, opposite, sent_faults, side_through, span_from, trigger_faults, written_fault}
-use Rattle.fb_ecc.specs.Rows.{AlgorithmsAreDeclared, EventsAreKnown, HasUnknownAlgorithm, HasUnknownSent, HasUnknownState, HasUnknownTrigger, IsEventOf, StandsForEvent, StatesAreListed, own, of_plug, of_socket, of_unusable_plug, of_unusable_socket}
-use Rattle.fb_ecc.specs.States.{end_faults, state_fault, state_faults, state_names}
+use Rattle.fb_ecc.specs.declared.events.EventTarget.{EventTarget}
+use Rattle.fb_ecc.specs.declared.events.EventTarget.TheVariants.{Found, Unknown, NotJudged}
+use Rattle.fb_ecc.specs.Events.{end_event_faults, event_among, event_behind, event_faults, event_in, event_named, event_of_adapter, event_on, opposite, sent_faults, side_through, span_from, target_faults, trigger_faults, written_fault}
+use Rattle.fb_ecc.specs.Rows.{AlgorithmsAreDeclared, EventsAreKnown, HasUnknownAlgorithm, HasUnknownSent, HasUnknownState, HasUnknownTrigger, IsEventOf, IsNoEventOf, IsNotJudged, StandsForEvent, StatesAreListed, own, of_plug, of_socket}
+use Rattle.fb_ecc.specs.States.{transition_faults, state_fault, state_faults, state_names}
 use Rattle.fb_iface.proofs.NameLemmas.{none_named, not_named}
 
 -- states
@@ -50,12 +52,12 @@ in_end chart t fault among (inr h) =
 state_origin : (chart : ChartTree) (fault : Fault) → Contains (state_faults chart) fault → StateOrigin chart fault
 state_origin chart fault c =
     let listed = has_name (state_names chart) in
-    let t = origin_in_flat_map (end_faults listed) chart.transitions fault c in
+    let t = origin_in_flat_map (transition_faults listed) chart.transitions fault c in
     in_end chart t.origin fault t.among (Contains-append_cases (state_fault listed t.origin.source) (state_fault listed t.origin.destination) fault t.has)
 
 state_reported : (chart : ChartTree) (t : TransitionTree) (state : NameUse) → Contains chart.transitions t → Contains (t.source ∷ t.destination ∷ []) state → has_name (state_names chart) state.name ≡ false → Contains (state_faults chart) (fault_at StateUnknown state)
 state_reported chart t state among c fails =
-    contains_flat_map (end_faults listed) chart.transitions t (fault_at StateUnknown state) among (by (contains_cases t.source (t.destination ∷ []) state c))
+    contains_flat_map (transition_faults listed) chart.transitions t (fault_at StateUnknown state) among (by (contains_cases t.source (t.destination ∷ []) state c))
   where
     listed : List ℕ → Bool
     listed = has_name (state_names chart)
@@ -63,7 +65,7 @@ state_reported chart t state among c fails =
     one : Contains (state_fault listed state) (fault_at StateUnknown state)
     one = unless (listed state.name) (fault_at StateUnknown state) fails
 
-    by : (t.source ≡ state) ⊎ Contains (t.destination ∷ []) state → Contains (end_faults listed t) (fault_at StateUnknown state)
+    by : (t.source ≡ state) ⊎ Contains (t.destination ∷ []) state → Contains (transition_faults listed t) (fault_at StateUnknown state)
     by (inl e) = Contains-append_left (state_fault listed t.source) (state_fault listed t.destination) _ (subst (λ (n : NameUse). Contains (state_fault listed n) (fault_at StateUnknown state)) (sym e) one)
     by (inr d) = Contains-append_right (state_fault listed t.source) (state_fault listed t.destination) _ (subst (λ (n : NameUse). Contains (state_fault listed n) (fault_at StateUnknown state)) (sym (contains_single t.destination state d)) one)
 
@@ -128,63 +130,128 @@ same_side-itself : (a : Side) → same_side a a ≡ true
 same_side-itself Input = refl
 same_side-itself Output = refl
 
-stands_for_event : (side : Side) (ports : Meanings) (name : List ℕ) → has_event side ports name ≡ true → StandsForEvent ports name side
+-- which target it is
+
+abbrev is_found : EventTarget → Bool
+is_found Found = true
+is_found Unknown = false
+is_found NotJudged = false
+
+abbrev is_unknown : EventTarget → Bool
+is_unknown Found = false
+is_unknown Unknown = true
+is_unknown NotJudged = false
+
+abbrev is_not_judged : EventTarget → Bool
+is_not_judged Found = false
+is_not_judged Unknown = false
+is_not_judged NotJudged = true
+
+stands_for_event : (side : Side) (ports : Meanings) (name : List ℕ) → event_among side ports name ≡ Found → StandsForEvent ports name side
 stands_for_event side ports name e = by (stands_for ports.events name) refl e
   where
-    by : (o : Option DeclaredEvent) → stands_for ports.events name ≡ o → is_on side o ≡ true → StandsForEvent ports name side
-    by None g h = absurd (true≢false (sym h))
-    by (Some event) g h = record { event = event; first = g; on_side = same_side-exact event.side side h }
+    judged : (event : DeclaredEvent) → stands_for ports.events name ≡ Some event → (same : Bool) → same_side event.side side ≡ same → (if same then Found else Unknown) ≡ Found → StandsForEvent ports name side
+    judged event g true h e = record { event = event; first = g; on_side = same_side-exact event.side side h }
+    judged event g false h e = absurd (true≢false (sym (ap is_found e)))
 
-event_stands : (side : Side) (ports : Meanings) (name : List ℕ) → StandsForEvent ports name side → has_event side ports name ≡ true
-event_stands side ports name s = ap (is_on side) s.first ∙ ap (λ a. same_side a side) s.on_side ∙ same_side-itself side
+    by : (o : Option DeclaredEvent) → stands_for ports.events name ≡ o → event_on side o ≡ Found → StandsForEvent ports name side
+    by None g h = absurd (true≢false (sym (ap is_found h)))
+    by (Some event) g h = judged event g (same_side event.side side) refl h
+
+event_stands : (side : Side) (ports : Meanings) (name : List ℕ) → StandsForEvent ports name side → event_among side ports name ≡ Found
+event_stands side ports name s =
+    ap (event_on side) s.first
+    ∙ ap (λ a. if same_side a side then Found else Unknown) s.on_side
+    ∙ ap (λ b. if b then Found else Unknown) (same_side-itself side)
+
+-- ports that are known are judged
+judged_among : (side : Side) (ports : Meanings) (name : List ℕ) → event_among side ports name ≢ NotJudged
+judged_among side ports name e = by (stands_for ports.events name) e
+  where
+    judged : (same : Bool) → (if same then Found else Unknown) ≢ NotJudged
+    judged true h = true≢false (ap is_found h)
+    judged false h = true≢false (ap is_unknown h)
+
+    by : (o : Option DeclaredEvent) → event_on side o ≢ NotJudged
+    by None h = true≢false (ap is_unknown h)
+    by (Some event) h = judged (same_side event.side side) h
 
 module _ (scope : Scope) (side : Side) where
-  known_behind : (p X : NameUse) → is_event scope side p (Some X) ≡ true → IsEventOf scope side p (Some X)
-  known_behind p X e = by (stands_for scope.own.instances p.name) refl e
+  -- what a port of a plug or socket is, by its adapter
+  behind : (p X : NameUse) (i : DeclaredInstance) (role : Role) (ports : Option Meanings) → stands_for scope.own.instances p.name ≡ Some i → i.role ≡ role → instance_ports scope i ≡ ports → event_named scope side p (Some X) ≡ option_map_or (event_of_adapter ports X.name) (side_through role side) Unknown
+  behind p X i role ports is r g =
+      ap (λ o. event_behind scope side o X.name) is
+      ∙ (λ k. option_map_or (event_of_adapter (g k) X.name) (side_through (r k) side) Unknown)
+
+  found_behind : (p X : NameUse) → event_named scope side p (Some X) ≡ Found → IsEventOf scope side p (Some X)
+  found_behind p X e = by (stands_for scope.own.instances p.name) refl e
     where
-      through_plug : (i : DeclaredInstance) → stands_for scope.own.instances p.name ≡ Some i → i.role ≡ Plug → (ports : Option Meanings) → instance_ports scope i ≡ ports → adapter_has ports X.name side ≡ true → IsEventOf scope side p (Some X)
-      through_plug i is plug None g h = of_unusable_plug i is plug g
+      through_plug : (i : DeclaredInstance) → stands_for scope.own.instances p.name ≡ Some i → i.role ≡ Plug → (ports : Option Meanings) → instance_ports scope i ≡ ports → event_of_adapter ports X.name side ≡ Found → IsEventOf scope side p (Some X)
+      through_plug i is plug None g h = absurd (true≢false (sym (ap is_found h)))
       through_plug i is plug (Some ports) g h = of_plug i ports is plug g (stands_for_event side ports X.name h)
 
-      through_socket : (i : DeclaredInstance) → stands_for scope.own.instances p.name ≡ Some i → i.role ≡ Socket → (ports : Option Meanings) → instance_ports scope i ≡ ports → adapter_has ports X.name (opposite side) ≡ true → IsEventOf scope side p (Some X)
-      through_socket i is socket None g h = of_unusable_socket i is socket g
+      through_socket : (i : DeclaredInstance) → stands_for scope.own.instances p.name ≡ Some i → i.role ≡ Socket → (ports : Option Meanings) → instance_ports scope i ≡ ports → event_of_adapter ports X.name (opposite side) ≡ Found → IsEventOf scope side p (Some X)
+      through_socket i is socket None g h = absurd (true≢false (sym (ap is_found h)))
       through_socket i is socket (Some ports) g h = of_socket i ports is socket g (stands_for_event (opposite side) ports X.name h)
 
-      by_role : (i : DeclaredInstance) → stands_for scope.own.instances p.name ≡ Some i → (role : Role) → i.role ≡ role → option_map_or (adapter_has (instance_ports scope i) X.name) (side_through role side) false ≡ true → IsEventOf scope side p (Some X)
+      by_role : (i : DeclaredInstance) → stands_for scope.own.instances p.name ≡ Some i → (role : Role) → i.role ≡ role → option_map_or (event_of_adapter (instance_ports scope i) X.name) (side_through role side) Unknown ≡ Found → IsEventOf scope side p (Some X)
       by_role i is Plug r h = through_plug i is r (instance_ports scope i) refl h
       by_role i is Socket r h = through_socket i is r (instance_ports scope i) refl h
-      by_role i is Block r h = absurd (true≢false (sym h))
-      by_role i is Subapplication r h = absurd (true≢false (sym h))
+      by_role i is Block r h = absurd (true≢false (sym (ap is_found h)))
+      by_role i is Subapplication r h = absurd (true≢false (sym (ap is_found h)))
 
-      by : (o : Option DeclaredInstance) → stands_for scope.own.instances p.name ≡ o → has_behind scope side o X.name ≡ true → IsEventOf scope side p (Some X)
-      by None g h = absurd (true≢false (sym h))
+      by : (o : Option DeclaredInstance) → stands_for scope.own.instances p.name ≡ o → event_behind scope side o X.name ≡ Found → IsEventOf scope side p (Some X)
+      by None g h = absurd (true≢false (sym (ap is_found h)))
       by (Some i) g h = by_role i g i.role refl h
 
-  known : (name : NameUse) (port : Option NameUse) → is_event scope side name port ≡ true → IsEventOf scope side name port
-  known name None e = own (stands_for_event side scope.own name.name e)
-  known name (Some X) e = known_behind name X e
-
-  behind : (p X : NameUse) (i : DeclaredInstance) (role : Role) (ports : Option Meanings) → stands_for scope.own.instances p.name ≡ Some i → i.role ≡ role → instance_ports scope i ≡ ports → is_event scope side p (Some X) ≡ option_map_or (adapter_has ports X.name) (side_through role side) false
-  behind p X i role ports is r g =
-      ap (λ o. has_behind scope side o X.name) is
-      ∙ (λ k. option_map_or (adapter_has (g k) X.name) (side_through (r k) side) false)
-
-  told : (name : NameUse) (port : Option NameUse) → IsEventOf scope side name port → is_event scope side name port ≡ true
-  told name None (own s) = event_stands side scope.own name.name s
-  told p (Some X) (of_plug i ports is plug g s) = behind p X i Plug (Some ports) is plug g ∙ event_stands side ports X.name s
-  told p (Some X) (of_socket i ports is socket g s) = behind p X i Socket (Some ports) is socket g ∙ event_stands (opposite side) ports X.name s
-  told p (Some X) (of_unusable_plug i is plug g) = behind p X i Plug None is plug g
-  told p (Some X) (of_unusable_socket i is socket g) = behind p X i Socket None is socket g
-
-  unknown_event : (name : NameUse) (port : Option NameUse) → is_event scope side name port ≡ false → ¬ IsEventOf scope side name port
-  unknown_event name port e is = true≢false (sym (told name port is) ∙ e)
-
-  no_event : (name : NameUse) (port : Option NameUse) → ¬ IsEventOf scope side name port → is_event scope side name port ≡ false
-  no_event name port fails = by (is_event scope side name port) refl
+  not_judged_behind : (p X : NameUse) → event_named scope side p (Some X) ≡ NotJudged → IsNotJudged scope p (Some X)
+  not_judged_behind p X e = by (stands_for scope.own.instances p.name) refl e
     where
-      by : (b : Bool) → is_event scope side name port ≡ b → b ≡ false
-      by true e = absurd (fails (known name port e))
-      by false e = refl
+      at_adapter : (i : DeclaredInstance) → stands_for scope.own.instances p.name ≡ Some i → i.role ≡ Plug ⊎ i.role ≡ Socket → (wanted : Side) (ports : Option Meanings) → instance_ports scope i ≡ ports → event_of_adapter ports X.name wanted ≡ NotJudged → IsNotJudged scope p (Some X)
+      at_adapter i is adapter wanted None g h = record { event = X; behind = refl; instance = i; first = is; at_adapter = adapter; unusable = g }
+      at_adapter i is adapter wanted (Some ports) g h = absurd (judged_among wanted ports X.name h)
+
+      by_role : (i : DeclaredInstance) → stands_for scope.own.instances p.name ≡ Some i → (role : Role) → i.role ≡ role → option_map_or (event_of_adapter (instance_ports scope i) X.name) (side_through role side) Unknown ≡ NotJudged → IsNotJudged scope p (Some X)
+      by_role i is Plug r h = at_adapter i is (inl r) side (instance_ports scope i) refl h
+      by_role i is Socket r h = at_adapter i is (inr r) (opposite side) (instance_ports scope i) refl h
+      by_role i is Block r h = absurd (true≢false (ap is_unknown h))
+      by_role i is Subapplication r h = absurd (true≢false (ap is_unknown h))
+
+      by : (o : Option DeclaredInstance) → stands_for scope.own.instances p.name ≡ o → event_behind scope side o X.name ≡ NotJudged → IsNotJudged scope p (Some X)
+      by None g h = absurd (true≢false (ap is_unknown h))
+      by (Some i) g h = by_role i g i.role refl h
+
+  found : (name : NameUse) (port : Option NameUse) → event_named scope side name port ≡ Found → IsEventOf scope side name port
+  found name None e = own (stands_for_event side scope.own name.name e)
+  found name (Some X) e = found_behind name X e
+
+  not_judged : (name : NameUse) (port : Option NameUse) → event_named scope side name port ≡ NotJudged → IsNotJudged scope name port
+  not_judged name None e = absurd (judged_among side scope.own name.name e)
+  not_judged name (Some X) e = not_judged_behind name X e
+
+  told_found : (name : NameUse) (port : Option NameUse) → IsEventOf scope side name port → event_named scope side name port ≡ Found
+  told_found name None (own s) = event_stands side scope.own name.name s
+  told_found p (Some X) (of_plug i ports is plug g s) = behind p X i Plug (Some ports) is plug g ∙ event_stands side ports X.name s
+  told_found p (Some X) (of_socket i ports is socket g s) = behind p X i Socket (Some ports) is socket g ∙ event_stands (opposite side) ports X.name s
+
+  told_not_judged : (name : NameUse) (port : Option NameUse) → IsNotJudged scope name port → event_named scope side name port ≡ NotJudged
+  told_not_judged name port n = ap (event_named scope side name) n.behind ∙ by n.at_adapter
+    where
+      by : n.instance.role ≡ Plug ⊎ n.instance.role ≡ Socket → event_named scope side name (Some n.event) ≡ NotJudged
+      by (inl plug) = behind name n.event n.instance Plug None n.first plug n.unusable
+      by (inr socket) = behind name n.event n.instance Socket None n.first socket n.unusable
+
+  unknown_event : (event : End) → event_named scope side event.name event.port ≡ Unknown → IsNoEventOf scope side event
+  unknown_event event e =
+      (λ is. true≢false (sym (ap is_unknown (sym (told_found event.name event.port is) ∙ e))), λ is. true≢false (sym (ap is_unknown (sym (told_not_judged event.name event.port is) ∙ e))))
+
+  no_event : (event : End) → IsNoEventOf scope side event → event_named scope side event.name event.port ≡ Unknown
+  no_event event fails = by (event_named scope side event.name event.port) refl
+    where
+      by : (t : EventTarget) → event_named scope side event.name event.port ≡ t → t ≡ Unknown
+      by Found e = absurd (fails.0 (found event.name event.port e))
+      by Unknown e = refl
+      by NotJudged e = absurd (fails.1 (not_judged event.name event.port e))
 
 abbrev event_fault_at : End → Fault
 event_fault_at e = record { code = EventUnknown; span = span_from e.name.span e.port }
@@ -192,18 +259,23 @@ event_fault_at e = record { code = EventUnknown; span = span_from e.name.span e.
 record EventOrigin (scope : Scope) (side : Side) (o : Option End) (fault : Fault) : Type 0 where
   event : End
   is_written : o ≡ Some event
-  unknown : is_event scope side event.name event.port ≡ false
+  unknown : event_named scope side event.name event.port ≡ Unknown
   is : event_fault_at event ≡ fault
+
+in_target : (target : EventTarget) (event : End) (fault : Fault) → Contains (target_faults target (span_from event.name.span event.port)) fault → (target ≡ Unknown) × (event_fault_at event ≡ fault)
+in_target Found event fault c = absurd (contains_nothing fault c)
+in_target Unknown event fault c = (refl, contains_single (event_fault_at event) fault c)
+in_target NotJudged event fault c = absurd (contains_nothing fault c)
 
 event_origin : (scope : Scope) (side : Side) (o : Option End) (fault : Fault) → Contains (written_fault scope side o) fault → EventOrigin scope side o fault
 event_origin scope side o fault c =
-    let w = in_written (event_fault scope side) o fault c in
-    let fails = in_unless (is_event scope side w.item.name w.item.port) (event_fault_at w.item) fault w.has in
+    let w = in_written (end_event_faults scope side) o fault c in
+    let fails = in_target (event_named scope side w.item.name w.item.port) w.item fault w.has in
     record { event = w.item; is_written = w.is; unknown = fails.0; is = fails.1 }
 
-event_reported : (scope : Scope) (side : Side) (o : Option End) (event : End) → o ≡ Some event → is_event scope side event.name event.port ≡ false → Contains (written_fault scope side o) (event_fault_at event)
+event_reported : (scope : Scope) (side : Side) (o : Option End) (event : End) → o ≡ Some event → event_named scope side event.name event.port ≡ Unknown → Contains (written_fault scope side o) (event_fault_at event)
 event_reported scope side o event e fails =
-    written (event_fault scope side) o event (event_fault_at event) e (unless (is_event scope side event.name event.port) (event_fault_at event) fails)
+    written (end_event_faults scope side) o event (event_fault_at event) e (subst (λ (t : EventTarget). Contains (target_faults t (span_from event.name.span event.port)) (event_fault_at event)) (sym fails) (contains_here (event_fault_at event) []))
 
 -- which code it is
 
@@ -358,7 +430,7 @@ events_known sources unit span = (to, from)
           written = t.among;
           event = o.event;
           trigger = o.is_written;
-          unknown = unknown_event scope Input o.event.name o.event.port o.unknown;
+          unknown = unknown_event scope Input o.event o.unknown;
           place = ap (λ (f : Fault). f.span) (sym o.is);
         })
     in_row d e (inr h) =
@@ -374,7 +446,7 @@ events_known sources unit span = (to, from)
           written = a.written;
           event = o.event;
           sent = o.is_written;
-          unknown = unknown_event scope Output o.event.name o.event.port o.unknown;
+          unknown = unknown_event scope Output o.event o.unknown;
           place = ap (λ (f : Fault). f.span) (sym o.is);
         })
 
@@ -394,13 +466,13 @@ events_known sources unit span = (to, from)
     from : HasUnknownTrigger sources unit span ⊎ HasUnknownSent sources unit span → Contains (chart_faults_in sources (tree_at sources unit)) it
     from (inl h) =
         let scope = scope_of_type sources h.block in
-        let one = event_reported scope Input (event_in h.transition.condition) h.event h.trigger (no_event scope Input h.event.name h.event.port h.unknown) in
+        let one = event_reported scope Input (event_in h.transition.condition) h.event h.trigger (no_event scope Input h.event h.unknown) in
         let is : event_fault_at h.event ≡ it = λ i. record { code = EventUnknown; span = sym h.place i } in
         let listed = contains_flat_map (trigger_faults scope) h.block.chart.transitions h.transition it h.written (subst (λ (f : Fault). Contains (trigger_faults scope h.transition) f) is one) in
         whole h.block h.declared (Contains-append_left (flat_map (trigger_faults scope) h.block.chart.transitions) (flat_map (λ s. flat_map (sent_faults scope) s.actions) h.block.chart.states) it listed)
     from (inr h) =
         let scope = scope_of_type sources h.block in
-        let one = event_reported scope Output h.action.event h.event h.sent (no_event scope Output h.event.name h.event.port h.unknown) in
+        let one = event_reported scope Output h.action.event h.event h.sent (no_event scope Output h.event h.unknown) in
         let is : event_fault_at h.event ≡ it = λ i. record { code = EventUnknown; span = sym h.place i } in
         let listed = action_reported (sent_faults scope) h.block.chart h.state h.action it h.listed h.written (subst (λ (f : Fault). Contains (sent_faults scope h.action) f) is one) in
         whole h.block h.declared (Contains-append_right (flat_map (trigger_faults scope) h.block.chart.transitions) (flat_map (λ s. flat_map (sent_faults scope) s.actions) h.block.chart.states) it listed)

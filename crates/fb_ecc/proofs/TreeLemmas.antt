@@ -9,12 +9,12 @@ use Rattle.fb_iface.specs.Scope.{Scope}
 use Rattle.fb_iface.proofs.TreeLemmas.{same_items}
 use Rattle.fb_ecc.specs.Algorithms.{algorithm_faults, run_faults}
 use Rattle.fb_ecc.specs.Events.{event_faults, sent_faults, trigger_faults}
-use Rattle.fb_ecc.specs.States.{end_faults, state_faults}
+use Rattle.fb_ecc.specs.States.{transition_faults, state_faults}
 
-pub states_joined : (chart : Chart) (listed : List ℕ → Bool) → ((name : List ℕ) → listed name ≡ has_name (map (λ s. s.name) chart.states.items) name) → flat_map (λ t. end_faults listed (transition_tree t)) chart.transitions.items ≡ state_faults (chart_tree chart)
+pub states_joined : (chart : Chart) (listed : List ℕ → Bool) → ((name : List ℕ) → listed name ≡ has_name (map (λ s. s.name) chart.states.items) name) → flat_map (λ t. transition_faults listed (transition_tree t)) chart.transitions.items ≡ state_faults (chart_tree chart)
 states_joined chart listed known =
-    sym (flat_map-map (end_faults listed) transition_tree chart.transitions.items)
-    ∙ (λ i. flat_map (end_faults (λ name. (known name ∙ ap (λ l. has_name l name) (sym (same_items state_tree (λ s. s.name) chart.states.items))) i)) (map transition_tree chart.transitions.items))
+    sym (flat_map-map (transition_faults listed) transition_tree chart.transitions.items)
+    ∙ (λ i. flat_map (transition_faults (λ name. (known name ∙ ap (λ l. has_name l name) (sym (same_items state_tree (λ s. s.name) chart.states.items))) i)) (map transition_tree chart.transitions.items))
 
 pub algorithms_joined : (chart : Chart) (declared : List ℕ → Bool) → ((name : List ℕ) → declared name ≡ has_name (map (λ a. a.name) chart.algorithms.items) name) → flat_map (λ s. flat_map (run_faults declared) (state_tree s).actions) chart.states.items ≡ algorithm_faults (chart_tree chart)
 algorithms_joined chart declared known =

@@ -1,5 +1,5 @@
 -- Events of transitions and of actions (IEC 61499-1, 5.2.1: execution control charts; 5.5: adapters).
-use Rattle.std.specs.Prelude.{ℕ, Bool, true, false, List, [], ◌∷◌, ◌++◌, Option, Some, None, if◌then◌else◌}
+use Rattle.std.specs.Prelude.{ℕ, List, [], ◌∷◌, ◌++◌, Option, Some, None, if◌then◌else◌}
 use Rattle.std.specs.List.{flat_map}
 use Rattle.std.specs.Option.{option_map_or}
 use Rattle.fb_text.specs.declared.token.Span.{Span}
@@ -18,6 +18,8 @@ use Rattle.fb_iface.specs.declared.ports.DeclaredInstance.{DeclaredInstance}
 use Rattle.fb_iface.specs.Names.{stands_for}
 use Rattle.fb_iface.specs.Ports.{Meanings, same_side}
 use Rattle.fb_iface.specs.Scope.{Scope, instance_ports}
+use Rattle.fb_ecc.specs.declared.events.EventTarget.{EventTarget}
+use Rattle.fb_ecc.specs.declared.events.EventTarget.TheVariants.{Found, Unknown, NotJudged}
 
 abbrev pub opposite : Side → Side
 opposite sides.Input = sides.Output
@@ -30,41 +32,45 @@ side_through roles.Socket side = Some (opposite side)
 side_through roles.Block side = None
 side_through roles.Subapplication side = None
 
-abbrev pub is_on : Side → Option DeclaredEvent → Bool
-is_on side None = false
-is_on side (Some event) = same_side event.side side
+abbrev pub event_on : Side → Option DeclaredEvent → EventTarget
+event_on side None = Unknown
+event_on side (Some event) = if same_side event.side side then Found else Unknown
 
--- whether a name stands for an event of this side
-abbrev pub has_event : Side → Meanings → List ℕ → Bool
-has_event side ports name = is_on side (stands_for ports.events name)
+-- what a name stands for among ports, where an event of this side is wanted
+abbrev pub event_among : Side → Meanings → List ℕ → EventTarget
+event_among side ports name = event_on side (stands_for ports.events name)
 
--- whether an adapter has such an event; one whose type is not usable is not judged
-abbrev pub adapter_has : Option Meanings → List ℕ → Side → Bool
-adapter_has None name side = true
-adapter_has (Some ports) name side = has_event side ports name
+-- the same at an adapter; one whose type is not usable is not judged
+abbrev pub event_of_adapter : Option Meanings → List ℕ → Side → EventTarget
+event_of_adapter None name side = NotJudged
+event_of_adapter (Some ports) name side = event_among side ports name
 
--- whether a plug or socket has an event that comes in, or goes out
-abbrev pub has_behind : Scope → Side → Option DeclaredInstance → List ℕ → Bool
-has_behind scope side None name = false
-has_behind scope side (Some p) name = option_map_or (adapter_has (instance_ports scope p) name) (side_through p.role side) false
+-- the same at a plug or socket, where an event that comes in, or goes out, is wanted
+abbrev pub event_behind : Scope → Side → Option DeclaredInstance → List ℕ → EventTarget
+event_behind scope side None name = Unknown
+event_behind scope side (Some p) name = option_map_or (event_of_adapter (instance_ports scope p) name) (side_through p.role side) Unknown
 
--- whether a reference `X` or `p.X` is an event that comes in, or goes out
-abbrev pub is_event : Scope → Side → NameUse → Option NameUse → Bool
-is_event scope side name None = has_event side scope.own name.name
-is_event scope side name (Some port) = has_behind scope side (stands_for scope.own.instances name.name) port.name
+-- what a reference `X` or `p.X` names, where an event that comes in, or goes out, is wanted
+abbrev pub event_named : Scope → Side → NameUse → Option NameUse → EventTarget
+event_named scope side name None = event_among side scope.own name.name
+event_named scope side name (Some port) = event_behind scope side (stands_for scope.own.instances name.name) port.name
 
 -- from the first name to the end of the last
 abbrev pub span_from : Span → Option NameUse → Span
 span_from first None = first
 span_from first (Some port) = record { start = first.start; end = port.span.end }
 
-abbrev pub event_fault : Scope → Side → End → List Fault
-event_fault scope side e =
-    if is_event scope side e.name e.port then [] else record { code = EventUnknown; span = span_from e.name.span e.port } ∷ []
+abbrev pub target_faults : EventTarget → Span → List Fault
+target_faults Found span = []
+target_faults NotJudged span = []
+target_faults Unknown span = record { code = EventUnknown; span = span } ∷ []
+
+abbrev pub end_event_faults : Scope → Side → End → List Fault
+end_event_faults scope side e = target_faults (event_named scope side e.name e.port) (span_from e.name.span e.port)
 
 -- an event that is written and doesn't come in, or go out
 abbrev pub written_fault : Scope → Side → Option End → List Fault
-written_fault scope side event = option_map_or (event_fault scope side) event []
+written_fault scope side event = option_map_or (end_event_faults scope side) event []
 
 abbrev pub event_in : ConditionTree → Option End
 event_in (always span) = None

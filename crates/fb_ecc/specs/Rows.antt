@@ -9,6 +9,7 @@ use Rattle.fb_iface.specs.Tree.declared.interface.Side.TheVariants.{Input, Outpu
 use Rattle.fb_iface.specs.Tree.declared.network.End.{End}
 use Rattle.fb_iface.specs.Tree.declared.network.Role.TheVariants.{Plug, Socket}
 use Rattle.fb_iface.specs.Library.View.{Sources, tree_at}
+use Rattle.fb_iface.specs.declared.code.Code.{Code}
 use Rattle.fb_iface.specs.declared.code.Code.TheVariants.{AlgorithmUnknown, EventUnknown, StateUnknown}
 use Rattle.fb_iface.specs.declared.ports.DeclaredEvent.{DeclaredEvent}
 use Rattle.fb_iface.specs.declared.ports.DeclaredInstance.{DeclaredInstance}
@@ -52,14 +53,30 @@ pub record StandsForEvent (ports : Meanings) (name : List ℕ) (side : Side) : T
   pub first : stands_for ports.events name ≡ Some event
   pub on_side : event.side ≡ side
 
--- the events that come in, or go out: own ones of that side, those of that side of a plug's type, those of the other side of a socket's type;
--- where the type of a plug or socket is not usable, any is taken for one
+-- the events that come in, or go out: own ones of that side, those of that side of a plug's type, those of the other side of a socket's type
 pub data IsEventOf (scope : Scope) (side : Side) : NameUse → Option NameUse → Type 0 where
   own : {X : NameUse} → StandsForEvent scope.own X.name side → IsEventOf scope side X None
-  of_plug : {p X : NameUse} (i : DeclaredInstance) (ports : Meanings) → stands_for scope.own.instances p.name ≡ Some i → i.role ≡ Plug → instance_ports scope i ≡ Some ports → StandsForEvent ports X.name side → IsEventOf scope side p (Some X)
-  of_socket : {p X : NameUse} (i : DeclaredInstance) (ports : Meanings) → stands_for scope.own.instances p.name ≡ Some i → i.role ≡ Socket → instance_ports scope i ≡ Some ports → StandsForEvent ports X.name (opposite side) → IsEventOf scope side p (Some X)
-  of_unusable_plug : {p X : NameUse} (i : DeclaredInstance) → stands_for scope.own.instances p.name ≡ Some i → i.role ≡ Plug → instance_ports scope i ≡ None → IsEventOf scope side p (Some X)
-  of_unusable_socket : {p X : NameUse} (i : DeclaredInstance) → stands_for scope.own.instances p.name ≡ Some i → i.role ≡ Socket → instance_ports scope i ≡ None → IsEventOf scope side p (Some X)
+  of_plug :
+      {p X : NameUse} (i : DeclaredInstance) (ports : Meanings) → stands_for scope.own.instances p.name ≡ Some i
+      → i.role ≡ Plug → instance_ports scope i ≡ Some ports → StandsForEvent ports X.name side
+      → IsEventOf scope side p (Some X)
+  of_socket :
+      {p X : NameUse} (i : DeclaredInstance) (ports : Meanings) → stands_for scope.own.instances p.name ≡ Some i
+      → i.role ≡ Socket → instance_ports scope i ≡ Some ports → StandsForEvent ports X.name (opposite side)
+      → IsEventOf scope side p (Some X)
+
+-- an event of a plug or socket whose type is not usable, so that what its ports are is not known
+pub record IsNotJudged (scope : Scope) (name : NameUse) (port : Option NameUse) : Type 0 where
+  pub event : NameUse
+  pub behind : port ≡ Some event
+  pub instance : DeclaredInstance
+  pub first : stands_for scope.own.instances name.name ≡ Some instance
+  pub at_adapter : instance.role ≡ Plug ⊎ instance.role ≡ Socket
+  pub unusable : instance_ports scope instance ≡ None
+
+-- what is known, and known not to be such an event
+abbrev pub IsNoEventOf : Scope → Side → End → Type 0
+IsNoEventOf scope side event = (¬ IsEventOf scope side event.name event.port) × (¬ IsNotJudged scope event.name event.port)
 
 -- a transition on what is not an input event
 pub record HasUnknownTrigger (sources : Sources) (unit : List ℕ) (span : Span) : Type 0 where
@@ -69,7 +86,7 @@ pub record HasUnknownTrigger (sources : Sources) (unit : List ℕ) (span : Span)
   pub written : Contains block.chart.transitions transition
   pub event : End
   pub trigger : event_in transition.condition ≡ Some event
-  pub unknown : ¬ IsEventOf (scope_of_type sources block) Input event.name event.port
+  pub unknown : IsNoEventOf (scope_of_type sources block) Input event
   pub place : span ≡ span_from event.name.span event.port
 
 -- an action that sends what is not an output event
@@ -82,14 +99,22 @@ pub record HasUnknownSent (sources : Sources) (unit : List ℕ) (span : Span) : 
   pub written : Contains state.actions action
   pub event : End
   pub sent : action.event ≡ Some event
-  pub unknown : ¬ IsEventOf (scope_of_type sources block) Output event.name event.port
+  pub unknown : IsNoEventOf (scope_of_type sources block) Output event
   pub place : span ≡ span_from event.name.span event.port
 
+-- the list of faults has the code at exactly these places
+abbrev pub IsReportedWhere : Code → (Sources → List ℕ → Span → Type 0) → Type 0
+IsReportedWhere code Has = (sources : Sources) (unit : List ℕ) (span : Span) → Contains (ecc_faults_of sources unit) (record { code = code; span = span }) ↔ Has sources unit span
+
+-- a transition on what is not an input event, or an action that sends what is not an output event
+abbrev pub HasUnknownEvent : Sources → List ℕ → Span → Type 0
+HasUnknownEvent sources unit span = HasUnknownTrigger sources unit span ⊎ HasUnknownSent sources unit span
+
 abbrev pub StatesAreListed : Type 0
-StatesAreListed = (sources : Sources) (unit : List ℕ) (span : Span) → Contains (ecc_faults_of sources unit) (record { code = StateUnknown; span = span }) ↔ HasUnknownState sources unit span
+StatesAreListed = IsReportedWhere StateUnknown HasUnknownState
 
 abbrev pub EventsAreKnown : Type 0
-EventsAreKnown = (sources : Sources) (unit : List ℕ) (span : Span) → Contains (ecc_faults_of sources unit) (record { code = EventUnknown; span = span }) ↔ (HasUnknownTrigger sources unit span ⊎ HasUnknownSent sources unit span)
+EventsAreKnown = IsReportedWhere EventUnknown HasUnknownEvent
 
 abbrev pub AlgorithmsAreDeclared : Type 0
-AlgorithmsAreDeclared = (sources : Sources) (unit : List ℕ) (span : Span) → Contains (ecc_faults_of sources unit) (record { code = AlgorithmUnknown; span = span }) ↔ HasUnknownAlgorithm sources unit span
+AlgorithmsAreDeclared = IsReportedWhere AlgorithmUnknown HasUnknownAlgorithm

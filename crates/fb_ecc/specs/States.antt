@@ -17,8 +17,8 @@ abbrev pub state_fault : (List ℕ → Bool) → NameUse → List Fault
 state_fault listed name = if listed name.name then [] else fault_at StateUnknown name ∷ []
 
 -- a transition goes from a state that is listed to such a state
-abbrev pub end_faults : (List ℕ → Bool) → TransitionTree → List Fault
-end_faults listed t = state_fault listed t.source ++ state_fault listed t.destination
+abbrev pub transition_faults : (List ℕ → Bool) → TransitionTree → List Fault
+transition_faults listed t = state_fault listed t.source ++ state_fault listed t.destination
 
 abbrev pub state_faults : ChartTree → List Fault
-state_faults chart = flat_map (end_faults (has_name (state_names chart))) chart.transitions
+state_faults chart = flat_map (transition_faults (has_name (state_names chart))) chart.transitions

@@ -5,12 +5,23 @@ ghost use Rattle.std.specs.Option.{option_copied, option_map};
 ghost use Rattle.fb_iface.specs.Tree.Tree.{chart_tree, condition_tree, state_tree, transition_tree};
 ghost use Rattle.fb_iface.specs.Tree.declared.interface.Side.TheVariants as sides;
 ghost use Rattle.fb_iface.specs.Kept.{scope_in};
-ghost use Rattle.fb_ecc.specs.Events.{adapter_has, event_fault, event_faults, event_in, has_behind, has_event, is_event, opposite, sent_faults, side_through, span_from, trigger_faults, written_fault};
+ghost use Rattle.fb_ecc.specs.Events.{event_among, event_behind, event_faults, event_in, event_named, event_of_adapter, event_on, opposite, sent_faults, side_through, span_from, trigger_faults, written_fault};
 
 use fb_iface::tree::{Action, Chart, Condition, End, Role, Side, State, Transition};
 use fb_iface::{Code, DeclaredInstance, Fault, Ports, Scope, is_same_side};
 use fb_text::{Name, NameUse, Span};
 use std::alloc::AllocError;
+
+/// What an event that is written names.
+#[derive(Clone, Copy, Debug)]
+pub enum EventTarget {
+    /// An event that comes in, or goes out, as is wanted there.
+    Found,
+    /// No such event.
+    Unknown,
+    /// A port of a plug or socket whose type is absent, broken or of the wrong kind.
+    NotJudged,
+}
 
 /// Reports the events of transitions that do not come in, and those of actions that do not go out.
 pub fn report_events(scope: &Scope, chart: &Chart, found: &mut Vec<Fault>) -> Result<(), AllocError>
@@ -81,11 +92,12 @@ fn report_written(
         ≡ found.old.items ++ written_fault (scope_in scope.now) side (option_copied event.entry)) }
 {
     if let Some(event) = event {
-        if !is_known(scope, side, event) {
-            found.push(Fault {
+        match target_of(scope, side, event) {
+            EventTarget::Unknown => found.push(Fault {
                 code: Code::EventUnknown,
                 span: span_of(event),
-            })?;
+            })?,
+            EventTarget::Found | EventTarget::NotJudged => {}
         }
     }
     Ok(())
@@ -104,47 +116,52 @@ fn span_of(event: &End) -> Span
     }
 }
 
-/// Whether a reference is an event that comes in, or goes out.
-fn is_known(scope: &Scope, side: Side, event: &End) -> bool
-    ensures { result ≡ is_event (scope_in scope.now) side event.now.name event.now.port }
+/// What a reference names, where an event that comes in, or goes out, is wanted.
+fn target_of(scope: &Scope, side: Side, event: &End) -> EventTarget
+    ensures { result ≡ event_named (scope_in scope.now) side event.now.name event.now.port }
 {
     let name = &event.name.name;
     match &event.port {
-        Some(port) => is_behind(scope, scope.own().instance(name), side, &port.name),
-        None => is_listed(scope.own(), side, name),
+        Some(port) => target_behind(scope, scope.own().instance(name), side, &port.name),
+        None => target_among(scope.own(), side, name),
     }
 }
 
-/// Whether the name stands for an event of this side.
-fn is_listed(ports: &Ports, side: Side, name: &Name) -> bool
-    ensures { result ≡ has_event side ports.now name.now }
+/// What a name stands for among ports.
+fn target_among(ports: &Ports, side: Side, name: &Name) -> EventTarget
+    ensures { result ≡ event_among side ports.now name.now }
 {
     match ports.event(name) {
-        Some(event) => is_same_side(event.side, side),
-        None => false,
+        Some(event) if is_same_side(event.side, side) => EventTarget::Found,
+        _ => EventTarget::Unknown,
     }
 }
 
-/// Whether a plug or socket has an event that comes in, or goes out. One whose type is not usable is not judged.
-fn is_behind(scope: &Scope, instance: Option<&DeclaredInstance>, side: Side, name: &Name) -> bool
-    ensures { result ≡ has_behind (scope_in scope.now) side (option_copied instance.entry) name.now }
+/// What a port of a plug or socket is.
+fn target_behind(
+    scope: &Scope,
+    instance: Option<&DeclaredInstance>,
+    side: Side,
+    name: &Name,
+) -> EventTarget
+    ensures { result ≡ event_behind (scope_in scope.now) side (option_copied instance.entry) name.now }
 {
     match instance {
         Some(instance) => match through(instance.role, side) {
-            Some(side) => is_in_adapter(scope.instance_ports(instance), side, name),
-            None => false,
+            Some(side) => target_of_adapter(scope.instance_ports(instance), side, name),
+            None => EventTarget::Unknown,
         },
-        None => false,
+        None => EventTarget::Unknown,
     }
 }
 
-/// Whether an adapter has an event of this side.
-fn is_in_adapter(ports: Option<&Ports>, side: Side, name: &Name) -> bool
-    ensures { result ≡ adapter_has (option_map (λ p. p.now) ports.entry) name.now side }
+/// What a port of an adapter is. One whose type is not usable is not judged.
+fn target_of_adapter(ports: Option<&Ports>, side: Side, name: &Name) -> EventTarget
+    ensures { result ≡ event_of_adapter (option_map (λ p. p.now) ports.entry) name.now side }
 {
     match ports {
-        Some(ports) => is_listed(ports, side, name),
-        None => true,
+        Some(ports) => target_among(ports, side, name),
+        None => EventTarget::NotJudged,
     }
 }
 

@@ -12,7 +12,7 @@ pub fn states_are_listed()
     ensures { StatesAreListed }
 {}
 
-/// The event of a transition is a fault where it is none that comes in, and that of an action where it is none that goes out.
+/// The event of a transition is a fault where it is known not to come in, and that of an action where it is known not to go out.
 pub fn events_are_known()
     ensures { EventsAreKnown }
 {}

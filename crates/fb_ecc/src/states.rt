@@ -5,7 +5,7 @@ ghost use Rattle.std.specs.BTreeSet.{contains};
 ghost use Rattle.fb_text.specs.Order.{name_cmp};
 ghost use Rattle.fb_iface.specs.Tree.Tree.{chart_tree, transition_tree};
 ghost use Rattle.fb_iface.specs.Names.{has_name};
-ghost use Rattle.fb_ecc.specs.States.{end_faults, state_fault, state_faults};
+ghost use Rattle.fb_ecc.specs.States.{transition_faults, state_fault, state_faults};
 
 use fb_iface::tree::{Chart, State, Transition};
 use fb_iface::{Code, Fault};
@@ -40,7 +40,7 @@ fn report_ends(
     found: &mut Vec<Fault>,
 ) -> Result<(), AllocError>
     ensures { OnOk result (found.new.items ≡ found.old.items
-        ++ flat_map (λ t. end_faults (contains name_cmp listed.now) (transition_tree t)) transitions.now) }
+        ++ flat_map (λ t. transition_faults (contains name_cmp listed.now) (transition_tree t)) transitions.now) }
 {
     for transition in transitions {
         report_state(listed, &transition.source, found)?;

@@ -3,6 +3,7 @@ use Rattle.std.proofs.Common.{◌≡◌, ℕ, Bool, ◌&&◌, List, ◌++◌, fi
 use Rattle.std.specs.List.{Contains, flat_map}
 use Rattle.std.proofs.lemmas.List.Elements.{Contains-append_cases}
 use Rattle.fb_text.specs.declared.name.NameUse.{NameUse}
+use Rattle.fb_text.specs.declared.token.Span.{Span}
 use Rattle.fb_faults.specs.Tree.Tree.{ChartTree, DeclTree, InstanceTree, InterfaceTree, StateTree, SystemTree, TransitionTree, TypeTree, block_type, adapter_type, subapplication_type, system_configuration}
 use Rattle.fb_faults.specs.Tree.declared.interface.Side.{Side}
 use Rattle.fb_faults.specs.Tree.declared.interface.Side.TheVariants.{Input, Output}
@@ -25,8 +26,10 @@ use Rattle.fb_faults.specs.Expr.Charts.{faults_in_unit}
 use Rattle.fb_faults.specs.Expr.Demands.{Demand, IsUnmet, assigns, chart_demands, code_of, fault_of, names_variable, suits_operand, suits_operands, suits_place}
 use Rattle.fb_faults.specs.Ecc.Algorithms.{algorithm_fault, algorithm_faults, algorithm_names, run_faults}
 use Rattle.fb_faults.specs.Ecc.Charts.{chart_faults, chart_faults_in}
-use Rattle.fb_faults.specs.Ecc.Events.{event_fault, event_faults, event_in, is_event, sent_faults, span_from, trigger_faults, written_fault}
-use Rattle.fb_faults.specs.Ecc.States.{end_faults, state_fault, state_faults, state_names}
+use Rattle.fb_faults.specs.Ecc.Events.{end_event_faults, event_faults, event_in, event_named, sent_faults, span_from, target_faults, trigger_faults, written_fault}
+use Rattle.fb_faults.specs.Ecc.declared.events.EventTarget.{EventTarget}
+use Rattle.fb_faults.specs.Ecc.declared.events.EventTarget.TheVariants as targets
+use Rattle.fb_faults.specs.Ecc.States.{transition_faults, state_fault, state_faults, state_names}
 use Rattle.fb_faults.specs.Mappings.{declared_mapping_faults}
 use Rattle.fb_faults.proofs.Iface.Members.{contains_nothing, contains_single, in_unless, in_written, origin_in_flat_map, origin_in_map}
 use Rattle.fb_expr.proofs.DemandLemmas.{faults_unmet}
@@ -169,18 +172,24 @@ state_code listed name f c =
 states_code : (chart : ChartTree) (f : Fault) → Contains (state_faults chart) f → IsCodeOf Charts f.code
 states_code chart f c =
     let listed = has_name (state_names chart) in
-    let t = origin_in_flat_map (end_faults listed) chart.transitions f c in
+    let t = origin_in_flat_map (transition_faults listed) chart.transitions f c in
     by t.origin (Contains-append_cases (state_fault listed t.origin.source) (state_fault listed t.origin.destination) f t.has)
   where
     by : (t : TransitionTree) → Contains (state_fault (has_name (state_names chart)) t.source) f ⊎ Contains (state_fault (has_name (state_names chart)) t.destination) f → IsCodeOf Charts f.code
     by t (inl h) = state_code (has_name (state_names chart)) t.source f h
     by t (inr h) = state_code (has_name (state_names chart)) t.destination f h
 
+target_code : (target : EventTarget) (span : Span) (f : Fault) → Contains (target_faults target span) f → IsCodeOf Charts f.code
+target_code targets.Found span f c = absurd (contains_nothing f c)
+target_code targets.Unknown span f c =
+    let it : Fault = record { code = EventUnknown; span = span } in
+    coded Charts it f (contains_single it f c) unknown_event
+target_code targets.NotJudged span f c = absurd (contains_nothing f c)
+
 event_code : (scope : Scope) (side : Side) (event : Option End) (f : Fault) → Contains (written_fault scope side event) f → IsCodeOf Charts f.code
 event_code scope side event f c =
-    let w = in_written (event_fault scope side) event f c in
-    let is = in_unless (is_event scope side w.item.name w.item.port) (record { code = EventUnknown; span = span_from w.item.name.span w.item.port }) f w.has in
-    coded Charts (record { code = EventUnknown; span = span_from w.item.name.span w.item.port }) f is.1 unknown_event
+    let w = in_written (end_event_faults scope side) event f c in
+    target_code (event_named scope side w.item.name w.item.port) (span_from w.item.name.span w.item.port) f w.has
 
 events_code : (scope : Scope) (chart : ChartTree) (f : Fault) → Contains (event_faults scope chart) f → IsCodeOf Charts f.code
 events_code scope chart f c = by (Contains-append_cases (flat_map (trigger_faults scope) chart.transitions) (flat_map (λ s. flat_map (sent_faults scope) s.actions) chart.states) f c)

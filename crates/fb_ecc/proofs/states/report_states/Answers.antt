@@ -5,7 +5,7 @@ use Rattle.std.proofs.lemmas.Result.{on_ok_weaker}
 use Rattle.fb_text.specs.Order.{name_cmp}
 use Rattle.fb_iface.specs.Tree.Tree.{transition_tree}
 use Rattle.fb_iface.specs.Names.{has_name}
-use Rattle.fb_ecc.specs.States.{end_faults}
+use Rattle.fb_ecc.specs.States.{transition_faults}
 use Rattle.fb_ecc.proofs.TreeLemmas.{states_joined}
 use Rattle.fb_ecc.proofs.states.report_states.Goals as goal
 
@@ -17,6 +17,6 @@ returns c =
     let known : (name : List ℕ) → listed name ≡ has_name (map (λ s. s.name) chart.states.items) name = λ name. c.in_ok-listed.ensures name ∙ ap (λ l. has_name (map (λ s. s.name) l) name) c.as_slice.ensures.value in
     on_ok_weaker c.report_ends.result
     (λ e. e
-    ∙ (λ i. old ++ flat_map (λ t. end_faults listed (transition_tree t)) (c.as_slice-2.ensures.value i))
+    ∙ (λ i. old ++ flat_map (λ t. transition_faults listed (transition_tree t)) (c.as_slice-2.ensures.value i))
     ∙ ap (λ l. old ++ l) (states_joined chart listed known))
     c.report_ends.ensures
