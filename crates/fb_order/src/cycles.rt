@@ -113,7 +113,8 @@ fn walk(
     from: &Name,
     within: &BTreeSet<Name>,
 ) -> Result<BTreeSet<Name>, AllocError>
-    ensures { IfOk result (λ seen. (v : List ℕ) → Contains seen.keys v ↔ Follows (edges_within edges.now within.now) from.now v) }
+    ensures { IfOk result
+        (λ seen. (v : List ℕ) → Contains seen.keys v ↔ Follows (edges_within edges.now within.now) from.now v) }
 {
     let mut seen = BTreeSet::new(alloc);
     let mut pending = Vec::new(alloc);
@@ -134,7 +135,9 @@ fn open_new(
     seen: &mut BTreeSet<Name>,
     pending: &mut Vec<Name>,
 ) -> Result<(), AllocError>
-    ensures { OnOk result (Opens (filter (has_name within.now.keys) names.now) seen.old.keys pending.old.items seen.new.keys pending.new.items) }
+    ensures { OnOk result
+        (Opens (filter (has_name within.now.keys) names.now)
+        seen.old.keys pending.old.items seen.new.keys pending.new.items) }
 {
     for name in names {
         if within.contains(name) && seen.insert(*name)? {
