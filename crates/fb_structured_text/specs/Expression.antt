@@ -11,7 +11,7 @@ use Rattle.fb_forms.specs.Literals.{across, literal_kinds, literal_use}
 use Rattle.fb_forms.specs.Words.{key, behind, list, name}
 use Rattle.fb_tree.specs.declared.expression.BinaryUse.{BinaryUse}
 use Rattle.fb_tree.specs.declared.expression.Expr.{Expr}
-use Rattle.fb_tree.specs.declared.expression.Reference.{Reference}
+use Rattle.fb_tree.specs.declared.reference.Reference.{Reference}
 use Rattle.fb_tree.specs.declared.expression.UnaryUse.{UnaryUse}
 use Rattle.fb_tree.specs.Expression.{ReferenceTree, reference_tree, Expression, expression_tree, literal_expression, reference_expression, unary_expression, row_expression, parentheses, Expressions, no_expressions, expressions_of, operands_of}
 use Rattle.fb_structured_text.specs.Operators.{signs, strengths, operators, unary_use, binary_use}
