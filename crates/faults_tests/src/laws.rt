@@ -7,7 +7,9 @@ use fb_faults::iface::{
     wrong_kinds_are_reported,
 };
 use fb_faults::library::{far_is_local, far_is_one_list, near_is_local};
-use fb_faults::netcheck::{connections_are_right, net_faults_are_local, networks_are_fine};
+use fb_faults::netcheck::{
+    connections_are_right, faultless_networks_are_clean, net_faults_are_local,
+};
 use fb_faults::{
     broken_texts_have_one_fault, faults_are_in_order, faults_are_local, faults_are_those_reported,
 };
@@ -31,7 +33,7 @@ fn laws_ask_for_nothing(_rt: HostRuntime) {
     events_are_known();
     algorithms_are_declared();
     net_faults_are_local();
-    networks_are_fine();
+    faultless_networks_are_clean();
     connections_are_right();
     faults_are_local();
     faults_are_in_order();

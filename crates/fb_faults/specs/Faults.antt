@@ -5,20 +5,19 @@ use Rattle.std.specs.FinMap.{get}
 use Rattle.std.specs.List.Sorted.{IsStrictlySortedBy}
 use Rattle.fb_text.specs.declared.token.Span.{Span}
 use Rattle.fb_netcheck.specs.Parse.Body.{BodyTree, Whole, BrokenAt, body_of}
-use Rattle.fb_netcheck.specs.Tree.Tree.{TypeTree}
+use Rattle.fb_netcheck.specs.Tree.Tree.{DeclTree, TypeTree}
 use Rattle.fb_netcheck.specs.Tree.declared.kinds.UnitKind.TheVariants.{Block}
 use Rattle.fb_netcheck.specs.Library.Local.{Agree}
-use Rattle.fb_netcheck.specs.Library.View.{Sources, near_of, tree_in}
+use Rattle.fb_netcheck.specs.Library.View.{Sources, near_of, tree_at, tree_in}
 use Rattle.fb_netcheck.specs.Iface.declared.code.Code.TheVariants.{Syntax}
 use Rattle.fb_netcheck.specs.Iface.declared.fault.Fault.{Fault}
 use Rattle.fb_netcheck.specs.Iface.Fault.{fault_cmp, faults_in_order}
-use Rattle.fb_netcheck.specs.Iface.Declarations.{declaration_faults, iface_faults_of}
-use Rattle.fb_expr.specs.Charts.{expr_faults_of, expression_faults, faults_in_unit}
-use Rattle.fb_ecc.specs.Charts.{chart_faults, chart_faults_in, ecc_faults_of}
-use Rattle.fb_netcheck.specs.Iface.Scope.{scope_of_type}
+use Rattle.fb_netcheck.specs.Iface.Declarations.{declaration_faults}
+use Rattle.fb_expr.specs.Charts.{expression_faults, faults_in_unit}
+use Rattle.fb_ecc.specs.Charts.{chart_faults, chart_faults_in}
 use Rattle.fb_netcheck.specs.Settings.{Place}
-use Rattle.fb_netcheck.specs.Networks.{net_faults_of, network_faults, tree_faults}
-use Rattle.fb_faults.specs.Mappings.{declared_mapping_faults, mapping_faults_of}
+use Rattle.fb_netcheck.specs.Networks.{network_faults, tree_faults, type_place}
+use Rattle.fb_faults.specs.Mappings.{declared_mapping_faults}
 
 abbrev pub body_faults : BodyTree → List Fault
 body_faults (Whole decl) = []
@@ -31,15 +30,19 @@ text_faults text = option_map_or (λ t. body_faults (body_of t)) text []
 abbrev pub syntax_faults_of : Sources → List ℕ → List Fault
 syntax_faults_of sources unit = text_faults (get sources unit)
 
+-- what the checks report of a declaration, behind what is reported of its text
+abbrev pub all_reported : Sources → List ℕ → List Fault → Option DeclTree → List Fault
+all_reported sources unit syntax tree =
+    syntax
+    ++ declaration_faults sources unit tree
+    ++ faults_in_unit sources tree
+    ++ chart_faults_in sources tree
+    ++ tree_faults sources unit tree
+    ++ declared_mapping_faults tree
+
 -- what the checks report of a unit
 abbrev pub reported_of : Sources → List ℕ → List Fault
-reported_of sources unit =
-    syntax_faults_of sources unit
-    ++ iface_faults_of sources unit
-    ++ expr_faults_of sources unit
-    ++ ecc_faults_of sources unit
-    ++ net_faults_of sources unit
-    ++ mapping_faults_of sources unit
+reported_of sources unit = all_reported sources unit (syntax_faults_of sources unit) (tree_at sources unit)
 
 -- all faults of a unit, in order, each once
 abbrev pub faults_of : Sources → List ℕ → List Fault
@@ -47,13 +50,7 @@ faults_of sources unit = faults_in_order (reported_of sources unit)
 
 -- what the checks report of a unit whose text has this body
 abbrev pub reported_in : Sources → List ℕ → BodyTree → List Fault
-reported_in sources unit body =
-    body_faults body
-    ++ declaration_faults sources unit (tree_in body)
-    ++ faults_in_unit sources (tree_in body)
-    ++ chart_faults_in sources (tree_in body)
-    ++ tree_faults sources unit (tree_in body)
-    ++ declared_mapping_faults (tree_in body)
+reported_in sources unit body = all_reported sources unit (body_faults body) (tree_in body)
 
 -- what the checks of expressions, charts and networks report of a type, where its network stands here
 abbrev pub faults_here : Sources → Place → TypeTree → List Fault
@@ -61,7 +58,7 @@ faults_here sources here d = expression_faults here.scope d.chart ++ chart_fault
 
 -- the same of a block type
 abbrev pub block_faults : Sources → List ℕ → TypeTree → List Fault
-block_faults sources unit d = faults_here sources (record { unit = unit; kind = Block; scope = scope_of_type sources d }) d
+block_faults sources unit d = faults_here sources (type_place sources unit Block d).0 d
 
 -- the faults of a unit depend on the texts of the unit and of its mentions alone
 abbrev pub FaultsAreLocal : Type 0

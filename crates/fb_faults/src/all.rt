@@ -4,7 +4,7 @@ ghost use Rattle.fb_netcheck.specs.Tree.Tree.{decl_tree, type_tree};
 ghost use Rattle.fb_netcheck.specs.Tree.declared.kinds.UnitKind.TheVariants as kinds;
 ghost use Rattle.fb_netcheck.specs.Parse.Body.{Whole, body_tree};
 ghost use Rattle.fb_netcheck.specs.Iface.Ports.{meanings_in_type};
-ghost use Rattle.fb_netcheck.specs.Networks.{type_network};
+ghost use Rattle.fb_netcheck.specs.Networks.{type_network, type_place};
 ghost use Rattle.fb_netcheck.specs.Settings.{place_in};
 ghost use Rattle.fb_faults.specs.Faults.{block_faults, faults_here, faults_of, reported_in, reported_of};
 
@@ -85,6 +85,24 @@ fn report_declared<V: View>(
     }
 }
 
+/// Where the network of a type of this kind stands, by the ports of the type.
+fn setting_of<V: View>(
+    alloc: Global,
+    view: &V,
+    unit: &Name,
+    kind: UnitKind,
+    own: Ports,
+    declared: &TypeDeclaration,
+) -> Result<Setting, AllocError>
+    requires { own ≡ meanings_in_type (type_tree declared.now) }
+    ensures { IfOk result (λ here. place_in here
+        ≡ (type_place (V.sources view.now) unit.now kind (type_tree declared.now)).0) }
+{
+    let scope = Scope::new(alloc, view, own, &declared.network)?;
+    let unit = *unit;
+    Ok(Setting { unit, kind, scope })
+}
+
 /// Reports the faults of the chart and of the network of a block type with these ports. Both have one scope.
 fn report_block<V: View>(
     alloc: Global,
@@ -98,10 +116,7 @@ fn report_block<V: View>(
     ensures { OnOk result (found.new.items
         ≡ found.old.items ++ block_faults (V.sources view.now) unit.now (type_tree declared.now)) }
 {
-    let scope = Scope::new(alloc, view, own, &declared.network)?;
-    let unit = *unit;
-    let kind = UnitKind::Block;
-    let here = Setting { unit, kind, scope };
+    let here = setting_of(alloc, view, unit, UnitKind::Block, own, declared)?;
     report_here(alloc, view, &here, declared, found)
 }
 
@@ -134,9 +149,7 @@ fn report_subapplication<V: View>(
     ensures { OnOk result (found.new.items
         ≡ found.old.items ++ type_network (V.sources view.now) unit.now kinds.Subapplication (type_tree declared.now)) }
 {
-    let scope = Scope::new(alloc, view, own, &declared.network)?;
-    let unit = *unit;
     let kind = UnitKind::Subapplication;
-    let here = Setting { unit, kind, scope };
+    let here = setting_of(alloc, view, unit, kind, own, declared)?;
     report_network(alloc, view, &here, &declared.network, found)
 }

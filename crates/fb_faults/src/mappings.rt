@@ -52,7 +52,8 @@ fn add_resources(
     resources: &mut BTreeSet<(Name, Name)>,
 ) -> Result<(), AllocError>
     ensures { OnOk result ((name resource : List ℕ) → contains pair_cmp resources.new (name, resource)
-        ≡ (contains pair_cmp resources.old (name, resource) || (is_same device.now name && has_name (map (λ r. r.name) own.now) resource))) }
+        ≡ (contains pair_cmp resources.old (name, resource)
+        || (is_same device.now name && has_name (map (λ r. r.name) own.now) resource))) }
 {
     for resource in own {
         resources.insert((*device, resource.name.name))?;

@@ -1,4 +1,4 @@
--- Networks without faults are fine.
+-- Networks without faults are clean.
 use Rattle.std.proofs.Common.{◌≡◌, ℕ, Bool, true, false, cond, ◌&&◌, not, List, [], ◌∷◌, ◌++◌, Option, Some, None, map, refl}
 use Rattle.std.specs.List.{All, flat_map}
 use Rattle.std.proofs.lemmas.List.Elements.{All-cons, All-map, All-nil}
@@ -14,10 +14,10 @@ use Rattle.fb_netcheck.specs.declared.ends.Position.{Position}
 use Rattle.fb_netcheck.specs.declared.ends.Position.TheVariants.{Source, Destination}
 use Rattle.fb_netcheck.specs.declared.ends.Target.{Target}
 use Rattle.fb_netcheck.specs.declared.ends.Target.TheVariants.{Unknown, NotJudged, Found}
-use Rattle.fb_netcheck.specs.Clean.{IsFineConnection, IsFineEnd, IsFineNetwork, NetworksAreFine, PassesNothing, application_place, networks_in}
+use Rattle.fb_netcheck.specs.Clean.{IsCleanConnection, IsCleanEnd, IsCleanNetwork, FaultlessNetworksAreClean, PassesNothing}
 use Rattle.fb_netcheck.specs.Connections.{connection_faults}
 use Rattle.fb_netcheck.specs.Ends.{is_right, right_side, target}
-use Rattle.fb_netcheck.specs.Networks.{network_faults, tree_faults}
+use Rattle.fb_netcheck.specs.Networks.{application_place, network_faults, networks_in, tree_faults}
 use Rattle.fb_netcheck.specs.Parameters.{all_parameters}
 use Rattle.fb_netcheck.specs.Paths.{repeated}
 use Rattle.fb_netcheck.specs.Repeats.{all_adapter_ends, data_destinations, end_path, second_adapters, second_sources}
@@ -46,20 +46,20 @@ no_fault : (b : Bool) (fault : Fault) → cond b [] (fault ∷ []) ≡ [] → b 
 no_fault true fault e = refl
 no_fault false fault e = absurd (let no : ⊥ = cc in no)
 
-fine_end : (position : Position) (end : End) (t : Target) → end_faults position end t ≡ [] → IsFineEnd position t
-fine_end position end Unknown e = absurd (let no : ⊥ = cc in no)
-fine_end position end NotJudged e = tt
-fine_end position end (Found holder port) e = no_fault (same_side port.side (right_side position holder)) _ e
+clean_end : (position : Position) (end : End) (t : Target) → end_faults position end t ≡ [] → IsCleanEnd position t
+clean_end position end Unknown e = absurd (let no : ⊥ = cc in no)
+clean_end position end NotJudged e = tt
+clean_end position end (Found holder port) e = no_fault (same_side port.side (right_side position holder)) _ e
 
 no_pass : (b : Bool) (fault : Fault) → cond b (fault ∷ []) [] ≡ [] → b ≡ false
 no_pass true fault e = absurd (let no : ⊥ = cc in no)
 no_pass false fault e = refl
 
-fine_passage : (kind : UnitKind) (c : Connection) (source destination : Target) → pass_through_faults kind c source destination ≡ [] → PassesNothing kind source destination
-fine_passage Block c source destination e = tt
-fine_passage Adapter c source destination e = tt
-fine_passage Subapplication c source destination e = no_pass (is_own_port Source source && is_own_port Destination destination) _ e
-fine_passage System c source destination e = tt
+clean_passage : (kind : UnitKind) (c : Connection) (source destination : Target) → pass_through_faults kind c source destination ≡ [] → PassesNothing kind source destination
+clean_passage Block c source destination e = tt
+clean_passage Adapter c source destination e = tt
+clean_passage Subapplication c source destination e = no_pass (is_own_port Source source && is_own_port Destination destination) _ e
+clean_passage System c source destination e = tt
 
 one_type : (source destination same : Bool) (fault : Fault) → cond ((source && destination) && not same) (fault ∷ []) [] ≡ [] → source ≡ true → destination ≡ true → same ≡ true
 one_type source destination true fault e s d = refl
@@ -68,8 +68,8 @@ one_type true false false fault e s d = d
 one_type false destination false fault e s d = s
 
 module _ (sources : Sources) (here : Place) where
-  fine_connection : (c : Connection) → connection_faults here c ≡ [] → joined_types sources here c ≡ [] → IsFineConnection sources here c
-  fine_connection c none types =
+  clean_connection : (c : Connection) → connection_faults here c ≡ [] → joined_types sources here c ≡ [] → IsCleanConnection sources here c
+  clean_connection c none types =
       let source = target here c.sort c.source in
       let destination = target here c.sort c.destination in
       let first = end_faults Source c.source source in
@@ -77,14 +77,14 @@ module _ (sources : Sources) (here : Place) where
       let third = pass_through_faults here.kind c source destination in
       let ends : first ++ second ≡ [] = left_none (first ++ second) third none in
       record {
-        source_side = fine_end Source c.source source (left_none first second ends);
-        destination_side = fine_end Destination c.destination destination (right_none first second ends);
+        source_side = clean_end Source c.source source (left_none first second ends);
+        destination_side = clean_end Destination c.destination destination (right_none first second ends);
         one_type = one_type (is_right Source source) (is_right Destination destination) (targets_agree (same_at_ends sources here c) source destination) _ types;
-        passes_nothing = fine_passage here.kind c source destination (right_none (first ++ second) third none);
+        passes_nothing = clean_passage here.kind c source destination (right_none (first ++ second) third none);
       }
 
-  pub fine_network : (n : NetworkTree) → network_faults sources here n ≡ [] → IsFineNetwork sources here n
-  fine_network n none =
+  pub clean_network : (n : NetworkTree) → network_faults sources here n ≡ [] → IsCleanNetwork sources here n
+  clean_network n none =
       let sides = flat_map (connection_faults here) n.connections in
       let types = flat_map (joined_types sources here) n.connections in
       let sources_twice = second_sources n.connections in
@@ -95,21 +95,21 @@ module _ (sources : Sources) (here : Place) where
       let each_side = none_of_each (connection_faults here) n.connections (left_none sides types two) in
       let each_type = none_of_each (joined_types sources here) n.connections (right_none sides types two) in
       record {
-        connections = λ k c within. fine_connection _ (each_side k c within) (each_type k c within);
+        connections = λ k c within. clean_connection _ (each_side k c within) (each_type k c within);
         one_source = none_mapped _ (repeated (map end_path (data_destinations n.connections))) (right_none (sides ++ types) sources_twice three);
         one_adapter = none_mapped _ (repeated (map end_path (all_adapter_ends n.connections))) (right_none ((sides ++ types) ++ sources_twice) adapters_twice front);
       }
 
-abbrev Fine : Sources → Place × NetworkTree → Type 0
-Fine sources placed = IsFineNetwork sources placed.0 placed.1
+abbrev Clean : Sources → Place × NetworkTree → Type 0
+Clean sources placed = IsCleanNetwork sources placed.0 placed.1
 
-fine_networks : (sources : Sources) (unit : List ℕ) (tree : Option DeclTree) → tree_faults sources unit tree ≡ [] → All (Fine sources) (networks_in sources unit tree)
-fine_networks sources unit None none = All-nil (Fine sources)
-fine_networks sources unit (Some (block_type d)) none = All-cons (Fine sources) _ [] (fine_network sources _ d.network none) (All-nil (Fine sources))
-fine_networks sources unit (Some (adapter_type d)) none = All-nil (Fine sources)
-fine_networks sources unit (Some (subapplication_type d)) none = All-cons (Fine sources) _ [] (fine_network sources _ d.network none) (All-nil (Fine sources))
-fine_networks sources unit (Some (system_configuration s)) none =
-    All-map (Fine sources) (application_place sources unit) s.applications (λ k a within. fine_network sources _ _ (none_of_each _ s.applications none k a within))
+clean_networks : (sources : Sources) (unit : List ℕ) (tree : Option DeclTree) → tree_faults sources unit tree ≡ [] → All (Clean sources) (networks_in sources unit tree)
+clean_networks sources unit None none = All-nil (Clean sources)
+clean_networks sources unit (Some (block_type d)) none = All-cons (Clean sources) _ [] (clean_network sources _ d.network none) (All-nil (Clean sources))
+clean_networks sources unit (Some (adapter_type d)) none = All-nil (Clean sources)
+clean_networks sources unit (Some (subapplication_type d)) none = All-cons (Clean sources) _ [] (clean_network sources _ d.network none) (All-nil (Clean sources))
+clean_networks sources unit (Some (system_configuration s)) none =
+    All-map (Clean sources) (application_place sources unit) s.applications (λ k a within. clean_network sources _ _ (none_of_each _ s.applications none k a within))
 
-pub networks_fine : NetworksAreFine
-networks_fine sources unit none = fine_networks sources unit (tree_at sources unit) none
+pub networks_clean : FaultlessNetworksAreClean
+networks_clean sources unit none = clean_networks sources unit (tree_at sources unit) none

@@ -5,6 +5,7 @@ use Rattle.std.specs.Cmp.Lexicographic.{slice_cmp}
 use Rattle.std.specs.Prelude.{Vec}
 use Rattle.std.specs.declared.alloc.Global.{Global}
 use Rattle.std.specs.declared.cmp.Ordering.{Ordering}
+use Rattle.std.proofs.Math.Bool.{or-false, or_assoc}
 use Rattle.std.proofs.lemmas.List.{map-append}
 use Rattle.fb_text.specs.Order.{name_cmp}
 use Rattle.fb_iface.specs.declared.code.Code.{Code}
@@ -17,14 +18,6 @@ Key = Vec (List ℕ) Global
 abbrev pub key_cmp : Key → Key → Ordering
 key_cmp a b = slice_cmp name_cmp a.items b.items
 
-or_assoc : (a b c : Bool) → (a || (b || c)) ≡ ((a || b) || c)
-or_assoc true b c = refl
-or_assoc false b c = refl
-
-or_false : (a : Bool) → (a || false) ≡ a
-or_false true = refl
-or_false false = refl
-
 true_or : (b c : Bool) → cond b true c ≡ (c || b)
 true_or true true = refl
 true_or true false = refl
@@ -32,8 +25,8 @@ true_or false true = refl
 true_or false false = refl
 
 has_path-push : (xs : List PathUse) (x : PathUse) (q : Path) → has_path (xs ++ x ∷ []) q ≡ (has_path xs q || same_path x.names q)
-has_path-push [] x q = or_false (same_path x.names q)
-has_path-push (y ∷ xs) x q = ap (λ b. same_path y.names q || b) (has_path-push xs x q) ∙ or_assoc (same_path y.names q) (has_path xs q) (same_path x.names q)
+has_path-push [] x q = or-false (same_path x.names q)
+has_path-push (y ∷ xs) x q = ap (λ b. same_path y.names q || b) (has_path-push xs x q) ∙ sym (or_assoc (same_path y.names q) (has_path xs q) (same_path x.names q))
 
 -- a set that holds the paths so far holds them with one more
 pub noted-push : (xs : List PathUse) (x : PathUse) (key : Key) (old new : BTreeSet Key) → key.items ≡ x.names → ((q : Key) → contains key_cmp old q ≡ has_path xs q.items) → Updates key_cmp old new key true → (q : Key) → contains key_cmp new q ≡ has_path (xs ++ x ∷ []) q.items

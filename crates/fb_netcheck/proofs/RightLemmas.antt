@@ -29,11 +29,11 @@ use Rattle.fb_netcheck.specs.declared.ends.Position.{Position}
 use Rattle.fb_netcheck.specs.declared.ends.Position.TheVariants.{Source, Destination}
 use Rattle.fb_netcheck.specs.declared.ends.Target.{Target}
 use Rattle.fb_netcheck.specs.declared.ends.Target.TheVariants.{Unknown, NotJudged, Found}
-use Rattle.fb_netcheck.specs.Clean.{AreRight, ConnectionsAreRight, IsFineEnd, application_place, networks_in, type_place}
+use Rattle.fb_netcheck.specs.Clean.{AreRight, ConnectionsAreRight, IsCleanEnd}
 use Rattle.fb_netcheck.specs.Ends.{holder_of, is_right, port_in, target_held, target_named, target_of, target_of_instance}
-use Rattle.fb_netcheck.specs.Networks.{application_network, network_faults, tree_faults}
+use Rattle.fb_netcheck.specs.Networks.{application_network, application_place, network_faults, networks_in, tree_faults, type_place}
 use Rattle.fb_netcheck.specs.Settings.{Place}
-use Rattle.fb_netcheck.proofs.CleanLemmas.{fine_network, left_none, none_of_each, right_none}
+use Rattle.fb_netcheck.proofs.CleanLemmas.{clean_network, left_none, none_of_each, right_none}
 use Rattle.fb_netcheck.proofs.LocalLemmas.{Each, instance_stands}
 
 usable_some : (role : Role) (name : NameUse) (tree : Option DeclTree) → type_fault role name tree ≡ [] → is_some (usable role tree) ≡ true
@@ -57,10 +57,10 @@ each_usable sources all (x ∷ xs) among none =
       each_usable sources all xs (λ q h. among q (or_right (is_same name q) (has_name others q) h)) (right_none first rest none),
     )
 
-fine_is_right : (position : Position) (t : Target) → IsFineEnd position t → (t ≡ NotJudged → ⊥) → is_right position t ≡ true
-fine_is_right position Unknown fine judged = absurd fine
-fine_is_right position NotJudged fine judged = absurd (judged refl)
-fine_is_right position (Found holder port) fine judged = fine
+clean_is_right : (position : Position) (t : Target) → IsCleanEnd position t → (t ≡ NotJudged → ⊥) → is_right position t ≡ true
+clean_is_right position Unknown fine judged = absurd fine
+clean_is_right position NotJudged fine judged = absurd (judged refl)
+clean_is_right position (Found holder port) fine judged = fine
 
 port_is_judged : (holder : Holder) (port : Option Port) → target_of holder port ≡ NotJudged → ⊥
 port_is_judged holder None e = let no : ⊥ = cc in no
@@ -89,10 +89,10 @@ module _ (sources : Sources) (here : Place) (n : NetworkTree) (own : here.scope.
 
   all_right : network_faults sources here n ≡ [] → All (AreRight here) n.connections
   all_right clean =
-      let fine = fine_network sources here n clean in
+      let fine = clean_network sources here n clean in
       λ k c within.
       let here_fine = fine.connections k c within in
-      (fine_is_right Source _ here_fine.source_side (end_is_judged _ _ _), fine_is_right Destination _ here_fine.destination_side (end_is_judged _ _ _))
+      (clean_is_right Source _ here_fine.source_side (end_is_judged _ _ _), clean_is_right Destination _ here_fine.destination_side (end_is_judged _ _ _))
 
 -- the types of the instances of each application
 none_joined : {A B C : Type 0} (f : B → List C) (g : A → List B) (xs : List A) → flat_map f (flat_map g xs) ≡ [] → All (λ x. flat_map f (g x) ≡ []) xs

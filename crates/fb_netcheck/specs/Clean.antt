@@ -1,21 +1,20 @@
 -- What networks without faults are like.
-use Rattle.std.specs.Prelude.{◌≡◌, ℕ, Bool, true, false, ◌&&◌, List, [], ◌∷◌, map, Option, Some, None}
+use Rattle.std.specs.Prelude.{◌≡◌, ℕ, Bool, true, false, ◌&&◌, List, [], map}
 use Rattle.std.specs.List.{All}
-use Rattle.fb_iface.specs.Tree.Tree.{ApplicationTree, DeclTree, NetworkTree, TypeTree, block_type, adapter_type, subapplication_type, system_configuration}
+use Rattle.fb_iface.specs.Tree.Tree.{NetworkTree}
 use Rattle.fb_iface.specs.Tree.declared.interface.TypeUse.{TypeUse}
 use Rattle.fb_iface.specs.Tree.declared.kinds.UnitKind.{UnitKind}
-use Rattle.fb_iface.specs.Tree.declared.kinds.UnitKind.TheVariants.{Block, Subapplication, System}
+use Rattle.fb_iface.specs.Tree.declared.kinds.UnitKind.TheVariants.{Subapplication}
 use Rattle.fb_iface.specs.Tree.declared.network.Connection.{Connection}
 use Rattle.fb_iface.specs.Library.View.{Sources, tree_at}
 use Rattle.fb_iface.specs.Declarations.{iface_faults_of}
 use Rattle.fb_iface.specs.Ports.{same_side}
-use Rattle.fb_iface.specs.Scope.{scope_of_network, scope_of_type}
 use Rattle.fb_netcheck.specs.declared.ends.Position.{Position}
 use Rattle.fb_netcheck.specs.declared.ends.Position.TheVariants.{Source, Destination}
 use Rattle.fb_netcheck.specs.declared.ends.Target.{Target}
 use Rattle.fb_netcheck.specs.declared.ends.Target.TheVariants.{Unknown, NotJudged, Found}
 use Rattle.fb_netcheck.specs.Ends.{is_right, right_side, target}
-use Rattle.fb_netcheck.specs.Networks.{net_faults_of}
+use Rattle.fb_netcheck.specs.Networks.{net_faults_of, networks_in}
 use Rattle.fb_netcheck.specs.Paths.{repeated}
 use Rattle.fb_netcheck.specs.Repeats.{all_adapter_ends, data_destinations, end_path}
 use Rattle.fb_netcheck.specs.Settings.{Place}
@@ -23,10 +22,10 @@ use Rattle.fb_netcheck.specs.Sides.{is_own_port}
 use Rattle.fb_netcheck.specs.Types.{same_at_ends, targets_agree}
 
 -- an end names a port of the right side, or one of a type that is not usable
-abbrev pub IsFineEnd : Position → Target → Type 0
-IsFineEnd position Unknown = ⊥
-IsFineEnd position NotJudged = Unit {0}
-IsFineEnd position (Found holder port) = same_side port.side (right_side position holder) ≡ true
+abbrev pub IsCleanEnd : Position → Target → Type 0
+IsCleanEnd position Unknown = ⊥
+IsCleanEnd position NotJudged = Unit {0}
+IsCleanEnd position (Found holder port) = same_side port.side (right_side position holder) ≡ true
 
 -- in a subapplication, these are not two own ports of the right sides
 abbrev pub PassesNothing : UnitKind → Target → Target → Type 0
@@ -34,43 +33,29 @@ PassesNothing Subapplication source destination = (is_own_port Source source && 
 PassesNothing kind source destination = Unit {0}
 
 -- a connection whose ends name these, where types are compared by the test
-pub record IsFine (kind : UnitKind) (same : TypeUse → TypeUse → Bool) (source destination : Target) : Type 0 where
-  pub source_side : IsFineEnd Source source
-  pub destination_side : IsFineEnd Destination destination
+pub record IsClean (kind : UnitKind) (same : TypeUse → TypeUse → Bool) (source destination : Target) : Type 0 where
+  pub source_side : IsCleanEnd Source source
+  pub destination_side : IsCleanEnd Destination destination
   -- ports of the right sides are of one type: of one data type, or of one adapter type
   pub one_type : is_right Source source ≡ true → is_right Destination destination ≡ true → targets_agree same source destination ≡ true
   pub passes_nothing : PassesNothing kind source destination
 
-abbrev pub IsFineConnection : Sources → Place → Connection → Type 0
-IsFineConnection sources here c = IsFine here.kind (same_at_ends sources here c) (target here c.sort c.source) (target here c.sort c.destination)
+abbrev pub IsCleanConnection : Sources → Place → Connection → Type 0
+IsCleanConnection sources here c = IsClean here.kind (same_at_ends sources here c) (target here c.sort c.source) (target here c.sort c.destination)
 
-pub record IsFineNetwork (sources : Sources) (here : Place) (n : NetworkTree) : Type 0 where
-  pub connections : All (IsFineConnection sources here) n.connections
+pub record IsCleanNetwork (sources : Sources) (here : Place) (n : NetworkTree) : Type 0 where
+  pub connections : All (IsCleanConnection sources here) n.connections
   -- each data destination has one source, and each adapter end one other end
   pub one_source : repeated (map end_path (data_destinations n.connections)) ≡ []
   pub one_adapter : repeated (map end_path (all_adapter_ends n.connections)) ≡ []
 
-abbrev pub type_place : Sources → List ℕ → UnitKind → TypeTree → Place × NetworkTree
-type_place sources unit kind d = (record { unit = unit; kind = kind; scope = scope_of_type sources d }, d.network)
-
-abbrev pub application_place : Sources → List ℕ → ApplicationTree → Place × NetworkTree
-application_place sources unit a = (record { unit = unit; kind = System; scope = scope_of_network sources a.network }, a.network)
-
--- the networks of a declaration, each where it stands
-abbrev pub networks_in : Sources → List ℕ → Option DeclTree → List (Place × NetworkTree)
-networks_in sources unit None = []
-networks_in sources unit (Some (block_type d)) = type_place sources unit Block d ∷ []
-networks_in sources unit (Some (adapter_type d)) = []
-networks_in sources unit (Some (subapplication_type d)) = type_place sources unit Subapplication d ∷ []
-networks_in sources unit (Some (system_configuration s)) = map (application_place sources unit) s.applications
-
--- without faults, the networks of a unit are fine
-abbrev pub NetworksAreFine : Type 0
-NetworksAreFine =
+-- without faults, the networks of a unit are clean
+abbrev pub FaultlessNetworksAreClean : Type 0
+FaultlessNetworksAreClean =
     (sources : Sources) (unit : List ℕ) → net_faults_of sources unit ≡ []
-    → All (λ (placed : Place × NetworkTree). IsFineNetwork sources placed.0 placed.1) (networks_in sources unit (tree_at sources unit))
+    → All (λ (placed : Place × NetworkTree). IsCleanNetwork sources placed.0 placed.1) (networks_in sources unit (tree_at sources unit))
 
--- both ends name ports of the right sides
+-- Both ends name ports of the right sides: a clean connection whose types are usable.
 abbrev pub AreRight : Place → Connection → Type 0
 AreRight here c = (is_right Source (target here c.sort c.source) ≡ true) × (is_right Destination (target here c.sort c.destination) ≡ true)
 

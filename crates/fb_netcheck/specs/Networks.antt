@@ -1,5 +1,5 @@
 -- The faults of networks.
-use Rattle.std.specs.Prelude.{ℕ, List, [], ◌++◌, Option, Some, None}
+use Rattle.std.specs.Prelude.{ℕ, List, [], ◌∷◌, ◌++◌, map, Option, Some, None}
 use Rattle.std.specs.List.{flat_map}
 use Rattle.fb_iface.specs.Tree.Tree.{ApplicationTree, DeclTree, NetworkTree, TypeTree, block_type, adapter_type, subapplication_type, system_configuration}
 use Rattle.fb_iface.specs.Tree.declared.kinds.UnitKind.{UnitKind}
@@ -18,13 +18,31 @@ abbrev pub network_faults : Sources → Place → NetworkTree → List Fault
 network_faults sources here n =
     flat_map (connection_faults here) n.connections ++ flat_map (joined_types sources here) n.connections ++ second_sources n.connections ++ second_adapters n.connections ++ all_parameters here.scope n.instances
 
--- the network of a type
-abbrev pub type_network : Sources → List ℕ → UnitKind → TypeTree → List Fault
-type_network sources unit kind d = network_faults sources (record { unit = unit; kind = kind; scope = scope_of_type sources d }) d.network
+-- the network of a type, where it stands
+abbrev pub type_place : Sources → List ℕ → UnitKind → TypeTree → Place × NetworkTree
+type_place sources unit kind d = (record { unit = unit; kind = kind; scope = scope_of_type sources d }, d.network)
 
 -- the network of an application of a system
+abbrev pub application_place : Sources → List ℕ → ApplicationTree → Place × NetworkTree
+application_place sources unit a = (record { unit = unit; kind = System; scope = scope_of_network sources a.network }, a.network)
+
+-- the networks of a declaration, each where it stands
+abbrev pub networks_in : Sources → List ℕ → Option DeclTree → List (Place × NetworkTree)
+networks_in sources unit None = []
+networks_in sources unit (Some (block_type d)) = type_place sources unit Block d ∷ []
+networks_in sources unit (Some (adapter_type d)) = []
+networks_in sources unit (Some (subapplication_type d)) = type_place sources unit Subapplication d ∷ []
+networks_in sources unit (Some (system_configuration s)) = map (application_place sources unit) s.applications
+
+-- the faults of a network, where it stands
+abbrev pub placed_faults : Sources → Place × NetworkTree → List Fault
+placed_faults sources placed = network_faults sources placed.0 placed.1
+
+abbrev pub type_network : Sources → List ℕ → UnitKind → TypeTree → List Fault
+type_network sources unit kind d = placed_faults sources (type_place sources unit kind d)
+
 abbrev pub application_network : Sources → List ℕ → ApplicationTree → List Fault
-application_network sources unit a = network_faults sources (record { unit = unit; kind = System; scope = scope_of_network sources a.network }) a.network
+application_network sources unit a = placed_faults sources (application_place sources unit a)
 
 -- an adapter type has no network
 abbrev pub declared_faults : Sources → List ℕ → DeclTree → List Fault

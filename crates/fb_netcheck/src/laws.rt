@@ -1,5 +1,5 @@
 //! Laws of the faults of networks.
-ghost use Rattle.fb_netcheck.specs.Clean.{ConnectionsAreRight, NetworksAreFine};
+ghost use Rattle.fb_netcheck.specs.Clean.{ConnectionsAreRight, FaultlessNetworksAreClean};
 ghost use Rattle.fb_netcheck.specs.Local.{NetFaultsAreLocal};
 
 /// The faults of the networks of a unit depend on its text and the texts of the types that it mentions alone.
@@ -10,8 +10,8 @@ pub fn net_faults_are_local()
 /// Where the networks of a unit have no faults, each connection joins ports of the right sides that are of one type, no own port of a
 /// subapplication is joined to another, each data destination has one source and each adapter end one other end. What rests on a type
 /// that is not usable is not judged.
-pub fn networks_are_fine()
-    ensures { NetworksAreFine }
+pub fn faultless_networks_are_clean()
+    ensures { FaultlessNetworksAreClean }
 {}
 
 /// Where a unit has no faults of what it declares either, each type of an instance is usable, and each end of a connection is a port of

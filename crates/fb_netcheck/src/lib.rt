@@ -14,7 +14,7 @@ mod sides;
 mod spellings;
 mod types;
 
-pub use laws::{connections_are_right, net_faults_are_local, networks_are_fine};
+pub use laws::{connections_are_right, faultless_networks_are_clean, net_faults_are_local};
 pub use networks::{net_faults, report_network, report_networks};
 pub use paths::{Placed, report_repeated};
 pub use setting::Setting;

@@ -1,4 +1,5 @@
 pub mod SplitLemmas
+pub mod PathLemmas
 pub mod PlaceLemmas
 pub mod ConstantLemmas
 pub mod NetworkLemmas

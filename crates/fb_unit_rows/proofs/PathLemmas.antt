@@ -1,84 +1,10 @@
--- Paths that stand twice in a list, and where a path stands.
-use Rattle.std.proofs.Common.{◌≡◌, ℕ, ◌+◌, ◌-◌, Bool, true, false, ◌||◌, length, List, [], ◌∷◌, ◌++◌, take, Some, ◌⊎◌, inl, inr, refl, sym, ap, ◌∙◌, subst, true≢false, arith}
-use Rattle.std.specs.FinMap.{nat_cmp-IsAntisymmetric, slice_cmp-IsAntisymmetric}
-use Rattle.std.specs.List.{Contains, enumerate_from, filter, slice_get}
+-- Where a path stands.
+use Rattle.std.proofs.Common.{◌≡◌, ℕ, ◌-◌, length, List, [], ◌∷◌, Some, refl, ap, ◌∙◌, arith}
+use Rattle.std.specs.List.{slice_get}
 use Rattle.std.specs.Option.{option_map_or}
-use Rattle.std.specs.Ordering.{is_eq}
-use Rattle.std.proofs.Math.Seq.{take-append_seam}
-use Rattle.std.proofs.lemmas.Cmp.{lists_total, nat_list_cmp_total, tied_itself}
-use Rattle.std.proofs.lemmas.Map.Views.{tells_apart}
 use Rattle.fb_text.specs.declared.name.NameUse.{NameUse}
-use Rattle.fb_faults.proofs.Iface.EarlierLemmas.{at_place, in_places}
-use Rattle.fb_faults.proofs.Iface.Members.{contains_cases, contains_filter, contains_here, contains_later, contains_map, contains_nothing, origin_in_map, passes_in_filter}
-use Rattle.fb_faults.specs.Netcheck.Paths.{Path, PathUse, has_path, is_repeated, path_of_names, repeated, same_path}
-use Rattle.fb_network_rows.proofs.SplitLemmas.{at_split, split_at}
+use Rattle.fb_faults.specs.Netcheck.Paths.{path_of_names}
 use Rattle.fb_unit_rows.specs.Rows.{last_of, place_of_path}
-
--- paths
-
-path_exact : (a b : Path) → same_path a b ≡ true → a ≡ b
-path_exact a b e = tells_apart (slice_cmp-IsAntisymmetric (slice_cmp-IsAntisymmetric nat_cmp-IsAntisymmetric)) a b e
-
-path_itself : (a b : Path) → a ≡ b → same_path a b ≡ true
-path_itself a b e = ap (same_path a) (sym e) ∙ ap is_eq (tied_itself (lists_total nat_list_cmp_total) a)
-
-pub path_among : (paths : List PathUse) (q : Path) → has_path paths q ≡ true → (p : PathUse) × Contains paths p × (p.names ≡ q)
-path_among [] q e = absurd (true≢false (sym e))
-path_among (x ∷ xs) q e = by (same_path x.names q) refl e (path_among xs q)
-  where
-    by : (b : Bool) → same_path x.names q ≡ b → (b || has_path xs q) ≡ true → (has_path xs q ≡ true → (p : PathUse) × Contains xs p × (p.names ≡ q)) → (p : PathUse) × Contains (x ∷ xs) p × (p.names ≡ q)
-    by true s h more = (x, contains_here x xs, path_exact x.names q s)
-    by false s h more = let o = more h in (o.0, contains_later x xs o.0 o.1, o.2)
-
-or_true : (b : Bool) → (b || true) ≡ true
-or_true true = refl
-or_true false = refl
-
-pub among_paths : (paths : List PathUse) (q : Path) (p : PathUse) → Contains paths p → p.names ≡ q → has_path paths q ≡ true
-among_paths [] q p c e = absurd (contains_nothing p c)
-among_paths (x ∷ xs) q p c e = by (contains_cases x xs p c) (λ d. among_paths xs q p d e)
-  where
-    by : (x ≡ p) ⊎ Contains xs p → (Contains xs p → has_path xs q ≡ true) → (same_path x.names q || has_path xs q) ≡ true
-    by (inl s) more = ap (λ b. b || has_path xs q) (path_itself x.names q (ap (λ (m : PathUse). m.names) s ∙ e))
-    by (inr d) more = ap (λ b. same_path x.names q || b) (more d) ∙ or_true (same_path x.names q)
-
--- a path that stands before its place too
-pub record IsAgain (paths : List PathUse) (x : PathUse) : Type 0 where
-  pub before : List PathUse
-  pub after : List PathUse
-  pub split : paths ≡ before ++ x ∷ after
-  pub seen : has_path before x.names ≡ true
-
-pub is_again : (paths : List PathUse) (x : PathUse) → Contains (repeated paths) x → IsAgain paths x
-is_again paths x c =
-    let p = origin_in_map (λ (placed : ℕ × PathUse). placed.1) (filter (is_repeated paths) (enumerate_from 0 paths)) x c in
-    let r = passes_in_filter (is_repeated paths) (enumerate_from 0 paths) p.origin p.among in
-    let j = in_places 0 paths p.origin r.among in
-    let number : p.origin.0 ≡ j.0 = j.1 ∙ (let e : 0 + j.0 ≡ j.0 = omega arith in e) in
-    let s = split_at paths j.0 x (j.2 ∙ ap Some p.gives) in
-    record {
-      before = take j.0 paths;
-      after = s.0;
-      split = s.1;
-      seen = (λ i. has_path (take (sym number i) paths) (sym p.gives i).names) ∙ r.passes;
-    }
-
-pub again_is : (paths : List PathUse) (x : PathUse) → IsAgain paths x → Contains (repeated paths) x
-again_is paths x h = subst (λ (l : List PathUse). Contains (repeated l) x) (sym h.split) (contains_map (λ (placed : ℕ × PathUse). placed.1) (filter (is_repeated whole) (enumerate_from 0 whole)) (length h.before, x) placed)
-  where
-    whole : List PathUse
-    whole = h.before ++ x ∷ h.after
-
-    start : 0 + length h.before ≡ length h.before
-    start = omega arith
-
-    there : Contains (enumerate_from 0 whole) (length h.before, x)
-    there = subst (λ (k : ℕ). Contains (enumerate_from 0 whole) (k, x)) start (at_place 0 whole (length h.before) x (at_split h.before x h.after))
-
-    placed : Contains (filter (is_repeated whole) (enumerate_from 0 whole)) (length h.before, x)
-    placed = contains_filter (is_repeated whole) (enumerate_from 0 whole) (length h.before, x) there (ap (λ l. has_path l x.names) (take-append_seam h.before (x ∷ h.after)) ∙ h.seen)
-
--- where a path stands
 
 last_there : (first : NameUse) (others : List NameUse) → slice_get (first ∷ others) (length others) ≡ Some (last_of first others)
 last_there first [] = refl

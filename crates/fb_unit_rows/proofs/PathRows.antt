@@ -12,7 +12,8 @@ use Rattle.fb_faults.specs.Netcheck.Paths.{PathUse, fault_at_path, has_path, rep
 use Rattle.fb_faults.proofs.Iface.Members.{contains_map, origin_in_map}
 use Rattle.fb_network_rows.proofs.SplitLemmas.{SplitImages, images_split, split_images}
 use Rattle.fb_unit_rows.specs.Rows.{HasSecondMapping, HaveSamePaths, IsSystemAt, MappingsHaveOwnPaths}
-use Rattle.fb_unit_rows.proofs.PathLemmas.{IsAgain, again_is, among_paths, is_again, path_among, path_place}
+use Rattle.fb_network_rows.proofs.PathLemmas.{IsAgain, again_is, among_paths, is_again, path_among}
+use Rattle.fb_unit_rows.proofs.PathLemmas.{path_place}
 use Rattle.fb_unit_rows.proofs.MappingLemmas.{IsMappingPart, codes_differ, mapping_origin, mapping_part, mapping_path, mapping_reported, of_lost, of_second}
 
 record IsMappedAgain (mappings : List MappingTree) (x : PathUse) : Type 0 where

@@ -1,18 +1,13 @@
 -- Units whose text is broken, that are absent, and that are whole.
-use Rattle.std.proofs.Common.{◌≡◌, List, [], ◌++◌, refl, sym, ap, subst}
+use Rattle.std.proofs.Common.{◌≡◌, List, [], refl, sym, ap, subst}
 use Rattle.std.specs.List.{Contains}
 use Rattle.std.specs.Option.{option_and_then}
 use Rattle.fb_faults.specs.Parse.Body.{BodyTree, BrokenAt, IsBody}
 use Rattle.fb_faults.specs.Library.View.{tree_of}
-use Rattle.fb_faults.specs.Iface.Declarations.{declaration_faults}
 use Rattle.fb_faults.specs.Iface.Fault.{faults_in_order}
 use Rattle.fb_faults.specs.Iface.declared.code.Code.TheVariants.{Syntax}
 use Rattle.fb_faults.specs.Iface.declared.fault.Fault.{Fault}
-use Rattle.fb_faults.specs.Expr.Charts.{faults_in_unit}
-use Rattle.fb_faults.specs.Ecc.Charts.{chart_faults_in}
-use Rattle.fb_faults.specs.Netcheck.Networks.{tree_faults}
-use Rattle.fb_faults.specs.Mappings.{declared_mapping_faults}
-use Rattle.fb_faults.specs.Faults.{faults_of, text_faults}
+use Rattle.fb_faults.specs.Faults.{all_reported, faults_of, text_faults}
 use Rattle.fb_faults.proofs.Iface.Members.{contains_here}
 use Rattle.fb_faults.proofs.OrderLemmas.{broken_alone}
 use Rattle.fb_faults.proofs.Parse.Bodies.{one, told}
@@ -47,4 +42,4 @@ whole_not_reported sources unit decl there f c = by ((whole_units sources unit d
 pub absent_clean : AbsentUnitsHaveNoFaults
 absent_clean sources unit absent =
     let declared = ap (option_and_then tree_of) absent in
-    λ i. faults_in_order (text_faults (absent i) ++ declaration_faults sources unit (declared i) ++ faults_in_unit sources (declared i) ++ chart_faults_in sources (declared i) ++ tree_faults sources unit (declared i) ++ declared_mapping_faults (declared i))
+    λ i. faults_in_order (all_reported sources unit (text_faults (absent i)) (declared i))

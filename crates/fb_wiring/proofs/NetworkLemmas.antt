@@ -26,7 +26,7 @@ use Rattle.fb_faults.specs.Iface.declared.fault.Fault.{Fault}
 use Rattle.fb_faults.specs.Iface.declared.ports.DeclaredInstance.{DeclaredInstance}
 use Rattle.fb_faults.proofs.Iface.Members.{contains_cases, contains_here, contains_later, contains_nothing, origin_in_map}
 use Rattle.fb_faults.proofs.Iface.NameLemmas.{same_exact}
-use Rattle.fb_faults.specs.Netcheck.Clean.{AreRight, IsFineConnection, IsFineNetwork}
+use Rattle.fb_faults.specs.Netcheck.Clean.{AreRight, IsCleanConnection, IsCleanNetwork}
 use Rattle.fb_faults.specs.Netcheck.Ends.{adapter_port, holder_of, is_right, port_in, port_in_role, right_side, target, target_held, target_in, target_named, target_of, target_of_instance}
 use Rattle.fb_faults.specs.Netcheck.Settings.{Place}
 use Rattle.fb_faults.specs.Netcheck.Sides.{is_own_port}
@@ -363,7 +363,7 @@ module _ (sources : Sources) (here : Place) (n : NetworkTree) (ports : List Port
           destination = ap (λ c. c.destination) o.gives ∙ k.destination;
         }
 
-    module _ (right : All (AreRight here) n.connections) (fine : IsFineNetwork sources here n) (none : TypesAreFine sources n) (passes : (c : ConnectionTree) (x : List ℕ) → Contains n.connections c → plain_end c.source ≡ Own x → (is_own_port Source (target here c.sort c.source) && is_own_port Destination (target here c.sort c.destination)) ≡ false) where
+    module _ (right : All (AreRight here) n.connections) (fine : IsCleanNetwork sources here n) (none : TypesAreFine sources n) (passes : (c : ConnectionTree) (x : List ℕ) → Contains n.connections c → plain_end c.source ≡ Own x → (is_own_port Source (target here c.sort c.source) && is_own_port Destination (target here c.sort c.destination)) ≡ false) where
       right_at : (c : ConnectionTree) → Contains n.connections c → AreRight here c
       right_at c among = All-contains (AreRight here) n.connections c right among
 
@@ -388,7 +388,7 @@ module _ (sources : Sources) (here : Place) (n : NetworkTree) (ports : List Port
           let r = right_at c among in
           let s = meets Source sorts.Adapter c.source.name c.source.port (ap (λ k. is_right Source (target here k c.source)) (sym a) ∙ r.0) in
           let d = meets Destination sorts.Adapter c.destination.name c.destination.port (ap (λ k. is_right Destination (target here k c.destination)) (sym a) ∙ r.1) in
-          let agree = (All-contains (IsFineConnection sources here) n.connections c fine.connections among).one_type r.0 r.1 in
+          let agree = (All-contains (IsCleanConnection sources here) n.connections c fine.connections among).one_type r.0 r.1 in
           let flows_same : flows_agree (same_at_ends sources here c) s.port.flow d.port.flow ≡ true = (λ i. targets_agree (same_at_ends sources here c) (sym s.is i) (sym d.is i)) ∙ (λ i. targets_agree (same_at_ends sources here c) (target here (sym a i) c.source) (target here (sym a i) c.destination)) ∙ agree in
           adapter_there view network (plain_end c.source)
           ∙ ap (option_and_then (λ (p : Port). p.adapter)) s.found

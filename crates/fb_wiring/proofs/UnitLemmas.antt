@@ -18,13 +18,14 @@ use Rattle.fb_faults.specs.Iface.Spaces.{chart_spaces, interface_spaces, network
 use Rattle.fb_faults.specs.Iface.Types.{instance_faults, instances_of, type_faults}
 use Rattle.fb_faults.specs.Iface.declared.ports.DeclaredInstance.{DeclaredInstance}
 use Rattle.fb_faults.proofs.Iface.Members.{contains_cases, contains_flat_map, contains_here, contains_later, contains_map, contains_nothing, origin_in_map}
-use Rattle.fb_faults.specs.Netcheck.Clean.{AreRight, IsFineConnection, IsFineNetwork, application_place, networks_in, type_place}
+use Rattle.fb_faults.specs.Netcheck.Networks.{application_place, networks_in, type_place}
+use Rattle.fb_faults.specs.Netcheck.Clean.{AreRight, IsCleanConnection, IsCleanNetwork}
 use Rattle.fb_faults.specs.Netcheck.Ends.{adapter_port, holder_of, port_in, port_in_role, target, target_named, target_of}
 use Rattle.fb_faults.specs.Netcheck.Settings.{Place}
 use Rattle.fb_faults.specs.Netcheck.Sides.{is_own_port}
 use Rattle.fb_faults.specs.Netcheck.declared.ends.Holder.TheVariants as holders
 use Rattle.fb_faults.specs.Netcheck.declared.ends.Position.TheVariants.{Source, Destination}
-use Rattle.fb_faults.proofs.Netcheck.CleanLemmas.{left_none, networks_fine, none_of_each, right_none}
+use Rattle.fb_faults.proofs.Netcheck.CleanLemmas.{left_none, networks_clean as faultless_clean, none_of_each, right_none}
 use Rattle.fb_faults.proofs.Netcheck.LocalLemmas.{Each, instance_stands}
 use Rattle.fb_faults.proofs.Netcheck.RightLemmas.{connections_right}
 use Rattle.fb_network.specs.Plain.{PlainNetwork}
@@ -62,7 +63,7 @@ abbrev Right : Place × NetworkTree → Type 0
 Right placed = All (AreRight placed.0) placed.1.connections
 
 abbrev Fine : Sources → Place × NetworkTree → Type 0
-Fine sources placed = IsFineNetwork sources placed.0 placed.1
+Fine sources placed = IsCleanNetwork sources placed.0 placed.1
 
 -- the type of each instance has no fault
 types_fine : (sources : Sources) (unit : List ℕ) (decl : DeclTree) → declaration_faults sources unit (Some decl) ≡ [] → (i : InstanceTree) → Contains (instances_of decl) i → instance_faults sources i ≡ []
@@ -76,7 +77,7 @@ module _ (sources : Sources) (unit : List ℕ) (decl : DeclTree) (is : tree_at s
   all_right = subst (λ (t : Option DeclTree). All Right (networks_in sources unit t)) is (connections_right sources unit report.declarations report.networks)
 
   all_fine : All (Fine sources) (networks_in sources unit (Some decl))
-  all_fine = subst (λ (t : Option DeclTree). All (Fine sources) (networks_in sources unit t)) is (networks_fine sources unit report.networks)
+  all_fine = subst (λ (t : Option DeclTree). All (Fine sources) (networks_in sources unit t)) is (faultless_clean sources unit report.networks)
 
   all_types : (i : InstanceTree) → Contains (instances_of decl) i → instance_faults sources i ≡ []
   all_types = types_fine sources unit decl (ap (declaration_faults sources unit) (sym is) ∙ report.declarations)
@@ -108,7 +109,7 @@ subapplication_sound sources unit d is report =
     (All-head Right placed [] (all_right sources unit decl is report))
     fine
     (all_types sources unit decl is report)
-    (λ c x among own. (All-contains (IsFineConnection sources placed.0) d.network.connections c fine.connections among).passes_nothing)
+    (λ c x among own. (All-contains (IsCleanConnection sources placed.0) d.network.connections c fine.connections among).passes_nothing)
 
 declared_sound : (sources : Sources) (unit : List ℕ) (decl : DeclTree) → tree_at sources unit ≡ Some decl → HasNoReport sources unit → IsSound sources (network_of decl)
 declared_sound sources unit (block_type d) is report = leaf_sound sources (plain_ports (meanings_in_type d))
