@@ -47,7 +47,9 @@ fn add_flat<H: Hints>(
 ) -> Result<(), AllocError>
     requires { is_some (get name_cmp table.now name.now) ≡ true }
     ensures others { OnOk result (SameOthers (get name_cmp composed.old) (get name_cmp composed.new) name.now) }
-    ensures added { OnOk result (IsAdded (get name_cmp table.now) (known_flats (H.hints hints.now) (get name_cmp composed.old)) (get name_cmp composed.new) name.now) }
+    ensures added { OnOk result
+        (IsAdded (get name_cmp table.now) (known_flats (H.hints hints.now) (get name_cmp composed.old))
+        (get name_cmp composed.new) name.now) }
 {
     let nets = KnownFlats {
         hints,

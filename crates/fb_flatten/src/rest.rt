@@ -31,7 +31,8 @@ fn source_left<'a, V: View, H: Hints>(
     unit: &Name,
     name: &Name,
 ) -> Option<&'a Source>
-    ensures { option_map (λ it. it.now.text) result ≡ map.get (left_of (H.hints hints.now) (V.sources view.now) unit.now) name.now }
+    ensures { option_map (λ it. it.now.text) result
+        ≡ map.get (left_of (H.hints hints.now) (V.sources view.now) unit.now) name.now }
 {
     if is_left(hints, unit, name) {
         view.get(name)

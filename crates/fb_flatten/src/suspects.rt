@@ -41,7 +41,9 @@ fn open<V: View, H: Hints>(
     seen: &mut BTreeSet<Name>,
     pending: &mut Vec<Name>,
 ) -> Result<(), AllocError>
-    ensures { OnOk result (Opens (mentions_beyond (H.hints hints.now) (V.sources view.now) name.now) seen.old.keys pending.old.items seen.new.keys pending.new.items) }
+    ensures { OnOk result
+        (Opens (mentions_beyond (H.hints hints.now) (V.sources view.now) name.now)
+        seen.old.keys pending.old.items seen.new.keys pending.new.items) }
 {
     if is_known_whole(hints, name) {
         return Ok(());

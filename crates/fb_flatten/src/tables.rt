@@ -122,7 +122,8 @@ fn count_by_table(table: &Table, counts: &Counts, name: &Name) -> u32
 /// The same where its net may be kept.
 fn count_of_type<H: Hints>(hints: &H, table: &Table, counts: &Counts, name: &Name) -> u32
     requires { is_some (get name_cmp table.now name.now) ≡ true }
-    ensures { IsTypeCount (get name_cmp table.now) (count_of_hint (H.hints hints.now name.now)) (get name_cmp counts.now) name.now result }
+    ensures { IsTypeCount (get name_cmp table.now) (count_of_hint (H.hints hints.now name.now))
+        (get name_cmp counts.now) name.now result }
 {
     match kept_count(hints, name) {
         Some(count) => count,
