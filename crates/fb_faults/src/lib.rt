@@ -39,7 +39,9 @@ pub mod library {
 
 /// Of `fb_netcheck`, for the crates above.
 pub mod netcheck {
-    pub use fb_netcheck::{connections_are_right, net_faults_are_local, networks_are_fine};
+    pub use fb_netcheck::{
+        connections_are_right, net_faults_are_local, networks_are_fine, part_of, text_by_name,
+    };
 }
 
 /// Of `fb_netcheck::parse`, for the crates above.
