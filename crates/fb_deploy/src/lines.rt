@@ -12,9 +12,10 @@ ghost use Rattle.fb_mapping.specs.Systems.{applications_in};
 ghost use Rattle.fb_deploy.specs.Lines.{create_line, create_lines, home_lines, line_cmp, line_cmp_total, lines_at, write_line, write_lines};
 
 use crate::command::Command;
-use crate::written::{text_by_name, written};
+use crate::written::written;
 use fb_mapping::compose::sort_once;
 use fb_mapping::library::View;
+use fb_mapping::netcheck::text_by_name;
 use fb_mapping::network::{FlatBlock, Path};
 use fb_mapping::tree::Parameter;
 use fb_mapping::{Home, PathTable, Standing, path_names, standing_at};

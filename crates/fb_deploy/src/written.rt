@@ -3,23 +3,13 @@ ghost use Rattle.std.specs.Prelude.{◌≡◌, All, IfOk, string_bytes};
 ghost use Rattle.std.specs.List.{flat_map};
 ghost use Rattle.fb_text.specs.Tokens.{LiesIn};
 ghost use Rattle.fb_mapping.specs.Tree.Tree.{constant_tree};
-ghost use Rattle.fb_mapping.specs.Netcheck.Spellings.{is_boundary, part, text_at};
+ghost use Rattle.fb_mapping.specs.Netcheck.Spellings.{part};
 ghost use Rattle.fb_deploy.specs.Written.{constant_span, simple_span, token_text, without_gaps, written};
 
-use fb_mapping::library::View;
+use fb_mapping::netcheck::part_of;
 use fb_mapping::tree::{Constant, Simple};
-use fb_text::{Name, Span, Token, TokenFault, tokens};
+use fb_text::{Span, Token, TokenFault, tokens};
 use std::alloc::{AllocError, Global};
-
-/// The text of a unit, empty where it is absent.
-pub(crate) fn text_by_name<'a, V: View>(view: &'a V, unit: &Name) -> &'a str
-    ensures { result.now ≡ text_at (V.sources view.now) unit.now }
-{
-    match view.get(unit) {
-        Some(source) => source.text(),
-        None => "",
-    }
-}
 
 fn span_of_simple(value: &Simple) -> Span
     ensures { result ≡ simple_span value.now }
@@ -36,24 +26,6 @@ fn span_of(constant: &Constant) -> Span
     match constant {
         Constant::One(value) => span_of_simple(value),
         Constant::List(_, span) => *span,
-    }
-}
-
-/// Whether a place in a text is between two characters, at its start or at its end.
-fn is_between(text: &str, place: usize) -> bool
-    ensures { result ≡ is_boundary text.now place }
-{
-    text.is_char_boundary(place)
-}
-
-/// The part of a text, empty where the span is none of it.
-fn part_of(text: &str, span: Span) -> &str
-    ensures { result.now ≡ part text.now span }
-{
-    if span.start <= span.end && is_between(text, span.start) && is_between(text, span.end) {
-        &text[span.start..span.end]
-    } else {
-        ""
     }
 }
 

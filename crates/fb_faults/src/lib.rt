@@ -40,7 +40,8 @@ pub mod library {
 /// Of `fb_netcheck`, for the crates above.
 pub mod netcheck {
     pub use fb_netcheck::{
-        connections_are_right, faultless_networks_are_clean, net_faults_are_local,
+        connections_are_right, faultless_networks_are_clean, net_faults_are_local, part_of,
+        text_by_name,
     };
 }
 

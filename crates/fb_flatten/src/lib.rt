@@ -46,6 +46,11 @@ pub mod library {
     };
 }
 
+/// Of `fb_wiring::netcheck`, for the crates above.
+pub mod netcheck {
+    pub use fb_wiring::netcheck::{part_of, text_by_name};
+}
+
 /// Of `fb_wiring::plain`, for the crates above.
 pub mod network {
     pub use fb_wiring::plain::{

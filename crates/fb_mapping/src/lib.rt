@@ -50,6 +50,11 @@ pub mod library {
     };
 }
 
+/// Of `fb_flatten::netcheck`, for the crates above.
+pub mod netcheck {
+    pub use fb_flatten::netcheck::{part_of, text_by_name};
+}
+
 /// Of `fb_flatten::network`, for the crates above.
 pub mod network {
     pub use fb_flatten::network::{

@@ -81,7 +81,7 @@ fn words_of_unit<V: View>(
 }
 
 /// The text of a unit, empty where it is absent.
-fn text_by_name<'a, V: View>(view: &'a V, unit: &Name) -> &'a str
+pub fn text_by_name<'a, V: View>(view: &'a V, unit: &Name) -> &'a str
     ensures { result.now ≡ text_at (V.sources view.now) unit.now }
 {
     match view.get(unit) {
@@ -116,7 +116,7 @@ fn is_spelled_alike<V: View>(
 }
 
 /// The part of a text, empty where the span is none of it.
-fn part_of(text: &str, span: Span) -> &str
+pub fn part_of(text: &str, span: Span) -> &str
     ensures { result.now ≡ part text.now span }
 {
     if span.start <= span.end && is_between(text, span.start) && is_between(text, span.end) {

@@ -30,6 +30,11 @@ pub mod library {
     };
 }
 
+/// Of `fb_faults::netcheck`, for the crates above.
+pub mod netcheck {
+    pub use fb_faults::netcheck::{part_of, text_by_name};
+}
+
 /// Of `fb_faults::parse`, for the crates above.
 pub mod parse {
     pub use fb_faults::parse::{ReadFault, Source};
