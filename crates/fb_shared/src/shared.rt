@@ -3,10 +3,9 @@ ghost use Rattle.std.specs.Prelude.{◌≡◌, IfOk, IfErr};
 ghost use Rattle.fb_bench.specs.Machine.{ToCommit, ToTake, ToDeliver, ToGiveBack, ToAsk, OfAsk};
 ghost use Rattle.fb_bench.specs.Records.{listed, shown_in};
 ghost use Rattle.fb_bench.specs.Requests.{job_of};
-ghost use Rattle.fb_shared.specs.Book.{IsBookOf};
 ghost use Rattle.fb_shared.specs.Calls.{Answers};
-ghost use Rattle.fb_shared.specs.Closing.{AgreesWith};
-ghost use Rattle.fb_shared.specs.Seats.{Hall, AreFirstSeats};
+ghost use Rattle.fb_shared.specs.Closing.{IsCloseOf};
+ghost use Rattle.fb_shared.specs.Seats.{AreFirstSeats};
 
 use crate::close::{Closed, NotClosed};
 use crate::locked::{Locked, SharedRefused};
@@ -144,8 +143,7 @@ impl Shared {
         seats: Vec<Seat>,
         receipts: &[Receipt],
     ) -> Result<Closed, NotClosed<Shared>>
-        ensures closed { IfOk result
-            (λ closed. (hall : Hall) × (hall.bench ≡ closed.bench) × AgreesWith hall seats.items receipts.now × IsBookOf closed.counts hall.callers hall.bench.log.records) }
+        ensures closed { IfOk result (λ closed. IsCloseOf seats.items receipts.now closed.bench closed.counts) }
         ensures back { IfErr result (λ refused. refused.seats.items ≡ seats.items) }
     {
         let Shared { state, changed } = self;
