@@ -4,12 +4,14 @@
 mod answer;
 mod change;
 mod end;
+mod fault;
 mod laws;
 mod line;
 mod piece;
 mod run;
 
 pub use end::RunEnd;
+pub use fault::{Fault, fault_of};
 pub use fb_streams::{Failed, Feed, FromRead, IntoWrite, MemoryFeed, MemorySink, Sink};
 pub use laws::{one_script, one_talk};
 pub use line::write_all;
