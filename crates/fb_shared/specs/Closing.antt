@@ -1,9 +1,10 @@
 -- Seats and receipts against the book and the history.
-use Rattle.std.specs.Prelude.{◌≡◌, ◌==◌, ◌&&◌, ℕ, ◌<◌, ◌≤◌, List, Bool, true, false, not, take, min, Option, None, Some, slice_get, count_by, All}
-use Rattle.std.specs.List.{list_any}
-use Rattle.fb_bench.specs.Story.{Record, turns_of, record_at}
+use Rattle.std.specs.Prelude.{◌≡◌, ◌==◌, ◌&&◌, ℕ, ◌<◌, ◌≤◌, List, Bool, true, false, not, take, min, Option, None, Some, Result, Ok, Err, slice_get, count_by, All}
+use Rattle.std.specs.List.{list_any, Contains}
+use Rattle.std.specs.BTreeMap.{BTreeMap}
+use Rattle.fb_bench.specs.Story.{Record, Story, turns_of, record_at}
 use Rattle.fb_shared.specs.Seats.{Hall, Place, Claim}
-use Rattle.fb_shared.specs.Book.{is_caller}
+use Rattle.fb_shared.specs.Book.{is_caller, IsBookOf}
 use Rattle.fb_shared.specs.declared.close.CloseFault.{CloseFault}
 use Rattle.fb_shared.specs.declared.close.CloseFault.TheVariants.{SeatMissing, SeatDiffers, ReceiptDiffers, ReceiptTwice, Memory}
 
@@ -52,6 +53,21 @@ pub record AgreesWith (hall : Hall) (seats : List Place) (receipts : List Claim)
   pub turns : AreSeatsRight hall.bench.log.records seats
   pub shown : AreReceiptsRight hall.bench.log.records receipts
 
+-- in these records numbers rise with the turns of a caller
+abbrev pub NumbersRise : List Record → Type 0
+NumbersRise records =
+    (m n : ℕ) (earlier later : Record) → record_at records m ≡ Some earlier → record_at records n ≡ Some later → earlier.caller ≡ later.caller
+    → earlier.turn < later.turn → m < n
+
+-- of each record of the caller there is a receipt
+abbrev pub AreShown : ℕ → List Record → List Claim → Type 0
+AreShown caller records receipts =
+    (number : ℕ) (it : Record) → record_at records number ≡ Some it → it.caller ≡ caller → Contains receipts (record { number = number; entry = it })
+
+-- a caller whose receipts are as many as its records has shown them all
+abbrev pub EnoughShowAll : List Record → List Claim → Type 0
+EnoughShowAll records receipts = (caller : ℕ) → receipts_of caller receipts ≡ turns_of caller records → AreShown caller records receipts
+
 -- the k-th receipt is the first that is wrong, and has this number
 abbrev pub IsFirstWrong : List Record → List Claim → ℕ → ℕ → Type 0
 IsFirstWrong records receipts k number =
@@ -73,6 +89,11 @@ IsReceiptFault records receipts (ReceiptDiffers number) = (k : ℕ) × IsFirstWr
 IsReceiptFault records receipts (ReceiptTwice number) = (k : ℕ) × IsFirstTwice records receipts k number
 IsReceiptFault records receipts Memory = Unit {0}
 
+-- each receipt is right and none comes twice, or this is their first fault
+abbrev pub ChecksReceipts : {R : Type 0} → List Record → List Claim → Result R CloseFault → Type 0
+ChecksReceipts records receipts (Ok done) = AreReceiptsRight records receipts
+ChecksReceipts records receipts (Err fault) = IsReceiptFault records receipts fault
+
 -- the fault stands there, and no earlier one does
 abbrev pub IsFirstFault : Hall → List Place → List Claim → CloseFault → Type 0
 IsFirstFault hall seats receipts (SeatMissing q) =
@@ -88,6 +109,16 @@ IsFirstFault hall seats receipts (ReceiptDiffers number) =
 IsFirstFault hall seats receipts (ReceiptTwice number) =
     AreSeated hall seats × AreSeatsRight hall.bench.log.records seats × ((k : ℕ) × IsFirstTwice hall.bench.log.records receipts k number)
 IsFirstFault hall seats receipts Memory = AreSeated hall seats × AreSeatsRight hall.bench.log.records seats
+
+-- all seats and receipts are right, or this is their first fault
+abbrev pub ChecksAll : Hall → List Place → List Claim → Option CloseFault → Type 0
+ChecksAll hall seats receipts None = AgreesWith hall seats receipts
+ChecksAll hall seats receipts (Some fault) = IsFirstFault hall seats receipts fault
+
+-- The workbench and the book of a close: they lay under the lock, with which the seats and the receipts agree.
+abbrev pub IsCloseOf : List Place → List Claim → Story → BTreeMap ℕ ℕ → Type 0
+IsCloseOf seats receipts bench counts =
+    (hall : Hall) × (hall.bench ≡ bench) × AgreesWith hall seats receipts × IsBookOf counts hall.callers hall.bench.log.records
 
 -- the least number that passes, or none does
 abbrev pub IsLeast : (ℕ → Bool) → Option ℕ → Type 0

@@ -1,9 +1,9 @@
 //! The end of the calls, by all seats and receipts.
-ghost use Rattle.std.specs.Prelude.{◌≡◌, ◌==◌, ◌&&◌, ◌<◌, ℕ, not, true, false, ◌↔◌, length, replicate, IsTrue, MatchOption, MatchResult, find, IfErr, IfOk};
+ghost use Rattle.std.specs.Prelude.{◌≡◌, not, false, ◌↔◌, length, replicate, IsTrue, find, IfErr, IfOk};
 ghost use Rattle.std.specs.BTreeMap.{keys, IsOrdered};
 ghost use Rattle.std.specs.Ordering.{nat_cmp};
 ghost use Rattle.fb_shared.specs.Book.{IsBookOf};
-ghost use Rattle.fb_shared.specs.Closing.{has_seat, has_wrong_seat, IsLeast, AreReceiptsRight, IsReceiptRight, IsReceiptFault, AgreesWith, IsFirstFault, lesser_of};
+ghost use Rattle.fb_shared.specs.Closing.{has_seat, has_wrong_seat, IsLeast, IsReceiptRight, ChecksReceipts, AgreesWith, ChecksAll, IsFirstFault, lesser_of};
 
 use crate::book;
 use crate::locked::Locked;
@@ -70,7 +70,7 @@ impl Locked {
 
     /// The first fault of seats and receipts, if there is one.
     fn first_fault(&self, alloc: Global, seats: &[Seat], receipts: &[Receipt]) -> Option<CloseFault>
-        ensures { MatchOption result (AgreesWith self.now seats.now receipts.now) (IsFirstFault self.now seats.now receipts.now) }
+        ensures { ChecksAll self.now seats.now receipts.now result }
     {
         if let Some(caller) = missing_seat(&self.book, seats) {
             return Some(CloseFault::SeatMissing(caller));
@@ -126,7 +126,7 @@ fn is_seated(seats: &[Seat], caller: u32) -> bool
 
 /// Whether each receipt is the record at its number, and none comes twice.
 fn check_receipts(alloc: Global, bench: &Bench, receipts: &[Receipt]) -> Result<(), CloseFault>
-    ensures { MatchResult result (λ _. AreReceiptsRight bench.now.log.records receipts.now) (IsReceiptFault bench.now.log.records receipts.now) }
+    ensures { ChecksReceipts bench.now.log.records receipts.now result }
 {
     let Ok(mut marks) = marks_for(alloc, bench) else {
         return Err(CloseFault::Memory);

@@ -1,15 +1,15 @@
 //! What lies under the lock, and the calls on it.
-ghost use Rattle.std.specs.Prelude.{◌≡◌, [], true, false, IfOk, IfErr, IfSome, OnOk, OnErr, length, None, Some, ◌≤◌, vec_len, vec_capacity};
-ghost use Rattle.fb_bench.specs.Machine.{ToCommit, ToTake, ToDeliver, ToGiveBack, ToAsk, OfAsk};
-ghost use Rattle.fb_bench.specs.Records.{listed, shown_in};
+ghost use Rattle.std.specs.Prelude.{◌≡◌, [], true, false, IfOk, IfErr, IfSome, OnOk, OnErr, None, Some};
+ghost use Rattle.fb_bench.specs.Machine.{ToTake, ToDeliver, ToGiveBack, ToAsk, OfAsk};
+ghost use Rattle.fb_bench.specs.Records.{commit_of, shown_in};
 ghost use Rattle.fb_bench.specs.Requests.{call_for, reply_in, job_of};
 ghost use Rattle.fb_bench.specs.Story.{new_story, turns_of};
 ghost use Rattle.fb_shared.specs.Book.{IsBookOf};
 ghost use Rattle.fb_shared.specs.Calls.{Answers, Performs};
 ghost use Rattle.fb_shared.specs.Ends.{end_before_take, LookNames, Looks, NamesSeat};
 ghost use Rattle.fb_shared.specs.Refusals.{refusal_of, RefusedAs, IsRefusalOf};
-ghost use Rattle.fb_shared.specs.Runs.{AddsLook};
-ghost use Rattle.fb_shared.specs.Seats.{hall_after, next_claim, seat_after, AreFirstSeats, IsReceiptOf, IsAsked};
+ghost use Rattle.fb_shared.specs.Runs.{LookAdds};
+ghost use Rattle.fb_shared.specs.Seats.{hall_after, next_claim, seat_after, SeatFits, AreFirstSeats, IsReceiptOf, IsAsked};
 
 use crate::book;
 use crate::seat::{Receipt, Seat};
@@ -115,7 +115,7 @@ impl Locked {
     /// A look of a worker for a job, with room for two receipts where it takes one.
     pub(crate) fn look(&mut self, seat: &mut Seat, receipts: &mut Vec<Receipt>) -> Look
         ensures looks { Looks self.old seat.old result self.new }
-        ensures adds { AddsLook result (vec_len receipts.new) (vec_capacity receipts.new) seat.old receipts.old.items receipts.new.items seat.new }
+        ensures adds { LookAdds result seat.old receipts.old receipts.new seat.new }
         ensures names { LookNames seat.new result }
     {
         if let Some(end) = self.end_of_work(seat) {
@@ -147,7 +147,7 @@ impl Locked {
     /// The first cause against a call with this seat.
     pub(crate) fn admit(&self, seat: &Seat) -> Result<(), SharedRefused>
         ensures ok { OnOk result (refusal_of self.now seat.now ≡ None) }
-        ensures fits { OnOk result ((turns_of seat.now.caller self.now.bench.log.records ≡ seat.now.turns) × (seat.now.seen ≤ length self.now.bench.log.records)) }
+        ensures fits { OnOk result (SeatFits self.now seat.now) }
         ensures err { IfErr result (λ refused. refusal_of self.now seat.now ≡ Some refused) }
         ensures cause { IfErr result (IsRefusalOf seat.now) }
     {
@@ -219,8 +219,8 @@ impl Locked {
 
     /// Changes the texts, or says what is first against it.
     pub fn commit(&mut self, seat: &mut Seat, changes: &[Change]) -> Result<Receipt, SharedRefused>
-        ensures performs { Performs self.old seat.old (ToCommit (listed changes.now)) (λ claim. claim) result self.new seat.new }
-        ensures answers { Answers seat.old (ToCommit (listed changes.now)) (λ claim. claim) result seat.new }
+        ensures performs { Performs self.old seat.old (commit_of changes.now) (λ claim. claim) result self.new seat.new }
+        ensures answers { Answers seat.old (commit_of changes.now) (λ claim. claim) result seat.new }
     {
         let _finished: Option<&Finished> = None;
         Ok(self.perform(seat, &Request::Commit(changes))?.0)

@@ -1,12 +1,11 @@
 //! The workbench that threads share, behind its lock.
 ghost use Rattle.std.specs.Prelude.{◌≡◌, IfOk, IfErr};
-ghost use Rattle.fb_bench.specs.Machine.{ToCommit, ToTake, ToDeliver, ToGiveBack, ToAsk, OfAsk};
-ghost use Rattle.fb_bench.specs.Records.{listed, shown_in};
+ghost use Rattle.fb_bench.specs.Machine.{ToTake, ToDeliver, ToGiveBack, ToAsk, OfAsk};
+ghost use Rattle.fb_bench.specs.Records.{commit_of, shown_in};
 ghost use Rattle.fb_bench.specs.Requests.{job_of};
-ghost use Rattle.fb_shared.specs.Book.{IsBookOf};
 ghost use Rattle.fb_shared.specs.Calls.{Answers};
-ghost use Rattle.fb_shared.specs.Closing.{AgreesWith};
-ghost use Rattle.fb_shared.specs.Seats.{Hall, AreFirstSeats};
+ghost use Rattle.fb_shared.specs.Closing.{IsCloseOf};
+ghost use Rattle.fb_shared.specs.Seats.{AreFirstSeats};
 
 use crate::close::{Closed, NotClosed};
 use crate::locked::{Locked, SharedRefused};
@@ -55,7 +54,7 @@ impl Shared {
         seat: &mut Seat,
         changes: &[Change],
     ) -> Result<Receipt, SharedRefused>
-        ensures { Answers seat.old (ToCommit (listed changes.now)) (λ claim. claim) result seat.new }
+        ensures { Answers seat.old (commit_of changes.now) (λ claim. claim) result seat.new }
     {
         let mut state = self.state.lock(rt);
         let answer = state.commit(seat, changes);
@@ -144,8 +143,7 @@ impl Shared {
         seats: Vec<Seat>,
         receipts: &[Receipt],
     ) -> Result<Closed, NotClosed<Shared>>
-        ensures closed { IfOk result
-            (λ closed. (hall : Hall) × (hall.bench ≡ closed.bench) × AgreesWith hall seats.items receipts.now × IsBookOf closed.counts hall.callers hall.bench.log.records) }
+        ensures closed { IfOk result (λ closed. IsCloseOf seats.items receipts.now closed.bench closed.counts) }
         ensures back { IfErr result (λ refused. refused.seats.items ≡ seats.items) }
     {
         let Shared { state, changed } = self;

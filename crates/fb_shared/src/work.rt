@@ -1,7 +1,7 @@
 //! Workers, which take jobs, run them and deliver the results.
 ghost use Rattle.std.specs.Prelude.{◌≡◌, ◌*◌, ◌<◌, IfOk, IfSome, Some, vec_len, vec_capacity};
 ghost use Rattle.fb_shared.specs.Ends.{end_of, NamesSeat, LookNames};
-ghost use Rattle.fb_shared.specs.Runs.{Works, AddsLook, Empty, Holds};
+ghost use Rattle.fb_shared.specs.Runs.{Works, LookAdds, Empty, Holds};
 ghost use Rattle.fb_shared.specs.declared.work.WorkEnd.TheVariants.{TurnsOver, Memory};
 
 use crate::locked::SharedRefused;
@@ -110,7 +110,7 @@ fn work_turn<R: Wait, G: Gate>(
 
 /// Takes a job under one hold of the lock; where there is none, it waits for a change.
 fn take_job<R: Wait>(rt: &R, shared: &Shared, seat: &mut Seat, receipts: &mut Vec<Receipt>) -> Look
-    ensures adds { AddsLook result (vec_len receipts.new) (vec_capacity receipts.new) seat.old receipts.old.items receipts.new.items seat.new }
+    ensures adds { LookAdds result seat.old receipts.old receipts.new seat.new }
     ensures names { LookNames seat.new result }
 {
     let mut state = shared.state.lock(rt);
