@@ -1,8 +1,9 @@
 -- The book of calls, in which each caller has a page.
-use Rattle.std.specs.Prelude.{◌≡◌, ℕ, ◌&&◌, ◌||◌, ◌==◌, List, Bool, Option, Some, None, nat_lt, nat_le, if◌then◌else◌}
+use Rattle.std.specs.Prelude.{◌≡◌, ℕ, ◌≤◌, ◌&&◌, ◌||◌, ◌==◌, List, Bool, Option, Some, None, length, nat_lt, nat_le, if◌then◌else◌}
 use Rattle.std.specs.Ordering.{nat_cmp}
 use Rattle.std.specs.BTreeMap.{BTreeMap, get}
 use Rattle.fb_bench.specs.Story.{Record, turns_of}
+use Rattle.fb_shared.specs.Seats.{Hall, Place}
 
 -- the callers: the first ones, for whom seats were made, and each other one that has a record
 abbrev pub is_caller : ℕ → List Record → ℕ → Bool
@@ -31,3 +32,7 @@ SamePages old new = (q : ℕ) → get nat_cmp new q ≡ get nat_cmp old q
 -- each caller has its page, and nobody else has one
 pub record IsBookOf (book : BTreeMap ℕ ℕ) (callers : ℕ) (records : List Record) : Type 0 where
   pub pages : (q : ℕ) → get nat_cmp book q ≡ page_of callers records q
+
+-- as many calls are recorded of the seat's caller as with the seat, and it has seen no more records than there are
+abbrev pub SeatFits : Hall → Place → Type 0
+SeatFits hall seat = (turns_of seat.caller hall.bench.log.records ≡ seat.turns) × (seat.seen ≤ length hall.bench.log.records)

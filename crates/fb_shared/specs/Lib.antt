@@ -4,5 +4,6 @@ pub mod Refusals
 pub mod Calls
 pub mod Ends
 pub mod Runs
+pub mod Looks
 pub mod Closing
 pub mod Sitting

@@ -1,5 +1,5 @@
 -- Calls with one seat, one after another, and those that a worker makes.
-use Rattle.std.specs.Prelude.{◌≡◌, ℕ, ◌≤◌, ◌<◌, ◌++◌, [], ◌∷◌, List, Option, Some, None, length, vec_len, vec_capacity}
+use Rattle.std.specs.Prelude.{◌≡◌, ℕ, ◌≤◌, ◌<◌, ◌++◌, [], ◌∷◌, List, Option, Some, None, length}
 use Rattle.fb_bench.specs.Jobs.Reads.{Order}
 use Rattle.fb_bench.specs.Machine.{Call, ToCommit, ToTake, ToDeliver, ToGiveBack, ToAsk, Reply}
 use Rattle.fb_bench.specs.Requests.{job_of}
@@ -7,8 +7,6 @@ use Rattle.fb_shared.specs.declared.work.Look.{Look}
 use Rattle.fb_shared.specs.declared.work.Look.TheVariants.{Ended, Nothing, Taken}
 use Rattle.fb_shared.specs.declared.work.WorkEnd.{WorkEnd}
 use Rattle.fb_shared.specs.declared.work.WorkEnd.TheVariants.{TurnsOver, Stopped, SeatDiffers, Behind, HistoryFull, Memory}
-use Rattle.std.specs.declared.vec.Vec.{Vec}
-use Rattle.std.specs.declared.alloc.Global.{Global}
 use Rattle.fb_shared.specs.Seats.{Place, Claim, IsReceiptOf, seat_after}
 
 -- the receipts are of calls with the seat, one after another
@@ -92,7 +90,3 @@ abbrev pub AddsLook : Look → ℕ → ℕ → Place → List Claim → List Cla
 AddsLook (Taken job) size room seat old new after = (size < room) × AddsWork Empty 1 seat old new after (Holds job)
 AddsLook Nothing size room seat old new after = (new ≡ old) × (after ≡ seat)
 AddsLook (Ended end) size room seat old new after = (new ≡ old) × (after ≡ seat)
-
--- the same of the buffer of the receipts
-abbrev pub LookAdds : Look → Place → Vec Claim Global → Vec Claim Global → Place → Type 0
-LookAdds look seat old new after = AddsLook look (vec_len new) (vec_capacity new) seat old.items new.items after

@@ -1,7 +1,7 @@
 -- What contracts see of a seat, of a receipt and of what lies under the lock.
-use Rattle.std.specs.Prelude.{◌≡◌, ℕ, ◌+◌, ◌≤◌, ◌<◌, List, Bool, Some, length, slice_get}
+use Rattle.std.specs.Prelude.{◌≡◌, ℕ, ◌+◌, ◌<◌, List, Bool, Some, length, slice_get}
 use Rattle.fb_bench.specs.Machine.{Call, ToCommit, ToTake, ToDeliver, ToGiveBack, ToAsk, Reply, OfCommit, OfTake, OfDeliver, OfGiveBack, OfAsk}
-use Rattle.fb_bench.specs.Story.{Record, Story, turns_of, recorded, record_of}
+use Rattle.fb_bench.specs.Story.{Record, Story, recorded, record_of}
 
 -- a seat: whose it is, how many calls were recorded with it, and the greatest number of a record that it has seen
 pub record Place : Type 0 where
@@ -19,10 +19,6 @@ pub record Hall : Type 0 where
   pub bench : Story
   pub callers : ℕ
   pub stopped : Bool
-
--- as many calls are recorded of the seat's caller as with the seat, and it has seen no more records than there are
-abbrev pub SeatFits : Hall → Place → Type 0
-SeatFits hall seat = (turns_of seat.caller hall.bench.log.records ≡ seat.turns) × (seat.seen ≤ length hall.bench.log.records)
 
 -- after one recorded call
 abbrev pub hall_after : Hall → ℕ → Call → Hall

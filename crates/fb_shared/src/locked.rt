@@ -1,15 +1,15 @@
 //! What lies under the lock, and the calls on it.
 ghost use Rattle.std.specs.Prelude.{◌≡◌, [], true, false, IfOk, IfErr, IfSome, OnOk, OnErr, None, Some};
-ghost use Rattle.fb_bench.specs.Machine.{ToTake, ToDeliver, ToGiveBack, ToAsk, OfAsk};
-ghost use Rattle.fb_bench.specs.Records.{commit_of, shown_in};
+ghost use Rattle.fb_bench.specs.Machine.{ToCommit, ToTake, ToDeliver, ToGiveBack, ToAsk, OfAsk};
+ghost use Rattle.fb_bench.specs.Records.{listed, shown_in};
 ghost use Rattle.fb_bench.specs.Requests.{call_for, reply_in, job_of};
 ghost use Rattle.fb_bench.specs.Story.{new_story, turns_of};
-ghost use Rattle.fb_shared.specs.Book.{IsBookOf};
+ghost use Rattle.fb_shared.specs.Book.{IsBookOf, SeatFits};
 ghost use Rattle.fb_shared.specs.Calls.{Answers, Performs};
 ghost use Rattle.fb_shared.specs.Ends.{end_before_take, LookNames, Looks, NamesSeat};
 ghost use Rattle.fb_shared.specs.Refusals.{refusal_of, RefusedAs, IsRefusalOf};
-ghost use Rattle.fb_shared.specs.Runs.{LookAdds};
-ghost use Rattle.fb_shared.specs.Seats.{hall_after, next_claim, seat_after, SeatFits, AreFirstSeats, IsReceiptOf, IsAsked};
+ghost use Rattle.fb_shared.specs.Looks.{LookAdds};
+ghost use Rattle.fb_shared.specs.Seats.{hall_after, next_claim, seat_after, AreFirstSeats, IsReceiptOf, IsAsked};
 
 use crate::book;
 use crate::seat::{Receipt, Seat};
@@ -219,8 +219,8 @@ impl Locked {
 
     /// Changes the texts, or says what is first against it.
     pub fn commit(&mut self, seat: &mut Seat, changes: &[Change]) -> Result<Receipt, SharedRefused>
-        ensures performs { Performs self.old seat.old (commit_of changes.now) (λ claim. claim) result self.new seat.new }
-        ensures answers { Answers seat.old (commit_of changes.now) (λ claim. claim) result seat.new }
+        ensures performs { Performs self.old seat.old (ToCommit (listed changes.now)) (λ claim. claim) result self.new seat.new }
+        ensures answers { Answers seat.old (ToCommit (listed changes.now)) (λ claim. claim) result seat.new }
     {
         let _finished: Option<&Finished> = None;
         Ok(self.perform(seat, &Request::Commit(changes))?.0)

@@ -1,7 +1,7 @@
 //! The workbench that threads share, behind its lock.
 ghost use Rattle.std.specs.Prelude.{◌≡◌, IfOk, IfErr};
-ghost use Rattle.fb_bench.specs.Machine.{ToTake, ToDeliver, ToGiveBack, ToAsk, OfAsk};
-ghost use Rattle.fb_bench.specs.Records.{commit_of, shown_in};
+ghost use Rattle.fb_bench.specs.Machine.{ToCommit, ToTake, ToDeliver, ToGiveBack, ToAsk, OfAsk};
+ghost use Rattle.fb_bench.specs.Records.{listed, shown_in};
 ghost use Rattle.fb_bench.specs.Requests.{job_of};
 ghost use Rattle.fb_shared.specs.Calls.{Answers};
 ghost use Rattle.fb_shared.specs.Closing.{IsCloseOf};
@@ -54,7 +54,7 @@ impl Shared {
         seat: &mut Seat,
         changes: &[Change],
     ) -> Result<Receipt, SharedRefused>
-        ensures { Answers seat.old (commit_of changes.now) (λ claim. claim) result seat.new }
+        ensures { Answers seat.old (ToCommit (listed changes.now)) (λ claim. claim) result seat.new }
     {
         let mut state = self.state.lock(rt);
         let answer = state.commit(seat, changes);

@@ -1,7 +1,8 @@
 //! Workers, which take jobs, run them and deliver the results.
 ghost use Rattle.std.specs.Prelude.{◌≡◌, ◌*◌, ◌<◌, IfOk, IfSome, Some, vec_len, vec_capacity};
 ghost use Rattle.fb_shared.specs.Ends.{end_of, NamesSeat, LookNames};
-ghost use Rattle.fb_shared.specs.Runs.{Works, LookAdds, Empty, Holds};
+ghost use Rattle.fb_shared.specs.Runs.{Works, Empty, Holds};
+ghost use Rattle.fb_shared.specs.Looks.{LookAdds};
 ghost use Rattle.fb_shared.specs.declared.work.WorkEnd.TheVariants.{TurnsOver, Memory};
 
 use crate::locked::SharedRefused;
