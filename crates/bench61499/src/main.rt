@@ -1,8 +1,9 @@
 //! The program `bench61499`: a workbench for IEC 61499 units that answers requests, one on each line.
 #![tactic(auto)]
 
-use fb_program::server::{FromRead, IntoWrite, serve};
+use fb_program::streams::{FromRead, IntoWrite};
 use fb_program::{Outcome, refuse_words};
+use fb_serve::{Numbers, serve};
 use std::alloc::{AllocError, Global};
 use std::process::ExitCode;
 use std::{env, io};
@@ -47,7 +48,17 @@ fn main(rt: HostRuntime) -> ExitCode {
     };
     match run(&rt, &words) {
         Outcome::Ended(status) => ExitCode::from(status),
-        Outcome::Serves { port, numbers } => {
+        Outcome::Serves {
+            port,
+            workers,
+            sessions,
+            limits,
+        } => {
+            let numbers = Numbers {
+                workers,
+                sessions,
+                limits,
+            };
             let mut writer = IntoWrite::new(rt.stdout());
             let mut errors = rt.stderr();
             let status = serve(&rt, rt.alloc(), port, numbers, &mut writer, &mut errors);

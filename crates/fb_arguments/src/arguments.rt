@@ -74,7 +74,8 @@ fn command<'a>(alloc: Global) -> Result<Command<'a>, AllocError>
 }
 
 fn number_at(matches: &ArgMatches<'_>, name: &str, least: u64, most: u64) -> Option<u64>
-    ensures { IfSome result (λ n. IsNumberIn least most name.now (rows_of (found_of matches.now)) n) }
+    ensures { IfSome result (λ n.
+        IsNumberIn least most name.now (rows_of (found_of matches.now)) n) }
 {
     let number = matches.get_one::<u64>(name)?;
     if least <= number && number <= most {
@@ -119,7 +120,8 @@ fn asked_in(matches: &ArgMatches<'_>) -> Option<asked::Settings>
     serve_in(serve)
 }
 
-/// Reads the program's words, of which the first is its name. A request for help is an error, as in `clap`.
+/// Reads the program's words, of which the first is its name. A request for help is an error, as in
+/// `clap`.
 pub fn settings<'a>(alloc: Global, words: &'a [&'a str]) -> Result<asked::Settings, Error>
     ensures { IfOk result (λ settings. Asks (map (λ word. word.now) words.now) settings) }
 {

@@ -1,7 +1,9 @@
 -- What a run of the program has said.
 use Rattle.std.specs.Prelude.{◌≡◌, ◌≤◌, ◌⊎◌, ℕ, List, []}
-use Rattle.fb_serve.specs.Wire.Bench.Story.{new_story}
-use Rattle.fb_serve.specs.Wire.Script.{IsFrontOf, script}
+use Rattle.fb_wire.specs.Bench.Story.{new_story}
+use Rattle.fb_wire.specs.Script.{IsFrontOf, script}
+use Rattle.fb_wire.specs.Streams.declared.end.RunEnd.{RunEnd}
+use Rattle.fb_wire.specs.Streams.declared.end.RunEnd.TheVariants.{End}
 use Rattle.fb_arguments.specs.Words.{Asks}
 use Rattle.fb_arguments.specs.declared.asked.Settings.TheVariants.{Script, Serve}
 use Rattle.fb_program.specs.declared.program.Outcome.{Outcome}
@@ -10,6 +12,11 @@ use Rattle.fb_program.specs.declared.program.Outcome.TheVariants.{Ended, Serves}
 -- what a new workbench of these limits says to the bytes, to caller 1
 abbrev pub said_to : ℕ → ℕ → List ℕ → List ℕ
 said_to units history bytes = (script 1 (new_story units history) bytes).out
+
+-- by the end of the run: a front of it, and all of it at the end of the input
+abbrev pub SaysUntil : RunEnd → ℕ → ℕ → List ℕ → List ℕ → Type 0
+SaysUntil stop units history bytes out =
+    IsFrontOf out (said_to units history bytes) × (stop ≡ End → out ≡ said_to units history bytes)
 
 -- by status: all of it, or a front of it
 abbrev pub BenchSays : ℕ → ℕ → ℕ → List ℕ → List ℕ → Type 0
@@ -32,5 +39,4 @@ HasSaid words status bytes out =
 -- a script was run, or the words were refused; or they ask for this server, and nothing was done
 abbrev pub HasDone : List (List ℕ) → Outcome → List ℕ → List ℕ → Type 0
 HasDone words (Ended status) bytes out = (status ≤ 2) × HasSaid words status bytes out
-HasDone words (Serves port numbers) bytes out =
-    Asks words (Serve port numbers.workers numbers.sessions numbers.limits.units numbers.limits.history) × DoesNothing bytes out
+HasDone words (Serves port workers sessions limits) bytes out = Asks words (Serve port workers sessions limits.units limits.history) × DoesNothing bytes out

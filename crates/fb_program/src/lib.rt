@@ -6,8 +6,7 @@ mod program;
 pub use fb_arguments::{Settings, settings};
 pub use program::{Outcome, refuse_words, run};
 
-/// Of `fb_serve`, for the program and its tests.
-pub mod server {
-    pub use fb_serve::wire::{FromRead, IntoWrite, Limits, MemoryFeed, MemorySink};
-    pub use fb_serve::{Numbers, serve, serve_on};
+/// Of `fb_wire`, for the program and its tests.
+pub mod streams {
+    pub use fb_wire::{FromRead, IntoWrite, MemoryFeed, MemorySink};
 }

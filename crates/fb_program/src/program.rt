@@ -2,12 +2,12 @@
 ghost use Rattle.std.specs.Prelude.{◌≡◌, ◌≢◌, ◌<◌, ◌≤◌, ◌++◌, ℕ, List, map, false};
 ghost use Rattle.std.specs.Io.KnownBytes.{IsAtEnd};
 ghost use Rattle.std.specs.declared.io.ErrorKind.TheVariants.{InvalidData};
-ghost use Rattle.fb_program.specs.Program.{BenchSays, HasDone};
+ghost use Rattle.fb_program.specs.Program.{BenchSays, HasDone, SaysUntil};
 
 use fb_arguments::words::{Error, ErrorKind};
 use fb_arguments::{Settings, settings};
-use fb_serve::wire::{Bench, Feed, Limits, Sink, run_script};
-use fb_serve::{Numbers, fault_of};
+use fb_wire::bench::{Bench, Limits};
+use fb_wire::{Feed, RunEnd, Sink, fault_of, run_script};
 use std::alloc::Global;
 use std::io::{self, Write};
 
@@ -29,7 +29,32 @@ pub enum Outcome {
     /// It is over, with this status of the program.
     Ended(u8),
     /// The words ask for a server, which is still to be run.
-    Serves { port: u16, numbers: Numbers },
+    Serves {
+        port: u16,
+        workers: u8,
+        sessions: u8,
+        limits: Limits,
+    },
+}
+
+/// Runs the script on a new workbench.
+fn run_new<F: Feed, S: Sink>(
+    alloc: Global,
+    limits: Limits,
+    reader: &mut F,
+    writer: &mut S,
+    turns: u64,
+) -> RunEnd
+    requires reader { F.has_failed reader.old ≡ false }
+    requires writer { S.has_failed writer.old ≡ false }
+    ensures said { (bytes : List ℕ) × (out : List ℕ)
+        × (F.given reader.new ≡ F.given reader.old ++ bytes)
+        × (S.held writer.new ≡ S.held writer.old ++ out)
+        × SaysUntil result limits.units limits.history bytes out }
+    ensures whole { result ≡ RunEnd.End → IsAtEnd (F.left reader.new) }
+{
+    let mut bench = Bench::new(alloc, limits);
+    run_script(alloc, reader, writer, &mut bench, SCRIPT_CALLER, turns)
 }
 
 fn script<F: Feed, S: Sink, E: Write>(
@@ -49,8 +74,7 @@ fn script<F: Feed, S: Sink, E: Write>(
         × BenchSays limits.units limits.history result bytes out }
     ensures whole { result ≡ 0 → IsAtEnd (F.left reader.new) }
 {
-    let mut bench = Bench::new(alloc, limits);
-    let end = run_script(alloc, reader, writer, &mut bench, SCRIPT_CALLER, turns);
+    let end = run_new(alloc, limits, reader, writer, turns);
     match fault_of(end) {
         None => DONE,
         Some(fault) => {
@@ -94,8 +118,9 @@ pub fn refuse_words<E: Write>(kind: io::ErrorKind, errors: &mut E) -> u8
     out_of_memory(errors)
 }
 
-/// Does what the words ask for, if it is a script, says on `errors` what went wrong, and gives the status of the program. Words that ask for a
-/// server are given back as what they ask for, and nothing is done.
+/// Does what the words ask for, if it is a script, says on `errors` what went wrong, and gives the
+/// status of the program. Words that ask for a server are given back as what they ask for, and
+/// nothing is done.
 pub fn run<F: Feed, S: Sink, E: Write>(
     alloc: Global,
     words: &[&str],
@@ -106,7 +131,8 @@ pub fn run<F: Feed, S: Sink, E: Write>(
 ) -> Outcome
     requires reader { F.has_failed reader.old ≡ false }
     requires writer { S.has_failed writer.old ≡ false }
-    // What was written is all, a front or nothing of what a new workbench says to the bytes that were read.
+    // What was written is all, a front or nothing of what a new workbench says to the bytes that
+    // were read.
     ensures said { (bytes : List ℕ) × (out : List ℕ)
         × (F.given reader.new ≡ F.given reader.old ++ bytes)
         × (S.held writer.new ≡ S.held writer.old ++ out)
@@ -130,11 +156,9 @@ pub fn run<F: Feed, S: Sink, E: Write>(
         ) => match Limits::new(units, history) {
             Some(limits) => Outcome::Serves {
                 port,
-                numbers: Numbers {
-                    workers,
-                    sessions,
-                    limits,
-                },
+                workers,
+                sessions,
+                limits,
             },
             None => unreachable!(),
         },

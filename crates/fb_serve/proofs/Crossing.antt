@@ -9,7 +9,7 @@ use Rattle.std.specs.contracts.impls.GlobalAllocator.TheImpl.{ghosts}
 use Rattle.fb_serve.specs.contracts.callers.NewSeat as NewSeat
 use Rattle.fb_serve.specs.contracts.callers.Left as Left
 use Rattle.fb_serve.specs.contracts.callers.SessionFault as SessionFault
-use Rattle.fb_serve.specs.contracts.fault.Fault as Fault
+use Rattle.fb_streams.specs.contracts.fault.Fault as Fault
 
 pub new_seat_field_send : IsSend (NewSeat.the_field).row
 new_seat_field_send = search (seat_send, crosses, sendable) depth 60 fits 20000

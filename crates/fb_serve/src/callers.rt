@@ -2,11 +2,10 @@
 ghost use Rattle.std.specs.Prelude.{List};
 ghost use Rattle.fb_serve.specs.Shown.{IsNew, IsShown, AreShown};
 
-use crate::fault::{Fault, fault_of};
 use crate::session::{Session, run_session};
 use crossbeam_channel::Sender;
 use fb_shared::{Plain, Receipt, Seat, Shared, work_on};
-use fb_wire::{FromRead, IntoWrite};
+use fb_wire::{Fault, FromRead, IntoWrite, fault_of};
 use std::alloc::Global;
 use std::net::{OpenListener, TcpListener, TcpStream};
 use std::sync::Wait;
@@ -54,8 +53,8 @@ impl Left {
     }
 }
 
-/// What the threads left: their seats, and the receipts of all calls with these. It is whole where each thread was started and what it left
-/// was kept.
+/// What the threads left: their seats, and the receipts of all calls with these. It is whole where each
+/// thread was started and what it left was kept.
 #[derive(Drop)]
 pub(crate) struct Gathered {
     pub(crate) seats: Vec<Seat>,
@@ -101,8 +100,8 @@ struct Started {
     is_whole: bool,
 }
 
-/// Runs the sessions of the connections that come, one for each seat, with workers beside them, and joins them all. Once a thread is not
-/// started, no further one is.
+/// Runs the sessions of the connections that come, one for each seat, with workers beside them, and
+/// joins them all. Once a thread is not started, no further one is.
 pub(crate) fn run_callers<R: Threads + Wait + Sync>(
     rt: &R,
     alloc: Global,
@@ -113,16 +112,34 @@ pub(crate) fn run_callers<R: Threads + Wait + Sync>(
     faults: &Sender<SessionFault>,
 ) -> Gathered {
     thread::scope(thread::scope_env(), rt, |scope| {
-        let mut gathered = Gathered::new(alloc);
         let working = start_workers(scope, rt, alloc, shared, workers);
-        if working.is_whole {
-            let talking = start_sessions(scope, rt, alloc, listener, shared, sessions, faults);
-            gathered.add_all(rt, talking);
-        }
+        let sessions = seats_beside(&working, sessions);
+        let talking = start_sessions(scope, rt, alloc, listener, shared, sessions, faults);
+        let gathered = join_sessions(rt, alloc, talking);
         shared.stop(rt);
-        gathered.add_all(rt, working);
-        gathered
+        join_workers(rt, gathered, working)
     })
+}
+
+/// The seats, or none of them where a worker was not started.
+fn seats_beside(working: &Started, seats: Vec<NewSeat>) -> Vec<NewSeat> {
+    let mut seats = seats;
+    if !working.is_whole {
+        seats.clear();
+    }
+    seats
+}
+
+fn join_sessions<R: Threads>(rt: &R, alloc: Global, talking: Started) -> Gathered {
+    let mut gathered = Gathered::new(alloc);
+    gathered.add_all(rt, talking);
+    gathered
+}
+
+fn join_workers<R: Threads>(rt: &R, gathered: Gathered, working: Started) -> Gathered {
+    let mut gathered = gathered;
+    gathered.add_all(rt, working);
+    gathered
 }
 
 fn start_workers<'s, E, R: Threads + Wait + Sync>(

@@ -2,19 +2,15 @@
 #![tactic(auto)]
 
 mod callers;
-mod fault;
 mod say;
 mod server;
 mod session;
 
-pub use fault::{Fault, fault_of};
 pub use server::{Numbers, Served, serve, serve_on, serve_sessions};
 pub use session::{Session, run_session};
 
 /// Of `fb_wire`, for the crates above.
 pub mod wire {
-    pub use fb_wire::bench::{Bench, Limits};
-    pub use fb_wire::{
-        Feed, FromRead, IntoWrite, MemoryFeed, MemorySink, RunEnd, Sink, run_script,
-    };
+    pub use fb_wire::bench::Limits;
+    pub use fb_wire::{MemorySink, Sink};
 }

@@ -4,7 +4,8 @@ ghost use Rattle.std.specs.Prelude.{◌≡◌, ◌≤◌, ◌<◌, [], true, fal
 use crate::feed::{Failed, Sink};
 use std::alloc::Global;
 
-/// What was written, in memory. A write takes at most `piece` bytes, and the one after `good_writes` fails.
+/// What was written, in memory. A write takes at most `piece` bytes, and the one after
+/// `good_writes` fails.
 #[derive(Drop)]
 pub struct MemorySink {
     held: Vec<u8>,

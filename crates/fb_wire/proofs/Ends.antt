@@ -3,8 +3,8 @@ use Rattle.std.proofs.Common.{◌≡◌, Bool, true, false, IsTrue, ◌↔◌, R
 use Rattle.std.specs.Prelude.{⊤}
 use Rattle.fb_wire.specs.Served.{StopsInside}
 use Rattle.fb_wire.specs.Turns.{StopsAtEnd}
-use Rattle.fb_wire.specs.declared.end.RunEnd.{RunEnd}
-use Rattle.fb_wire.specs.declared.end.RunEnd.TheVariants as end
+use Rattle.fb_streams.specs.declared.end.RunEnd.{RunEnd}
+use Rattle.fb_streams.specs.declared.end.RunEnd.TheVariants as end
 
 pub inside_at_end : (stop : RunEnd) → StopsInside stop → StopsAtEnd stop
 inside_at_end end.LineTooLong h = tt

@@ -10,8 +10,8 @@ use Rattle.fb_wire.specs.Requests.{request_of}
 use Rattle.fb_wire.specs.Replies.{reply_line}
 use Rattle.fb_wire.specs.Ends.{AnsweredAll, AnsweredEnded, IsBetweenLines, Stands}
 use Rattle.fb_wire.specs.Talk.{Jobs, Pair, Plan, says, asks, Leads, Talk, Runs, answers_of, plan_of}
-use Rattle.fb_wire.specs.declared.end.RunEnd.{RunEnd}
-use Rattle.fb_wire.specs.declared.end.RunEnd.TheVariants as end
+use Rattle.fb_streams.specs.declared.end.RunEnd.{RunEnd}
+use Rattle.fb_streams.specs.declared.end.RunEnd.TheVariants as end
 
 -- calls and answers that agree agree on the answer to one call, and behind it
 module _ (Agrees : List Pair → List Pair → Type 0)

@@ -7,7 +7,7 @@ use Rattle.fb_bench.specs.Machine.{Call}
 use Rattle.fb_bench.specs.Calls.{Answer}
 use Rattle.fb_wire.specs.Served.{LineServed, LineSaid}
 use Rattle.fb_wire.specs.Talk.{Jobs, says}
-use Rattle.fb_wire.specs.declared.end.RunEnd.TheVariants as end
+use Rattle.fb_streams.specs.declared.end.RunEnd.TheVariants as end
 
 module _ {S : Type 0} (Step : S → Call → Answer → S → Type 0) where
   -- the reply's line was written

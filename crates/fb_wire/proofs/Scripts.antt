@@ -13,8 +13,8 @@ use Rattle.fb_wire.specs.Replies.{reply_line}
 use Rattle.fb_wire.specs.Requests.{request_of}
 use Rattle.fb_wire.specs.Script.{answer_from, story_after, told, Script, script_from, reply_before, script, IsFrontOf, SaysBy}
 use Rattle.fb_wire.specs.Talk.{Jobs, Pair, Plan, says, asks, Leads, plan_of, Talk, Runs}
-use Rattle.fb_wire.specs.declared.end.RunEnd.{RunEnd}
-use Rattle.fb_wire.specs.declared.end.RunEnd.TheVariants as end
+use Rattle.fb_streams.specs.declared.end.RunEnd.{RunEnd}
+use Rattle.fb_streams.specs.declared.end.RunEnd.TheVariants as end
 
 has_room : (n limit : ℕ) → n < limit → nat_lt n limit ≡ true
 has_room n limit room = grind (arith, nat_tests)

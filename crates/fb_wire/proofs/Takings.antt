@@ -10,8 +10,8 @@ use Rattle.fb_wire.specs.Requests.{request_of}
 use Rattle.fb_wire.specs.Ends.{Stands, AnsweredEnded, IsNothing}
 use Rattle.fb_wire.specs.Served.{LineSaid, Standing, PieceTaken, Extends}
 use Rattle.fb_wire.specs.Talk.{Jobs, Pair, Plan, plan_of, Leads, LineTalk, Talk, Runs}
-use Rattle.fb_wire.specs.declared.end.RunEnd.{RunEnd}
-use Rattle.fb_wire.specs.declared.end.RunEnd.TheVariants as end
+use Rattle.fb_streams.specs.declared.end.RunEnd.{RunEnd}
+use Rattle.fb_streams.specs.declared.end.RunEnd.TheVariants as end
 use Rattle.fb_wire.proofs.Cuts.{after_line, after_part}
 use Rattle.fb_wire.proofs.Talks.{Runs-append}
 

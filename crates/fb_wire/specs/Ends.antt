@@ -4,8 +4,8 @@ use Rattle.serde_json.specs.Data.{Data}
 use Rattle.fb_wire.specs.Lines.{Fits, IsTooLong, lines_of}
 use Rattle.fb_wire.specs.Replies.{reply_line}
 use Rattle.fb_wire.specs.Talk.{Jobs, LinePart, Pair, Plan, says, Talk}
-use Rattle.fb_wire.specs.declared.end.RunEnd.{RunEnd}
-use Rattle.fb_wire.specs.declared.end.RunEnd.TheVariants.{End, LineTooLong, ReadFailed, WriteFailed, TurnsOver, Memory}
+use Rattle.fb_streams.specs.declared.end.RunEnd.{RunEnd}
+use Rattle.fb_streams.specs.declared.end.RunEnd.TheVariants.{End, LineTooLong, ReadFailed, WriteFailed, TurnsOver, Memory}
 
 -- every line was answered, the last one too; so none is too long
 abbrev pub AnsweredAll : List ℕ → List Pair → List ℕ → Type 0

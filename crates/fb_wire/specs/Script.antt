@@ -8,8 +8,8 @@ use Rattle.fb_wire.specs.Lines.{is_blank, lines_of}
 use Rattle.fb_wire.specs.Replies.{reply_line}
 use Rattle.fb_wire.specs.Requests.{request_of}
 use Rattle.fb_wire.specs.Talk.{Jobs, Plan, says, asks, plan_of}
-use Rattle.fb_wire.specs.declared.end.RunEnd.{RunEnd}
-use Rattle.fb_wire.specs.declared.end.RunEnd.TheVariants.{End}
+use Rattle.fb_streams.specs.declared.end.RunEnd.{RunEnd}
+use Rattle.fb_streams.specs.declared.end.RunEnd.TheVariants.{End}
 
 -- the answer to a call: the machine's, where the history has room
 abbrev pub answer_from : Story → Call → Answer

@@ -15,8 +15,8 @@ use Rattle.fb_wire.specs.declared.change.ChangeFault.TheVariants as fault
 use Rattle.fb_wire.specs.Lines.{Fits, IsTooLong, lines_of, is_blank}
 use Rattle.fb_wire.specs.Requests.{request_of}
 use Rattle.fb_wire.specs.Ends.{IsFrontOfReply, IsNothing, Stands}
-use Rattle.fb_wire.specs.declared.end.RunEnd.{RunEnd}
-use Rattle.fb_wire.specs.declared.end.RunEnd.TheVariants as end
+use Rattle.fb_streams.specs.declared.end.RunEnd.{RunEnd}
+use Rattle.fb_streams.specs.declared.end.RunEnd.TheVariants as end
 use Rattle.fb_wire.specs.Talk.{plan_of, LineTalk, Talk, Jobs, Pair, Plan, says, asks, Leads, Runs, after_take, held_after}
 use Rattle.fb_wire.specs.Replies.{work_done, work_refused, said_to, reply_line}
 use Rattle.fb_wire.specs.ReplyView.{data_of, refusal_text}

@@ -5,6 +5,8 @@ use Rattle.fb_text.specs.Name.{name_of}
 use Rattle.fb_text.specs.declared.name.NameFault.{NameFault}
 use Rattle.fb_bench.specs.Library.Texts.{Edit, Puts, Removes}
 use Rattle.fb_bench.specs.Jobs.Reads.{Order}
+use Rattle.fb_bench.specs.Jobs.declared.key.Key.{Key}
+use Rattle.fb_bench.specs.Jobs.declared.key.Kind.{Kind}
 use Rattle.fb_bench.specs.Machine.{Call, ToCommit, ToTake, ToDeliver, ToGiveBack, ToAsk, OfTake, OfDeliver}
 use Rattle.fb_bench.specs.Calls.{Answer, Replied, FullHistory, BehindHistory}
 use Rattle.fb_bench.specs.declared.answers.Delivered.TheVariants.{Accepted}
@@ -44,6 +46,10 @@ call_once held call = asks call (λ answer. says (said_to 0 answer) held)
 abbrev pub with_name : Jobs → Result (List ℕ) NameFault → (List ℕ → Plan) → Plan
 with_name held (Err fault) next = says (refused (codes "BadName")) held
 with_name held (Ok unit) next = next unit
+
+-- one call, for the key of a kind and a name
+abbrev pub call_for_key : Jobs → (Key → Call) → Kind → List ℕ → Plan
+call_for_key held call kind unit = with_name held (name_of unit) (λ name. call_once held (call (record { kind = kind; unit = name })))
 
 -- a change as an edit of texts, or why it is refused
 abbrev pub edit_named : Change → Result (List ℕ) NameFault → Result Edit (List ℕ)
@@ -120,11 +126,11 @@ work_plan held (suc turns) count = asks ToTake (after_take held count (work_plan
 abbrev pub plan_of : Jobs → Option Request → Plan
 plan_of held None = says (refused (codes "BadRequest")) held
 plan_of held (Some (asked.commit changes)) = commit_plan held (edits_in changes)
-plan_of held (Some (asked.ask kind unit)) = with_name held (name_of unit) (λ name. call_once held (ToAsk (record { kind = kind; unit = name })))
+plan_of held (Some (asked.ask kind unit)) = call_for_key held ToAsk kind unit
 plan_of held (Some (asked.work turns)) = work_plan held turns 0
 plan_of held (Some asked.take) = take_plan held
 plan_of held (Some (asked.deliver number)) = deliver_plan held number
-plan_of held (Some (asked.give_back kind unit)) = with_name held (name_of unit) (λ name. call_once held (ToGiveBack (record { kind = kind; unit = name })))
+plan_of held (Some (asked.give_back kind unit)) = call_for_key held ToGiveBack kind unit
 
 -- ---- lines
 

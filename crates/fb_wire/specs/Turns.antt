@@ -2,10 +2,14 @@
 use Rattle.std.specs.Prelude.{⊤, List, ℕ, Result}
 use Rattle.fb_bench.specs.Machine.{Call}
 use Rattle.fb_bench.specs.Calls.{Answer}
-use Rattle.fb_wire.specs.Served.{PieceTaken}
-use Rattle.fb_wire.specs.declared.end.RunEnd.{RunEnd}
-use Rattle.fb_wire.specs.declared.end.RunEnd.TheVariants as end
+use Rattle.fb_wire.specs.Served.{LineSaid, PieceTaken}
+use Rattle.fb_streams.specs.declared.end.RunEnd.{RunEnd}
+use Rattle.fb_streams.specs.declared.end.RunEnd.TheVariants as end
 use Rattle.fb_wire.specs.declared.line.Conversation.{Conversation}
+
+-- the line of the conversation is answered, by its jobs
+abbrev pub SaysLine : {S : Type 0} → (S → Call → Answer → S → Type 0) → S → Conversation → List ℕ → Result ⊤ RunEnd → S → Conversation → List ℕ → Type 0
+SaysLine Step old old_talk old_held result new talk held = LineSaid Step old_talk.line.items old_talk.held.items old old_held result talk.held.items new held
 
 -- the conversation takes a piece of the bytes, by its line and its jobs
 abbrev pub TakesPiece : {S : Type 0} → (S → Call → Answer → S → Type 0) → S → Conversation → List ℕ → List ℕ → List ℕ → Result ⊤ RunEnd → S → Conversation → List ℕ → Type 0

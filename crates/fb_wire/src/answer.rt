@@ -2,14 +2,13 @@
 ghost use Rattle.std.specs.Prelude.{◌≡◌, ℕ, Some, option_map, length, map};
 ghost use Rattle.std.specs.Option.{option_copied};
 ghost use Rattle.std.specs.Result.{result_ok};
-ghost use Rattle.fb_text.specs.Name.{name_of};
 ghost use Rattle.fb_bench.specs.Calls.{take_reply, ask_reply};
 ghost use Rattle.fb_bench.specs.Machine.{ToCommit, ToDeliver, ToGiveBack, ToAsk, OfCommit, OfDeliver, OfGiveBack};
 ghost use Rattle.fb_bench.specs.Records.{listed};
 ghost use Rattle.fb_wire.specs.Replies.{said_to};
 ghost use Rattle.fb_wire.specs.RequestView.{change_view, request_view};
 ghost use Rattle.fb_wire.specs.Served.{Served, RoundServed, KeepsTaken, Takes, left_after, answer_in, reply_in};
-ghost use Rattle.fb_wire.specs.Talk.{plan_of, with_name, commit_plan, edits_in, Jobs, Plan, after_deliver, call_once, job_at, take_plan, deliver_plan, work_plan};
+ghost use Rattle.fb_wire.specs.Talk.{plan_of, call_for_key, commit_plan, edits_in, Jobs, Plan, after_deliver, call_once, job_at, take_plan, deliver_plan, work_plan};
 
 use crate::change::{ChangeFault, changes_of};
 use crate::reply::{Refusal, Reply};
@@ -87,7 +86,8 @@ fn shown_reply(asked: Result<Asked, DeskRefused>) -> Result<Reply, AllocError>
 /// Asks for a commit of changes that were read.
 fn answer_changes<D: Desk>(desk: &mut D, changes: &[Change]) -> Result<Reply, AllocError>
     ensures { (held : Jobs)
-        → Served D.step (call_once held (ToCommit (listed changes.now))) desk.old result held desk.new }
+        → Served D.step (call_once held (ToCommit (listed changes.now))) desk.old
+        result held desk.new }
 {
     let committed = desk.commit(changes);
     commit_reply(&committed)
@@ -99,7 +99,8 @@ fn answer_commit<D: Desk>(
     asked: &[AskedChange<'_>],
 ) -> Result<Reply, AllocError>
     ensures { (held : Jobs)
-        → Served D.step (commit_plan held (edits_in (map change_view asked.now))) desk.old result held desk.new }
+        → Served D.step (commit_plan held (edits_in (map change_view asked.now))) desk.old
+        result held desk.new }
 {
     match changes_of(alloc, asked) {
         Ok(changes) => answer_changes(desk, &changes),
@@ -109,14 +110,16 @@ fn answer_commit<D: Desk>(
 }
 
 fn answer_ask<D: Desk>(desk: &mut D, key: Key) -> Result<Reply, AllocError>
-    ensures { (held : Jobs) → Served D.step (call_once held (ToAsk key)) desk.old result held desk.new }
+    ensures { (held : Jobs)
+        → Served D.step (call_once held (ToAsk key)) desk.old result held desk.new }
 {
     let asked = desk.ask(key);
     shown_reply(asked)
 }
 
 fn answer_give_back<D: Desk>(desk: &mut D, key: Key) -> Result<Reply, AllocError>
-    ensures { (held : Jobs) → Served D.step (call_once held (ToGiveBack key)) desk.old result held desk.new }
+    ensures { (held : Jobs)
+        → Served D.step (call_once held (ToGiveBack key)) desk.old result held desk.new }
 {
     let given_back = desk.give_back(key);
     give_back_reply(given_back)
@@ -132,7 +135,8 @@ fn answer_deliver<D: Desk>(desk: &mut D, finished: &Finished) -> Result<Reply, A
 
 /// Keeps a taken job with those that are held.
 fn keep_taken(held: &mut Vec<Job>, taken: Result<Taken, DeskRefused>) -> Result<Reply, AllocError>
-    ensures { KeepsTaken held.old.items (answer_in take_reply taken) (reply_in result) held.new.items }
+    ensures { KeepsTaken held.old.items (answer_in take_reply taken)
+        (reply_in result) held.new.items }
 {
     match taken {
         Ok(Taken::Job(job)) => {
@@ -243,7 +247,8 @@ fn round_by(delivered: Result<Delivered, DeskRefused>) -> Result<Round, AllocErr
 
 /// Takes a job, runs it and delivers its result.
 fn work_once<D: Desk>(alloc: Global, desk: &mut D) -> Result<Round, AllocError>
-    ensures { (held : Jobs) (count : ℕ) (more : ℕ → Plan) → RoundServed D.step held count more desk.old result desk.new }
+    ensures { (held : Jobs) (count : ℕ) (more : ℕ → Plan)
+        → RoundServed D.step held count more desk.old result desk.new }
 {
     let taken = desk.take();
     let job = match job_or_round(taken) {
@@ -280,7 +285,7 @@ fn answer_work<D: Desk>(alloc: Global, desk: &mut D, turns: u64) -> Result<Reply
 /// Asks for the key of a kind and a name.
 fn answer_ask_named<D: Desk>(desk: &mut D, kind: Kind, unit: &str) -> Result<Reply, AllocError>
     ensures { (held : Jobs)
-        → Served D.step (with_name held (name_of unit.now) (λ name. call_once held (ToAsk (record { kind = kind; unit = name })))) desk.old result held desk.new }
+        → Served D.step (call_for_key held ToAsk kind unit.now) desk.old result held desk.new }
 {
     match Name::read(unit) {
         Err(_) => Ok(Reply::Refused(Refusal::BadName)),
@@ -291,7 +296,8 @@ fn answer_ask_named<D: Desk>(desk: &mut D, kind: Kind, unit: &str) -> Result<Rep
 /// Gives back the key of a kind and a name.
 fn answer_back_named<D: Desk>(desk: &mut D, kind: Kind, unit: &str) -> Result<Reply, AllocError>
     ensures { (held : Jobs)
-        → Served D.step (with_name held (name_of unit.now) (λ name. call_once held (ToGiveBack (record { kind = kind; unit = name })))) desk.old result held desk.new }
+        → Served D.step (call_for_key held ToGiveBack kind unit.now) desk.old
+        result held desk.new }
 {
     match Name::read(unit) {
         Err(_) => Ok(Reply::Refused(Refusal::BadName)),
@@ -305,7 +311,8 @@ fn answer_request<D: Desk>(
     held: &mut Vec<Job>,
     request: &Request<'_>,
 ) -> Result<Reply, AllocError>
-    ensures { Served D.step (plan_of held.old.items (Some (request_view request.now))) desk.old result held.new.items desk.new }
+    ensures { Served D.step (plan_of held.old.items (Some (request_view request.now))) desk.old
+        result held.new.items desk.new }
 {
     match request {
         Request::Commit(changes) => answer_commit(alloc, desk, changes),
@@ -324,7 +331,8 @@ pub(crate) fn answer<D: Desk>(
     held: &mut Vec<Job>,
     request: &Option<Request<'_>>,
 ) -> Result<Reply, AllocError>
-    ensures { Served D.step (plan_of held.old.items (option_map request_view request.now)) desk.old result held.new.items desk.new }
+    ensures { Served D.step (plan_of held.old.items (option_map request_view request.now)) desk.old
+        result held.new.items desk.new }
 {
     match request {
         None => Ok(Reply::Refused(Refusal::BadRequest)),

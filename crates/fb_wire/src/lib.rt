@@ -4,7 +4,6 @@
 mod answer;
 mod change;
 mod deploy_reply;
-mod end;
 mod laws;
 mod line;
 mod net_reply;
@@ -14,8 +13,9 @@ mod request;
 mod run;
 mod to_json;
 
-pub use end::RunEnd;
-pub use fb_streams::{Failed, Feed, FromRead, IntoWrite, MemoryFeed, MemorySink, Sink};
+pub use fb_streams::{
+    Failed, Fault, Feed, FromRead, IntoWrite, MemoryFeed, MemorySink, RunEnd, Sink, fault_of,
+};
 pub use laws::{one_script, one_talk};
 pub use line::write_all;
 pub use run::{run_lines, run_script};

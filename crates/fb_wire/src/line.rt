@@ -3,17 +3,17 @@ ghost use Rattle.std.specs.Prelude.{◌≡◌, ◌↔◌, [], IsTrue, IfOk, IfEr
 ghost use Rattle.fb_wire.specs.Lines.{is_blank};
 ghost use Rattle.serde_json.specs.View.{view};
 ghost use Rattle.fb_wire.specs.Requests.{request_in, request_of};
-ghost use Rattle.fb_wire.specs.Served.{Served, LineServed, LineSaid, StopsInside};
+ghost use Rattle.fb_wire.specs.Served.{Served, LineServed, StopsInside};
 ghost use Rattle.fb_streams.specs.Streams.{WritesAll, StaysFlushed};
 ghost use Rattle.fb_wire.specs.Talk.{plan_of};
+ghost use Rattle.fb_wire.specs.Turns.{SaysLine};
 
 use crate::answer::answer;
-use crate::end::RunEnd;
 use crate::reply::Reply;
 use crate::request::request_in;
 use fb_bench::Desk;
 use fb_bench::jobs::Job;
-use fb_streams::{Failed, Sink};
+use fb_streams::{Failed, RunEnd, Sink};
 use serde_json::Value;
 use std::alloc::{AllocError, Global};
 use std::mem;
@@ -31,7 +31,8 @@ fn answer_value<D: Desk>(
     held: &mut Vec<Job>,
     value: &Value,
 ) -> Result<Reply, AllocError>
-    ensures { Served D.step (plan_of held.old.items (request_in (view value.now))) desk.old result held.new.items desk.new }
+    ensures { Served D.step (plan_of held.old.items (request_in (view value.now))) desk.old
+        result held.new.items desk.new }
 {
     match request_in(alloc, value) {
         Ok(request) => answer(alloc, desk, held, &request),
@@ -45,7 +46,8 @@ fn answer_bytes<D: Desk>(
     held: &mut Vec<Job>,
     line: &[u8],
 ) -> Result<Reply, AllocError>
-    ensures { Served D.step (plan_of held.old.items (request_of line.now)) desk.old result held.new.items desk.new }
+    ensures { Served D.step (plan_of held.old.items (request_of line.now)) desk.old
+        result held.new.items desk.new }
 {
     match Value::from_slice(alloc, line) {
         Ok(value) => answer_value(alloc, desk, held, &value),
@@ -130,8 +132,10 @@ pub(crate) fn say_line<D: Desk, S: Sink>(
     writer: &mut S,
 ) -> Result<(), RunEnd>
     requires { S.has_failed writer.old ≡ false }
-    ensures said { LineSaid D.step talk.old.line.items talk.old.held.items desk.old (S.held writer.old) result talk.new.held.items desk.new (S.held writer.new) }
-    ensures flushed { StaysFlushed (S.is_flushed writer.old) (S.has_failed writer.new) (S.is_flushed writer.new) }
+    ensures said { SaysLine D.step desk.old talk.old (S.held writer.old)
+        result desk.new talk.new (S.held writer.new) }
+    ensures flushed { StaysFlushed (S.is_flushed writer.old)
+        (S.has_failed writer.new) (S.is_flushed writer.new) }
     ensures failed { IsTrue (S.has_failed writer.new) ↔ (result ≡ Err RunEnd.WriteFailed) }
     ensures inside { IfErr result StopsInside }
 {

@@ -8,11 +8,10 @@ ghost use Rattle.fb_wire.specs.Script.{SaysBy};
 ghost use Rattle.fb_wire.specs.Turns.{StopsAtEnd, StopsRead, TakesPiece};
 ghost use Rattle.fb_wire.specs.Talk.{Pair, Runs};
 
-use crate::end::RunEnd;
 use crate::line::{Conversation, say_line};
 use crate::piece::take_piece;
 use fb_bench::{Bench, Desk, Solo};
-use fb_streams::{Feed, Sink};
+use fb_streams::{Feed, RunEnd, Sink};
 use std::alloc::Global;
 
 /// How many bytes one read may give.
@@ -26,8 +25,10 @@ fn end_talk<D: Desk, S: Sink>(
     writer: &mut S,
 ) -> RunEnd
     requires { S.has_failed writer.old ≡ false }
-    ensures taken { TakesPiece D.step desk.old talk.old (S.held writer.old) [] [] (Err result) desk.new talk.new (S.held writer.new) }
-    ensures flushed { StaysFlushed (S.is_flushed writer.old) (S.has_failed writer.new) (S.is_flushed writer.new) }
+    ensures taken { TakesPiece D.step desk.old talk.old (S.held writer.old) [] []
+        (Err result) desk.new talk.new (S.held writer.new) }
+    ensures flushed { StaysFlushed (S.is_flushed writer.old)
+        (S.has_failed writer.new) (S.is_flushed writer.new) }
     ensures failed { IsTrue (S.has_failed writer.new) ↔ (result ≡ RunEnd.WriteFailed) }
     ensures end { StopsAtEnd result }
 {
@@ -52,11 +53,13 @@ fn take_turn<F: Feed, S: Sink, D: Desk>(
     ensures taken { (bytes : List ℕ)
         × (F.given reader.new ≡ F.given reader.old ++ bytes)
         × Consumes (F.left reader.old) (F.left reader.new) bytes
-        × TakesPiece D.step desk.old talk.old (S.held writer.old) bytes [] result desk.new talk.new (S.held writer.new) }
+        × TakesPiece D.step desk.old talk.old (S.held writer.old) bytes []
+        result desk.new talk.new (S.held writer.new) }
     ensures whole { result ≡ Err RunEnd.End → IsAtEnd (F.left reader.new) }
     ensures turn { F.reads reader.new ≡ F.reads reader.old + 1 }
     ensures read_failed { IsTrue (F.has_failed reader.new) ↔ (result ≡ Err RunEnd.ReadFailed) }
-    ensures flushed { StaysFlushed (S.is_flushed writer.old) (S.has_failed writer.new) (S.is_flushed writer.new) }
+    ensures flushed { StaysFlushed (S.is_flushed writer.old)
+        (S.has_failed writer.new) (S.is_flushed writer.new) }
     ensures write_failed { IsTrue (S.has_failed writer.new) ↔ (result ≡ Err RunEnd.WriteFailed) }
     ensures end { IfErr result StopsRead }
 {
@@ -72,8 +75,8 @@ fn take_turn<F: Feed, S: Sink, D: Desk>(
     }
 }
 
-/// Answers the lines of the reader, in order, by the calls of the desk, and writes the replies. A turn is one
-/// read.
+/// Answers the lines of the reader, in order, by the calls of the desk, and writes the replies. A
+/// turn is one read.
 pub fn run_lines<F: Feed, S: Sink, D: Desk>(
     alloc: Global,
     reader: &mut F,
@@ -92,9 +95,11 @@ pub fn run_lines<F: Feed, S: Sink, D: Desk>(
         × Stands result bytes pairs out }
     ensures whole { result ≡ RunEnd.End → IsAtEnd (F.left reader.new) }
     ensures turns { F.reads reader.new ≤ F.reads reader.old + turns }
-    ensures all_turns { result ≡ RunEnd.TurnsOver → F.reads reader.new ≡ F.reads reader.old + turns }
+    ensures all_turns { result ≡ RunEnd.TurnsOver
+        → F.reads reader.new ≡ F.reads reader.old + turns }
     ensures read_failed { IsTrue (F.has_failed reader.new) ↔ (result ≡ RunEnd.ReadFailed) }
-    ensures flushed { StaysFlushed (S.is_flushed writer.old) (S.has_failed writer.new) (S.is_flushed writer.new) }
+    ensures flushed { StaysFlushed (S.is_flushed writer.old)
+        (S.has_failed writer.new) (S.is_flushed writer.new) }
     ensures write_failed { IsTrue (S.has_failed writer.new) ↔ (result ≡ RunEnd.WriteFailed) }
 {
     let mut talk = Conversation::new(alloc);
@@ -127,9 +132,11 @@ fn run_solo<F: Feed, S: Sink>(
     ensures same_reference { solo.new.bench.ghost_name ≡ solo.old.bench.ghost_name }
     ensures whole { result ≡ RunEnd.End → IsAtEnd (F.left reader.new) }
     ensures turns { F.reads reader.new ≤ F.reads reader.old + turns }
-    ensures all_turns { result ≡ RunEnd.TurnsOver → F.reads reader.new ≡ F.reads reader.old + turns }
+    ensures all_turns { result ≡ RunEnd.TurnsOver
+        → F.reads reader.new ≡ F.reads reader.old + turns }
     ensures read_failed { IsTrue (F.has_failed reader.new) ↔ (result ≡ RunEnd.ReadFailed) }
-    ensures flushed { StaysFlushed (S.is_flushed writer.old) (S.has_failed writer.new) (S.is_flushed writer.new) }
+    ensures flushed { StaysFlushed (S.is_flushed writer.old)
+        (S.has_failed writer.new) (S.is_flushed writer.new) }
     ensures write_failed { IsTrue (S.has_failed writer.new) ↔ (result ≡ RunEnd.WriteFailed) }
 {
     run_lines(alloc, reader, writer, solo, turns)
@@ -146,7 +153,8 @@ pub fn run_script<F: Feed, S: Sink>(
 ) -> RunEnd
     requires reader { F.has_failed reader.old ≡ false }
     requires writer { S.has_failed writer.old ≡ false }
-    // Each answer is the machine's, from the state before on: what is written is the script's output, or a front of it.
+    // Each answer is the machine's, from the state before on: what is written is the script's
+    // output, or a front of it.
     ensures script { (bytes : List ℕ) × (pairs : List Pair) × (out : List ℕ)
         × (F.given reader.new ≡ F.given reader.old ++ bytes)
         × Consumes (F.left reader.old) (F.left reader.new) bytes
@@ -156,9 +164,11 @@ pub fn run_script<F: Feed, S: Sink>(
         × SaysBy result caller bench.old bytes out bench.new }
     ensures whole { result ≡ RunEnd.End → IsAtEnd (F.left reader.new) }
     ensures turns { F.reads reader.new ≤ F.reads reader.old + turns }
-    ensures all_turns { result ≡ RunEnd.TurnsOver → F.reads reader.new ≡ F.reads reader.old + turns }
+    ensures all_turns { result ≡ RunEnd.TurnsOver
+        → F.reads reader.new ≡ F.reads reader.old + turns }
     ensures read_failed { IsTrue (F.has_failed reader.new) ↔ (result ≡ RunEnd.ReadFailed) }
-    ensures flushed { StaysFlushed (S.is_flushed writer.old) (S.has_failed writer.new) (S.is_flushed writer.new) }
+    ensures flushed { StaysFlushed (S.is_flushed writer.old)
+        (S.has_failed writer.new) (S.is_flushed writer.new) }
     ensures write_failed { IsTrue (S.has_failed writer.new) ↔ (result ≡ RunEnd.WriteFailed) }
 {
     let mut solo = Solo::new(bench, caller);

@@ -1,4 +1,4 @@
-//! What is written as JSON, token by token. The writer places the quotes, the colons and the commas.
+//! What is written as JSON, token by token. The writer places the quotes, colons and commas.
 ghost use Rattle.std.specs.Prelude.{map};
 ghost use Rattle.serde_json.specs.Data.{Data, array, boolean, string};
 ghost use Rattle.serde_json.specs.View.{items_of};
@@ -140,7 +140,8 @@ pub(crate) fn write_one_list<T: ToJson>(
     name: &str,
     items: &[T],
 ) -> Result<(), AllocError>
-    ensures { IsSaid result out.old out.new (one_member name.now (array (items_of (map T.said items.now)))) }
+    ensures { IsSaid result out.old out.new
+        (one_member name.now (array (items_of (map T.said items.now)))) }
 {
     out.begin_object()?;
     write_list_member(out, name, items)?;

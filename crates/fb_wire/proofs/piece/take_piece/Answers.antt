@@ -2,7 +2,7 @@ use Rattle.std.proofs.Common.{◌≡◌, ◌<◌, ◌-◌, ◌+◌, [], ◌∷�
 use Rattle.std.proofs.Math.Seq.{take-length}
 use Rattle.std.proofs.lemmas.List.{take-append-drop}
 use Rattle.std.proofs.lemmas.Grind.{common_steps}
-use Rattle.fb_wire.specs.declared.end.RunEnd.TheVariants as end
+use Rattle.fb_streams.specs.declared.end.RunEnd.TheVariants as end
 use Rattle.fb_wire.proofs.Ends.{not_failed}
 use Rattle.fb_wire.proofs.Takings.{part_extends, pieces_come, taken_on, taken_all, stops_sooner}
 use Rattle.fb_wire.proofs.piece.take_piece.Goals as goal

@@ -1,6 +1,6 @@
 use Rattle.std.proofs.Common.{◌≡◌, ◌++◌, [], Ok, Err, append-nil, append_assoc, sym, ap, ◌∙◌, arith}
 use Rattle.std.proofs.KnownBytes.{Consumes-nil, Consumes-trans}
-use Rattle.fb_wire.specs.declared.end.RunEnd.TheVariants as end
+use Rattle.fb_streams.specs.declared.end.RunEnd.TheVariants as end
 use Rattle.fb_wire.proofs.Ends.{not_failed}
 use Rattle.fb_wire.proofs.Takings.{begins, run_breaks, run_stops, pieces_come}
 use Rattle.fb_wire.proofs.run.run_lines.Goals as goal

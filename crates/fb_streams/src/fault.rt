@@ -1,7 +1,7 @@
 //! Why a run fails.
 ghost use Rattle.std.specs.Prelude.{◌≡◌, ◌↔◌, None};
 
-use fb_wire::RunEnd;
+use crate::end::RunEnd;
 use thiserror::Error;
 
 /// Why a run did not come to the end of its input.
