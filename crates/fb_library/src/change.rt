@@ -8,7 +8,8 @@ use fb_text::Name;
 use std::alloc::{AllocError, Global};
 use std::sync::Arc;
 
-/// One change of a commit. `base` is the revision that the change was written against, 0 where the unit was absent.
+/// One change of a commit. `base` is the revision that the change was written against, 0 where the
+/// unit was absent.
 #[derive(Drop)]
 pub enum Change {
     Put { base: u64, source: Arc<Source> },

@@ -122,7 +122,8 @@ impl Library {
     }
 
     fn put(&mut self, revision: u64, source: Arc<Source>) -> Result<(), AllocError>
-        ensures { OnOk result (self.new ≡ insert_entry name_cmp self.old source.value.unit (record { revision = revision; text = source.value.text })) }
+        ensures { OnOk result (self.new ≡ insert_entry name_cmp self.old source.value.unit
+            (record { revision = revision; text = source.value.text })) }
     {
         let unit = source.unit();
         let filed = Arc::new(self.alloc, Filed { revision, source })?;

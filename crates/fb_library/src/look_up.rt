@@ -52,7 +52,8 @@ pub fn tree_by_name<'a, V: View>(view: &'a V, unit: &Name) -> Option<&'a Decl>
 
 /// The type of a unit that is present, not broken and no system.
 pub fn declaration_by_name<'a, V: View>(view: &'a V, unit: &Name) -> Option<&'a TypeDeclaration>
-    ensures { option_map (λ d. type_tree d.now) result ≡ declaration_at (V.sources view.now) unit.now }
+    ensures { option_map (λ d. type_tree d.now) result
+        ≡ declaration_at (V.sources view.now) unit.now }
 {
     match tree_by_name(view, unit) {
         Some(decl) => declared_type(decl),

@@ -5,7 +5,7 @@ ghost use Rattle.fb_text.specs.Order.{name_cmp};
 ghost use Rattle.fb_library.specs.Rests.{Rests};
 
 use crate::look_up::View;
-use crate::reads::mentions_by_name;
+use crate::mentions::mentions_by_name;
 use fb_table::{names_of, open_new};
 use fb_text::Name;
 use std::alloc::{AllocError, Global};

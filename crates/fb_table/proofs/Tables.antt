@@ -7,14 +7,14 @@ use Rattle.std.specs.BTreeMap.{is_at}
 use Rattle.std.specs.Ordering.{is_le}
 use Rattle.std.specs.declared.cmp.Ordering.{Ordering}
 use Rattle.std.specs.declared.cmp.Ordering.TheVariants.{Less, Equal, Greater}
-use Rattle.std.proofs.lemmas.Bool.{false≢true}
+use Rattle.std.proofs.lemmas.Bool.{false≢true, or_left, or_right}
 use Rattle.fb_text.specs.Order.{name_cmp}
 use Rattle.fb_table.specs.Entries.{entries_of, shelves_of, entries_in, lasts_in}
 use Rattle.fb_table.specs.Shelves.{names_of, lasts_of, all_on, AreShelves, IsShelfFor, reaches}
 use Rattle.fb_table.specs.declared.shelf.Shelf.{Shelf}
 use Rattle.fb_table.proofs.Appended.{lookup_behind}
 use Rattle.fb_table.proofs.Kept.{row_there, counted}
-use Rattle.fb_table.proofs.OnShelves.{Row, entries_at, below_shelf, lookup_on, or_left, or_right}
+use Rattle.fb_table.proofs.OnShelves.{Row, entries_at, below_shelf, lookup_on}
 use Rattle.fb_table.proofs.Places.{less}
 
 pub all_taken : {A : Type 0} (xs : List A) (i : ℕ) → length xs ≤ i → take i xs ≡ xs

@@ -14,8 +14,11 @@ module _ {V : Type 0} where
   abbrev pub names_in : List (Placed V) → List (List ℕ)
   names_in places = names_of (entries_of places)
 
+  abbrev pub entries_on : Shelf V → List (List ℕ × V)
+  entries_on it = entries_of it.places.value.items
+
   abbrev pub shelf_of : Shelf V → List ℕ × List (List ℕ × V)
-  shelf_of it = (it.last, entries_of it.places.value.items)
+  shelf_of it = (it.last, entries_on it)
 
   abbrev pub shelves_of : List (Shelf V) → List (List ℕ × List (List ℕ × V))
   shelves_of shelves = map shelf_of shelves

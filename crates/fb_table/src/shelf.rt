@@ -6,7 +6,7 @@ ghost use Rattle.std.specs.Map.{lookup, remove_entry};
 ghost use Rattle.std.specs.BTreeMap.{insert_entry, is_at};
 ghost use Rattle.fb_text.specs.Order.{name_cmp};
 ghost use Rattle.fb_table.specs.Place.{IsAt, IsGapFor};
-ghost use Rattle.fb_table.specs.Entries.{entry_of, entries_of, names_in, shelf_of};
+ghost use Rattle.fb_table.specs.Entries.{entry_of, entries_of, entries_on, names_in, shelf_of};
 
 use fb_text::Name;
 use std::alloc::{AllocError, Global};
@@ -54,7 +54,8 @@ impl<V: Drop> Shelf<V> {
     /// The value under a name.
     pub(crate) fn get(&self, name: &Name) -> Option<&Arc<V>>
         requires { IsStrictlySortedBy name_cmp (names_in self.now.places.value.items) }
-        ensures { option_map (λ it. it.now.value) result ≡ lookup (is_at (name_cmp name.now)) (entries_of self.now.places.value.items) }
+        ensures { option_map (λ it. it.now.value) result
+            ≡ lookup (is_at (name_cmp name.now)) (entries_on self.now) }
     {
         let places = self.places.as_slice();
         match place(places, name) {
@@ -66,7 +67,8 @@ impl<V: Drop> Shelf<V> {
     /// The places with a value under a name, in place of what was there.
     pub(crate) fn with(&self, name: Name, value: Arc<V>) -> Result<Arc<Vec<Placed<V>>>, AllocError>
         requires { IsStrictlySortedBy name_cmp (names_in self.now.places.value.items) }
-        ensures { IfOk result (λ places. entries_of places.value.items ≡ insert_entry name_cmp (entries_of self.now.places.value.items) name value.value) }
+        ensures { IfOk result (λ places. entries_of places.value.items
+            ≡ insert_entry name_cmp (entries_on self.now) name value.value) }
     {
         let alloc = *self.places.allocator();
         let mut places = copied(alloc, self.places.as_slice())?;
@@ -77,7 +79,8 @@ impl<V: Drop> Shelf<V> {
     /// The places without a name.
     pub(crate) fn without(&self, name: &Name) -> Result<Arc<Vec<Placed<V>>>, AllocError>
         requires { IsStrictlySortedBy name_cmp (names_in self.now.places.value.items) }
-        ensures { IfOk result (λ places. entries_of places.value.items ≡ remove_entry (is_at (name_cmp name.now)) (entries_of self.now.places.value.items)) }
+        ensures { IfOk result (λ places. entries_of places.value.items
+            ≡ remove_entry (is_at (name_cmp name.now)) (entries_on self.now)) }
     {
         let alloc = *self.places.allocator();
         let mut places = copied(alloc, self.places.as_slice())?;
@@ -113,7 +116,8 @@ pub(crate) fn push_names<V>(names: &mut Vec<Name>, places: &[Placed<V>]) -> Resu
 
 fn put<V: Drop>(places: &mut Vec<Placed<V>>, name: Name, value: Arc<V>) -> Result<(), AllocError>
     requires { IsStrictlySortedBy name_cmp (names_in places.old.items) }
-    ensures { OnOk result (entries_of places.new.items ≡ insert_entry name_cmp (entries_of places.old.items) name value.value) }
+    ensures { OnOk result (entries_of places.new.items
+        ≡ insert_entry name_cmp (entries_of places.old.items) name value.value) }
 {
     let placed = Placed { name, value };
     match place(places.as_slice(), &name) {
@@ -127,7 +131,8 @@ fn put<V: Drop>(places: &mut Vec<Placed<V>>, name: Name, value: Arc<V>) -> Resul
 
 fn remove<V: Drop>(places: &mut Vec<Placed<V>>, name: &Name)
     requires { IsStrictlySortedBy name_cmp (names_in places.old.items) }
-    ensures { entries_of places.new.items ≡ remove_entry (is_at (name_cmp name.now)) (entries_of places.old.items) }
+    ensures { entries_of places.new.items
+        ≡ remove_entry (is_at (name_cmp name.now)) (entries_of places.old.items) }
 {
     if let Ok(at) = place(places.as_slice(), name) {
         let _ = places.remove(at);

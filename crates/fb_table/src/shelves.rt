@@ -11,7 +11,8 @@ use fb_text::Name;
 use std::alloc::{AllocError, Global};
 use std::sync::Arc;
 
-// A copy of a table of n names counts some n / 64 shelves once more, and a change makes one shelf anew, with a count for each of its names.
+// A full shelf becomes two halves, so a copy of a table of n names counts some n / 64 shelves once
+// more. A change makes one shelf anew, with a count for each of its names.
 const FULL: usize = 128;
 
 /// The same shelves, shared.
@@ -47,7 +48,8 @@ pub(crate) fn put<V: Drop>(
 ) -> Result<(), AllocError>
     requires { AreShelves (shelves_of shelves.old.items) }
     ensures order { AreShelves (shelves_of shelves.new.items) }
-    ensures ok { OnOk result (entries_in shelves.new.items ≡ insert_entry name_cmp (entries_in shelves.old.items) name value.value) }
+    ensures ok { OnOk result (entries_in shelves.new.items
+        ≡ insert_entry name_cmp (entries_in shelves.old.items) name value.value) }
     ensures err { OnErr result (entries_in shelves.new.items ≡ entries_in shelves.old.items) }
 {
     make_room(shelves, &name)?;
@@ -62,7 +64,8 @@ pub(crate) fn remove<V: Drop>(shelves: &mut Vec<Shelf<V>>, name: &Name) -> Resul
     requires order { AreShelves (shelves_of shelves.old.items) }
     requires there { reaches (lasts_in shelves.old.items) name.now ≡ true }
     ensures order { AreShelves (shelves_of shelves.new.items) }
-    ensures ok { OnOk result (entries_in shelves.new.items ≡ remove_entry (is_at (name_cmp name.now)) (entries_in shelves.old.items)) }
+    ensures ok { OnOk result (entries_in shelves.new.items
+        ≡ remove_entry (is_at (name_cmp name.now)) (entries_in shelves.old.items)) }
     ensures err { OnErr result (entries_in shelves.new.items ≡ entries_in shelves.old.items) }
 {
     let at = shelf_for(shelves.as_slice(), name);
@@ -92,7 +95,8 @@ fn halve_full<V: Drop>(shelves: &mut Vec<Shelf<V>>, at: usize) -> Result<(), All
     requires order { AreShelves (shelves_of shelves.old.items) }
     ensures order { AreShelves (shelves_of shelves.new.items) }
     ensures same { entries_in shelves.new.items ≡ entries_in shelves.old.items }
-    ensures room { (name : List ℕ) → reaches (lasts_in shelves.old.items) name ≡ true → reaches (lasts_in shelves.new.items) name ≡ true }
+    ensures room { (name : List ℕ) → reaches (lasts_in shelves.old.items) name ≡ true
+        → reaches (lasts_in shelves.new.items) name ≡ true }
 {
     let places = shelves[at].places.as_slice();
     if places.len() < FULL {
@@ -110,7 +114,8 @@ fn halve_full<V: Drop>(shelves: &mut Vec<Shelf<V>>, at: usize) -> Result<(), All
     Ok(())
 }
 
-/// Has the shelves reach a name that all of them end below: the last one, or a new one where that is full.
+/// Has the shelves reach a name that all of them end below: the last one, or a new one where that is
+/// full.
 fn reach<V: Drop>(shelves: &mut Vec<Shelf<V>>, name: Name) -> Result<(), AllocError>
     requires order { AreShelves (shelves_of shelves.old.items) }
     requires past { IsShelfFor (lasts_in shelves.old.items) name (length shelves.old.items) }

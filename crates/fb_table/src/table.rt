@@ -52,7 +52,8 @@ impl<V: Drop> Table<V> {
 
     /// The value under a name, to be shared.
     pub fn get(&self, name: &Name) -> Option<&Arc<V>>
-        ensures { option_map (λ it. it.now.value) result ≡ lookup (is_at (name_cmp name.now)) self.now }
+        ensures { option_map (λ it. it.now.value) result
+            ≡ lookup (is_at (name_cmp name.now)) self.now }
     {
         let shelves = self.shelves.as_slice();
         match shelves.get(shelves::shelf_for(shelves, name)) {
@@ -100,7 +101,8 @@ impl<V: Drop> Table<V> {
         })
     }
 
-    /// Puts a value under a name, in place of what was there. Where there was no memory the table stays as it was.
+    /// Puts a value under a name, in place of what was there. Where there was no memory the table
+    /// stays as it was.
     pub fn put(&mut self, name: Name, value: Arc<V>) -> Result<(), AllocError>
         ensures ok { OnOk result (self.new ≡ insert_entry name_cmp self.old name value.value) }
         ensures err { OnErr result (self.new ≡ self.old) }

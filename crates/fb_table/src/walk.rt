@@ -14,7 +14,8 @@ pub fn open_new(
     seen: &mut BTreeSet<Name>,
     pending: &mut Vec<Name>,
 ) -> Result<(), AllocError>
-    ensures { OnOk result (Opens names.now seen.old.keys pending.old.items seen.new.keys pending.new.items) }
+    ensures { OnOk result
+        (Opens names.now seen.old.keys pending.old.items seen.new.keys pending.new.items) }
 {
     for name in names {
         if seen.insert(*name)? {
