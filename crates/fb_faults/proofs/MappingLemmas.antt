@@ -4,30 +4,15 @@ use Rattle.std.proofs.lemmas.List.Folds.{list_any-append}
 use Rattle.std.specs.BTreeSet.{BTreeSet, contains, Updates}
 use Rattle.std.specs.Cmp.Lexicographic.{pointwise}
 use Rattle.std.specs.Option.{option_map_or}
-use Rattle.std.specs.Ordering.{is_eq, ordering_then}
-use Rattle.std.specs.declared.cmp.Ordering.{Ordering}
-use Rattle.std.specs.declared.cmp.Ordering.TheVariants.{Less, Equal, Greater}
+use Rattle.std.specs.Cmp.{tied_then}
+use Rattle.std.proofs.Math.Bool.{or-false}
 use Rattle.fb_text.specs.Order.{name_cmp}
 use Rattle.fb_text.specs.declared.name.NameUse.{NameUse}
 use Rattle.fb_text.proofs.OrderLemmas.{same_name}
 use Rattle.fb_netcheck.specs.Iface.Names.{has_name, is_same, stands_for}
+use Rattle.fb_netcheck.proofs.Iface.RepeatLemmas.{true_or}
 use Rattle.fb_netcheck.proofs.Iface.TableLemmas.{is_it, known-new, known-old, none}
 use Rattle.fb_faults.specs.Pairs.{pair_cmp}
-
-both_equal : (r s : Ordering) → is_eq (ordering_then r s) ≡ (is_eq r && is_eq s)
-both_equal Less s = refl
-both_equal Equal s = refl
-both_equal Greater s = refl
-
-or_false : (b : Bool) → (b || false) ≡ b
-or_false true = refl
-or_false false = refl
-
-true_or : (b c : Bool) → cond b true c ≡ (c || b)
-true_or true true = refl
-true_or true false = refl
-true_or false true = refl
-true_or false false = refl
 
 pub not_true : (b : Bool) → not b ≡ true → b ≡ false
 not_true true e = sym e
@@ -51,10 +36,10 @@ none_added false false = refl
 pub added : (device : List ℕ) (names : List NameUse) (x : NameUse) (first old new : BTreeSet (List ℕ × List ℕ)) → ((name resource : List ℕ) → contains pair_cmp old (name, resource) ≡ (contains pair_cmp first (name, resource) || (is_same device name && has_name names resource))) → Updates pair_cmp old new (device, x.name) true → (name resource : List ℕ) → contains pair_cmp new (name, resource) ≡ (contains pair_cmp first (name, resource) || (is_same device name && has_name (names ++ x ∷ []) resource))
 added device names x first old new known updates name resource =
     updates.0 (name, resource)
-    ∙ (λ i. cond (both_equal (name_cmp device name) (name_cmp x.name resource) i) true (known name resource i))
+    ∙ (λ i. cond (sym (tied_then (name_cmp device name) (name_cmp x.name resource)) i) true (known name resource i))
     ∙ true_or (is_same device name && is_same x.name resource) (contains pair_cmp first (name, resource) || (is_same device name && has_name names resource))
     ∙ one_more (contains pair_cmp first (name, resource)) (is_same device name) (has_name names resource) (is_same x.name resource)
-    ∙ ap (λ b. contains pair_cmp first (name, resource) || (is_same device name && b)) (sym (list_any-append (λ (n : NameUse). is_same n.name resource) names (x ∷ []) ∙ ap (λ b. has_name names resource || b) (or_false (is_same x.name resource))))
+    ∙ ap (λ b. contains pair_cmp first (name, resource) || (is_same device name && b)) (sym (list_any-append (λ (n : NameUse). is_same n.name resource) names (x ∷ []) ∙ ap (λ b. has_name names resource || b) (or-false (is_same x.name resource))))
 
 -- whether the names that a device stands for have the resource
 abbrev pub among : List (List ℕ × List NameUse) → List ℕ → List ℕ → Bool
@@ -73,7 +58,7 @@ module _ (devices : List (List ℕ × List NameUse)) (x : List ℕ × List NameU
     where
       by : (b : Bool) → (b ≡ true → stands_for devices name ≡ None) → (among devices name resource || (b && has_name x.1 resource)) ≡ option_map_or (λ names. has_name names resource) (cond b (Some x.1) (stands_for devices name)) false
       by true e = ap (λ o. option_map_or (λ names. has_name names resource) o false || has_name x.1 resource) (e refl)
-      by false e = or_false (among devices name resource)
+      by false e = or-false (among devices name resource)
 
   seen-new : is_some (stands_for devices x.0) ≡ false → (q : List ℕ) → cond (is_same x.0 q) true (is_some (stands_for devices q)) ≡ is_some (stands_for (devices ++ x ∷ []) q)
   seen-new absent q =

@@ -8,7 +8,7 @@ use Rattle.fb_iface.specs.Code.{code_number}
 use Rattle.fb_iface.specs.Fault.{fault_cmp}
 use Rattle.fb_iface.proofs.CodeLemmas.{code_number-exact}
 
-both_equal : (r s : Ordering) → ordering_then r s ≡ Equal → (r ≡ Equal) × (s ≡ Equal)
+pub both_equal : (r s : Ordering) → ordering_then r s ≡ Equal → (r ≡ Equal) × (s ≡ Equal)
 both_equal Less s e = absurd (let no : ⊥ = cc in no)
 both_equal Equal s e = (λ _. Equal, e)
 both_equal Greater s e = absurd (let no : ⊥ = cc in no)

@@ -2,6 +2,7 @@
 use Rattle.std.proofs.Common.{◌≡◌, ◌≢◌, ℕ, Bool, true, false, ◌||◌, List, [], ◌∷◌, refl, sym, ap, ◌∙◌, true≢false, ◌⊎◌, inl, inr}
 use Rattle.std.specs.Cmp.Lexicographic.{bytes_decides, same_text}
 use Rattle.std.specs.List.{Contains}
+use Rattle.std.proofs.Math.Bool.{or-true}
 use Rattle.fb_text.specs.declared.name.NameUse.{NameUse}
 use Rattle.fb_text.proofs.OrderLemmas.{same_name}
 use Rattle.fb_iface.specs.Names.{has_name, is_same}
@@ -13,17 +14,13 @@ same_exact a b e = same_text a b (sym (same_name a b ∙ e))
 pub same_itself : (a b : List ℕ) → a ≡ b → is_same a b ≡ true
 same_itself a b e = sym (same_name a b) ∙ (bytes_decides a b).1 e
 
-or_true : (b : Bool) → (b || true) ≡ true
-or_true true = refl
-or_true false = refl
-
 pub named : (names : List NameUse) (q : List ℕ) (n : NameUse) → Contains names n → n.name ≡ q → has_name names q ≡ true
 named [] q n c e = absurd (contains_nothing n c)
 named (x ∷ xs) q n c e = by (contains_cases x xs n c) (λ d. named xs q n d e)
   where
     by : (x ≡ n) ⊎ Contains xs n → (Contains xs n → has_name xs q ≡ true) → (is_same x.name q || has_name xs q) ≡ true
     by (inl s) more = ap (λ b. b || has_name xs q) (same_itself x.name q (ap (λ (m : NameUse). m.name) s ∙ e))
-    by (inr d) more = ap (λ b. is_same x.name q || b) (more d) ∙ or_true (is_same x.name q)
+    by (inr d) more = ap (λ b. is_same x.name q || b) (more d) ∙ or-true (is_same x.name q)
 
 -- where a name is not among these, none of them is the name
 pub not_named : (names : List NameUse) (q : List ℕ) → has_name names q ≡ false → (n : NameUse) → Contains names n → n.name ≢ q

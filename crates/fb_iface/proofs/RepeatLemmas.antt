@@ -2,6 +2,7 @@
 use Rattle.std.proofs.Common.{◌≡◌, ℕ, ◌+◌, ◌<◌, Bool, true, false, cond, ◌||◌, List, [], ◌∷◌, ◌++◌, length, get_or, take, refl, sym, ap, ◌∙◌, append-nil}
 use Rattle.std.specs.BTreeMap.{is_at}
 use Rattle.std.specs.BTreeSet.{BTreeSet, contains, Updates}
+use Rattle.std.proofs.Math.Bool.{or-false, or_assoc}
 use Rattle.std.proofs.lemmas.List.{map-append}
 use Rattle.fb_text.specs.Order.{name_cmp}
 use Rattle.fb_text.specs.declared.name.NameUse.{NameUse}
@@ -10,19 +11,11 @@ use Rattle.fb_iface.specs.Fault.{fault_at, faults_at}
 use Rattle.fb_iface.proofs.PlaceLemmas.{passing, passing-all, passing-more}
 use Rattle.fb_iface.specs.Names.{has_name, is_repeated, is_same, repeated}
 
-or_assoc : (a b c : Bool) → (a || (b || c)) ≡ ((a || b) || c)
-or_assoc true b c = refl
-or_assoc false b c = refl
-
-or_false : (a : Bool) → (a || false) ≡ a
-or_false true = refl
-or_false false = refl
-
 has_name-push : (xs : List NameUse) (x : NameUse) (q : List ℕ) → has_name (xs ++ x ∷ []) q ≡ (has_name xs q || is_same x.name q)
-has_name-push [] x q = or_false (is_same x.name q)
-has_name-push (y ∷ xs) x q = ap (λ b. is_same y.name q || b) (has_name-push xs x q) ∙ or_assoc (is_same y.name q) (has_name xs q) (is_same x.name q)
+has_name-push [] x q = or-false (is_same x.name q)
+has_name-push (y ∷ xs) x q = ap (λ b. is_same y.name q || b) (has_name-push xs x q) ∙ sym (or_assoc (is_same y.name q) (has_name xs q) (is_same x.name q))
 
-true_or : (b c : Bool) → cond b true c ≡ (c || b)
+pub true_or : (b c : Bool) → cond b true c ≡ (c || b)
 true_or true true = refl
 true_or true false = refl
 true_or false true = refl

@@ -203,7 +203,7 @@ literal_at : (v : Simple) (f : Fault) → literal_fault (simple_span v) ≡ f �
 literal_at v f e = ap (λ (g : Fault). g.span) e
 
 -- where a constant doesn't fit
-misfit_origin : (used : TypeUse) (constant : ConstantTree) (f : Fault) → Contains (constant_faults used constant) f → (f.code ≡ Literal) × IsMisfit used constant f.span
+pub misfit_origin : (used : TypeUse) (constant : ConstantTree) (f : Fault) → Contains (constant_faults used constant) f → (f.code ≡ Literal) × IsMisfit used constant f.span
 misfit_origin used (one_value v) f c = by used.form refl (in_unless (fits_alone used.form (class_of_type used) (class_of_simple v)) (literal_fault (simple_span v)) f c)
   where
     there : (form : TypeForm) → used.form ≡ form → fits_alone form (class_of_type used) (class_of_simple v) ≡ false → IsMisfit used (one_value v) (simple_span v)
@@ -229,7 +229,7 @@ misfit_origin used (value_list values span) f c = by used.form refl c
         let p = passes_in_filter (λ (v : Simple). not (takes class (class_of_simple v))) values n.origin n.among in
         (sym (ap (λ (g : Fault). g.code) n.gives), subst (λ (s : Span). IsMisfit used (value_list values span) s) (literal_at n.origin f n.gives) (element e p.among (not_true (takes class (class_of_simple n.origin)) p.passes)))
 
-misfit_reported : (used : TypeUse) (constant : ConstantTree) (span : Span) → IsMisfit used constant span → Contains (constant_faults used constant) (literal_fault span)
+pub misfit_reported : (used : TypeUse) (constant : ConstantTree) (span : Span) → IsMisfit used constant span → Contains (constant_faults used constant) (literal_fault span)
 misfit_reported used (one_value v) span (alone other fails) = by used.form other refl
   where
     by : (form : TypeForm) → form ≢ forms.Array → used.form ≡ form → Contains (constant_faults used (one_value v)) (literal_fault (simple_span v))

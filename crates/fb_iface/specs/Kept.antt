@@ -1,14 +1,13 @@
 -- The types that a scope keeps.
-use Rattle.std.specs.Prelude.{ℕ, List, Option, Some, None, cond, if◌then◌else◌, nat_eq, option_map}
+use Rattle.std.specs.Prelude.{ℕ, List, Option, Some, None, cond, nat_eq, option_map}
 use Rattle.std.specs.Option.{option_or}
 use Rattle.std.specs.Cmp.Lexicographic.{pointwise}
 use Rattle.fb_library.specs.Tree.Tree.{DeclTree}
 use Rattle.fb_library.specs.Tree.Mentions.{kind_of}
 use Rattle.fb_library.specs.Tree.declared.network.Role.{Role}
 use Rattle.fb_iface.specs.Ports.{Meanings, meanings_in}
-use Rattle.fb_iface.specs.Types.{suits}
 use Rattle.indexmap.specs.IndexMap.{get}
-use Rattle.fb_iface.specs.Scope.{Scope}
+use Rattle.fb_iface.specs.Scope.{Scope, ports_where}
 use Rattle.fb_iface.specs.declared.scope.KeptType.{KeptType}
 use Rattle.fb_iface.specs.declared.scope.Scope as kept
 
@@ -19,7 +18,7 @@ kept_of decl = record { kind = kind_of decl; ports = meanings_in decl }
 -- the ports of a type that is kept, where the role wants its kind
 abbrev pub kept_ports : Role → Option KeptType → Option Meanings
 kept_ports role None = None
-kept_ports role (Some kept) = if suits role kept.kind then Some kept.ports else None
+kept_ports role (Some kept) = ports_where role kept.kind kept.ports
 
 -- what names stand for by what is kept
 abbrev pub scope_in : kept.Scope → Scope

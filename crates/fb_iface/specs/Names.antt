@@ -18,15 +18,22 @@ stands_for declarations name = lookup (λ declared. is_same declared name) decla
 abbrev pub has_name : List NameUse → List ℕ → Bool
 has_name names name = list_any (λ n. is_same n.name name) names
 
+-- whether an item passes a test of those before its place and of itself
+abbrev pub passes_there : {A : Type 0} → (List A → A → Bool) → List A → ℕ × A → Bool
+passes_there test items placed = test (take placed.0 items) placed.1
+
+-- the items that pass such a test, in their order
+abbrev pub passing_there : {A : Type 0} → (List A → A → Bool) → List A → List A
+passing_there test items = map (λ placed. placed.1) (filter (passes_there test items) (enumerate_from 0 items))
+
 -- whether a name stands before its place too
 abbrev pub is_repeated : List NameUse → ℕ × NameUse → Bool
-is_repeated names placed = has_name (take placed.0 names) placed.1.name
+is_repeated names = passes_there (λ before n. has_name before n.name) names
 
 -- second and later declarations of a name
 abbrev pub repeated : List NameUse → List NameUse
-repeated names = map (λ placed. placed.1) (filter (is_repeated names) (enumerate_from 0 names))
+repeated names = passing_there (λ before n. has_name before n.name) names
 
 -- the first declaration of each name, in the order of the text: where the name stands for nothing before its place
 abbrev pub first_ones : {D : Type 0} → List (List ℕ × D) → List (List ℕ × D)
-first_ones declarations =
-    map (λ placed. placed.1) (filter (λ placed. is_none (stands_for (take placed.0 declarations) placed.1.0)) (enumerate_from 0 declarations))
+first_ones declarations = passing_there (λ before d. is_none (stands_for before d.0)) declarations

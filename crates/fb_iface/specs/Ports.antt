@@ -13,7 +13,7 @@ use Rattle.fb_iface.specs.declared.ports.DeclaredEvent.{DeclaredEvent}
 use Rattle.fb_iface.specs.declared.ports.DeclaredInstance.{DeclaredInstance}
 use Rattle.fb_iface.specs.declared.ports.DeclaredVariable.{DeclaredVariable}
 use Rattle.fb_iface.specs.Names.{first_ones}
-use Rattle.fb_iface.specs.Sides.{goes_with}
+use Rattle.fb_iface.specs.Sides.{is_data_on}
 
 -- the events of an interface, in the order of the text
 abbrev pub events_in : InterfaceTree → List (List ℕ × DeclaredEvent)
@@ -75,9 +75,9 @@ same_role a b = false
 abbrev pub events_on : Side → Meanings → List (List ℕ × Option NameUse)
 events_on side m = map (λ e. (e.0, e.1.type_name)) (filter (λ e. same_side e.1.side side) m.events)
 
--- the data inputs go with event inputs, the data outputs with event outputs
+-- the data of a side, with their types
 abbrev pub data_on : Side → Meanings → List (List ℕ × TypeUse)
-data_on side m = map (λ v. (v.0, v.1.type_use)) (filter (λ v. goes_with side v.1.section) m.variables)
+data_on side m = map (λ v. (v.0, v.1.type_use)) (filter (λ v. is_data_on side v.1.section) m.variables)
 
 -- the instances in a role, as plugs, with their types
 abbrev pub instances_as : Role → Meanings → List (List ℕ × NameUse)

@@ -3,6 +3,7 @@ use Rattle.std.specs.Prelude.{ℕ, List, map, Option, Some, None, if◌then◌el
 use Rattle.std.specs.Option.{option_and_then}
 use Rattle.fb_library.specs.Tree.Tree.{DeclTree, InstanceTree, NetworkTree, TypeTree}
 use Rattle.fb_library.specs.Tree.Mentions.{kind_of}
+use Rattle.fb_library.specs.Tree.declared.kinds.UnitKind.{UnitKind}
 use Rattle.fb_library.specs.Tree.declared.network.Role.{Role}
 use Rattle.fb_library.specs.View.{Sources, tree_at}
 use Rattle.fb_iface.specs.Names.{has_name, stands_for}
@@ -10,10 +11,14 @@ use Rattle.fb_iface.specs.Ports.{Meanings, meanings_in, meanings_in_network, mea
 use Rattle.fb_iface.specs.Types.{suits}
 use Rattle.fb_iface.specs.declared.ports.DeclaredInstance.{DeclaredInstance}
 
+-- the ports of a type of this kind, where the section wants it
+abbrev pub ports_where : Role → UnitKind → Meanings → Option Meanings
+ports_where role kind ports = if suits role kind then Some ports else None
+
 -- the ports of a type, where it is usable in this role: present, not broken, and of the kind that the section wants
 abbrev pub usable : Role → Option DeclTree → Option Meanings
 usable role None = None
-usable role (Some decl) = if suits role (kind_of decl) then Some (meanings_in decl) else None
+usable role (Some decl) = ports_where role (kind_of decl) (meanings_in decl)
 
 -- the declaration of a type that one of these instances has
 abbrev pub mentioned_type : Sources → List InstanceTree → List ℕ → Option DeclTree

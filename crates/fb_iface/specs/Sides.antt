@@ -1,12 +1,16 @@
--- Which data go with which events.
+-- Which variables are data of a side, and which data go with which events.
 use Rattle.std.specs.Prelude.{Bool, true, false}
 use Rattle.fb_library.specs.Tree.declared.interface.Side.{Side}
 use Rattle.fb_library.specs.Tree.declared.interface.Side.TheVariants as sides
 use Rattle.fb_library.specs.Tree.declared.interface.Section.{Section}
 use Rattle.fb_library.specs.Tree.declared.interface.Section.TheVariants as sections
 
+-- whether the variables of a section are data of a side: data inputs, or data outputs; internal variables are of none
+abbrev pub is_data_on : Side → Section → Bool
+is_data_on sides.Input sections.Input = true
+is_data_on sides.Output sections.Output = true
+is_data_on side section = false
+
 -- an event input goes with data inputs, an event output with data outputs
 abbrev pub goes_with : Side → Section → Bool
-goes_with sides.Input sections.Input = true
-goes_with sides.Output sections.Output = true
-goes_with side section = false
+goes_with side section = is_data_on side section

@@ -2,7 +2,7 @@
 ghost use Rattle.std.specs.Prelude.{◌≡◌, ◌++◌, IfOk, OnOk};
 ghost use Rattle.fb_library.specs.Tree.Tree.{interface_tree, network_tree, variables_tree};
 ghost use Rattle.fb_iface.specs.Ports.{events_in, instances_in, same_role, same_side, variables_in, variables_together};
-ghost use Rattle.fb_iface.specs.Sides.{goes_with};
+ghost use Rattle.fb_iface.specs.Sides.{is_data_on};
 
 use crate::names::first_declared;
 use fb_library::tree::{
@@ -223,9 +223,9 @@ fn is_same_role(a: Role, b: Role) -> bool
     }
 }
 
-/// Whether data of this section go with events of this side.
+/// Whether variables of this section are data of this side, so that its events may carry them.
 pub fn is_beside(side: Side, section: Section) -> bool
-    ensures { result ≡ goes_with side section }
+    ensures { result ≡ is_data_on side section }
 {
     match (side, section) {
         (Side::Input, Section::Input) | (Side::Output, Section::Output) => true,

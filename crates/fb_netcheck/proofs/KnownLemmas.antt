@@ -8,6 +8,7 @@ use Rattle.std.specs.declared.cmp.Ordering.{Ordering}
 use Rattle.std.specs.declared.cmp.Ordering.TheVariants.{Less, Equal, Greater}
 use Rattle.fb_text.specs.Order.{name_cmp}
 use Rattle.fb_iface.specs.Library.View.{Sources}
+use Rattle.fb_iface.proofs.FaultLemmas.{both_equal}
 use Rattle.fb_netcheck.specs.Known.{AreSpellings, PartKey, part_cmp}
 use Rattle.fb_netcheck.specs.Spellings.{words_at}
 
@@ -15,11 +16,6 @@ is_equal : (r : Ordering) → is_eq r ≡ true → r ≡ Equal
 is_equal Less e = absurd (let no : ⊥ = cc in no)
 is_equal Equal e = λ _. Equal
 is_equal Greater e = absurd (let no : ⊥ = cc in no)
-
-both_equal : (r s : Ordering) → ordering_then r s ≡ Equal → (r ≡ Equal) × (s ≡ Equal)
-both_equal Less s e = absurd (let no : ⊥ = cc in no)
-both_equal Equal s e = (λ _. Equal, e)
-both_equal Greater s e = absurd (let no : ⊥ = cc in no)
 
 -- parts that compare equal are one
 same_part : (a b : PartKey) → is_at (part_cmp a) b ≡ true → a ≡ b

@@ -9,6 +9,7 @@ use Rattle.std.proofs.Math.Bool.{or-false, or_assoc}
 use Rattle.std.proofs.lemmas.List.{map-append}
 use Rattle.fb_text.specs.Order.{name_cmp}
 use Rattle.fb_iface.specs.declared.code.Code.{Code}
+use Rattle.fb_iface.proofs.RepeatLemmas.{true_or}
 use Rattle.fb_iface.proofs.PlaceLemmas.{passing, passing-all, passing-more}
 use Rattle.fb_netcheck.specs.Paths.{Path, PathUse, fault_at_path, has_path, is_repeated, repeated, same_path}
 
@@ -17,12 +18,6 @@ Key = Vec (List ℕ) Global
 
 abbrev pub key_cmp : Key → Key → Ordering
 key_cmp a b = slice_cmp name_cmp a.items b.items
-
-true_or : (b c : Bool) → cond b true c ≡ (c || b)
-true_or true true = refl
-true_or true false = refl
-true_or false true = refl
-true_or false false = refl
 
 has_path-push : (xs : List PathUse) (x : PathUse) (q : Path) → has_path (xs ++ x ∷ []) q ≡ (has_path xs q || same_path x.names q)
 has_path-push [] x q = or-false (same_path x.names q)

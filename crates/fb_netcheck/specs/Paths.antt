@@ -1,12 +1,13 @@
 -- Paths that stand twice.
-use Rattle.std.specs.Prelude.{ℕ, ◌-◌, Bool, List, length, slice_get, take, map, filter}
+use Rattle.std.specs.Prelude.{ℕ, ◌-◌, Bool, List, length, slice_get, map}
 use Rattle.std.specs.BTreeMap.{is_at}
 use Rattle.std.specs.Cmp.Lexicographic.{slice_cmp}
-use Rattle.std.specs.List.{list_any, enumerate_from}
+use Rattle.std.specs.List.{list_any}
 use Rattle.std.specs.Option.{option_map_or}
 use Rattle.fb_text.specs.declared.name.NameUse.{NameUse}
 use Rattle.fb_text.specs.declared.token.Span.{Span}
 use Rattle.fb_text.specs.Order.{name_cmp}
+use Rattle.fb_iface.specs.Names.{passes_there, passing_there}
 use Rattle.fb_iface.specs.declared.code.Code.{Code}
 use Rattle.fb_iface.specs.declared.fault.Fault.{Fault}
 
@@ -39,11 +40,11 @@ has_path paths path = list_any (λ p. same_path p.names path) paths
 
 -- whether a path stands before its place too
 abbrev pub is_repeated : List PathUse → ℕ × PathUse → Bool
-is_repeated paths placed = has_path (take placed.0 paths) placed.1.names
+is_repeated paths = passes_there (λ before p. has_path before p.names) paths
 
 -- second and later uses of a path
 abbrev pub repeated : List PathUse → List PathUse
-repeated paths = map (λ placed. placed.1) (filter (is_repeated paths) (enumerate_from 0 paths))
+repeated paths = passing_there (λ before p. has_path before p.names) paths
 
 -- a fault at a path
 abbrev pub fault_at_path : Code → PathUse → Fault

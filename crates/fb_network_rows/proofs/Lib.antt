@@ -1,7 +1,6 @@
 pub mod SplitLemmas
 pub mod PathLemmas
 pub mod PlaceLemmas
-pub mod ConstantLemmas
 pub mod NetworkLemmas
 pub mod TypeLemmas
 pub mod EndLemmas

@@ -35,7 +35,7 @@ use Rattle.fb_netcheck.specs.Repeats.{all_adapter_ends, data_destinations, end_p
 use Rattle.fb_netcheck.specs.Settings.{Place}
 use Rattle.fb_netcheck.specs.Sides.{connection_span, end_faults, fault_of, is_own_port, pass_through_faults}
 use Rattle.fb_netcheck.specs.Types.{joined_types}
-use Rattle.fb_network_rows.proofs.ConstantLemmas.{misfit_origin}
+use Rattle.fb_netcheck.proofs.Iface.RowLemmas.{misfit_origin}
 use Rattle.fb_network_rows.specs.Ends.{IsNetworkOf, Site, of_block, of_subapplication, of_application}
 use Rattle.fb_network_rows.specs.Rows.{IsCodeOfNetworks, NoOtherCodes, of_unknown_ports, of_wrong_sides, of_other_types, of_second_sources, of_second_adapters, of_passages, of_unknown_parameters, of_misfits}
 

@@ -23,7 +23,7 @@ use Rattle.fb_netcheck.specs.Parameters.{parameter_faults, value_faults}
 use Rattle.fb_netcheck.specs.Settings.{Place}
 use Rattle.fb_network_rows.specs.Ends.{IsNetworkOf, IsUsable, Site}
 use Rattle.fb_network_rows.specs.Rows.{HasMisfit, HasUnknownParameter, ParametersAreKnown, ParametersFit}
-use Rattle.fb_network_rows.proofs.ConstantLemmas.{misfit_origin, misfit_reported}
+use Rattle.fb_netcheck.proofs.Iface.RowLemmas.{misfit_origin, misfit_reported}
 use Rattle.fb_network_rows.proofs.NetworkLemmas.{ParameterOrigin, in_part, network_origin, network_reported, parameter_origin, parameter_reported, place_at, whole_parameters}
 use Rattle.fb_network_rows.proofs.TypeLemmas.{known_type, listed_type, told_type}
 

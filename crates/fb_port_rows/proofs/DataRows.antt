@@ -11,7 +11,7 @@ use Rattle.fb_iface.specs.Tree.declared.interface.TypeUse.{TypeUse}
 use Rattle.fb_iface.specs.declared.ports.DeclaredVariable.{DeclaredVariable}
 use Rattle.fb_iface.specs.Names.{first_ones, stands_for}
 use Rattle.fb_iface.specs.Ports.{variables_in, variables_together}
-use Rattle.fb_iface.specs.Sides.{goes_with}
+use Rattle.fb_iface.specs.Sides.{is_data_on}
 use Rattle.fb_port_rows.specs.Declared.{Cell, IsBefore, IsDataOn, IsFirstVariable, IsVariableIn, StandsAt, data_input, data_output, of_adapter, of_block, of_subapplication}
 use Rattle.fb_port_rows.specs.Rows.{AreExactly, ComeAsDeclared, DataAreDeclared, HaveOwnNames}
 use Rattle.fb_port_rows.proofs.FirstLemmas.{IsFirst, IsPort, NoneBefore, among_ports, first_stands, in_turn, is_port, once, ports, stands_first}
@@ -24,11 +24,11 @@ meaning_of v = record { section = v.section; type_use = v.type_use }
 abbrev declared_as : VariablesTree → NameUse → List ℕ × DeclaredVariable
 declared_as v n = (n.name, meaning_of v)
 
-input_section : (section : Section) → goes_with sides.Input section ≡ true → section ≡ sections.Input
+input_section : (section : Section) → is_data_on sides.Input section ≡ true → section ≡ sections.Input
 input_section sections.Input e = refl
 input_section section e = absurd (true≢false (sym e))
 
-output_section : (section : Section) → goes_with sides.Output section ≡ true → section ≡ sections.Output
+output_section : (section : Section) → is_data_on sides.Output section ≡ true → section ≡ sections.Output
 output_section sections.Output e = refl
 output_section section e = absurd (true≢false (sym e))
 
@@ -116,7 +116,7 @@ module _ (i : InterfaceTree) where
 
   module _ (side : Side) where
     abbrev stands_on : DeclaredVariable → Bool
-    stands_on d = goes_with side d.section
+    stands_on d = is_data_on side d.section
 
     abbrev type_of : DeclaredVariable → TypeUse
     type_of d = d.type_use

@@ -34,7 +34,7 @@ use Rattle.fb_faults.specs.Mappings.{declared_mapping_faults}
 use Rattle.fb_faults.proofs.Iface.Members.{contains_nothing, contains_single, in_unless, in_written, origin_in_flat_map, origin_in_map}
 use Rattle.fb_expr.proofs.DemandLemmas.{faults_unmet}
 use Rattle.fb_network_rows.specs.Rows.{IsCodeOfNetworks, of_unknown_ports, of_wrong_sides, of_other_types, of_second_sources, of_second_adapters, of_passages, of_unknown_parameters, of_misfits}
-use Rattle.fb_network_rows.proofs.ConstantLemmas.{misfit_origin}
+use Rattle.fb_faults.proofs.Iface.RowLemmas.{misfit_origin}
 use Rattle.fb_network_rows.proofs.NetworkLemmas.{in_where, no_other}
 use Rattle.fb_unit_rows.specs.Parts.{IsCodeOf, Part, Declarations, Expressions, Charts, Networks, Mappings, PartsHaveOwnCodes, other_name, duplicate, mixed_kind, unknown_type, wrong_kind, unknown_with, initial_value, unknown_variable, class, unknown_state, unknown_event, unknown_algorithm, unknown_port, wrong_side, other_type, second_source, second_adapter, passage, unknown_parameter, parameter_value, second_mapping, lost_mapping}
 use Rattle.fb_unit_rows.proofs.MappingLemmas.{IsMappingPart, mapping_origin, mapping_part, of_lost, of_second}

@@ -14,7 +14,7 @@ use Rattle.fb_faults.specs.Tree.declared.network.Sort.{Sort}
 use Rattle.fb_faults.specs.Tree.declared.network.Sort.TheVariants as sorts
 use Rattle.fb_faults.specs.Iface.Names.{is_same, stands_for}
 use Rattle.fb_faults.specs.Iface.Ports.{Meanings, data_on, events_in, events_on, instances_as, instances_in, meanings_in, same_role, same_side, variables_in}
-use Rattle.fb_faults.specs.Iface.Sides.{goes_with}
+use Rattle.fb_faults.specs.Iface.Sides.{is_data_on}
 use Rattle.fb_faults.specs.Iface.declared.ports.DeclaredEvent.{DeclaredEvent}
 use Rattle.fb_faults.specs.Iface.declared.ports.DeclaredInstance.{DeclaredInstance}
 use Rattle.fb_faults.specs.Iface.declared.ports.DeclaredVariable.{DeclaredVariable}
@@ -87,10 +87,10 @@ module _ (m : Meanings) (name : List ℕ) where
       ap (find (asks sorts.Event name)) (filtered (plain_event side) (λ (e : List ℕ × DeclaredEvent). (e.0, e.1.type_name)) (λ e. same_side e.1.side side) m.events)
       ∙ found_in (asks sorts.Event name) name (λ q d. plain_event side (q, d.type_name)) (λ d. same_side d.side side) (λ q d. refl) m.events distinct
 
-  data_found : Distinct m.variables → (side : Side) → find (asks sorts.Data name) (map (plain_data side) (data_on side m)) ≡ option_and_then (λ d. cond (goes_with side d.section) (Some (plain_data side (name, d.type_use))) None) (stands_for m.variables name)
+  data_found : Distinct m.variables → (side : Side) → find (asks sorts.Data name) (map (plain_data side) (data_on side m)) ≡ option_and_then (λ d. cond (is_data_on side d.section) (Some (plain_data side (name, d.type_use))) None) (stands_for m.variables name)
   data_found distinct side =
-      ap (find (asks sorts.Data name)) (filtered (plain_data side) (λ (v : List ℕ × DeclaredVariable). (v.0, v.1.type_use)) (λ v. goes_with side v.1.section) m.variables)
-      ∙ found_in (asks sorts.Data name) name (λ q d. plain_data side (q, d.type_use)) (λ d. goes_with side d.section) (λ q d. refl) m.variables distinct
+      ap (find (asks sorts.Data name)) (filtered (plain_data side) (λ (v : List ℕ × DeclaredVariable). (v.0, v.1.type_use)) (λ v. is_data_on side v.1.section) m.variables)
+      ∙ found_in (asks sorts.Data name) name (λ q d. plain_data side (q, d.type_use)) (λ d. is_data_on side d.section) (λ q d. refl) m.variables distinct
 
   adapters_found : Distinct m.instances → (role : Role) (side : Side) → find (asks sorts.Adapter name) (map (plain_adapter side) (instances_as role m)) ≡ option_and_then (λ d. cond (same_role d.role role) (Some (plain_adapter side (name, d.type_name))) None) (stands_for m.instances name)
   adapters_found distinct role side =
@@ -108,11 +108,11 @@ module _ (m : Meanings) (name : List ℕ) where
       by Input = refl
       by Output = refl
 
-  one_variable : (o : Option DeclaredVariable) → option_or (option_or (option_or (option_or (option_or None None) (option_and_then (λ d. cond (goes_with Input d.section) (Some (plain_data Input (name, d.type_use))) None) o)) (option_and_then (λ d. cond (goes_with Output d.section) (Some (plain_data Output (name, d.type_use))) None) o)) None) None ≡ option_map (plain_port sorts.Data name) (option_and_then data_port o)
+  one_variable : (o : Option DeclaredVariable) → option_or (option_or (option_or (option_or (option_or None None) (option_and_then (λ d. cond (is_data_on Input d.section) (Some (plain_data Input (name, d.type_use))) None) o)) (option_and_then (λ d. cond (is_data_on Output d.section) (Some (plain_data Output (name, d.type_use))) None) o)) None) None ≡ option_map (plain_port sorts.Data name) (option_and_then data_port o)
   one_variable None = refl
   one_variable (Some d) = by d.section
     where
-      by : (section : Section) → option_or (option_or (option_or (option_or (option_or None None) (cond (goes_with Input section) (Some (plain_data Input (name, d.type_use))) None)) (cond (goes_with Output section) (Some (plain_data Output (name, d.type_use))) None)) None) None ≡ option_map (plain_port sorts.Data name) (port_in_section section d.type_use)
+      by : (section : Section) → option_or (option_or (option_or (option_or (option_or None None) (cond (is_data_on Input section) (Some (plain_data Input (name, d.type_use))) None)) (cond (is_data_on Output section) (Some (plain_data Output (name, d.type_use))) None)) None) None ≡ option_map (plain_port sorts.Data name) (port_in_section section d.type_use)
       by sections.Input = refl
       by sections.Output = refl
       by sections.Internal = refl
