@@ -2,8 +2,8 @@
 use Rattle.std.proofs.Common.{◌≡◌, Box, List, Vec, map, option_map, ap, ◌∙◌}
 use Rattle.std.proofs.lemmas.Simd.{map-map}
 use Rattle.std.specs.declared.alloc.Global.{Global}
-use Rattle.fb_tree.specs.Expression.{Expression, expression_step, expression_tree, operands_of, row_expression}
-use Rattle.fb_tree.specs.Statement.{Statement, arms_of, choice, count, repeat_loop, selection, statement_step, statement_tree, statements_of, while_loop}
+use Rattle.fb_tree.specs.Expression.{Expression, expression_step, expression_tree, operand_tree, operands_of, row_expression}
+use Rattle.fb_tree.specs.Statement.{Statement, arm_tree, arms_of, choice, count, repeat_loop, selection, statement_step, statement_tree, statements_of, while_loop}
 use Rattle.fb_tree.specs.declared.expression.BinaryUse.{BinaryUse}
 use Rattle.fb_tree.specs.declared.expression.Expr.{Expr}
 use Rattle.fb_tree.specs.declared.expression.Expr as Expr
@@ -17,12 +17,6 @@ use Rattle.fb_tree.specs.declared.statement.Stmt.TheFolds.{fold-roll-Stmt}
 use Rattle.fb_tree.specs.declared.statement.Stmt.TheOpen.{Case as CaseF, For as ForF, If as IfF, Repeat as RepeatF, While as WhileF}
 use Rattle.fb_tree.specs.declared.statement.Stmt.TheViews.{roll-Stmt}
 use denote.Hole.Carrier.{roll}
-
-abbrev pub operand_tree : BinaryUse × Expr → BinaryUse × Expression
-operand_tree o = (o.0, expression_tree o.1)
-
-abbrev pub arm_tree : Expr × Vec Stmt Global → Expression × List Statement
-arm_tree a = (expression_tree a.0, map statement_tree a.1.items)
 
 pub tree-Row : (first : Box Expr Global) (operands : Vec (BinaryUse × Expr) Global) → expression_tree (Expr.Row first operands) ≡ row_expression (expression_tree first.value) (operands_of (map operand_tree operands.items))
 unfolding roll-Expr roll

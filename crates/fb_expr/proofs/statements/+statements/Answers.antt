@@ -5,11 +5,11 @@ use Rattle.fb_iface.specs.declared.fault.Fault.{Fault}
 use Rattle.fb_tree.specs.Expression.{expression_tree}
 use Rattle.fb_tree.specs.declared.statement.Counting.{Counting}
 use Rattle.fb_tree.specs.declared.statement.Stmt.{Stmt}
-use Rattle.fb_tree.specs.Statement.{arms_of, statement_tree, statements_of}
+use Rattle.fb_tree.specs.Statement.{arm_tree, arms_of, statement_tree, statements_of}
 use Rattle.fb_iface.specs.Kept.{scope_in}
 use Rattle.fb_expr.specs.Statements.{arms_faults, counter_faults, faults_at_place, range_faults, statement_faults, statements_faults}
 use Rattle.fb_expr.specs.declared.rules.Place.TheVariants.{Condition, Selector}
-use Rattle.fb_expr.proofs.TreeLemmas.{arm_tree, tree-Case, tree-For, tree-If, tree-Repeat, tree-While}
+use Rattle.fb_expr.proofs.TreeLemmas.{tree-Case, tree-For, tree-If, tree-Repeat, tree-While}
 use Rattle.fb_expr.proofs.statements.+statements.Goals as goal
 
 pub report_statement-returns-after-loop-condition : goal.report_statement-returns-after-loop-condition
