@@ -19,7 +19,8 @@ use Rattle.fb_bench.specs.Story.{Story, IsOrigin, opened, replay, calls_of, stat
 use Rattle.fb_bench.specs.Kept.{Agrees}
 use Rattle.fb_bench.specs.declared.renewal.Renewal.{Renewal}
 use Rattle.fb_bench.specs.Outcomes.{answer_at}
-use Rattle.fb_bench.specs.Renew.{is_of, waiting_if, IsRenewal, HasRoom, AreKeys, items_or}
+use Rattle.fb_bench.specs.Marking.{is_of, waiting_if}
+use Rattle.fb_bench.specs.Renew.{IsRenewal, HasRoom, AreKeys, items_or}
 use Rattle.std.specs.declared.alloc.Global.{Global}
 use Rattle.fb_bench.proofs.Steps.{reply_commit, after_commit_is}
 use Rattle.fb_bench.specs.Laws.{AgreeApartFrom}

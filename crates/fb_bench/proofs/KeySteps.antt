@@ -4,7 +4,7 @@ use Rattle.std.proofs.lemmas.List.{take-append-drop}
 use Rattle.fb_jobs.specs.declared.key.Key.{Key}
 use Rattle.fb_jobs.specs.KeyOrder.{same_key}
 use Rattle.fb_bench.specs.declared.entry.Entry.{Entry}
-use Rattle.fb_bench.specs.Renew.{is_of, waiting_if}
+use Rattle.fb_bench.specs.Marking.{is_of, waiting_if}
 use Rattle.fb_bench.proofs.Renewing.{of_more, of_both}
 
 pub of_now : (q k : Key) (before now : List Key) → now ≡ before ++ k ∷ [] → is_of q now ≡ (is_of q before || same_key k q)

@@ -20,7 +20,8 @@ use Rattle.fb_jobs.specs.Kinds.{all_keys}
 use Rattle.fb_bench.specs.Machine.{State, keys_of}
 use Rattle.fb_bench.specs.Story.{Story, IsOrigin, state_of}
 use Rattle.fb_bench.specs.Kept.{EntryFits, Agrees}
-use Rattle.fb_bench.specs.Renew.{is_of, is_own, have_entries, AreKeys, items_or, IsRenewal}
+use Rattle.fb_bench.specs.Marking.{is_of}
+use Rattle.fb_bench.specs.Renew.{is_own, have_entries, AreKeys, items_or, IsRenewal}
 use Rattle.fb_bench.proofs.Order.{key_total, keys_equal, same_keys}
 use Rattle.fb_bench.proofs.Least.{key_named}
 use Rattle.fb_bench.proofs.Renewing.{of_filtered}

@@ -19,7 +19,7 @@ use Rattle.fb_jobs.specs.Keys.{has_key, has_kind_at, needs}
 use Rattle.fb_jobs.specs.Reads.{is_among}
 use Rattle.fb_bench.specs.Machine.{reaches}
 use Rattle.fb_bench.specs.Indexed.{IsIndexOf, IsReached, IsReachedFrom}
-use Rattle.fb_bench.specs.Renew.{is_of}
+use Rattle.fb_bench.specs.Marking.{is_of}
 use Rattle.fb_bench.proofs.Indexing.{near_names, near_apart}
 use Rattle.fb_jobs.proofs.KindLemmas.{in_near_and_far, needs_by, no_kind}
 

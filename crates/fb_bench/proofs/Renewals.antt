@@ -15,7 +15,8 @@ use Rattle.fb_bench.specs.declared.renewal.Renewal.{Renewal}
 use Rattle.fb_jobs.specs.Kinds.{all_keys}
 use Rattle.fb_bench.specs.Machine.{State, is_ready, after_done, reaches}
 use Rattle.fb_bench.specs.Kept.{EntryFits, Agrees}
-use Rattle.fb_bench.specs.Renew.{is_of, waiting_if, is_own, is_fresh, is_renewed, IsRenewal, HasRoom, IsTakenBack}
+use Rattle.fb_bench.specs.Marking.{is_of, waiting_if}
+use Rattle.fb_bench.specs.Renew.{is_own, is_fresh, is_renewed, IsRenewal, HasRoom, IsTakenBack}
 use Rattle.fb_index.specs.Near.{Users}
 use Rattle.fb_bench.specs.Indexed.{IsIndexOf, IsReached}
 use Rattle.fb_jobs.proofs.KindLemmas.{in_all_keys}

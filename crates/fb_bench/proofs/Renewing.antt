@@ -21,7 +21,7 @@ use Rattle.fb_jobs.specs.Reads.{is_among, Agree}
 use Rattle.fb_bench.specs.declared.entry.Entry.{Entry}
 use Rattle.fb_bench.specs.Machine.{State, after_done, reaches}
 use Rattle.fb_bench.specs.Kept.{EntryFits, IsScratch}
-use Rattle.fb_bench.specs.Renew.{is_of, blank}
+use Rattle.fb_bench.specs.Marking.{is_of, blank}
 use Rattle.fb_bench.proofs.Order.{key_total, keys_equal, is_equal}
 
 -- ---- names that are not changed

@@ -13,6 +13,7 @@ use Rattle.fb_jobs.specs.KeyOrder.{key_cmp}
 use Rattle.fb_jobs.specs.Values.{finding_of}
 use Rattle.fb_bench.specs.Machine.{State, is_ready, keys_of}
 use Rattle.fb_bench.specs.Story.{Story, IsOrigin, state_of, IsReplay}
+use Rattle.fb_bench.specs.declared.entries.Entries.{Entries}
 use Rattle.fb_bench.specs.declared.entry.Entry.{Entry}
 use Rattle.fb_index.specs.Near.{Users}
 use Rattle.fb_bench.specs.Indexed.{IsIndexOf}
@@ -48,3 +49,7 @@ pub record IsKept (units : Texts) (commits : ℕ) (keys : List Key) (entries : t
   pub keys_are : keys ≡ keys_of units
   pub indexed : IsIndexOf units index
   pub few : commits ≤ length story.log.records
+
+-- the same of all that is kept of the keys
+abbrev pub KeepsAll : Texts → ℕ → Entries → Users → Story → Type 0
+KeepsAll units commits it index story = IsKept units commits it.keys.items it.by_key it.ready it.waiting index story

@@ -10,7 +10,7 @@ use Rattle.fb_bench.specs.declared.answers.Delivered.{Delivered}
 use Rattle.fb_bench.specs.declared.answers.Delivered.TheVariants.{Accepted, NoSuchKey, NotPending, Stale}
 use Rattle.fb_bench.specs.declared.answers.GivenBack.{GivenBack}
 use Rattle.fb_bench.specs.declared.answers.GivenBack.TheVariants.{Returned, NothingOut}
-use Rattle.fb_bench.specs.Machine.{Call, Reply, OfCommit, OfTake, OfDeliver, OfGiveBack, OfAsk, Shown, Finds, Waits, Unknown, shown}
+use Rattle.fb_bench.specs.Machine.{State, Call, Reply, OfCommit, OfTake, OfDeliver, OfGiveBack, OfAsk, Shown, Finds, Waits, Unknown, shown, reply, after, reaches}
 use Rattle.fb_bench.specs.Story.{Origin, opened, replay}
 use Rattle.fb_bench.specs.Due.{due_from}
 
@@ -53,6 +53,22 @@ entry_after origin calls key =
     let texts = (replay (opened origin) calls).units in
     if not (has_key texts key) then Unknown else (if due_from (opened origin) calls key then Waits else Finds (scratch texts key))
 
+-- after any calls, what is known of each key is what the calls and the present texts say
+abbrev pub EntriesFollow : Origin → Type 0
+EntriesFollow origin = (calls : List Call) (key : Key) → shown (replay (opened origin) calls) key ≡ entry_after origin calls key
+
+-- a call that is refused there changes nothing
+abbrev pub RefusalsStay : State → Type 0
+RefusalsStay state = (call : Call) → is_refusal (reply state call) ≡ true → after state call ≡ state
+
 -- the texts are the same but for the changed names
 abbrev pub AgreeApartFrom : List (List ℕ) → Texts → Texts → Type 0
 AgreeApartFrom changed texts others = (name : List ℕ) → is_among name changed ≡ false → text_at texts name ≡ text_at others name
+
+-- the changed names reach the same keys in both
+abbrev pub ReachAlike : List (List ℕ) → Texts → Texts → Type 0
+ReachAlike changed texts others = (key : Key) → reaches changed texts key ≡ reaches changed others key
+
+-- and so in all texts that are the same but for them
+abbrev pub ReachAnywhere : List (List ℕ) → Type 0
+ReachAnywhere changed = (texts others : Texts) → AgreeApartFrom changed texts others → ReachAlike changed texts others

@@ -4,6 +4,7 @@ pub mod Records
 pub mod Logs
 pub mod Kept
 pub mod Indexed
+pub mod Marking
 pub mod Renew
 pub mod Outcomes
 pub mod Due

@@ -74,3 +74,7 @@ job_in Nothing = None
 -- the changes of a commit that are recorded
 abbrev pub listed : List Change → List Edit
 listed changes = edits_of (take 17 changes)
+
+-- a commit of these changes
+abbrev pub commit_of : List Change → machine.Call
+commit_of changes = ToCommit (listed changes)

@@ -1,10 +1,16 @@
--- Why a workbench does not record a call, as a desk says it.
-use Rattle.std.specs.Prelude.{Result, Ok, Err}
+-- Why a workbench does not record a call.
+use Rattle.std.specs.Prelude.{◌≡◌, ◌↔◌, Result, Ok, Err}
+use Rattle.fb_bench.specs.Story.{Log, IsFull}
 use Rattle.fb_bench.specs.declared.answers.Refused.{Refused}
 use Rattle.fb_bench.specs.declared.answers.Refused.TheVariants as bench
 use Rattle.fb_bench.specs.declared.desk.DeskRefused.{DeskRefused}
 use Rattle.fb_bench.specs.declared.desk.DeskRefused.TheVariants.{HistoryFull, Memory}
 
+-- refused for want of room, exactly where as many calls are recorded as may be
+abbrev pub IsFullRefusal : {R : Type 0} → Log → Result R Refused → Type 0
+IsFullRefusal log result = (result ≡ Err bench.HistoryFull) ↔ IsFull log
+
+-- the same as a desk says it
 abbrev pub as_desk : {R : Type 0} → Result R Refused → Result R DeskRefused
 as_desk (Ok answer) = Ok answer
 as_desk (Err bench.HistoryFull) = Err HistoryFull

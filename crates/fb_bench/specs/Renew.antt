@@ -1,31 +1,19 @@
 -- What a commit does to the entries.
 use Rattle.std.specs.Prelude.{◌≡◌, ℕ, Bool, true, false, ◌&&◌, ◌||◌, not, List, [], Option, Some, None, is_none, if◌then◌else◌}
 use Rattle.std.specs.List.{list_any}
-use Rattle.std.specs.Option.{option_map}
 use Rattle.std.specs.BTreeMap as tree
 use Rattle.std.specs.BTreeSet as set
 use Rattle.std.specs.declared.vec.Vec.{Vec}
 use Rattle.std.specs.declared.alloc.Global.{Global}
 use Rattle.fb_jobs.specs.declared.key.Key.{Key}
 use Rattle.fb_jobs.specs.Keys.{has_key}
-use Rattle.fb_jobs.specs.KeyOrder.{key_cmp, same_key}
+use Rattle.fb_jobs.specs.KeyOrder.{key_cmp}
 use Rattle.fb_jobs.specs.Library.Texts.{Texts}
 use Rattle.fb_jobs.specs.Kinds.{all_keys}
 use Rattle.fb_bench.specs.Machine.{keys_of, reaches}
+use Rattle.fb_bench.specs.Marking.{is_of, waiting_if, KeepsOtherEntries, HasEntries, LosesEntries, LosesKeys}
 use Rattle.fb_bench.specs.declared.entry.Entry.{Entry}
 use Rattle.fb_bench.specs.declared.renewal.Renewal.{Renewal}
-
--- whether the key is one of these
-abbrev pub is_of : Key → List Key → Bool
-is_of key keys = list_any (same_key key) keys
-
--- an entry that waits for a result
-abbrev pub blank : Entry
-blank = record { value = None; out = false }
-
--- the entry of a key that is to wait for a result or not
-abbrev pub waiting_if : Bool → Option Entry → Option Entry
-waiting_if renewed it = if renewed then option_map (λ (old : Entry). blank) it else it
 
 -- whether the key is of a changed unit
 abbrev pub is_own : List (List ℕ) → Key → Bool
@@ -49,16 +37,21 @@ pub record IsRenewal (texts : Texts) (changed : List (List ℕ)) (entries : tree
 
 -- there is an entry for each new key, the keys have joined the sets, and all else is as it was
 pub record HasRoom (it : Renewal) (old new : tree.BTreeMap Key Entry) (ready ready' waiting waiting' : set.BTreeSet Key) : Type 0 where
-  pub others : (key : Key) → is_of key it.fresh.items ≡ false → tree.get key_cmp new key ≡ tree.get key_cmp old key
-  pub there : (key : Key) → is_of key it.fresh.items ≡ true → is_none (tree.get key_cmp new key) ≡ false
+  pub others : KeepsOtherEntries it.fresh.items old new
+  pub there : HasEntries it.fresh.items new
   pub readies : (key : Key) → set.contains key_cmp ready' key ≡ (is_of key it.unready.items || set.contains key_cmp ready key)
   pub waits : (key : Key) → set.contains key_cmp waiting' key ≡ (is_of key it.unwaiting.items || set.contains key_cmp waiting key)
 
 -- there is none of them
 pub record IsTakenBack (it : Renewal) (old new : tree.BTreeMap Key Entry) (ready ready' waiting waiting' : set.BTreeSet Key) : Type 0 where
-  pub entries : (key : Key) → tree.get key_cmp new key ≡ (if is_of key it.fresh.items then None else tree.get key_cmp old key)
-  pub readies : (key : Key) → set.contains key_cmp ready' key ≡ (if is_of key it.unready.items then false else set.contains key_cmp ready key)
-  pub waits : (key : Key) → set.contains key_cmp waiting' key ≡ (if is_of key it.unwaiting.items then false else set.contains key_cmp waiting key)
+  pub entries : LosesEntries it.fresh.items old new
+  pub readies : LosesKeys it.unready.items ready ready'
+  pub waits : LosesKeys it.unwaiting.items waiting waiting'
+
+-- the gone keys have no entry any more, and the renewed ones wait for a result
+abbrev pub IsCarriedOut : Renewal → tree.BTreeMap Key Entry → tree.BTreeMap Key Entry → Type 0
+IsCarriedOut it old new =
+    (key : Key) → tree.get key_cmp new key ≡ waiting_if (is_of key it.renewed.items) (if is_of key it.gone.items then None else tree.get key_cmp old key)
 
 -- whether one of the keys has an entry
 abbrev pub have_entries : tree.BTreeMap Key Entry → List Key → Bool

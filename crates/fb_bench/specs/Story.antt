@@ -1,5 +1,5 @@
 -- A history of calls, and what it leads to.
-use Rattle.std.specs.Prelude.{◌≡◌, ℕ, ◌+◌, false, List, [], ◌∷◌, ◌++◌, map, ◌==◌, count_by, take, slice_get, Option, Some, None, zero, suc}
+use Rattle.std.specs.Prelude.{◌≡◌, ℕ, ◌+◌, ◌≤◌, false, List, [], ◌∷◌, ◌++◌, map, ◌==◌, count_by, take, length, slice_get, Option, Some, None, zero, suc}
 use Rattle.std.specs.List.Sorted.{IsStrictlySortedBy}
 use Rattle.fb_text.specs.Order.{name_cmp}
 use Rattle.std.specs.List.{list_any}
@@ -93,17 +93,29 @@ logged log caller call answer = record { limit = log.limit; records = log.record
 abbrev pub new_story : ℕ → ℕ → Story
 new_story most_units limit = record { origin = start most_units; log = record { limit = limit; records = [] } }
 
+-- what an empty workbench comes to by this history
+abbrev pub story_of : ℕ → Log → Story
+story_of most_units log = record { origin = start most_units; log = log }
+
+-- as many calls are recorded as may be
+abbrev pub IsFull : Log → Type 0
+IsFull log = log.limit ≤ length log.records
+
 -- where the history has led to
 abbrev pub state_of : Story → State
 state_of story = replay (opened story.origin) (calls_of story.log)
 
+-- what the machine answers to a call there
+abbrev pub reply_at : Story → Call → Reply
+reply_at story call = reply (state_of story) call
+
 -- the story with one more call, and the answer that the machine gives to it
 abbrev pub recorded : Story → ℕ → Call → Story
-recorded story caller call = record { origin = story.origin; log = logged story.log caller call (reply (state_of story) call) }
+recorded story caller call = record { origin = story.origin; log = logged story.log caller call (reply_at story call) }
 
 -- the record that a call adds to the story
 abbrev pub record_of : Story → ℕ → Call → Record
-record_of story caller call = record_after story.log caller call (reply (state_of story) call)
+record_of story caller call = record_after story.log caller call (reply_at story call)
 
 -- each stored answer is the machine's at its place
 abbrev pub IsReplay : Story → Type 0

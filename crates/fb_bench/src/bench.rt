@@ -33,29 +33,30 @@ pub struct Bench {
 }
 
 impl Model for Bench {
-    ghost use Rattle.fb_bench.specs.Story.{Story, start};
+    ghost use Rattle.fb_bench.specs.Story.{Story, start, story_of};
 
     ghost Value = { Story };
 
-    ghost use Rattle.fb_bench.specs.Kept.{IsKept};
+    ghost use Rattle.fb_bench.specs.Kept.{KeepsAll};
 
     ghost view = { λ it. record { origin = start it.most_units; log = it.history } };
 
-    ghost invariant = { λ it. IsKept it.library it.commits it.entries.keys.items it.entries.by_key it.entries.ready it.entries.waiting it.index (record { origin = start it.most_units; log = it.history }) };
+    ghost invariant = { λ it. KeepsAll it.library it.commits it.entries it.index (story_of it.most_units it.history) };
 }
 
 impl Bench {
-    ghost use Rattle.std.specs.Prelude.{◌≡◌, ◌≤◌, ◌<◌, ◌↔◌, [], true, false, Some, IfOk, OnOk, OnErr, Err, IsTrue, is_some, length, slice_get, count_by};
+    ghost use Rattle.std.specs.Prelude.{◌≡◌, ◌<◌, ◌↔◌, true, false, Some, IfOk, OnOk, OnErr, IsTrue, is_some, length, slice_get, count_by};
     ghost use Rattle.std.specs.Option.{option_map};
     ghost use Rattle.std.specs.List.Sorted.{IsStrictlySortedBy};
     ghost use Rattle.fb_jobs.specs.KeyOrder.{key_cmp};
-    ghost use Rattle.fb_bench.specs.Machine.{Call, ToCommit, ToTake, ToDeliver, ToGiveBack, ToAsk, OfCommit, OfTake, OfDeliver, OfGiveBack, OfAsk, reply, shown, next, deliver_answer, keys_of};
+    ghost use Rattle.fb_bench.specs.Machine.{ToTake, ToDeliver, ToGiveBack, ToAsk, OfCommit, OfTake, OfDeliver, OfGiveBack, OfAsk, shown, next, deliver_answer, keys_of};
     ghost use Rattle.fb_jobs.specs.Keys.{scratch};
     ghost use Rattle.fb_jobs.specs.Reads.{read_texts};
     ghost use Rattle.fb_jobs.specs.Values.{all_seen};
     ghost use Rattle.fb_bench.specs.declared.answers.Delivered.TheVariants.{Accepted};
-    ghost use Rattle.fb_bench.specs.Story.{Story, Log, IsOrigin, new_story, state_of, recorded, record_of, record_at, calls_of, IsReplay, AreTurns};
-    ghost use Rattle.fb_bench.specs.Records.{call_of, reply_of, shown_in, job_in, listed};
+    ghost use Rattle.fb_bench.specs.Story.{IsOrigin, IsFull, new_story, state_of, reply_at, recorded, record_of, record_at, calls_of, IsReplay, AreTurns};
+    ghost use Rattle.fb_bench.specs.Records.{call_of, reply_of, shown_in, job_in, commit_of};
+    ghost use Rattle.fb_bench.specs.Refusals.{IsFullRefusal};
     ghost use Rattle.fb_bench.specs.Requests.{call_for, reply_in};
     ghost use Rattle.fb_bench.specs.Peeks.{shown_by, is_pending};
     ghost use Rattle.fb_bench.specs.Due.{is_due};
@@ -88,7 +89,7 @@ impl Bench {
 
     /// Whether as many calls are recorded as the limits allow.
     pub fn is_full(&self) -> bool
-        ensures { IsTrue result ↔ (self.now.log.limit ≤ length self.now.log.records) }
+        ensures { IsTrue result ↔ IsFull self.now.log }
     {
         self.history.is_full()
     }
@@ -144,9 +145,9 @@ impl Bench {
 
     /// What is known of a key.
     pub fn ask(&mut self, caller: u32, key: Key) -> Result<Asked, Refused>
-        ensures step { IfOk result (λ _. self.new ≡ recorded self.old caller (ToAsk key)) }
-        ensures answer { IfOk result (λ asked. OfAsk (shown_in asked) ≡ reply (state_of self.old) (ToAsk key)) }
-        ensures full { (result ≡ Err Refused.HistoryFull) ↔ (self.old.log.limit ≤ length self.old.log.records) }
+        ensures step { OnOk result (self.new ≡ recorded self.old caller (ToAsk key)) }
+        ensures answer { IfOk result (λ asked. OfAsk (shown_in asked) ≡ reply_at self.old (ToAsk key)) }
+        ensures full { IsFullRefusal self.old.log result }
         ensures err { OnErr result (self.new ≡ self.old) }
     {
         let (answer, _share) = self.ask_recorded(caller, key)?;
@@ -155,10 +156,10 @@ impl Bench {
 
     /// As `ask`, with a share of the record.
     fn ask_recorded(&mut self, caller: u32, key: Key) -> Result<(Asked, Arc<Record>), Refused>
-        ensures step { IfOk result (λ _. self.new ≡ recorded self.old caller (ToAsk key)) }
-        ensures answer { IfOk result (λ made. OfAsk (shown_in made.0) ≡ reply (state_of self.old) (ToAsk key)) }
+        ensures step { OnOk result (self.new ≡ recorded self.old caller (ToAsk key)) }
+        ensures answer { IfOk result (λ made. OfAsk (shown_in made.0) ≡ reply_at self.old (ToAsk key)) }
         ensures share { IfOk result (λ made. made.1.value ≡ record_of self.old caller (ToAsk key)) }
-        ensures full { (result ≡ Err Refused.HistoryFull) ↔ (self.old.log.limit ≤ length self.old.log.records) }
+        ensures full { IsFullRefusal self.old.log result }
         ensures err { OnErr result (self.new ≡ self.old) }
     {
         if self.history.is_full() {
@@ -215,9 +216,9 @@ impl Bench {
 
     /// Hands out a job for the least key that is pending and not handed out.
     pub fn take(&mut self, caller: u32) -> Result<Taken, Refused>
-        ensures step { IfOk result (λ _. self.new ≡ recorded self.old caller ToTake) }
-        ensures answer { IfOk result (λ taken. OfTake (job_in taken) ≡ reply (state_of self.old) ToTake) }
-        ensures full { (result ≡ Err Refused.HistoryFull) ↔ (self.old.log.limit ≤ length self.old.log.records) }
+        ensures step { OnOk result (self.new ≡ recorded self.old caller ToTake) }
+        ensures answer { IfOk result (λ taken. OfTake (job_in taken) ≡ reply_at self.old ToTake) }
+        ensures full { IsFullRefusal self.old.log result }
         ensures err { OnErr result (self.new ≡ self.old) }
     {
         let (answer, _share) = self.take_recorded(caller)?;
@@ -226,10 +227,10 @@ impl Bench {
 
     /// As `take`, with a share of the record.
     fn take_recorded(&mut self, caller: u32) -> Result<(Taken, Arc<Record>), Refused>
-        ensures step { IfOk result (λ _. self.new ≡ recorded self.old caller ToTake) }
-        ensures answer { IfOk result (λ made. OfTake (job_in made.0) ≡ reply (state_of self.old) ToTake) }
+        ensures step { OnOk result (self.new ≡ recorded self.old caller ToTake) }
+        ensures answer { IfOk result (λ made. OfTake (job_in made.0) ≡ reply_at self.old ToTake) }
         ensures share { IfOk result (λ made. made.1.value ≡ record_of self.old caller (ToTake)) }
-        ensures full { (result ≡ Err Refused.HistoryFull) ↔ (self.old.log.limit ≤ length self.old.log.records) }
+        ensures full { IsFullRefusal self.old.log result }
         ensures err { OnErr result (self.new ≡ self.old) }
     {
         if self.history.is_full() {
@@ -251,8 +252,8 @@ impl Bench {
     /// A job for the key that is next, and the answer that is recorded of it.
     fn job_for(&self, key: Key) -> Result<(Job, Reply), AllocError>
         requires { Some key ≡ next (state_of self.now) }
-        ensures job { IfOk result (λ made. OfTake (Some made.0) ≡ reply (state_of self.now) ToTake) }
-        ensures answer { IfOk result (λ made. reply_of made.1 ≡ reply (state_of self.now) ToTake) }
+        ensures job { IfOk result (λ made. OfTake (Some made.0) ≡ reply_at self.now ToTake) }
+        ensures answer { IfOk result (λ made. reply_of made.1 ≡ reply_at self.now ToTake) }
     {
         let wanted = key;
         let job = Job::make(self.alloc, &self.library, wanted, &self.entries)?;
@@ -264,7 +265,7 @@ impl Bench {
     fn hand_out(&mut self, caller: u32, key: &Key, answer: Reply) -> Result<Arc<Record>, AllocError>
         requires room { length self.old.log.records < self.old.log.limit }
         requires next { Some key.now ≡ next (state_of self.old) }
-        requires answer { reply_of answer ≡ reply (state_of self.old) ToTake }
+        requires answer { reply_of answer ≡ reply_at self.old ToTake }
         ensures step { OnOk result (self.new ≡ recorded self.old caller ToTake) }
         ensures share { IfOk result (λ it. it.value ≡ record_of self.old caller ToTake) }
         ensures err { OnErr result (self.new ≡ self.old) }
@@ -278,9 +279,9 @@ impl Bench {
     /// Changes the texts, or says what is first against it. More than sixteen changes are too many,
     /// and only the first seventeen are recorded then.
     pub fn commit(&mut self, caller: u32, changes: &[Change]) -> Result<Committed, Refused>
-        ensures step { IfOk result (λ _. self.new ≡ recorded self.old caller (ToCommit (listed changes.now))) }
-        ensures answer { IfOk result (λ answer. OfCommit answer ≡ reply (state_of self.old) (ToCommit (listed changes.now))) }
-        ensures full { (result ≡ Err Refused.HistoryFull) ↔ (self.old.log.limit ≤ length self.old.log.records) }
+        ensures step { OnOk result (self.new ≡ recorded self.old caller (commit_of changes.now)) }
+        ensures answer { IfOk result (λ answer. OfCommit answer ≡ reply_at self.old (commit_of changes.now)) }
+        ensures full { IsFullRefusal self.old.log result }
         ensures err { OnErr result (self.new ≡ self.old) }
     {
         let (answer, _share) = self.commit_recorded(caller, changes)?;
@@ -293,10 +294,10 @@ impl Bench {
         caller: u32,
         changes: &[Change],
     ) -> Result<(Committed, Arc<Record>), Refused>
-        ensures step { IfOk result (λ _. self.new ≡ recorded self.old caller (ToCommit (listed changes.now))) }
-        ensures answer { IfOk result (λ made. OfCommit made.0 ≡ reply (state_of self.old) (ToCommit (listed changes.now))) }
-        ensures share { IfOk result (λ made. made.1.value ≡ record_of self.old caller (ToCommit (listed changes.now))) }
-        ensures full { (result ≡ Err Refused.HistoryFull) ↔ (self.old.log.limit ≤ length self.old.log.records) }
+        ensures step { OnOk result (self.new ≡ recorded self.old caller (commit_of changes.now)) }
+        ensures answer { IfOk result (λ made. OfCommit made.0 ≡ reply_at self.old (commit_of changes.now)) }
+        ensures share { IfOk result (λ made. made.1.value ≡ record_of self.old caller (commit_of changes.now)) }
+        ensures full { IsFullRefusal self.old.log result }
         ensures err { OnErr result (self.new ≡ self.old) }
     {
         if self.history.is_full() {
@@ -341,9 +342,9 @@ impl Bench {
 
     /// Takes a result in, if its key waits for one and all that it has read is as it was.
     pub fn deliver(&mut self, caller: u32, finished: &Finished) -> Result<Delivered, Refused>
-        ensures step { IfOk result (λ _. self.new ≡ recorded self.old caller (ToDeliver finished.now)) }
-        ensures answer { IfOk result (λ answer. OfDeliver answer ≡ reply (state_of self.old) (ToDeliver finished.now)) }
-        ensures full { (result ≡ Err Refused.HistoryFull) ↔ (self.old.log.limit ≤ length self.old.log.records) }
+        ensures step { OnOk result (self.new ≡ recorded self.old caller (ToDeliver finished.now)) }
+        ensures answer { IfOk result (λ answer. OfDeliver answer ≡ reply_at self.old (ToDeliver finished.now)) }
+        ensures full { IsFullRefusal self.old.log result }
         ensures err { OnErr result (self.new ≡ self.old) }
     {
         let (answer, _share) = self.deliver_recorded(caller, finished)?;
@@ -356,10 +357,10 @@ impl Bench {
         caller: u32,
         finished: &Finished,
     ) -> Result<(Delivered, Arc<Record>), Refused>
-        ensures step { IfOk result (λ _. self.new ≡ recorded self.old caller (ToDeliver finished.now)) }
-        ensures answer { IfOk result (λ made. OfDeliver made.0 ≡ reply (state_of self.old) (ToDeliver finished.now)) }
+        ensures step { OnOk result (self.new ≡ recorded self.old caller (ToDeliver finished.now)) }
+        ensures answer { IfOk result (λ made. OfDeliver made.0 ≡ reply_at self.old (ToDeliver finished.now)) }
         ensures share { IfOk result (λ made. made.1.value ≡ record_of self.old caller (ToDeliver finished.now)) }
-        ensures full { (result ≡ Err Refused.HistoryFull) ↔ (self.old.log.limit ≤ length self.old.log.records) }
+        ensures full { IsFullRefusal self.old.log result }
         ensures err { OnErr result (self.new ≡ self.old) }
     {
         if self.history.is_full() {
@@ -429,9 +430,9 @@ impl Bench {
 
     /// Clears the mark that a key is handed out.
     pub fn give_back(&mut self, caller: u32, key: Key) -> Result<GivenBack, Refused>
-        ensures step { IfOk result (λ _. self.new ≡ recorded self.old caller (ToGiveBack key)) }
-        ensures answer { IfOk result (λ answer. OfGiveBack answer ≡ reply (state_of self.old) (ToGiveBack key)) }
-        ensures full { (result ≡ Err Refused.HistoryFull) ↔ (self.old.log.limit ≤ length self.old.log.records) }
+        ensures step { OnOk result (self.new ≡ recorded self.old caller (ToGiveBack key)) }
+        ensures answer { IfOk result (λ answer. OfGiveBack answer ≡ reply_at self.old (ToGiveBack key)) }
+        ensures full { IsFullRefusal self.old.log result }
         ensures err { OnErr result (self.new ≡ self.old) }
     {
         let (answer, _share) = self.give_back_recorded(caller, key)?;
@@ -444,10 +445,10 @@ impl Bench {
         caller: u32,
         key: Key,
     ) -> Result<(GivenBack, Arc<Record>), Refused>
-        ensures step { IfOk result (λ _. self.new ≡ recorded self.old caller (ToGiveBack key)) }
-        ensures answer { IfOk result (λ made. OfGiveBack made.0 ≡ reply (state_of self.old) (ToGiveBack key)) }
+        ensures step { OnOk result (self.new ≡ recorded self.old caller (ToGiveBack key)) }
+        ensures answer { IfOk result (λ made. OfGiveBack made.0 ≡ reply_at self.old (ToGiveBack key)) }
         ensures share { IfOk result (λ made. made.1.value ≡ record_of self.old caller (ToGiveBack key)) }
-        ensures full { (result ≡ Err Refused.HistoryFull) ↔ (self.old.log.limit ≤ length self.old.log.records) }
+        ensures full { IsFullRefusal self.old.log result }
         ensures err { OnErr result (self.new ≡ self.old) }
     {
         if self.history.is_full() {
@@ -510,10 +511,10 @@ impl Bench {
         caller: u32,
         request: &Request<'_>,
     ) -> Result<(Arc<Record>, Answered), Refused>
-        ensures step { IfOk result (λ _. self.new ≡ recorded self.old caller (call_for request.now)) }
+        ensures step { OnOk result (self.new ≡ recorded self.old caller (call_for request.now)) }
         ensures share { IfOk result (λ made. made.0.value ≡ record_of self.old caller (call_for request.now)) }
-        ensures answer { IfOk result (λ made. reply_in made.1 ≡ reply (state_of self.old) (call_for request.now)) }
-        ensures full { (result ≡ Err Refused.HistoryFull) ↔ (self.old.log.limit ≤ length self.old.log.records) }
+        ensures answer { IfOk result (λ made. reply_in made.1 ≡ reply_at self.old (call_for request.now)) }
+        ensures full { IsFullRefusal self.old.log result }
         ensures err { OnErr result (self.new ≡ self.old) }
     {
         match request {

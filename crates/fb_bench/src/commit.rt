@@ -5,9 +5,8 @@ ghost use Rattle.fb_jobs.specs.Library.Changes.{edit_of, edits_of};
 ghost use Rattle.fb_jobs.specs.Reads.{is_among};
 ghost use Rattle.fb_bench.specs.Machine.{first_repeated, misfit, first_misfit, refusal};
 ghost use Rattle.fb_bench.specs.Indexed.{IsIndexOf};
-ghost use Rattle.fb_bench.specs.Outcomes.{IsOutcome};
+ghost use Rattle.fb_bench.specs.Outcomes.{IsOutcome, MakesRoom, LosesRoom};
 ghost use Rattle.fb_bench.specs.Records.{call_of, reply_of};
-ghost use Rattle.fb_bench.specs.Renew.{HasRoom, IsTakenBack};
 ghost use Rattle.fb_bench.specs.Story.{logged, record_after};
 
 use crate::answers::Committed;
@@ -129,7 +128,7 @@ pub(crate) fn outcome_of(
     changes: &[Change],
 ) -> Result<Outcome, AllocError>
     requires { IsIndexOf library.now index.now }
-    ensures { IfOk result (IsOutcome most_units number library.now (edits_of changes.now) entries.now.by_key entries.now.ready entries.now.waiting) }
+    ensures { IfOk result (IsOutcome most_units number library.now (edits_of changes.now) entries.now) }
 {
     if let Some(refused) = refusal(library, changes) {
         return Ok(Outcome::Refused(refused));
@@ -155,8 +154,8 @@ pub(crate) fn record_with_room(
     answer: Reply,
 ) -> Result<Arc<Record>, AllocError>
     requires { length history.old.records < history.old.limit }
-    ensures room { OnOk result (HasRoom renewal.now entries.old.by_key entries.new.by_key entries.old.ready entries.new.ready entries.old.waiting entries.new.waiting) }
-    ensures back { OnErr result (IsTakenBack renewal.now entries.old.by_key entries.new.by_key entries.old.ready entries.new.ready entries.old.waiting entries.new.waiting) }
+    ensures room { OnOk result (MakesRoom renewal.now entries.old entries.new) }
+    ensures back { OnErr result (LosesRoom renewal.now entries.old entries.new) }
     ensures logged { OnOk result (history.new ≡ logged history.old caller (call_of call) (reply_of answer)) }
     ensures share { IfOk result (λ it. it.value ≡ record_after history.old caller (call_of call) (reply_of answer)) }
     ensures unlogged { OnErr result (history.new ≡ history.old) }

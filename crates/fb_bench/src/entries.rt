@@ -1,15 +1,13 @@
 //! What a workbench knows of its keys.
-ghost use Rattle.std.specs.Prelude.{◌≡◌, [], true, false, None, map, IfOk, OnOk, OnErr, if◌then◌else◌};
+ghost use Rattle.std.specs.Prelude.{◌≡◌, [], None, IfOk, OnOk, OnErr};
 ghost use Rattle.std.specs.BTreeMap as tree;
-ghost use Rattle.std.specs.BTreeSet as set;
-ghost use Rattle.fb_jobs.specs.Library.Texts.{unit_of};
-ghost use Rattle.fb_jobs.specs.Library.Changes.{edits_of};
-ghost use Rattle.fb_jobs.specs.declared.key.Key.{Key};
 ghost use Rattle.fb_jobs.specs.KeyOrder.{key_cmp};
 ghost use Rattle.fb_bench.specs.Indexed.{IsIndexOf};
 ghost use Rattle.fb_bench.specs.Laws.{AgreeApartFrom};
 ghost use Rattle.fb_bench.specs.Machine.{first_repeated};
-ghost use Rattle.fb_bench.specs.Renew.{is_of, waiting_if, AreKeys, IsRenewal, HasRoom, IsTakenBack, items_or};
+ghost use Rattle.fb_bench.specs.Marking.{LosesEntries, LosesKeys};
+ghost use Rattle.fb_bench.specs.Outcomes.{units_of, Alters, AreKeysAfter, MakesRoom, LosesRoom};
+ghost use Rattle.fb_bench.specs.Renew.{IsCarriedOut, items_or};
 
 use crate::entry::Entry;
 use crate::keys::only_present;
@@ -74,11 +72,11 @@ impl Entries {
         changes: &[Change],
     ) -> Result<Found, AllocError>
         requires known { IsIndexOf before.now index.now }
-        requires once { first_repeated (map unit_of (edits_of changes.now)) ≡ None }
-        requires others { AgreeApartFrom (map unit_of (edits_of changes.now)) before.now after.now }
+        requires once { first_repeated (units_of changes.now) ≡ None }
+        requires others { AgreeApartFrom (units_of changes.now) before.now after.now }
         ensures index { IfOk result (λ found. IsIndexOf after.now found.index) }
-        ensures renewal { IfOk result (λ found. IsRenewal after.now (map unit_of (edits_of changes.now)) self.now.by_key self.now.ready self.now.waiting found.renewal) }
-        ensures keys { IfOk result (λ found. AreKeys after.now self.now.by_key found.renewal.fresh.items found.renewal.gone.items found.keys) }
+        ensures renewal { IfOk result (λ found. Alters after.now (units_of changes.now) self.now found.renewal) }
+        ensures keys { IfOk result (λ found. AreKeysAfter after.now self.now found.renewal found.keys) }
     {
         let units = changed_units(alloc, changes)?;
         let index = reindexed(alloc, index, before, after, &units)?;
@@ -100,7 +98,7 @@ impl Entries {
         units: &[Name],
     ) -> Result<Renewal, AllocError>
         requires indexed { IsIndexOf library.now index.now }
-        ensures { IfOk result (IsRenewal library.now units.now self.now.by_key self.now.ready self.now.waiting) }
+        ensures { IfOk result (Alters library.now units.now self.now) }
     {
         let own = keys_by_name(alloc, units)?;
         let present = only_present(alloc, library, &own)?;
@@ -121,8 +119,8 @@ impl Entries {
 
     /// Makes room for new entries and marks, or leaves all as it was.
     pub(crate) fn make_room(&mut self, renewal: &Renewal) -> Result<(), AllocError>
-        ensures ok { OnOk result (HasRoom renewal.now self.old.by_key self.new.by_key self.old.ready self.new.ready self.old.waiting self.new.waiting) }
-        ensures err { OnErr result (IsTakenBack renewal.now self.old.by_key self.new.by_key self.old.ready self.new.ready self.old.waiting self.new.waiting) }
+        ensures ok { OnOk result (MakesRoom renewal.now self.old self.new) }
+        ensures err { OnErr result (LosesRoom renewal.now self.old self.new) }
         ensures keys { self.new.keys ≡ self.old.keys }
     {
         let is_made = put_blank(&mut self.by_key, &renewal.fresh).is_ok();
@@ -138,9 +136,9 @@ impl Entries {
 
     /// Takes the room back that was made.
     pub(crate) fn take_back(&mut self, renewal: &Renewal)
-        ensures entries { (key : Key) → tree.get key_cmp self.new.by_key key ≡ (if is_of key renewal.now.fresh.items then None else tree.get key_cmp self.old.by_key key) }
-        ensures ready { (key : Key) → set.contains key_cmp self.new.ready key ≡ (if is_of key renewal.now.unready.items then false else set.contains key_cmp self.old.ready key) }
-        ensures waiting { (key : Key) → set.contains key_cmp self.new.waiting key ≡ (if is_of key renewal.now.unwaiting.items then false else set.contains key_cmp self.old.waiting key) }
+        ensures entries { LosesEntries renewal.now.fresh.items self.old.by_key self.new.by_key }
+        ensures ready { LosesKeys renewal.now.unready.items self.old.ready self.new.ready }
+        ensures waiting { LosesKeys renewal.now.unwaiting.items self.old.waiting self.new.waiting }
         ensures keys { self.new.keys ≡ self.old.keys }
     {
         take_out(&mut self.by_key, &renewal.fresh);
@@ -150,9 +148,9 @@ impl Entries {
 
     /// Writes what was found, and gives the index back. Nothing here can fail.
     pub(crate) fn carry_out(&mut self, found: Found) -> Index
-        ensures entries { (key : Key) → tree.get key_cmp self.new.by_key key ≡ waiting_if (is_of key found.renewal.renewed.items) (if is_of key found.renewal.gone.items then None else tree.get key_cmp self.old.by_key key) }
-        ensures ready { (key : Key) → set.contains key_cmp self.new.ready key ≡ (if is_of key found.renewal.gone.items then false else set.contains key_cmp self.old.ready key) }
-        ensures waiting { (key : Key) → set.contains key_cmp self.new.waiting key ≡ (if is_of key found.renewal.gone.items then false else set.contains key_cmp self.old.waiting key) }
+        ensures entries { IsCarriedOut found.renewal self.old.by_key self.new.by_key }
+        ensures ready { LosesKeys found.renewal.gone.items self.old.ready self.new.ready }
+        ensures waiting { LosesKeys found.renewal.gone.items self.old.waiting self.new.waiting }
         ensures keys { self.new.keys.items ≡ items_or found.keys self.old.keys.items }
         ensures index { result ≡ found.index }
     {

@@ -1,12 +1,6 @@
 //! What is kept of a key.
-ghost use Rattle.std.specs.Prelude.{◌≡◌, Some, true, false, OnOk, OnErr, if◌then◌else◌};
-ghost use Rattle.std.specs.Option.{option_map};
-ghost use Rattle.std.specs.BTreeMap as tree;
-ghost use Rattle.std.specs.BTreeSet as set;
-ghost use Rattle.fb_jobs.specs.declared.key.Key.{Key};
-ghost use Rattle.fb_jobs.specs.KeyOrder.{key_cmp, same_key};
-ghost use Rattle.fb_bench.specs.declared.entry.Entry.{Entry};
-ghost use Rattle.fb_bench.specs.Renew.{waiting_if};
+ghost use Rattle.std.specs.Prelude.{true, false, OnOk, OnErr};
+ghost use Rattle.fb_bench.specs.Marking.{with_out, with_value, ChangesEntry, RenewsEntry, MarksKey, SameKeys};
 
 use fb_jobs::{Key, Value};
 use std::alloc::AllocError;
@@ -22,7 +16,7 @@ pub(crate) struct Entry {
 
 /// Marks a key that has an entry as handed out or not.
 pub(crate) fn mark_out(entries: &mut BTreeMap<Key, Entry>, key: &Key, out: bool)
-    ensures { (other : Key) → tree.get key_cmp entries.new other ≡ (if same_key key.now other then option_map (λ (it : Entry). record it { out = out }) (tree.get key_cmp entries.old other) else tree.get key_cmp entries.old other) }
+    ensures { ChangesEntry key.now (with_out out) entries.old entries.new }
 {
     if let Some(entry) = entries.get_mut(key) {
         entry.out = out;
@@ -31,7 +25,7 @@ pub(crate) fn mark_out(entries: &mut BTreeMap<Key, Entry>, key: &Key, out: bool)
 
 /// Gives a key that has an entry its value; the key is not handed out then.
 pub(crate) fn keep(entries: &mut BTreeMap<Key, Entry>, key: &Key, value: Arc<Value>)
-    ensures { (other : Key) → tree.get key_cmp entries.new other ≡ (if same_key key.now other then option_map (λ (it : Entry). record it { value = Some value; out = false }) (tree.get key_cmp entries.old other) else tree.get key_cmp entries.old other) }
+    ensures { ChangesEntry key.now (with_value value) entries.old entries.new }
 {
     if let Some(entry) = entries.get_mut(key) {
         entry.value = Some(value);
@@ -41,7 +35,7 @@ pub(crate) fn keep(entries: &mut BTreeMap<Key, Entry>, key: &Key, value: Arc<Val
 
 /// Lets a key that has an entry wait for a result; the key is not handed out then.
 pub(crate) fn renew(entries: &mut BTreeMap<Key, Entry>, key: &Key)
-    ensures { (other : Key) → tree.get key_cmp entries.new other ≡ waiting_if (same_key key.now other) (tree.get key_cmp entries.old other) }
+    ensures { RenewsEntry key.now entries.old entries.new }
 {
     if let Some(entry) = entries.get_mut(key) {
         entry.value = None;
@@ -51,15 +45,15 @@ pub(crate) fn renew(entries: &mut BTreeMap<Key, Entry>, key: &Key)
 
 /// Takes a key out of a set.
 pub(crate) fn leave(keys: &mut BTreeSet<Key>, key: &Key)
-    ensures { (other : Key) → set.contains key_cmp keys.new other ≡ (if same_key key.now other then false else set.contains key_cmp keys.old other) }
+    ensures { MarksKey key.now false keys.old keys.new }
 {
     let _ = keys.remove(key);
 }
 
 /// Puts a key into a set.
 pub(crate) fn join(keys: &mut BTreeSet<Key>, key: &Key) -> Result<(), AllocError>
-    ensures ok { OnOk result ((other : Key) → set.contains key_cmp keys.new other ≡ (if same_key key.now other then true else set.contains key_cmp keys.old other)) }
-    ensures err { OnErr result ((other : Key) → set.contains key_cmp keys.new other ≡ set.contains key_cmp keys.old other) }
+    ensures ok { OnOk result (MarksKey key.now true keys.old keys.new) }
+    ensures err { OnErr result (SameKeys keys.old keys.new) }
 {
     match keys.insert(*key) {
         Ok(_) => Ok(()),

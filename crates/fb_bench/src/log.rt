@@ -30,9 +30,9 @@ impl Model for History {
 }
 
 impl History {
-    ghost use Rattle.std.specs.Prelude.{◌≡◌, ◌+◌, ◌^◌, ◌≤◌, ◌<◌, ◌↔◌, [], IsTrue, OnOk, OnErr, IfOk, length, Some, slice_get};
+    ghost use Rattle.std.specs.Prelude.{◌≡◌, ◌+◌, ◌^◌, ◌<◌, ◌↔◌, [], IsTrue, OnOk, OnErr, IfOk, length, Some, slice_get};
     ghost use Rattle.std.specs.Option.{option_map};
-    ghost use Rattle.fb_bench.specs.Story.{logged, record_after, record_at, AreTurns, turns_of};
+    ghost use Rattle.fb_bench.specs.Story.{logged, record_after, IsFull, record_at, AreTurns, turns_of};
     ghost use Rattle.fb_bench.specs.Records.{call_of, reply_of};
 
     pub fn new(alloc: Global, limit: u64) -> History
@@ -55,7 +55,7 @@ impl History {
 
     /// Whether no further call may be recorded.
     pub fn is_full(&self) -> bool
-        ensures full { IsTrue result ↔ (self.now.limit ≤ length self.now.records) }
+        ensures full { IsTrue result ↔ IsFull self.now }
         ensures small { self.now.limit < 2 ^ 64 }
     {
         self.limit <= self.records.len() as u64

@@ -4,7 +4,7 @@ ghost use Rattle.fb_jobs.specs.declared.key.Key.{Key};
 ghost use Rattle.fb_bench.specs.Machine.{first_repeated};
 ghost use Rattle.fb_bench.specs.Indexed.{IsIndexOf, IsReached};
 ghost use Rattle.fb_bench.specs.Laws.{AgreeApartFrom};
-ghost use Rattle.fb_bench.specs.Renew.{is_of};
+ghost use Rattle.fb_bench.specs.Marking.{is_of};
 
 use fb_index::Index;
 use fb_jobs::library::{Library, near};

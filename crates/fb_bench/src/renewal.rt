@@ -1,13 +1,13 @@
 //! What a commit does to the entries: found and made room for first, and then only written.
-ghost use Rattle.std.specs.Prelude.{◌≡◌, true, false, not, is_none, None, map, filter, IfOk, OnOk, if◌then◌else◌};
+ghost use Rattle.std.specs.Prelude.{◌≡◌, not, is_none, map, filter, IfOk, OnOk};
 ghost use Rattle.std.specs.BTreeMap as tree;
 ghost use Rattle.std.specs.BTreeSet as set;
 ghost use Rattle.fb_jobs.specs.Library.Texts.{unit_of};
 ghost use Rattle.fb_jobs.specs.Library.Changes.{edits_of};
-ghost use Rattle.fb_jobs.specs.declared.key.Key.{Key};
 ghost use Rattle.fb_jobs.specs.Keys.{has_key};
 ghost use Rattle.fb_jobs.specs.KeyOrder.{key_cmp};
-ghost use Rattle.fb_bench.specs.Renew.{is_of, waiting_if, AreKeys, have_entries, items_or};
+ghost use Rattle.fb_bench.specs.Marking.{KeepsOtherEntries, HasEntries, LosesEntries, RenewsEntries, KeepsOtherKeys, HasKeys, LosesKeys};
+ghost use Rattle.fb_bench.specs.Renew.{AreKeys, have_entries, items_or};
 
 use crate::entry::{Entry, join, leave, renew};
 use crate::keys::present_keys;
@@ -123,8 +123,8 @@ pub(crate) fn replace(keys: &mut Vec<Key>, others: Option<Vec<Key>>)
 
 /// Makes an entry that waits for a result for each of these keys.
 pub(crate) fn put_blank(entries: &mut BTreeMap<Key, Entry>, keys: &[Key]) -> Result<(), AllocError>
-    ensures others { (other : Key) → is_of other keys.now ≡ false → tree.get key_cmp entries.new other ≡ tree.get key_cmp entries.old other }
-    ensures there { OnOk result ((other : Key) → is_of other keys.now ≡ true → is_none (tree.get key_cmp entries.new other) ≡ false) }
+    ensures others { KeepsOtherEntries keys.now entries.old entries.new }
+    ensures there { OnOk result (HasEntries keys.now entries.new) }
 {
     for key in keys {
         let blank = Entry {
@@ -140,7 +140,7 @@ pub(crate) fn put_blank(entries: &mut BTreeMap<Key, Entry>, keys: &[Key]) -> Res
 
 /// Takes the entries of these keys out.
 pub(crate) fn take_out(entries: &mut BTreeMap<Key, Entry>, keys: &[Key])
-    ensures { (other : Key) → tree.get key_cmp entries.new other ≡ (if is_of other keys.now then None else tree.get key_cmp entries.old other) }
+    ensures { LosesEntries keys.now entries.old entries.new }
 {
     for key in keys {
         let _ = entries.remove(key);
@@ -148,8 +148,8 @@ pub(crate) fn take_out(entries: &mut BTreeMap<Key, Entry>, keys: &[Key])
 }
 
 pub(crate) fn join_all(members: &mut BTreeSet<Key>, keys: &[Key]) -> Result<(), AllocError>
-    ensures others { (other : Key) → is_of other keys.now ≡ false → set.contains key_cmp members.new other ≡ set.contains key_cmp members.old other }
-    ensures there { OnOk result ((other : Key) → is_of other keys.now ≡ true → set.contains key_cmp members.new other ≡ true) }
+    ensures others { KeepsOtherKeys keys.now members.old members.new }
+    ensures there { OnOk result (HasKeys keys.now members.new) }
 {
     for key in keys {
         join(members, key)?;
@@ -158,7 +158,7 @@ pub(crate) fn join_all(members: &mut BTreeSet<Key>, keys: &[Key]) -> Result<(), 
 }
 
 pub(crate) fn leave_all(members: &mut BTreeSet<Key>, keys: &[Key])
-    ensures { (other : Key) → set.contains key_cmp members.new other ≡ (if is_of other keys.now then false else set.contains key_cmp members.old other) }
+    ensures { LosesKeys keys.now members.old members.new }
 {
     for key in keys {
         leave(members, key);
@@ -167,7 +167,7 @@ pub(crate) fn leave_all(members: &mut BTreeSet<Key>, keys: &[Key])
 
 /// Lets all of these keys wait for a result.
 pub(crate) fn renew_all(entries: &mut BTreeMap<Key, Entry>, keys: &[Key])
-    ensures { (other : Key) → tree.get key_cmp entries.new other ≡ waiting_if (is_of other keys.now) (tree.get key_cmp entries.old other) }
+    ensures { RenewsEntries keys.now entries.old entries.new }
 {
     for key in keys {
         renew(entries, key);

@@ -2,7 +2,7 @@
 use Rattle.std.proofs.Common.{rules, refl}
 use Rattle.fb_jobs.specs.KeyOrder.{same_key}
 use Rattle.fb_bench.specs.declared.entry.Entry.{Entry}
-use Rattle.fb_bench.specs.Renew.{blank}
+use Rattle.fb_bench.specs.Marking.{blank}
 use Rattle.fb_bench.proofs.Writes.{written, unwritten}
 use Rattle.fb_bench.proofs.entry.renew.Goals as goal
 

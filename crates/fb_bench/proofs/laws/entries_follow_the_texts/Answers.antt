@@ -4,7 +4,7 @@ use Rattle.fb_bench.proofs.Empty.{begins_empty}
 use Rattle.fb_bench.proofs.laws.entries_follow_the_texts.Goals as goal
 
 pub returns-clause-entries : goal.returns-clause-entries
-returns-clause-entries c = λ origin calls key begins. entry_is origin calls key begins
+returns-clause-entries c = λ origin begins calls key. entry_is origin calls key begins
 
 pub returns-clause-begins : goal.returns-clause-begins
 returns-clause-begins c = λ most_units. begins_empty most_units

@@ -5,7 +5,7 @@ use Rattle.std.specs.Map.{lookup}
 use Rattle.std.specs.BTreeMap as tree
 use Rattle.std.specs.BTreeMap.{is_at}
 use Rattle.fb_jobs.specs.KeyOrder.{key_cmp, same_key}
-use Rattle.fb_bench.specs.Renew.{is_of, blank}
+use Rattle.fb_bench.specs.Marking.{is_of, blank}
 use Rattle.fb_bench.proofs.KeySteps.{of_now, of_front, others_more, entry_more}
 use Rattle.fb_bench.proofs.renewal.put_blank.Goals as goal
 

@@ -3,7 +3,7 @@ use Rattle.std.proofs.Common.{◌≡◌, ◌+◌, ◌++◌, ◌∷◌, [], take,
 use Rattle.std.proofs.lemmas.Grind.{common_steps}
 use Rattle.std.specs.BTreeMap as tree
 use Rattle.fb_jobs.specs.KeyOrder.{key_cmp, same_key}
-use Rattle.fb_bench.specs.Renew.{is_of}
+use Rattle.fb_bench.specs.Marking.{is_of}
 use Rattle.fb_bench.proofs.KeySteps.{of_now, out_more}
 use Rattle.fb_bench.proofs.renewal.take_out.Goals as goal
 
