@@ -15,7 +15,7 @@ use Rattle.fb_netcheck.specs.Iface.Fault.{fault_cmp, faults_in_order}
 use Rattle.fb_netcheck.specs.Iface.Declarations.{declaration_faults}
 use Rattle.fb_expr.specs.Charts.{expression_faults, faults_in_unit}
 use Rattle.fb_ecc.specs.Charts.{chart_faults, chart_faults_in}
-use Rattle.fb_netcheck.specs.Settings.{Place}
+use Rattle.fb_netcheck.specs.Settings.{NetworkPlace}
 use Rattle.fb_netcheck.specs.Networks.{network_faults, tree_faults, type_place}
 use Rattle.fb_faults.specs.Mappings.{declared_mapping_faults}
 
@@ -53,7 +53,7 @@ abbrev pub reported_in : Sources → List ℕ → BodyTree → List Fault
 reported_in sources unit body = all_reported sources unit (body_faults body) (tree_in body)
 
 -- what the checks of expressions, charts and networks report of a type, where its network stands here
-abbrev pub faults_here : Sources → Place → TypeTree → List Fault
+abbrev pub faults_here : Sources → NetworkPlace → TypeTree → List Fault
 faults_here sources here d = expression_faults here.scope d.chart ++ chart_faults here.scope d.chart ++ network_faults sources here d.network
 
 -- the same of a block type

@@ -21,7 +21,7 @@ use Rattle.fb_netcheck.specs.Networks.{application_place, network_faults, networ
 use Rattle.fb_netcheck.specs.Parameters.{all_parameters}
 use Rattle.fb_netcheck.specs.Paths.{repeated}
 use Rattle.fb_netcheck.specs.Repeats.{all_adapter_ends, data_destinations, end_path, second_adapters, second_sources}
-use Rattle.fb_netcheck.specs.Settings.{Place}
+use Rattle.fb_netcheck.specs.Settings.{NetworkPlace}
 use Rattle.fb_netcheck.specs.Sides.{end_faults, is_own_port, pass_through_faults}
 use Rattle.fb_netcheck.specs.Types.{joined_types, same_at_ends, targets_agree}
 
@@ -67,7 +67,7 @@ one_type true true false fault e s d = absurd (let no : ⊥ = cc in no)
 one_type true false false fault e s d = d
 one_type false destination false fault e s d = s
 
-module _ (sources : Sources) (here : Place) where
+module _ (sources : Sources) (here : NetworkPlace) where
   clean_connection : (c : Connection) → connection_faults here c ≡ [] → joined_types sources here c ≡ [] → IsCleanConnection sources here c
   clean_connection c none types =
       let source = target here c.sort c.source in
@@ -100,7 +100,7 @@ module _ (sources : Sources) (here : Place) where
         one_adapter = none_mapped _ (repeated (map end_path (all_adapter_ends n.connections))) (right_none ((sides ++ types) ++ sources_twice) adapters_twice front);
       }
 
-abbrev Clean : Sources → Place × NetworkTree → Type 0
+abbrev Clean : Sources → NetworkPlace × NetworkTree → Type 0
 Clean sources placed = IsCleanNetwork sources placed.0 placed.1
 
 clean_networks : (sources : Sources) (unit : List ℕ) (tree : Option DeclTree) → tree_faults sources unit tree ≡ [] → All (Clean sources) (networks_in sources unit tree)

@@ -25,7 +25,7 @@ use Rattle.fb_netcheck.specs.Local.{NetFaultsAreLocal}
 use Rattle.fb_netcheck.specs.Networks.{application_network, declared_faults, network_faults, tree_faults, type_network}
 use Rattle.fb_netcheck.specs.Parameters.{all_parameters}
 use Rattle.fb_netcheck.specs.Repeats.{second_adapters, second_sources}
-use Rattle.fb_netcheck.specs.Settings.{Place}
+use Rattle.fb_netcheck.specs.Settings.{NetworkPlace}
 use Rattle.fb_netcheck.specs.Spellings.{part, same_by_form, words}
 use Rattle.fb_netcheck.specs.Types.{flow_faults, home, home_of, joined_types}
 
@@ -89,7 +89,7 @@ module _ (a b : Sources) (unit : List ℕ) (own : get a unit ≡ get b unit) whe
 
   network_local : (kind : UnitKind) (scope : Scope) (n : NetworkTree) → scope.own.instances ≡ first_ones (instances_in n) → ((name : List ℕ) → Contains (types_in n.instances) name → get a name ≡ get b name) → network_faults a (record { unit = unit; kind = kind; scope = scope }) n ≡ network_faults b (record { unit = unit; kind = kind; scope = scope }) n
   network_local kind scope n declared agree =
-      let here : Place = record { unit = unit; kind = kind; scope = scope } in
+      let here : NetworkPlace = record { unit = unit; kind = kind; scope = scope } in
       let text : (end : End) → get a (home here end) ≡ get b (home here end) = λ end. home_local kind scope n declared agree end.name end.port in
       let types : (c : Connection) → joined_types a here c ≡ joined_types b here c = λ c. (λ i. flow_faults (λ x y. same_by_form x.form y.form (is_same x.name.name y.name.name) (pointwise nat_eq (words (part (unwrap_or (text c.source i) []) x.span)) (words (part (unwrap_or (text c.destination i) []) y.span)))) c (target here c.sort c.source) (target here c.sort c.destination)) in
       λ i. flat_map (connection_faults here) n.connections ++ flat_map (λ c. types c i) n.connections ++ second_sources n.connections ++ second_adapters n.connections ++ all_parameters scope n.instances

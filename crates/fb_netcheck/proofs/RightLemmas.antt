@@ -32,7 +32,7 @@ use Rattle.fb_netcheck.specs.declared.ends.Target.TheVariants.{Unknown, NotJudge
 use Rattle.fb_netcheck.specs.Clean.{AreRight, ConnectionsAreRight, IsCleanEnd}
 use Rattle.fb_netcheck.specs.Ends.{holder_of, is_right, port_in, target_held, target_named, target_of, target_of_instance}
 use Rattle.fb_netcheck.specs.Networks.{application_network, application_place, network_faults, networks_in, tree_faults, type_place}
-use Rattle.fb_netcheck.specs.Settings.{Place}
+use Rattle.fb_netcheck.specs.Settings.{NetworkPlace}
 use Rattle.fb_netcheck.proofs.CleanLemmas.{clean_network, left_none, none_of_each, right_none}
 use Rattle.fb_netcheck.proofs.LocalLemmas.{Each, instance_stands}
 
@@ -75,7 +75,7 @@ is_judged kind sort (Some i) m name there e = by (holder_of kind sort i.role) m 
     by (Some holder) None there e = let no : ⊥ = cc in no
     by (Some holder) (Some m) there e = port_is_judged holder (port_in sort m name) e
 
-module _ (sources : Sources) (here : Place) (n : NetworkTree) (own : here.scope.own.instances ≡ first_ones (instances_in n)) (types : here.scope.type_ports ≡ type_ports_of sources n) (none : flat_map (instance_faults sources) n.instances ≡ []) where
+module _ (sources : Sources) (here : NetworkPlace) (n : NetworkTree) (own : here.scope.own.instances ≡ first_ones (instances_in n)) (types : here.scope.type_ports ≡ type_ports_of sources n) (none : flat_map (instance_faults sources) n.instances ≡ []) where
   ports_there : (name : List ℕ) (i : DeclaredInstance) → stands_for here.scope.own.instances name ≡ Some i → is_some (ports_of here.scope name) ≡ true
   ports_there name i e =
       let P : DeclaredInstance → Type 0 = λ d. is_some (usable d.role (mentioned_type sources n.instances d.type_name.name)) ≡ true in
@@ -101,7 +101,7 @@ none_joined f g (x ∷ xs) e =
     let all = sym (flat_map-append f (g x) (flat_map g xs)) ∙ e in
     All-cons (λ x. flat_map f (g x) ≡ []) x xs (left_none (flat_map f (g x)) (flat_map f (flat_map g xs)) all) (none_joined f g xs (right_none (flat_map f (g x)) (flat_map f (flat_map g xs)) all))
 
-abbrev Right : Place × NetworkTree → Type 0
+abbrev Right : NetworkPlace × NetworkTree → Type 0
 Right placed = All (AreRight placed.0) placed.1.connections
 
 right_networks : (sources : Sources) (unit : List ℕ) (decl : DeclTree) → type_faults sources decl ≡ [] → tree_faults sources unit (Some decl) ≡ [] → All Right (networks_in sources unit (Some decl))

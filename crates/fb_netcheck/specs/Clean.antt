@@ -17,7 +17,7 @@ use Rattle.fb_netcheck.specs.Ends.{is_right, right_side, target}
 use Rattle.fb_netcheck.specs.Networks.{net_faults_of, networks_in}
 use Rattle.fb_netcheck.specs.Paths.{repeated}
 use Rattle.fb_netcheck.specs.Repeats.{all_adapter_ends, data_destinations, end_path}
-use Rattle.fb_netcheck.specs.Settings.{Place}
+use Rattle.fb_netcheck.specs.Settings.{NetworkPlace}
 use Rattle.fb_netcheck.specs.Sides.{is_own_port}
 use Rattle.fb_netcheck.specs.Types.{same_at_ends, targets_agree}
 
@@ -40,10 +40,10 @@ pub record IsClean (kind : UnitKind) (same : TypeUse → TypeUse → Bool) (sour
   pub one_type : is_right Source source ≡ true → is_right Destination destination ≡ true → targets_agree same source destination ≡ true
   pub passes_nothing : PassesNothing kind source destination
 
-abbrev pub IsCleanConnection : Sources → Place → Connection → Type 0
+abbrev pub IsCleanConnection : Sources → NetworkPlace → Connection → Type 0
 IsCleanConnection sources here c = IsClean here.kind (same_at_ends sources here c) (target here c.sort c.source) (target here c.sort c.destination)
 
-pub record IsCleanNetwork (sources : Sources) (here : Place) (n : NetworkTree) : Type 0 where
+pub record IsCleanNetwork (sources : Sources) (here : NetworkPlace) (n : NetworkTree) : Type 0 where
   pub connections : All (IsCleanConnection sources here) n.connections
   -- each data destination has one source, and each adapter end one other end
   pub one_source : repeated (map end_path (data_destinations n.connections)) ≡ []
@@ -53,14 +53,14 @@ pub record IsCleanNetwork (sources : Sources) (here : Place) (n : NetworkTree) :
 abbrev pub FaultlessNetworksAreClean : Type 0
 FaultlessNetworksAreClean =
     (sources : Sources) (unit : List ℕ) → net_faults_of sources unit ≡ []
-    → All (λ (placed : Place × NetworkTree). IsCleanNetwork sources placed.0 placed.1) (networks_in sources unit (tree_at sources unit))
+    → All (λ (placed : NetworkPlace × NetworkTree). IsCleanNetwork sources placed.0 placed.1) (networks_in sources unit (tree_at sources unit))
 
 -- Both ends name ports of the right sides: a clean connection whose types are usable.
-abbrev pub AreRight : Place → Connection → Type 0
+abbrev pub AreRight : NetworkPlace → Connection → Type 0
 AreRight here c = (is_right Source (target here c.sort c.source) ≡ true) × (is_right Destination (target here c.sort c.destination) ≡ true)
 
 -- without faults of what the unit declares, each type is usable, and each end names a port of the right side
 abbrev pub ConnectionsAreRight : Type 0
 ConnectionsAreRight =
     (sources : Sources) (unit : List ℕ) → iface_faults_of sources unit ≡ [] → net_faults_of sources unit ≡ []
-    → All (λ (placed : Place × NetworkTree). All (AreRight placed.0) placed.1.connections) (networks_in sources unit (tree_at sources unit))
+    → All (λ (placed : NetworkPlace × NetworkTree). All (AreRight placed.0) placed.1.connections) (networks_in sources unit (tree_at sources unit))

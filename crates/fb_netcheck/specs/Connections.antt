@@ -6,7 +6,7 @@ use Rattle.fb_iface.specs.declared.fault.Fault.{Fault}
 use Rattle.fb_netcheck.specs.declared.ends.Position.TheVariants.{Source, Destination}
 use Rattle.fb_netcheck.specs.declared.ends.Target.{Target}
 use Rattle.fb_netcheck.specs.Ends.{target}
-use Rattle.fb_netcheck.specs.Settings.{Place}
+use Rattle.fb_netcheck.specs.Settings.{NetworkPlace}
 use Rattle.fb_netcheck.specs.Sides.{end_faults, pass_through_faults}
 
 -- the faults of a connection whose ends name these
@@ -14,5 +14,5 @@ abbrev pub joined_faults : UnitKind → Connection → Target → Target → Lis
 joined_faults kind c source destination =
     end_faults Source c.source source ++ end_faults Destination c.destination destination ++ pass_through_faults kind c source destination
 
-abbrev pub connection_faults : Place → Connection → List Fault
+abbrev pub connection_faults : NetworkPlace → Connection → List Fault
 connection_faults here c = joined_faults here.kind c (target here c.sort c.source) (target here c.sort c.destination)

@@ -28,7 +28,7 @@ use Rattle.fb_netcheck.specs.declared.ends.Position.{Position}
 use Rattle.fb_netcheck.specs.declared.ends.Position.TheVariants.{Source, Destination}
 use Rattle.fb_netcheck.specs.declared.ends.Target.{Target}
 use Rattle.fb_iface.specs.Scope.{ports_of}
-use Rattle.fb_netcheck.specs.Settings.{Place}
+use Rattle.fb_netcheck.specs.Settings.{NetworkPlace}
 use Rattle.fb_netcheck.specs.declared.ends.Target.TheVariants.{Unknown, NotJudged, Found}
 
 -- The side of the port at an end, by whose port it is. What comes in at an own input, or through a plug, is a source inside.
@@ -97,12 +97,12 @@ abbrev pub target_of_instance : UnitKind → Sort → Option DeclaredInstance �
 target_of_instance kind sort None m name = Unknown
 target_of_instance kind sort (Some i) m name = target_held (holder_of kind sort i.role) sort m name
 
-abbrev pub target_named : Place → Sort → List ℕ → Option NameUse → Target
+abbrev pub target_named : NetworkPlace → Sort → List ℕ → Option NameUse → Target
 target_named here sort name None = target_of Own (port_in sort here.scope.own name)
 target_named here sort name (Some port) = target_of_instance here.kind sort (stands_for here.scope.own.instances name) (ports_of here.scope name) port.name
 
 -- what an end of a connection names
-abbrev pub target : Place → Sort → End → Target
+abbrev pub target : NetworkPlace → Sort → End → Target
 target here sort end = target_named here sort end.name.name end.port
 
 -- whether it is a port of the right side

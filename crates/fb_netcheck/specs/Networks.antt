@@ -7,27 +7,27 @@ use Rattle.fb_iface.specs.Tree.declared.kinds.UnitKind.TheVariants.{Block, Subap
 use Rattle.fb_iface.specs.Library.View.{Sources, tree_at}
 use Rattle.fb_iface.specs.declared.fault.Fault.{Fault}
 use Rattle.fb_iface.specs.Scope.{scope_of_network, scope_of_type}
-use Rattle.fb_netcheck.specs.Settings.{Place}
+use Rattle.fb_netcheck.specs.Settings.{NetworkPlace}
 use Rattle.fb_netcheck.specs.Connections.{connection_faults}
 use Rattle.fb_netcheck.specs.Parameters.{all_parameters}
 use Rattle.fb_netcheck.specs.Repeats.{second_adapters, second_sources}
 use Rattle.fb_netcheck.specs.Types.{joined_types}
 
 -- the faults of a network
-abbrev pub network_faults : Sources → Place → NetworkTree → List Fault
+abbrev pub network_faults : Sources → NetworkPlace → NetworkTree → List Fault
 network_faults sources here n =
     flat_map (connection_faults here) n.connections ++ flat_map (joined_types sources here) n.connections ++ second_sources n.connections ++ second_adapters n.connections ++ all_parameters here.scope n.instances
 
 -- the network of a type, where it stands
-abbrev pub type_place : Sources → List ℕ → UnitKind → TypeTree → Place × NetworkTree
+abbrev pub type_place : Sources → List ℕ → UnitKind → TypeTree → NetworkPlace × NetworkTree
 type_place sources unit kind d = (record { unit = unit; kind = kind; scope = scope_of_type sources d }, d.network)
 
 -- the network of an application of a system
-abbrev pub application_place : Sources → List ℕ → ApplicationTree → Place × NetworkTree
+abbrev pub application_place : Sources → List ℕ → ApplicationTree → NetworkPlace × NetworkTree
 application_place sources unit a = (record { unit = unit; kind = System; scope = scope_of_network sources a.network }, a.network)
 
 -- the networks of a declaration, each where it stands
-abbrev pub networks_in : Sources → List ℕ → Option DeclTree → List (Place × NetworkTree)
+abbrev pub networks_in : Sources → List ℕ → Option DeclTree → List (NetworkPlace × NetworkTree)
 networks_in sources unit None = []
 networks_in sources unit (Some (block_type d)) = type_place sources unit Block d ∷ []
 networks_in sources unit (Some (adapter_type d)) = []
@@ -35,7 +35,7 @@ networks_in sources unit (Some (subapplication_type d)) = type_place sources uni
 networks_in sources unit (Some (system_configuration s)) = map (application_place sources unit) s.applications
 
 -- the faults of a network, where it stands
-abbrev pub placed_faults : Sources → Place × NetworkTree → List Fault
+abbrev pub placed_faults : Sources → NetworkPlace × NetworkTree → List Fault
 placed_faults sources placed = network_faults sources placed.0 placed.1
 
 abbrev pub type_network : Sources → List ℕ → UnitKind → TypeTree → List Fault

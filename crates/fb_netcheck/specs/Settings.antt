@@ -6,10 +6,10 @@ use Rattle.fb_iface.specs.Scope.{Scope}
 use Rattle.fb_netcheck.specs.declared.setting.Setting.{Setting}
 
 -- the unit, what it is, and what names stand for in the network
-pub record Place : Type 0 where
+pub record NetworkPlace : Type 0 where
   pub unit : List ℕ
   pub kind : UnitKind
   pub scope : Scope
 
-abbrev pub place_in : Setting → Place
+abbrev pub place_in : Setting → NetworkPlace
 place_in here = record { unit = here.unit; kind = here.kind; scope = scope_in here.scope }

@@ -15,17 +15,17 @@ use Rattle.fb_netcheck.specs.declared.ends.Flow.TheVariants.{Data, Adapter}
 use Rattle.fb_netcheck.specs.declared.ends.Position.TheVariants.{Source, Destination}
 use Rattle.fb_netcheck.specs.declared.ends.Target.{Target}
 use Rattle.fb_netcheck.specs.declared.ends.Target.TheVariants.{Found}
-use Rattle.fb_netcheck.specs.Settings.{Place}
+use Rattle.fb_netcheck.specs.Settings.{NetworkPlace}
 use Rattle.fb_netcheck.specs.Sides.{fault_of}
 use Rattle.fb_netcheck.specs.Ends.{is_right, target}
 use Rattle.fb_netcheck.specs.Spellings.{same_type}
 
 -- the unit in whose text the port `name` or `name.port` is declared: the own unit, or the type of the instance
-abbrev pub home_of : Place → NameUse → Option NameUse → List ℕ
+abbrev pub home_of : NetworkPlace → NameUse → Option NameUse → List ℕ
 home_of here name None = here.unit
 home_of here name (Some port) = option_map_or (λ i. i.type_name.name) (stands_for here.scope.own.instances name.name) here.unit
 
-abbrev pub home : Place → End → List ℕ
+abbrev pub home : NetworkPlace → End → List ℕ
 home here end = home_of here end.name end.port
 
 -- whether what flows is of one type, where two types are compared by the test; a type that is not judged goes with each
@@ -44,9 +44,9 @@ flow_faults same c source destination =
     if is_right Source source && is_right Destination destination && not (targets_agree same source destination) then fault_of DataType c.destination ∷ [] else []
 
 -- whether two types are spelled alike, one at the source of a connection and the other at its destination
-abbrev pub same_at_ends : Sources → Place → Connection → TypeUse → TypeUse → Bool
+abbrev pub same_at_ends : Sources → NetworkPlace → Connection → TypeUse → TypeUse → Bool
 same_at_ends sources here c a b = same_type sources (home here c.source) a (home here c.destination) b
 
 -- the ports that a connection joins are of one type
-abbrev pub joined_types : Sources → Place → Connection → List Fault
+abbrev pub joined_types : Sources → NetworkPlace → Connection → List Fault
 joined_types sources here c = flow_faults (same_at_ends sources here c) c (target here c.sort c.source) (target here c.sort c.destination)

@@ -31,7 +31,7 @@ use Rattle.fb_netcheck.specs.declared.ends.Position.TheVariants.{Source, Destina
 use Rattle.fb_netcheck.specs.declared.ends.Target.{Target}
 use Rattle.fb_netcheck.specs.declared.ends.Target.TheVariants.{Unknown, NotJudged, Found}
 use Rattle.fb_netcheck.specs.Ends.{adapter_port, data_port, event_port, holder_of, is_right, port_in, port_in_role, port_in_section, right_side, target, target_held, target_in, target_named, target_of, target_of_instance}
-use Rattle.fb_netcheck.specs.Settings.{Place}
+use Rattle.fb_netcheck.specs.Settings.{NetworkPlace}
 use Rattle.fb_netcheck.specs.Sides.{is_own, is_own_port}
 use Rattle.fb_netcheck.specs.Types.{home_of}
 use Rattle.fb_network_rows.specs.Ends.{IsNotJudged, IsPort, IsReached, IsRightSide, Names, NamesRight, Site, event, data_input, data_output, socket, plug, of_block_instance, of_subapplication_instance, of_plug, of_socket, own_port, port_of, unusable, own_source, own_destination, instance_source, instance_destination, plug_source, plug_destination, socket_source, socket_destination}
@@ -139,7 +139,7 @@ pub data IsTarget (sources : Sources) (here : Site) (sort : Sort) (name : NameUs
   is_unknown : IsTarget sources here sort name port Unknown
 
 module _ (sources : Sources) (here : Site) (n : NetworkTree) (own : here.own.instances ≡ first_ones (instances_in n)) (sort : Sort) where
-  abbrev at : Place
+  abbrev at : NetworkPlace
   at = place_at sources here n
 
   abbrev usable_as : DeclaredInstance → Option Meanings

@@ -20,7 +20,7 @@ use Rattle.fb_netcheck.specs.declared.ends.Target.TheVariants.{Unknown, NotJudge
 use Rattle.fb_netcheck.specs.Connections.{connection_faults}
 use Rattle.fb_netcheck.specs.Ends.{right_side, target}
 use Rattle.fb_netcheck.specs.Networks.{tree_faults}
-use Rattle.fb_netcheck.specs.Settings.{Place}
+use Rattle.fb_netcheck.specs.Settings.{NetworkPlace}
 use Rattle.fb_netcheck.specs.Sides.{end_faults, fault_of, pass_through_faults}
 use Rattle.fb_network_rows.specs.Ends.{IsEndOf, IsNetworkOf, IsRightSide, Site, source, destination}
 use Rattle.fb_network_rows.specs.Rows.{HasUnknownPort, HasWrongSide, PortsAreKnown, PortsAreOfRightSides}
@@ -41,7 +41,7 @@ end_fault position end (Found holder port) f c =
     wrong holder port refl fails.0 fails.1
 
 -- an end of a network with a fault
-record EndOrigin (here : Place) (n : NetworkTree) (f : Fault) : Type 0 where
+record EndOrigin (here : NetworkPlace) (n : NetworkTree) (f : Fault) : Type 0 where
   connection : Connection
   listed : Contains n.connections connection
   position : Position
@@ -49,7 +49,7 @@ record EndOrigin (here : Place) (n : NetworkTree) (f : Fault) : Type 0 where
   is_end : IsEndOf connection position end
   has : Contains (end_faults position end (target here connection.sort end)) f
 
-end_origin : (here : Place) (n : NetworkTree) (f : Fault) → (f.code ≡ PassThrough → ⊥) → Contains (flat_map (connection_faults here) n.connections) f → EndOrigin here n f
+end_origin : (here : NetworkPlace) (n : NetworkTree) (f : Fault) → (f.code ≡ PassThrough → ⊥) → Contains (flat_map (connection_faults here) n.connections) f → EndOrigin here n f
 end_origin here n f other c = let o = origin_in_flat_map (connection_faults here) n.connections f c in by o.origin o.among (connection_part here o.origin f o.has)
   where
     by : (c : Connection) → Contains n.connections c → ConnectionPart here c f → EndOrigin here n f
@@ -57,7 +57,7 @@ end_origin here n f other c = let o = origin_in_flat_map (connection_faults here
     by c among (at_destination h) = record { connection = c; listed = among; position = Destination; end = c.destination; is_end = destination; has = h }
     by c among (at_both e h) = absurd (other e)
 
-end_reported : (here : Place) (n : NetworkTree) (f : Fault) (c : Connection) (position : Position) (end : End) → Contains n.connections c → IsEndOf c position end → Contains (end_faults position end (target here c.sort end)) f → Contains (flat_map (connection_faults here) n.connections) f
+end_reported : (here : NetworkPlace) (n : NetworkTree) (f : Fault) (c : Connection) (position : Position) (end : End) → Contains n.connections c → IsEndOf c position end → Contains (end_faults position end (target here c.sort end)) f → Contains (flat_map (connection_faults here) n.connections) f
 end_reported here n f c position end among is has = contains_flat_map (connection_faults here) n.connections c f among (by position end is has)
   where
     first : List Fault

@@ -32,7 +32,7 @@ use Rattle.fb_netcheck.specs.Networks.{application_network, network_faults, tree
 use Rattle.fb_netcheck.specs.Parameters.{all_parameters, instance_parameters, judged_parameters, parameter_faults, typed_parameters, value_faults}
 use Rattle.fb_netcheck.specs.Paths.{PathUse, fault_at_path, repeated, repeated_faults}
 use Rattle.fb_netcheck.specs.Repeats.{all_adapter_ends, data_destinations, end_path, second_adapters, second_sources}
-use Rattle.fb_netcheck.specs.Settings.{Place}
+use Rattle.fb_netcheck.specs.Settings.{NetworkPlace}
 use Rattle.fb_netcheck.specs.Sides.{connection_span, end_faults, fault_of, is_own_port, pass_through_faults}
 use Rattle.fb_netcheck.specs.Types.{joined_types}
 use Rattle.fb_netcheck.proofs.Iface.RowLemmas.{misfit_origin}
@@ -47,7 +47,7 @@ in_where false x y c = absurd (contains_nothing y c)
 -- the network that has a fault
 
 -- the place of a network as the check has it
-abbrev pub place_at : Sources → Site → NetworkTree → Place
+abbrev pub place_at : Sources → Site → NetworkTree → NetworkPlace
 place_at sources here n = record { unit = here.unit; kind = here.kind; scope = record { own = here.own; type_ports = type_ports_of sources n } }
 
 pub record NetworkOrigin (sources : Sources) (unit : List ℕ) (f : Fault) : Type 0 where
@@ -105,12 +105,12 @@ pass_code kinds.Subapplication c source destination f h = sym (code_of _ f (in_w
 pass_code kinds.System c source destination f h = absurd (contains_nothing f h)
 
 -- the faults of a connection, by what has them
-pub data ConnectionPart (here : Place) (c : Connection) (f : Fault) : Type 0 where
+pub data ConnectionPart (here : NetworkPlace) (c : Connection) (f : Fault) : Type 0 where
   at_source : Contains (end_faults Source c.source (target here c.sort c.source)) f → ConnectionPart here c f
   at_destination : Contains (end_faults Destination c.destination (target here c.sort c.destination)) f → ConnectionPart here c f
   at_both : f.code ≡ PassThrough → Contains (pass_through_faults here.kind c (target here c.sort c.source) (target here c.sort c.destination)) f → ConnectionPart here c f
 
-pub connection_part : (here : Place) (c : Connection) (f : Fault) → Contains (connection_faults here c) f → ConnectionPart here c f
+pub connection_part : (here : NetworkPlace) (c : Connection) (f : Fault) → Contains (connection_faults here c) f → ConnectionPart here c f
 connection_part here c f h = both (Contains-append_cases (first ++ second) third f h)
   where
     first : List Fault
@@ -130,14 +130,14 @@ connection_part here c f h = both (Contains-append_cases (first ++ second) third
     both (inl h) = ends (Contains-append_cases first second f h)
     both (inr h) = at_both (pass_code here.kind c (target here c.sort c.source) (target here c.sort c.destination) f h) h
 
-connection_code : (here : Place) (c : Connection) (f : Fault) → ConnectionPart here c f → IsOfEnds f.code
+connection_code : (here : NetworkPlace) (c : Connection) (f : Fault) → ConnectionPart here c f → IsOfEnds f.code
 connection_code here c f (at_source h) = of_an_end (end_code Source c.source (target here c.sort c.source) f h)
 connection_code here c f (at_destination h) = of_an_end (end_code Destination c.destination (target here c.sort c.destination) f h)
 connection_code here c f (at_both e h) = subst IsOfEnds (sym e) of_both
 
 -- what has the codes of types, repeats and parameters
 
-type_code : (sources : Sources) (here : Place) (c : Connection) (f : Fault) → Contains (joined_types sources here c) f → f.code ≡ DataType
+type_code : (sources : Sources) (here : NetworkPlace) (c : Connection) (f : Fault) → Contains (joined_types sources here c) f → f.code ≡ DataType
 type_code sources here c f h = sym (code_of _ f (in_where _ (fault_of DataType c.destination) f h).1)
 
 repeat_code : (code : Code) (paths : List PathUse) (f : Fault) → Contains (repeated_faults code paths) f → f.code ≡ code
@@ -154,7 +154,7 @@ pub data IsOfParameters : Code → Type 0 where
   misfit : IsOfParameters Literal
 
 -- a parameter with a fault
-pub record ParameterOrigin (here : Place) (n : NetworkTree) (f : Fault) : Type 0 where
+pub record ParameterOrigin (here : NetworkPlace) (n : NetworkTree) (f : Fault) : Type 0 where
   pub instance : InstanceTree
   pub listed : Contains n.instances instance
   pub is_block : instance.role ≡ roles.Block
@@ -164,7 +164,7 @@ pub record ParameterOrigin (here : Place) (n : NetworkTree) (f : Fault) : Type 0
   pub written : Contains instance.parameters parameter
   pub has : Contains (parameter_faults (stands_for ports.variables parameter.name.name) parameter) f
 
-pub parameter_origin : (here : Place) (n : NetworkTree) (f : Fault) → Contains (all_parameters here.scope n.instances) f → ParameterOrigin here n f
+pub parameter_origin : (here : NetworkPlace) (n : NetworkTree) (f : Fault) → Contains (all_parameters here.scope n.instances) f → ParameterOrigin here n f
 parameter_origin here n f c = let i = origin_in_flat_map (instance_parameters here.scope) n.instances f c in by_role i.origin i.among i.origin.role refl i.has
   where
     by_ports : (i : InstanceTree) → Contains n.instances i → i.role ≡ roles.Block → (m : Option Meanings) → here.scope.type_ports roles.Block i.type_name.name ≡ m → Contains (typed_parameters m i.parameters) f → ParameterOrigin here n f
@@ -179,7 +179,7 @@ parameter_origin here n f c = let i = origin_in_flat_map (instance_parameters he
     by_role i among roles.Plug is h = absurd (contains_nothing f h)
     by_role i among roles.Socket is h = absurd (contains_nothing f h)
 
-pub parameter_reported : (here : Place) (n : NetworkTree) (f : Fault) → ParameterOrigin here n f → Contains (all_parameters here.scope n.instances) f
+pub parameter_reported : (here : NetworkPlace) (n : NetworkTree) (f : Fault) → ParameterOrigin here n f → Contains (all_parameters here.scope n.instances) f
 parameter_reported here n f o =
     let one = contains_flat_map (λ (p : ParameterTree). parameter_faults (stands_for o.ports.variables p.name.name) p) o.instance.parameters o.parameter f o.written o.has in
     let typed = subst (λ (m : Option Meanings). Contains (typed_parameters m o.instance.parameters) f) (sym o.usable) one in
@@ -196,7 +196,7 @@ parameter_code (Some v) p f c = value_code v.section v.type_use p f c
 
 -- the faults of a network, by their codes
 
-module _ (sources : Sources) (here : Place) (n : NetworkTree) where
+module _ (sources : Sources) (here : NetworkPlace) (n : NetworkTree) where
   abbrev pub of_ends : List Fault
   of_ends = flat_map (connection_faults here) n.connections
 

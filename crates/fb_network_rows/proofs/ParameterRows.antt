@@ -20,7 +20,7 @@ use Rattle.fb_netcheck.specs.Iface.declared.ports.DeclaredVariable.{DeclaredVari
 use Rattle.fb_netcheck.proofs.Iface.Members.{contains_here, contains_single}
 use Rattle.fb_netcheck.specs.Networks.{tree_faults}
 use Rattle.fb_netcheck.specs.Parameters.{parameter_faults, value_faults}
-use Rattle.fb_netcheck.specs.Settings.{Place}
+use Rattle.fb_netcheck.specs.Settings.{NetworkPlace}
 use Rattle.fb_network_rows.specs.Ends.{IsNetworkOf, IsUsable, Site}
 use Rattle.fb_network_rows.specs.Rows.{HasMisfit, HasUnknownParameter, ParametersAreKnown, ParametersFit}
 use Rattle.fb_netcheck.proofs.Iface.RowLemmas.{misfit_origin, misfit_reported}
@@ -71,7 +71,7 @@ input_unfit o p v span e is m =
     (subst (λ (s : Section). Contains (value_faults s v.type_use p) (literal_fault span)) (sym is) (misfit_reported v.type_use p.value span m))
 
 -- a parameter of a network with a fault, by what its name stands for
-abbrev variable_of : (here : Place) (n : NetworkTree) (f : Fault) → ParameterOrigin here n f → Option DeclaredVariable
+abbrev variable_of : (here : NetworkPlace) (n : NetworkTree) (f : Fault) → ParameterOrigin here n f → Option DeclaredVariable
 variable_of here n f o = stands_for o.ports.variables o.parameter.name.name
 
 usable_type : (sources : Sources) (here : Site) (n : NetworkTree) (f : Fault) → (o : ParameterOrigin (place_at sources here n) n f) → IsUsable sources o.instance.type_name.name roles.Block o.ports

@@ -28,7 +28,7 @@ use Rattle.fb_faults.proofs.Iface.Members.{contains_cases, contains_here, contai
 use Rattle.fb_faults.proofs.Iface.NameLemmas.{same_exact}
 use Rattle.fb_faults.specs.Netcheck.Clean.{AreRight, IsCleanConnection, IsCleanNetwork}
 use Rattle.fb_faults.specs.Netcheck.Ends.{adapter_port, holder_of, is_right, port_in, port_in_role, right_side, target, target_held, target_in, target_named, target_of, target_of_instance}
-use Rattle.fb_faults.specs.Netcheck.Settings.{Place}
+use Rattle.fb_faults.specs.Netcheck.Settings.{NetworkPlace}
 use Rattle.fb_faults.specs.Netcheck.Sides.{is_own_port}
 use Rattle.fb_faults.specs.Netcheck.Types.{flows_agree, same_at_ends, targets_agree}
 use Rattle.fb_faults.specs.Netcheck.declared.ends.Flow.{Flow}
@@ -227,7 +227,7 @@ is_port position holder (Some port) e = record { port = port; there = refl; is =
 abbrev pub TypesAreFine : Sources → NetworkTree → Type 0
 TypesAreFine sources n = (i : InstanceTree) → Contains n.instances i → instance_faults sources i ≡ []
 
-module _ (sources : Sources) (here : Place) (n : NetworkTree) (ports : List Port) where
+module _ (sources : Sources) (here : NetworkPlace) (n : NetworkTree) (ports : List Port) where
   abbrev network : PlainNetwork
   network = plain_network ports n
 

@@ -21,7 +21,7 @@ use Rattle.fb_faults.proofs.Iface.Members.{contains_cases, contains_flat_map, co
 use Rattle.fb_faults.specs.Netcheck.Networks.{application_place, networks_in, type_place}
 use Rattle.fb_faults.specs.Netcheck.Clean.{AreRight, IsCleanConnection, IsCleanNetwork}
 use Rattle.fb_faults.specs.Netcheck.Ends.{adapter_port, holder_of, port_in, port_in_role, target, target_named, target_of}
-use Rattle.fb_faults.specs.Netcheck.Settings.{Place}
+use Rattle.fb_faults.specs.Netcheck.Settings.{NetworkPlace}
 use Rattle.fb_faults.specs.Netcheck.Sides.{is_own_port}
 use Rattle.fb_faults.specs.Netcheck.declared.ends.Holder.TheVariants as holders
 use Rattle.fb_faults.specs.Netcheck.declared.ends.Position.TheVariants.{Source, Destination}
@@ -59,10 +59,10 @@ leaf_sound sources ports = record {
   kinds = λ i c. absurd (contains_nothing i c);
 }
 
-abbrev Right : Place × NetworkTree → Type 0
+abbrev Right : NetworkPlace × NetworkTree → Type 0
 Right placed = All (AreRight placed.0) placed.1.connections
 
-abbrev Fine : Sources → Place × NetworkTree → Type 0
+abbrev Fine : Sources → NetworkPlace × NetworkTree → Type 0
 Fine sources placed = IsCleanNetwork sources placed.0 placed.1
 
 -- the type of each instance has no fault
@@ -142,7 +142,7 @@ no_adapter n inner name = by (stands_for (first_ones (instances_in n)) name) (λ
     by (Some i) inner = in_role i.role i.type_name (inner i refl)
 
 module _ (sources : Sources) (unit : List ℕ) (a : ApplicationTree) (inner : Each IsInnerInstance a.network.instances) where
-  abbrev here : Place
+  abbrev here : NetworkPlace
   here = (application_place sources unit a).0
 
   no_own_port : (sort : Sort) (name : List ℕ) → port_in sort here.scope.own name ≡ None
