@@ -15,7 +15,7 @@ use Rattle.fb_jobs.specs.Hints.{AreKept}
 use Rattle.fb_jobs.specs.Keys.{Finding, has_key, scratch}
 use Rattle.fb_jobs.specs.KeyOrder.{key_cmp, same_key}
 use Rattle.fb_bench.specs.declared.entry.Entry.{Entry}
-use Rattle.fb_jobs.specs.Reads.{Order, stale}
+use Rattle.fb_jobs.specs.Reads.{PlainJob, stale}
 use Rattle.fb_bench.specs.Machine.{State, is_ready, after_take, after_deliver, removed, unless_stale, deliver_answer}
 use Rattle.fb_bench.specs.declared.answers.Delivered.{Delivered}
 use Rattle.fb_bench.specs.declared.answers.Delivered.TheVariants.{Accepted, NoSuchKey, NotPending, Stale}
@@ -108,7 +108,7 @@ accepted_parts true false o e = cc
 accepted_parts false p o e = cc
 
 -- what is accepted was read as it is
-pub accepted_fresh : (s : State) (it : Order) → Accepted ≡ deliver_answer s it → stale s.units it.reads ≡ None
+pub accepted_fresh : (s : State) (it : PlainJob) → Accepted ≡ deliver_answer s it → stale s.units it.reads ≡ None
 accepted_fresh s it e = accepted_parts (has_key s.units it.key) (s.pending it.key) (stale s.units it.reads) e
 
 -- a result that is refused leaves the state

@@ -9,8 +9,8 @@ use Rattle.fb_jobs.specs.Library.Texts.{Texts}
 use Rattle.fb_jobs.specs.declared.key.Key.{Key}
 use Rattle.fb_bench.specs.declared.entry.Entry.{Entry}
 use Rattle.fb_jobs.specs.Library.Texts.{Edit}
-use Rattle.fb_jobs.specs.Reads.{Order, Seen}
-use Rattle.fb_bench.specs.Machine.{keys_of, State, Call, Reply, after, reply, ToAsk, OfAsk, shown, ToTake, OfTake, taken, next, after_take, order_for, ToDeliver, OfDeliver, deliver_answer, after_deliver, ToGiveBack, OfGiveBack, give_back_answer, after_give_back, removed, ToCommit, OfCommit, commit_answer, after_commit}
+use Rattle.fb_jobs.specs.Reads.{PlainJob, Seen}
+use Rattle.fb_bench.specs.Machine.{keys_of, State, Call, Reply, after, reply, ToAsk, OfAsk, shown, ToTake, OfTake, taken, next, after_take, plain_job_for, ToDeliver, OfDeliver, deliver_answer, after_deliver, ToGiveBack, OfGiveBack, give_back_answer, after_give_back, removed, ToCommit, OfCommit, commit_answer, after_commit}
 use Rattle.fb_bench.specs.Story.{Record, Log, Story, IsOrigin, opened, replay, replies, calls_of, state_of, recorded, logged, record_after, record_of, IsReplay}
 use Rattle.fb_bench.specs.Kept.{Agrees, IsKept}
 use Rattle.fb_index.specs.Near.{Users}
@@ -89,21 +89,21 @@ take_none s none = ap (λ o. OfTake (taken o s)) none ∙ sym (reply_take s)
 pub stays_none : (s : State) → None ≡ next s → after s ToTake ≡ s
 stays_none s none = after_take_is s ∙ ap (λ o. after_take o s) (sym none)
 
-pub take_some : (s : State) (units : Texts) (k : Key) (job : Order) (key : Key) (reads : List Seen) → units ≡ s.units → job ≡ order_for units k → key ≡ job.key → reads ≡ job.reads → Some k ≡ next s → OfTake (Some (record { key = key; reads = reads })) ≡ reply s ToTake
+pub take_some : (s : State) (units : Texts) (k : Key) (job : PlainJob) (key : Key) (reads : List Seen) → units ≡ s.units → job ≡ plain_job_for units k → key ≡ job.key → reads ≡ job.reads → Some k ≡ next s → OfTake (Some (record { key = key; reads = reads })) ≡ reply s ToTake
 take_some s units k job key reads same is at read some =
-    (λ i. OfTake (Some (record { key = (at ∙ ap (λ (o : Order). o.key) is) i; reads = (read ∙ ap (λ (o : Order). o.reads) is) i })))
-    ∙ ap (λ us. OfTake (Some (order_for us k))) same
+    (λ i. OfTake (Some (record { key = (at ∙ ap (λ (o : PlainJob). o.key) is) i; reads = (read ∙ ap (λ (o : PlainJob). o.reads) is) i })))
+    ∙ ap (λ us. OfTake (Some (plain_job_for us k))) same
     ∙ ap (λ o. OfTake (taken o s)) some
     ∙ sym (reply_take s)
 
 pub stays_some : (s : State) (k : Key) → Some k ≡ next s → after s ToTake ≡ after_take (Some k) s
 stays_some s k some = after_take_is s ∙ ap (λ o. after_take o s) (sym some)
 
-pub reply_deliver : (s : State) (order : Order) → reply s (ToDeliver order) ≡ OfDeliver (deliver_answer s order)
+pub reply_deliver : (s : State) (order : PlainJob) → reply s (ToDeliver order) ≡ OfDeliver (deliver_answer s order)
 unfolding reply
 reply_deliver s order = refl
 
-pub after_deliver_is : (s : State) (order : Order) → after s (ToDeliver order) ≡ after_deliver (deliver_answer s order) order.key s
+pub after_deliver_is : (s : State) (order : PlainJob) → after s (ToDeliver order) ≡ after_deliver (deliver_answer s order) order.key s
 unfolding after
 after_deliver_is s order = refl
 
@@ -136,10 +136,10 @@ out_returned s key out = give_back_is s key Returned (sym (ap (λ b. cond b Retu
 pub nothing_out : (s : State) (key : Key) → s.out key ≡ false → OfGiveBack NothingOut ≡ reply s (ToGiveBack key)
 nothing_out s key free = give_back_is s key NothingOut (sym (ap (λ b. cond b Returned NothingOut) free))
 
-pub delivers_is : (s : State) (order now : Order) (answer : Delivered) → order ≡ now → answer ≡ deliver_answer s now → OfDeliver answer ≡ reply s (ToDeliver order)
+pub delivers_is : (s : State) (order now : PlainJob) (answer : Delivered) → order ≡ now → answer ≡ deliver_answer s now → OfDeliver answer ≡ reply s (ToDeliver order)
 delivers_is s order now answer same is = ap OfDeliver (is ∙ ap (λ o. deliver_answer s o) (sym same)) ∙ sym (reply_deliver s order)
 
-pub delivered_is : (s : State) (order now : Order) (key : Key) (answer : Delivered) → order ≡ now → key ≡ now.key → answer ≡ deliver_answer s now → after s (ToDeliver order) ≡ after_deliver answer key s
+pub delivered_is : (s : State) (order now : PlainJob) (key : Key) (answer : Delivered) → order ≡ now → key ≡ now.key → answer ≡ deliver_answer s now → after s (ToDeliver order) ≡ after_deliver answer key s
 delivered_is s order now key answer same at is =
     after_deliver_is s order
     ∙ ap (λ o. after_deliver (deliver_answer s o) o.key s) same

@@ -8,7 +8,7 @@ use Rattle.fb_jobs.specs.declared.key.Key.{Key}
 use Rattle.fb_jobs.specs.Keys.{has_key, needs, scratch, Finding}
 use Rattle.fb_jobs.specs.Kinds.{all_keys}
 use Rattle.fb_jobs.specs.KeyOrder.{key_cmp, same_key}
-use Rattle.fb_jobs.specs.Reads.{Order, reads_for, stale, is_among}
+use Rattle.fb_jobs.specs.Reads.{PlainJob, reads_for, stale, is_among}
 use Rattle.fb_bench.specs.declared.answers.Committed.{Committed}
 use Rattle.fb_bench.specs.declared.answers.Committed.TheVariants.{Done, NoChange, TooManyChanges, SameUnitTwice, StaleBase, NoSuchUnit, TooManyUnits}
 use Rattle.fb_bench.specs.declared.answers.Delivered.{Delivered}
@@ -28,7 +28,7 @@ pub record State : Type 0 where
 pub data Call : Type 0 where
   ToCommit : (edits : List Edit) → Call
   ToTake : Call
-  ToDeliver : (order : Order) → Call
+  ToDeliver : (order : PlainJob) → Call
   ToGiveBack : (key : Key) → Call
   ToAsk : (key : Key) → Call
 
@@ -41,7 +41,7 @@ pub data Shown : Type 0 where
 -- what it replies
 pub data Reply : Type 0 where
   OfCommit : (answer : Committed) → Reply
-  OfTake : (order : Option Order) → Reply
+  OfTake : (order : Option PlainJob) → Reply
   OfDeliver : (answer : Delivered) → Reply
   OfGiveBack : (answer : GivenBack) → Reply
   OfAsk : (shown : Shown) → Reply
@@ -147,22 +147,22 @@ added out key other = same_key key other || out other
 abbrev pub removed : (Key → Bool) → Key → Key → Bool
 removed marks key other = not (same_key key other) && marks other
 
-abbrev pub order_for : Texts → Key → Order
-order_for texts key = record { key = key; reads = reads_for texts key }
+abbrev pub plain_job_for : Texts → Key → PlainJob
+plain_job_for texts key = record { key = key; reads = reads_for texts key }
 
 abbrev pub after_take : Option Key → State → State
 after_take None state = state
 after_take (Some key) state = record state { out = added state.out key }
 
-abbrev pub taken : Option Key → State → Option Order
+abbrev pub taken : Option Key → State → Option PlainJob
 taken None state = None
-taken (Some key) state = Some (order_for state.units key)
+taken (Some key) state = Some (plain_job_for state.units key)
 
 abbrev pub unless_stale : Option (List ℕ) → Delivered
 unless_stale None = Accepted
 unless_stale (Some name) = Stale name
 
-abbrev pub deliver_answer : State → Order → Delivered
+abbrev pub deliver_answer : State → PlainJob → Delivered
 deliver_answer state order =
     if not (has_key state.units order.key) then NoSuchKey
     else (if not (state.pending order.key) then NotPending

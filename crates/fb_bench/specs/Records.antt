@@ -3,7 +3,7 @@ use Rattle.std.specs.Prelude.{List, map, take, Option, Some, None, string_bytes}
 use Rattle.fb_jobs.specs.Library.Texts.{Edit, Puts, Removes}
 use Rattle.fb_jobs.specs.Library.declared.change.Change.{Change}
 use Rattle.fb_jobs.specs.Library.Changes.{edits_of}
-use Rattle.fb_jobs.specs.Reads.{Order}
+use Rattle.fb_jobs.specs.Reads.{PlainJob}
 use Rattle.fb_jobs.specs.Values.{texts_seen, finding_of}
 use Rattle.fb_bench.specs.Machine as machine
 use Rattle.fb_bench.specs.Machine.{ToCommit, ToTake, ToDeliver, ToGiveBack, ToAsk, Shown, Finds, Waits, Unknown, OfCommit, OfTake, OfDeliver, OfGiveBack, OfAsk}
@@ -25,12 +25,12 @@ use Rattle.std.specs.declared.boxed.Box.{Box}
 use Rattle.std.specs.declared.sync.Arc.{Arc}
 use Rattle.std.specs.declared.alloc.Global.{Global}
 
-abbrev pub order_of : Wanted → Order
-order_of it = record { key = it.key; reads = texts_seen it.reads.value.items }
+abbrev pub wanted_job : Wanted → PlainJob
+wanted_job it = record { key = it.key; reads = texts_seen it.reads.value.items }
 
-abbrev pub order_in : Option (Box Wanted Global) → Option Order
-order_in None = None
-order_in (Some it) = Some (order_of it.value)
+abbrev pub wanted_job_in : Option (Box Wanted Global) → Option PlainJob
+wanted_job_in None = None
+wanted_job_in (Some it) = Some (wanted_job it.value)
 
 abbrev pub text_edit : TextChange → Edit
 text_edit (Put unit base text) = Puts unit base (string_bytes text.value)
@@ -42,7 +42,7 @@ text_edits changes = map text_edit changes
 abbrev pub call_of : Call → machine.Call
 call_of (Commit changes) = ToCommit (text_edits changes.items)
 call_of Take = ToTake
-call_of (Deliver it) = ToDeliver (order_of it.value)
+call_of (Deliver it) = ToDeliver (wanted_job it.value)
 call_of (GiveBack key) = ToGiveBack key
 call_of (Ask key) = ToAsk key
 
@@ -58,7 +58,7 @@ delivered_in (Some it) = it.value
 
 abbrev pub reply_of : Reply → machine.Reply
 reply_of (Committing answer) = OfCommit answer.value
-reply_of (Taking order) = OfTake (order_in order)
+reply_of (Taking order) = OfTake (wanted_job_in order)
 reply_of (Delivering answer) = OfDeliver (delivered_in answer)
 reply_of (GivingBack answer) = OfGiveBack answer
 reply_of (Asking answer) = OfAsk (shown_in answer)
@@ -67,7 +67,7 @@ abbrev pub records_in : List (Arc Record Global) → List Record
 records_in records = map (λ (it : Arc Record Global). it.value) records
 
 -- the job that is handed out
-abbrev pub job_in : Taken → Option Order
+abbrev pub job_in : Taken → Option PlainJob
 job_in (Job job) = Some job
 job_in Nothing = None
 

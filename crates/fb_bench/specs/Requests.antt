@@ -1,6 +1,6 @@
 -- A request as a call.
 use Rattle.std.specs.Prelude.{Option, None}
-use Rattle.fb_jobs.specs.Reads.{Order}
+use Rattle.fb_jobs.specs.Reads.{PlainJob}
 use Rattle.fb_bench.specs.Machine.{Call, ToCommit, ToTake, ToDeliver, ToGiveBack, ToAsk, Reply, OfCommit, OfTake, OfDeliver, OfGiveBack, OfAsk}
 use Rattle.fb_bench.specs.Records.{listed, job_in, shown_in}
 use Rattle.fb_bench.specs.declared.answers.Answered.{Answered}
@@ -24,7 +24,7 @@ reply_in (answer.GiveBack given) = OfGiveBack given
 reply_in (answer.Ask given) = OfAsk (shown_in given)
 
 -- the job that an answer hands out
-abbrev pub job_of : Reply → Option Order
+abbrev pub job_of : Reply → Option PlainJob
 job_of (OfTake order) = order
 job_of (OfCommit answer) = None
 job_of (OfDeliver answer) = None

@@ -1,7 +1,7 @@
 //! Whether two records say the same, by content.
 ghost use Rattle.std.specs.Prelude.{◌≡◌, ◌↔◌, IsTrue, string_bytes};
 ghost use Rattle.fb_jobs.specs.Values.{text_found, text_seen, texts_seen, finding_of};
-ghost use Rattle.fb_bench.specs.Records.{order_of, order_in, text_edit, text_edits, call_of, shown_in, delivered_in, reply_of};
+ghost use Rattle.fb_bench.specs.Records.{wanted_job, wanted_job_in, text_edit, text_edits, call_of, shown_in, delivered_in, reply_of};
 
 use crate::answers::{Asked, Committed, Delivered, GivenBack};
 use crate::record::{Call, Reply, TextChange, Wanted};
@@ -140,7 +140,7 @@ fn are_same_reads(a: &[TextRead], b: &[TextRead]) -> bool
 }
 
 fn is_same_wanted(a: &Wanted, b: &Wanted) -> bool
-    ensures { IsTrue result ↔ (order_of a.now ≡ order_of b.now) }
+    ensures { IsTrue result ↔ (wanted_job a.now ≡ wanted_job b.now) }
 {
     is_one_key(&a.key, &b.key) && are_same_reads(&a.reads, &b.reads)
 }

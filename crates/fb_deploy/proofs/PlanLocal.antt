@@ -12,7 +12,7 @@ use Rattle.fb_mapping.specs.Network.PlainFlat.{PlainFlat}
 use Rattle.fb_mapping.specs.Flatten.Net.{PlainNet, blocked, recursive, too_large, flat_net}
 use Rattle.fb_mapping.proofs.Flatten.NetLocal.{net_local}
 use Rattle.fb_mapping.proofs.Flatten.OneNet.{one_net_only}
-use Rattle.fb_mapping.specs.Netcheck.Spellings.{text_at}
+use Rattle.fb_mapping.specs.Netcheck.Spellings.{text_or_empty}
 use Rattle.fb_mapping.specs.Cuts.{cuts_of, home_at}
 use Rattle.fb_mapping.specs.Homes.{PlainHomes, faulty_homes, all_homes, homes_of}
 use Rattle.fb_mapping.specs.Standing.{PlainStanding, path_names, standing_at}
@@ -37,7 +37,7 @@ flat_map_same f g [] same = refl
 flat_map_same f g (x ∷ xs) same = λ k. same x k ++ flat_map_same f g xs same k
 
 module _ (a b : Sources) (system : List ℕ) (agree : AgreeFar system a b) where
-  text_same : (v : List ℕ) → Rests a system v → text_at a v ≡ text_at b v
+  text_same : (v : List ℕ) → Rests a system v → text_or_empty a v ≡ text_or_empty b v
   text_same v r = ap (λ (t : Option (List ℕ)). unwrap_or t []) (agree v r)
 
   lines_same : (home : Home) (o : Option PlainStanding) → ((s : PlainStanding) → o ≡ Some s → Rests a system s.unit) → lines_at a home o ≡ lines_at b home o

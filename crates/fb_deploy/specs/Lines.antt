@@ -10,7 +10,7 @@ use Rattle.fb_mapping.specs.Tree.Tree.{ApplicationTree, ParameterTree}
 use Rattle.fb_mapping.specs.Library.View.{Sources}
 use Rattle.fb_mapping.specs.Network.Places.{dotted}
 use Rattle.fb_mapping.specs.Network.declared.flat.FlatBlock.{FlatBlock}
-use Rattle.fb_mapping.specs.Netcheck.Spellings.{text_at}
+use Rattle.fb_mapping.specs.Netcheck.Spellings.{text_or_empty}
 use Rattle.fb_mapping.specs.Standing.{PlainStanding, path_names, standing_at}
 use Rattle.fb_mapping.specs.declared.homes.Home.{Home}
 use Rattle.fb_deploy.specs.declared.lines.Line.{Line}
@@ -54,7 +54,7 @@ write_line text home p = record {
 
 abbrev pub lines_at : Sources → Home → Option PlainStanding → List Line
 lines_at sources home None = []
-lines_at sources home (Some s) = map (write_line (text_at sources s.unit) home) s.instance.parameters
+lines_at sources home (Some s) = map (write_line (text_or_empty sources s.unit) home) s.instance.parameters
 
 -- the commands that set the parameters of a block
 abbrev pub home_lines : Sources → List ℕ → List ApplicationTree → Home → List Line

@@ -5,8 +5,7 @@ use Rattle.fb_text.specs.Tokens.{tokens_of}
 use Rattle.fb_text.specs.declared.token.Span.{Span}
 use Rattle.fb_text.specs.declared.token.Token.{Token}
 use Rattle.fb_mapping.specs.Tree.Tree.{ConstantTree, one_value, value_list}
-use Rattle.fb_mapping.specs.Tree.declared.constant.Simple.{Simple}
-use Rattle.fb_mapping.specs.Tree.declared.constant.Simple.TheVariants.{Literal, Name}
+use Rattle.fb_mapping.specs.Flatten.Iface.Literals.{simple_span}
 use Rattle.fb_mapping.specs.Netcheck.Spellings.{part}
 
 abbrev pub token_text : List ℕ → Token → List ℕ
@@ -19,10 +18,6 @@ joined_tokens text (Err bad) = []
 -- the tokens of a text as they are written, without blanks and comments between
 abbrev pub without_gaps : List ℕ → List ℕ
 without_gaps text = joined_tokens text (tokens_of text)
-
-abbrev pub simple_span : Simple → Span
-simple_span (Literal l) = l.span
-simple_span (Name n) = n.span
 
 -- where a constant stands in its text
 abbrev pub constant_span : ConstantTree → Span

@@ -4,7 +4,8 @@ ghost use Rattle.std.specs.List.{flat_map};
 ghost use Rattle.fb_text.specs.Tokens.{LiesIn};
 ghost use Rattle.fb_mapping.specs.Tree.Tree.{constant_tree};
 ghost use Rattle.fb_mapping.specs.Netcheck.Spellings.{part};
-ghost use Rattle.fb_deploy.specs.Written.{constant_span, simple_span, token_text, without_gaps, written};
+ghost use Rattle.fb_mapping.specs.Flatten.Iface.Literals.{simple_span};
+ghost use Rattle.fb_deploy.specs.Written.{constant_span, token_text, without_gaps, written};
 
 use fb_mapping::netcheck::part_of;
 use fb_mapping::tree::{Constant, Simple};

@@ -22,8 +22,8 @@ use Rattle.fb_expr.specs.Spans.{names_span}
 use Rattle.fb_expr.specs.Statements.{arms_faults, assignment_faults, counter_faults, faults_at_place, range_faults, statement_faults, statements_faults}
 use Rattle.fb_expr.specs.declared.references.Referent.{Referent}
 use Rattle.fb_expr.specs.declared.references.Referent.TheVariants.{Variable, Unjudged, Unknown}
-use Rattle.fb_expr.specs.declared.rules.Place.{Place}
-use Rattle.fb_expr.specs.declared.rules.Place.TheVariants.{Condition, Count, Counter, Selector}
+use Rattle.fb_expr.specs.declared.rules.ClassPlace.{ClassPlace}
+use Rattle.fb_expr.specs.declared.rules.ClassPlace.TheVariants.{Condition, Count, Counter, Selector}
 
 known_faults : (referent : Referent) (span : Span) → unknown_faults referent span ≡ (if is_known referent then [] else record { code = VariableUnknown; span = span } ∷ [])
 known_faults (Variable used) span = refl
@@ -71,7 +71,7 @@ module _ (scope : Scope) where
     in_subscripts (expression_then e others) =
         between (demands_in scope e) (suits_place Count e) (subscript_demands scope others) (faults_in scope e) (subscript_faults scope others) (in_expression e) (in_subscripts others)
 
-  at_place : (place : Place) (e : Expression) → faults_at_place place scope e ≡ of_all (demands_at place scope e)
+  at_place : (place : ClassPlace) (e : Expression) → faults_at_place place scope e ≡ of_all (demands_at place scope e)
   at_place place e = last (demands_in scope e) (suits_place place e) (faults_in scope e) (in_expression e)
 
   in_counter : (name : NameUse) → counter_faults scope name ≡ of_all (counter_demands name)

@@ -7,7 +7,7 @@ use Rattle.fb_iface.specs.Library.Local.{Agree}
 use Rattle.fb_iface.specs.Library.View.{Sources, near_of, tree_at}
 use Rattle.fb_iface.specs.Scope.{Scope, scope_of_type}
 use Rattle.fb_iface.specs.declared.fault.Fault.{Fault}
-use Rattle.fb_expr.specs.declared.rules.Place.TheVariants.{Condition}
+use Rattle.fb_expr.specs.declared.rules.ClassPlace.TheVariants.{Condition}
 use Rattle.fb_expr.specs.Statements.{faults_at_place, statements_faults}
 
 -- the guard of a transition, where it has one

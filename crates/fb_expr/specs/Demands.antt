@@ -23,8 +23,8 @@ use Rattle.fb_expr.specs.Rules.{allows}
 use Rattle.fb_expr.specs.Spans.{names_span, span_of}
 use Rattle.fb_expr.specs.declared.references.Referent.{Referent}
 use Rattle.fb_expr.specs.declared.references.Referent.TheVariants.{Variable, Unjudged, Unknown}
-use Rattle.fb_expr.specs.declared.rules.Place.{Place}
-use Rattle.fb_expr.specs.declared.rules.Place.TheVariants.{Condition, Count, Counter, Selector}
+use Rattle.fb_expr.specs.declared.rules.ClassPlace.{ClassPlace}
+use Rattle.fb_expr.specs.declared.rules.ClassPlace.TheVariants.{Condition, Count, Counter, Selector}
 
 pub data Demand : Type 0 where
   -- a reference names a variable
@@ -34,7 +34,7 @@ pub data Demand : Type 0 where
   -- an operator suits the class of what stands before it and the operand behind it
   suits_operands : BinaryUse → ValueClass → Expression → Demand
   -- an expression suits its place
-  suits_place : Place → Expression → Demand
+  suits_place : ClassPlace → Expression → Demand
   -- the variable and the value of an assignment join
   assigns : Expression → Span → Expression → Demand
 
@@ -50,12 +50,12 @@ is_met scope (suits_operands used left e) = is_some (combined used.operator left
 is_met scope (suits_place place e) = allows place (class_in scope e)
 is_met scope (assigns variable place value) = is_some (join (class_in scope variable) (class_in scope value))
 
-abbrev pub code_of : Demand → Code
-code_of (names_variable r) = VariableUnknown
-code_of (suits_operand used e) = Class
-code_of (suits_operands used left e) = Class
-code_of (suits_place place e) = Class
-code_of (assigns variable place value) = Class
+abbrev pub code_of_demand : Demand → Code
+code_of_demand (names_variable r) = VariableUnknown
+code_of_demand (suits_operand used e) = Class
+code_of_demand (suits_operands used left e) = Class
+code_of_demand (suits_place place e) = Class
+code_of_demand (assigns variable place value) = Class
 
 abbrev pub place_of : Demand → Span
 place_of (names_variable r) = names_span r
@@ -66,7 +66,7 @@ place_of (assigns variable place value) = place
 
 -- the fault of a demand that is not met
 abbrev pub fault_of : Demand → Fault
-fault_of demand = record { code = code_of demand; span = place_of demand }
+fault_of demand = record { code = code_of_demand demand; span = place_of demand }
 
 abbrev mutual
   -- what an expression demands: its references, its operators, and its subscripts
@@ -86,7 +86,7 @@ abbrev mutual
   subscript_demands scope no_expressions = []
   subscript_demands scope (expression_then e others) = demands_in scope e ++ suits_place Count e ∷ subscript_demands scope others
 
-abbrev pub demands_at : Place → Scope → Expression → List Demand
+abbrev pub demands_at : ClassPlace → Scope → Expression → List Demand
 demands_at place scope e = demands_in scope e ++ suits_place place e ∷ []
 
 -- a name alone, as a reference

@@ -9,7 +9,7 @@ use Rattle.fb_expr.specs.Classes.{change, combined, pair_class, unary_class}
 use Rattle.fb_expr.specs.Spans.{names_span, span_of}
 use Rattle.fb_expr.specs.References.{class_of_referent, referent_of, unknown_faults}
 use Rattle.fb_expr.specs.Rules.{allows, class_faults}
-use Rattle.fb_expr.specs.declared.rules.Place.TheVariants.{Count}
+use Rattle.fb_expr.specs.declared.rules.ClassPlace.TheVariants.{Count}
 
 abbrev mutual
   -- the class of an expression; parentheses change nothing

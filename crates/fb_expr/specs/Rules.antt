@@ -5,11 +5,11 @@ use Rattle.fb_iface.specs.declared.classes.Class.{Class as ValueClass}
 use Rattle.fb_iface.specs.declared.classes.Class.TheVariants.{B, I, Free, Num, Any}
 use Rattle.fb_iface.specs.declared.code.Code.TheVariants.{Class}
 use Rattle.fb_iface.specs.declared.fault.Fault.{Fault}
-use Rattle.fb_expr.specs.declared.rules.Place.{Place}
-use Rattle.fb_expr.specs.declared.rules.Place.TheVariants.{Condition, Count, Counter, Selector}
+use Rattle.fb_expr.specs.declared.rules.ClassPlace.{ClassPlace}
+use Rattle.fb_expr.specs.declared.rules.ClassPlace.TheVariants.{Condition, Count, Counter, Selector}
 
 -- a condition is a truth value, a count and a subscript a whole number, and a CASE selects by anything but a truth value
-abbrev pub allows : Place → ValueClass → Bool
+abbrev pub allows : ClassPlace → ValueClass → Bool
 allows place Free = true
 allows Condition B = true
 allows Condition Any = true

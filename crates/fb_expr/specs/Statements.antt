@@ -12,11 +12,11 @@ use Rattle.fb_expr.specs.Expressions.{class_in, faults_in}
 use Rattle.fb_expr.specs.Spans.{span_of}
 use Rattle.fb_expr.specs.References.{class_of_referent, unknown_faults, variable_named}
 use Rattle.fb_expr.specs.Rules.{allows, class_faults}
-use Rattle.fb_expr.specs.declared.rules.Place.{Place}
-use Rattle.fb_expr.specs.declared.rules.Place.TheVariants.{Condition, Count, Counter, Selector}
+use Rattle.fb_expr.specs.declared.rules.ClassPlace.{ClassPlace}
+use Rattle.fb_expr.specs.declared.rules.ClassPlace.TheVariants.{Condition, Count, Counter, Selector}
 
 -- an expression in a place that asks for certain classes
-abbrev pub faults_at_place : Place → Scope → Expression → List Fault
+abbrev pub faults_at_place : ClassPlace → Scope → Expression → List Fault
 faults_at_place place scope e = faults_in scope e ++ class_faults (allows place (class_in scope e)) (span_of e)
 
 -- the two sides of an assignment join

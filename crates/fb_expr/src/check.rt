@@ -8,7 +8,7 @@ ghost use Rattle.fb_iface.specs.Kept.{scope_in};
 ghost use Rattle.fb_expr.specs.Charts.{algorithm_faults, expr_faults_of, expression_faults, guard_faults, transition_faults};
 
 use crate::expressions::judge_at;
-use crate::rules::Place;
+use crate::rules::ClassPlace;
 use crate::statements::report_statements;
 use fb_iface::library::{View, tree_by_name};
 use fb_iface::{Fault, Scope, sorted_faults};
@@ -75,7 +75,7 @@ fn report_guard(
     match condition {
         Condition::Always(_) | Condition::Event(_) => Ok(()),
         Condition::Guarded(_, test) | Condition::Guard(test) => {
-            judge_at(Place::Condition, scope, test, found)
+            judge_at(ClassPlace::Condition, scope, test, found)
         }
     }
 }

@@ -9,7 +9,7 @@ ghost use Rattle.fb_expr.specs.Statements.{faults_at_place};
 
 use crate::classes::{broken, changed, operated};
 use crate::references::{referred, report_unknown};
-use crate::rules::{Place, report_class};
+use crate::rules::{ClassPlace, report_class};
 use crate::spans::{span_of, span_of_names};
 use fb_iface::{Class, Fault, Scope, class_by_form};
 use fb_tree::{BinaryUse, Expr, Reference, UnaryUse};
@@ -68,7 +68,7 @@ fn judge_subscripts(
         ++ subscript_faults (scope_in scope.now) (expressions_of (map expression_tree subscripts.now))) }
 {
     for subscript in subscripts {
-        judge_at(Place::Count, scope, subscript, found)?;
+        judge_at(ClassPlace::Count, scope, subscript, found)?;
     }
     Ok(())
 }
@@ -76,7 +76,7 @@ fn judge_subscripts(
 /// Reports the faults in an expression, and one that may not stand in its place.
 #[cycle(judge)]
 pub fn judge_at(
-    place: Place,
+    place: ClassPlace,
     scope: &Scope,
     expr: &Expr,
     found: &mut Vec<Fault>,

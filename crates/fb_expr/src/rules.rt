@@ -8,7 +8,7 @@ use std::alloc::AllocError;
 
 /// A place of an algorithm that asks for certain classes.
 #[derive(Clone, Copy, Debug, PartialEq, Eq)]
-pub enum Place {
+pub enum ClassPlace {
     /// Behind `IF`, `ELSIF`, `WHILE` and `UNTIL`, and the guard of a transition.
     Condition,
     /// Where a `FOR` begins, where it ends, and its step; a subscript.
@@ -19,18 +19,18 @@ pub enum Place {
     Selector,
 }
 
-impl Place {
+impl ClassPlace {
     /// Whether this class may stand there. One that is not judged may stand anywhere.
     pub fn is_for(self, class: Class) -> bool
         ensures { result ≡ allows self class }
     {
         match (self, class) {
             (_, Class::Free) => true,
-            (Place::Condition, Class::B | Class::Any) => true,
-            (Place::Count, Class::I | Class::Num | Class::Any) => true,
-            (Place::Counter, Class::I) => true,
-            (Place::Selector, Class::B) => false,
-            (Place::Selector, _) => true,
+            (ClassPlace::Condition, Class::B | Class::Any) => true,
+            (ClassPlace::Count, Class::I | Class::Num | Class::Any) => true,
+            (ClassPlace::Counter, Class::I) => true,
+            (ClassPlace::Selector, Class::B) => false,
+            (ClassPlace::Selector, _) => true,
             _ => false,
         }
     }

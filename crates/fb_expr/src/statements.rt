@@ -8,7 +8,7 @@ ghost use Rattle.fb_expr.specs.Statements.{assignment_faults, counter_faults, ra
 use crate::classes::joined;
 use crate::expressions::{judge, judge_at, judge_reference};
 use crate::references::{referred_variable, report_unknown};
-use crate::rules::{Place, report_class};
+use crate::rules::{ClassPlace, report_class};
 use fb_iface::{Fault, Scope};
 use fb_text::{NameUse, Span};
 use fb_tree::{Counting, Expr, Reference, Stmt};
@@ -46,13 +46,13 @@ fn report_statement(
         }
         Stmt::If(arms, otherwise) => {
             for (condition, body) in arms {
-                judge_at(Place::Condition, scope, condition, found)?;
+                judge_at(ClassPlace::Condition, scope, condition, found)?;
                 report_statements(scope, body.as_slice(), found)?;
             }
             report_statements(scope, otherwise.as_slice(), found)
         }
         Stmt::Case(selector, cases, otherwise) => {
-            judge_at(Place::Selector, scope, selector, found)?;
+            judge_at(ClassPlace::Selector, scope, selector, found)?;
             report_statements(scope, cases.as_slice(), found)?;
             report_statements(scope, otherwise.as_slice(), found)
         }
@@ -61,12 +61,12 @@ fn report_statement(
             report_statements(scope, body.as_slice(), found)
         }
         Stmt::While(condition, body) => {
-            judge_at(Place::Condition, scope, condition, found)?;
+            judge_at(ClassPlace::Condition, scope, condition, found)?;
             report_statements(scope, body.as_slice(), found)
         }
         Stmt::Repeat(body, condition) => {
             report_statements(scope, body.as_slice(), found)?;
-            judge_at(Place::Condition, scope, condition, found)
+            judge_at(ClassPlace::Condition, scope, condition, found)
         }
     }
 }
@@ -108,7 +108,11 @@ fn report_counter(scope: &Scope, name: &NameUse, found: &mut Vec<Fault>) -> Resu
 {
     let referent = referred_variable(scope, &name.name);
     report_unknown(&referent, name.span, found)?;
-    report_class(Place::Counter.is_for(referent.class(&[])), name.span, found)
+    report_class(
+        ClassPlace::Counter.is_for(referent.class(&[])),
+        name.span,
+        found,
+    )
 }
 
 /// Reports the faults of where a `FOR` begins, where it ends, and its step.
@@ -122,10 +126,10 @@ fn report_range(
     ensures { OnOk result (found.new.items ≡ found.old.items
         ++ range_faults (scope_in scope.now) (expression_tree from.now) (expression_tree to.now) (option_map expression_tree by.now)) }
 {
-    judge_at(Place::Count, scope, from, found)?;
-    judge_at(Place::Count, scope, to, found)?;
+    judge_at(ClassPlace::Count, scope, from, found)?;
+    judge_at(ClassPlace::Count, scope, to, found)?;
     match by {
-        Some(by) => judge_at(Place::Count, scope, by, found),
+        Some(by) => judge_at(ClassPlace::Count, scope, by, found),
         None => Ok(()),
     }
 }

@@ -14,11 +14,11 @@ use Rattle.fb_iface.specs.declared.code.Code.TheVariants.{Class}
 use Rattle.fb_iface.specs.declared.fault.Fault.{Fault}
 use Rattle.fb_expr.specs.Charts.{expr_faults_of}
 use Rattle.fb_expr.specs.Classes.{change, combined, join}
-use Rattle.fb_expr.specs.Demands.{Demand, suits_operand, suits_operands, suits_place, assigns, code_of, is_met, name_alone, place_of}
+use Rattle.fb_expr.specs.Demands.{Demand, suits_operand, suits_operands, suits_place, assigns, code_of_demand, is_met, name_alone, place_of}
 use Rattle.fb_expr.specs.Expressions.{class_in}
 use Rattle.fb_expr.specs.Rules.{allows}
-use Rattle.fb_expr.specs.declared.rules.Place.{Place}
-use Rattle.fb_expr.specs.declared.rules.Place.TheVariants.{Condition, Count, Counter}
+use Rattle.fb_expr.specs.declared.rules.ClassPlace.{ClassPlace}
+use Rattle.fb_expr.specs.declared.rules.ClassPlace.TheVariants.{Condition, Count, Counter}
 use Rattle.fb_expression_rows.specs.Classes.{Fits, HasClass, of_variable, of_no_variable}
 use Rattle.fb_expression_rows.specs.Occurrences.{IsRunIn}
 use Rattle.fb_expression_rows.specs.Places.{StandsAt}
@@ -44,7 +44,7 @@ module _ (sources : Sources) (d : TypeTree) where
   counted name a b step body c runs (of_no_variable none) fails = absurd (true≢false fails)
 
   -- a demand on classes that is not met
-  broken : (demand : Demand) → DemandOf scope d demand → code_of demand ≡ Class → is_met scope demand ≡ false → BreaksRule sources d (place_of demand)
+  broken : (demand : Demand) → DemandOf scope d demand → code_of_demand demand ≡ Class → is_met scope demand ≡ false → BreaksRule sources d (place_of demand)
   broken demand (reference r subscripts w) class fails = absurd (true≢false (ap is_unknown_code class))
   broken demand (behind_for name a b step body runs) class fails = absurd (true≢false (ap is_unknown_code class))
   broken demand (operator used x w) class fails =
@@ -67,11 +67,11 @@ module _ (sources : Sources) (d : TypeTree) where
   record Broken (span : Span) : Type 0 where
     demand : Demand
     of_type : DemandOf scope d demand
-    class : code_of demand ≡ Class
+    class : code_of_demand demand ≡ Class
     fails : is_met scope demand ≡ false
     place : span ≡ place_of demand
 
-  at_place : (place : Place) (x : Expression) (c : ValueClass) (span : Span) → DemandOf scope d (suits_place place x) → HasClass sources d x c → ¬ Fits place c → StandsAt x span → Broken span
+  at_place : (place : ClassPlace) (x : Expression) (c : ValueClass) (span : Span) → DemandOf scope d (suits_place place x) → HasClass sources d x c → ¬ Fits place c → StandsAt x span → Broken span
   at_place place x c span demanded has misfit there = record {
     demand = suits_place place x;
     of_type = demanded;

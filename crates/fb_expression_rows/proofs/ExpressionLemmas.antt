@@ -11,7 +11,7 @@ use Rattle.fb_iface.proofs.Members.{contains_cases, contains_here, contains_late
 use Rattle.fb_expr.specs.Classes.{pair_class}
 use Rattle.fb_expr.specs.Demands.{Demand, names_variable, suits_operand, suits_operands, suits_place, demands_in, row_demands, subscript_demands}
 use Rattle.fb_expr.specs.Expressions.{class_in}
-use Rattle.fb_expr.specs.declared.rules.Place.TheVariants.{Count}
+use Rattle.fb_expr.specs.declared.rules.ClassPlace.TheVariants.{Count}
 use Rattle.fb_expression_rows.specs.Occurrences.{IsOneOf, first_one, later_one, IsOperandOf, first_operand, later_operand, OccursIn, itself, in_subscript, behind_operator, in_first, in_operand, in_parentheses}
 
 -- an operator of a row, the class of what stands before it, and the operand behind it

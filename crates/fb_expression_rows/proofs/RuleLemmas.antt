@@ -9,8 +9,8 @@ use Rattle.fb_iface.specs.declared.classes.Class.{Class}
 use Rattle.fb_iface.specs.declared.classes.Class.TheVariants.{B, I, W, O, Free, Num, Any}
 use Rattle.fb_expr.specs.Classes.{arithmetical, change, class_of_broken, combined, join, logical, operation, pair_class, whole as whole_of}
 use Rattle.fb_expr.specs.Rules.{allows}
-use Rattle.fb_expr.specs.declared.rules.Place.{Place}
-use Rattle.fb_expr.specs.declared.rules.Place.TheVariants.{Condition, Count, Counter, Selector}
+use Rattle.fb_expr.specs.declared.rules.ClassPlace.{ClassPlace}
+use Rattle.fb_expr.specs.declared.rules.ClassPlace.TheVariants.{Condition, Count, Counter, Selector}
 use Rattle.fb_expression_rows.specs.Classes.{Joins, IsLogical, Calculates, Divides, Changes, JoinsTruths, Compares, IsArithmetic, Makes, Combines, Spoils, Results, Fits}
 
 -- a class that comes of a rule, where the check has one
@@ -330,7 +330,7 @@ is_truth c = false
 no_truth : (c : Class) → is_truth c ≡ false → c ≢ B
 no_truth c e is = true≢false (sym (ap is_truth is) ∙ e)
 
-pub fits : (place : Place) (c : Class) → allows place c ≡ true → Fits place c
+pub fits : (place : ClassPlace) (c : Class) → allows place c ≡ true → Fits place c
 fits Condition B e = Fits.truth
 fits Condition I e = absurd (true≢false (sym e))
 fits Condition W e = absurd (true≢false (sym e))
@@ -360,7 +360,7 @@ fits Selector Free e = Fits.free Selector
 fits Selector Num e = Fits.selector Num (no_truth Num refl)
 fits Selector Any e = Fits.selector Any (no_truth Any refl)
 
-all_free : (place : Place) → allows place Free ≡ true
+all_free : (place : ClassPlace) → allows place Free ≡ true
 all_free Condition = refl
 all_free Count = refl
 all_free Counter = refl
@@ -375,7 +375,7 @@ selects Free other = refl
 selects Num other = refl
 selects Any other = refl
 
-pub told_fit : (place : Place) (c : Class) → Fits place c → allows place c ≡ true
+pub told_fit : (place : ClassPlace) (c : Class) → Fits place c → allows place c ≡ true
 told_fit place c Fits.truth = refl
 told_fit place c Fits.any_truth = refl
 told_fit place c Fits.whole = refl
@@ -385,10 +385,10 @@ told_fit place c Fits.counter = refl
 told_fit place c (Fits.selector d other) = selects d other
 told_fit place c (Fits.free p) = all_free p
 
-pub misfits : (place : Place) (c : Class) → allows place c ≡ false → ¬ Fits place c
+pub misfits : (place : ClassPlace) (c : Class) → allows place c ≡ false → ¬ Fits place c
 misfits place c e f = true≢false (sym (told_fit place c f) ∙ e)
 
-pub told_misfit : (place : Place) (c : Class) → ¬ Fits place c → allows place c ≡ false
+pub told_misfit : (place : ClassPlace) (c : Class) → ¬ Fits place c → allows place c ≡ false
 told_misfit place c none = by_case (allows place c) refl
   where
     by_case : (b : Bool) → allows place c ≡ b → b ≡ false

@@ -10,15 +10,15 @@ use Rattle.fb_tree.specs.Statement.{Statement, empty, assignment, exit, return, 
 use Rattle.fb_iface.specs.Scope.{Scope}
 use Rattle.fb_iface.proofs.Members.{contains_cases, contains_here, contains_later, contains_nothing, contains_single}
 use Rattle.fb_expr.specs.Demands.{Demand, names_variable, suits_place, assigns, demands_in, demands_at, name_alone, counter_demands, range_demands, statement_demands, statements_demands, arms_demands}
-use Rattle.fb_expr.specs.declared.rules.Place.{Place}
-use Rattle.fb_expr.specs.declared.rules.Place.TheVariants.{Condition, Count, Counter, Selector}
+use Rattle.fb_expr.specs.declared.rules.ClassPlace.{ClassPlace}
+use Rattle.fb_expr.specs.declared.rules.ClassPlace.TheVariants.{Condition, Count, Counter, Selector}
 use Rattle.fb_expression_rows.specs.Occurrences.{IsArmOf, first_arm, later_arm, Asks, arm, selector, from, to, by, while_condition, until_condition, HasExpression, in_place, destination, value, IsWithin, this, in_arm, behind_else, in_case, behind_cases, in_for, in_while, in_repeat, IsAmong, in_first_statement, in_later_statement}
 use Rattle.fb_expression_rows.proofs.ExpressionLemmas.{Asked, asked_in, demanded_in}
 
 -- what a statement demands itself, without the statements in it
 pub data OwnDemand (scope : Scope) (s : Statement) : Demand → Type 0 where
   inside : {demand : Demand} (x : Expression) → HasExpression s x → Asked scope x demand → OwnDemand scope s demand
-  placed : (place : Place) (x : Expression) → Asks s place x → OwnDemand scope s (suits_place place x)
+  placed : (place : ClassPlace) (x : Expression) → Asks s place x → OwnDemand scope s (suits_place place x)
   counter : (name : NameUse) (a b : Expression) (step : Option Expression) (body : Statements) → s ≡ count name a b step body → OwnDemand scope s (names_variable (name_alone name))
   counter_class : (name : NameUse) (a b : Expression) (step : Option Expression) (body : Statements) → s ≡ count name a b step body → OwnDemand scope s (suits_place Counter (reference_expression (name_alone name) no_expressions))
   assigned : (r : ReferenceTree) (subscripts : Expressions) (place : Span) (e : Expression) → s ≡ assignment r subscripts place e → OwnDemand scope s (assigns (reference_expression r subscripts) place e)
@@ -66,7 +66,7 @@ module _ (scope : Scope) where
   step_demands step = option_map_or (demands_at Count scope) step []
 
   -- an expression in a place demands its own and that it suits the place
-  at_place : (s : Statement) (place : Place) (x : Expression) (demand : Demand) → Asks s place x → Contains (demands_at place scope x) demand → OwnDemand scope s demand
+  at_place : (s : Statement) (place : ClassPlace) (x : Expression) (demand : Demand) → Asks s place x → Contains (demands_at place scope x) demand → OwnDemand scope s demand
   at_place s place x demand asks c = by_case (Contains-append_cases (demands_in scope x) (suits_place place x ∷ []) demand c)
     where
       by_case : Contains (demands_in scope x) demand ⊎ Contains (suits_place place x ∷ []) demand → OwnDemand scope s demand
@@ -188,7 +188,7 @@ module _ (scope : Scope) where
   range_demanded name a b step body demand h =
       three_in (counter_demands name) (range_demands scope a b step) (statements_demands scope body) demand (second (three_in (demands_at Count scope a) (demands_at Count scope b) (step_demands step) demand h))
 
-  place_demanded : (s : Statement) (place : Place) (x : Expression) (demand : Demand) → Asks s place x → Contains (demands_at place scope x) demand → Contains (statement_demands scope s) demand
+  place_demanded : (s : Statement) (place : ClassPlace) (x : Expression) (demand : Demand) → Asks s place x → Contains (demands_at place scope x) demand → Contains (statement_demands scope s) demand
   place_demanded empty place x demand none c = elim none [ ]
   place_demanded (assignment r subscripts at e) place x demand none c = elim none [ ]
   place_demanded exit place x demand none c = elim none [ ]

@@ -17,8 +17,8 @@ use Rattle.fb_iface.proofs.Members.{contains_flat_map, contains_here, contains_n
 use Rattle.fb_expr.specs.Charts.{expr_faults_of, faults_in_unit}
 use Rattle.fb_expr.specs.Demands.{Demand, names_variable, suits_operand, suits_operands, suits_place, assigns, is_met, fault_of, demands_in, demands_at, name_alone, guard_demands, transition_demands, algorithm_demands, chart_demands}
 use Rattle.fb_expr.specs.Expressions.{class_in}
-use Rattle.fb_expr.specs.declared.rules.Place.{Place}
-use Rattle.fb_expr.specs.declared.rules.Place.TheVariants.{Condition, Count, Counter}
+use Rattle.fb_expr.specs.declared.rules.ClassPlace.{ClassPlace}
+use Rattle.fb_expr.specs.declared.rules.ClassPlace.TheVariants.{Condition, Count, Counter}
 use Rattle.fb_expr.proofs.DemandLemmas.{faults_unmet}
 use Rattle.fb_expression_rows.specs.Occurrences.{IsOneOf, OccursIn, Asks, IsGuardOf, with_event, alone, IsRunIn, IsTestedIn, IsWrittenIn, in_guard, in_statement}
 use Rattle.fb_expression_rows.proofs.ExpressionLemmas.{IsPairOf, Asked, of_reference, of_operator, of_pair, of_subscript, asked_in, demanded_in}
@@ -32,7 +32,7 @@ pub data DemandOf (scope : Scope) (d : TypeTree) : Demand → Type 0 where
   pair : (first : Expression) (operands : Operands) (used : BinaryUse) (before : ValueClass) (x : Expression) → IsWrittenIn d (row_expression first operands) → IsPairOf scope used before x (class_in scope first) operands → DemandOf scope d (suits_operands used before x)
   subscript : (r : ReferenceTree) (subscripts : Expressions) (x : Expression) → IsWrittenIn d (reference_expression r subscripts) → IsOneOf x subscripts → DemandOf scope d (suits_place Count x)
   test : (x : Expression) → IsTestedIn d x → DemandOf scope d (suits_place Condition x)
-  in_place : (s : Statement) (place : Place) (x : Expression) → IsRunIn d s → Asks s place x → DemandOf scope d (suits_place place x)
+  in_place : (s : Statement) (place : ClassPlace) (x : Expression) → IsRunIn d s → Asks s place x → DemandOf scope d (suits_place place x)
   of_counter : (name : NameUse) (a b : Expression) (step : Option Expression) (body : Statements) → IsRunIn d (count name a b step body) → DemandOf scope d (suits_place Counter (reference_expression (name_alone name) no_expressions))
   of_assignment : (r : ReferenceTree) (subscripts : Expressions) (place : Span) (e : Expression) → IsRunIn d (assignment r subscripts place e) → DemandOf scope d (assigns (reference_expression r subscripts) place e)
 

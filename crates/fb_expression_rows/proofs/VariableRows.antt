@@ -12,7 +12,7 @@ use Rattle.fb_iface.specs.declared.code.Code.{Code}
 use Rattle.fb_iface.specs.declared.code.Code.TheVariants.{Class, VariableUnknown}
 use Rattle.fb_iface.specs.declared.fault.Fault.{Fault}
 use Rattle.fb_expr.specs.Charts.{expr_faults_of}
-use Rattle.fb_expr.specs.Demands.{Demand, names_variable, suits_operand, suits_operands, suits_place, assigns, code_of, fault_of, is_known, is_met, name_alone}
+use Rattle.fb_expr.specs.Demands.{Demand, names_variable, suits_operand, suits_operands, suits_place, assigns, code_of_demand, fault_of, is_known, is_met, name_alone}
 use Rattle.fb_expr.specs.References.{referent_of}
 use Rattle.fb_expr.specs.Spans.{across, names_span}
 use Rattle.fb_expr.specs.declared.references.Referent.{Referent}
@@ -41,7 +41,7 @@ known sources unit span = (to, back)
     it : Fault
     it = record { code = VariableUnknown; span = span }
 
-    other : (demand : Demand) → code_of demand ≡ Class → it ≡ fault_of demand → ⊥
+    other : (demand : Demand) → code_of_demand demand ≡ Class → it ≡ fault_of demand → ⊥
     other demand class is = true≢false (ap (λ (f : Fault). is_unknown_code f.code) is ∙ ap is_unknown_code class)
 
     named : (d : TypeTree) → tree_at sources unit ≡ Some (block_type d) → (r : ReferenceTree) → IsNamedIn d r.name r.member → is_met (scope_of_type sources d) (names_variable r) ≡ false → it ≡ fault_of (names_variable r) → HasUnknownVariable sources unit span
@@ -93,7 +93,7 @@ known sources unit span = (to, back)
 pub no_other : NoOtherCodes
 no_other sources unit f c = let u = unmet sources unit f c in by_case u.demand (ap (λ (g : Fault). g.code) u.is)
   where
-    by_case : (demand : Demand) → f.code ≡ code_of demand → (f.code ≡ VariableUnknown) ⊎ (f.code ≡ Class)
+    by_case : (demand : Demand) → f.code ≡ code_of_demand demand → (f.code ≡ VariableUnknown) ⊎ (f.code ≡ Class)
     by_case (names_variable r) e = inl e
     by_case (suits_operand used x) e = inr e
     by_case (suits_operands used before x) e = inr e

@@ -16,8 +16,8 @@ use Rattle.fb_iface.specs.Class.{class_of_literal, class_of_name, class_of_type}
 use Rattle.fb_iface.specs.Library.View.{Sources}
 use Rattle.fb_iface.specs.declared.classes.Class.{Class}
 use Rattle.fb_iface.specs.declared.classes.Class.TheVariants.{B, I, W, O, Free, Num, Any}
-use Rattle.fb_expr.specs.declared.rules.Place.{Place}
-use Rattle.fb_expr.specs.declared.rules.Place.TheVariants.{Condition, Count, Counter, Selector}
+use Rattle.fb_expr.specs.declared.rules.ClassPlace.{ClassPlace}
+use Rattle.fb_expr.specs.declared.rules.ClassPlace.TheVariants.{Condition, Count, Counter, Selector}
 use Rattle.fb_expression_rows.specs.Variables.{NamesVariable}
 
 -- Two classes join to a third: equal ones to themselves, Any with another to that, Num with I, W or O to that, I with O to O, and Free with
@@ -111,7 +111,7 @@ pub data Results (operator : BinaryOperator) (left right : Class) : Class → Ty
 
 -- what places ask for: a condition is a truth value, a count and a subscript a whole number, the variable of a FOR one that is declared so, and
 -- CASE selects by anything but a truth value
-pub data Fits : Place → Class → Type 0 where
+pub data Fits : ClassPlace → Class → Type 0 where
   truth : Fits Condition B
   any_truth : Fits Condition Any
   whole : Fits Count I
@@ -119,7 +119,7 @@ pub data Fits : Place → Class → Type 0 where
   any_number : Fits Count Any
   counter : Fits Counter I
   selector : (c : Class) → c ≢ B → Fits Selector c
-  free : (place : Place) → Fits place Free
+  free : (place : ClassPlace) → Fits place Free
 
 -- the class of an expression, and that of a row of operators behind what has the first class
 mutual

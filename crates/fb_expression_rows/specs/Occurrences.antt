@@ -8,8 +8,8 @@ use Rattle.fb_tree.specs.Tree.{AlgorithmTree, ConditionTree, guarded, guard, Tra
 use Rattle.fb_tree.specs.declared.expression.BinaryUse.{BinaryUse}
 use Rattle.fb_tree.specs.declared.expression.UnaryUse.{UnaryUse}
 use Rattle.fb_tree.specs.declared.network.End.{End}
-use Rattle.fb_expr.specs.declared.rules.Place.{Place}
-use Rattle.fb_expr.specs.declared.rules.Place.TheVariants.{Condition, Count, Selector}
+use Rattle.fb_expr.specs.declared.rules.ClassPlace.{ClassPlace}
+use Rattle.fb_expr.specs.declared.rules.ClassPlace.TheVariants.{Condition, Count, Selector}
 
 -- one of the expressions of a list
 pub data IsOneOf (e : Expression) : Expressions → Type 0 where
@@ -36,7 +36,7 @@ pub data IsArmOf (condition : Expression) (body : Statements) : Arms → Type 0 
   later_arm : {x : Expression} {ss : Statements} {others : Arms} → IsArmOf condition body others → IsArmOf condition body (arm_then x ss others)
 
 -- A statement has an expression in this place: the condition of an arm or of a loop, what CASE selects by, and from, to and step of a FOR.
-pub data Asks : Statement → Place → Expression → Type 0 where
+pub data Asks : Statement → ClassPlace → Expression → Type 0 where
   arm : {arms : Arms} {otherwise : Statements} {condition : Expression} {body : Statements} → IsArmOf condition body arms → Asks (choice arms otherwise) Condition condition
   selector : {e : Expression} {cases otherwise : Statements} → Asks (selection e cases otherwise) Selector e
   from : {name : NameUse} {a b : Expression} {step : Option Expression} {body : Statements} → Asks (count name a b step body) Count a
@@ -47,7 +47,7 @@ pub data Asks : Statement → Place → Expression → Type 0 where
 
 -- the expressions that a statement has itself: those in such places, the destination of an assignment, with its subscripts, and its value
 pub data HasExpression : Statement → Expression → Type 0 where
-  in_place : {s : Statement} {e : Expression} (place : Place) → Asks s place e → HasExpression s e
+  in_place : {s : Statement} {e : Expression} (place : ClassPlace) → Asks s place e → HasExpression s e
   destination : {r : ReferenceTree} {subscripts : Expressions} {place : Span} {value : Expression} → HasExpression (assignment r subscripts place value) (reference_expression r subscripts)
   value : {r : ReferenceTree} {subscripts : Expressions} {place : Span} {e : Expression} → HasExpression (assignment r subscripts place e) e
 

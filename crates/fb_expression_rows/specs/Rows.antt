@@ -15,8 +15,8 @@ use Rattle.fb_iface.specs.declared.code.Code.{Code}
 use Rattle.fb_iface.specs.declared.code.Code.TheVariants.{Class, VariableUnknown}
 use Rattle.fb_iface.specs.declared.fault.Fault.{Fault}
 use Rattle.fb_expr.specs.Charts.{expr_faults_of}
-use Rattle.fb_expr.specs.declared.rules.Place.{Place}
-use Rattle.fb_expr.specs.declared.rules.Place.TheVariants.{Condition, Count, Counter}
+use Rattle.fb_expr.specs.declared.rules.ClassPlace.{ClassPlace}
+use Rattle.fb_expr.specs.declared.rules.ClassPlace.TheVariants.{Condition, Count, Counter}
 use Rattle.fb_expression_rows.specs.Classes.{Changes, Combines, Fits, HasClass, IsPairIn, Joins}
 use Rattle.fb_expression_rows.specs.Occurrences.{Asks, IsOneOf, IsRunIn, IsTestedIn, IsWrittenIn}
 use Rattle.fb_expression_rows.specs.Places.{StandsAt}
@@ -55,7 +55,7 @@ pub data BreaksRule (sources : Sources) (d : TypeTree) : Span → Type 0 where
   between_operands : (first : Expression) (row : Operands) (start : ValueClass) (used : BinaryUse) (before : ValueClass) (x : Expression) (c : ValueClass) → IsWrittenIn d (row_expression first row) → HasClass sources d first start → IsPairIn sources d used before x start row → HasClass sources d x c → ((g : ValueClass) → ¬ Combines used.operator before c g) → BreaksRule sources d used.span
   at_subscript : {span : Span} (r : ReferenceTree) (subscripts : Expressions) (x : Expression) (c : ValueClass) → IsWrittenIn d (reference_expression r subscripts) → IsOneOf x subscripts → HasClass sources d x c → ¬ Fits Count c → StandsAt x span → BreaksRule sources d span
   at_guard : {span : Span} (x : Expression) (c : ValueClass) → IsTestedIn d x → HasClass sources d x c → ¬ Fits Condition c → StandsAt x span → BreaksRule sources d span
-  in_statement : {span : Span} (s : Statement) (place : Place) (x : Expression) (c : ValueClass) → IsRunIn d s → Asks s place x → HasClass sources d x c → ¬ Fits place c → StandsAt x span → BreaksRule sources d span
+  in_statement : {span : Span} (s : Statement) (place : ClassPlace) (x : Expression) (c : ValueClass) → IsRunIn d s → Asks s place x → HasClass sources d x c → ¬ Fits place c → StandsAt x span → BreaksRule sources d span
   at_counter : (name : NameUse) (from to : Expression) (by : Option Expression) (body : Statements) (used : TypeUse) → IsRunIn d (count name from to by body) → NamesVariable sources d name None used → ¬ Fits Counter (class_of_type used) → BreaksRule sources d name.span
   at_assignment : (r : ReferenceTree) (subscripts : Expressions) (place : Span) (e : Expression) (a b : ValueClass) → IsRunIn d (assignment r subscripts place e) → HasClass sources d (reference_expression r subscripts) a → HasClass sources d e b → ((c : ValueClass) → ¬ Joins a b c) → BreaksRule sources d place
 

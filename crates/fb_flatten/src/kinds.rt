@@ -28,7 +28,8 @@ pub fn has_net<V: View>(view: &V, unit: &Name) -> bool
     }
 }
 
-pub(crate) fn is_system(decl: &Decl) -> bool
+/// Whether a unit is a system.
+pub fn is_of_system(decl: &Decl) -> bool
     ensures { result ≡ is_system_tree (decl_tree decl.now) }
 {
     match decl {

@@ -16,7 +16,7 @@ mod units;
 
 pub use computed::{all_far, is_of_net, net_of_unit, net_of_unit_with};
 pub use hints::{Hints, NoHints};
-pub use kinds::has_net;
+pub use kinds::{has_net, is_of_system};
 pub use laws::{
     far_is_all, far_of_is_local, flat_networks_are_local, has_net_by_text, net_at_is_local,
     net_at_is_net, net_is_local, one_net,

@@ -9,7 +9,7 @@ ghost use Rattle.fb_flatten.specs.Units.{HasNet, IsUnitFlat, instances_in, own_i
 
 use crate::flats::{flat_of_type, missing_flats};
 use crate::hints::{Hints, KnownFlats};
-use crate::kinds::is_system;
+use crate::kinds::is_of_system;
 use crate::tables::{Table, counts_in_order};
 use fb_compose::{FlatApplication, Nets, compose_by_part, count_instances, join};
 use fb_text::Name;
@@ -34,7 +34,7 @@ fn instances_of(alloc: Global, applications: &[Application]) -> Result<Vec<Insta
 fn own_network(alloc: Global, decl: &Decl) -> Result<Network, AllocError>
     ensures { IfOk result (λ network. network.instances ≡ own_instances (decl_tree decl.now)) }
 {
-    if is_system(decl) {
+    if is_of_system(decl) {
         let found = applications(alloc, decl)?;
         let instances = instances_of(alloc, found.as_slice())?;
         Ok(Network::new(Vec::new(alloc), instances, Vec::new(alloc)))
@@ -129,7 +129,7 @@ pub(crate) fn flat_of_unit<V: View, H: Hints>(
         hints,
         composed: &composed,
     };
-    if is_system(decl) {
+    if is_of_system(decl) {
         let found = applications(alloc, decl)?;
         flat_of_applications(alloc, table, &nets, found.as_slice())
     } else {

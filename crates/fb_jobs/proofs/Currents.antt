@@ -15,7 +15,7 @@ use Rattle.fb_text.specs.Order.{name_cmp}
 use Rattle.fb_deploy.specs.Library.Texts.{Texts, Held, held, text_in}
 use Rattle.fb_jobs.specs.declared.key.Key.{Key}
 use Rattle.fb_jobs.specs.Keys.{needs, has_key, scratch}
-use Rattle.fb_jobs.specs.Reads.{Seen, Order, IsRight, is_among, Agree, read_names, read_texts, put_found, reads_under, reads_for, same_found, same_held, is_current, stale, IsLeastStale}
+use Rattle.fb_jobs.specs.Reads.{Seen, PlainJob, IsRight, is_among, Agree, read_names, read_texts, put_found, reads_under, reads_for, same_found, same_held, is_current, stale, IsLeastStale}
 use Rattle.fb_jobs.proofs.SameNeeds.{same_at, needs_local, has_key_local, scratch_local, needs_rise}
 
 -- each read is what the texts have
@@ -101,12 +101,12 @@ right_for T k has = record {
 }
 
 -- reads that are right in themselves and current have the value of the present texts
-pub scratch_current : (T : Texts) (it : Order) → IsRight it → stale T it.reads ≡ None → scratch T it.key ≡ scratch (read_texts it.reads) it.key
+pub scratch_current : (T : Texts) (it : PlainJob) → IsRight it → stale T it.reads ≡ None → scratch T it.key ≡ scratch (read_texts it.reads) it.key
 scratch_current T it right fresh =
     scratch_local (read_texts it.reads) T it.key (λ n among. agree_from_current T it.reads (current_from_stale T it.reads fresh) n (ap (λ ns. is_among n ns) right.names ∙ among))
 
 -- what is read stands in order
-pub reads_rise : (it : Order) → IsRight it → IsStrictlySortedBy name_cmp (read_names it.reads)
+pub reads_rise : (it : PlainJob) → IsRight it → IsStrictlySortedBy name_cmp (read_names it.reads)
 reads_rise it right = subst (IsStrictlySortedBy name_cmp) (sym right.names) (needs_rise (read_texts it.reads) it.key)
 
 -- ---- the least read that is not current

@@ -3,7 +3,7 @@ use Rattle.std.specs.Prelude.{◌≡◌, List, All}
 use Rattle.std.specs.declared.sync.Arc.{Arc}
 use Rattle.std.specs.declared.alloc.Global.{Global}
 use Rattle.fb_jobs.specs.Keys.{scratch}
-use Rattle.fb_jobs.specs.Reads.{Order, IsRight, read_texts}
+use Rattle.fb_jobs.specs.Reads.{PlainJob, IsRight, read_texts}
 use Rattle.fb_jobs.specs.Values.{finding_of, all_seen, texts_seen, IsOwn}
 use Rattle.fb_jobs.specs.Hints.{Nets, AreHints}
 use Rattle.fb_jobs.specs.declared.key.Key.{Key}
@@ -11,12 +11,12 @@ use Rattle.fb_jobs.specs.declared.read.Read.{Read}
 use Rattle.fb_jobs.specs.declared.read.TextRead.{TextRead}
 use Rattle.fb_jobs.specs.declared.value.Value.{Value}
 
-abbrev pub order_of : Key → List Read → Order
-order_of key reads = record { key = key; reads = all_seen reads }
+abbrev pub plain_job : Key → List Read → PlainJob
+plain_job key reads = record { key = key; reads = all_seen reads }
 
 -- the reads are right in themselves, each source is of the name that it was read under, and the texts are theirs
 pub record IsJob (key : Key) (reads : List Read) (texts : List TextRead) : Type 0 where
-  pub right : IsRight (order_of key reads)
+  pub right : IsRight (plain_job key reads)
   pub own : All IsOwn reads
   pub texts_are : texts_seen texts ≡ all_seen reads
 

@@ -60,12 +60,12 @@ abbrev pub stale : Texts → List Seen → Option (List ℕ)
 stale texts reads = option_map (λ (it : Seen). it.name) (find (λ it. not (is_current texts it)) reads)
 
 -- a key with what was read for it
-pub record Order : Type 0 where
+pub record PlainJob : Type 0 where
   pub key : Key
   pub reads : List Seen
 
 -- in the texts that were read there is the key, and these are exactly the names that it needs there
-pub record IsRight (it : Order) : Type 0 where
+pub record IsRight (it : PlainJob) : Type 0 where
   pub has : has_key (read_texts it.reads) it.key ≡ true
   pub names : read_names it.reads ≡ needs (read_texts it.reads) it.key
 

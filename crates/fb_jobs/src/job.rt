@@ -37,13 +37,13 @@ pub struct Job {
 }
 
 impl Model for Job {
-    ghost use Rattle.fb_jobs.specs.Reads.{Order};
+    ghost use Rattle.fb_jobs.specs.Reads.{PlainJob};
 
-    ghost Value = { Order };
+    ghost Value = { PlainJob };
 
-    ghost use Rattle.fb_jobs.specs.Finished.{order_of, IsGiven};
+    ghost use Rattle.fb_jobs.specs.Finished.{plain_job, IsGiven};
 
-    ghost view = { λ it. order_of it.key it.reads.value.items };
+    ghost view = { λ it. plain_job it.key it.reads.value.items };
 
     ghost invariant = { λ it. IsGiven it.key it.reads.value.items it.texts.value.items it.nets };
 }

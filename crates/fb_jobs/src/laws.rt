@@ -9,7 +9,7 @@ ghost use Rattle.fb_jobs.specs.declared.key.Kind.{Kind};
 ghost use Rattle.fb_jobs.specs.KeyOrder.{kind_cmp};
 ghost use Rattle.fb_jobs.specs.Kinds.{all_kinds};
 ghost use Rattle.fb_jobs.specs.Keys.{has_key, needs, scratch};
-ghost use Rattle.fb_jobs.specs.Reads.{Agree, Order, IsLeastStale, IsRight, read_names, read_texts, stale};
+ghost use Rattle.fb_jobs.specs.Reads.{Agree, PlainJob, IsLeastStale, IsRight, read_names, read_texts, stale};
 
 /// Each kind is one of all kinds, and these stand in order, each once.
 pub fn kinds_in_order()
@@ -26,16 +26,16 @@ pub fn locality()
 
 /// Reads that are right in themselves and current have the value of the present texts.
 pub fn current_reads()
-    ensures { (texts : Texts) (it : Order) → IsRight it → stale texts it.reads ≡ None → scratch texts it.key ≡ scratch (read_texts it.reads) it.key }
+    ensures { (texts : Texts) (it : PlainJob) → IsRight it → stale texts it.reads ≡ None → scratch texts it.key ≡ scratch (read_texts it.reads) it.key }
 {}
 
 /// What a key needs, and so what is read for it, stands in order, each name once.
 pub fn needs_in_order()
     ensures needs { (texts : Texts) (key : Key) → IsStrictlySortedBy name_cmp (needs texts key) }
-    ensures reads { (it : Order) → IsRight it → IsStrictlySortedBy name_cmp (read_names it.reads) }
+    ensures reads { (it : PlainJob) → IsRight it → IsStrictlySortedBy name_cmp (read_names it.reads) }
 {}
 
 /// Of reads that are right in themselves the first that is not current is the least.
 pub fn least_stale()
-    ensures { (texts : Texts) (it : Order) (name : List ℕ) → IsRight it → stale texts it.reads ≡ Some name → IsLeastStale texts it.reads name }
+    ensures { (texts : Texts) (it : PlainJob) (name : List ℕ) → IsRight it → stale texts it.reads ≡ Some name → IsLeastStale texts it.reads name }
 {}

@@ -1,6 +1,6 @@
 //! Results of jobs.
 ghost use Rattle.std.specs.Prelude.{◌≡◌, All};
-ghost use Rattle.fb_jobs.specs.Finished.{IsFinished, order_of};
+ghost use Rattle.fb_jobs.specs.Finished.{IsFinished, plain_job};
 ghost use Rattle.fb_jobs.specs.Keys.{scratch};
 ghost use Rattle.fb_jobs.specs.Reads.{IsRight, read_texts};
 ghost use Rattle.fb_jobs.specs.Values.{all_seen, finding_of, texts_seen, IsOwn};
@@ -21,13 +21,13 @@ pub struct Finished {
 }
 
 impl Model for Finished {
-    ghost use Rattle.fb_jobs.specs.Reads.{Order};
+    ghost use Rattle.fb_jobs.specs.Reads.{PlainJob};
 
-    ghost Value = { Order };
+    ghost Value = { PlainJob };
 
-    ghost use Rattle.fb_jobs.specs.Finished.{order_of, IsFinished};
+    ghost use Rattle.fb_jobs.specs.Finished.{plain_job, IsFinished};
 
-    ghost view = { λ it. order_of it.key it.reads.value.items };
+    ghost view = { λ it. plain_job it.key it.reads.value.items };
 
     ghost invariant = { λ it. IsFinished it.key it.reads.value.items it.texts.value.items it.value };
 }
@@ -40,7 +40,7 @@ impl Finished {
         value: Arc<Value>,
     ) -> Finished
         requires { IsFinished key reads.value.items texts.value.items value }
-        ensures { result ≡ order_of key reads.value.items }
+        ensures { result ≡ plain_job key reads.value.items }
     {
         Finished {
             key,

@@ -34,12 +34,12 @@ abbrev pub words : List ℕ → List ℕ
 words text = words_of text (tokens_of text)
 
 -- the text of a unit, empty where it is absent
-abbrev pub text_at : Sources → List ℕ → List ℕ
-text_at sources unit = unwrap_or (get sources unit) []
+abbrev pub text_or_empty : Sources → List ℕ → List ℕ
+text_or_empty sources unit = unwrap_or (get sources unit) []
 
 -- the words of a part of a unit's text
 abbrev pub words_at : Sources → List ℕ → Span → List ℕ
-words_at sources unit span = words (part (text_at sources unit) span)
+words_at sources unit span = words (part (text_or_empty sources unit) span)
 
 -- types with a length and arrays are the same where their tokens are
 abbrev pub same_words : Sources → List ℕ → Span → List ℕ → Span → Bool

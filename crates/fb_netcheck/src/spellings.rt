@@ -5,7 +5,7 @@ ghost use Rattle.std.specs.Str.{str_to_ascii_uppercase};
 ghost use Rattle.fb_text.specs.Tokens.{LiesIn};
 ghost use Rattle.std.specs.BTreeMap.{get};
 ghost use Rattle.fb_netcheck.specs.Known.{AreSpellings, part_cmp};
-ghost use Rattle.fb_netcheck.specs.Spellings.{is_boundary, part, same_type, same_words, text_at, word, words, words_at};
+ghost use Rattle.fb_netcheck.specs.Spellings.{is_boundary, part, same_type, same_words, text_or_empty, word, words, words_at};
 
 use fb_iface::library::View;
 use fb_iface::tree::{TypeForm, TypeUse};
@@ -82,7 +82,7 @@ fn words_of_unit<V: View>(
 
 /// The text of a unit, empty where it is absent.
 pub fn text_by_name<'a, V: View>(view: &'a V, unit: &Name) -> &'a str
-    ensures { result.now ≡ text_at (V.sources view.now) unit.now }
+    ensures { result.now ≡ text_or_empty (V.sources view.now) unit.now }
 {
     match view.get(unit) {
         Some(source) => source.text(),

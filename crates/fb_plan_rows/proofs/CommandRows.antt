@@ -14,7 +14,7 @@ use Rattle.fb_deploy.specs.Network.LinkOrder.{link_cmp}
 use Rattle.fb_deploy.specs.Network.declared.flat.FlatBlock.{FlatBlock}
 use Rattle.fb_deploy.specs.Network.declared.flat.Link.{Link}
 use Rattle.fb_deploy.specs.Network.PlainFlat.{PlainFlat}
-use Rattle.fb_deploy.specs.Mapping.Netcheck.Spellings.{text_at}
+use Rattle.fb_deploy.specs.Mapping.Netcheck.Spellings.{text_or_empty}
 use Rattle.fb_deploy.specs.Mapping.Cuts.{home_at}
 use Rattle.fb_deploy.specs.Mapping.Fronts.{nearest}
 use Rattle.fb_deploy.specs.Mapping.Homes.{block_home}
@@ -137,7 +137,7 @@ module _ (sources : Sources) (system : List ℕ) (flat : PlainFlat) where
     lines_begin : (home : Home) (o : Option PlainStanding) (line : Line) → Contains (lines_at sources home o) line → BeginsWith (codes "WRITE ") line.command
     lines_begin home None line c = absurd (contains_nothing line c)
     lines_begin home (Some s) line c =
-        let o = origin_in_map (write_line (text_at sources s.unit) home) s.instance.parameters line c in
+        let o = origin_in_map (write_line (text_or_empty sources s.unit) home) s.instance.parameters line c in
         subst (λ (l : Line). BeginsWith (codes "WRITE ") l.command) o.gives (_, refl)
 
     all_set : AllBegin (codes "WRITE ") (map (λ (l : Line). l.command) writes)
@@ -295,7 +295,7 @@ module _ (sources : Sources) (system : List ℕ) (flat : PlainFlat) (cuts : List
           let same : (let h : Home = record { path = b.path; resource = q } in h) ≡ home = cc in
           record { block = b; listed = among; placed = sym (ap (λ (h : Home). h.path) same); is_home = e ∙ ap (λ (h : Home). Some h.resource) same }
 
-  setting : (r : List ℕ) (line : Line) (home : Home) (block : FlatBlock) (s : PlainStanding) (parameter : ParameterTree) → Contains flat.blocks block → home.path ≡ block.path → nearest (mapped sources system) block.path ≡ Some home.resource → standing_at sources system applications (path_names home.path) ≡ Some s → Contains s.instance.parameters parameter → write_line (text_at sources s.unit) home parameter ≡ line → line.resource ≡ r → SetsParameter sources system flat r line
+  setting : (r : List ℕ) (line : Line) (home : Home) (block : FlatBlock) (s : PlainStanding) (parameter : ParameterTree) → Contains flat.blocks block → home.path ≡ block.path → nearest (mapped sources system) block.path ≡ Some home.resource → standing_at sources system applications (path_names home.path) ≡ Some s → Contains s.instance.parameters parameter → write_line (text_or_empty sources s.unit) home parameter ≡ line → line.resource ≡ r → SetsParameter sources system flat r line
   setting r line home block s parameter listed placed is_home stands among gives on =
       let same : home.resource ≡ r = ap (λ (l : Line). l.resource) gives ∙ on in
       record {
@@ -307,7 +307,7 @@ module _ (sources : Sources) (system : List ℕ) (flat : PlainFlat) (cuts : List
         parameter = parameter;
         given = among;
         place = sym (ap (λ (l : Line). l.place) gives) ∙ ap (λ (t : List ℕ). dotted t parameter.name.name) placed;
-        command = sym (ap (λ (l : Line). l.command) gives) ∙ ap (λ (t : List ℕ). write_text (dotted t parameter.name.name) (written (text_at sources s.unit) parameter.value)) placed;
+        command = sym (ap (λ (l : Line). l.command) gives) ∙ ap (λ (t : List ℕ). write_text (dotted t parameter.name.name) (written (text_or_empty sources s.unit) parameter.value)) placed;
         on_home = on;
       }
 
@@ -321,7 +321,7 @@ module _ (sources : Sources) (system : List ℕ) (flat : PlainFlat) (cuts : List
       by : (home : Home) → IsHomeOfBlock home → line.resource ≡ r → (o : Option PlainStanding) → standing_at sources system applications (path_names home.path) ≡ o → Contains (lines_at sources home o) line → SetsParameter sources system flat r line
       by home b on None e d = absurd (contains_nothing line d)
       by home b on (Some s) e d =
-          let o = origin_in_map (write_line (text_at sources s.unit) home) s.instance.parameters line d in
+          let o = origin_in_map (write_line (text_or_empty sources s.unit) home) s.instance.parameters line d in
           setting r line home b.block s o.origin b.listed b.placed b.is_home e o.among o.gives on
 
   set_from : (r : List ℕ) (line : Line) → SetsParameter sources system flat r line → Contains (writes sources system flat r) line
@@ -330,9 +330,9 @@ module _ (sources : Sources) (system : List ℕ) (flat : PlainFlat) (cuts : List
       let is_home : block_home (mapped sources system) m.block ≡ Some home =
       ap (λ (o : Option (List ℕ)). option_map (λ (q : List ℕ). (let h : Home = record { path = m.block.path; resource = q } in h)) o) (nearest_of (mapped sources system) m.block.path r m.home) in
       let at = gives_member (block_home (mapped sources system)) flat.blocks m.block home m.listed is_home in
-      let line_is : write_line (text_at sources m.standing.unit) home m.parameter ≡ line = same_line line _ _ r m.place m.command m.on_home in
+      let line_is : write_line (text_or_empty sources m.standing.unit) home m.parameter ≡ line = same_line line _ _ r m.place m.command m.on_home in
       let here : Contains (lines_at sources home (Some m.standing)) line =
-      subst (λ (l : Line). Contains (lines_at sources home (Some m.standing)) l) line_is (contains_map (write_line (text_at sources m.standing.unit) home) m.standing.instance.parameters m.parameter m.given) in
+      subst (λ (l : Line). Contains (lines_at sources home (Some m.standing)) l) line_is (contains_map (write_line (text_or_empty sources m.standing.unit) home) m.standing.instance.parameters m.parameter m.given) in
       let has : Contains (home_lines sources system applications home) line = subst (λ (o : Option PlainStanding). Contains (lines_at sources home o) line) (sym m.stands) here in
       let lines = flat_map (home_lines sources system applications) (homes_in sources system flat) in
       let among = contains_flat_map (home_lines sources system applications) (homes_in sources system flat) home line at has in

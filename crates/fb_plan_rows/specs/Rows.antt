@@ -11,7 +11,7 @@ use Rattle.fb_deploy.specs.Network.declared.flat.Link.{Link}
 use Rattle.fb_deploy.specs.Network.PlainFlat.{PlainFlat}
 use Rattle.fb_deploy.specs.Mapping.Placed.{IsSystem}
 use Rattle.fb_deploy.specs.Flatten.Net.{HasFlat}
-use Rattle.fb_deploy.specs.Mapping.Netcheck.Spellings.{text_at}
+use Rattle.fb_deploy.specs.Mapping.Netcheck.Spellings.{text_or_empty}
 use Rattle.fb_deploy.specs.Mapping.Standing.{PlainStanding, path_names, standing_at}
 use Rattle.fb_deploy.specs.Mapping.Systems.{applications_in}
 use Rattle.fb_deploy.specs.Lines.{create_text, line_cmp, write_text}
@@ -77,7 +77,7 @@ pub record SetsParameter (sources : Sources) (system : List ℕ) (flat : PlainFl
   pub parameter : ParameterTree
   pub given : Contains standing.instance.parameters parameter
   pub place : line.place ≡ dotted block.path parameter.name.name
-  pub command : line.command ≡ write_text (dotted block.path parameter.name.name) (written (text_at sources standing.unit) parameter.value)
+  pub command : line.command ≡ write_text (dotted block.path parameter.name.name) (written (text_or_empty sources standing.unit) parameter.value)
   pub on_home : line.resource ≡ resource
 
 -- The commands of a resource set the parameters of the blocks whose home it is, by the bytes of their places, each once; no other command

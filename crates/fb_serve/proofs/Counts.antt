@@ -10,7 +10,7 @@ use Rattle.fb_shared.specs.Book.{is_caller}
 use Rattle.fb_shared.specs.Closing.{AgreesWith, receipts_of}
 use Rattle.fb_shared.specs.Runs.{IsRun, Works, Empty}
 use Rattle.fb_shared.specs.declared.work.WorkEnd.{WorkEnd}
-use Rattle.fb_shared.specs.Seats.{Hall, Place, Claim, seat_after}
+use Rattle.fb_shared.specs.Seats.{Hall, SeatState, Claim, seat_after}
 use Rattle.fb_serve.specs.Shown.{IsNew, IsShown, AreShown, ShowsAll}
 
 -- 1 for a receipt of this caller
@@ -25,34 +25,34 @@ receipts_append caller xs ys = sum_by-append (own caller) xs ys
 
 -- ---- calls with one seat
 
-run_counts : (seat : Place) (claims : List Claim) (after : Place) → IsRun seat claims after → (after.caller ≡ seat.caller) × (after.turns ≡ seat.turns + receipts_of seat.caller claims)
+run_counts : (seat : SeatState) (claims : List Claim) (after : SeatState) → IsRun seat claims after → (after.caller ≡ seat.caller) × (after.turns ≡ seat.turns + receipts_of seat.caller claims)
 run_counts seat [] after run =
     let none : receipts_of seat.caller [] ≡ 0 = refl in
-    let same : after.turns ≡ seat.turns = ap (λ (s : Place). s.turns) run in
-    (ap (λ (s : Place). s.caller) run, omega (arith, same, none))
+    let same : after.turns ≡ seat.turns = ap (λ (s : SeatState). s.turns) run in
+    (ap (λ (s : SeatState). s.caller) run, omega (arith, same, none))
 run_counts seat (c ∷ cs) after run =
     let rest = run_counts (seat_after seat c) cs after run.1 in
     let here : own seat.caller c ≡ 1 = ap (λ b. cond b 1 0) (eq-eqb c.entry.caller seat.caller run.0.caller_is) in
     (rest.0, omega (arith, rest.1, run.0.turn_is, receipts_cons seat.caller c cs, here))
 
 -- all calls with a new seat
-pub run_shown : (seat : Place) (claims : List Claim) (after : Place) → IsNew seat → IsRun seat claims after → IsShown claims after
+pub run_shown : (seat : SeatState) (claims : List Claim) (after : SeatState) → IsNew seat → IsRun seat claims after → IsShown claims after
 run_shown seat claims after new run =
     let counts = run_counts seat claims after run in
     let same : receipts_of after.caller claims ≡ receipts_of seat.caller claims = ap (λ q. receipts_of q claims) counts.0 in
     omega (arith, new, counts.1, same)
 
-pub work_shown : (most : ℕ) (seat after : Place) (old claims : List Claim) (end : Option WorkEnd) → IsNew seat → old ≡ [] → Works Empty most seat old claims after end → IsShown claims after
+pub work_shown : (most : ℕ) (seat after : SeatState) (old claims : List Claim) (end : Option WorkEnd) → IsNew seat → old ≡ [] → Works Empty most seat old claims after end → IsShown claims after
 work_shown most seat after old claims end new none works =
     let adds = works.1 in
     run_shown seat claims after new (subst (λ (l : List Claim). IsRun seat l after) (sym (adds.behind ∙ ap (λ (l : List Claim). l ++ adds.added) none)) adds.run)
 
 -- ---- all seats
 
-pub more_shown : (old more : List Claim) (seats : List Place) → AreShown old seats → AreShown (old ++ more) seats
+pub more_shown : (old more : List Claim) (seats : List SeatState) → AreShown old seats → AreShown (old ++ more) seats
 more_shown old more seats shown = All-weaker (IsShown old) (IsShown (old ++ more)) (λ seat s. omega (arith, s, receipts_append seat.caller old more)) seats shown
 
-pub shown_with : (old more : List Claim) (seats : List Place) (seat : Place) → AreShown old seats → IsShown more seat → AreShown (old ++ more) (seats ++ seat ∷ [])
+pub shown_with : (old more : List Claim) (seats : List SeatState) (seat : SeatState) → AreShown old seats → IsShown more seat → AreShown (old ++ more) (seats ++ seat ∷ [])
 shown_with old more seats seat shown last =
     All-push (IsShown (old ++ more)) seats seat (more_shown old more seats shown) (omega (arith, last, receipts_append seat.caller old more))
 
@@ -70,7 +70,7 @@ or_true true b is = refl
 or_true false b is = is
 
 -- the seats have the calls of a caller, and the receipts show them
-caller_shown : (t q : ℕ) (rs : List Claim) (seats : List Place) → list_any (λ s. s.caller == q) seats ≡ true → list_any (λ s. s.caller == q && not (t == s.turns)) seats ≡ false → AllByRecursion (IsShown rs) seats → t ≤ receipts_of q rs
+caller_shown : (t q : ℕ) (rs : List Claim) (seats : List SeatState) → list_any (λ s. s.caller == q) seats ≡ true → list_any (λ s. s.caller == q && not (t == s.turns)) seats ≡ false → AllByRecursion (IsShown rs) seats → t ≤ receipts_of q rs
 caller_shown t q rs [] any none shown = let bad : false ≡ true = any in cc
 caller_shown t q rs (s ∷ ss) any none shown =
     elim (s.caller == q) as (λ b. s.caller == q ≡ b → b || list_any (λ x. x.caller == q) ss ≡ true → (b && not (t == s.turns)) || list_any (λ x. x.caller == q && not (t == x.turns)) ss ≡ false → t ≤ receipts_of q rs) [
@@ -84,7 +84,7 @@ caller_shown t q rs (s ∷ ss) any none shown =
 none_fewer : (t k : ℕ) → nat_lt 0 t ≡ false → t ≤ k
 none_fewer t k none = grind (arith, nat_tests)
 
-pub all_shown : (hall : Hall) (seats : List Place) (receipts : List Claim) → AgreesWith hall seats receipts → AreShown receipts seats → ShowsAll hall.bench.log.records receipts
+pub all_shown : (hall : Hall) (seats : List SeatState) (receipts : List Claim) → AgreesWith hall seats receipts → AreShown receipts seats → ShowsAll hall.bench.log.records receipts
 all_shown hall seats receipts agrees shown = (agrees.shown, λ q. by_calls q (nat_lt 0 (turns_of q hall.bench.log.records)) refl)
   where
     by_calls : (q : ℕ) (b : Bool) → nat_lt 0 (turns_of q hall.bench.log.records) ≡ b → turns_of q hall.bench.log.records ≤ receipts_of q receipts

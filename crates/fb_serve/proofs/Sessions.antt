@@ -4,7 +4,7 @@ use Rattle.fb_wire.specs.Bench.Machine.{Call, Reply}
 use Rattle.fb_wire.specs.Bench.Calls.{Answer, Replied, FullHistory, BehindHistory}
 use Rattle.fb_wire.specs.Talk.{Pair, Runs}
 use Rattle.fb_shared.specs.Runs.{IsRun}
-use Rattle.fb_shared.specs.Seats.{Place, Claim, IsReceiptOf, seat_after}
+use Rattle.fb_shared.specs.Seats.{SeatState, Claim, IsReceiptOf, seat_after}
 use Rattle.fb_shared.specs.Sitting.{Sitter, SitterStep}
 use Rattle.fb_serve.specs.Sessions.{answered_before, answered_in, call_shown}
 
@@ -17,7 +17,7 @@ shows_more : (call : Call) (answer : Answer) (old mid new : Sitter) (answered : 
 shows_more call (Replied reply) old mid new answered step rest =
     let claim : Claim = step.0 in
     let first : IsReceiptOf old.seat claim.entry.call claim = subst (λ (c : Call). IsReceiptOf old.seat c claim) (sym step.2.call_is) step.2 in
-    let more : IsRun (seat_after old.seat claim) rest.0 new.seat = subst (λ (s : Place). IsRun s rest.0 new.seat) step.4 rest.3 in
+    let more : IsRun (seat_after old.seat claim) rest.0 new.seat = subst (λ (s : SeatState). IsRun s rest.0 new.seat) step.4 rest.3 in
     let shown : (call, reply) ≡ call_shown claim = ap (λ (c : Call). (c, reply)) (sym step.2.call_is) ∙ ap (λ (r : Reply). (claim.entry.call, r)) (sym step.3) in (
       claim ∷ rest.0,
       rest.1 ∙ ap (λ (l : List Claim). l ++ rest.0) step.1 ∙ append_assoc old.receipts (claim ∷ []) rest.0,
@@ -32,10 +32,10 @@ runs_show [] old new runs = ([], ap (λ (s : Sitter). s.receipts) runs ∙ sym (
 runs_show (p ∷ ps) old new runs = shows_more p.0 p.1 old runs.0 new (answered_in ps) runs.1 (runs_show ps runs.0 new runs.2)
 
 -- the same from a desk with no receipts, whose seat and receipts are then taken out
-pub session_shown : (pairs : List Pair) (seat : Place) (start : List Claim) (old new : Sitter) (left : Place) (receipts : List Claim) → start ≡ [] → old ≡ record { seat = seat; receipts = start } → Runs SitterStep old pairs new → left ≡ new.seat → receipts ≡ new.receipts
+pub session_shown : (pairs : List Pair) (seat : SeatState) (start : List Claim) (old new : Sitter) (left : SeatState) (receipts : List Claim) → start ≡ [] → old ≡ record { seat = seat; receipts = start } → Runs SitterStep old pairs new → left ≡ new.seat → receipts ≡ new.receipts
     → (answered_in pairs ≡ map call_shown receipts) × IsRun seat receipts left
 session_shown pairs seat start old new left receipts none made runs left_is receipts_is =
     let begun : old ≡ record { seat = seat; receipts = [] } = made ∙ ap (λ (l : List Claim). record { seat = seat; receipts = l }) none in
     let shows = runs_show pairs (record { seat = seat; receipts = [] }) new (subst (λ (s : Sitter). Runs SitterStep s pairs new) begun runs) in
     let same : shows.0 ≡ receipts = sym (receipts_is ∙ shows.1) in
-    (shows.2 ∙ ap (map call_shown) same, subst (λ (s : Place). IsRun seat receipts s) (sym left_is) (subst (λ (l : List Claim). IsRun seat l new.seat) same shows.3))
+    (shows.2 ∙ ap (map call_shown) same, subst (λ (s : SeatState). IsRun seat receipts s) (sym left_is) (subst (λ (l : List Claim). IsRun seat l new.seat) same shows.3))

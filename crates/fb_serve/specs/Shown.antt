@@ -2,17 +2,17 @@
 use Rattle.std.specs.Prelude.{◌≡◌, ◌≤◌, ℕ, List, All}
 use Rattle.fb_wire.specs.Bench.Story.{Record, turns_of}
 use Rattle.fb_shared.specs.Closing.{AreReceiptsRight, receipts_of}
-use Rattle.fb_shared.specs.Seats.{Place, Claim}
+use Rattle.fb_shared.specs.Seats.{SeatState, Claim}
 
 -- no call was made with the seat
-abbrev pub IsNew : Place → Type 0
+abbrev pub IsNew : SeatState → Type 0
 IsNew seat = seat.turns ≡ 0
 
 -- there are as many receipts of the seat's caller as calls that were made with it
-abbrev pub IsShown : List Claim → Place → Type 0
+abbrev pub IsShown : List Claim → SeatState → Type 0
 IsShown receipts seat = seat.turns ≤ receipts_of seat.caller receipts
 
-abbrev pub AreShown : List Claim → List Place → Type 0
+abbrev pub AreShown : List Claim → List SeatState → Type 0
 AreShown receipts seats = All (IsShown receipts) seats
 
 -- Each receipt is the record at its number, none comes twice, and no caller has fewer of them than records: so the receipts are those of all

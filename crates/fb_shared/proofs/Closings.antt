@@ -17,7 +17,7 @@ use Rattle.std.specs.Cmp.{nat_cmp_total}
 use Rattle.std.specs.BTreeMap.{BTreeMap, get, keys, IsOrdered}
 use Rattle.fb_bench.specs.Story.{Record, turns_of, record_at}
 use Rattle.fb_shared.specs.Book.{IsBookOf, is_caller}
-use Rattle.fb_shared.specs.Seats.{Hall, Place, Claim}
+use Rattle.fb_shared.specs.Seats.{Hall, SeatState, Claim}
 use Rattle.fb_shared.specs.declared.close.CloseFault.{CloseFault}
 use Rattle.fb_shared.specs.declared.close.CloseFault.TheVariants.{SeatMissing, SeatDiffers, ReceiptDiffers, ReceiptTwice, Memory}
 use Rattle.fb_shared.specs.Closing.{IsLeast, lesser_of, has_seat, has_wrong_seat, times, AreReceiptsRight, IsReceiptRight, AreSeated, AreSeatsRight, IsReceiptFault, IsFirstFault}
@@ -121,10 +121,10 @@ wrong_same : (es : List Record) (caller q turns : ℕ) (b : Bool) → caller == 
 wrong_same es caller q turns true is = ap (λ n. not (turns_of n es == turns)) (sym (eqb-true caller q is))
 wrong_same es caller q turns false is = refl
 
-pub wrong_more : (es : List Record) (seats : List Place) (i : ℕ) (s : Place) (q : ℕ) → i < length seats → s ≡ get_or seats i s
+pub wrong_more : (es : List Record) (seats : List SeatState) (i : ℕ) (s : SeatState) (q : ℕ) → i < length seats → s ≡ get_or seats i s
     → has_wrong_seat es (take (i + 1) seats) q ≡ (has_wrong_seat es (take i seats) q || (s.caller == q && not (turns_of s.caller es == s.turns)))
 wrong_more es seats i s q lt is =
-    list_any_more (λ (s : Place). s.caller == q && not (turns_of q es == s.turns)) seats i s lt
+    list_any_more (λ (s : SeatState). s.caller == q && not (turns_of q es == s.turns)) seats i s lt
     ∙ (
     rw (← is) (ap (λ b. has_wrong_seat es (take i seats) q || b) (wrong_same es s.caller q s.turns (s.caller == q) refl))
     )
@@ -154,13 +154,13 @@ not_true : (b : Bool) → not b ≡ true → b ≡ false
 not_true false e = refl
 not_true true e = sym e
 
-pub seated : (book : BTreeMap ℕ ℕ) (callers : ℕ) (es : List Record) (seats : List Place) → IsBookOf book callers es → find (λ q. not (has_seat seats q)) (keys book) ≡ None
+pub seated : (book : BTreeMap ℕ ℕ) (callers : ℕ) (es : List Record) (seats : List SeatState) → IsBookOf book callers es → find (λ q. not (has_seat seats q)) (keys book) ≡ None
     → (q : ℕ) → is_caller callers es q ≡ true → has_seat seats q ≡ true
 seated book callers es seats kept none q is =
     let P : ℕ → Type 0 = λ k. not (has_seat seats k) ≡ false in
     not_false (has_seat seats q) (All-contains P (keys book) q (find_none (λ q. not (has_seat seats q)) (keys book) none) (key_from_caller book callers es kept q is))
 
-pub missing : (book : BTreeMap ℕ ℕ) (callers : ℕ) (es : List Record) (seats : List Place) (c : ℕ) → IsBookOf book callers es → IsOrdered nat_cmp book → find (λ q. not (has_seat seats q)) (keys book) ≡ Some c
+pub missing : (book : BTreeMap ℕ ℕ) (callers : ℕ) (es : List Record) (seats : List SeatState) (c : ℕ) → IsBookOf book callers es → IsOrdered nat_cmp book → find (λ q. not (has_seat seats q)) (keys book) ≡ Some c
     → (is_caller callers es c ≡ true) × (has_seat seats c ≡ false) × ((p : ℕ) → p < c → is_caller callers es p ≡ true → has_seat seats p ≡ true)
 missing book callers es seats c kept ordered found =
     let first = find_some (λ q. not (has_seat seats q)) (keys book) c ordered found in
@@ -171,7 +171,7 @@ missing book callers es seats c kept ordered found =
     )
 
 -- a fault of the receipts is the first one, where the seats are right
-pub receipt_fault : (hall : Hall) (seats : List Place) (rs : List Claim) (fault : CloseFault) → AreSeated hall seats → AreSeatsRight hall.bench.log.records seats → IsReceiptFault hall.bench.log.records rs fault → IsFirstFault hall seats rs fault
+pub receipt_fault : (hall : Hall) (seats : List SeatState) (rs : List Claim) (fault : CloseFault) → AreSeated hall seats → AreSeatsRight hall.bench.log.records seats → IsReceiptFault hall.bench.log.records rs fault → IsFirstFault hall seats rs fault
 receipt_fault hall seats rs (SeatMissing q) seated right never = absurd never
 receipt_fault hall seats rs (SeatDiffers q) seated right never = absurd never
 receipt_fault hall seats rs (ReceiptDiffers n) seated right first = (seated, right, first)

@@ -1,12 +1,12 @@
 -- Answers of a desk, from the replies in receipts.
 use Rattle.std.proofs.Common.{◌≡◌, Option, ap, sym}
-use Rattle.fb_bench.specs.Jobs.Reads.{Order}
+use Rattle.fb_bench.specs.Jobs.Reads.{PlainJob}
 use Rattle.fb_bench.specs.Machine.{Reply, OfCommit, OfTake, OfDeliver, OfGiveBack, OfAsk}
 use Rattle.fb_bench.specs.Requests.{job_of}
 use Rattle.fb_shared.specs.Seats.{IsTaken}
 
 -- a reply to a take, by the job in it
-pub taken_reply : (reply : Reply) (job : Option Order) → IsTaken reply → job ≡ job_of reply → reply ≡ OfTake job
+pub taken_reply : (reply : Reply) (job : Option PlainJob) → IsTaken reply → job ≡ job_of reply → reply ≡ OfTake job
 taken_reply (OfTake order) job fits is = ap OfTake (sym is)
 taken_reply (OfCommit answer) job fits is = absurd fits
 taken_reply (OfDeliver answer) job fits is = absurd fits

@@ -3,7 +3,7 @@ use Rattle.std.specs.Prelude.{◌≡◌, ℕ, ◌≤◌, ◌&&◌, ◌||◌, ◌
 use Rattle.std.specs.Ordering.{nat_cmp}
 use Rattle.std.specs.BTreeMap.{BTreeMap, get}
 use Rattle.fb_bench.specs.Story.{Record, turns_of}
-use Rattle.fb_shared.specs.Seats.{Hall, Place}
+use Rattle.fb_shared.specs.Seats.{Hall, SeatState}
 
 -- the callers: the first ones, for whom seats were made, and each other one that has a record
 abbrev pub is_caller : ℕ → List Record → ℕ → Bool
@@ -34,5 +34,5 @@ pub record IsBookOf (book : BTreeMap ℕ ℕ) (callers : ℕ) (records : List Re
   pub pages : (q : ℕ) → get nat_cmp book q ≡ page_of callers records q
 
 -- as many calls are recorded of the seat's caller as with the seat, and it has seen no more records than there are
-abbrev pub SeatFits : Hall → Place → Type 0
+abbrev pub SeatFits : Hall → SeatState → Type 0
 SeatFits hall seat = (turns_of seat.caller hall.bench.log.records ≡ seat.turns) × (seat.seen ≤ length hall.bench.log.records)

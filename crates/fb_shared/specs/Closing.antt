@@ -3,25 +3,25 @@ use Rattle.std.specs.Prelude.{◌≡◌, ◌==◌, ◌&&◌, ℕ, ◌<◌, ◌�
 use Rattle.std.specs.List.{list_any, Contains}
 use Rattle.std.specs.BTreeMap.{BTreeMap}
 use Rattle.fb_bench.specs.Story.{Record, Story, turns_of, record_at}
-use Rattle.fb_shared.specs.Seats.{Hall, Place, Claim}
+use Rattle.fb_shared.specs.Seats.{Hall, SeatState, Claim}
 use Rattle.fb_shared.specs.Book.{is_caller, IsBookOf}
 use Rattle.fb_shared.specs.declared.close.CloseFault.{CloseFault}
 use Rattle.fb_shared.specs.declared.close.CloseFault.TheVariants.{SeatMissing, SeatDiffers, ReceiptDiffers, ReceiptTwice, Memory}
 
 -- a seat of this caller is among the seats
-abbrev pub has_seat : List Place → ℕ → Bool
+abbrev pub has_seat : List SeatState → ℕ → Bool
 has_seat seats q = list_any (λ s. s.caller == q) seats
 
 -- a seat of this caller is among the seats whose number of calls is not that of its records
-abbrev pub has_wrong_seat : List Record → List Place → ℕ → Bool
+abbrev pub has_wrong_seat : List Record → List SeatState → ℕ → Bool
 has_wrong_seat records seats q = list_any (λ s. s.caller == q && not (turns_of q records == s.turns)) seats
 
 -- each caller's seat is there
-abbrev pub AreSeated : Hall → List Place → Type 0
+abbrev pub AreSeated : Hall → List SeatState → Type 0
 AreSeated hall seats = (q : ℕ) → is_caller hall.callers hall.bench.log.records q ≡ true → has_seat seats q ≡ true
 
 -- no seat differs from its caller's records
-abbrev pub AreSeatsRight : List Record → List Place → Type 0
+abbrev pub AreSeatsRight : List Record → List SeatState → Type 0
 AreSeatsRight records seats = (q : ℕ) → has_wrong_seat records seats q ≡ false
 
 -- the record at the receipt's number is the receipt's
@@ -48,7 +48,7 @@ pub record AreReceiptsRight (records : List Record) (receipts : List Claim) : Ty
   pub once : (number : ℕ) → times number receipts ≤ 1
 
 -- all seats and receipts are right
-pub record AgreesWith (hall : Hall) (seats : List Place) (receipts : List Claim) : Type 0 where
+pub record AgreesWith (hall : Hall) (seats : List SeatState) (receipts : List Claim) : Type 0 where
   pub seated : AreSeated hall seats
   pub turns : AreSeatsRight hall.bench.log.records seats
   pub shown : AreReceiptsRight hall.bench.log.records receipts
@@ -95,7 +95,7 @@ ChecksReceipts records receipts (Ok done) = AreReceiptsRight records receipts
 ChecksReceipts records receipts (Err fault) = IsReceiptFault records receipts fault
 
 -- the fault stands there, and no earlier one does
-abbrev pub IsFirstFault : Hall → List Place → List Claim → CloseFault → Type 0
+abbrev pub IsFirstFault : Hall → List SeatState → List Claim → CloseFault → Type 0
 IsFirstFault hall seats receipts (SeatMissing q) =
     (is_caller hall.callers hall.bench.log.records q ≡ true)
     × (has_seat seats q ≡ false)
@@ -111,12 +111,12 @@ IsFirstFault hall seats receipts (ReceiptTwice number) =
 IsFirstFault hall seats receipts Memory = AreSeated hall seats × AreSeatsRight hall.bench.log.records seats
 
 -- all seats and receipts are right, or this is their first fault
-abbrev pub ChecksAll : Hall → List Place → List Claim → Option CloseFault → Type 0
+abbrev pub ChecksAll : Hall → List SeatState → List Claim → Option CloseFault → Type 0
 ChecksAll hall seats receipts None = AgreesWith hall seats receipts
 ChecksAll hall seats receipts (Some fault) = IsFirstFault hall seats receipts fault
 
 -- The workbench and the book of a close: they lay under the lock, with which the seats and the receipts agree.
-abbrev pub IsCloseOf : List Place → List Claim → Story → BTreeMap ℕ ℕ → Type 0
+abbrev pub IsCloseOf : List SeatState → List Claim → Story → BTreeMap ℕ ℕ → Type 0
 IsCloseOf seats receipts bench counts =
     (hall : Hall) × (hall.bench ≡ bench) × AgreesWith hall seats receipts × IsBookOf counts hall.callers hall.bench.log.records
 

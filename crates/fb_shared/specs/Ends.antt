@@ -10,7 +10,7 @@ use Rattle.fb_shared.specs.declared.work.WorkEnd.{WorkEnd}
 use Rattle.fb_shared.specs.declared.work.WorkEnd.TheVariants.{TurnsOver, Stopped, SeatDiffers, Behind, HistoryFull, Memory}
 use Rattle.fb_shared.specs.declared.work.Look.{Look}
 use Rattle.fb_shared.specs.declared.work.Look.TheVariants.{Ended, Nothing, Taken}
-use Rattle.fb_shared.specs.Seats.{Hall, Place, hall_after}
+use Rattle.fb_shared.specs.Seats.{Hall, SeatState, hall_after}
 use Rattle.fb_shared.specs.Refusals.{refusal_of}
 
 -- a refusal under its name
@@ -21,11 +21,11 @@ end_of refused.HistoryFull = HistoryFull
 end_of refused.Memory = Memory
 
 -- what ends a worker before a take, whether or not a key is pending: the stop mark, or else the first cause against a call
-abbrev pub end_before_take : Hall → Place → Option WorkEnd
+abbrev pub end_before_take : Hall → SeatState → Option WorkEnd
 end_before_take hall seat = if hall.stopped then Some Stopped else option_map end_of (refusal_of hall seat)
 
 -- an end that names the seat
-abbrev pub NamesSeat : Place → WorkEnd → Type 0
+abbrev pub NamesSeat : SeatState → WorkEnd → Type 0
 NamesSeat seat (SeatDiffers turns book) = (turns ≡ seat.turns) × (book ≢ turns)
 NamesSeat seat (Behind seen len) = (seen ≡ seat.seen) × (len < seen)
 NamesSeat seat TurnsOver = Unit {0}
@@ -34,7 +34,7 @@ NamesSeat seat HistoryFull = Unit {0}
 NamesSeat seat Memory = Unit {0}
 
 -- a look that ends a worker
-abbrev pub LookNames : Place → Look → Type 0
+abbrev pub LookNames : SeatState → Look → Type 0
 LookNames seat (Ended end) = NamesSeat seat end
 LookNames seat Nothing = Unit {0}
 LookNames seat (Taken job) = Unit {0}
@@ -45,7 +45,7 @@ EndsAs None end = end ≡ Memory
 EndsAs (Some cause) end = end ≡ cause
 
 -- A look for a job, under the lock. What ends the worker is asked first, whether or not there is a job. A look that takes none records nothing.
-abbrev pub Looks : Hall → Place → Look → Hall → Type 0
+abbrev pub Looks : Hall → SeatState → Look → Hall → Type 0
 Looks hall seat (Ended end) hall' = EndsAs (end_before_take hall seat) end × (hall' ≡ hall)
 Looks hall seat Nothing hall' = (end_before_take hall seat ≡ None) × (next (state_of hall.bench) ≡ None) × (hall' ≡ hall)
 Looks hall seat (Taken job) hall' =

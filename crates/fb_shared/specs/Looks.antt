@@ -4,8 +4,8 @@ use Rattle.std.specs.declared.vec.Vec.{Vec}
 use Rattle.std.specs.declared.alloc.Global.{Global}
 use Rattle.fb_shared.specs.declared.work.Look.{Look}
 use Rattle.fb_shared.specs.Runs.{AddsLook}
-use Rattle.fb_shared.specs.Seats.{Place, Claim}
+use Rattle.fb_shared.specs.Seats.{SeatState, Claim}
 
 -- the receipt of a take is added, with room for one more; where nothing is taken, nothing is added
-abbrev pub LookAdds : Look → Place → Vec Claim Global → Vec Claim Global → Place → Type 0
+abbrev pub LookAdds : Look → SeatState → Vec Claim Global → Vec Claim Global → SeatState → Type 0
 LookAdds look seat old new after = AddsLook look (vec_len new) (vec_capacity new) seat old.items new.items after

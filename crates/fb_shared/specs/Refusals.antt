@@ -3,10 +3,10 @@ use Rattle.std.specs.Prelude.{◌≡◌, ◌≢◌, ◌==◌, ◌<◌, Option, S
 use Rattle.fb_shared.specs.declared.locked.SharedRefused.{SharedRefused}
 use Rattle.fb_shared.specs.declared.locked.SharedRefused.TheVariants.{SeatDiffers, Behind, HistoryFull, Memory}
 use Rattle.fb_bench.specs.Story.{turns_of}
-use Rattle.fb_shared.specs.Seats.{Hall, Place}
+use Rattle.fb_shared.specs.Seats.{Hall, SeatState}
 
 -- the first cause, want of memory apart
-abbrev pub refusal_of : Hall → Place → Option SharedRefused
+abbrev pub refusal_of : Hall → SeatState → Option SharedRefused
 refusal_of hall seat =
     if turns_of seat.caller hall.bench.log.records == seat.turns then (
     if nat_lt (length hall.bench.log.records) seat.seen then Some (Behind seat.seen (length hall.bench.log.records))
@@ -19,7 +19,7 @@ RefusedAs None refused = refused ≡ Memory
 RefusedAs (Some cause) refused = refused ≡ cause
 
 -- what a refusal says of the seat
-abbrev pub IsRefusalOf : Place → SharedRefused → Type 0
+abbrev pub IsRefusalOf : SeatState → SharedRefused → Type 0
 IsRefusalOf seat (SeatDiffers turns book) = (turns ≡ seat.turns) × (book ≢ turns)
 IsRefusalOf seat (Behind seen len) = (seen ≡ seat.seen) × (len < seen)
 IsRefusalOf seat HistoryFull = Unit {0}

@@ -1,26 +1,26 @@
 -- Calls with one seat, one after another, and those that a worker makes.
 use Rattle.std.specs.Prelude.{◌≡◌, ℕ, ◌≤◌, ◌<◌, ◌++◌, [], ◌∷◌, List, Option, Some, None, length}
-use Rattle.fb_bench.specs.Jobs.Reads.{Order}
+use Rattle.fb_bench.specs.Jobs.Reads.{PlainJob}
 use Rattle.fb_bench.specs.Machine.{Call, ToCommit, ToTake, ToDeliver, ToGiveBack, ToAsk, Reply}
 use Rattle.fb_bench.specs.Requests.{job_of}
 use Rattle.fb_shared.specs.declared.work.Look.{Look}
 use Rattle.fb_shared.specs.declared.work.Look.TheVariants.{Ended, Nothing, Taken}
 use Rattle.fb_shared.specs.declared.work.WorkEnd.{WorkEnd}
 use Rattle.fb_shared.specs.declared.work.WorkEnd.TheVariants.{TurnsOver, Stopped, SeatDiffers, Behind, HistoryFull, Memory}
-use Rattle.fb_shared.specs.Seats.{Place, Claim, IsReceiptOf, seat_after}
+use Rattle.fb_shared.specs.Seats.{SeatState, Claim, IsReceiptOf, seat_after}
 
 -- the receipts are of calls with the seat, one after another
-abbrev pub IsRun : Place → List Claim → Place → Type 0
+abbrev pub IsRun : SeatState → List Claim → SeatState → Type 0
 IsRun seat [] after = after ≡ seat
 IsRun seat (claim ∷ claims) after = IsReceiptOf seat claim.entry.call claim × IsRun (seat_after seat claim) claims after
 
 -- what a worker has in hand between two calls: no job; a job that it has taken; or it has given one back, and is done
 pub data Hand : Type 0 where
   Empty : Hand
-  Holds : Order → Hand
+  Holds : PlainJob → Hand
   Gave : Hand
 
-abbrev pub hand_with : Option Order → Hand
+abbrev pub hand_with : Option PlainJob → Hand
 hand_with None = Empty
 hand_with (Some order) = Holds order
 
@@ -37,7 +37,7 @@ IsTake ToTake = Unit {0}
 IsTake _ = ⊥
 
 -- the result of the job, or its key given back
-abbrev pub Settles : Order → Call → Type 0
+abbrev pub Settles : PlainJob → Call → Type 0
 Settles order (ToDeliver result) = result ≡ order
 Settles order (ToGiveBack key) = key ≡ order.key
 Settles order _ = ⊥
@@ -54,7 +54,7 @@ IsWork hand [] now = now ≡ hand
 IsWork hand (claim ∷ claims) now = Follows hand claim.entry.call × IsWork (hand_after claim.entry.call claim.entry.reply) claims now
 
 -- Receipts of calls with the seat, as a worker makes them, are added at the end, at most so many.
-pub record AddsWork (hand : Hand) (most : ℕ) (seat : Place) (old new : List Claim) (after : Place) (now : Hand) : Type 0 where
+pub record AddsWork (hand : Hand) (most : ℕ) (seat : SeatState) (old new : List Claim) (after : SeatState) (now : Hand) : Type 0 where
   pub added : List Claim
   pub behind : new ≡ old ++ added
   pub run : IsRun seat added after
@@ -82,11 +82,11 @@ GoesOnWith hand None = hand ≡ Empty
 GoesOnWith hand (Some end) = EndsWith hand end
 
 -- a worker's calls up to where it ends, or goes on
-abbrev pub Works : Hand → ℕ → Place → List Claim → List Claim → Place → Option WorkEnd → Type 0
+abbrev pub Works : Hand → ℕ → SeatState → List Claim → List Claim → SeatState → Option WorkEnd → Type 0
 Works hand most seat old new after end = (now : Hand) × AddsWork hand most seat old new after now × GoesOnWith now end
 
 -- What a look for a job adds: the receipt of the take where it takes one, with room for one more, and otherwise nothing.
-abbrev pub AddsLook : Look → ℕ → ℕ → Place → List Claim → List Claim → Place → Type 0
+abbrev pub AddsLook : Look → ℕ → ℕ → SeatState → List Claim → List Claim → SeatState → Type 0
 AddsLook (Taken job) size room seat old new after = (size < room) × AddsWork Empty 1 seat old new after (Holds job)
 AddsLook Nothing size room seat old new after = (new ≡ old) × (after ≡ seat)
 AddsLook (Ended end) size room seat old new after = (new ≡ old) × (after ≡ seat)

@@ -4,7 +4,7 @@ use Rattle.fb_bench.specs.Machine.{Call, ToCommit, ToTake, ToDeliver, ToGiveBack
 use Rattle.fb_bench.specs.Story.{Record, Story, recorded, record_of}
 
 -- a seat: whose it is, how many calls were recorded with it, and the greatest number of a record that it has seen
-pub record Place : Type 0 where
+pub record SeatState : Type 0 where
   pub caller : ℕ
   pub turns : ℕ
   pub seen : ℕ
@@ -29,7 +29,7 @@ abbrev pub next_claim : Hall → ℕ → Call → Claim
 next_claim hall caller call = record { number = length hall.bench.log.records + 1; entry = record_of hall.bench caller call }
 
 -- the seat after the call of this receipt
-abbrev pub seat_after : Place → Claim → Place
+abbrev pub seat_after : SeatState → Claim → SeatState
 seat_after seat claim = record seat { turns = claim.entry.turn; seen = claim.number }
 
 -- an answer to a commit
@@ -66,7 +66,7 @@ Fits (ToGiveBack key) answer = IsReturned answer
 Fits (ToAsk key) answer = IsAsked answer
 
 -- the receipt is of this call, the seat's next, with a reply of its kind, and newer than all that the seat has seen
-pub record IsReceiptOf (seat : Place) (call : Call) (claim : Claim) : Type 0 where
+pub record IsReceiptOf (seat : SeatState) (call : Call) (claim : Claim) : Type 0 where
   pub caller_is : claim.entry.caller ≡ seat.caller
   pub call_is : claim.entry.call ≡ call
   pub turn_is : claim.entry.turn ≡ seat.turns + 1
@@ -74,9 +74,9 @@ pub record IsReceiptOf (seat : Place) (call : Call) (claim : Claim) : Type 0 whe
   pub later : seat.seen < claim.number
 
 -- the seat of a caller that has made no call
-abbrev pub new_seat : ℕ → Place
+abbrev pub new_seat : ℕ → SeatState
 new_seat caller = record { caller = caller; turns = 0; seen = 0 }
 
 -- the new seats of callers 1 to n, in order
-abbrev pub AreFirstSeats : ℕ → List Place → Type 0
+abbrev pub AreFirstSeats : ℕ → List SeatState → Type 0
 AreFirstSeats n seats = (length seats ≡ n) × ((k : ℕ) → k < n → slice_get seats k ≡ Some (new_seat (k + 1)))

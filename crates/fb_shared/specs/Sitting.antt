@@ -6,11 +6,11 @@ use Rattle.fb_bench.specs.declared.desk.DeskRefused.{DeskRefused}
 use Rattle.fb_bench.specs.declared.desk.DeskRefused.TheVariants as desk
 use Rattle.fb_shared.specs.declared.locked.SharedRefused.{SharedRefused}
 use Rattle.fb_shared.specs.declared.locked.SharedRefused.TheVariants.{SeatDiffers, Behind, HistoryFull, Memory}
-use Rattle.fb_shared.specs.Seats.{Place, Claim, IsReceiptOf, seat_after}
+use Rattle.fb_shared.specs.Seats.{SeatState, Claim, IsReceiptOf, seat_after}
 
 -- a seat with the receipts of its calls
 pub record Sitter : Type 0 where
-  pub seat : Place
+  pub seat : SeatState
   pub receipts : List Claim
 
 -- a refusal as a desk says it

@@ -15,9 +15,9 @@ pub struct Seat {
 }
 
 impl Model for Seat {
-    ghost use Rattle.fb_shared.specs.Seats.{Place};
+    ghost use Rattle.fb_shared.specs.Seats.{SeatState};
 
-    ghost Value = { Place };
+    ghost Value = { SeatState };
 
     ghost view = { λ it. record { caller = it.caller; turns = it.turns; seen = it.seen } };
 }

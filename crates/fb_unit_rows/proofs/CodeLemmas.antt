@@ -23,7 +23,7 @@ use Rattle.fb_faults.specs.Iface.declared.code.Code.{Code}
 use Rattle.fb_faults.specs.Iface.declared.code.Code.TheVariants.{AlgorithmUnknown, Duplicate, EventUnknown, MixedKind, NameDiffers, StateUnknown, UnknownType, WithUnknown, WrongKind}
 use Rattle.fb_faults.specs.Iface.declared.fault.Fault.{Fault}
 use Rattle.fb_faults.specs.Expr.Charts.{faults_in_unit}
-use Rattle.fb_faults.specs.Expr.Demands.{Demand, IsUnmet, assigns, chart_demands, code_of, fault_of, names_variable, suits_operand, suits_operands, suits_place}
+use Rattle.fb_faults.specs.Expr.Demands.{Demand, IsUnmet, assigns, chart_demands, code_of_demand, fault_of, names_variable, suits_operand, suits_operands, suits_place}
 use Rattle.fb_faults.specs.Ecc.Algorithms.{algorithm_fault, algorithm_faults, algorithm_names, run_faults}
 use Rattle.fb_faults.specs.Ecc.Charts.{chart_faults, chart_faults_in}
 use Rattle.fb_faults.specs.Ecc.Events.{end_event_faults, event_faults, event_in, event_named, sent_faults, span_from, target_faults, trigger_faults, written_fault}
@@ -142,7 +142,7 @@ declarations_code sources unit (Some decl) f c = declared_code sources unit decl
 
 -- expressions
 
-demand_code : (demand : Demand) → IsCodeOf Expressions (code_of demand)
+demand_code : (demand : Demand) → IsCodeOf Expressions (code_of_demand demand)
 demand_code (names_variable r) = unknown_variable
 demand_code (suits_operand used e) = class
 demand_code (suits_operands used left e) = class

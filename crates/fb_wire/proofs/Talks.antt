@@ -5,7 +5,7 @@ use Rattle.fb_bench.specs.Machine.{Call, ToTake, ToDeliver, OfTake, OfDeliver, R
 use Rattle.fb_bench.specs.Solo.{IsStep, SoloStep}
 use Rattle.fb_bench.specs.declared.desk.Solo.{Solo}
 use Rattle.fb_bench.specs.Calls.{Answer, Replied, FullHistory, BehindHistory, Serves, take_reply}
-use Rattle.fb_bench.specs.Jobs.Reads.{Order}
+use Rattle.fb_bench.specs.Jobs.Reads.{PlainJob}
 use Rattle.std.specs.Result.{result_ok}
 use Rattle.fb_bench.specs.declared.answers.Taken.{Taken}
 use Rattle.fb_bench.specs.declared.answers.Delivered.{Delivered}
@@ -127,7 +127,7 @@ module _ {S : Type 0} (Step : S → Call → Answer → S → Type 0) where
       subst P open_plan (by_any old new ToTake next take_reply r step)
 
   -- a round whose job was taken, run and delivered
-  pub round_served : (old mid new : S) (held : Jobs) (count : ℕ) (more : ℕ → Plan) (order : Order) (taken : Result Taken DeskRefused) (r : Result Delivered DeskRefused) (round : Result Round AllocError)
+  pub round_served : (old mid new : S) (held : Jobs) (count : ℕ) (more : ℕ → Plan) (order : PlainJob) (taken : Result Taken DeskRefused) (r : Result Delivered DeskRefused) (round : Result Round AllocError)
       → Serves Step old ToTake take_reply taken mid → answer_in take_reply taken ≡ Some (Replied (OfTake (Some order)))
       → Serves Step mid (ToDeliver order) OfDeliver r new
       → option_map (after_deliver held count more) (answer_in OfDeliver r) ≡ option_map (left_after held count more) (result_ok round)

@@ -1,7 +1,7 @@
 -- What is said to each answer of the machine.
 use Rattle.std.specs.Prelude.{ℕ, codes, true, false, Option, Some, None}
 use Rattle.serde_json.specs.Data.{Data}
-use Rattle.fb_bench.specs.Jobs.Reads.{Order}
+use Rattle.fb_bench.specs.Jobs.Reads.{PlainJob}
 use Rattle.fb_bench.specs.Machine.{Reply, OfCommit, OfTake, OfDeliver, OfGiveBack, OfAsk, Shown, Finds, Waits, Unknown}
 use Rattle.fb_bench.specs.Calls.{Answer, Replied, FullHistory, BehindHistory}
 use Rattle.fb_bench.specs.declared.answers.Committed.{Committed}
@@ -22,7 +22,7 @@ commit_said (NoSuchUnit unit) = refused_unit (codes "NoSuchUnit") unit
 commit_said TooManyUnits = refused (codes "TooManyUnits")
 
 -- a job gets this number
-abbrev pub take_said : ℕ → Option Order → Data
+abbrev pub take_said : ℕ → Option PlainJob → Data
 take_said n None = no_job
 take_said n (Some order) = job_given n order.key
 

@@ -4,7 +4,7 @@ use Rattle.serde_json.specs.Data.{Data}
 use Rattle.fb_text.specs.Name.{name_of}
 use Rattle.fb_text.specs.declared.name.NameFault.{NameFault}
 use Rattle.fb_bench.specs.Library.Texts.{Edit, Puts, Removes}
-use Rattle.fb_bench.specs.Jobs.Reads.{Order}
+use Rattle.fb_bench.specs.Jobs.Reads.{PlainJob}
 use Rattle.fb_bench.specs.Machine.{Call, ToCommit, ToTake, ToDeliver, ToGiveBack, ToAsk, OfTake, OfDeliver}
 use Rattle.fb_bench.specs.Calls.{Answer, Replied, FullHistory, BehindHistory}
 use Rattle.fb_bench.specs.declared.answers.Delivered.TheVariants.{Accepted}
@@ -16,7 +16,7 @@ use Rattle.fb_messages.specs.Requests.{Request, Change, puts, removes, request_o
 
 -- the jobs that a run holds, by their keys and what they read
 abbrev pub Jobs : Type 0
-Jobs = List Order
+Jobs = List PlainJob
 
 -- a call and its answer
 abbrev pub Pair : Type 0
@@ -87,12 +87,12 @@ take_plan held =
     if nat_le 64 (length held) then says (refused (codes "TooManyJobs")) held
     else asks ToTake (λ answer. says (said_to (length held + 1) answer) (held_after held answer))
 
-abbrev pub deliver_held : Jobs → Option Order → Plan
+abbrev pub deliver_held : Jobs → Option PlainJob → Plan
 deliver_held held None = says (refused (codes "NoSuchJob")) held
 deliver_held held (Some order) = call_once held (ToDeliver order)
 
 -- jobs are numbered from 1
-abbrev pub job_at : Jobs → ℕ → Option Order
+abbrev pub job_at : Jobs → ℕ → Option PlainJob
 job_at held zero = None
 job_at held (suc place) = slice_get held place
 

@@ -25,33 +25,33 @@ use Rattle.fb_faults.specs.Library.View.{Sources, tree_at, tree_in, tree_of}
 use Rattle.fb_faults.proofs.Netcheck.LocalLemmas.{Each}
 
 -- each value that tokens spell by the form has the fact
-abbrev Gives : {A : Type 0} → Form A → (A → Type 0) → Type 0
-Gives {A = A} x P = (tokens : List Lexeme) (value : A) → Spells x tokens value → P value
+abbrev GivesOnly : {A : Type 0} → Form A → (A → Type 0) → Type 0
+GivesOnly {A = A} x P = (tokens : List Lexeme) (value : A) → Spells x tokens value → P value
 
-gives_as : {A B : Type 0} (f : A → B) (x : Form A) (P : A → Type 0) (Q : B → Type 0) → ((a : A) → P a → Q (f a)) → Gives x P → Gives (as_value f x) Q
+gives_as : {A B : Type 0} (f : A → B) (x : Form A) (P : A → Type 0) (Q : B → Type 0) → ((a : A) → P a → Q (f a)) → GivesOnly x P → GivesOnly (as_value f x) Q
 gives_as f x P Q keeps h tokens value s = subst Q (sym s.2) (keeps s.0 (h tokens s.0 s.1))
 
-gives_first : {A B : Type 0} (x : Form A) (y : Form B) (P : A → Type 0) → Gives x P → Gives (both x y) (λ v. P v.0)
+gives_first : {A B : Type 0} (x : Form A) (y : Form B) (P : A → Type 0) → GivesOnly x P → GivesOnly (both x y) (λ v. P v.0)
 gives_first x y P h tokens value s = h s.0 value.0 s.3
 
-gives_second : {A B : Type 0} (x : Form A) (y : Form B) (P : B → Type 0) → Gives y P → Gives (both x y) (λ v. P v.1)
+gives_second : {A B : Type 0} (x : Form A) (y : Form B) (P : B → Type 0) → GivesOnly y P → GivesOnly (both x y) (λ v. P v.1)
 gives_second x y P h tokens value s = h s.1 value.1 s.4
 
-gives_before : {A B : Type 0} (x : Form A) (y : Form B) (P : A → Type 0) → Gives x P → Gives (before x y) P
+gives_before : {A B : Type 0} (x : Form A) (y : Form B) (P : A → Type 0) → GivesOnly x P → GivesOnly (before x y) P
 gives_before {A = A} {B = B} x y P h = gives_as (λ (v : A × B). v.0) (both x y) (λ (v : A × B). P v.0) P (λ v p. p) (gives_first x y P h)
 
-gives_behind : {A B : Type 0} (x : Form A) (y : Form B) (P : B → Type 0) → Gives y P → Gives (behind x y) P
+gives_behind : {A B : Type 0} (x : Form A) (y : Form B) (P : B → Type 0) → GivesOnly y P → GivesOnly (behind x y) P
 gives_behind {A = A} {B = B} x y P h = gives_as (λ (v : A × B). v.1) (both x y) (λ (v : A × B). P v.1) P (λ v p. p) (gives_second x y P h)
 
-gives_either : {A : Type 0} (x y : Form A) (P : A → Type 0) → Gives x P → Gives y P → Gives (either x y) P
+gives_either : {A : Type 0} (x y : Form A) (P : A → Type 0) → GivesOnly x P → GivesOnly y P → GivesOnly (either x y) P
 gives_either x y P first second tokens value (inl s) = first tokens value s
 gives_either x y P first second tokens value (inr s) = second tokens value s
 
-gives_each : {A : Type 0} (x : Form A) (P : A → Type 0) → Gives x P → Gives (many x) (Each P)
+gives_each : {A : Type 0} (x : Form A) (P : A → Type 0) → GivesOnly x P → GivesOnly (many x) (Each P)
 gives_each x P h tokens [] s = tt
 gives_each x P h tokens (v ∷ vs) s = (h s.0 v s.3, gives_each x P h s.1 vs s.4)
 
-gives_section : {A : Type 0} (start end : Kind) (x : Form A) (P : A → Type 0) → Gives x P → Gives (section start x end) (Each P)
+gives_section : {A : Type 0} (start end : Kind) (x : Form A) (P : A → Type 0) → GivesOnly x P → GivesOnly (section start x end) (Each P)
 gives_section start end x P h = gives_behind (key start) (before (many x) (key end)) (Each P) (gives_before (many x) (key end) (Each P) (gives_each x P h))
 
 each_append : {A : Type 0} (P : A → Type 0) (xs ys : List A) → Each P xs → Each P ys → Each P (xs ++ ys)
@@ -68,33 +68,33 @@ is_inner roles.Subapplication = true
 abbrev pub IsInnerInstance : InstanceTree → Type 0
 IsInnerInstance i = is_inner i.role ≡ true
 
-gives_block : Gives (instance roles.Block) IsInnerInstance
+gives_block : GivesOnly (instance roles.Block) IsInnerInstance
 unfolding instance
 gives_block tokens value s = ap (λ (i : InstanceTree). is_inner i.role) s.2
 
-gives_blocks : Gives blocks (Each IsInnerInstance)
+gives_blocks : GivesOnly blocks (Each IsInnerInstance)
 unfolding blocks
 gives_blocks = gives_section kinds.Fbs kinds.EndFbs (instance roles.Block) IsInnerInstance gives_block
 
-gives_subapplication : Gives subapplication IsInnerInstance
+gives_subapplication : GivesOnly subapplication IsInnerInstance
 unfolding subapplication
 gives_subapplication tokens value s = ap (λ (i : InstanceTree). is_inner i.role) s.2
 
-gives_subapplications : Gives subapplications (Each IsInnerInstance)
+gives_subapplications : GivesOnly subapplications (Each IsInnerInstance)
 unfolding subapplications
 gives_subapplications = gives_section kinds.Subapps kinds.EndSubapps subapplication IsInnerInstance gives_subapplication
 
 abbrev InContents : ContentsTree → Type 0
 InContents c = Each IsInnerInstance c.network.instances
 
-gives_network_section : Gives network_section InContents
+gives_network_section : GivesOnly network_section InContents
 unfolding network_section
 gives_network_section =
     gives_either (as_value of_instances blocks) (as_value of_connections connections) InContents
     (gives_as of_instances blocks (Each IsInnerInstance) InContents (λ i h. h) gives_blocks)
     (gives_as of_connections connections (λ (c : List Connection). Unit {0}) InContents (λ c h. tt) (λ tokens value s. tt))
 
-gives_application_section : Gives application_section InContents
+gives_application_section : GivesOnly application_section InContents
 unfolding application_section
 gives_application_section =
     gives_either network_section (as_value of_instances subapplications) InContents gives_network_section
@@ -107,12 +107,12 @@ in_joined (c ∷ cs) h = each_append IsInnerInstance c.network.instances (joined
 abbrev InApplication : ApplicationTree → Type 0
 InApplication a = Each IsInnerInstance a.network.instances
 
-gives_application : Gives application InApplication
+gives_application : GivesOnly application InApplication
 unfolding application
 gives_application =
     let sections = as_value joined (many application_section) in
-    let all : Gives sections InContents = gives_as joined (many application_section) (Each InContents) InContents in_joined (gives_each application_section InContents gives_application_section) in
-    let closed : Gives (before sections (key kinds.EndApplication)) InContents = gives_before sections (key kinds.EndApplication) InContents all in
+    let all : GivesOnly sections InContents = gives_as joined (many application_section) (Each InContents) InContents in_joined (gives_each application_section InContents gives_application_section) in
+    let closed : GivesOnly (before sections (key kinds.EndApplication)) InContents = gives_before sections (key kinds.EndApplication) InContents all in
     gives_as application_of (behind (key kinds.Application) (both name (before sections (key kinds.EndApplication)))) (λ v. InContents v.1) InApplication (λ v h. h)
     (gives_behind (key kinds.Application) (both name (before sections (key kinds.EndApplication))) (λ v. InContents v.1)
     (gives_second name (before sections (key kinds.EndApplication)) InContents closed))
@@ -120,7 +120,7 @@ gives_application =
 abbrev InSystem : SystemContentsTree → Type 0
 InSystem c = Each InApplication c.applications
 
-gives_system_section : Gives system_section InSystem
+gives_system_section : GivesOnly system_section InSystem
 unfolding system_section
 gives_system_section =
     gives_either (as_value of_application application) (either (as_value of_device device) (as_value of_mappings mappings)) InSystem
@@ -136,12 +136,12 @@ in_system_joined (c ∷ cs) h = each_append InApplication c.applications (system
 abbrev InSystemTree : SystemTree → Type 0
 InSystemTree s = Each InApplication s.applications
 
-gives_system : Gives system InSystemTree
+gives_system : GivesOnly system InSystemTree
 unfolding system
 gives_system =
     let sections = as_value system_joined (many system_section) in
-    let all : Gives sections InSystem = gives_as system_joined (many system_section) (Each InSystem) InSystem in_system_joined (gives_each system_section InSystem gives_system_section) in
-    let closed : Gives (before sections (key kinds.EndSystem)) InSystem = gives_before sections (key kinds.EndSystem) InSystem all in
+    let all : GivesOnly sections InSystem = gives_as system_joined (many system_section) (Each InSystem) InSystem in_system_joined (gives_each system_section InSystem gives_system_section) in
+    let closed : GivesOnly (before sections (key kinds.EndSystem)) InSystem = gives_before sections (key kinds.EndSystem) InSystem all in
     gives_as system_of (behind (key kinds.System) (both name (before sections (key kinds.EndSystem)))) (λ v. InSystem v.1) InSystemTree (λ v h. h)
     (gives_behind (key kinds.System) (both name (before sections (key kinds.EndSystem))) (λ v. InSystem v.1)
     (gives_second name (before sections (key kinds.EndSystem)) InSystem closed))
@@ -152,7 +152,7 @@ InUnit (adapter_type d) = Unit {0}
 InUnit (subapplication_type d) = Unit {0}
 InUnit (system_configuration s) = InSystemTree s
 
-gives_unit : Gives unit InUnit
+gives_unit : GivesOnly unit InUnit
 unfolding unit
 gives_unit tokens value (inl s) = subst InUnit (sym s.2) tt
 gives_unit tokens value (inr (inl s)) = subst InUnit (sym s.2) tt

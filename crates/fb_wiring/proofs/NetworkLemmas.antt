@@ -49,7 +49,7 @@ use Rattle.fb_network.specs.declared.network.Instance.{Instance}
 use Rattle.fb_network.specs.declared.network.InstanceKind.TheVariants as instances
 use Rattle.fb_network.specs.declared.network.Port.{Port}
 use Rattle.fb_wiring.specs.ByName.{declared, kind_at}
-use Rattle.fb_wiring.specs.Clean.{IsSound, wanted_kind}
+use Rattle.fb_wiring.specs.Clean.{IsCleanWithKinds, wanted_kind}
 use Rattle.fb_wiring.specs.Networks.{end_named, instance_in_role, network_of, plain_connection, plain_end, plain_instance, plain_network}
 use Rattle.fb_wiring.proofs.Finding.{found_by_name}
 use Rattle.fb_wiring.proofs.FirstOnes.{Distinct, stands_for-first_ones}
@@ -416,7 +416,7 @@ module _ (sources : Sources) (here : NetworkPlace) (n : NetworkTree) (ports : Li
           let second = own_right Destination c.sort c.destination y o.destination r.1 in
           true≢false ((λ i. sym first i && sym second i) ∙ passes c x o.among o.source)
 
-      pub sound : IsSound sources network
+      pub sound : IsCleanWithKinds sources network
       sound = record {
         clean = record {
           named = named distinct;

@@ -32,7 +32,7 @@ use Rattle.fb_network.specs.Plain.{PlainNetwork}
 use Rattle.fb_network.specs.declared.network.End.TheVariants.{Own}
 use Rattle.fb_network.specs.declared.network.Port.{Port}
 use Rattle.fb_wiring.specs.Applications.{applications_of, plain_application}
-use Rattle.fb_wiring.specs.Clean.{ApplicationsAreClean, AreSound, IsSound, NetworksAreClean, application_named}
+use Rattle.fb_wiring.specs.Clean.{ApplicationsAreClean, AreCleanWithKinds, IsCleanWithKinds, NetworksAreClean, application_named}
 use Rattle.fb_wiring.specs.Networks.{end_named, network_of, plain_network}
 use Rattle.fb_wiring.specs.Nothing.{HasNoReport}
 use Rattle.fb_wiring.specs.Ports.{plain_ports}
@@ -46,7 +46,7 @@ use Rattle.fb_wiring.proofs.NothingLemmas.{nothing_reported}
 use Rattle.fb_wiring.proofs.PortLemmas.{plain_port, port_by_name}
 
 -- ports alone
-leaf_sound : (sources : Sources) (ports : List Port) → IsSound sources (record { ports = ports; instances = []; connections = [] })
+leaf_sound : (sources : Sources) (ports : List Port) → IsCleanWithKinds sources (record { ports = ports; instances = []; connections = [] })
 leaf_sound sources ports = record {
   clean = record {
     named = λ i c. absurd (contains_nothing i c);
@@ -95,7 +95,7 @@ no_socket sorts.Event = refl
 no_socket sorts.Data = refl
 no_socket sorts.Adapter = refl
 
-subapplication_sound : (sources : Sources) (unit : List ℕ) (d : TypeTree) → tree_at sources unit ≡ Some (subapplication_type d) → HasNoReport sources unit → IsSound sources (network_of (subapplication_type d))
+subapplication_sound : (sources : Sources) (unit : List ℕ) (d : TypeTree) → tree_at sources unit ≡ Some (subapplication_type d) → HasNoReport sources unit → IsCleanWithKinds sources (network_of (subapplication_type d))
 subapplication_sound sources unit d is report =
     let decl = subapplication_type d in
     let placed = type_place sources unit kinds.Subapplication d in
@@ -111,7 +111,7 @@ subapplication_sound sources unit d is report =
     (all_types sources unit decl is report)
     (λ c x among own. (All-contains (IsCleanConnection sources placed.0) d.network.connections c fine.connections among).passes_nothing)
 
-declared_sound : (sources : Sources) (unit : List ℕ) (decl : DeclTree) → tree_at sources unit ≡ Some decl → HasNoReport sources unit → IsSound sources (network_of decl)
+declared_sound : (sources : Sources) (unit : List ℕ) (decl : DeclTree) → tree_at sources unit ≡ Some decl → HasNoReport sources unit → IsCleanWithKinds sources (network_of decl)
 declared_sound sources unit (block_type d) is report = leaf_sound sources (plain_ports (meanings_in_type d))
 declared_sound sources unit (adapter_type d) is report = leaf_sound sources (plain_ports (meanings_in_type d))
 declared_sound sources unit (subapplication_type d) is report = subapplication_sound sources unit d is report
@@ -120,11 +120,11 @@ declared_sound sources unit (system_configuration s) is report = leaf_sound sour
 pub networks_clean : NetworksAreClean
 networks_clean sources unit network is none = by (tree_at sources unit) refl is
   where
-    by : (tree : Option DeclTree) → tree_at sources unit ≡ tree → option_map network_of tree ≡ Some network → IsSound sources network
+    by : (tree : Option DeclTree) → tree_at sources unit ≡ tree → option_map network_of tree ≡ Some network → IsCleanWithKinds sources network
     by None there e = absurd (let no : ⊥ = cc in no)
     by (Some decl) there e =
         let same : network_of decl ≡ network = cc in
-        subst (λ (n : PlainNetwork). IsSound sources n) same (declared_sound sources unit decl there (nothing_reported sources unit none))
+        subst (λ (n : PlainNetwork). IsCleanWithKinds sources n) same (declared_sound sources unit decl there (nothing_reported sources unit none))
 
 -- an application has no ports
 
@@ -190,7 +190,7 @@ module _ (sources : Sources) (unit : List ℕ) (s : SystemTree) (is : tree_at so
   abbrev behind : List (List NameUse)
   behind = map (λ d. d.name) s.devices ∷ map resource_names s.devices
 
-  application_sound : (a : ApplicationTree) → Contains s.applications a → IsSound sources (plain_network [] a.network)
+  application_sound : (a : ApplicationTree) → Contains s.applications a → IsCleanWithKinds sources (plain_network [] a.network)
   application_sound a c =
       let decl = system_configuration s in
       let placed = application_place sources unit a in
@@ -242,7 +242,7 @@ module _ (sources : Sources) (unit : List ℕ) (s : SystemTree) (is : tree_at so
       s.applications applications_apart
       ∙ ap (option_and_then made) (stands_for_itself (λ (x : ApplicationTree). x.name) (λ x. x.network) s.applications applications_apart a c)
 
-  system_sound : AreSound sources (map plain_application s.applications)
+  system_sound : AreCleanWithKinds sources (map plain_application s.applications)
   system_sound = record {
     apart = places_apart;
     named = λ a c.
@@ -250,17 +250,17 @@ module _ (sources : Sources) (unit : List ℕ) (s : SystemTree) (is : tree_at so
         subst (λ (x : Application). application_named (map plain_application s.applications) x.name ≡ Some x) o.gives (application_found o.origin o.among);
     sound = λ a c.
         let o = origin_in_map plain_application s.applications a c in
-        subst (λ (x : Application). IsSound sources x.network) o.gives (application_sound o.origin o.among);
+        subst (λ (x : Application). IsCleanWithKinds sources x.network) o.gives (application_sound o.origin o.among);
   }
 
-no_applications : (sources : Sources) → AreSound sources []
+no_applications : (sources : Sources) → AreCleanWithKinds sources []
 no_applications sources = record {
   apart = λ i j a b before first again same. absurd (let no : ⊥ = cc in no);
   named = λ a c. absurd (contains_nothing a c);
   sound = λ a c. absurd (contains_nothing a c);
 }
 
-applications_sound : (sources : Sources) (unit : List ℕ) (decl : DeclTree) → tree_at sources unit ≡ Some decl → HasNoReport sources unit → AreSound sources (applications_of decl)
+applications_sound : (sources : Sources) (unit : List ℕ) (decl : DeclTree) → tree_at sources unit ≡ Some decl → HasNoReport sources unit → AreCleanWithKinds sources (applications_of decl)
 applications_sound sources unit (block_type d) is report = no_applications sources
 applications_sound sources unit (adapter_type d) is report = no_applications sources
 applications_sound sources unit (subapplication_type d) is report = no_applications sources
@@ -269,8 +269,8 @@ applications_sound sources unit (system_configuration s) is report = system_soun
 pub applications_clean : ApplicationsAreClean
 applications_clean sources unit applications is none = by (tree_at sources unit) refl is
   where
-    by : (tree : Option DeclTree) → tree_at sources unit ≡ tree → option_map applications_of tree ≡ Some applications → AreSound sources applications
+    by : (tree : Option DeclTree) → tree_at sources unit ≡ tree → option_map applications_of tree ≡ Some applications → AreCleanWithKinds sources applications
     by None there e = absurd (let no : ⊥ = cc in no)
     by (Some decl) there e =
         let same : applications_of decl ≡ applications = cc in
-        subst (λ (l : List Application). AreSound sources l) same (applications_sound sources unit decl there (nothing_reported sources unit none))
+        subst (λ (l : List Application). AreCleanWithKinds sources l) same (applications_sound sources unit decl there (nothing_reported sources unit none))

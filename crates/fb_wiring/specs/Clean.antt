@@ -19,7 +19,7 @@ wanted_kind Block = kinds.Block
 wanted_kind Subapplication = kinds.Subapplication
 
 -- the network is clean, and the type of each instance is of the kind that this wants
-pub record IsSound (sources : Sources) (network : PlainNetwork) : Type 0 where
+pub record IsCleanWithKinds (sources : Sources) (network : PlainNetwork) : Type 0 where
   pub clean : IsClean (declared sources) network
   pub kinds : (i : Instance) → Contains network.instances i → kind_at sources i.type_name ≡ Some (wanted_kind i.kind)
 
@@ -27,22 +27,22 @@ pub record IsSound (sources : Sources) (network : PlainNetwork) : Type 0 where
 abbrev pub NetworksAreClean : Type 0
 NetworksAreClean =
     (sources : Sources) (unit : List ℕ) (network : PlainNetwork)
-    → declared sources unit ≡ Some network → faults_of sources unit ≡ [] → IsSound sources network
+    → declared sources unit ≡ Some network → faults_of sources unit ≡ [] → IsCleanWithKinds sources network
 
 -- the first application of that name
 abbrev pub application_named : List Application → List ℕ → Option Application
 application_named applications name = find (λ a. is_same a.name name) applications
 
 -- each application has a name of its own and a clean network
-pub record AreSound (sources : Sources) (applications : List Application) : Type 0 where
+pub record AreCleanWithKinds (sources : Sources) (applications : List Application) : Type 0 where
   pub apart :
       (i j : ℕ) (a b : Application)
       → i < j → slice_get applications i ≡ Some a → slice_get applications j ≡ Some b → a.name ≡ b.name → ⊥
   pub named : (a : Application) → Contains applications a → application_named applications a.name ≡ Some a
-  pub sound : (a : Application) → Contains applications a → IsSound sources a.network
+  pub sound : (a : Application) → Contains applications a → IsCleanWithKinds sources a.network
 
 -- without faults, the networks of the applications of a system are clean
 abbrev pub ApplicationsAreClean : Type 0
 ApplicationsAreClean =
     (sources : Sources) (unit : List ℕ) (applications : List Application)
-    → applications_at sources unit ≡ Some applications → faults_of sources unit ≡ [] → AreSound sources applications
+    → applications_at sources unit ≡ Some applications → faults_of sources unit ≡ [] → AreCleanWithKinds sources applications

@@ -8,7 +8,7 @@ use Rattle.fb_tree.specs.declared.statement.Stmt.{Stmt}
 use Rattle.fb_tree.specs.Statement.{arm_tree, arms_of, statement_tree, statements_of}
 use Rattle.fb_iface.specs.Kept.{scope_in}
 use Rattle.fb_expr.specs.Statements.{arms_faults, counter_faults, faults_at_place, range_faults, statement_faults, statements_faults}
-use Rattle.fb_expr.specs.declared.rules.Place.TheVariants.{Condition, Selector}
+use Rattle.fb_expr.specs.declared.rules.ClassPlace.TheVariants.{Condition, Selector}
 use Rattle.fb_expr.proofs.TreeLemmas.{tree-Case, tree-For, tree-If, tree-Repeat, tree-While}
 use Rattle.fb_expr.proofs.statements.+statements.Goals as goal
 

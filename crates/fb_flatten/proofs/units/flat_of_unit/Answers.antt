@@ -20,8 +20,8 @@ unwrap-decl-requires g c =
 pub flat_of_type-requires : goal.flat_of_type-requires
 flat_of_type-requires g c = in_table c.requires.order.names c.requires.table c.args.unit.now c.requires.order.own
 
-pub returns-then-is_system : goal.returns-then-is_system
-returns-then-is_system g c =
+pub returns-then-is_of_system : goal.returns-then-is_of_system
+returns-then-is_of_system g c =
     let present : tree_at (g.V.View.sources c.args.view.now) c.args.unit.now ≡ Some (decl_tree c.unwrap-decl.result.now) = present_of _ c.tree_by_name.ensures c.unwrap-decl.ensures in
     let table = get name_cmp c.args.table.now in
     let nets = known_flats (g.H.Hints.hints c.args.hints.now) (get name_cmp c.in_ok-composed.composed) in

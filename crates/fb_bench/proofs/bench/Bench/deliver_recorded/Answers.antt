@@ -1,6 +1,6 @@
 -- A result that is accepted was read from texts that are still there. One that is not is recorded, and nothing else changes.
 use Rattle.std.proofs.Common.{◌≡◌, sym, ap, subst, refl, ◌∙◌, arith, rules}
-use Rattle.fb_jobs.specs.Reads.{Order}
+use Rattle.fb_jobs.specs.Reads.{PlainJob}
 use Rattle.fb_jobs.specs.Values.{all_seen}
 use Rattle.fb_bench.specs.declared.answers.Delivered.TheVariants.{Accepted}
 use Rattle.fb_bench.specs.Machine.{State, ToDeliver, deliver_answer}
@@ -12,8 +12,8 @@ use Rattle.fb_bench.proofs.bench.Bench.deliver_recorded.Goals as goal
 
 pub take_in-requires : goal.take_in-requires
 take_in-requires c =
-    let now : Order = c.args.finished.now in
-    let judged : ◌≡◌ {A = Order} (record { key = c.key.result; reads = all_seen c.reads.result.now }) now = λ i. record { key = c.key.ensures i; reads = c.reads.ensures.same i } in
+    let now : PlainJob = c.args.finished.now in
+    let judged : ◌≡◌ {A = PlainJob} (record { key = c.key.result; reads = all_seen c.reads.result.now }) now = λ i. record { key = c.key.ensures i; reads = c.reads.ensures.same i } in
     let accepted : Accepted ≡ deliver_answer (state_of c.args.self.now) now = c.in-Accepted.ensures ∙ ap (λ o. deliver_answer (state_of c.args.self.now) o) judged in
     record {
       room = search rules;
@@ -24,16 +24,16 @@ take_in-requires c =
 
 pub returns-in_ok-share-in-Accepted-clause-answer : goal.returns-in_ok-share-in-Accepted-clause-answer
 returns-in_ok-share-in-Accepted-clause-answer c =
-    let now : Order = c.args.finished.now in
-    let judged : ◌≡◌ {A = Order} (record { key = c.key.result; reads = all_seen c.reads.result.now }) now = λ i. record { key = c.key.ensures i; reads = c.reads.ensures.same i } in
+    let now : PlainJob = c.args.finished.now in
+    let judged : ◌≡◌ {A = PlainJob} (record { key = c.key.result; reads = all_seen c.reads.result.now }) now = λ i. record { key = c.key.ensures i; reads = c.reads.ensures.same i } in
     delivers_is (state_of c.args.self.now) now now Accepted refl (c.in-Accepted.ensures ∙ ap (λ o. deliver_answer (state_of c.args.self.now) o) judged)
 
 pub invariant_of-self-in_default : goal.invariant_of-self-in_default
 invariant_of-self-in_default c =
     let story : Story = record { origin = start c.self.inside.most_units; log = c.self.inside.history } in
     let s : State = state_of story in
-    let now : Order = c.args.finished.now in
-    let judged : ◌≡◌ {A = Order} (record { key = c.key.result; reads = all_seen c.reads.result.now }) now = λ i. record { key = c.key.ensures i; reads = c.reads.ensures.same i } in
+    let now : PlainJob = c.args.finished.now in
+    let judged : ◌≡◌ {A = PlainJob} (record { key = c.key.result; reads = all_seen c.reads.result.now }) now = λ i. record { key = c.key.ensures i; reads = c.reads.ensures.same i } in
     let answer : c.judged-answer.result ≡ deliver_answer s now = c.judged-answer.ensures ∙ (λ i. deliver_answer (state_of (sym c.self.view_is i)) (judged i)) in
     kept_pushed _ _ _ _ _ _ _ story _ c.args.caller (ToDeliver now) _ c.self.invariant.begins
     (c.in_ok-share-in_default.ensures.ok ∙ (λ i. logged c.self.inside.history c.args.caller (c.in_ok-call.ensures i) (c.in_ok-reply-in_default.ensures i)))
@@ -45,8 +45,8 @@ pub returns-in_ok-share-in_default : goal.returns-in_ok-share-in_default
 returns-in_ok-share-in_default c =
     let story : Story = record { origin = start c.self.inside.most_units; log = c.self.inside.history } in
     let s : State = state_of story in
-    let now : Order = c.args.finished.now in
-    let judged : ◌≡◌ {A = Order} (record { key = c.key.result; reads = all_seen c.reads.result.now }) now = λ i. record { key = c.key.ensures i; reads = c.reads.ensures.same i } in
+    let now : PlainJob = c.args.finished.now in
+    let judged : ◌≡◌ {A = PlainJob} (record { key = c.key.result; reads = all_seen c.reads.result.now }) now = λ i. record { key = c.key.ensures i; reads = c.reads.ensures.same i } in
     let answer : c.judged-answer.result ≡ deliver_answer s now = c.judged-answer.ensures ∙ (λ i. deliver_answer (state_of (sym c.self.view_is i)) (judged i)) in
     record {
       step = story_pushed story _ _ c.args.caller (ToDeliver now) _ c.self.view_is

@@ -1,7 +1,7 @@
 -- The value that is kept is that of the present texts.
 use Rattle.std.proofs.Common.{◌≡◌, sym, ap, subst, refl, ◌∙◌, arith, rules}
 use Rattle.fb_jobs.specs.Keys.{scratch}
-use Rattle.fb_jobs.specs.Reads.{Order}
+use Rattle.fb_jobs.specs.Reads.{PlainJob}
 use Rattle.fb_jobs.specs.Values.{finding_of}
 use Rattle.fb_bench.specs.declared.answers.Delivered.TheVariants.{Accepted}
 use Rattle.fb_bench.specs.Machine.{State, ToDeliver, OfDeliver, deliver_answer}
@@ -15,7 +15,7 @@ pub invariant_of-self-2 : goal.invariant_of-self-2
 invariant_of-self-2 c =
     let story : Story = record { origin = start c.self.inside.most_units; log = c.self.inside.history } in
     let s : State = state_of story in
-    let now : Order = c.args.finished.now in
+    let now : PlainJob = c.args.finished.now in
     let accepted : Accepted ≡ deliver_answer s now = c.requires.accepted ∙ ap (λ st. deliver_answer (state_of st) now) (sym c.self.view_is) in
     let law : scratch s.units now.key ≡ _ = ap (λ st. scratch (state_of st).units now.key) c.self.view_is ∙ c.requires.value in
     let cloned : c.in_ok-value.value.value ≡ c.value.result.now.value = search rules in
@@ -29,7 +29,7 @@ pub returns : goal.returns
 returns c =
     let story : Story = record { origin = start c.self.inside.most_units; log = c.self.inside.history } in
     let s : State = state_of story in
-    let now : Order = c.args.finished.now in
+    let now : PlainJob = c.args.finished.now in
     let accepted : Accepted ≡ deliver_answer s now = c.requires.accepted ∙ ap (λ st. deliver_answer (state_of st) now) (sym c.self.view_is) in
     record {
       step = story_pushed story _ _ c.args.caller (ToDeliver now) _ c.self.view_is (c.in_ok-share.ensures.ok ∙ ap (λ call. logged c.self.inside.history c.args.caller call (OfDeliver Accepted)) c.requires.call) (delivers_is s now now Accepted refl accepted);

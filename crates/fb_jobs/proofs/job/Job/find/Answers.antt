@@ -5,17 +5,17 @@ use Rattle.fb_deploy.specs.Library.Texts.{text_at, text_in}
 use Rattle.fb_deploy.specs.Library.Place.{IsAt, IsGapFor}
 use Rattle.fb_jobs.specs.declared.key.Key.{Key}
 use Rattle.fb_jobs.specs.declared.read.Read.{Read}
-use Rattle.fb_jobs.specs.Reads.{Order, IsRight, read_names, read_texts}
+use Rattle.fb_jobs.specs.Reads.{PlainJob, IsRight, read_names, read_texts}
 use Rattle.fb_jobs.specs.Values.{all_seen, found_in}
-use Rattle.fb_jobs.specs.Finished.{order_of}
+use Rattle.fb_jobs.specs.Finished.{plain_job}
 use Rattle.fb_jobs.proofs.Currents.{reads_rise}
 use Rattle.fb_jobs.proofs.Searches.{text_there, none_in_gap}
 use Rattle.fb_jobs.proofs.job.Job.find.Goals as goal
 
-found : (key : Key) (reads : List Read) (order : Order) (name : List ℕ) (at : ℕ) (read : Read) → order_of key reads ≡ order → IsRight (order_of key reads) → IsAt (read_names order.reads) name at → read ≡ get_or reads at read → text_at (read_texts order.reads) name ≡ option_map text_in (found_in read.revision read.source)
+found : (key : Key) (reads : List Read) (order : PlainJob) (name : List ℕ) (at : ℕ) (read : Read) → plain_job key reads ≡ order → IsRight (plain_job key reads) → IsAt (read_names order.reads) name at → read ≡ get_or reads at read → text_at (read_texts order.reads) name ≡ option_map text_in (found_in read.revision read.source)
 found key reads order name at read is right named there =
-    sym (ap (λ (it : Order). text_at (read_texts it.reads) name) is)
-    ∙ text_there reads name at read (reads_rise (order_of key reads) right) (subst (λ (it : Order). IsAt (read_names it.reads) name at) (sym is) named) there
+    sym (ap (λ (it : PlainJob). text_at (read_texts it.reads) name) is)
+    ∙ text_there reads name at read (reads_rise (plain_job key reads) right) (subst (λ (it : PlainJob). IsAt (read_names it.reads) name at) (sym is) named) there
 
 pub returns-in-Some : goal.returns-in-Some
 returns-in-Some c =
@@ -32,5 +32,5 @@ pub returns-in-Err : goal.returns-in-Err
 returns-in-Err c =
     let name = c.args.name.now in
     let reads = all_seen c.self.inside.reads.value.items in
-    let gap = subst (λ (it : Order). IsGapFor (read_names it.reads) name c.in-Err.field-0) (sym c.self.view_is) c.in-Err.ensures.absent in
-    sym (ap (option_map text_in) (none_in_gap reads name c.in-Err.field-0 gap)) ∙ ap (λ (it : Order). text_at (read_texts it.reads) name) c.self.view_is
+    let gap = subst (λ (it : PlainJob). IsGapFor (read_names it.reads) name c.in-Err.field-0) (sym c.self.view_is) c.in-Err.ensures.absent in
+    sym (ap (option_map text_in) (none_in_gap reads name c.in-Err.field-0 gap)) ∙ ap (λ (it : PlainJob). text_at (read_texts it.reads) name) c.self.view_is

@@ -4,10 +4,10 @@ use Rattle.std.specs.List.Sorted.{IsStrictlySortedBy}
 use Rattle.std.proofs.lemmas.List.Sorted.{answers_always}
 use Rattle.fb_text.specs.Order.{name_cmp}
 use Rattle.fb_deploy.specs.Library.Place.{IsAt, IsGapFor}
-use Rattle.fb_jobs.specs.Reads.{Order, read_names}
+use Rattle.fb_jobs.specs.Reads.{PlainJob, read_names}
 use Rattle.fb_jobs.specs.Values.{all_seen}
 use Rattle.fb_jobs.specs.declared.read.Read.{Read}
-use Rattle.fb_jobs.specs.Finished.{order_of}
+use Rattle.fb_jobs.specs.Finished.{plain_job}
 use Rattle.fb_jobs.proofs.Currents.{reads_rise}
 use Rattle.fb_deploy.proofs.Library.Searches.{Searched}
 use Rattle.fb_jobs.proofs.Searches.{searched}
@@ -20,13 +20,13 @@ ends : (c : goal.After-binary_search_by_key) → Searched (read_names (all_seen 
 ends c =
     let facts = c.binary_search_by_key.ensures in
     let by_name = facts.position (λ (read : Read). read.name) (answers_always _ _ _ (λ f a r g called. search rules)) in
-    let sorted = subst (λ (reads : List Read). IsStrictlySortedBy name_cmp (read_names (all_seen reads))) (sym (same c)) (reads_rise (order_of c.self.inside.key c.self.inside.reads.value.items) c.self.invariant.job.right) in
+    let sorted = subst (λ (reads : List Read). IsStrictlySortedBy name_cmp (read_names (all_seen reads))) (sym (same c)) (reads_rise (plain_job c.self.inside.key c.self.inside.reads.value.items) c.self.invariant.job.right) in
     searched c.deref-2.result.now c.args.name.now _ sorted facts.bound by_name
 
 pub returns-clause-found : goal.returns-clause-found
 returns-clause-found c =
-    subst (λ (it : Order). IfOk c.binary_search_by_key.result (IsAt (read_names it.reads) c.args.name.now)) (ap (order_of c.self.inside.key) (same c) ∙ c.self.view_is) (ends c).found
+    subst (λ (it : PlainJob). IfOk c.binary_search_by_key.result (IsAt (read_names it.reads) c.args.name.now)) (ap (plain_job c.self.inside.key) (same c) ∙ c.self.view_is) (ends c).found
 
 pub returns-clause-absent : goal.returns-clause-absent
 returns-clause-absent c =
-    subst (λ (it : Order). IfErr c.binary_search_by_key.result (IsGapFor (read_names it.reads) c.args.name.now)) (ap (order_of c.self.inside.key) (same c) ∙ c.self.view_is) (ends c).absent
+    subst (λ (it : PlainJob). IfErr c.binary_search_by_key.result (IsGapFor (read_names it.reads) c.args.name.now)) (ap (plain_job c.self.inside.key) (same c) ∙ c.self.view_is) (ends c).absent
