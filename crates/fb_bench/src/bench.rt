@@ -125,7 +125,8 @@ impl Bench {
 
     /// How many keys are pending.
     pub fn pending_count(&self) -> usize
-        ensures { result ≡ count_by (state_of self.now).pending (keys_of (state_of self.now).units) }
+        ensures { result ≡ count_by (state_of self.now).pending
+            (keys_of (state_of self.now).units) }
     {
         self.entries.waiting.len()
     }
@@ -146,7 +147,8 @@ impl Bench {
     /// What is known of a key.
     pub fn ask(&mut self, caller: u32, key: Key) -> Result<Asked, Refused>
         ensures step { OnOk result (self.new ≡ recorded self.old caller (ToAsk key)) }
-        ensures answer { IfOk result (λ asked. OfAsk (shown_in asked) ≡ reply_at self.old (ToAsk key)) }
+        ensures answer { IfOk result
+            (λ asked. OfAsk (shown_in asked) ≡ reply_at self.old (ToAsk key)) }
         ensures full { IsFullRefusal self.old.log result }
         ensures err { OnErr result (self.new ≡ self.old) }
     {
@@ -157,7 +159,8 @@ impl Bench {
     /// As `ask`, with a share of the record.
     fn ask_recorded(&mut self, caller: u32, key: Key) -> Result<(Asked, Arc<Record>), Refused>
         ensures step { OnOk result (self.new ≡ recorded self.old caller (ToAsk key)) }
-        ensures answer { IfOk result (λ made. OfAsk (shown_in made.0) ≡ reply_at self.old (ToAsk key)) }
+        ensures answer { IfOk result
+            (λ made. OfAsk (shown_in made.0) ≡ reply_at self.old (ToAsk key)) }
         ensures share { IfOk result (λ made. made.1.value ≡ record_of self.old caller (ToAsk key)) }
         ensures full { IsFullRefusal self.old.log result }
         ensures err { OnErr result (self.new ≡ self.old) }
@@ -179,7 +182,8 @@ impl Bench {
     pub fn peek(&self, key: &Key) -> Shown<'_>
         ensures shown { shown_by result ≡ shown (state_of self.now) key.now }
         ensures due { is_pending result ≡ is_due self.now key.now }
-        ensures entry { shown_by result ≡ entry_after self.now.origin (calls_of self.now.log) key.now }
+        ensures entry { shown_by result
+            ≡ entry_after self.now.origin (calls_of self.now.log) key.now }
     {
         self.lent(key)
     }
@@ -280,7 +284,8 @@ impl Bench {
     /// and only the first seventeen are recorded then.
     pub fn commit(&mut self, caller: u32, changes: &[Change]) -> Result<Committed, Refused>
         ensures step { OnOk result (self.new ≡ recorded self.old caller (commit_of changes.now)) }
-        ensures answer { IfOk result (λ answer. OfCommit answer ≡ reply_at self.old (commit_of changes.now)) }
+        ensures answer { IfOk result
+            (λ answer. OfCommit answer ≡ reply_at self.old (commit_of changes.now)) }
         ensures full { IsFullRefusal self.old.log result }
         ensures err { OnErr result (self.new ≡ self.old) }
     {
@@ -295,8 +300,10 @@ impl Bench {
         changes: &[Change],
     ) -> Result<(Committed, Arc<Record>), Refused>
         ensures step { OnOk result (self.new ≡ recorded self.old caller (commit_of changes.now)) }
-        ensures answer { IfOk result (λ made. OfCommit made.0 ≡ reply_at self.old (commit_of changes.now)) }
-        ensures share { IfOk result (λ made. made.1.value ≡ record_of self.old caller (commit_of changes.now)) }
+        ensures answer { IfOk result
+            (λ made. OfCommit made.0 ≡ reply_at self.old (commit_of changes.now)) }
+        ensures share { IfOk result
+            (λ made. made.1.value ≡ record_of self.old caller (commit_of changes.now)) }
         ensures full { IsFullRefusal self.old.log result }
         ensures err { OnErr result (self.new ≡ self.old) }
     {
@@ -343,7 +350,8 @@ impl Bench {
     /// Takes a result in, if its key waits for one and all that it has read is as it was.
     pub fn deliver(&mut self, caller: u32, finished: &Finished) -> Result<Delivered, Refused>
         ensures step { OnOk result (self.new ≡ recorded self.old caller (ToDeliver finished.now)) }
-        ensures answer { IfOk result (λ answer. OfDeliver answer ≡ reply_at self.old (ToDeliver finished.now)) }
+        ensures answer { IfOk result
+            (λ answer. OfDeliver answer ≡ reply_at self.old (ToDeliver finished.now)) }
         ensures full { IsFullRefusal self.old.log result }
         ensures err { OnErr result (self.new ≡ self.old) }
     {
@@ -358,8 +366,10 @@ impl Bench {
         finished: &Finished,
     ) -> Result<(Delivered, Arc<Record>), Refused>
         ensures step { OnOk result (self.new ≡ recorded self.old caller (ToDeliver finished.now)) }
-        ensures answer { IfOk result (λ made. OfDeliver made.0 ≡ reply_at self.old (ToDeliver finished.now)) }
-        ensures share { IfOk result (λ made. made.1.value ≡ record_of self.old caller (ToDeliver finished.now)) }
+        ensures answer { IfOk result
+            (λ made. OfDeliver made.0 ≡ reply_at self.old (ToDeliver finished.now)) }
+        ensures share { IfOk result
+            (λ made. made.1.value ≡ record_of self.old caller (ToDeliver finished.now)) }
         ensures full { IsFullRefusal self.old.log result }
         ensures err { OnErr result (self.new ≡ self.old) }
     {
@@ -393,9 +403,11 @@ impl Bench {
         requires room { length self.old.log.records < self.old.log.limit }
         requires call { call_of call ≡ ToDeliver finished.now }
         requires accepted { Accepted ≡ deliver_answer (state_of self.old) finished.now }
-        requires value { scratch (state_of self.old).units finished.now.key ≡ scratch (read_texts finished.now.reads) finished.now.key }
+        requires value { scratch (state_of self.old).units finished.now.key
+            ≡ scratch (read_texts finished.now.reads) finished.now.key }
         ensures step { OnOk result (self.new ≡ recorded self.old caller (ToDeliver finished.now)) }
-        ensures share { IfOk result (λ it. it.value ≡ record_of self.old caller (ToDeliver finished.now)) }
+        ensures share { IfOk result
+            (λ it. it.value ≡ record_of self.old caller (ToDeliver finished.now)) }
         ensures err { OnErr result (self.new ≡ self.old) }
     {
         let value = finished.value().clone()?;
@@ -431,7 +443,8 @@ impl Bench {
     /// Clears the mark that a key is handed out.
     pub fn give_back(&mut self, caller: u32, key: Key) -> Result<GivenBack, Refused>
         ensures step { OnOk result (self.new ≡ recorded self.old caller (ToGiveBack key)) }
-        ensures answer { IfOk result (λ answer. OfGiveBack answer ≡ reply_at self.old (ToGiveBack key)) }
+        ensures answer { IfOk result
+            (λ answer. OfGiveBack answer ≡ reply_at self.old (ToGiveBack key)) }
         ensures full { IsFullRefusal self.old.log result }
         ensures err { OnErr result (self.new ≡ self.old) }
     {
@@ -446,8 +459,10 @@ impl Bench {
         key: Key,
     ) -> Result<(GivenBack, Arc<Record>), Refused>
         ensures step { OnOk result (self.new ≡ recorded self.old caller (ToGiveBack key)) }
-        ensures answer { IfOk result (λ made. OfGiveBack made.0 ≡ reply_at self.old (ToGiveBack key)) }
-        ensures share { IfOk result (λ made. made.1.value ≡ record_of self.old caller (ToGiveBack key)) }
+        ensures answer { IfOk result
+            (λ made. OfGiveBack made.0 ≡ reply_at self.old (ToGiveBack key)) }
+        ensures share { IfOk result
+            (λ made. made.1.value ≡ record_of self.old caller (ToGiveBack key)) }
         ensures full { IsFullRefusal self.old.log result }
         ensures err { OnErr result (self.new ≡ self.old) }
     {
@@ -473,7 +488,8 @@ impl Bench {
         requires out { (state_of self.old).out key.now ≡ true }
         requires waits { (state_of self.old).pending key.now ≡ true }
         ensures step { OnOk result (self.new ≡ recorded self.old caller (ToGiveBack key.now)) }
-        ensures share { IfOk result (λ it. it.value ≡ record_of self.old caller (ToGiveBack key.now)) }
+        ensures share { IfOk result
+            (λ it. it.value ≡ record_of self.old caller (ToGiveBack key.now)) }
         ensures err { OnErr result (self.new ≡ self.old) }
     {
         join(&mut self.entries.ready, key)?;
@@ -496,7 +512,8 @@ impl Bench {
         requires out { (state_of self.old).out key.now ≡ true }
         requires kept { (state_of self.old).pending key.now ≡ false }
         ensures step { OnOk result (self.new ≡ recorded self.old caller (ToGiveBack key.now)) }
-        ensures share { IfOk result (λ it. it.value ≡ record_of self.old caller (ToGiveBack key.now)) }
+        ensures share { IfOk result
+            (λ it. it.value ≡ record_of self.old caller (ToGiveBack key.now)) }
         ensures err { OnErr result (self.new ≡ self.old) }
     {
         let answer = Reply::GivingBack(GivenBack::Returned);
@@ -512,8 +529,10 @@ impl Bench {
         request: &Request<'_>,
     ) -> Result<(Arc<Record>, Answered), Refused>
         ensures step { OnOk result (self.new ≡ recorded self.old caller (call_for request.now)) }
-        ensures share { IfOk result (λ made. made.0.value ≡ record_of self.old caller (call_for request.now)) }
-        ensures answer { IfOk result (λ made. reply_in made.1 ≡ reply_at self.old (call_for request.now)) }
+        ensures share { IfOk result
+            (λ made. made.0.value ≡ record_of self.old caller (call_for request.now)) }
+        ensures answer { IfOk result
+            (λ made. reply_in made.1 ≡ reply_at self.old (call_for request.now)) }
         ensures full { IsFullRefusal self.old.log result }
         ensures err { OnErr result (self.new ≡ self.old) }
     {
@@ -543,7 +562,8 @@ impl Bench {
 
     /// Whether a result is taken in, by what the library has now.
     fn judged(&self, key: Key, reads: &[Read]) -> Delivered
-        ensures { result ≡ deliver_answer (state_of self.now) (record { key = key; reads = all_seen reads.now }) }
+        ensures { result ≡ deliver_answer (state_of self.now)
+            (record { key = key; reads = all_seen reads.now }) }
     {
         match self.entries.by_key.get(&key) {
             None => Delivered::NoSuchKey,

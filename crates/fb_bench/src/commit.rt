@@ -128,7 +128,8 @@ pub(crate) fn outcome_of(
     changes: &[Change],
 ) -> Result<Outcome, AllocError>
     requires { IsIndexOf library.now index.now }
-    ensures { IfOk result (IsOutcome most_units number library.now (edits_of changes.now) entries.now) }
+    ensures { IfOk result
+        (IsOutcome most_units number library.now (edits_of changes.now) entries.now) }
 {
     if let Some(refused) = refusal(library, changes) {
         return Ok(Outcome::Refused(refused));
@@ -156,8 +157,10 @@ pub(crate) fn record_with_room(
     requires { length history.old.records < history.old.limit }
     ensures room { OnOk result (MakesRoom renewal.now entries.old entries.new) }
     ensures back { OnErr result (LosesRoom renewal.now entries.old entries.new) }
-    ensures logged { OnOk result (history.new ≡ logged history.old caller (call_of call) (reply_of answer)) }
-    ensures share { IfOk result (λ it. it.value ≡ record_after history.old caller (call_of call) (reply_of answer)) }
+    ensures logged { OnOk result
+        (history.new ≡ logged history.old caller (call_of call) (reply_of answer)) }
+    ensures share { IfOk result
+        (λ it. it.value ≡ record_after history.old caller (call_of call) (reply_of answer)) }
     ensures unlogged { OnErr result (history.new ≡ history.old) }
     ensures keys { entries.new.keys ≡ entries.old.keys }
 {

@@ -75,8 +75,10 @@ impl Entries {
         requires once { first_repeated (units_of changes.now) ≡ None }
         requires others { AgreeApartFrom (units_of changes.now) before.now after.now }
         ensures index { IfOk result (λ found. IsIndexOf after.now found.index) }
-        ensures renewal { IfOk result (λ found. Alters after.now (units_of changes.now) self.now found.renewal) }
-        ensures keys { IfOk result (λ found. AreKeysAfter after.now self.now found.renewal found.keys) }
+        ensures renewal { IfOk result
+            (λ found. Alters after.now (units_of changes.now) self.now found.renewal) }
+        ensures keys { IfOk result
+            (λ found. AreKeysAfter after.now self.now found.renewal found.keys) }
     {
         let units = changed_units(alloc, changes)?;
         let index = reindexed(alloc, index, before, after, &units)?;

@@ -27,7 +27,8 @@ impl Model for Limits {
 impl Limits {
     /// None where a number is out of its range.
     pub fn new(units: u64, history: u64) -> Option<Limits>
-        ensures { SomeIff result (AreLimits units history) (record { units = units; history = history }) }
+        ensures { SomeIff result (AreLimits units history)
+            (record { units = units; history = history }) }
     {
         if 1 <= units && units <= 4096 && 1 <= history && history <= 1_000_000 {
             Some(Limits { units, history })

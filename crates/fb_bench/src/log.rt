@@ -87,8 +87,10 @@ impl History {
     /// Adds a record at the end, and gives a share of it.
     pub fn push(&mut self, caller: u32, call: Call, reply: Reply) -> Result<Arc<Record>, AllocError>
         requires { length self.old.records < self.old.limit }
-        ensures ok { OnOk result (self.new ≡ logged self.old caller (call_of call) (reply_of reply)) }
-        ensures share { IfOk result (λ it. it.value ≡ record_after self.old caller (call_of call) (reply_of reply)) }
+        ensures ok { OnOk result
+            (self.new ≡ logged self.old caller (call_of call) (reply_of reply)) }
+        ensures share { IfOk result
+            (λ it. it.value ≡ record_after self.old caller (call_of call) (reply_of reply)) }
         ensures err { OnErr result (self.new ≡ self.old) }
     {
         let turns = self.turns_of(caller);

@@ -41,7 +41,9 @@ pub(crate) fn reached_keys(
     index: &Index,
     changed: &[Name],
 ) -> Result<Vec<Key>, AllocError>
-    ensures { IfOk result (λ keys. (key : Key) → (is_of key keys.items ≡ true) ↔ IsReached index.now changed.now key.kind key.unit) }
+    ensures { IfOk result
+        (λ keys. (key : Key) → (is_of key keys.items ≡ true)
+        ↔ IsReached index.now changed.now key.kind key.unit) }
 {
     let near = index.near_of(alloc, changed)?;
     let far = index.far_of(alloc, changed)?;

@@ -47,7 +47,9 @@ pub(crate) fn without_entry(
     entries: &BTreeMap<Key, Entry>,
     keys: &[Key],
 ) -> Result<Vec<Key>, AllocError>
-    ensures { IfOk result (λ fresh. fresh.items ≡ filter (λ key. is_none (tree.get key_cmp entries.now key)) keys.now) }
+    ensures { IfOk result
+        (λ fresh. fresh.items
+        ≡ filter (λ key. is_none (tree.get key_cmp entries.now key)) keys.now) }
 {
     let mut fresh = Vec::new(alloc);
     for key in keys {
@@ -60,7 +62,8 @@ pub(crate) fn without_entry(
 
 /// The keys of these that the library doesn't have.
 pub(crate) fn absent(alloc: Global, library: &Library, keys: &[Key]) -> Result<Vec<Key>, AllocError>
-    ensures { IfOk result (λ gone. gone.items ≡ filter (λ key. not (has_key library.now key)) keys.now) }
+    ensures { IfOk result
+        (λ gone. gone.items ≡ filter (λ key. not (has_key library.now key)) keys.now) }
 {
     let mut gone = Vec::new(alloc);
     for key in keys {
@@ -77,7 +80,8 @@ pub(crate) fn not_in(
     keys: &BTreeSet<Key>,
     all: &[Key],
 ) -> Result<Vec<Key>, AllocError>
-    ensures { IfOk result (λ others. others.items ≡ filter (λ key. not (set.contains key_cmp keys.now key)) all.now) }
+    ensures { IfOk result
+        (λ others. others.items ≡ filter (λ key. not (set.contains key_cmp keys.now key)) all.now) }
 {
     let mut others = Vec::new(alloc);
     for key in all {
@@ -103,7 +107,8 @@ impl Renewal {
         library: &Library,
         entries: &BTreeMap<Key, Entry>,
     ) -> Result<Option<Vec<Key>>, AllocError>
-        ensures { IfOk result (λ keys. AreKeys library.now entries.now self.now.fresh.items self.now.gone.items keys) }
+        ensures { IfOk result
+            (λ keys. AreKeys library.now entries.now self.now.fresh.items self.now.gone.items keys) }
     {
         if self.fresh.is_empty() && !have_entries(entries, &self.gone) {
             return Ok(None);

@@ -23,7 +23,8 @@ fn push_port_links(
     plug: &Path,
     socket: &Path,
 ) -> Result<(), AllocError>
-    ensures { OnOk result (links.new.items ≡ links.old.items ++ port_links ports.now plug.now socket.now) }
+    ensures { OnOk result
+        (links.new.items ≡ links.old.items ++ port_links ports.now plug.now socket.now) }
 {
     for port in ports {
         let plugged = plug.then(alloc, &port.name)?;
@@ -52,7 +53,8 @@ fn push_plug_links(
     plug: &Path,
     sockets: &[Path],
 ) -> Result<(), AllocError>
-    ensures { OnOk result (links.new.items ≡ links.old.items ++ plug_links ports.now sockets.now plug.now) }
+    ensures { OnOk result
+        (links.new.items ≡ links.old.items ++ plug_links ports.now sockets.now plug.now) }
 {
     for socket in sockets {
         push_port_links(alloc, links, ports, plug, socket)?;
@@ -68,7 +70,8 @@ pub fn push_adapter_links(
     plugs: &[Path],
     sockets: &[Path],
 ) -> Result<(), AllocError>
-    ensures { OnOk result (links.new.items ≡ links.old.items ++ adapter_links ports.now plugs.now sockets.now) }
+    ensures { OnOk result
+        (links.new.items ≡ links.old.items ++ adapter_links ports.now plugs.now sockets.now) }
 {
     for plug in plugs {
         push_plug_links(alloc, links, ports, plug, sockets)?;
@@ -120,7 +123,8 @@ pub fn find_adapter<'a, V: Networks>(
     end: &End,
 ) -> Option<&'a Network>
     requires { get name_cmp instances.now ≡ instance_named network.now.instances }
-    ensures { option_copied result ≡ adapter_at (V.networks view.now) network.now (place_of end.now) }
+    ensures { option_copied result
+        ≡ adapter_at (V.networks view.now) network.now (place_of end.now) }
 {
     match end {
         End::Own(port) => find_port_adapter(view, network, port),

@@ -25,7 +25,8 @@ fn border_places_of(
     name: &Name,
     port: &Name,
 ) -> Result<Vec<Path>, AllocError>
-    ensures { IfOk result (λ places. places.items ≡ border_places sort name.now port.now flat.now.borders) }
+    ensures { IfOk result
+        (λ places. places.items ≡ border_places sort name.now port.now flat.now.borders) }
 {
     let mut places = Vec::new(alloc);
     for border in flat.borders() {

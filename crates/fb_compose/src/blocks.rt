@@ -14,7 +14,8 @@ pub fn push_blocks_within(
     name: &Name,
     inner: &Flat,
 ) -> Result<(), AllocError>
-    ensures { OnOk result (blocks.new.items ≡ blocks.old.items ++ blocks_of name.now (Some inner.now)) }
+    ensures { OnOk result
+        (blocks.new.items ≡ blocks.old.items ++ blocks_of name.now (Some inner.now)) }
 {
     for block in inner.blocks() {
         let path = block.path.within(alloc, name)?;
@@ -32,7 +33,8 @@ fn push_inner_blocks<N: Nets>(
     nets: &N,
     instance: &Instance,
 ) -> Result<(), AllocError>
-    ensures { OnOk result (blocks.new.items ≡ blocks.old.items ++ inner_blocks (N.nets nets.now) instance.now) }
+    ensures { OnOk result
+        (blocks.new.items ≡ blocks.old.items ++ inner_blocks (N.nets nets.now) instance.now) }
 {
     match instance.kind {
         InstanceKind::Block => {

@@ -18,7 +18,8 @@ fn push_end_borders(
     end: &End,
     places: &[Path],
 ) -> Result<(), AllocError>
-    ensures { OnOk result (borders.new.items ≡ borders.old.items ++ end_borders sort end.now places.now) }
+    ensures { OnOk result
+        (borders.new.items ≡ borders.old.items ++ end_borders sort end.now places.now) }
 {
     if let End::Own(port) = end {
         for place in places {

@@ -19,7 +19,8 @@ fn push_flat<V: Networks>(
     name: &Name,
 ) -> Result<(), AllocError>
     requires { IsReady (V.networks view.now) (get name_cmp nets.old) name.now }
-    ensures { OnOk result (AddsFlat (V.networks view.now) (get name_cmp nets.old) (get name_cmp nets.new) name.now) }
+    ensures { OnOk result
+        (AddsFlat (V.networks view.now) (get name_cmp nets.old) (get name_cmp nets.new) name.now) }
 {
     let network = view.network(name).unwrap();
     let flat = compose(alloc, view, network, nets)?;

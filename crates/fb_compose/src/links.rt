@@ -54,7 +54,8 @@ pub fn push_links_within(
     name: &Name,
     inner: &Flat,
 ) -> Result<(), AllocError>
-    ensures { OnOk result (links.new.items ≡ links.old.items ++ links_of name.now (Some inner.now)) }
+    ensures { OnOk result
+        (links.new.items ≡ links.old.items ++ links_of name.now (Some inner.now)) }
 {
     for link in inner.links() {
         let from = link.from.within(alloc, name)?;
@@ -74,7 +75,8 @@ fn push_inner_links<N: Nets>(
     nets: &N,
     instance: &Instance,
 ) -> Result<(), AllocError>
-    ensures { OnOk result (links.new.items ≡ links.old.items ++ inner_links (N.nets nets.now) instance.now) }
+    ensures { OnOk result
+        (links.new.items ≡ links.old.items ++ inner_links (N.nets nets.now) instance.now) }
 {
     match instance.kind {
         InstanceKind::Block => Ok(()),
@@ -117,7 +119,8 @@ fn inner_links_of<N: Nets>(
     network: &Network,
     nets: &N,
 ) -> Result<Vec<Link>, AllocError>
-    ensures { IfOk result (λ links. links.items ≡ flat_map (inner_links (N.nets nets.now)) network.now.instances) }
+    ensures { IfOk result
+        (λ links. links.items ≡ flat_map (inner_links (N.nets nets.now)) network.now.instances) }
 {
     let mut links = Vec::new(alloc);
     for instance in network.instances() {

@@ -28,7 +28,8 @@ pub fn plan_of_unit_with<V: View, H: Hints>(
 ) -> Result<Deploy, AllocError>
     requires plan { has_plan_in (tree_at (V.sources view.now) unit) ≡ true }
     requires right { AreRightHints (V.sources view.now) (H.hints hints.now) }
-    ensures { IfOk result (λ deploy. plan_at (V.sources view.now) unit ≡ Some (plain_deploy deploy)) }
+    ensures { IfOk result
+        (λ deploy. plan_at (V.sources view.now) unit ≡ Some (plain_deploy deploy)) }
 {
     plan_with(alloc, view, unit, hints)
 }

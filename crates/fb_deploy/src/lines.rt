@@ -110,7 +110,8 @@ fn block_lines(
     homes: &PathTable,
     blocks: &[FlatBlock],
 ) -> Result<Vec<Line>, AllocError>
-    ensures { IfOk result (λ lines. lines.items ≡ filter_map (create_line (get_by_text homes.now)) blocks.now) }
+    ensures { IfOk result
+        (λ lines. lines.items ≡ filter_map (create_line (get_by_text homes.now)) blocks.now) }
 {
     let mut lines = Vec::new(alloc);
     for block in blocks {
@@ -139,7 +140,8 @@ fn write_line(
     home: &Home,
     parameter: &Parameter,
 ) -> Result<Line, AllocError>
-    ensures { IfOk result (λ line. line ≡ write_line text.now home.now (parameter_tree parameter.now)) }
+    ensures { IfOk result
+        (λ line. line ≡ write_line text.now home.now (parameter_tree parameter.now)) }
 {
     let place = home.path.then(alloc, &parameter.name.name)?;
     let value = written(alloc, text, &parameter.value)?;

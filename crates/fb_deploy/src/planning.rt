@@ -54,7 +54,8 @@ fn plan_flat<V: View>(
     system: &Name,
     flat: &Flat,
 ) -> Result<Deploy, AllocError>
-    ensures { IfOk result (λ deploy. plain_deploy deploy ≡ flat_plan (V.sources view.now) system.now flat.now) }
+    ensures { IfOk result
+        (λ deploy. plain_deploy deploy ≡ flat_plan (V.sources view.now) system.now flat.now) }
 {
     match homes_of(alloc, view, system, flat.blocks())? {
         Homes::Faulty(found) => Ok(Deploy::Faulty(found)),

@@ -54,7 +54,8 @@ fn without_gaps(alloc: Global, text: &str) -> Result<String, AllocError>
 
 /// A constant as it is written in the text, without blanks and comments between its tokens.
 pub(crate) fn written(alloc: Global, text: &str, constant: &Constant) -> Result<String, AllocError>
-    ensures { IfOk result (λ told. string_bytes told ≡ written text.now (constant_tree constant.now)) }
+    ensures { IfOk result
+        (λ told. string_bytes told ≡ written text.now (constant_tree constant.now)) }
 {
     without_gaps(alloc, part_of(text, span_of(constant)))
 }

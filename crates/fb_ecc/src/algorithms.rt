@@ -19,7 +19,8 @@ pub fn report_algorithms(
     chart: &Chart,
     found: &mut Vec<Fault>,
 ) -> Result<(), AllocError>
-    ensures { OnOk result (found.new.items ≡ found.old.items ++ algorithm_faults (chart_tree chart.now)) }
+    ensures { OnOk result
+        (found.new.items ≡ found.old.items ++ algorithm_faults (chart_tree chart.now)) }
 {
     let declared = declared_algorithms(alloc, chart.algorithms.as_slice())?;
     report_run(&declared, chart.states.as_slice(), found)

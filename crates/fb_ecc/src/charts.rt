@@ -60,7 +60,9 @@ pub fn report_charts(
     chart: &Chart,
     found: &mut Vec<Fault>,
 ) -> Result<(), AllocError>
-    ensures { OnOk result (found.new.items ≡ found.old.items ++ chart_faults (scope_in scope.now) (chart_tree chart.now)) }
+    ensures { OnOk result
+        (found.new.items
+        ≡ found.old.items ++ chart_faults (scope_in scope.now) (chart_tree chart.now)) }
 {
     report_states(alloc, chart, found)?;
     report_events(scope, chart, found)?;

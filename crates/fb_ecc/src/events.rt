@@ -25,7 +25,9 @@ pub enum EventTarget {
 
 /// Reports the events of transitions that do not come in, and those of actions that do not go out.
 pub fn report_events(scope: &Scope, chart: &Chart, found: &mut Vec<Fault>) -> Result<(), AllocError>
-    ensures { OnOk result (found.new.items ≡ found.old.items ++ event_faults (scope_in scope.now) (chart_tree chart.now)) }
+    ensures { OnOk result
+        (found.new.items
+        ≡ found.old.items ++ event_faults (scope_in scope.now) (chart_tree chart.now)) }
 {
     report_triggers(scope, chart.transitions.as_slice(), found)?;
     report_sent(scope, chart.states.as_slice(), found)
@@ -73,7 +75,9 @@ fn report_sent_by(
     actions: &[Action],
     found: &mut Vec<Fault>,
 ) -> Result<(), AllocError>
-    ensures { OnOk result (found.new.items ≡ found.old.items ++ flat_map (sent_faults (scope_in scope.now)) actions.now) }
+    ensures { OnOk result
+        (found.new.items
+        ≡ found.old.items ++ flat_map (sent_faults (scope_in scope.now)) actions.now) }
 {
     for action in actions {
         report_written(scope, Side::Output, action.event.as_ref(), found)?;
@@ -144,7 +148,8 @@ fn target_behind(
     side: Side,
     name: &Name,
 ) -> EventTarget
-    ensures { result ≡ event_behind (scope_in scope.now) side (option_copied instance.entry) name.now }
+    ensures { result ≡ event_behind (scope_in scope.now) side
+        (option_copied instance.entry) name.now }
 {
     match instance {
         Some(instance) => match through(instance.role, side) {

@@ -15,7 +15,8 @@ use std::collections::BTreeSet;
 
 /// Reports the states of transitions that are not listed.
 pub fn report_states(alloc: Global, chart: &Chart, found: &mut Vec<Fault>) -> Result<(), AllocError>
-    ensures { OnOk result (found.new.items ≡ found.old.items ++ state_faults (chart_tree chart.now)) }
+    ensures { OnOk result
+        (found.new.items ≡ found.old.items ++ state_faults (chart_tree chart.now)) }
 {
     let listed = listed_states(alloc, chart.states.as_slice())?;
     report_ends(&listed, chart.transitions.as_slice(), found)
@@ -55,7 +56,8 @@ fn report_state(
     name: &NameUse,
     found: &mut Vec<Fault>,
 ) -> Result<(), AllocError>
-    ensures { OnOk result (found.new.items ≡ found.old.items ++ state_fault (contains name_cmp listed.now) name.now) }
+    ensures { OnOk result
+        (found.new.items ≡ found.old.items ++ state_fault (contains name_cmp listed.now) name.now) }
 {
     if !listed.contains(&name.name) {
         found.push(Fault::at(Code::StateUnknown, name))?;

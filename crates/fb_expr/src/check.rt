@@ -44,7 +44,9 @@ pub fn report_expressions(
     chart: &Chart,
     found: &mut Vec<Fault>,
 ) -> Result<(), AllocError>
-    ensures { OnOk result (found.new.items ≡ found.old.items ++ expression_faults (scope_in scope.now) (chart_tree chart.now)) }
+    ensures { OnOk result
+        (found.new.items
+        ≡ found.old.items ++ expression_faults (scope_in scope.now) (chart_tree chart.now)) }
 {
     report_transitions(scope, chart.transitions.as_slice(), found)?;
     report_algorithms(scope, chart.algorithms.as_slice(), found)
@@ -70,7 +72,9 @@ fn report_guard(
     condition: &Condition,
     found: &mut Vec<Fault>,
 ) -> Result<(), AllocError>
-    ensures { OnOk result (found.new.items ≡ found.old.items ++ guard_faults (scope_in scope.now) (condition_tree condition.now)) }
+    ensures { OnOk result
+        (found.new.items
+        ≡ found.old.items ++ guard_faults (scope_in scope.now) (condition_tree condition.now)) }
 {
     match condition {
         Condition::Always(_) | Condition::Event(_) => Ok(()),

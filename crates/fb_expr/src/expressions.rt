@@ -18,8 +18,11 @@ use std::alloc::AllocError;
 /// The class of an expression. The faults in it are reported.
 #[cycle(judge)]
 pub fn judge(scope: &Scope, expr: &Expr, found: &mut Vec<Fault>) -> Result<Class, AllocError>
-    ensures class { IfOk result (λ class. class ≡ class_in (scope_in scope.now) (expression_tree expr.now)) }
-    ensures faults { OnOk result (found.new.items ≡ found.old.items ++ faults_in (scope_in scope.now) (expression_tree expr.now)) }
+    ensures class { IfOk result
+        (λ class. class ≡ class_in (scope_in scope.now) (expression_tree expr.now)) }
+    ensures faults { OnOk result
+        (found.new.items
+        ≡ found.old.items ++ faults_in (scope_in scope.now) (expression_tree expr.now)) }
 {
     match expr {
         Expr::Literal(literal) => Ok(class_by_form(literal.form)),
@@ -81,7 +84,10 @@ pub fn judge_at(
     expr: &Expr,
     found: &mut Vec<Fault>,
 ) -> Result<(), AllocError>
-    ensures { OnOk result (found.new.items ≡ found.old.items ++ faults_at_place place (scope_in scope.now) (expression_tree expr.now)) }
+    ensures { OnOk result
+        (found.new.items
+        ≡ found.old.items
+        ++ faults_at_place place (scope_in scope.now) (expression_tree expr.now)) }
 {
     let class = judge(scope, expr, found)?;
     report_class(place.is_for(class), span_of(expr), found)

@@ -120,7 +120,8 @@ fn is_port(section: Section) -> bool
 impl Referent {
     /// Its class with these subscripts. What is unknown or not judged meets every rule.
     pub fn class(&self, subscripts: &[Expr]) -> Class
-        ensures { result ≡ class_of_referent self.now (expressions_of (map expression_tree subscripts.now)) }
+        ensures { result ≡ class_of_referent self.now
+            (expressions_of (map expression_tree subscripts.now)) }
     {
         match self {
             Referent::Variable(used) => class_of_use(used, subscripts),

@@ -37,7 +37,9 @@ fn report_statement(
     statement: &Stmt,
     found: &mut Vec<Fault>,
 ) -> Result<(), AllocError>
-    ensures { OnOk result (found.new.items ≡ found.old.items ++ statement_faults (scope_in scope.now) (statement_tree statement.now)) }
+    ensures { OnOk result
+        (found.new.items
+        ≡ found.old.items ++ statement_faults (scope_in scope.now) (statement_tree statement.now)) }
 {
     match statement {
         Stmt::Empty | Stmt::Exit | Stmt::Return => Ok(()),
@@ -104,7 +106,8 @@ fn report_counting(
 
 /// Reports a variable of a `FOR` that is none, or no whole number.
 fn report_counter(scope: &Scope, name: &NameUse, found: &mut Vec<Fault>) -> Result<(), AllocError>
-    ensures { OnOk result (found.new.items ≡ found.old.items ++ counter_faults (scope_in scope.now) name.now) }
+    ensures { OnOk result
+        (found.new.items ≡ found.old.items ++ counter_faults (scope_in scope.now) name.now) }
 {
     let referent = referred_variable(scope, &name.name);
     report_unknown(&referent, name.span, found)?;

@@ -37,7 +37,8 @@ pub(crate) fn blocking<V: View, H: Hints>(
     names: &[Name],
 ) -> Result<Vec<Name>, AllocError>
     requires { AreRightHints (V.sources view.now) (H.hints hints.now) }
-    ensures { IfOk result (λ found. found.items ≡ filter (is_blocking (V.sources view.now)) names.now) }
+    ensures { IfOk result
+        (λ found. found.items ≡ filter (is_blocking (V.sources view.now)) names.now) }
 {
     let mut found = Vec::new(alloc);
     for name in names {

@@ -46,7 +46,8 @@ fn add_flat<H: Hints>(
     name: &Name,
 ) -> Result<(), AllocError>
     requires { is_some (get name_cmp table.now name.now) ≡ true }
-    ensures others { OnOk result (SameOthers (get name_cmp composed.old) (get name_cmp composed.new) name.now) }
+    ensures others { OnOk result
+        (SameOthers (get name_cmp composed.old) (get name_cmp composed.new) name.now) }
     ensures added { OnOk result
         (IsAdded (get name_cmp table.now) (known_flats (H.hints hints.now) (get name_cmp composed.old))
         (get name_cmp composed.new) name.now) }

@@ -29,7 +29,8 @@ fn add_adapter<V: View>(
     name: &Name,
 ) -> Result<(), AllocError>
     requires { IsTrue (V.sources view.now) (get name_cmp table.old) }
-    ensures grows { OnOk result (Grows (V.sources view.now) (get name_cmp table.old) (get name_cmp table.new)) }
+    ensures grows { OnOk result
+        (Grows (V.sources view.now) (get name_cmp table.old) (get name_cmp table.new)) }
     ensures has { OnOk result (Has (V.sources view.now) (get name_cmp table.new) name.now) }
 {
     if table.contains_key(name) {
@@ -50,8 +51,10 @@ fn add_adapter_of<V: View>(
     port: &Port,
 ) -> Result<(), AllocError>
     requires { IsTrue (V.sources view.now) (get name_cmp table.old) }
-    ensures grows { OnOk result (Grows (V.sources view.now) (get name_cmp table.old) (get name_cmp table.new)) }
-    ensures has { OnOk result (HasAdapter (V.sources view.now) (get name_cmp table.new) port.now.adapter) }
+    ensures grows { OnOk result
+        (Grows (V.sources view.now) (get name_cmp table.old) (get name_cmp table.new)) }
+    ensures has { OnOk result
+        (HasAdapter (V.sources view.now) (get name_cmp table.new) port.now.adapter) }
 {
     match &port.adapter {
         Some(adapter) => add_adapter(alloc, view, table, adapter),
@@ -67,8 +70,10 @@ fn add_adapters<V: View>(
     ports: &[Port],
 ) -> Result<(), AllocError>
     requires { IsTrue (V.sources view.now) (get name_cmp table.old) }
-    ensures grows { OnOk result (Grows (V.sources view.now) (get name_cmp table.old) (get name_cmp table.new)) }
-    ensures has { OnOk result (HasAdapters (V.sources view.now) (get name_cmp table.new) ports.now) }
+    ensures grows { OnOk result
+        (Grows (V.sources view.now) (get name_cmp table.old) (get name_cmp table.new)) }
+    ensures has { OnOk result
+        (HasAdapters (V.sources view.now) (get name_cmp table.new) ports.now) }
 {
     for port in ports {
         add_adapter_of(alloc, view, table, port)?;
@@ -84,7 +89,8 @@ fn add_type<V: View>(
     name: &Name,
 ) -> Result<(), AllocError>
     requires { IsTrue (V.sources view.now) (get name_cmp table.old) }
-    ensures grows { OnOk result (Grows (V.sources view.now) (get name_cmp table.old) (get name_cmp table.new)) }
+    ensures grows { OnOk result
+        (Grows (V.sources view.now) (get name_cmp table.old) (get name_cmp table.new)) }
     ensures has { OnOk result (HasType (V.sources view.now) (get name_cmp table.new) name.now) }
 {
     if let Some(decl) = tree_by_name(view, name) {
@@ -139,7 +145,8 @@ fn add_count<H: Hints>(
     name: &Name,
 ) -> Result<(), AllocError>
     requires { is_some (get name_cmp table.now name.now) ≡ true }
-    ensures others { OnOk result (SameOthers (get name_cmp counts.old) (get name_cmp counts.new) name.now) }
+    ensures others { OnOk result
+        (SameOthers (get name_cmp counts.old) (get name_cmp counts.new) name.now) }
     ensures counted { OnOk result (IsCountedWhereKnown (get name_cmp table.now) (count_of_hint (H.hints hints.now name.now))
         (get name_cmp counts.old) (get name_cmp counts.new) name.now) }
 {
@@ -159,7 +166,8 @@ pub(crate) fn counts_in_order<V: View, H: Hints>(
     requires order { IsSoundOrder (V.sources view.now) (H.hints hints.now) order.now }
     requires table { IsTable (V.sources view.now) (get name_cmp table.now) order.now }
     requires right { AreRightHints (V.sources view.now) (H.hints hints.now) }
-    ensures { IfOk result (λ counts. AllCounted (V.sources view.now) (get name_cmp counts) order.now) }
+    ensures { IfOk result
+        (λ counts. AllCounted (V.sources view.now) (get name_cmp counts) order.now) }
 {
     let mut counts = BTreeMap::new(alloc);
     for name in order {

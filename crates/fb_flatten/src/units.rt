@@ -69,7 +69,8 @@ fn flat_of_application<N: Nets>(
     nets: &N,
     application: &Application,
 ) -> Result<FlatApplication, AllocError>
-    ensures { IfOk result (IsComposedApplication (get name_cmp table.now) (N.nets nets.now) application.now) }
+    ensures { IfOk result
+        (IsComposedApplication (get name_cmp table.now) (N.nets nets.now) application.now) }
 {
     let flat = compose_by_part(alloc, table, &application.network, nets)?;
     Ok(FlatApplication {
@@ -101,7 +102,8 @@ fn flat_of_applications<N: Nets>(
     nets: &N,
     applications: &[Application],
 ) -> Result<Flat, AllocError>
-    ensures { IfOk result (AreComposedTogether (get name_cmp table.now) (N.nets nets.now) applications.now) }
+    ensures { IfOk result
+        (AreComposedTogether (get name_cmp table.now) (N.nets nets.now) applications.now) }
 {
     let flats = flats_of_applications(alloc, table, nets, applications)?;
     join(alloc, flats.as_slice())

@@ -63,7 +63,8 @@ pub fn report_declarations<V: View>(
 
 /// Reports a declared name that is not the unit's.
 fn report_name(decl: &Decl, unit: &Name, found: &mut Vec<Fault>) -> Result<(), AllocError>
-    ensures { OnOk result (found.new.items ≡ found.old.items ++ name_faults unit.now (decl_tree decl.now)) }
+    ensures { OnOk result
+        (found.new.items ≡ found.old.items ++ name_faults unit.now (decl_tree decl.now)) }
 {
     let name = name_of(decl);
     if !same_name(&name.name, unit) {

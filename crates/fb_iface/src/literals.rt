@@ -13,7 +13,8 @@ use std::alloc::AllocError;
 
 /// Reports the initial values that do not fit their type.
 pub fn report_literals(decl: &Decl, found: &mut Vec<Fault>) -> Result<(), AllocError>
-    ensures { OnOk result (found.new.items ≡ found.old.items ++ literal_faults_of (decl_tree decl.now)) }
+    ensures { OnOk result
+        (found.new.items ≡ found.old.items ++ literal_faults_of (decl_tree decl.now)) }
 {
     match decl {
         Decl::Block(declared) | Decl::Adapter(declared) | Decl::Subapplication(declared) => {
@@ -24,7 +25,8 @@ pub fn report_literals(decl: &Decl, found: &mut Vec<Fault>) -> Result<(), AllocE
 }
 
 fn report_in_interface(interface: &Interface, found: &mut Vec<Fault>) -> Result<(), AllocError>
-    ensures { OnOk result (found.new.items ≡ found.old.items ++ literal_faults (interface_tree interface.now)) }
+    ensures { OnOk result
+        (found.new.items ≡ found.old.items ++ literal_faults (interface_tree interface.now)) }
 {
     for group in &interface.variables {
         report_initial(group, found)?;
@@ -33,7 +35,8 @@ fn report_in_interface(interface: &Interface, found: &mut Vec<Fault>) -> Result<
 }
 
 fn report_initial(group: &Variables, found: &mut Vec<Fault>) -> Result<(), AllocError>
-    ensures { OnOk result (found.new.items ≡ found.old.items ++ initial_faults (variables_tree group.now)) }
+    ensures { OnOk result
+        (found.new.items ≡ found.old.items ++ initial_faults (variables_tree group.now)) }
 {
     match &group.initial {
         Some(constant) => report_constant(&group.type_use, constant, found),
@@ -47,7 +50,9 @@ pub fn report_constant(
     constant: &Constant,
     found: &mut Vec<Fault>,
 ) -> Result<(), AllocError>
-    ensures { OnOk result (found.new.items ≡ found.old.items ++ constant_faults used.now (constant_tree constant.now)) }
+    ensures { OnOk result
+        (found.new.items
+        ≡ found.old.items ++ constant_faults used.now (constant_tree constant.now)) }
 {
     match constant {
         Constant::One(value) => report_alone(used, value, found),
@@ -57,7 +62,8 @@ pub fn report_constant(
 
 /// Reports a constant that stands alone.
 fn report_alone(used: &TypeUse, value: &Simple, found: &mut Vec<Fault>) -> Result<(), AllocError>
-    ensures { OnOk result (found.new.items ≡ found.old.items ++ constant_faults used.now (one_value value.now)) }
+    ensures { OnOk result
+        (found.new.items ≡ found.old.items ++ constant_faults used.now (one_value value.now)) }
 {
     if !is_fit(used.form, class_of(used), class_of_constant(value)) {
         found.push(misfit(span_of(value)))?;
@@ -81,7 +87,8 @@ fn report_list(
     span: Span,
     found: &mut Vec<Fault>,
 ) -> Result<(), AllocError>
-    ensures { OnOk result (found.new.items ≡ found.old.items ++ list_faults used.now.form used.now values.now span) }
+    ensures { OnOk result
+        (found.new.items ≡ found.old.items ++ list_faults used.now.form used.now values.now span) }
 {
     match used.form {
         TypeForm::Array => report_elements(class_by_name(&used.name.name), values, found),

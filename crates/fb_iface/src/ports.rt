@@ -256,7 +256,8 @@ fn declared_variables(
     alloc: Global,
     interface: &Interface,
 ) -> Result<Vec<(Name, DeclaredVariable)>, AllocError>
-    ensures { IfOk result (λ declared. declared.items ≡ variables_in (interface_tree interface.now)) }
+    ensures { IfOk result
+        (λ declared. declared.items ≡ variables_in (interface_tree interface.now)) }
 {
     let mut declared = Vec::new(alloc);
     for group in &interface.variables {
@@ -270,7 +271,8 @@ fn declare_together(
     group: &Variables,
     declared: &mut Vec<(Name, DeclaredVariable)>,
 ) -> Result<(), AllocError>
-    ensures { OnOk result (declared.new.items ≡ declared.old.items ++ variables_together (variables_tree group.now)) }
+    ensures { OnOk result
+        (declared.new.items ≡ declared.old.items ++ variables_together (variables_tree group.now)) }
 {
     for name in &group.names {
         let meaning = DeclaredVariable {

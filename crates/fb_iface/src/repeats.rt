@@ -22,7 +22,8 @@ pub fn report_duplicates(
     decl: &Decl,
     found: &mut Vec<Fault>,
 ) -> Result<(), AllocError>
-    ensures { OnOk result (found.new.items ≡ found.old.items ++ duplicate_faults (decl_tree decl.now)) }
+    ensures { OnOk result
+        (found.new.items ≡ found.old.items ++ duplicate_faults (decl_tree decl.now)) }
 {
     match decl {
         Decl::Block(declared) | Decl::Adapter(declared) | Decl::Subapplication(declared) => {
@@ -156,7 +157,8 @@ fn report_repeated<T: Named>(
     declarations: &[T],
     found: &mut Vec<Fault>,
 ) -> Result<(), AllocError>
-    ensures { OnOk result (found.new.items ≡ found.old.items ++ space_duplicates (map T.name_of declarations.now)) }
+    ensures { OnOk result
+        (found.new.items ≡ found.old.items ++ space_duplicates (map T.name_of declarations.now)) }
 {
     let mut seen = BTreeSet::new(alloc);
     for declaration in declarations {

@@ -52,7 +52,9 @@ impl Scope {
         view: &V,
         declared: &TypeDeclaration,
     ) -> Result<Scope, AllocError>
-        ensures { IfOk result (λ scope. scope_in scope ≡ scope_of_type (V.sources view.now) (type_tree declared.now)) }
+        ensures { IfOk result
+            (λ scope. scope_in scope
+            ≡ scope_of_type (V.sources view.now) (type_tree declared.now)) }
     {
         let own = Ports::of_type(alloc, declared)?;
         Scope::new(alloc, view, own, &declared.network)
@@ -64,7 +66,9 @@ impl Scope {
         view: &V,
         network: &Network,
     ) -> Result<Scope, AllocError>
-        ensures { IfOk result (λ scope. scope_in scope ≡ scope_of_network (V.sources view.now) (network_tree network.now)) }
+        ensures { IfOk result
+            (λ scope. scope_in scope
+            ≡ scope_of_network (V.sources view.now) (network_tree network.now)) }
     {
         let own = Ports::of_network(alloc, network)?;
         Scope::new(alloc, view, own, network)
@@ -80,7 +84,8 @@ impl Scope {
     /// The ports of a type that an instance of the network has, where it is usable in this role: present, not broken and of the
     /// kind that the section of the instance wants.
     pub fn type_ports(&self, role: Role, type_name: &Name) -> Option<&Ports>
-        ensures { option_map (λ p. p.now) result ≡ (scope_in self.now).type_ports role type_name.now }
+        ensures { option_map (λ p. p.now) result
+            ≡ (scope_in self.now).type_ports role type_name.now }
     {
         match self.types.get(type_name) {
             Some(kept) if is_suited(role, kept.kind) => Some(&kept.ports),

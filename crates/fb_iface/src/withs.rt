@@ -17,7 +17,8 @@ use std::alloc::AllocError;
 /// Reports the names behind `WITH` that are no data of the event's side. The unit has these ports.
 pub fn report_withs(own: &Ports, decl: &Decl, found: &mut Vec<Fault>) -> Result<(), AllocError>
     requires { own.now ≡ meanings_in (decl_tree decl.now) }
-    ensures { OnOk result (found.new.items ≡ found.old.items ++ with_faults_of (decl_tree decl.now)) }
+    ensures { OnOk result
+        (found.new.items ≡ found.old.items ++ with_faults_of (decl_tree decl.now)) }
 {
     match decl {
         Decl::Block(declared) | Decl::Adapter(declared) | Decl::Subapplication(declared) => {
@@ -34,7 +35,8 @@ fn report_in_interface(
     found: &mut Vec<Fault>,
 ) -> Result<(), AllocError>
     requires { own.now.variables ≡ first_ones (variables_in (interface_tree interface.now)) }
-    ensures { OnOk result (found.new.items ≡ found.old.items ++ with_faults (interface_tree interface.now)) }
+    ensures { OnOk result
+        (found.new.items ≡ found.old.items ++ with_faults (interface_tree interface.now)) }
 {
     report_events(own, interface.events.as_slice(), found)
 }

@@ -182,7 +182,8 @@ impl Index {
         names: &[Name],
         known: &BTreeSet<Name>,
     ) -> Result<(), AllocError>
-        ensures { OnOk result (HasJoined self.old unit.now (is_only_in names.now known.now) self.new) }
+        ensures { OnOk result
+            (HasJoined self.old unit.now (is_only_in names.now known.now) self.new) }
     {
         for name in names {
             if !known.contains(name) {
@@ -195,7 +196,8 @@ impl Index {
 
 /// The names as a set.
 fn set_of(alloc: Global, names: &[Name]) -> Result<BTreeSet<Name>, AllocError>
-    ensures { IfOk result (λ made. (name : List ℕ) → set.contains name_cmp made name ≡ has_name names.now name) }
+    ensures { IfOk result
+        (λ made. (name : List ℕ) → set.contains name_cmp made name ≡ has_name names.now name) }
 {
     names.iter().copied().collect(alloc)
 }

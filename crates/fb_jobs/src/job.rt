@@ -58,7 +58,8 @@ impl Job {
     ) -> Result<Job, AllocError>
         requires has { has_key library.now key ≡ true }
         requires kept { AreKept library.now (K.kept kept.now) }
-        ensures { IfOk result (λ job. job ≡ record { key = key; reads = reads_for library.now key }) }
+        ensures { IfOk result
+            (λ job. job ≡ record { key = key; reads = reads_for library.now key }) }
     {
         let wanted = key;
         let reads = reads_of(alloc, library, wanted)?;
@@ -122,7 +123,8 @@ impl Job {
 
     /// The source that was read under a name.
     fn find(&self, name: &Name) -> Option<&Source>
-        ensures { option_map (λ it. it.now.text) result ≡ text_at (read_texts self.now.reads) name.now }
+        ensures { option_map (λ it. it.now.text) result
+            ≡ text_at (read_texts self.now.reads) name.now }
     {
         match self.place(name) {
             Ok(at) => match &self.reads[at].source {

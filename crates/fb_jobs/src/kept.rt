@@ -23,7 +23,8 @@ pub trait Kept {
 
     /// The value that is kept of a key.
     fn value(&self, key: &Key) -> Option<&Arc<Value>>
-        ensures { option_map (λ it. finding_of it.value) (option_copied result) ≡ kept self.now key.now };
+        ensures { option_map (λ it. finding_of it.value) (option_copied result)
+            ≡ kept self.now key.now };
 }
 
 /// Nets by the names of their units.

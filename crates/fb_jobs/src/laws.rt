@@ -19,23 +19,29 @@ pub fn kinds_in_order()
 
 /// Texts that agree on what a key needs have the same needs and the same value for it, whatever their revisions.
 pub fn locality()
-    ensures needs { (texts others : Texts) (key : Key) → Agree texts others (needs texts key) → needs others key ≡ needs texts key }
-    ensures has { (texts others : Texts) (key : Key) → Agree texts others (needs texts key) → has_key others key ≡ has_key texts key }
-    ensures value { (texts others : Texts) (key : Key) → Agree texts others (needs texts key) → scratch others key ≡ scratch texts key }
+    ensures needs { (texts others : Texts) (key : Key) → Agree texts others (needs texts key)
+        → needs others key ≡ needs texts key }
+    ensures has { (texts others : Texts) (key : Key) → Agree texts others (needs texts key)
+        → has_key others key ≡ has_key texts key }
+    ensures value { (texts others : Texts) (key : Key) → Agree texts others (needs texts key)
+        → scratch others key ≡ scratch texts key }
 {}
 
 /// Reads that are right in themselves and current have the value of the present texts.
 pub fn current_reads()
-    ensures { (texts : Texts) (it : PlainJob) → IsRight it → stale texts it.reads ≡ None → scratch texts it.key ≡ scratch (read_texts it.reads) it.key }
+    ensures { (texts : Texts) (it : PlainJob) → IsRight it → stale texts it.reads ≡ None
+        → scratch texts it.key ≡ scratch (read_texts it.reads) it.key }
 {}
 
 /// What a key needs, and so what is read for it, stands in order, each name once.
 pub fn needs_in_order()
     ensures needs { (texts : Texts) (key : Key) → IsStrictlySortedBy name_cmp (needs texts key) }
-    ensures reads { (it : PlainJob) → IsRight it → IsStrictlySortedBy name_cmp (read_names it.reads) }
+    ensures reads { (it : PlainJob) → IsRight it
+        → IsStrictlySortedBy name_cmp (read_names it.reads) }
 {}
 
 /// Of reads that are right in themselves the first that is not current is the least.
 pub fn least_stale()
-    ensures { (texts : Texts) (it : PlainJob) (name : List ℕ) → IsRight it → stale texts it.reads ≡ Some name → IsLeastStale texts it.reads name }
+    ensures { (texts : Texts) (it : PlainJob) (name : List ℕ) → IsRight it
+        → stale texts it.reads ≡ Some name → IsLeastStale texts it.reads name }
 {}

@@ -11,7 +11,8 @@ use fb_text::Name;
 use std::alloc::{AllocError, Global};
 
 fn read_under(library: &Library, name: Name) -> Result<Read, AllocError>
-    ensures seen { IfOk result (λ read. seen_of read ≡ record { name = name; found = held library.now name }) }
+    ensures seen { IfOk result
+        (λ read. seen_of read ≡ record { name = name; found = held library.now name }) }
     ensures own { IfOk result IsOwn }
 {
     let revision = library.revision(&name);

@@ -30,7 +30,8 @@ pub(crate) fn value_of<V: View, H: Hints>(
 ) -> Result<Value, AllocError>
     requires has { has_kind_at key.kind (map.get (V.sources view.now) key.unit) ≡ true }
     requires right { AreRightHints (V.sources view.now) (H.hints hints.now) }
-    ensures { IfOk result (λ value. finding_of value ≡ scratch_of key.kind (V.sources view.now) key.unit) }
+    ensures { IfOk result
+        (λ value. finding_of value ≡ scratch_of key.kind (V.sources view.now) key.unit) }
 {
     match key.kind {
         Kind::Faults => Ok(Value::Faults(faults(alloc, view, &key.unit)?)),

@@ -155,7 +155,8 @@ fn lexeme_of(text: &str, token: &Token) -> Lexeme
 pub fn lexemes(alloc: Global, text: &str) -> Result<Vec<Lexeme>, TokenFault>
     ensures exact { Gives result (lexemes_of text.now) }
     ensures within { IfOk result (λ lexemes. All (λ l. LiesIn text.now l.span) lexemes.items) }
-    ensures rise { IfOk result (λ lexemes. SpansRise 0 (length text.now) (map (λ l. l.span) lexemes.items)) }
+    ensures rise { IfOk result
+        (λ lexemes. SpansRise 0 (length text.now) (map (λ l. l.span) lexemes.items)) }
 {
     let tokens = tokens(alloc, text)?;
     let mut lexemes = Vec::with_capacity(alloc, tokens.len())?;
@@ -167,5 +168,7 @@ pub fn lexemes(alloc: Global, text: &str) -> Result<Vec<Lexeme>, TokenFault>
 
 /// A token is a name where it is a word of at most 64 bytes that is not reserved.
 pub fn names_are_words()
-    ensures { (token : TokenKind) (bytes : List ℕ) → (is_among name_kinds (kind_of token bytes) ≡ true) ↔ ((token ≡ Word) × (length bytes ≤ 64) × (keyword bytes ≡ None)) }
+    ensures { (token : TokenKind) (bytes : List ℕ)
+        → (is_among name_kinds (kind_of token bytes) ≡ true)
+        ↔ ((token ≡ Word) × (length bytes ≤ 64) × (keyword bytes ≡ None)) }
 {}

@@ -156,7 +156,8 @@ fn push_unmapped(paths: Vec<Path>, found: &mut Vec<Misplaced>) -> Result<(), All
 
 /// Adds mappings that are of nothing.
 fn push_no_such_block(paths: Vec<Path>, found: &mut Vec<Misplaced>) -> Result<(), AllocError>
-    ensures { OnOk result (found.new.items ≡ found.old.items ++ map (λ p. NoSuchBlock p) paths.items) }
+    ensures { OnOk result
+        (found.new.items ≡ found.old.items ++ map (λ p. NoSuchBlock p) paths.items) }
 {
     for path in paths {
         found.push(Misplaced::NoSuchBlock(path))?;
@@ -172,7 +173,8 @@ fn misplaced_in<V: View>(
     table: &PathTable,
     blocks: &[FlatBlock],
 ) -> Result<Vec<Misplaced>, AllocError>
-    requires { get_by_text table.now ≡ resource_at (mappings_in (tree_at (V.sources view.now) system.now)) }
+    requires { get_by_text table.now
+        ≡ resource_at (mappings_in (tree_at (V.sources view.now) system.now)) }
     ensures { IfOk result (λ found. found.items
         ≡ misplaced (V.sources view.now) system.now (tree_at (V.sources view.now) system.now) blocks.now) }
 {
@@ -191,7 +193,8 @@ pub fn homes_of<V: View>(
     system: &Name,
     blocks: &[FlatBlock],
 ) -> Result<Homes, AllocError>
-    ensures { IfOk result (λ homes. plain_homes homes ≡ homes_of (V.sources view.now) system.now blocks.now) }
+    ensures { IfOk result
+        (λ homes. plain_homes homes ≡ homes_of (V.sources view.now) system.now blocks.now) }
 {
     let table = mapping_table(alloc, mappings_of(view, system))?;
     let found = misplaced_in(alloc, view, system, &table, blocks)?;

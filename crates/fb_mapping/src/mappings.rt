@@ -57,7 +57,8 @@ fn home(alloc: Global, mapping: &Mapping) -> Result<Path, AllocError>
 
 /// The resources by the paths that are mapped to them.
 pub(crate) fn mapping_table(alloc: Global, mappings: &[Mapping]) -> Result<PathTable, AllocError>
-    ensures { IfOk result (λ table. get_by_text table ≡ resource_at (map mapping_tree mappings.now)) }
+    ensures { IfOk result
+        (λ table. get_by_text table ≡ resource_at (map mapping_tree mappings.now)) }
 {
     let mut table = BTreeMap::new(alloc);
     for mapping in mappings {

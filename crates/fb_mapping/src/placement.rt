@@ -28,7 +28,8 @@ fn place_flat<V: View>(
     system: &Name,
     flat: &Flat,
 ) -> Result<Placed, AllocError>
-    ensures { IfOk result (λ placed. plain_placed placed ≡ flat_placed (V.sources view.now) system.now flat.now) }
+    ensures { IfOk result
+        (λ placed. plain_placed placed ≡ flat_placed (V.sources view.now) system.now flat.now) }
 {
     match homes_of(alloc, view, system, flat.blocks())? {
         Homes::Faulty(found) => Ok(Placed::Faulty(found)),

@@ -35,7 +35,8 @@ pub fn path_names<'a>(alloc: Global, path: &'a str) -> Result<Vec<&'a str>, Allo
 
 /// The applications of a system.
 fn applications_of<'a, V: View>(view: &'a V, system: &Name) -> &'a [Application]
-    ensures { map application_tree result.now ≡ applications_in (tree_at (V.sources view.now) system.now) }
+    ensures { map application_tree result.now
+        ≡ applications_in (tree_at (V.sources view.now) system.now) }
 {
     match tree_by_name(view, system) {
         Some(Decl::System(it)) => it.applications.as_slice(),

@@ -97,7 +97,9 @@ fn changes_of<'a>(
     alloc: Global,
     values: &'a [Value],
 ) -> Result<Option<Vec<AskedChange<'a>>>, AllocError>
-    ensures { IfOk result (λ found. option_map (λ changes. map change_view changes.items) found ≡ changes_of (items_view values.now)) }
+    ensures { IfOk result
+        (λ found. option_map (λ changes. map change_view changes.items) found
+        ≡ changes_of (items_view values.now)) }
 {
     let mut changes = Vec::new(alloc);
     for value in values {
@@ -138,7 +140,8 @@ fn give_back_in(value: &Value) -> Option<Request<'_>>
 }
 
 fn work_in(value: &Value) -> Option<Request<'_>>
-    ensures { option_map request_view result ≡ option_and_then work_of (number_at (codes "turns") (view value.now)) }
+    ensures { option_map request_view result
+        ≡ option_and_then work_of (number_at (codes "turns") (view value.now)) }
 {
     let turns = number_at(value, "turns")?;
     if 1 <= turns && turns <= 1000 {
@@ -149,7 +152,8 @@ fn work_in(value: &Value) -> Option<Request<'_>>
 }
 
 fn deliver_in(value: &Value) -> Option<Request<'_>>
-    ensures { option_map request_view result ≡ option_map deliver (number_at (codes "job") (view value.now)) }
+    ensures { option_map request_view result
+        ≡ option_map deliver (number_at (codes "job") (view value.now)) }
 {
     Some(Request::Deliver(number_at(value, "job")?))
 }
@@ -159,7 +163,8 @@ fn request_by<'a>(
     op: &str,
     value: &'a Value,
 ) -> Result<Option<Request<'a>>, AllocError>
-    ensures { IfOk result (λ found. option_map request_view found ≡ request_by op.now (view value.now)) }
+    ensures { IfOk result
+        (λ found. option_map request_view found ≡ request_by op.now (view value.now)) }
 {
     if op == "commit" {
         commit_in(alloc, value)

@@ -132,7 +132,8 @@ pub fn write_one_list<T: ToJson>(
     name: &str,
     items: &[T],
 ) -> Result<(), AllocError>
-    ensures { IsSaid result out.old out.new (one_member name.now (array (items_of (map T.said items.now)))) }
+    ensures { IsSaid result out.old out.new
+        (one_member name.now (array (items_of (map T.said items.now)))) }
 {
     out.begin_object()?;
     write_list_member(out, name, items)?;

@@ -115,7 +115,8 @@ fn target_at_instance(
     ports: Option<&Ports>,
     name: &Name,
 ) -> Target
-    ensures { result ≡ target_of_instance kind sort (option_copied instance.entry) (option_map (λ p. p.now) ports.entry) name.now }
+    ensures { result ≡ target_of_instance kind sort (option_copied instance.entry)
+        (option_map (λ p. p.now) ports.entry) name.now }
 {
     match instance {
         None => Target::Unknown,

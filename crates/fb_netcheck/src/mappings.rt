@@ -43,7 +43,8 @@ fn start_of(names: &[NameUse]) -> usize
 
 /// Where the last name ends.
 fn end_of(names: &[NameUse]) -> usize
-    ensures { result ≡ option_map_or (λ n. n.span.end) (slice_get names.now (length names.now - 1)) 0 }
+    ensures { result ≡ option_map_or
+        (λ n. n.span.end) (slice_get names.now (length names.now - 1)) 0 }
 {
     match names.last() {
         Some(name) => name.span.end,

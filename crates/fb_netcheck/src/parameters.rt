@@ -92,7 +92,9 @@ fn report_parameter(
 }
 
 fn report_unknown(parameter: &Parameter, found: &mut Vec<Fault>) -> Result<(), AllocError>
-    ensures { OnOk result (found.new.items ≡ found.old.items ++ parameter_faults None (parameter_tree parameter.now)) }
+    ensures { OnOk result
+        (found.new.items
+        ≡ found.old.items ++ parameter_faults None (parameter_tree parameter.now)) }
 {
     found.push(Fault::at(Code::ParameterUnknown, &parameter.name))?;
     Ok(())

@@ -15,7 +15,8 @@ pub fn report_end(
     target: &Target,
     found: &mut Vec<Fault>,
 ) -> Result<(), AllocError>
-    ensures { OnOk result (found.new.items ≡ found.old.items ++ end_faults position end.now target.now) }
+    ensures { OnOk result
+        (found.new.items ≡ found.old.items ++ end_faults position end.now target.now) }
 {
     match target {
         Target::Unknown => found.push(fault_at(Code::PortUnknown, end))?,

@@ -75,7 +75,8 @@ fn words_of_unit<V: View>(
     unit: &Name,
     span: Span,
 ) -> Result<Vec<u8>, AllocError>
-    ensures { IfOk result (λ spelling. spelling.items ≡ words_at (V.sources view.now) unit.now span) }
+    ensures { IfOk result
+        (λ spelling. spelling.items ≡ words_at (V.sources view.now) unit.now span) }
 {
     words_in(alloc, part_of(text_by_name(view, unit), span))
 }
@@ -157,7 +158,8 @@ fn spelled(alloc: Global, text: &str, tokens: &[Token]) -> Result<Vec<u8>, Alloc
 
 /// Adds a token in upper case, with a blank behind it.
 fn push_word(token: &str, spelling: &mut Vec<u8>) -> Result<(), AllocError>
-    ensures { OnOk result (spelling.new.items ≡ spelling.old.items ++ (str_to_ascii_uppercase token.now ++ 32 ∷ [])) }
+    ensures { OnOk result
+        (spelling.new.items ≡ spelling.old.items ++ (str_to_ascii_uppercase token.now ++ 32 ∷ [])) }
 {
     for b in token.as_bytes() {
         spelling.push(b.to_ascii_uppercase())?;

@@ -135,7 +135,8 @@ impl Model for Flat {
 impl Flat {
     /// A flat network of these lists.
     pub fn new(blocks: Vec<FlatBlock>, links: Vec<Link>, borders: Vec<Border>) -> Flat
-        ensures { result ≡ record { blocks = blocks.items; links = links.items; borders = borders.items } }
+        ensures { result
+            ≡ record { blocks = blocks.items; links = links.items; borders = borders.items } }
     {
         Flat {
             blocks,

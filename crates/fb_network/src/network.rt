@@ -89,7 +89,11 @@ impl Model for Network {
 impl Network {
     /// A network of these lists.
     pub fn new(ports: Vec<Port>, instances: Vec<Instance>, connections: Vec<Connection>) -> Network
-        ensures { result ≡ record { ports = ports.items; instances = instances.items; connections = connections.items } }
+        ensures { result ≡ record {
+          ports = ports.items;
+          instances = instances.items;
+          connections = connections.items;
+        } }
     {
         Network {
             ports,

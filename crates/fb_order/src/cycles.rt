@@ -18,7 +18,8 @@ pub(crate) fn cycles(
     names: &[Name],
 ) -> Result<BTreeSet<Name>, AllocError>
     requires reverse { IsReverse graph.forth graph.back }
-    requires outside { (u : List ℕ) → has_name graph.names.keys u ≡ false → edges_at graph.forth u ≡ [] }
+    requires outside { (u : List ℕ) → has_name graph.names.keys u ≡ false
+        → edges_at graph.forth u ≡ [] }
     ensures { IfOk result (λ found. (u : List ℕ) → Contains names.now u
         → (Contains found.keys u ↔ Follows (edges_at graph.forth) u u)) }
 {
@@ -55,7 +56,8 @@ fn decide_all(
 ) -> Result<(), AllocError>
     requires reverse { IsReverse forth.now back.now }
     requires decided { IsDecided (edges_at forth.now) undecided.old.keys found.old.keys }
-    ensures decided { OnOk result (IsDecided (edges_at forth.now) undecided.new.keys found.new.keys) }
+    ensures decided { OnOk result
+        (IsDecided (edges_at forth.now) undecided.new.keys found.new.keys) }
     ensures these { OnOk result (AreDecided names.now undecided.old.keys undecided.new.keys) }
 {
     for name in names {

@@ -28,7 +28,8 @@ pub(crate) struct Graph {
 
 /// The graph of all that the names rest on, by a search in depth.
 pub(crate) fn explore<V: View>(alloc: Global, view: &V, begun: &[Name]) -> Result<Graph, AllocError>
-    ensures { IfOk result (λ graph. IsGraph (V.sources view.now) begun.now graph.names.keys graph.forth graph.back) }
+    ensures { IfOk result
+        (λ graph. IsGraph (V.sources view.now) begun.now graph.names.keys graph.forth graph.back) }
 {
     let mut names = BTreeSet::new(alloc);
     let mut forth = BTreeMap::new(alloc);

@@ -15,7 +15,8 @@ use std::collections::BTreeSet;
 
 /// The names among these that reach themselves, in the same order.
 pub fn recursive<V: View>(alloc: Global, view: &V, names: &[Name]) -> Result<Vec<Name>, AllocError>
-    ensures exact { IfOk result (λ found. RecursivePart (V.sources view.now) names.now found.items) }
+    ensures exact { IfOk result
+        (λ found. RecursivePart (V.sources view.now) names.now found.items) }
     ensures members { IfOk result (λ found. (v : List ℕ)
         → Contains found.items v ↔ (Contains names.now v × IsRecursive (V.sources view.now) v)) }
     ensures sorted { IsStrictlySortedBy name_cmp names.now

@@ -23,10 +23,12 @@ pub fn inner_first<V: View>(
     view: &V,
     unit: Name,
 ) -> Result<Option<Vec<Name>>, AllocError>
-    ensures ordered { IfOk result (λ found. IfSome found (λ order. IsOrdered (V.sources view.now) order.items)) }
+    ensures ordered { IfOk result
+        (λ found. IfSome found (λ order. IsOrdered (V.sources view.now) order.items)) }
     ensures whole { IfOk result (λ found. IfSome found
         (λ order. (v : List ℕ) → Contains order.items v ↔ Rests (V.sources view.now) unit v)) }
-    ensures recursive { IfOk result (λ found. IsNone found ↔ RestsOnRecursive (V.sources view.now) unit) }
+    ensures recursive { IfOk result
+        (λ found. IsNone found ↔ RestsOnRecursive (V.sources view.now) unit) }
 {
     search(alloc, view, &[unit])
 }
@@ -37,10 +39,12 @@ pub(crate) fn search<V: View>(
     view: &V,
     names: &[Name],
 ) -> Result<Option<Vec<Name>>, AllocError>
-    ensures ordered { IfOk result (λ found. IfSome found (λ order. IsOrdered (V.sources view.now) order.items)) }
+    ensures ordered { IfOk result
+        (λ found. IfSome found (λ order. IsOrdered (V.sources view.now) order.items)) }
     ensures whole { IfOk result (λ found. IfSome found
         (λ order. (v : List ℕ) → Contains order.items v ↔ SomeRests (V.sources view.now) names.now v)) }
-    ensures recursive { IfOk result (λ found. IsNone found ↔ SomeRestsOnRecursive (V.sources view.now) names.now) }
+    ensures recursive { IfOk result
+        (λ found. IsNone found ↔ SomeRestsOnRecursive (V.sources view.now) names.now) }
 {
     let mut entered = BTreeSet::new(alloc);
     let mut left = BTreeSet::new(alloc);

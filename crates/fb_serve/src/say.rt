@@ -14,7 +14,8 @@ pub(crate) fn greet<S: Sink>(
     out: &mut S,
 ) -> Result<(), Failed>
     requires { S.has_failed out.old ≡ false }
-    ensures held { (port : ℕ) × (port < 2 ^ 16) × WritesAll (S.held out.old) (greeting port) result (S.held out.new) }
+    ensures held { (port : ℕ) × (port < 2 ^ 16)
+        × WritesAll (S.held out.old) (greeting port) result (S.held out.new) }
     ensures failed { IfOk result (λ _. S.has_failed out.new ≡ false) }
 {
     let Ok(address) = listener.local_addr() else {

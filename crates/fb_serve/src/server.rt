@@ -57,8 +57,11 @@ pub fn serve_sessions<R: Threads + Wait + Sync, E: Write>(
     errors: &mut E,
 ) -> Result<Served, NotServed>
     // The receipts are those of all records of the workbench, each once; each caller is counted with its records.
-    ensures all { IfOk result (λ served. ShowsAll served.closed.bench.log.records served.receipts.items) }
-    ensures counts { IfOk result (λ served. (callers : ℕ) × IsBookOf served.closed.counts callers served.closed.bench.log.records) }
+    ensures all { IfOk result
+        (λ served. ShowsAll served.closed.bench.log.records served.receipts.items) }
+    ensures counts { IfOk result
+        (λ served. (callers : ℕ)
+        × IsBookOf served.closed.counts callers served.closed.bench.log.records) }
 {
     let callers = u32::from(numbers.sessions) + u32::from(numbers.workers);
     let (shared, mut seats) = Shared::new(alloc, numbers.limits, callers)?;
@@ -85,8 +88,11 @@ fn new_seats(alloc: Global, seats: Vec<Seat>) -> Result<Vec<NewSeat>, AllocError
 
 /// Closes with all that the threads left.
 fn close(alloc: Global, shared: Shared, gathered: Gathered) -> Result<Served, NotServed>
-    ensures all { IfOk result (λ served. ShowsAll served.closed.bench.log.records served.receipts.items) }
-    ensures counts { IfOk result (λ served. (callers : ℕ) × IsBookOf served.closed.counts callers served.closed.bench.log.records) }
+    ensures all { IfOk result
+        (λ served. ShowsAll served.closed.bench.log.records served.receipts.items) }
+    ensures counts { IfOk result
+        (λ served. (callers : ℕ)
+        × IsBookOf served.closed.counts callers served.closed.bench.log.records) }
 {
     let Gathered {
         seats,

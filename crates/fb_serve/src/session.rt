@@ -43,9 +43,11 @@ pub fn run_session<R: Wait, F: Feed, S: Sink>(
     ensures run { IsRun seat result.receipts.items result.seat }
     ensures whole { result.end ≡ RunEnd.End → IsAtEnd (F.left reader.new) }
     ensures turns { F.reads reader.new ≤ F.reads reader.old + turns }
-    ensures all_turns { result.end ≡ RunEnd.TurnsOver → F.reads reader.new ≡ F.reads reader.old + turns }
+    ensures all_turns { result.end ≡ RunEnd.TurnsOver
+        → F.reads reader.new ≡ F.reads reader.old + turns }
     ensures read_failed { IsTrue (F.has_failed reader.new) ↔ (result.end ≡ RunEnd.ReadFailed) }
-    ensures flushed { StaysFlushed (S.is_flushed writer.old) (S.has_failed writer.new) (S.is_flushed writer.new) }
+    ensures flushed { StaysFlushed (S.is_flushed writer.old) (S.has_failed writer.new)
+        (S.is_flushed writer.new) }
     ensures write_failed { IsTrue (S.has_failed writer.new) ↔ (result.end ≡ RunEnd.WriteFailed) }
 {
     let mut desk = Seated::new(rt, shared, seat, Vec::new(alloc));

@@ -47,10 +47,13 @@ impl Locked {
     ) -> Result<Closed, NotClosed<Locked>>
         ensures agrees { IfOk result (λ closed. AgreesWith self seats.items receipts.now) }
         ensures bench { IfOk result (λ closed. closed.bench ≡ self.bench) }
-        ensures counts { IfOk result (λ closed. IsBookOf closed.counts self.callers self.bench.log.records) }
+        ensures counts { IfOk result
+            (λ closed. IsBookOf closed.counts self.callers self.bench.log.records) }
 
-        ensures fault { IfErr result (λ refused. IsFirstFault self seats.items receipts.now refused.fault) }
-        ensures back { IfErr result (λ refused. (refused.owner ≡ self) × (refused.seats.items ≡ seats.items)) }
+        ensures fault { IfErr result
+            (λ refused. IsFirstFault self seats.items receipts.now refused.fault) }
+        ensures back { IfErr result
+            (λ refused. (refused.owner ≡ self) × (refused.seats.items ≡ seats.items)) }
     {
         if let Some(fault) = self.first_fault(alloc, &seats, receipts) {
             return Err(NotClosed {

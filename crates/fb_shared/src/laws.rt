@@ -11,5 +11,6 @@ pub fn numbers_rise_with_turns()
 
 /// A caller whose receipts are as many as its records has shown all its calls: of each of its records there is a receipt.
 pub fn all_calls_are_shown()
-    ensures { (records : List Record) (receipts : List Claim) → AreReceiptsRight records receipts → EnoughShowAll records receipts }
+    ensures { (records : List Record) (receipts : List Claim) → AreReceiptsRight records receipts
+        → EnoughShowAll records receipts }
 {}

@@ -174,8 +174,10 @@ impl Locked {
         request: &Request<'_>,
     ) -> Result<(Receipt, Answered), SharedRefused>
         ensures admitted { OnOk result (refusal_of self.old seat.old ≡ None) }
-        ensures step { IfOk result (λ made. self.new ≡ hall_after self.old seat.old.caller (call_for request.now)) }
-        ensures receipt { IfOk result (λ made. made.0 ≡ next_claim self.old seat.old.caller (call_for request.now)) }
+        ensures step { IfOk result
+            (λ made. self.new ≡ hall_after self.old seat.old.caller (call_for request.now)) }
+        ensures receipt { IfOk result
+            (λ made. made.0 ≡ next_claim self.old seat.old.caller (call_for request.now)) }
         ensures answer { IfOk result (λ made. reply_in made.1 ≡ made.0.entry.reply) }
         ensures seat { IfOk result (λ made. seat.new ≡ seat_after seat.old made.0) }
         ensures fits { IfOk result (λ made. IsReceiptOf seat.old (call_for request.now) made.0) }
@@ -199,7 +201,8 @@ impl Locked {
         request: &Request<'_>,
     ) -> Result<(Receipt, Answered), AllocError>
         ensures step { OnOk result (self.new ≡ hall_after self.old caller (call_for request.now)) }
-        ensures receipt { IfOk result (λ made. made.0 ≡ next_claim self.old caller (call_for request.now)) }
+        ensures receipt { IfOk result
+            (λ made. made.0 ≡ next_claim self.old caller (call_for request.now)) }
         ensures answer { IfOk result (λ made. reply_in made.1 ≡ made.0.entry.reply) }
         ensures err { OnErr result (self.new ≡ self.old) }
     {
@@ -219,8 +222,10 @@ impl Locked {
 
     /// Changes the texts, or says what is first against it.
     pub fn commit(&mut self, seat: &mut Seat, changes: &[Change]) -> Result<Receipt, SharedRefused>
-        ensures performs { Performs self.old seat.old (ToCommit (listed changes.now)) (λ claim. claim) result self.new seat.new }
-        ensures answers { Answers seat.old (ToCommit (listed changes.now)) (λ claim. claim) result seat.new }
+        ensures performs { Performs self.old seat.old (ToCommit (listed changes.now))
+            (λ claim. claim) result self.new seat.new }
+        ensures answers { Answers seat.old (ToCommit (listed changes.now))
+            (λ claim. claim) result seat.new }
     {
         let _finished: Option<&Finished> = None;
         Ok(self.perform(seat, &Request::Commit(changes))?.0)
@@ -228,7 +233,8 @@ impl Locked {
 
     /// Hands out a job for the least key that is pending and not handed out.
     pub fn take(&mut self, seat: &mut Seat) -> Result<(Receipt, Option<Job>), SharedRefused>
-        ensures performs { Performs self.old seat.old ToTake (λ made. made.0) result self.new seat.new }
+        ensures performs { Performs self.old seat.old ToTake
+            (λ made. made.0) result self.new seat.new }
         ensures answers { Answers seat.old ToTake (λ made. made.0) result seat.new }
         ensures job { IfOk result (λ made. made.1 ≡ job_of made.0.entry.reply) }
     {
@@ -244,8 +250,10 @@ impl Locked {
         seat: &mut Seat,
         finished: &Finished,
     ) -> Result<Receipt, SharedRefused>
-        ensures performs { Performs self.old seat.old (ToDeliver finished.now) (λ claim. claim) result self.new seat.new }
-        ensures answers { Answers seat.old (ToDeliver finished.now) (λ claim. claim) result seat.new }
+        ensures performs { Performs self.old seat.old (ToDeliver finished.now)
+            (λ claim. claim) result self.new seat.new }
+        ensures answers { Answers seat.old (ToDeliver finished.now)
+            (λ claim. claim) result seat.new }
     {
         let _changes: &[Change] = &[];
         Ok(self.perform(seat, &Request::Deliver(finished))?.0)
@@ -253,7 +261,8 @@ impl Locked {
 
     /// Clears the mark that a key is handed out.
     pub fn give_back(&mut self, seat: &mut Seat, key: Key) -> Result<Receipt, SharedRefused>
-        ensures performs { Performs self.old seat.old (ToGiveBack key) (λ claim. claim) result self.new seat.new }
+        ensures performs { Performs self.old seat.old (ToGiveBack key)
+            (λ claim. claim) result self.new seat.new }
         ensures answers { Answers seat.old (ToGiveBack key) (λ claim. claim) result seat.new }
     {
         let _changes: &[Change] = &[];
@@ -263,7 +272,8 @@ impl Locked {
 
     /// What is known of a key.
     pub fn ask(&mut self, seat: &mut Seat, key: Key) -> Result<Receipt, SharedRefused>
-        ensures performs { Performs self.old seat.old (ToAsk key) (λ claim. claim) result self.new seat.new }
+        ensures performs { Performs self.old seat.old (ToAsk key)
+            (λ claim. claim) result self.new seat.new }
         ensures answers { Answers seat.old (ToAsk key) (λ claim. claim) result seat.new }
     {
         Ok(self.ask_with(seat, key)?.0)
@@ -275,7 +285,8 @@ impl Locked {
         seat: &mut Seat,
         key: Key,
     ) -> Result<(Receipt, Asked), SharedRefused>
-        ensures performs { Performs self.old seat.old (ToAsk key) (λ made. made.0) result self.new seat.new }
+        ensures performs { Performs self.old seat.old (ToAsk key)
+            (λ made. made.0) result self.new seat.new }
         ensures answers { Answers seat.old (ToAsk key) (λ made. made.0) result seat.new }
         ensures asked { IfOk result (λ made. OfAsk (shown_in made.1) ≡ made.0.entry.reply) }
     {

@@ -54,7 +54,8 @@ impl Shared {
         seat: &mut Seat,
         changes: &[Change],
     ) -> Result<Receipt, SharedRefused>
-        ensures { Answers seat.old (ToCommit (listed changes.now)) (λ claim. claim) result seat.new }
+        ensures { Answers seat.old (ToCommit (listed changes.now))
+            (λ claim. claim) result seat.new }
     {
         let mut state = self.state.lock(rt);
         let answer = state.commit(seat, changes);
@@ -143,7 +144,8 @@ impl Shared {
         seats: Vec<Seat>,
         receipts: &[Receipt],
     ) -> Result<Closed, NotClosed<Shared>>
-        ensures closed { IfOk result (λ closed. IsCloseOf seats.items receipts.now closed.bench closed.counts) }
+        ensures closed { IfOk result
+            (λ closed. IsCloseOf seats.items receipts.now closed.bench closed.counts) }
         ensures back { IfErr result (λ refused. refused.seats.items ≡ seats.items) }
     {
         let Shared { state, changed } = self;

@@ -78,7 +78,8 @@ pub fn work_on<R: Wait, G: Gate>(
     gate: &G,
     turns: u64,
 ) -> WorkEnd
-    ensures works { Works Empty (2 * turns) seat.old receipts.old.items receipts.new.items seat.new (Some result) }
+    ensures works { Works Empty (2 * turns) seat.old receipts.old.items receipts.new.items seat.new
+        (Some result) }
     ensures names { NamesSeat seat.new result }
     ensures idle { turns ≡ 0 → result ≡ TurnsOver }
 {
@@ -133,7 +134,8 @@ fn finish<R: Wait, G: Gate>(
     job: &Job,
 ) -> Option<WorkEnd>
     requires { vec_len receipts.old < vec_capacity receipts.old }
-    ensures works { Works (Holds job.now) 1 seat.old receipts.old.items receipts.new.items seat.new result }
+    ensures works { Works (Holds job.now) 1
+        seat.old receipts.old.items receipts.new.items seat.new result }
     ensures names { IfSome result (NamesSeat seat.new) }
 {
     let worker = seat.caller();
@@ -163,7 +165,8 @@ fn give_back<R: Wait>(
     job: &Job,
 )
     requires { vec_len receipts.old < vec_capacity receipts.old }
-    ensures { Works (Holds job.now) 1 seat.old receipts.old.items receipts.new.items seat.new (Some Memory) }
+    ensures { Works (Holds job.now) 1 seat.old receipts.old.items receipts.new.items seat.new
+        (Some Memory) }
 {
     if let Ok(receipt) = shared.give_back(rt, seat, job.key()) {
         receipts.push_reserved(receipt);

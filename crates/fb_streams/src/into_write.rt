@@ -47,11 +47,13 @@ impl<W: Write> Sink for IntoWrite<W> {
         requires { self.old.has_failed ≡ false }
         ensures within { IfOk result (λ n. n ≤ length bytes.now) }
         ensures some { IfOk result (λ n. 0 < length bytes.now → 0 < n) }
-        ensures held { concat self.new.tape.pieces ≡ concat self.old.tape.pieces ++ bytes_in result bytes.now }
+        ensures held { concat self.new.tape.pieces
+            ≡ concat self.old.tape.pieces ++ bytes_in result bytes.now }
         ensures unflushed { IfOk result (λ n. 0 < n → self.new.is_flushed ≡ false) }
         ensures failed { self.new.has_failed ≡ is_err result }
         // Where the writer's bytes are known, they have grown by those that were taken.
-        ensures contents { Appends (W.contents self.old.inner) (W.contents self.new.inner) (bytes_in result bytes.now) }
+        ensures contents { Appends (W.contents self.old.inner) (W.contents self.new.inner)
+            (bytes_in result bytes.now) }
     {
         match self.inner.write(bytes) {
             Ok(count) => {

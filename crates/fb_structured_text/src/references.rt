@@ -32,7 +32,9 @@ pub fn variable(
     name: &Lexeme,
     member: Option<&Lexeme>,
 ) -> Result<Box<Reference>, AllocError>
-    ensures { IfOk result (λ v. reference_tree v.value ≡ variable_of (name_use name.now) (option_map (λ m. name_use m.now) member.entry)) }
+    ensures { IfOk result
+        (λ v. reference_tree v.value
+        ≡ variable_of (name_use name.now) (option_map (λ m. name_use m.now) member.entry)) }
 {
     let variable = match member {
         Some(member) => {

@@ -55,11 +55,13 @@ pub fn tokens(alloc: Global, text: &str) -> Result<Vec<Token>, TokenFault>
 
 /// A token of another kind than `Other` is the longest front of what is left that has a form.
 pub fn longest_token()
-    ensures { (text : List ℕ) (kind : TokenKind) (n : ℕ) → token_at text ≡ Found kind n → kind ≢ Other → IsLongest text kind n }
+    ensures { (text : List ℕ) (kind : TokenKind) (n : ℕ) → token_at text ≡ Found kind n
+        → kind ≢ Other → IsLongest text kind n }
 {}
 
 /// Each text has one reading by the relation `Reads`, and it is the tokens of the text.
 pub fn one_reading()
     ensures reads { (text : List ℕ) → Reads 0 text (tokens_of text) }
-    ensures one { (text : List ℕ) (reading : Result (List Token) Span) → Reads 0 text reading → reading ≡ tokens_of text }
+    ensures one { (text : List ℕ) (reading : Result (List Token) Span) → Reads 0 text reading
+        → reading ≡ tokens_of text }
 {}

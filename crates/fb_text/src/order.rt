@@ -48,11 +48,13 @@ fn items_of<T: Ord + Copy>(alloc: Global, set: &BTreeSet<T>) -> Result<Vec<T>, A
 pub fn once_and_in_order<T: Ord>()
     requires { IsAntisymmetric T.cmp }
     ensures sorted { (items : List T) → IsStrictlySortedBy T.cmp (in_order T.cmp items) }
-    ensures same { (items : List T) (item : T) → Contains (in_order T.cmp items) item ↔ Contains items item }
+    ensures same { (items : List T) (item : T) → Contains (in_order T.cmp items) item
+        ↔ Contains items item }
 {}
 
 /// The same of names.
 pub fn names_once_and_in_order()
     ensures sorted { (names : List (List ℕ)) → IsStrictlySortedBy name_cmp (names_in_order names) }
-    ensures same { (names : List (List ℕ)) (name : List ℕ) → Contains (names_in_order names) name ↔ Contains names name }
+    ensures same { (names : List (List ℕ)) (name : List ℕ) → Contains (names_in_order names) name
+        ↔ Contains names name }
 {}

@@ -63,7 +63,12 @@ impl Reference {
         member: Option<NameUse>,
         end: usize,
     ) -> Result<Reference, AllocError>
-        ensures { IfOk result (λ r. reference_tree r ≡ record { name = name; member = member; span = record { start = name.span.start; end = end } }) }
+        ensures { IfOk result
+            (λ r. reference_tree r ≡ record {
+              name = name;
+              member = member;
+              span = record { start = name.span.start; end = end };
+            }) }
     {
         Ok(Reference {
             names: ReferenceNames::keep(alloc, name.name, member)?,

@@ -108,14 +108,16 @@ fn answer_commit<D: Desk>(
 }
 
 fn answer_ask<D: Desk>(desk: &mut D, key: Key) -> Result<Reply, AllocError>
-    ensures { (held : Jobs) → Served D.step (call_once held (ToAsk key)) desk.old result held desk.new }
+    ensures { (held : Jobs)
+        → Served D.step (call_once held (ToAsk key)) desk.old result held desk.new }
 {
     let asked = desk.ask(key);
     shown_reply(asked)
 }
 
 fn answer_give_back<D: Desk>(desk: &mut D, key: Key) -> Result<Reply, AllocError>
-    ensures { (held : Jobs) → Served D.step (call_once held (ToGiveBack key)) desk.old result held desk.new }
+    ensures { (held : Jobs)
+        → Served D.step (call_once held (ToGiveBack key)) desk.old result held desk.new }
 {
     let given_back = desk.give_back(key);
     give_back_reply(given_back)
@@ -131,7 +133,8 @@ fn answer_deliver<D: Desk>(desk: &mut D, finished: &Finished) -> Result<Reply, A
 
 /// Keeps a taken job with those that are held.
 fn keep_taken(held: &mut Vec<Job>, taken: Result<Taken, DeskRefused>) -> Result<Reply, AllocError>
-    ensures { KeepsTaken held.old.items (answer_in take_reply taken) (reply_in result) held.new.items }
+    ensures { KeepsTaken held.old.items (answer_in take_reply taken)
+        (reply_in result) held.new.items }
 {
     match taken {
         Ok(Taken::Job(job)) => {
@@ -242,7 +245,8 @@ fn round_by(delivered: Result<Delivered, DeskRefused>) -> Result<Round, AllocErr
 
 /// Takes a job, runs it and delivers its result.
 fn work_once<D: Desk>(alloc: Global, desk: &mut D) -> Result<Round, AllocError>
-    ensures { (held : Jobs) (count : ℕ) (more : ℕ → Plan) → RoundServed D.step held count more desk.old result desk.new }
+    ensures { (held : Jobs) (count : ℕ) (more : ℕ → Plan)
+        → RoundServed D.step held count more desk.old result desk.new }
 {
     let taken = desk.take();
     let job = match job_or_round(taken) {
@@ -304,7 +308,9 @@ fn answer_request<D: Desk>(
     held: &mut Vec<Job>,
     request: &Request<'_>,
 ) -> Result<Reply, AllocError>
-    ensures { Served D.step (plan_of held.old.items (Some (request_view request.now))) desk.old result held.new.items desk.new }
+    ensures { Served D.step
+        (plan_of held.old.items
+        (Some (request_view request.now))) desk.old result held.new.items desk.new }
 {
     match request {
         Request::Commit(changes) => answer_commit(alloc, desk, changes),
@@ -323,7 +329,9 @@ pub(crate) fn answer<D: Desk>(
     held: &mut Vec<Job>,
     request: &Option<Request<'_>>,
 ) -> Result<Reply, AllocError>
-    ensures { Served D.step (plan_of held.old.items (option_map request_view request.now)) desk.old result held.new.items desk.new }
+    ensures { Served D.step
+        (plan_of held.old.items
+        (option_map request_view request.now)) desk.old result held.new.items desk.new }
 {
     match request {
         None => Ok(Reply::Refused(Refusal::BadRequest)),

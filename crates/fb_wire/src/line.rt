@@ -30,7 +30,9 @@ fn answer_value<D: Desk>(
     held: &mut Vec<Job>,
     value: &Value,
 ) -> Result<Reply, AllocError>
-    ensures { Served D.step (plan_of held.old.items (request_in (view value.now))) desk.old result held.new.items desk.new }
+    ensures { Served D.step
+        (plan_of held.old.items
+        (request_in (view value.now))) desk.old result held.new.items desk.new }
 {
     match request_in(alloc, value) {
         Ok(request) => answer(alloc, desk, held, &request),
@@ -44,7 +46,8 @@ fn answer_bytes<D: Desk>(
     held: &mut Vec<Job>,
     line: &[u8],
 ) -> Result<Reply, AllocError>
-    ensures { Served D.step (plan_of held.old.items (request_of line.now)) desk.old result held.new.items desk.new }
+    ensures { Served D.step
+        (plan_of held.old.items (request_of line.now)) desk.old result held.new.items desk.new }
 {
     match Value::from_slice(alloc, line) {
         Ok(value) => answer_value(alloc, desk, held, &value),
@@ -129,8 +132,10 @@ pub(crate) fn say_line<D: Desk, S: Sink>(
     writer: &mut S,
 ) -> Result<(), RunEnd>
     requires { S.has_failed writer.old ≡ false }
-    ensures said { LineSaid D.step talk.old.line.items talk.old.held.items desk.old (S.held writer.old) result talk.new.held.items desk.new (S.held writer.new) }
-    ensures flushed { StaysFlushed (S.is_flushed writer.old) (S.has_failed writer.new) (S.is_flushed writer.new) }
+    ensures said { LineSaid D.step talk.old.line.items talk.old.held.items desk.old
+        (S.held writer.old) result talk.new.held.items desk.new (S.held writer.new) }
+    ensures flushed { StaysFlushed (S.is_flushed writer.old) (S.has_failed writer.new)
+        (S.is_flushed writer.new) }
     ensures failed { IsTrue (S.has_failed writer.new) ↔ (result ≡ Err RunEnd.WriteFailed) }
     ensures inside { IfErr result StopsInside }
 {

@@ -19,7 +19,8 @@ const MAX_LINE: usize = 1_048_576;
 fn line_len(bytes: &[u8]) -> usize
     ensures within { result ≤ length bytes.now }
     ensures line { IsLine (take result bytes.now) }
-    ensures end { result < length bytes.now → take (result + 1) bytes.now ≡ take result bytes.now ++ 10 ∷ [] }
+    ensures end { result < length bytes.now
+        → take (result + 1) bytes.now ≡ take result bytes.now ++ 10 ∷ [] }
 {
     for (i, b) in bytes.iter().enumerate() {
         if *b == b'\n' {
@@ -53,8 +54,11 @@ fn end_line<D: Desk, S: Sink>(
     requires open { S.has_failed writer.old ≡ false }
     requires line { IsLine front.now }
     // whatever comes behind them
-    ensures taken { (behind : List ℕ) → TakesPiece D.step desk.old talk.old (S.held writer.old) (front.now ++ 10 ∷ []) behind result desk.new talk.new (S.held writer.new) }
-    ensures flushed { StaysFlushed (S.is_flushed writer.old) (S.has_failed writer.new) (S.is_flushed writer.new) }
+    ensures taken { (behind : List ℕ)
+        → TakesPiece D.step desk.old talk.old (S.held writer.old)
+        (front.now ++ 10 ∷ []) behind result desk.new talk.new (S.held writer.new) }
+    ensures flushed { StaysFlushed (S.is_flushed writer.old) (S.has_failed writer.new)
+        (S.is_flushed writer.new) }
     ensures failed { IsTrue (S.has_failed writer.new) ↔ (result ≡ Err RunEnd.WriteFailed) }
     ensures inside { IfErr result StopsInside }
 {
@@ -80,8 +84,10 @@ pub(crate) fn take_piece<D: Desk, S: Sink>(
     piece: &[u8],
 ) -> Result<(), RunEnd>
     requires { S.has_failed writer.old ≡ false }
-    ensures taken { TakesPiece D.step desk.old talk.old (S.held writer.old) piece.now [] result desk.new talk.new (S.held writer.new) }
-    ensures flushed { StaysFlushed (S.is_flushed writer.old) (S.has_failed writer.new) (S.is_flushed writer.new) }
+    ensures taken { TakesPiece D.step desk.old talk.old
+        (S.held writer.old) piece.now [] result desk.new talk.new (S.held writer.new) }
+    ensures flushed { StaysFlushed (S.is_flushed writer.old) (S.has_failed writer.new)
+        (S.is_flushed writer.new) }
     ensures failed { IsTrue (S.has_failed writer.new) ↔ (result ≡ Err RunEnd.WriteFailed) }
     ensures inside { IfErr result StopsInside }
 {

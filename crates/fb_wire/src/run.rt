@@ -26,8 +26,10 @@ fn end_talk<D: Desk, S: Sink>(
     writer: &mut S,
 ) -> RunEnd
     requires { S.has_failed writer.old ≡ false }
-    ensures taken { TakesPiece D.step desk.old talk.old (S.held writer.old) [] [] (Err result) desk.new talk.new (S.held writer.new) }
-    ensures flushed { StaysFlushed (S.is_flushed writer.old) (S.has_failed writer.new) (S.is_flushed writer.new) }
+    ensures taken { TakesPiece D.step desk.old talk.old (S.held writer.old) [] []
+        (Err result) desk.new talk.new (S.held writer.new) }
+    ensures flushed { StaysFlushed (S.is_flushed writer.old) (S.has_failed writer.new)
+        (S.is_flushed writer.new) }
     ensures failed { IsTrue (S.has_failed writer.new) ↔ (result ≡ RunEnd.WriteFailed) }
     ensures end { StopsAtEnd result }
 {
@@ -56,7 +58,8 @@ fn take_turn<F: Feed, S: Sink, D: Desk>(
     ensures whole { result ≡ Err RunEnd.End → IsAtEnd (F.left reader.new) }
     ensures turn { F.reads reader.new ≡ F.reads reader.old + 1 }
     ensures read_failed { IsTrue (F.has_failed reader.new) ↔ (result ≡ Err RunEnd.ReadFailed) }
-    ensures flushed { StaysFlushed (S.is_flushed writer.old) (S.has_failed writer.new) (S.is_flushed writer.new) }
+    ensures flushed { StaysFlushed (S.is_flushed writer.old) (S.has_failed writer.new)
+        (S.is_flushed writer.new) }
     ensures write_failed { IsTrue (S.has_failed writer.new) ↔ (result ≡ Err RunEnd.WriteFailed) }
     ensures end { IfErr result StopsRead }
 {
@@ -92,9 +95,11 @@ pub fn run_lines<F: Feed, S: Sink, D: Desk>(
         × Stands result bytes pairs out }
     ensures whole { result ≡ RunEnd.End → IsAtEnd (F.left reader.new) }
     ensures turns { F.reads reader.new ≤ F.reads reader.old + turns }
-    ensures all_turns { result ≡ RunEnd.TurnsOver → F.reads reader.new ≡ F.reads reader.old + turns }
+    ensures all_turns { result ≡ RunEnd.TurnsOver
+        → F.reads reader.new ≡ F.reads reader.old + turns }
     ensures read_failed { IsTrue (F.has_failed reader.new) ↔ (result ≡ RunEnd.ReadFailed) }
-    ensures flushed { StaysFlushed (S.is_flushed writer.old) (S.has_failed writer.new) (S.is_flushed writer.new) }
+    ensures flushed { StaysFlushed (S.is_flushed writer.old) (S.has_failed writer.new)
+        (S.is_flushed writer.new) }
     ensures write_failed { IsTrue (S.has_failed writer.new) ↔ (result ≡ RunEnd.WriteFailed) }
 {
     let mut talk = Conversation::new(alloc);
@@ -127,9 +132,11 @@ fn run_solo<F: Feed, S: Sink>(
     ensures same_reference { solo.new.bench.ghost_name ≡ solo.old.bench.ghost_name }
     ensures whole { result ≡ RunEnd.End → IsAtEnd (F.left reader.new) }
     ensures turns { F.reads reader.new ≤ F.reads reader.old + turns }
-    ensures all_turns { result ≡ RunEnd.TurnsOver → F.reads reader.new ≡ F.reads reader.old + turns }
+    ensures all_turns { result ≡ RunEnd.TurnsOver
+        → F.reads reader.new ≡ F.reads reader.old + turns }
     ensures read_failed { IsTrue (F.has_failed reader.new) ↔ (result ≡ RunEnd.ReadFailed) }
-    ensures flushed { StaysFlushed (S.is_flushed writer.old) (S.has_failed writer.new) (S.is_flushed writer.new) }
+    ensures flushed { StaysFlushed (S.is_flushed writer.old) (S.has_failed writer.new)
+        (S.is_flushed writer.new) }
     ensures write_failed { IsTrue (S.has_failed writer.new) ↔ (result ≡ RunEnd.WriteFailed) }
 {
     run_lines(alloc, reader, writer, solo, turns)
@@ -156,9 +163,11 @@ pub fn run_script<F: Feed, S: Sink>(
         × SaysBy result caller bench.old bytes out bench.new }
     ensures whole { result ≡ RunEnd.End → IsAtEnd (F.left reader.new) }
     ensures turns { F.reads reader.new ≤ F.reads reader.old + turns }
-    ensures all_turns { result ≡ RunEnd.TurnsOver → F.reads reader.new ≡ F.reads reader.old + turns }
+    ensures all_turns { result ≡ RunEnd.TurnsOver
+        → F.reads reader.new ≡ F.reads reader.old + turns }
     ensures read_failed { IsTrue (F.has_failed reader.new) ↔ (result ≡ RunEnd.ReadFailed) }
-    ensures flushed { StaysFlushed (S.is_flushed writer.old) (S.has_failed writer.new) (S.is_flushed writer.new) }
+    ensures flushed { StaysFlushed (S.is_flushed writer.old) (S.has_failed writer.new)
+        (S.is_flushed writer.new) }
     ensures write_failed { IsTrue (S.has_failed writer.new) ↔ (result ≡ RunEnd.WriteFailed) }
 {
     let mut solo = Solo::new(bench, caller);

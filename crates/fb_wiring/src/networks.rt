@@ -45,7 +45,8 @@ pub fn network_with(
 
 /// The blocks and subapplications, in the order of the text.
 fn instances_of(alloc: Global, instances: &[Instance]) -> Result<Vec<plain::Instance>, AllocError>
-    ensures { IfOk result (λ found. found.items ≡ filter_map (λ i. plain_instance (instance_tree i)) instances.now) }
+    ensures { IfOk result
+        (λ found. found.items ≡ filter_map (λ i. plain_instance (instance_tree i)) instances.now) }
 {
     let mut found = Vec::new(alloc);
     for instance in instances {

@@ -14,7 +14,8 @@ use std::alloc::{AllocError, Global};
 
 /// The ports of a type: events and data, inputs before outputs, then plugs and sockets.
 pub fn ports_of_type(alloc: Global, declared: &TypeDeclaration) -> Result<Vec<Port>, AllocError>
-    ensures { IfOk result (λ ports. ports.items ≡ plain_ports (meanings_in_type (type_tree declared.now))) }
+    ensures { IfOk result
+        (λ ports. ports.items ≡ plain_ports (meanings_in_type (type_tree declared.now))) }
 {
     let names = Ports::of_type(alloc, declared)?;
     let mut ports = Vec::new(alloc);
@@ -81,7 +82,8 @@ fn push_data(
     variables: &[(Name, TypeUse)],
     ports: &mut Vec<Port>,
 ) -> Result<(), AllocError>
-    ensures { OnOk result (ports.new.items ≡ ports.old.items ++ map (plain_data side) variables.now) }
+    ensures { OnOk result
+        (ports.new.items ≡ ports.old.items ++ map (plain_data side) variables.now) }
 {
     for variable in variables {
         ports.push(Port {
@@ -99,7 +101,8 @@ fn push_adapters(
     adapters: &[(Name, NameUse)],
     ports: &mut Vec<Port>,
 ) -> Result<(), AllocError>
-    ensures { OnOk result (ports.new.items ≡ ports.old.items ++ map (plain_adapter side) adapters.now) }
+    ensures { OnOk result
+        (ports.new.items ≡ ports.old.items ++ map (plain_adapter side) adapters.now) }
 {
     for adapter in adapters {
         ports.push(Port {

@@ -19,7 +19,8 @@ pub struct Application {
 
 /// The applications of a system, in the order of the text. A type has none.
 pub fn applications(alloc: Global, decl: &Decl) -> Result<Vec<Application>, AllocError>
-    ensures { IfOk result (λ applications. applications.items ≡ applications_of (decl_tree decl.now)) }
+    ensures { IfOk result
+        (λ applications. applications.items ≡ applications_of (decl_tree decl.now)) }
 {
     match decl {
         Decl::Block(_) | Decl::Adapter(_) | Decl::Subapplication(_) => Ok(Vec::new(alloc)),
@@ -31,7 +32,9 @@ fn applications_in(
     alloc: Global,
     applications: &[trees::Application],
 ) -> Result<Vec<Application>, AllocError>
-    ensures { IfOk result (λ found. found.items ≡ map (λ a. plain_application (application_tree a)) applications.now) }
+    ensures { IfOk result
+        (λ found. found.items
+        ≡ map (λ a. plain_application (application_tree a)) applications.now) }
 {
     let mut found = Vec::new(alloc);
     for application in applications {
