@@ -108,7 +108,8 @@ impl Renewal {
         entries: &BTreeMap<Key, Entry>,
     ) -> Result<Option<Vec<Key>>, AllocError>
         ensures { IfOk result
-            (λ keys. AreKeys library.now entries.now self.now.fresh.items self.now.gone.items keys) }
+            (λ keys. AreKeys library.now entries.now
+            self.now.fresh.items self.now.gone.items keys) }
     {
         if self.fresh.is_empty() && !have_entries(entries, &self.gone) {
             return Ok(None);

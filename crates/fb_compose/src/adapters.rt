@@ -107,7 +107,8 @@ fn find_port_adapter<'a, V: Networks>(
 /// The network of the type of an instance.
 fn find_type<'a, V: Networks>(view: &'a V, instances: &Table, name: &Name) -> Option<&'a Network>
     ensures { option_copied result
-        ≡ option_and_then (λ i. V.networks view.now i.type_name) (get name_cmp instances.now name.now) }
+        ≡ option_and_then
+        (λ i. V.networks view.now i.type_name) (get name_cmp instances.now name.now) }
 {
     match instances.get(name) {
         Some(instance) => view.network(&instance.type_name),

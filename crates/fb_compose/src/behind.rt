@@ -47,7 +47,8 @@ fn places_of<N: Nets>(
     port: &Name,
 ) -> Result<Vec<Path>, AllocError>
     ensures { IfOk result
-        (λ places. places.items ≡ behind_instance (N.nets nets.now) sort name.now port.now instance.now) }
+        (λ places. places.items
+        ≡ behind_instance (N.nets nets.now) sort name.now port.now instance.now) }
 {
     match instance.kind {
         InstanceKind::Block => {
@@ -71,7 +72,8 @@ pub fn behind<N: Nets>(
     end: &End,
 ) -> Result<Vec<Path>, AllocError>
     ensures { IfOk result
-        (λ places. places.items ≡ behind_of (get name_cmp instances.now) (N.nets nets.now) sort end.now) }
+        (λ places. places.items
+        ≡ behind_of (get name_cmp instances.now) (N.nets nets.now) sort end.now) }
 {
     match end {
         End::Own(_) => Ok(Vec::new(alloc)),

@@ -99,7 +99,8 @@ fn push_connection_links<V: Networks, N: Nets>(
 ) -> Result<(), AllocError>
     requires { get name_cmp instances.now ≡ instance_named network.now.instances }
     ensures { OnOk result (links.new.items ≡ links.old.items
-        ++ connection_links (V.networks view.now) network.now (get name_cmp instances.now) (N.nets nets.now) connection.now) }
+        ++ connection_links (V.networks view.now) network.now (get name_cmp instances.now)
+        (N.nets nets.now) connection.now) }
 {
     let sort = connection.sort;
     let froms = behind(alloc, instances, nets, sort, &connection.source)?;
@@ -139,7 +140,8 @@ pub fn links_of_network<V: Networks, N: Nets>(
 ) -> Result<Vec<Link>, AllocError>
     requires { get name_cmp instances.now ≡ instance_named network.now.instances }
     ensures { IfOk result (λ links. links.items
-        ≡ composed_links (V.networks view.now) network.now (get name_cmp instances.now) (N.nets nets.now)) }
+        ≡ composed_links (V.networks view.now) network.now (get name_cmp instances.now)
+        (N.nets nets.now)) }
 {
     let mut links = inner_links_of(alloc, network, nets)?;
     for connection in network.connections() {

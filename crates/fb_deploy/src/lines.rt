@@ -162,7 +162,8 @@ fn push_write_lines(
     lines: &mut Vec<Line>,
 ) -> Result<(), AllocError>
     ensures { OnOk result (lines.new.items
-        ≡ lines.old.items ++ map (write_line text.now home.now) (map parameter_tree parameters.now)) }
+        ≡ lines.old.items
+        ++ map (write_line text.now home.now) (map parameter_tree parameters.now)) }
 {
     for parameter in parameters {
         lines.push(write_line(alloc, text, home, parameter)?)?;
@@ -179,7 +180,8 @@ fn push_lines_of<V: View>(
     lines: &mut Vec<Line>,
 ) -> Result<(), AllocError>
     ensures { OnOk result (lines.new.items
-        ≡ lines.old.items ++ lines_at (V.sources view.now) home.now (Some (plain_standing it.now))) }
+        ≡ lines.old.items
+        ++ lines_at (V.sources view.now) home.now (Some (plain_standing it.now))) }
 {
     let text = text_by_name(view, &it.unit);
     push_write_lines(alloc, text, home, it.instance.parameters.as_slice(), lines)
@@ -194,7 +196,8 @@ fn push_home_lines<V: View>(
     lines: &mut Vec<Line>,
 ) -> Result<(), AllocError>
     ensures { OnOk result (lines.new.items ≡ lines.old.items
-        ++ home_lines (V.sources view.now) system.now (applications_in (tree_at (V.sources view.now) system.now)) home.now) }
+        ++ home_lines (V.sources view.now) system.now
+        (applications_in (tree_at (V.sources view.now) system.now)) home.now) }
 {
     let names = path_names(alloc, home.path.as_str())?;
     match standing_at(view, system, names.as_slice()) {
@@ -211,7 +214,9 @@ fn all_home_lines<V: View>(
     homes: &[Home],
 ) -> Result<Vec<Line>, AllocError>
     ensures { IfOk result (λ lines. lines.items
-        ≡ flat_map (home_lines (V.sources view.now) system.now (applications_in (tree_at (V.sources view.now) system.now))) homes.now) }
+        ≡ flat_map
+        (home_lines (V.sources view.now) system.now
+        (applications_in (tree_at (V.sources view.now) system.now))) homes.now) }
 {
     let mut lines = Vec::new(alloc);
     for home in homes {
@@ -228,7 +233,8 @@ pub(crate) fn write_lines<V: View>(
     homes: &[Home],
 ) -> Result<Vec<Line>, AllocError>
     ensures { IfOk result (λ lines. lines.items
-        ≡ write_lines (V.sources view.now) system.now (applications_in (tree_at (V.sources view.now) system.now)) homes.now) }
+        ≡ write_lines (V.sources view.now) system.now
+        (applications_in (tree_at (V.sources view.now) system.now)) homes.now) }
 {
     sorted_lines(all_home_lines(alloc, view, system, homes)?)
 }

@@ -37,7 +37,8 @@ fn plan_homes<V: View>(
     homes: &[Home],
 ) -> Result<Deploy, AllocError>
     ensures { IfOk result (λ deploy. plain_deploy deploy
-        ≡ tree_plan (V.sources view.now) system.now (tree_at (V.sources view.now) system.now) flat.now homes.now) }
+        ≡ tree_plan (V.sources view.now) system.now
+        (tree_at (V.sources view.now) system.now) flat.now homes.now) }
 {
     let table = home_table(alloc, homes)?;
     let cuts = cuts_of(alloc, &table, flat.links())?;

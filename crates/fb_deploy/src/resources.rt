@@ -107,7 +107,8 @@ type Groups = BTreeMap<String, Vec<Command>>;
 /// The commands for each resource, in their order.
 fn grouped(alloc: Global, orders: Vec<Order>) -> Result<Groups, AllocError>
     ensures { IfOk result (λ groups. (resource : List ℕ)
-        → option_map_or (λ g. g.items) (get_by_text groups resource) [] ≡ commands_for orders.items resource) }
+        → option_map_or (λ g. g.items) (get_by_text groups resource) []
+        ≡ commands_for orders.items resource) }
 {
     let mut groups: Groups = BTreeMap::new(alloc);
     for order in orders {

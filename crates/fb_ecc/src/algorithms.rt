@@ -48,7 +48,9 @@ fn report_run(
     found: &mut Vec<Fault>,
 ) -> Result<(), AllocError>
     ensures { OnOk result (found.new.items ≡ found.old.items
-        ++ flat_map (λ s. flat_map (run_faults (contains name_cmp declared.now)) (state_tree s).actions) states.now) }
+        ++ flat_map
+        (λ s. flat_map (run_faults (contains name_cmp declared.now))
+        (state_tree s).actions) states.now) }
 {
     for state in states {
         report_run_by(declared, state.actions.as_slice(), found)?;

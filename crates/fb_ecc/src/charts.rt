@@ -43,7 +43,8 @@ fn report_block<V: View>(
     found: &mut Vec<Fault>,
 ) -> Result<(), AllocError>
     ensures { OnOk result (found.new.items ≡ found.old.items
-        ++ chart_faults (scope_of_type (V.sources view.now) (type_tree declared.now)) (chart_tree declared.now.chart)) }
+        ++ chart_faults (scope_of_type (V.sources view.now) (type_tree declared.now))
+        (chart_tree declared.now.chart)) }
 {
     let chart = &declared.chart;
     if chart.states.is_empty() && chart.transitions.is_empty() {

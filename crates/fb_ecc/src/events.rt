@@ -40,7 +40,8 @@ fn report_triggers(
     found: &mut Vec<Fault>,
 ) -> Result<(), AllocError>
     ensures { OnOk result (found.new.items ≡ found.old.items
-        ++ flat_map (λ t. trigger_faults (scope_in scope.now) (transition_tree t)) transitions.now) }
+        ++ flat_map
+        (λ t. trigger_faults (scope_in scope.now) (transition_tree t)) transitions.now) }
 {
     for transition in transitions {
         report_written(scope, Side::Input, event_of(&transition.condition), found)?;
@@ -61,7 +62,8 @@ fn event_of(condition: &Condition) -> Option<&End>
 /// Reports the events of actions that do not go out.
 fn report_sent(scope: &Scope, states: &[State], found: &mut Vec<Fault>) -> Result<(), AllocError>
     ensures { OnOk result (found.new.items ≡ found.old.items
-        ++ flat_map (λ s. flat_map (sent_faults (scope_in scope.now)) (state_tree s).actions) states.now) }
+        ++ flat_map
+        (λ s. flat_map (sent_faults (scope_in scope.now)) (state_tree s).actions) states.now) }
 {
     for state in states {
         report_sent_by(scope, state.actions.as_slice(), found)?;

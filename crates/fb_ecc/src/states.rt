@@ -41,7 +41,9 @@ fn report_ends(
     found: &mut Vec<Fault>,
 ) -> Result<(), AllocError>
     ensures { OnOk result (found.new.items ≡ found.old.items
-        ++ flat_map (λ t. transition_faults (contains name_cmp listed.now) (transition_tree t)) transitions.now) }
+        ++ flat_map
+        (λ t. transition_faults (contains name_cmp listed.now)
+        (transition_tree t)) transitions.now) }
 {
     for transition in transitions {
         report_state(listed, &transition.source, found)?;

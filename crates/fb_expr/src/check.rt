@@ -58,7 +58,8 @@ fn report_transitions(
     found: &mut Vec<Fault>,
 ) -> Result<(), AllocError>
     ensures { OnOk result (found.new.items ≡ found.old.items
-        ++ flat_map (λ t. transition_faults (scope_in scope.now) (transition_tree t)) transitions.now) }
+        ++ flat_map
+        (λ t. transition_faults (scope_in scope.now) (transition_tree t)) transitions.now) }
 {
     for transition in transitions {
         report_guard(scope, &transition.condition, found)?;
@@ -90,7 +91,8 @@ fn report_algorithms(
     found: &mut Vec<Fault>,
 ) -> Result<(), AllocError>
     ensures { OnOk result (found.new.items ≡ found.old.items
-        ++ flat_map (λ a. algorithm_faults (scope_in scope.now) (algorithm_tree a)) algorithms.now) }
+        ++ flat_map
+        (λ a. algorithm_faults (scope_in scope.now) (algorithm_tree a)) algorithms.now) }
 {
     for algorithm in algorithms {
         report_statements(scope, algorithm.statements.as_slice(), found)?;

@@ -51,7 +51,8 @@ pub fn judge_reference(
 ) -> Result<Class, AllocError>
     ensures class { IfOk result (λ class. class ≡ class_in (scope_in scope.now)
         (reference_expression (reference_tree reference.now) (expressions_of (map expression_tree subscripts.now)))) }
-    ensures faults { OnOk result (found.new.items ≡ found.old.items ++ faults_in (scope_in scope.now)
+    ensures faults { OnOk result
+        (found.new.items ≡ found.old.items ++ faults_in (scope_in scope.now)
         (reference_expression (reference_tree reference.now) (expressions_of (map expression_tree subscripts.now)))) }
 {
     let referent = referred(scope, reference);
@@ -68,7 +69,8 @@ fn judge_subscripts(
     found: &mut Vec<Fault>,
 ) -> Result<(), AllocError>
     ensures { OnOk result (found.new.items ≡ found.old.items
-        ++ subscript_faults (scope_in scope.now) (expressions_of (map expression_tree subscripts.now))) }
+        ++ subscript_faults (scope_in scope.now)
+        (expressions_of (map expression_tree subscripts.now))) }
 {
     for subscript in subscripts {
         judge_at(ClassPlace::Count, scope, subscript, found)?;
@@ -102,9 +104,12 @@ fn judge_row(
     found: &mut Vec<Fault>,
 ) -> Result<Class, AllocError>
     ensures class { IfOk result
-        (λ class. class ≡ row_class (scope_in scope.now) first (operands_of (map (λ o. (o.0, expression_tree o.1)) operands.now))) }
+        (λ class. class
+        ≡ row_class (scope_in scope.now) first
+        (operands_of (map (λ o. (o.0, expression_tree o.1)) operands.now))) }
     ensures faults { OnOk result (found.new.items ≡ found.old.items
-        ++ row_faults (scope_in scope.now) first (operands_of (map (λ o. (o.0, expression_tree o.1)) operands.now))) }
+        ++ row_faults (scope_in scope.now) first
+        (operands_of (map (λ o. (o.0, expression_tree o.1)) operands.now))) }
 {
     let mut left = first;
     for (operator, operand) in operands {
@@ -122,7 +127,9 @@ fn judge_change(
 ) -> Result<Class, AllocError>
     ensures class { IfOk result (λ class. class ≡ unary_class operator.now.operator operand) }
     ensures faults { OnOk result
-        (found.new.items ≡ found.old.items ++ class_faults (is_some (change operator.now.operator operand)) operator.now.span) }
+        (found.new.items
+        ≡ found.old.items
+        ++ class_faults (is_some (change operator.now.operator operand)) operator.now.span) }
 {
     let class = changed(operator.operator, operand);
     report_class(class.is_some(), operator.span, found)?;
@@ -138,7 +145,9 @@ fn judge_pair(
 ) -> Result<Class, AllocError>
     ensures class { IfOk result (λ class. class ≡ pair_class operator.now.operator left right) }
     ensures faults { OnOk result
-        (found.new.items ≡ found.old.items ++ class_faults (is_some (combined operator.now.operator left right)) operator.now.span) }
+        (found.new.items
+        ≡ found.old.items
+        ++ class_faults (is_some (combined operator.now.operator left right)) operator.now.span) }
 {
     let class = operated(operator.operator, left, right);
     report_class(class.is_some(), operator.span, found)?;

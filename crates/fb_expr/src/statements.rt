@@ -22,7 +22,8 @@ pub fn report_statements(
     found: &mut Vec<Fault>,
 ) -> Result<(), AllocError>
     ensures { OnOk result (found.new.items ≡ found.old.items
-        ++ statements_faults (scope_in scope.now) (statements_of (map statement_tree statements.now))) }
+        ++ statements_faults (scope_in scope.now)
+        (statements_of (map statement_tree statements.now))) }
 {
     for statement in statements {
         report_statement(scope, statement, found)?;
@@ -82,7 +83,8 @@ fn report_assignment(
     value: &Expr,
     found: &mut Vec<Fault>,
 ) -> Result<(), AllocError>
-    ensures { OnOk result (found.new.items ≡ found.old.items ++ assignment_faults (scope_in scope.now)
+    ensures { OnOk result
+        (found.new.items ≡ found.old.items ++ assignment_faults (scope_in scope.now)
         (reference_expression (reference_tree variable.now) (expressions_of (map expression_tree subscripts.now))) place (expression_tree value.now)) }
 {
     let target = judge_reference(scope, variable, subscripts, found)?;
@@ -98,7 +100,8 @@ fn report_counting(
 ) -> Result<(), AllocError>
     ensures { OnOk result (found.new.items ≡ found.old.items
         ++ (counter_faults (scope_in scope.now) counting.now.variable
-        ++ range_faults (scope_in scope.now) (expression_tree counting.now.from) (expression_tree counting.now.to) (option_map expression_tree counting.now.by))) }
+        ++ range_faults (scope_in scope.now) (expression_tree counting.now.from)
+        (expression_tree counting.now.to) (option_map expression_tree counting.now.by))) }
 {
     report_counter(scope, &counting.variable, found)?;
     report_range(scope, &counting.from, &counting.to, &counting.by, found)
@@ -127,7 +130,8 @@ fn report_range(
     found: &mut Vec<Fault>,
 ) -> Result<(), AllocError>
     ensures { OnOk result (found.new.items ≡ found.old.items
-        ++ range_faults (scope_in scope.now) (expression_tree from.now) (expression_tree to.now) (option_map expression_tree by.now)) }
+        ++ range_faults (scope_in scope.now) (expression_tree from.now) (expression_tree to.now)
+        (option_map expression_tree by.now)) }
 {
     judge_at(ClassPlace::Count, scope, from, found)?;
     judge_at(ClassPlace::Count, scope, to, found)?;

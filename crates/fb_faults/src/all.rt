@@ -68,7 +68,8 @@ fn report_declared<V: View>(
     found: &mut Vec<Fault>,
 ) -> Result<(), AllocError>
     ensures { OnOk result (found.new.items
-        ≡ found.old.items ++ reported_in (V.sources view.now) unit.now (Whole (decl_tree decl.now))) }
+        ≡ found.old.items
+        ++ reported_in (V.sources view.now) unit.now (Whole (decl_tree decl.now))) }
 {
     let own = ports_of(alloc, decl)?;
     report_declarations(alloc, view, unit, decl, &own, found)?;
@@ -147,7 +148,9 @@ fn report_subapplication<V: View>(
 ) -> Result<(), AllocError>
     requires { own ≡ meanings_in_type (type_tree declared.now) }
     ensures { OnOk result (found.new.items
-        ≡ found.old.items ++ type_network (V.sources view.now) unit.now kinds.Subapplication (type_tree declared.now)) }
+        ≡ found.old.items
+        ++ type_network (V.sources view.now) unit.now kinds.Subapplication
+        (type_tree declared.now)) }
 {
     let kind = UnitKind::Subapplication;
     let here = setting_of(alloc, view, unit, kind, own, declared)?;

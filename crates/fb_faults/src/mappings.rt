@@ -32,7 +32,8 @@ pub fn report_mappings(
 /// Each resource with its device. The name of a device stands for its first declaration.
 fn resources_of(alloc: Global, devices: &[Device]) -> Result<BTreeSet<(Name, Name)>, AllocError>
     ensures { IfOk result (λ resources. (device resource : List ℕ)
-        → contains pair_cmp resources (device, resource) ≡ has_resource (map device_tree devices.now) device resource) }
+        → contains pair_cmp resources (device, resource)
+        ≡ has_resource (map device_tree devices.now) device resource) }
 {
     let mut seen = BTreeSet::new(alloc);
     let mut resources = BTreeSet::new(alloc);
@@ -51,7 +52,8 @@ fn add_resources(
     own: &[Resource],
     resources: &mut BTreeSet<(Name, Name)>,
 ) -> Result<(), AllocError>
-    ensures { OnOk result ((name resource : List ℕ) → contains pair_cmp resources.new (name, resource)
+    ensures { OnOk result
+        ((name resource : List ℕ) → contains pair_cmp resources.new (name, resource)
         ≡ (contains pair_cmp resources.old (name, resource)
         || (is_same device.now name && has_name (map (λ r. r.name) own.now) resource))) }
 {
@@ -68,7 +70,9 @@ fn report_homes(
     found: &mut Vec<Fault>,
 ) -> Result<(), AllocError>
     ensures { OnOk result (found.new.items ≡ found.old.items
-        ++ flat_map (λ m. home_faults (contains pair_cmp resources.now (m.device.name, m.resource.name)) (mapping_tree m)) mappings.now) }
+        ++ flat_map
+        (λ m. home_faults (contains pair_cmp resources.now (m.device.name, m.resource.name))
+        (mapping_tree m)) mappings.now) }
 {
     for mapping in mappings {
         let home = (mapping.device.name, mapping.resource.name);

@@ -49,7 +49,8 @@ fn add_flat<H: Hints>(
     ensures others { OnOk result
         (SameOthers (get name_cmp composed.old) (get name_cmp composed.new) name.now) }
     ensures added { OnOk result
-        (IsAdded (get name_cmp table.now) (known_flats (H.hints hints.now) (get name_cmp composed.old))
+        (IsAdded (get name_cmp table.now)
+        (known_flats (H.hints hints.now) (get name_cmp composed.old))
         (get name_cmp composed.new) name.now) }
 {
     let nets = KnownFlats {
@@ -74,7 +75,8 @@ pub(crate) fn missing_flats<V: View, H: Hints>(
     requires table { IsTable (V.sources view.now) (get name_cmp table.now) order.now }
     requires right { AreRightHints (V.sources view.now) (H.hints hints.now) }
     ensures { IfOk result (λ composed.
-        AllFinished (V.sources view.now) (known_flats (H.hints hints.now) (get name_cmp composed)) unit.now order.now) }
+        AllFinished (V.sources view.now)
+        (known_flats (H.hints hints.now) (get name_cmp composed)) unit.now order.now) }
 {
     let mut composed = BTreeMap::new(alloc);
     for name in order {

@@ -147,7 +147,8 @@ fn add_count<H: Hints>(
     requires { is_some (get name_cmp table.now name.now) ≡ true }
     ensures others { OnOk result
         (SameOthers (get name_cmp counts.old) (get name_cmp counts.new) name.now) }
-    ensures counted { OnOk result (IsCountedWhereKnown (get name_cmp table.now) (count_of_hint (H.hints hints.now name.now))
+    ensures counted { OnOk result
+        (IsCountedWhereKnown (get name_cmp table.now) (count_of_hint (H.hints hints.now name.now))
         (get name_cmp counts.old) (get name_cmp counts.new) name.now) }
 {
     let count = count_of_type(hints, table, counts, name);

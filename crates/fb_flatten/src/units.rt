@@ -86,7 +86,8 @@ fn flats_of_applications<N: Nets>(
     applications: &[Application],
 ) -> Result<Vec<FlatApplication>, AllocError>
     ensures { IfOk result (λ flats.
-        AreComposedApplications (get name_cmp table.now) (N.nets nets.now) applications.now flats.items) }
+        AreComposedApplications (get name_cmp table.now)
+        (N.nets nets.now) applications.now flats.items) }
 {
     let mut flats = Vec::new(alloc);
     for application in applications {

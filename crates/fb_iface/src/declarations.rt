@@ -51,7 +51,8 @@ pub fn report_declarations<V: View>(
 ) -> Result<(), AllocError>
     requires { own.now ≡ meanings_in (decl_tree decl.now) }
     ensures { OnOk result (found.new.items
-        ≡ found.old.items ++ declaration_faults (V.sources view.now) unit.now (Some (decl_tree decl.now))) }
+        ≡ found.old.items
+        ++ declaration_faults (V.sources view.now) unit.now (Some (decl_tree decl.now))) }
 {
     report_name(decl, unit, found)?;
     report_duplicates(alloc, decl, found)?;

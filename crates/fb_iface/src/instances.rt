@@ -33,7 +33,9 @@ fn report_in_applications<V: View>(
     found: &mut Vec<Fault>,
 ) -> Result<(), AllocError>
     ensures { OnOk result (found.new.items ≡ found.old.items
-        ++ flat_map (λ a. flat_map (instance_faults (V.sources view.now)) (network_tree a.network).instances) applications.now) }
+        ++ flat_map
+        (λ a. flat_map (instance_faults (V.sources view.now))
+        (network_tree a.network).instances) applications.now) }
 {
     for application in applications {
         report_in_network(view, &application.network, found)?;

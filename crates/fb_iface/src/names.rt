@@ -14,7 +14,8 @@ pub fn first_declared<D: Copy>(
     declarations: &[(Name, D)],
 ) -> Result<IndexMap<Name, D>, AllocError>
     ensures names { IfOk result
-        (λ table. (name : List ℕ) → get (pointwise nat_eq) table name ≡ stands_for declarations.now name) }
+        (λ table. (name : List ℕ)
+        → get (pointwise nat_eq) table name ≡ stands_for declarations.now name) }
     ensures entries { IfOk result (λ table. table.entries ≡ first_ones declarations.now) }
 {
     let mut table = IndexMap::new(alloc);

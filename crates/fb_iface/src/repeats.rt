@@ -52,7 +52,8 @@ fn report_in_interface(
     found: &mut Vec<Fault>,
 ) -> Result<(), AllocError>
     ensures { OnOk result (found.new.items
-        ≡ found.old.items ++ flat_map space_duplicates (interface_spaces (interface_tree interface.now))) }
+        ≡ found.old.items
+        ++ flat_map space_duplicates (interface_spaces (interface_tree interface.now))) }
 {
     report_repeated(alloc, interface.events.as_slice(), found)?;
     let variables = variable_names(alloc, interface.variables.as_slice())?;
@@ -84,7 +85,8 @@ fn report_in_network(
     found: &mut Vec<Fault>,
 ) -> Result<(), AllocError>
     ensures { OnOk result (found.new.items
-        ≡ found.old.items ++ flat_map space_duplicates (network_spaces (network_tree network.now))) }
+        ≡ found.old.items
+        ++ flat_map space_duplicates (network_spaces (network_tree network.now))) }
 {
     report_repeated(alloc, network.instances.as_slice(), found)?;
     for instance in &network.instances {
@@ -128,7 +130,9 @@ fn report_in_applications(
     found: &mut Vec<Fault>,
 ) -> Result<(), AllocError>
     ensures { OnOk result (found.new.items ≡ found.old.items
-        ++ flat_map (λ a. flat_map space_duplicates (network_spaces (network_tree a.network))) applications.now) }
+        ++ flat_map
+        (λ a. flat_map space_duplicates
+        (network_spaces (network_tree a.network))) applications.now) }
 {
     for application in applications {
         report_in_network(alloc, &application.network, found)?;

@@ -40,7 +40,11 @@ impl Scope {
         network: &Network,
     ) -> Result<Scope, AllocError>
         ensures { IfOk result (λ scope. scope_in scope
-            ≡ record { own = own; type_ports = type_ports_of (V.sources view.now) (network_tree network.now) }) }
+            ≡ record {
+              own = own;
+              type_ports = type_ports_of (V.sources view.now)
+                  (network_tree network.now);
+            }) }
     {
         let types = types_of(alloc, view, network.instances.as_slice())?;
         Ok(Scope { own, types })
@@ -118,7 +122,8 @@ fn types_of<V: View>(
     instances: &[Instance],
 ) -> Result<IndexMap<Name, KeptType>, AllocError>
     ensures { IfOk result (λ types. (name : List ℕ) → get (pointwise nat_eq) types name
-        ≡ option_map kept_of (mentioned_type (V.sources view.now) (map instance_tree instances.now) name)) }
+        ≡ option_map kept_of
+        (mentioned_type (V.sources view.now) (map instance_tree instances.now) name)) }
 {
     let mut types = IndexMap::new(alloc);
     for instance in instances {
@@ -135,7 +140,8 @@ fn add_type<V: View>(
     types: &mut IndexMap<Name, KeptType>,
 ) -> Result<(), AllocError>
     ensures { OnOk result ((q : List ℕ) → get (pointwise nat_eq) types.new q
-        ≡ with_type name.now (tree_at (V.sources view.now) name.now) (get (pointwise nat_eq) types.old) q) }
+        ≡ with_type name.now (tree_at (V.sources view.now) name.now)
+        (get (pointwise nat_eq) types.old) q) }
 {
     if types.contains_key(name) {
         return Ok(());

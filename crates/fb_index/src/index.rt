@@ -83,7 +83,8 @@ impl Index {
     pub fn near_of(&self, alloc: Global, names: &[Name]) -> Result<Vec<Name>, AllocError>
         ensures ordered { IfOk result (λ units. IsStrictlySortedBy name_cmp units.items) }
         ensures exact { IfOk result
-            (λ units. (unit : List ℕ) → has_name units.items unit ≡ list_any (is_near self.now unit) names.now) }
+            (λ units. (unit : List ℕ)
+            → has_name units.items unit ≡ list_any (is_near self.now unit) names.now) }
     {
         let mut units = Vec::new(alloc);
         for name in names {
@@ -96,7 +97,8 @@ impl Index {
     pub fn far_of(&self, alloc: Global, names: &[Name]) -> Result<Vec<Name>, AllocError>
         ensures ordered { IfOk result (λ units. IsStrictlySortedBy name_cmp units.items) }
         ensures exact { IfOk result
-            (λ units. (unit : List ℕ) → (has_name units.items unit ≡ true) ↔ ReachesSome self.now unit names.now) }
+            (λ units. (unit : List ℕ) → (has_name units.items unit ≡ true)
+            ↔ ReachesSome self.now unit names.now) }
     {
         let first = self.near_of(alloc, names)?;
         let mut seen = BTreeSet::new(alloc);

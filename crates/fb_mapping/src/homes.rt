@@ -115,7 +115,9 @@ fn push_astray<V: View>(
     paths: &mut Vec<Path>,
 ) -> Result<(), AllocError>
     ensures { OnOk result (paths.new.items ≡ paths.old.items
-        ++ astray (V.sources view.now) system.now (applications_in (tree_at (V.sources view.now) system.now)) (mapping_tree mapping.now ∷ [])) }
+        ++ astray (V.sources view.now) system.now
+        (applications_in (tree_at (V.sources view.now) system.now))
+        (mapping_tree mapping.now ∷ [])) }
 {
     let path = mapping.path.as_slice();
     let names = names_of(alloc, path)?;
@@ -135,7 +137,9 @@ fn astray<V: View>(
     mappings: &[Mapping],
 ) -> Result<Vec<Path>, AllocError>
     ensures { IfOk result (λ paths. paths.items
-        ≡ astray (V.sources view.now) system.now (applications_in (tree_at (V.sources view.now) system.now)) (map mapping_tree mappings.now)) }
+        ≡ astray (V.sources view.now) system.now
+        (applications_in (tree_at (V.sources view.now) system.now))
+        (map mapping_tree mappings.now)) }
 {
     let mut paths = Vec::new(alloc);
     for mapping in mappings {
@@ -176,7 +180,8 @@ fn misplaced_in<V: View>(
     requires { get_by_text table.now
         ≡ resource_at (mappings_in (tree_at (V.sources view.now) system.now)) }
     ensures { IfOk result (λ found. found.items
-        ≡ misplaced (V.sources view.now) system.now (tree_at (V.sources view.now) system.now) blocks.now) }
+        ≡ misplaced (V.sources view.now) system.now
+        (tree_at (V.sources view.now) system.now) blocks.now) }
 {
     let mut found = Vec::new(alloc);
     let unmapped = sorted_paths(homeless(alloc, table, blocks)?)?;

@@ -105,7 +105,8 @@ fn standing_beyond<'a, V: View>(
     names: &[&str],
 ) -> Option<Standing<'a>>
     ensures { option_map plain_standing result
-        ≡ standing_beyond (V.sources view.now) (Some (plain_standing start.now)) (map (λ n. n.now) names.now) }
+        ≡ standing_beyond (V.sources view.now) (Some (plain_standing start.now))
+        (map (λ n. n.now) names.now) }
 {
     let mut found = Standing {
         unit: start.unit,
@@ -128,7 +129,8 @@ fn standing_from<'a, V: View>(
     names: &[&str],
 ) -> Option<Standing<'a>>
     ensures { option_map plain_standing result
-        ≡ standing_from (V.sources view.now) unit.now (map instance_tree instances.now) (map (λ n. n.now) names.now) }
+        ≡ standing_from (V.sources view.now) unit.now (map instance_tree instances.now)
+        (map (λ n. n.now) names.now) }
 {
     match names.split_first() {
         Some((first, others)) => match standing_among(unit, instances, *first) {
@@ -142,7 +144,8 @@ fn standing_from<'a, V: View>(
 /// The instance at a path of a system.
 pub fn standing_at<'a, V: View>(view: &'a V, system: &Name, names: &[&str]) -> Option<Standing<'a>>
     ensures { option_map plain_standing result
-        ≡ standing_at (V.sources view.now) system.now (applications_in (tree_at (V.sources view.now) system.now)) (map (λ n. n.now) names.now) }
+        ≡ standing_at (V.sources view.now) system.now
+        (applications_in (tree_at (V.sources view.now) system.now)) (map (λ n. n.now) names.now) }
 {
     match names.split_first() {
         Some((first, others)) => match application_called(applications_of(view, system), *first) {

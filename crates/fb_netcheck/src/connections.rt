@@ -32,7 +32,8 @@ fn report_connection(
     found: &mut Vec<Fault>,
 ) -> Result<(), AllocError>
     ensures { OnOk result
-        (found.new.items ≡ found.old.items ++ connection_faults (place_in here.now) connection.now) }
+        (found.new.items
+        ≡ found.old.items ++ connection_faults (place_in here.now) connection.now) }
 {
     let source = target_at(here, connection.sort, &connection.source);
     let destination = target_at(here, connection.sort, &connection.destination);

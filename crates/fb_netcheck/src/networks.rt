@@ -46,7 +46,8 @@ pub fn report_networks<V: View>(
     found: &mut Vec<Fault>,
 ) -> Result<(), AllocError>
     ensures { OnOk result
-        (found.new.items ≡ found.old.items ++ declared_faults (V.sources view.now) unit.now (decl_tree decl.now)) }
+        (found.new.items
+        ≡ found.old.items ++ declared_faults (V.sources view.now) unit.now (decl_tree decl.now)) }
 {
     match decl {
         Decl::Block(declared) => report_in_type(
@@ -74,7 +75,8 @@ fn report_in_type<V: View>(
     found: &mut Vec<Fault>,
 ) -> Result<(), AllocError>
     ensures { OnOk result (found.new.items
-        ≡ found.old.items ++ type_network (V.sources view.now) unit.now kind (type_tree declared.now)) }
+        ≡ found.old.items
+        ++ type_network (V.sources view.now) unit.now kind (type_tree declared.now)) }
 {
     let scope = Scope::of_type(alloc, view, declared)?;
     let unit = *unit;
@@ -90,7 +92,9 @@ fn report_in_system<V: View>(
     found: &mut Vec<Fault>,
 ) -> Result<(), AllocError>
     ensures { OnOk result (found.new.items ≡ found.old.items
-        ++ flat_map (λ a. application_network (V.sources view.now) unit.now (application_tree a)) system.now.applications.items) }
+        ++ flat_map
+        (λ a. application_network (V.sources view.now) unit.now
+        (application_tree a)) system.now.applications.items) }
 {
     for application in &system.applications {
         report_application(alloc, view, unit, application, found)?;
@@ -106,7 +110,8 @@ fn report_application<V: View>(
     found: &mut Vec<Fault>,
 ) -> Result<(), AllocError>
     ensures { OnOk result (found.new.items
-        ≡ found.old.items ++ application_network (V.sources view.now) unit.now (application_tree application.now)) }
+        ≡ found.old.items
+        ++ application_network (V.sources view.now) unit.now (application_tree application.now)) }
 {
     let scope = Scope::of_network(alloc, view, &application.network)?;
     let unit = *unit;
@@ -124,7 +129,8 @@ pub fn report_network<V: View>(
     found: &mut Vec<Fault>,
 ) -> Result<(), AllocError>
     ensures { OnOk result (found.new.items
-        ≡ found.old.items ++ network_faults (V.sources view.now) (place_in here.now) (network_tree network.now)) }
+        ≡ found.old.items
+        ++ network_faults (V.sources view.now) (place_in here.now) (network_tree network.now)) }
 {
     let connections = network.connections.as_slice();
     report_connections(here, connections, found)?;

@@ -18,7 +18,8 @@ pub fn report_parameters(
     found: &mut Vec<Fault>,
 ) -> Result<(), AllocError>
     ensures { OnOk result (found.new.items ≡ found.old.items
-        ++ flat_map (λ i. instance_parameters (scope_in scope.now) (instance_tree i)) instances.now) }
+        ++ flat_map
+        (λ i. instance_parameters (scope_in scope.now) (instance_tree i)) instances.now) }
 {
     for instance in instances {
         report_in_instance(scope, instance, found)?;
@@ -33,7 +34,8 @@ fn report_in_instance(
     found: &mut Vec<Fault>,
 ) -> Result<(), AllocError>
     ensures { OnOk result (found.new.items
-        ≡ found.old.items ++ instance_parameters (scope_in scope.now) (instance_tree instance.now)) }
+        ≡ found.old.items
+        ++ instance_parameters (scope_in scope.now) (instance_tree instance.now)) }
 {
     match instance.role {
         Role::Block => {
@@ -51,7 +53,9 @@ fn report_typed(
     found: &mut Vec<Fault>,
 ) -> Result<(), AllocError>
     ensures { OnOk result (found.new.items
-        ≡ found.old.items ++ typed_parameters (option_map (λ p. p.now) ports.entry) (map parameter_tree parameters.now)) }
+        ≡ found.old.items
+        ++ typed_parameters (option_map (λ p. p.now) ports.entry)
+        (map parameter_tree parameters.now)) }
 {
     match ports {
         Some(ports) => report_of_type(ports, parameters, found),
@@ -65,7 +69,9 @@ fn report_of_type(
     found: &mut Vec<Fault>,
 ) -> Result<(), AllocError>
     ensures { OnOk result (found.new.items ≡ found.old.items
-        ++ flat_map (λ p. parameter_faults (stands_for ports.now.variables p.name.name) (parameter_tree p)) parameters.now) }
+        ++ flat_map
+        (λ p. parameter_faults (stands_for ports.now.variables p.name.name)
+        (parameter_tree p)) parameters.now) }
 {
     for parameter in parameters {
         report_parameter(ports.variable(&parameter.name.name), parameter, found)?;
@@ -80,7 +86,8 @@ fn report_parameter(
     found: &mut Vec<Fault>,
 ) -> Result<(), AllocError>
     ensures { OnOk result (found.new.items
-        ≡ found.old.items ++ parameter_faults (option_copied variable.entry) (parameter_tree parameter.now)) }
+        ≡ found.old.items
+        ++ parameter_faults (option_copied variable.entry) (parameter_tree parameter.now)) }
 {
     match variable {
         Some(variable) => match variable.section {

@@ -89,7 +89,8 @@ fn are_agreed<V: View>(
     requires { AreSpellings (V.sources view.now) (get part_cmp known.old) }
     ensures kept { OnOk result (AreSpellings (V.sources view.now) (get part_cmp known.new)) }
     ensures agreed { IfOk result (λ agreed. agreed
-        ≡ targets_agree (λ a b. same_type (V.sources view.now) unit.now a other_unit.now b) target.now other.now) }
+        ≡ targets_agree
+        (λ a b. same_type (V.sources view.now) unit.now a other_unit.now b) target.now other.now) }
 {
     match (target, other) {
         (Target::Found(_, port), Target::Found(_, other)) => {
@@ -119,7 +120,8 @@ fn is_flow_agreed<V: View>(
     requires { AreSpellings (V.sources view.now) (get part_cmp known.old) }
     ensures kept { OnOk result (AreSpellings (V.sources view.now) (get part_cmp known.new)) }
     ensures agreed { IfOk result (λ agreed. agreed
-        ≡ flows_agree (λ a b. same_type (V.sources view.now) unit.now a other_unit.now b) flow.now other.now) }
+        ≡ flows_agree
+        (λ a b. same_type (V.sources view.now) unit.now a other_unit.now b) flow.now other.now) }
 {
     match (flow, other) {
         (Flow::Data(used), Flow::Data(other)) => {

@@ -78,7 +78,8 @@ fn round_of(
     undecided: &BTreeSet<Name>,
 ) -> Result<Vec<Name>, AllocError>
     requires reverse { IsReverse forth.now back.now }
-    requires whole { (v : List ℕ) → Follows (edges_at forth.now) name.now v → Follows (edges_at forth.now) v name.now
+    requires whole { (v : List ℕ) → Follows (edges_at forth.now) name.now v
+        → Follows (edges_at forth.now) v name.now
         → has_name undecided.now.keys v ≡ true }
     ensures { IfOk result (λ round. (v : List ℕ) → Contains round.items v
         ↔ (Follows (edges_at forth.now) name.now v × Follows (edges_at forth.now) v name.now)) }
@@ -96,7 +97,8 @@ fn settle(
     found: &mut BTreeSet<Name>,
 ) -> Result<(), AllocError>
     ensures undecided { OnOk result ((u : List ℕ) → has_name undecided.new.keys u
-        ≡ (if has_name round.now u || eq_by_cmp name_cmp u name.now then false else has_name undecided.old.keys u)) }
+        ≡ (if has_name round.now u || eq_by_cmp name_cmp u name.now then false
+        else has_name undecided.old.keys u)) }
     ensures found { OnOk result ((u : List ℕ) → has_name found.new.keys u
         ≡ (has_name found.old.keys u || has_name round.now u)) }
 {
@@ -116,7 +118,8 @@ fn walk(
     within: &BTreeSet<Name>,
 ) -> Result<BTreeSet<Name>, AllocError>
     ensures { IfOk result
-        (λ seen. (v : List ℕ) → Contains seen.keys v ↔ Follows (edges_within edges.now within.now) from.now v) }
+        (λ seen. (v : List ℕ) → Contains seen.keys v
+        ↔ Follows (edges_within edges.now within.now) from.now v) }
 {
     let mut seen = BTreeSet::new(alloc);
     let mut pending = Vec::new(alloc);

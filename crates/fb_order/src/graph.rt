@@ -74,7 +74,8 @@ fn add_edges(from: &[Name], to: Name, edges: &mut Edges) -> Result<(), AllocErro
 /// Adds an edge.
 fn add_edge(from: Name, to: Name, edges: &mut Edges) -> Result<(), AllocError>
     ensures { OnOk result ((u : List ℕ) → edges_at edges.new u
-        ≡ (if eq_by_cmp name_cmp from u then edges_at edges.old u ++ to ∷ [] else edges_at edges.old u)) }
+        ≡ (if eq_by_cmp name_cmp from u then edges_at edges.old u
+        ++ to ∷ [] else edges_at edges.old u)) }
 {
     edges.entry(from)?.or_default().push(to)?;
     Ok(())

@@ -42,7 +42,8 @@ pub(crate) fn search<V: View>(
     ensures ordered { IfOk result
         (λ found. IfSome found (λ order. IsOrdered (V.sources view.now) order.items)) }
     ensures whole { IfOk result (λ found. IfSome found
-        (λ order. (v : List ℕ) → Contains order.items v ↔ SomeRests (V.sources view.now) names.now v)) }
+        (λ order. (v : List ℕ) → Contains order.items v
+        ↔ SomeRests (V.sources view.now) names.now v)) }
     ensures recursive { IfOk result
         (λ found. IsNone found ↔ SomeRestsOnRecursive (V.sources view.now) names.now) }
 {

@@ -62,7 +62,12 @@ impl Locked {
         callers: u32,
     ) -> Result<(Locked, Vec<Seat>), AllocError>
         ensures hall { IfOk result
-            (λ made. made.0 ≡ record { bench = new_story limits.units limits.history; callers = callers; stopped = false }) }
+            (λ made. made.0
+            ≡ record {
+              bench = new_story limits.units limits.history;
+              callers = callers;
+              stopped = false;
+            }) }
         ensures seats { IfOk result (λ made. AreFirstSeats callers made.1.items) }
     {
         let bench = Bench::new(alloc, limits);

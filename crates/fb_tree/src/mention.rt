@@ -48,7 +48,8 @@ fn types_in_applications(
     applications: &[Application],
 ) -> Result<Vec<Name>, AllocError>
     ensures { IfOk result
-        (λ names. names.items ≡ flat_map (λ a. map (λ i. i.type_name.name) a.network.instances.items) applications.now) }
+        (λ names. names.items
+        ≡ flat_map (λ a. map (λ i. i.type_name.name) a.network.instances.items) applications.now) }
 {
     let mut names = Vec::new(alloc);
     for application in applications {

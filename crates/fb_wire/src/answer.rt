@@ -86,7 +86,8 @@ fn shown_reply(asked: Result<Asked, DeskRefused>) -> Result<Reply, AllocError>
 /// Asks for a commit of changes that were read.
 fn answer_changes<D: Desk>(desk: &mut D, changes: &[Change]) -> Result<Reply, AllocError>
     ensures { (held : Jobs)
-        → Served D.step (call_once held (ToCommit (listed changes.now))) desk.old result held desk.new }
+        → Served D.step
+        (call_once held (ToCommit (listed changes.now))) desk.old result held desk.new }
 {
     let committed = desk.commit(changes);
     commit_reply(&committed)
@@ -98,7 +99,8 @@ fn answer_commit<D: Desk>(
     asked: &[AskedChange<'_>],
 ) -> Result<Reply, AllocError>
     ensures { (held : Jobs)
-        → Served D.step (commit_plan held (edits_in (map change_view asked.now))) desk.old result held desk.new }
+        → Served D.step
+        (commit_plan held (edits_in (map change_view asked.now))) desk.old result held desk.new }
 {
     match changes_of(alloc, asked) {
         Ok(changes) => answer_changes(desk, &changes),
@@ -283,7 +285,10 @@ fn answer_work<D: Desk>(alloc: Global, desk: &mut D, turns: u64) -> Result<Reply
 /// Asks for the key of a kind and a name.
 fn answer_ask_named<D: Desk>(desk: &mut D, kind: Kind, unit: &str) -> Result<Reply, AllocError>
     ensures { (held : Jobs)
-        → Served D.step (with_name held (name_of unit.now) (λ name. call_once held (ToAsk (record { kind = kind; unit = name })))) desk.old result held desk.new }
+        → Served D.step
+        (with_name held (name_of unit.now)
+        (λ name. call_once held
+        (ToAsk (record { kind = kind; unit = name })))) desk.old result held desk.new }
 {
     match Name::read(unit) {
         Err(_) => Ok(Reply::Refused(Refusal::BadName)),
@@ -294,7 +299,10 @@ fn answer_ask_named<D: Desk>(desk: &mut D, kind: Kind, unit: &str) -> Result<Rep
 /// Gives back the key of a kind and a name.
 fn answer_back_named<D: Desk>(desk: &mut D, kind: Kind, unit: &str) -> Result<Reply, AllocError>
     ensures { (held : Jobs)
-        → Served D.step (with_name held (name_of unit.now) (λ name. call_once held (ToGiveBack (record { kind = kind; unit = name })))) desk.old result held desk.new }
+        → Served D.step
+        (with_name held (name_of unit.now)
+        (λ name. call_once held
+        (ToGiveBack (record { kind = kind; unit = name })))) desk.old result held desk.new }
 {
     match Name::read(unit) {
         Err(_) => Ok(Reply::Refused(Refusal::BadName)),

@@ -54,7 +54,8 @@ fn take_turn<F: Feed, S: Sink, D: Desk>(
     ensures taken { (bytes : List ℕ)
         × (F.given reader.new ≡ F.given reader.old ++ bytes)
         × Consumes (F.left reader.old) (F.left reader.new) bytes
-        × TakesPiece D.step desk.old talk.old (S.held writer.old) bytes [] result desk.new talk.new (S.held writer.new) }
+        × TakesPiece D.step desk.old talk.old (S.held writer.old) bytes [] result desk.new talk.new
+        (S.held writer.new) }
     ensures whole { result ≡ Err RunEnd.End → IsAtEnd (F.left reader.new) }
     ensures turn { F.reads reader.new ≡ F.reads reader.old + 1 }
     ensures read_failed { IsTrue (F.has_failed reader.new) ↔ (result ≡ Err RunEnd.ReadFailed) }
