@@ -112,11 +112,15 @@ abbrev pub repeated_refusal : Option (List ℕ) → Option Committed
 repeated_refusal None = None
 repeated_refusal (Some unit) = Some (SameUnitTwice unit)
 
+-- the most changes of a commit
+abbrev pub most_changes : ℕ
+most_changes = 16
+
 -- what is wrong with the changes one by one or together, the first in the order of the refusals
 abbrev pub refusal : Texts → List Edit → Option Committed
 refusal texts edits =
     if length edits == 0 then Some NoChange
-    else (if nat_lt 16 (length edits) then Some TooManyChanges
+    else (if nat_lt most_changes (length edits) then Some TooManyChanges
     else or_some (repeated_refusal (first_repeated (map unit_of edits))) (first_misfit texts edits))
 
 -- the first refusal, or the number of the commit

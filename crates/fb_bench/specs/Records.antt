@@ -1,12 +1,12 @@
 -- Records of the program as what they say.
-use Rattle.std.specs.Prelude.{List, map, take, Option, Some, None, string_bytes}
+use Rattle.std.specs.Prelude.{◌+◌, List, map, take, Option, Some, None, string_bytes}
 use Rattle.fb_jobs.specs.Library.Texts.{Edit, Puts, Removes}
 use Rattle.fb_jobs.specs.Library.declared.change.Change.{Change}
 use Rattle.fb_jobs.specs.Library.Changes.{edits_of}
 use Rattle.fb_jobs.specs.Reads.{PlainJob}
 use Rattle.fb_jobs.specs.Values.{texts_seen, finding_of}
 use Rattle.fb_bench.specs.Machine as machine
-use Rattle.fb_bench.specs.Machine.{ToCommit, ToTake, ToDeliver, ToGiveBack, ToAsk, Shown, Finds, Waits, Unknown, OfCommit, OfTake, OfDeliver, OfGiveBack, OfAsk}
+use Rattle.fb_bench.specs.Machine.{most_changes, ToCommit, ToTake, ToDeliver, ToGiveBack, ToAsk, Shown, Finds, Waits, Unknown, OfCommit, OfTake, OfDeliver, OfGiveBack, OfAsk}
 use Rattle.fb_bench.specs.Story.{Record}
 use Rattle.fb_bench.specs.declared.answers.Asked.{Asked}
 use Rattle.fb_bench.specs.declared.answers.Asked.TheVariants.{Value, Pending, NoSuchKey}
@@ -71,9 +71,9 @@ abbrev pub job_in : Taken → Option PlainJob
 job_in (Job job) = Some job
 job_in Nothing = None
 
--- the changes of a commit that are recorded
+-- The changes of a commit that are recorded: one more than the most is too many as well.
 abbrev pub listed : List Change → List Edit
-listed changes = edits_of (take 17 changes)
+listed changes = edits_of (take (most_changes + 1) changes)
 
 -- a commit of these changes
 abbrev pub commit_of : List Change → machine.Call

@@ -1,9 +1,9 @@
 //! What a commit comes to, and its record.
-ghost use Rattle.std.specs.Prelude.{◌≡◌, ◌<◌, length, map, take, IfOk, OnOk, OnErr};
+ghost use Rattle.std.specs.Prelude.{◌≡◌, ◌+◌, ◌<◌, length, map, take, IfOk, OnOk, OnErr};
 ghost use Rattle.fb_jobs.specs.Library.Texts.{unit_of};
 ghost use Rattle.fb_jobs.specs.Library.Changes.{edit_of, edits_of};
 ghost use Rattle.fb_jobs.specs.Reads.{is_among};
-ghost use Rattle.fb_bench.specs.Machine.{first_repeated, misfit, first_misfit, refusal};
+ghost use Rattle.fb_bench.specs.Machine.{most_changes, first_repeated, misfit, first_misfit, refusal};
 ghost use Rattle.fb_bench.specs.Indexed.{IsIndexOf};
 ghost use Rattle.fb_bench.specs.Outcomes.{IsOutcome, MakesRoom, LosesRoom};
 ghost use Rattle.fb_bench.specs.Records.{call_of, reply_of};
@@ -25,7 +25,7 @@ const MOST_CHANGES: usize = 16;
 
 /// As many changes as are recorded: one more than a commit may have.
 pub(crate) fn first_changes(changes: &[Change]) -> &[Change]
-    ensures { result.now ≡ take 17 changes.now }
+    ensures { result.now ≡ take (most_changes + 1) changes.now }
 {
     if MOST_CHANGES < changes.len() {
         &changes[..MOST_CHANGES + 1]

@@ -3,9 +3,10 @@ use Rattle.std.specs.Prelude.{◌≡◌, ℕ, zero, suc, ◌+◌, List, [], ◌�
 use Rattle.serde_json.specs.Data.{Data}
 use Rattle.fb_text.specs.Name.{name_of}
 use Rattle.fb_text.specs.declared.name.NameFault.{NameFault}
+use Rattle.fb_bench.specs.Parse.Source.{longest_text}
 use Rattle.fb_bench.specs.Library.Texts.{Edit, Puts, Removes}
 use Rattle.fb_bench.specs.Jobs.Reads.{PlainJob}
-use Rattle.fb_bench.specs.Machine.{Call, ToCommit, ToTake, ToDeliver, ToGiveBack, ToAsk, OfTake, OfDeliver}
+use Rattle.fb_bench.specs.Machine.{most_changes, Call, ToCommit, ToTake, ToDeliver, ToGiveBack, ToAsk, OfTake, OfDeliver}
 use Rattle.fb_bench.specs.Calls.{Answer, Replied, FullHistory, BehindHistory}
 use Rattle.fb_bench.specs.declared.answers.Delivered.TheVariants.{Accepted}
 use Rattle.fb_wire.specs.Lines.{Fits, is_blank}
@@ -49,7 +50,7 @@ with_name held (Ok unit) next = next unit
 -- a change as an edit of texts, or why it is refused
 abbrev pub edit_named : Change → Result (List ℕ) NameFault → Result Edit (List ℕ)
 edit_named change (Err fault) = Err (codes "BadName")
-edit_named (puts name base text) (Ok unit) = if nat_le (length text) 65536 then Ok (Puts unit base text) else Err (codes "TextTooLong")
+edit_named (puts name base text) (Ok unit) = if nat_le (length text) longest_text then Ok (Puts unit base text) else Err (codes "TextTooLong")
 edit_named (removes name base) (Ok unit) = Ok (Removes unit base)
 
 abbrev pub name_in : Change → List ℕ
@@ -72,10 +73,14 @@ abbrev pub edits_in : List Change → Result (List Edit) (List ℕ)
 edits_in [] = Ok []
 edits_in (change ∷ changes) = edits_from (edit_in change) (edits_in changes)
 
--- more than 17 changes are asked as their first 17, which are too many as well
+-- of more changes than a commit may have, one more than the most is asked, which is too many as well
 abbrev pub commit_plan : Jobs → Result (List Edit) (List ℕ) → Plan
-commit_plan held (Ok edits) = call_once held (ToCommit (take 17 edits))
+commit_plan held (Ok edits) = call_once held (ToCommit (take (most_changes + 1) edits))
 commit_plan held (Err reason) = says (refused reason) held
+
+-- the most jobs that a run holds
+abbrev pub most_held : ℕ
+most_held = 64
 
 -- what a taken job adds to those that are held
 abbrev pub held_after : Jobs → Answer → Jobs
@@ -84,7 +89,7 @@ held_after held _ = held
 
 abbrev pub take_plan : Jobs → Plan
 take_plan held =
-    if nat_le 64 (length held) then says (refused (codes "TooManyJobs")) held
+    if nat_le most_held (length held) then says (refused (codes "TooManyJobs")) held
     else asks ToTake (λ answer. says (said_to (length held + 1) answer) (held_after held answer))
 
 abbrev pub deliver_held : Jobs → Option PlainJob → Plan

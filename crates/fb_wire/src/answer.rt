@@ -20,7 +20,7 @@ use fb_text::Name;
 use std::alloc::{AllocError, Global};
 
 /// How many jobs a run may hold.
-const MAX_HELD: usize = 64;
+const MOST_HELD: usize = 64;
 
 fn commit_reply(committed: &Result<Committed, DeskRefused>) -> Result<Reply, AllocError>
     ensures { option_map (said_to 0) (answer_in OfCommit committed.now) ≡ reply_in result }
@@ -157,7 +157,7 @@ fn keep_taken(held: &mut Vec<Job>, taken: Result<Taken, DeskRefused>) -> Result<
 fn answer_take<D: Desk>(desk: &mut D, held: &mut Vec<Job>) -> Result<Reply, AllocError>
     ensures { Served D.step (take_plan held.old.items) desk.old result held.new.items desk.new }
 {
-    if held.len() >= MAX_HELD {
+    if held.len() >= MOST_HELD {
         return Ok(Reply::Refused(Refusal::TooManyJobs));
     }
     let taken = desk.take();
