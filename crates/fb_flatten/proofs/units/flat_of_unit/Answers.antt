@@ -26,7 +26,7 @@ returns-then-is_of_system g c =
     let table = get name_cmp c.args.table.now in
     let nets = known_flats (g.H.Hints.hints c.args.hints.now) (get name_cmp c.in_ok-composed.composed) in
     if_ok c.flat_of_applications.result
-    (λ flat f. flat_of_system_is c.requires.order c.requires.table nets (decl_tree c.unwrap-decl.result.now) present (sym c.is_of_system.ensures ∙ c.if-is_system.true) c.in_ok-composed.ensures c.requires.small
+    (λ flat f. flat_of_system_is c.requires.order c.requires.table nets (decl_tree c.unwrap-decl.result.now) present (sym c.is_of_system.ensures ∙ c.if-is_of_system.true) c.in_ok-composed.ensures c.requires.small
     (subst (λ (l : List Application). AreComposedTogether table nets l flat) (c.as_slice.ensures.value ∙ c.in_ok-found.ensures) f))
     c.flat_of_applications.ensures
 
@@ -34,5 +34,5 @@ pub returns : goal.returns
 returns g c =
     let present : tree_at (g.V.View.sources c.args.view.now) c.args.unit.now ≡ Some (decl_tree c.unwrap-decl.result.now) = present_of _ c.tree_by_name.ensures c.unwrap-decl.ensures in
     if_ok c.flat_of_type.result
-    (λ flat f. flat_of_type_is c.requires.order c.requires.table (decl_tree c.unwrap-decl.result.now) c.requires.net present (sym c.is_of_system.ensures ∙ c.if-is_system.false) c.in_ok-composed.ensures c.requires.small f)
+    (λ flat f. flat_of_type_is c.requires.order c.requires.table (decl_tree c.unwrap-decl.result.now) c.requires.net present (sym c.is_of_system.ensures ∙ c.if-is_of_system.false) c.in_ok-composed.ensures c.requires.small f)
     c.flat_of_type.ensures
