@@ -3,8 +3,8 @@ use Rattle.std.proofs.Common.{◌≡◌, true, refl, ap}
 use Rattle.std.specs.Ordering.{is_eq}
 use Rattle.std.proofs.lemmas.Cmp.{tied_itself}
 use Rattle.std.specs.Cmp.{IsTotalOrder}
-use Rattle.std.specs.declared.cmp.Ordering.{Ordering}
-use Rattle.std.specs.declared.cmp.Ordering.TheVariants.{Less, Equal, Greater}
+use Rattle.std.specs.declared.cmp.Ordering.TheVariants.{Equal}
+use Rattle.fb_text.proofs.OrderLemmas.{is_equal}
 use Rattle.fb_jobs.specs.declared.key.Key.{Key}
 use Rattle.fb_jobs.specs.KeyOrder.{key_cmp, same_key}
 use Rattle.fb_jobs.specs.KeyOrder.{key_cmp_total}
@@ -15,11 +15,6 @@ key_total = key_cmp_total
 
 pub same_keys : (a b : Key) → key_cmp a b ≡ Equal → a ≡ b
 same_keys a b e = exact_key a b e
-
-pub is_equal : (o : Ordering) → is_eq o ≡ true → o ≡ Equal
-is_equal Less e = cc
-is_equal Equal e = refl
-is_equal Greater e = cc
 
 -- the test of equality is right
 pub keys_equal : (a b : Key) → same_key a b ≡ true → a ≡ b

@@ -22,7 +22,8 @@ use Rattle.fb_bench.specs.declared.entry.Entry.{Entry}
 use Rattle.fb_bench.specs.Machine.{State, after_done, reaches}
 use Rattle.fb_bench.specs.Kept.{EntryFits, IsScratch}
 use Rattle.fb_bench.specs.Marking.{is_of, blank}
-use Rattle.fb_bench.proofs.Order.{key_total, keys_equal, is_equal}
+use Rattle.fb_text.proofs.OrderLemmas.{is_equal}
+use Rattle.fb_bench.proofs.Order.{key_total, keys_equal}
 
 -- ---- names that are not changed
 

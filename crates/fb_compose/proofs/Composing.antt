@@ -31,7 +31,7 @@ use Rattle.fb_network.specs.Flat.{PrintsLink, PrintsBorder, AreLinks, AreBorders
 use Rattle.fb_compose.specs.Ready.{Nets, AreFinished}
 use Rattle.fb_network.specs.Places.{dotted}
 use Rattle.fb_network.specs.Printed.{printed}
-use Rattle.fb_compose.proofs.Members.{contains_nothing, contains_here, contains_cases, contains_map, origin_in_map, contains_flat_map, origin_in_flat_map, contains_filter, passes_in_filter, passes_in_find}
+use Rattle.fb_text.proofs.Members.{contains_nothing, contains_here, contains_cases, contains_map, origin_in_map, contains_flat_map, origin_in_flat_map, contains_filter, passes_in_filter, passes_in_find}
 use Rattle.fb_compose.proofs.Equals.{same_bytes, bytes_same, same_sorts, sort_same, same_links, printed-within}
 use Rattle.fb_compose.proofs.LinkLemmas.{no_leaf_nothing, leaf_behind, link_composed, border_composed, link_of_composed, border_of_composed}
 

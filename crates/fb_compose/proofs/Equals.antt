@@ -7,6 +7,7 @@ use Rattle.std.specs.Cmp.{tied_itself}
 use Rattle.std.specs.Cmp.Lexicographic.{nat_list_cmp_total}
 use Rattle.std.specs.FinMap.{nat_cmp-IsAntisymmetric, slice_cmp-IsAntisymmetric}
 use Rattle.std.specs.BTreeMap.{is_at}
+use Rattle.fb_text.proofs.OrderLemmas.{is_equal}
 use Rattle.fb_text.specs.Order.{name_cmp}
 use Rattle.fb_network.specs.Tree.declared.network.Sort.{Sort}
 use Rattle.fb_network.specs.Tree.declared.network.Sort.TheVariants.{Event, Data, Adapter}
@@ -17,11 +18,6 @@ use Rattle.fb_network.specs.Printed.{printed}
 use Rattle.fb_network.specs.LinkOrder.{border_cmp, link_cmp}
 use Rattle.fb_network.specs.declared.flat.Link.{Link}
 use Rattle.fb_network.specs.declared.flat.Border.{Border}
-
-is_equal : (r : Ordering) → is_eq r ≡ true → r ≡ Equal
-is_equal Less e = absurd (let no : ⊥ = cc in no)
-is_equal Equal e = refl
-is_equal Greater e = absurd (let no : ⊥ = cc in no)
 
 exact_name : (x y : List ℕ) → name_cmp x y ≡ Equal → x ≡ y
 exact_name x y e = slice_cmp-IsAntisymmetric nat_cmp-IsAntisymmetric x y e

@@ -14,7 +14,7 @@ use Rattle.fb_network.specs.Clean.{IsClean, IsCleanThroughout, CleanThroughout}
 use Rattle.fb_network.specs.FlatNet.{IsFlat}
 use Rattle.fb_compose.specs.Ready.{Nets, IsFinished}
 use Rattle.fb_compose.specs.Ordered.{IsNext, IsOrdered, AreClean, AreCleanThroughout, IsReady, AddsFlat, AreFlat}
-use Rattle.fb_compose.proofs.Members.{contains_nothing}
+use Rattle.fb_text.proofs.Members.{contains_nothing}
 use Rattle.fb_compose.proofs.Equals.{same_bytes, not_at, at_not}
 use Rattle.fb_compose.proofs.Composing.{found_by_name}
 

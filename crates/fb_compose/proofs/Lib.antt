@@ -1,5 +1,4 @@
 -- Lemmas of the proofs.
-pub mod Members
 pub mod Equals
 pub mod Chains
 pub mod LinkLemmas

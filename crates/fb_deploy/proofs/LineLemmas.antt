@@ -1,17 +1,13 @@
 -- Lines that compare equal are one.
-use Rattle.std.proofs.Common.{ℕ, ◌≡◌, Bool, true, List, refl, ap}
+use Rattle.std.proofs.Common.{ℕ, ◌≡◌, true, List, refl}
 use Rattle.std.specs.declared.cmp.Ordering.{Ordering}
 use Rattle.std.specs.declared.cmp.Ordering.TheVariants.{Less, Equal, Greater}
 use Rattle.std.specs.FinMap.{IsAntisymmetric, nat_cmp-IsAntisymmetric, slice_cmp-IsAntisymmetric}
-use Rattle.std.specs.Ordering.{eq_by_cmp, is_eq, ordering_then}
+use Rattle.std.specs.Ordering.{eq_by_cmp, ordering_then}
+use Rattle.fb_text.proofs.OrderLemmas.{is_equal}
 use Rattle.fb_text.specs.Order.{name_cmp}
 use Rattle.fb_deploy.specs.Lines.{line_cmp}
 use Rattle.fb_deploy.specs.declared.lines.Line.{Line}
-
-is_equal : (r : Ordering) → is_eq r ≡ true → r ≡ Equal
-is_equal Less e = absurd (let no : ⊥ = cc in no)
-is_equal Equal e = refl
-is_equal Greater e = absurd (let no : ⊥ = cc in no)
 
 both_equal : (r s : Ordering) → ordering_then r s ≡ Equal → (r ≡ Equal) × (s ≡ Equal)
 both_equal Less s e = absurd (let no : ⊥ = cc in no)

@@ -21,7 +21,7 @@ use Rattle.fb_iface.specs.Fault.{fault_at}
 use Rattle.fb_iface.specs.Names.{has_name, stands_for}
 use Rattle.fb_iface.specs.Ports.{Meanings, same_side}
 use Rattle.fb_iface.specs.Scope.{Scope, instance_ports, scope_of_type}
-use Rattle.fb_iface.proofs.Members.{contains_cases, contains_flat_map, contains_here, contains_later, contains_map, contains_nothing, contains_single, in_unless, in_written, origin_in_flat_map, origin_in_map, unless, written}
+use Rattle.fb_text.proofs.Members.{contains_cases, contains_flat_map, contains_here, contains_later, contains_map, contains_nothing, contains_single, in_unless, in_written, origin_in_flat_map, origin_in_map, unless, written}
 use Rattle.fb_ecc.specs.Algorithms.{algorithm_fault, algorithm_faults, algorithm_names, run_faults}
 use Rattle.fb_ecc.specs.Charts.{chart_faults, chart_faults_in}
 use Rattle.fb_ecc.specs.declared.events.EventTarget.{EventTarget}

@@ -7,7 +7,7 @@ use Rattle.fb_tree.specs.declared.expression.BinaryUse.{BinaryUse}
 use Rattle.fb_tree.specs.declared.expression.UnaryUse.{UnaryUse}
 use Rattle.fb_iface.specs.Scope.{Scope}
 use Rattle.fb_iface.specs.declared.classes.Class.{Class as ValueClass}
-use Rattle.fb_iface.proofs.Members.{contains_cases, contains_here, contains_later, contains_nothing, contains_single}
+use Rattle.fb_text.proofs.Members.{contains_cases, contains_here, contains_later, contains_nothing, contains_single}
 use Rattle.fb_expr.specs.Classes.{pair_class}
 use Rattle.fb_expr.specs.Demands.{Demand, names_variable, suits_operand, suits_operands, suits_place, demands_in, row_demands, subscript_demands}
 use Rattle.fb_expr.specs.Expressions.{class_in}

@@ -8,7 +8,7 @@ use Rattle.fb_text.specs.declared.token.Span.{Span}
 use Rattle.fb_tree.specs.Expression.{ReferenceTree, Expression, reference_expression, Expressions, no_expressions}
 use Rattle.fb_tree.specs.Statement.{Statement, empty, assignment, exit, return, choice, selection, count, while_loop, repeat_loop, Statements, no_statements, statement_then, Arms, no_arms, arm_then}
 use Rattle.fb_iface.specs.Scope.{Scope}
-use Rattle.fb_iface.proofs.Members.{contains_cases, contains_here, contains_later, contains_nothing, contains_single}
+use Rattle.fb_text.proofs.Members.{contains_cases, contains_here, contains_later, contains_nothing, contains_single}
 use Rattle.fb_expr.specs.Demands.{Demand, names_variable, suits_place, assigns, demands_in, demands_at, name_alone, counter_demands, range_demands, statement_demands, statements_demands, arms_demands}
 use Rattle.fb_expr.specs.declared.rules.ClassPlace.{ClassPlace}
 use Rattle.fb_expr.specs.declared.rules.ClassPlace.TheVariants.{Condition, Count, Counter, Selector}

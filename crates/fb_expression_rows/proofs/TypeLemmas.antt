@@ -10,7 +10,7 @@ use Rattle.fb_iface.specs.Names.{first_ones, has_name, is_same, stands_for}
 use Rattle.fb_iface.specs.Ports.{instances_in, meanings_in_type}
 use Rattle.fb_iface.specs.Scope.{instance_ports, scope_of_type, usable}
 use Rattle.fb_iface.specs.declared.ports.DeclaredInstance.{DeclaredInstance}
-use Rattle.fb_iface.proofs.Members.{contains_cases, contains_here, contains_later, contains_map, contains_nothing, origin_in_map, passes_in_filter}
+use Rattle.fb_text.proofs.Members.{contains_cases, contains_here, contains_later, contains_map, contains_nothing, origin_in_map, passes_in_filter}
 use Rattle.fb_iface.proofs.NameLemmas.{named}
 use Rattle.fb_expression_rows.specs.Variables.{IsAdapter, plug, socket}
 

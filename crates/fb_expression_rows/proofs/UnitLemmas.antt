@@ -13,7 +13,7 @@ use Rattle.fb_iface.specs.Library.View.{Sources, tree_at}
 use Rattle.fb_iface.specs.Scope.{Scope, scope_of_type}
 use Rattle.fb_iface.specs.declared.classes.Class.{Class as ValueClass}
 use Rattle.fb_iface.specs.declared.fault.Fault.{Fault}
-use Rattle.fb_iface.proofs.Members.{contains_flat_map, contains_here, contains_nothing, contains_single, origin_in_flat_map}
+use Rattle.fb_text.proofs.Members.{contains_flat_map, contains_here, contains_nothing, contains_single, origin_in_flat_map}
 use Rattle.fb_expr.specs.Charts.{expr_faults_of, faults_in_unit}
 use Rattle.fb_expr.specs.Demands.{Demand, names_variable, suits_operand, suits_operands, suits_place, assigns, is_met, fault_of, demands_in, demands_at, name_alone, guard_demands, transition_demands, algorithm_demands, chart_demands}
 use Rattle.fb_expr.specs.Expressions.{class_in}

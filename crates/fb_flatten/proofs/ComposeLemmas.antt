@@ -18,7 +18,7 @@ use Rattle.fb_wiring.specs.Network.Clean.{port_named}
 use Rattle.fb_wiring.specs.ByName.{declared}
 use Rattle.fb_wiring.specs.Applications.{applications_of, plain_application}
 use Rattle.fb_wiring.specs.declared.systems.Application.{Application}
-use Rattle.fb_wiring.proofs.Iface.Members.{contains_nothing, origin_in_map}
+use Rattle.fb_text.proofs.Members.{contains_nothing, origin_in_map}
 use Rattle.fb_wiring.proofs.UnitLemmas.{applications_clean}
 use Rattle.fb_compose.specs.Part.{SameAdapters}
 use Rattle.fb_compose.specs.Ready.{Nets, AreFinished}

@@ -8,7 +8,7 @@ use Rattle.fb_text.specs.Order.{in_order}
 use Rattle.fb_text.proofs.OrderLemmas.{in_order-members, in_order-sorted}
 use Rattle.fb_wiring.specs.Library.View.{Sources, mentions_at}
 use Rattle.fb_wiring.specs.Library.Rests.{Rests, itself, through}
-use Rattle.fb_wiring.proofs.Iface.Members.{contains_here, contains_later}
+use Rattle.fb_text.proofs.Members.{contains_here, contains_later}
 use Rattle.fb_wiring.specs.Faults.Faults.{faults_of}
 use Rattle.fb_wiring.specs.Network.declared.network.InstanceKind.{InstanceKind}
 use Rattle.fb_wiring.specs.Network.declared.network.InstanceKind.TheVariants.{Block, Subapplication}

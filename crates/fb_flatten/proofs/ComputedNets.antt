@@ -16,7 +16,7 @@ use Rattle.fb_wiring.specs.Library.View.{Sources, mentions_at, tree_at, tree_of}
 use Rattle.fb_wiring.specs.Library.Rests.{Rests, itself, through}
 use Rattle.fb_wiring.specs.Library.Local.{AgreeFar}
 use Rattle.fb_wiring.proofs.Library.LocalLemmas.{far_local}
-use Rattle.fb_wiring.proofs.Iface.Members.{contains_nothing, contains_filter, passes_in_filter, contains_here, contains_later}
+use Rattle.fb_text.proofs.Members.{contains_nothing, contains_filter, passes_in_filter, contains_here, contains_later}
 use Rattle.fb_wiring.specs.Iface.declared.fault.Fault.{Fault}
 use Rattle.fb_wiring.specs.Faults.Faults.{faults_of}
 use Rattle.fb_order.specs.Reaches.{IsRecursive}

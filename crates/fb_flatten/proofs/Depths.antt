@@ -13,7 +13,7 @@ use Rattle.fb_wiring.specs.Library.Seen.{has_name, unseen}
 use Rattle.fb_wiring.proofs.Library.WalkLemmas.{Contains-has, has-Contains}
 use Rattle.fb_order.specs.Reaches.{Reaches, directly, onward, IsRecursive}
 use Rattle.fb_order.proofs.StackLemmas.{reaches_more}
-use Rattle.fb_wiring.proofs.Iface.Members.{contains_here}
+use Rattle.fb_text.proofs.Members.{contains_here}
 use Rattle.fb_flatten.specs.Far.{far_of}
 use Rattle.fb_flatten.specs.Nets.{is_recursive}
 use Rattle.fb_flatten.proofs.FarNames.{far_is_all, one_fewer, some_unseen, all_unseen}

@@ -17,7 +17,7 @@ use Rattle.fb_wiring.proofs.Library.FarLemmas.{one_list}
 use Rattle.fb_wiring.proofs.Library.LocalLemmas.{far_local}
 use Rattle.fb_wiring.specs.Library.Seen.{has_name, unseen}
 use Rattle.fb_wiring.proofs.Library.WalkLemmas.{Contains-has, has-Contains}
-use Rattle.fb_wiring.proofs.Iface.Members.{contains_flat_map, origin_in_flat_map, contains_here, contains_single}
+use Rattle.fb_text.proofs.Members.{contains_flat_map, origin_in_flat_map, contains_here, contains_single}
 use Rattle.fb_flatten.specs.Far.{mentioned_in, all_mentioned, opened, opened_times, far_of, FarIsAll, FarOfIsLocal}
 
 by_bool : {P : Type 0} (b : Bool) → (b ≡ true → P) → (b ≡ false → P) → P

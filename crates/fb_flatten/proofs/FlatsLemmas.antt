@@ -23,7 +23,7 @@ use Rattle.fb_wiring.specs.Applications.{applications_of}
 use Rattle.fb_wiring.specs.ByName.{declared, kind_at}
 use Rattle.fb_wiring.specs.Networks.{network_of}
 use Rattle.fb_wiring.specs.declared.systems.Application.{Application}
-use Rattle.fb_wiring.proofs.Iface.Members.{contains_cases, contains_here, contains_later, contains_nothing}
+use Rattle.fb_text.proofs.Members.{contains_cases, contains_here, contains_later, contains_nothing}
 use Rattle.fb_compose.proofs.Equals.{same_bytes, not_at, at_not}
 use Rattle.fb_compose.specs.Ready.{Nets, IsFinished, AreFinished}
 use Rattle.fb_flatten.specs.Hints.{AreRightHints, count_of_hint, flat_of_hint}

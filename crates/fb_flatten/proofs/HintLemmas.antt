@@ -14,7 +14,7 @@ use Rattle.fb_wiring.specs.Network.PlainFlat.{PlainFlat}
 use Rattle.fb_wiring.specs.Network.Network.{View}
 use Rattle.fb_wiring.specs.Network.Instances.{Held, AreInstances}
 use Rattle.fb_wiring.specs.Network.Count.{IsCount}
-use Rattle.fb_wiring.proofs.Iface.Members.{contains_nothing}
+use Rattle.fb_text.proofs.Members.{contains_nothing}
 use Rattle.fb_wiring.specs.ByName.{declared, kind_at}
 use Rattle.fb_wiring.specs.Networks.{network_of}
 use Rattle.fb_compose.specs.Ready.{Nets, IsFinished}

@@ -18,7 +18,7 @@ use Rattle.fb_wiring.specs.Library.View.{Sources, tree_at, mentions_at, mentions
 use Rattle.fb_wiring.specs.Iface.Names.{first_ones, stands_for}
 use Rattle.fb_wiring.specs.Iface.Ports.{meanings_in_type, events_on, data_on, instances_as, instances_in as declared_instances, same_role}
 use Rattle.fb_wiring.specs.Iface.declared.ports.DeclaredInstance.{DeclaredInstance}
-use Rattle.fb_wiring.proofs.Iface.Members.{contains_nothing, contains_here, contains_later, contains_cases, contains_map, origin_in_map, contains_flat_map, origin_in_flat_map, passes_in_filter}
+use Rattle.fb_text.proofs.Members.{contains_nothing, contains_here, contains_later, contains_cases, contains_map, origin_in_map, contains_flat_map, origin_in_flat_map, passes_in_filter}
 use Rattle.fb_wiring.specs.Network.declared.network.Instance.{Instance}
 use Rattle.fb_wiring.specs.Network.declared.network.Port.{Port}
 use Rattle.fb_wiring.specs.Network.Plain.{PlainNetwork}

@@ -17,7 +17,7 @@ use Rattle.fb_order.specs.Reaches.{IsRecursive}
 use Rattle.fb_order.proofs.LocalLemmas.{recursion_local}
 use Rattle.fb_wiring.specs.Network.PlainFlat.{PlainFlat}
 use Rattle.fb_wiring.specs.Network.Instances.{Held}
-use Rattle.fb_compose.proofs.Members.{contains_nothing, contains_here, contains_later, contains_cases}
+use Rattle.fb_text.proofs.Members.{contains_nothing, contains_here, contains_later, contains_cases}
 use Rattle.fb_compose.specs.declared.application.FlatApplication.{FlatApplication}
 use Rattle.fb_wiring.specs.ByName.{declared}
 use Rattle.fb_wiring.specs.declared.systems.Application.{Application}

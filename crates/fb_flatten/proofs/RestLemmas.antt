@@ -9,7 +9,7 @@ use Rattle.std.specs.FinMap.{get, get-retain_keys, slice_cmp-IsAntisymmetric, na
 use Rattle.fb_text.specs.Order.{name_cmp}
 use Rattle.fb_wiring.specs.Library.View.{Sources, tree_of, mentions_at, mentions_in}
 use Rattle.fb_wiring.specs.Library.Rests.{Rests, itself, through}
-use Rattle.fb_wiring.proofs.Iface.Members.{contains_nothing}
+use Rattle.fb_text.proofs.Members.{contains_nothing}
 use Rattle.fb_order.specs.Order.{IsOrdered}
 use Rattle.fb_order.specs.Reaches.{Reaches, directly, onward, IsRecursive, RestsOnRecursive}
 use Rattle.fb_order.proofs.OrderLemmas.{ordered_not_recursive}

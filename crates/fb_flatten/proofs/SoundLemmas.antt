@@ -5,7 +5,7 @@ use Rattle.std.specs.List.Sorted.{IsStrictlySortedBy}
 use Rattle.fb_text.specs.Order.{name_cmp}
 use Rattle.fb_wiring.specs.Library.View.{Sources, mentions_at}
 use Rattle.fb_wiring.specs.Library.Rests.{Rests, itself, through}
-use Rattle.fb_wiring.proofs.Iface.Members.{contains_nothing}
+use Rattle.fb_text.proofs.Members.{contains_nothing}
 use Rattle.fb_order.specs.Reaches.{IsRecursive}
 use Rattle.fb_wiring.specs.Network.Plain.{PlainNetwork}
 use Rattle.fb_wiring.specs.Network.Clean.{IsCleanThroughout}

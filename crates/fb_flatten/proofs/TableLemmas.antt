@@ -10,7 +10,7 @@ use Rattle.fb_wiring.specs.Network.declared.network.Port.{Port}
 use Rattle.fb_wiring.specs.Network.Plain.{PlainNetwork}
 use Rattle.fb_wiring.specs.Network.Network.{View}
 use Rattle.fb_compose.proofs.Equals.{same_bytes}
-use Rattle.fb_compose.proofs.Members.{contains_nothing}
+use Rattle.fb_text.proofs.Members.{contains_nothing}
 use Rattle.fb_wiring.specs.ByName.{declared}
 use Rattle.fb_flatten.specs.Tables.{Grows, Has, HasAdapter, HasAdapters, HasType, IsTable, IsTrue}
 

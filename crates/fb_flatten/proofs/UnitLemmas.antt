@@ -8,7 +8,7 @@ use Rattle.fb_wiring.specs.Network.declared.count.TheConstants.{INSTANCE_LIMIT}
 use Rattle.fb_wiring.specs.Network.declared.network.Instance.{Instance}
 use Rattle.fb_wiring.specs.Network.Network.{View}
 use Rattle.fb_compose.specs.declared.application.FlatApplication.{FlatApplication}
-use Rattle.fb_wiring.proofs.Iface.Members.{contains_nothing, contains_flat_map}
+use Rattle.fb_text.proofs.Members.{contains_nothing, contains_flat_map}
 use Rattle.fb_wiring.specs.Applications.{applications_of}
 use Rattle.fb_wiring.specs.Networks.{network_of}
 use Rattle.fb_wiring.specs.ByName.{applications_at}

@@ -1,7 +1,6 @@
 pub mod CodeLemmas
 pub mod EarlierLemmas
 pub mod FaultLemmas
-pub mod Members
 pub mod NameLemmas
 pub mod PlaceLemmas
 pub mod RepeatLemmas

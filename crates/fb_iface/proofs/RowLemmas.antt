@@ -29,7 +29,7 @@ use Rattle.fb_iface.specs.Sides.{goes_with}
 use Rattle.fb_iface.specs.Spaces.{spaces_of}
 use Rattle.fb_iface.specs.Types.{instance_faults, instances_of, suits, type_fault, type_faults}
 use Rattle.fb_iface.specs.Withs.{carries, event_withs, with_faults}
-use Rattle.fb_iface.proofs.Members.{contains_filter, contains_flat_map, contains_here, contains_map, contains_nothing, contains_single, origin_in_flat_map, origin_in_map, in_unless, in_written, passes_in_filter, unless, written}
+use Rattle.fb_text.proofs.Members.{contains_filter, contains_flat_map, contains_here, contains_map, contains_nothing, contains_single, origin_in_flat_map, origin_in_map, in_unless, in_written, passes_in_filter, unless, written}
 use Rattle.fb_iface.proofs.EarlierLemmas.{IsEarlier, at_place, earlier_name, has_earlier, in_places}
 use Rattle.fb_iface.proofs.NameLemmas.{same_exact, same_itself}
 

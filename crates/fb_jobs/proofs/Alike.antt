@@ -18,7 +18,8 @@ use Rattle.fb_deploy.specs.Network.LinkOrder.{border_cmp, border_cmp_total, link
 use Rattle.fb_deploy.proofs.Compose.Equals.{exact_border, exact_link}
 use Rattle.fb_jobs.specs.declared.key.Key.{Key}
 use Rattle.fb_jobs.specs.KeyOrder.{key_cmp_total, same_key}
-use Rattle.fb_jobs.proofs.KeyLemmas.{exact_key, is_equal}
+use Rattle.fb_text.proofs.OrderLemmas.{is_equal}
+use Rattle.fb_jobs.proofs.KeyLemmas.{exact_key}
 
 -- what is told by an order in which only equal items are equal
 told_by : {X : Type 0} {order : X → X → Ordering} → IsTotalOrder order → ((a b : X) → order a b ≡ Equal → a ≡ b) → (a b : X) → IsTrue (eq_by_cmp order a b) ↔ (a ≡ b)

@@ -2,8 +2,9 @@
 use Rattle.std.proofs.Common.{◌≡◌, refl, true, arith}
 use Rattle.std.specs.declared.cmp.Ordering.{Ordering}
 use Rattle.std.specs.declared.cmp.Ordering.TheVariants.{Less, Equal, Greater}
-use Rattle.std.specs.Ordering.{ordering_then, nat_cmp, is_eq}
+use Rattle.std.specs.Ordering.{ordering_then, nat_cmp}
 use Rattle.std.specs.FinMap.{nat_cmp-IsAntisymmetric}
+use Rattle.fb_text.proofs.OrderLemmas.{is_equal}
 use Rattle.fb_deploy.proofs.Library.Names.{exact_name}
 use Rattle.fb_jobs.specs.declared.key.Kind.{Kind}
 use Rattle.fb_jobs.specs.declared.key.Kind.TheVariants.{Faults, Net, Deploy}
@@ -32,11 +33,6 @@ exact_key a b e =
     let kinds = exact_kind a.kind b.kind (nat_cmp-IsAntisymmetric (kind_number a.kind) (kind_number b.kind) parts.0) in
     let units = exact_name a.unit b.unit parts.1 in
     λ i. record { kind = kinds i; unit = units i }
-
-pub is_equal : (o : Ordering) → is_eq o ≡ true → o ≡ Equal
-is_equal Less e = cc
-is_equal Equal e = refl
-is_equal Greater e = cc
 
 pub same_is : (a b : Key) → same_key a b ≡ true → a ≡ b
 same_is a b e = exact_key a b (is_equal (key_cmp a b) e)

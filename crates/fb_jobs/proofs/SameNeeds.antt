@@ -4,11 +4,9 @@ use Rattle.std.specs.List.Sorted.{IsStrictlySortedBy}
 use Rattle.std.specs.BTreeMap.{is_at}
 use Rattle.std.specs.FinMap.{get}
 use Rattle.std.specs.Ordering.{is_eq}
-use Rattle.std.specs.declared.cmp.Ordering.{Ordering}
-use Rattle.std.specs.declared.cmp.Ordering.TheVariants.{Less, Equal, Greater}
 use Rattle.std.proofs.lemmas.Cmp.{tied_itself}
 use Rattle.fb_text.specs.Order.{name_cmp}
-use Rattle.fb_text.proofs.OrderLemmas.{in_order-sorted}
+use Rattle.fb_text.proofs.OrderLemmas.{in_order-sorted, is_equal}
 use Rattle.fb_deploy.specs.Library.Texts.{Texts, sources_of}
 use Rattle.fb_deploy.specs.Library.View.{Sources, near_of, mentions_at}
 use Rattle.fb_deploy.specs.Library.Local as local
@@ -29,11 +27,6 @@ use Rattle.fb_jobs.specs.Reads.{is_among, Agree}
 
 pub at_itself : (n : List ℕ) → is_at (name_cmp n) n ≡ true
 at_itself n = ap is_eq (tied_itself name_total n)
-
-is_equal : (o : Ordering) → is_eq o ≡ true → o ≡ Equal
-is_equal Less e = cc
-is_equal Equal e = refl
-is_equal Greater e = cc
 
 pub same_at : (n m : List ℕ) → is_at (name_cmp n) m ≡ true → n ≡ m
 same_at n m e = exact_name n m (is_equal (name_cmp n m) e)

@@ -13,7 +13,7 @@ use Rattle.fb_flatten.specs.Tree.Mentions.{mentioned_in, types_in}
 use Rattle.fb_flatten.specs.Library.View.{Sources, tree_at, tree_of, mentions_at, mentions_in}
 use Rattle.fb_flatten.specs.Library.Rests.{Rests, itself}
 use Rattle.fb_flatten.specs.Library.Local.{AgreeFar}
-use Rattle.fb_flatten.proofs.Compose.Members.{contains_nothing, contains_here, contains_later, contains_flat_map, contains_map}
+use Rattle.fb_text.proofs.Members.{contains_nothing, contains_here, contains_later, contains_flat_map, contains_map}
 use Rattle.fb_flatten.proofs.OrderLemmas.{rests_on}
 use Rattle.fb_mapping.specs.Firsts.{first_at}
 use Rattle.fb_mapping.specs.Standing.{PlainStanding, application_called, inner_instances, is_placed, leads_nowhere, standing_among, standing_at, standing_beyond, standing_from, standing_inside}

@@ -2,20 +2,14 @@
 use Rattle.std.proofs.Common.{◌≡◌, ℕ, Bool, true, false, cond, Vec, Option, Some, sym, ap, ◌∙◌}
 use Rattle.std.specs.BTreeMap.{is_at}
 use Rattle.std.specs.FinMap.{nat_cmp-IsAntisymmetric, slice_cmp-IsAntisymmetric}
-use Rattle.std.specs.Ordering.{is_eq, nat_cmp, ordering_then}
+use Rattle.std.specs.Ordering.{nat_cmp, ordering_then}
 use Rattle.std.specs.declared.alloc.Global.{Global}
-use Rattle.std.specs.declared.cmp.Ordering.{Ordering}
-use Rattle.std.specs.declared.cmp.Ordering.TheVariants.{Less, Equal, Greater}
+use Rattle.fb_text.proofs.OrderLemmas.{is_equal}
 use Rattle.fb_text.specs.Order.{name_cmp}
 use Rattle.fb_iface.specs.Library.View.{Sources}
 use Rattle.fb_iface.proofs.FaultLemmas.{both_equal}
 use Rattle.fb_netcheck.specs.Known.{AreSpellings, PartKey, part_cmp}
 use Rattle.fb_netcheck.specs.Spellings.{words_at}
-
-is_equal : (r : Ordering) → is_eq r ≡ true → r ≡ Equal
-is_equal Less e = absurd (let no : ⊥ = cc in no)
-is_equal Equal e = λ _. Equal
-is_equal Greater e = absurd (let no : ⊥ = cc in no)
 
 -- parts that compare equal are one
 same_part : (a b : PartKey) → is_at (part_cmp a) b ≡ true → a ≡ b

@@ -20,7 +20,7 @@ use Rattle.fb_netcheck.specs.Iface.declared.classes.Class.TheVariants.{B, I, W, 
 use Rattle.fb_netcheck.specs.Iface.declared.code.Code.{Code}
 use Rattle.fb_netcheck.specs.Iface.declared.code.Code.TheVariants.{DataType, PassThrough}
 use Rattle.fb_netcheck.specs.Iface.declared.fault.Fault.{Fault}
-use Rattle.fb_netcheck.proofs.Iface.Members.{contains_flat_map, contains_here, contains_nothing, origin_in_flat_map}
+use Rattle.fb_text.proofs.Members.{contains_flat_map, contains_here, contains_nothing, origin_in_flat_map}
 use Rattle.fb_netcheck.proofs.Iface.NameLemmas.{same_exact, same_itself}
 use Rattle.fb_netcheck.specs.declared.ends.Flow.{Flow}
 use Rattle.fb_netcheck.specs.declared.ends.Flow.TheVariants as flows

@@ -17,7 +17,7 @@ use Rattle.fb_netcheck.specs.Iface.declared.code.Code.{Code}
 use Rattle.fb_netcheck.specs.Iface.declared.code.Code.TheVariants.{Literal, ParameterUnknown}
 use Rattle.fb_netcheck.specs.Iface.declared.fault.Fault.{Fault}
 use Rattle.fb_netcheck.specs.Iface.declared.ports.DeclaredVariable.{DeclaredVariable}
-use Rattle.fb_netcheck.proofs.Iface.Members.{contains_here, contains_single}
+use Rattle.fb_text.proofs.Members.{contains_here, contains_single}
 use Rattle.fb_netcheck.specs.Networks.{tree_faults}
 use Rattle.fb_netcheck.specs.Parameters.{parameter_faults, value_faults}
 use Rattle.fb_netcheck.specs.Settings.{NetworkPlace}

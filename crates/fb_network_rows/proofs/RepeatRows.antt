@@ -12,7 +12,7 @@ use Rattle.fb_netcheck.specs.Library.View.{tree_at}
 use Rattle.fb_netcheck.specs.Iface.declared.code.Code.{Code}
 use Rattle.fb_netcheck.specs.Iface.declared.code.Code.TheVariants.{SecondAdapter, SecondSource}
 use Rattle.fb_netcheck.specs.Iface.declared.fault.Fault.{Fault}
-use Rattle.fb_netcheck.proofs.Iface.Members.{ComesFrom, ComesThrough, contains_cases, contains_flat_map, contains_here, contains_later, contains_map, contains_nothing, contains_single, origin_in_flat_map, origin_in_map}
+use Rattle.fb_text.proofs.Members.{ComesFrom, ComesThrough, contains_cases, contains_flat_map, contains_here, contains_later, contains_map, contains_nothing, contains_single, origin_in_flat_map, origin_in_map}
 use Rattle.fb_netcheck.specs.declared.ends.Position.{Position}
 use Rattle.fb_netcheck.specs.declared.ends.Position.TheVariants.{Source, Destination}
 use Rattle.fb_netcheck.specs.Networks.{tree_faults}

@@ -4,7 +4,7 @@ use Rattle.std.specs.Prelude.{Contains}
 use Rattle.std.specs.BTreeMap.{is_at}
 use Rattle.std.proofs.lemmas.List.Elements.{Contains-append_left, Contains-append_right}
 use Rattle.fb_text.specs.Order.{name_cmp}
-use Rattle.fb_deploy.proofs.Compose.Members.{contains_cases, contains_flat_map, contains_here, contains_later, contains_map, contains_nothing, passes_in_find}
+use Rattle.fb_text.proofs.Members.{contains_cases, contains_flat_map, contains_here, contains_later, contains_map, contains_nothing, passes_in_find}
 use Rattle.fb_deploy.proofs.Compose.Equals.{same_bytes}
 use Rattle.fb_mapping.proofs.NameLemmas.{printed-push}
 use Rattle.fb_deploy.specs.Library.View.{Sources}

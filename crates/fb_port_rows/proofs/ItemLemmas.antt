@@ -1,16 +1,8 @@
 -- Declarations of items in a row, each of one name.
-use Rattle.std.proofs.Common.{◌≡◌, ◌≢◌, zero, suc, ℕ, ◌<◌, List, [], ◌∷◌, map, Some, option_map, refl, ap, ◌∙◌}
+use Rattle.std.proofs.Common.{◌≡◌, ◌≢◌, ℕ, ◌<◌, List, [], ◌∷◌, map, Some, refl, ap, ◌∙◌}
 use Rattle.std.specs.List.{slice_get}
-use Rattle.std.proofs.lemmas.Option.{slice_get-map}
+use Rattle.fb_text.proofs.Members.{got_in_map, map_gets}
 use Rattle.fb_port_rows.proofs.FirstLemmas.{NoneBefore}
-
-pub got_in_map : {X Y : Type 0} (f : X → Y) (xs : List X) (i : ℕ) (y : Y) → slice_get (map f xs) i ≡ Some y → (x : X) × (slice_get xs i ≡ Some x) × (f x ≡ y)
-got_in_map f [] i y e = absurd (let no : ⊥ = cc in no)
-got_in_map f (x ∷ xs) zero y e = (x, refl, (let same : f x ≡ y = cc in same))
-got_in_map f (x ∷ xs) (suc i) y e = got_in_map f xs i y e
-
-pub map_gets : {X Y : Type 0} (f : X → Y) (xs : List X) (i : ℕ) (x : X) → slice_get xs i ≡ Some x → slice_get (map f xs) i ≡ Some (f x)
-map_gets f xs i x e = slice_get-map f xs i ∙ ap (option_map f) e
 
 module _ {X D : Type 0} (key : X → List ℕ) (meaning : X → D) where
   abbrev declared : List X → List (List ℕ × D)

@@ -9,3 +9,4 @@ pub mod OpenLines
 pub mod Reading
 pub mod Relation
 pub mod OrderLemmas
+pub mod Members

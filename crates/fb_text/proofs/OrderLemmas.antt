@@ -17,6 +17,11 @@ use Rattle.std.specs.FinMap.Entries.{find, put, by_order}
 use Rattle.std.specs.BTreeSet.{insert_key}
 use Rattle.fb_text.specs.Order.{in_order, name_cmp}
 
+pub is_equal : (r : Ordering) → is_eq r ≡ true → r ≡ Equal
+is_equal Less e = absurd (true≢false (sym e))
+is_equal Equal e = refl
+is_equal Greater e = absurd (true≢false (sym e))
+
 -- two names are equal where their order finds them so
 pub same_name : (a b : List ℕ) → pointwise nat_eq a b ≡ is_at (name_cmp a) b
 same_name a b = texts_ties a b
@@ -130,11 +135,6 @@ module _ {K : Type 0} (R : K → K → Ordering) where
       λ h. member (in_order R xs) (has-in_order xs q ∙ listed xs h),
     )
       where
-        is_equal : (r : Ordering) → is_eq r ≡ true → r ≡ Equal
-        is_equal Less e = absurd (true≢false (sym e))
-        is_equal Equal e = refl
-        is_equal Greater e = absurd (true≢false (sym e))
-
         member : (ys : List K) → has ys q ≡ true → Contains ys q
         member ys h = Contains-from_any (λ x y e. same x y (is_equal (R x y) e)) q ys h
 

@@ -31,7 +31,7 @@ use Rattle.fb_faults.specs.Ecc.declared.events.EventTarget.{EventTarget}
 use Rattle.fb_faults.specs.Ecc.declared.events.EventTarget.TheVariants as targets
 use Rattle.fb_faults.specs.Ecc.States.{transition_faults, state_fault, state_faults, state_names}
 use Rattle.fb_faults.specs.Mappings.{declared_mapping_faults}
-use Rattle.fb_faults.proofs.Iface.Members.{contains_nothing, contains_single, in_unless, in_written, origin_in_flat_map, origin_in_map}
+use Rattle.fb_text.proofs.Members.{contains_nothing, contains_single, in_unless, in_written, origin_in_flat_map, origin_in_map}
 use Rattle.fb_expr.proofs.DemandLemmas.{faults_unmet}
 use Rattle.fb_network_rows.specs.Rows.{IsCodeOfNetworks, of_unknown_ports, of_wrong_sides, of_other_types, of_second_sources, of_second_adapters, of_passages, of_unknown_parameters, of_misfits}
 use Rattle.fb_faults.proofs.Iface.RowLemmas.{misfit_origin}

@@ -16,7 +16,7 @@ use Rattle.fb_faults.specs.Ecc.Charts.{ecc_faults_of}
 use Rattle.fb_faults.specs.Netcheck.Networks.{net_faults_of}
 use Rattle.fb_faults.specs.Mappings.{mapping_faults_of}
 use Rattle.fb_faults.specs.Faults.{body_faults, faults_of, reported_of, syntax_faults_of, text_faults}
-use Rattle.fb_faults.proofs.Iface.Members.{contains_nothing, contains_single, in_written}
+use Rattle.fb_text.proofs.Members.{contains_nothing, contains_single, in_written}
 use Rattle.fb_faults.proofs.OrderLemmas.{those_reported}
 use Rattle.fb_unit_rows.specs.Parts.{CodesAreOfTheirParts, ConstantsAreOfTwoParts, HasPart, IsCodeOf, IsOfConstants, IsOfPart, Part, Declarations, Expressions, Charts, Networks, Mappings, PartsHaveAllOtherCodes, PartsShareOneCode, WholeUnitsHaveFaultsOfParts, faults_by, of_constant, other_name, duplicate, mixed_kind, unknown_type, wrong_kind, unknown_with, initial_value, unknown_variable, class, unknown_state, unknown_event, unknown_algorithm, unknown_port, wrong_side, other_type, second_source, second_adapter, passage, unknown_parameter, parameter_value, second_mapping, lost_mapping}
 use Rattle.fb_unit_rows.specs.Texts.{broken_at}

@@ -10,7 +10,7 @@ use Rattle.fb_faults.specs.Iface.Names.{has_name, is_same, stands_for}
 use Rattle.fb_faults.specs.Iface.declared.code.Code.TheVariants.{NoSuchResource}
 use Rattle.fb_faults.specs.Iface.declared.fault.Fault.{Fault}
 use Rattle.fb_faults.specs.Mappings.{declared_mapping_faults, has_resource, home_faults, resource_faults, resources_in, second_mappings}
-use Rattle.fb_faults.proofs.Iface.Members.{contains_cases, contains_flat_map, contains_here, contains_later, contains_map, contains_nothing, origin_in_map}
+use Rattle.fb_text.proofs.Members.{contains_cases, contains_flat_map, contains_here, contains_later, contains_map, contains_nothing, origin_in_map}
 use Rattle.fb_faults.proofs.Iface.NameLemmas.{none_named, not_named, same_exact, same_itself}
 use Rattle.fb_unit_rows.specs.Rows.{HasLostMapping, IsFirstDevice, IsLost, IsSystemAt, no_device, no_resource, MappingsHaveHomes}
 use Rattle.fb_unit_rows.proofs.MappingLemmas.{IsMappingPart, LostOrigin, codes_differ, lost_at, lost_origin, mapping_origin, mapping_part, mapping_reported, of_lost, of_second}

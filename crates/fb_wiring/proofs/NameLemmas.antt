@@ -9,7 +9,7 @@ use Rattle.fb_faults.specs.Iface.Names.{is_same, stands_for}
 use Rattle.fb_faults.specs.Iface.Spaces.{spaces_of}
 use Rattle.fb_faults.specs.Iface.declared.code.Code.TheVariants.{Duplicate}
 use Rattle.fb_faults.specs.Iface.declared.fault.Fault.{Fault}
-use Rattle.fb_faults.proofs.Iface.Members.{contains_cases, contains_nothing}
+use Rattle.fb_text.proofs.Members.{contains_cases, contains_nothing}
 use Rattle.fb_faults.proofs.Iface.NameLemmas.{same_exact, same_itself}
 use Rattle.fb_faults.proofs.Iface.RowLemmas.{duplicates}
 use Rattle.fb_wiring.proofs.FirstOnes.{Distinct}

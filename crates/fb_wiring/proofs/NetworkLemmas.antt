@@ -24,7 +24,7 @@ use Rattle.fb_faults.specs.Iface.Scope.{ports_of, type_ports_of, usable}
 use Rattle.fb_faults.specs.Iface.Types.{instance_faults, suits, type_fault}
 use Rattle.fb_faults.specs.Iface.declared.fault.Fault.{Fault}
 use Rattle.fb_faults.specs.Iface.declared.ports.DeclaredInstance.{DeclaredInstance}
-use Rattle.fb_faults.proofs.Iface.Members.{contains_cases, contains_here, contains_later, contains_nothing, origin_in_map}
+use Rattle.fb_text.proofs.Members.{contains_cases, contains_here, contains_later, contains_nothing, origin_in_map}
 use Rattle.fb_faults.proofs.Iface.NameLemmas.{same_exact}
 use Rattle.fb_faults.specs.Netcheck.Clean.{AreRight, IsCleanConnection, IsCleanNetwork}
 use Rattle.fb_faults.specs.Netcheck.Ends.{adapter_port, holder_of, is_right, port_in, port_in_role, right_side, target, target_held, target_in, target_named, target_of, target_of_instance}

@@ -1,5 +1,5 @@
 -- Units without faults are clean in plain.
-use Rattle.std.proofs.Common.{◌≡◌, zero, suc, ℕ, ◌<◌, true, false, ◌&&◌, List, [], ◌∷◌, ◌++◌, map, Option, Some, None, option_map, refl, sym, ap, ◌∙◌, subst, ◌⊎◌, inl, inr}
+use Rattle.std.proofs.Common.{◌≡◌, ℕ, ◌<◌, true, false, ◌&&◌, List, [], ◌∷◌, ◌++◌, map, Option, Some, None, option_map, refl, sym, ap, ◌∙◌, subst, ◌⊎◌, inl, inr}
 use Rattle.std.proofs.lemmas.List.Elements.{All-contains, All-head, Contains-append_left, Contains-append_right}
 use Rattle.std.specs.List.{All, Contains, filter_map, find, flat_map, slice_get}
 use Rattle.std.specs.Option.{option_and_then}
@@ -17,7 +17,7 @@ use Rattle.fb_faults.specs.Iface.Ports.{events_in, instances_in, meanings_in_typ
 use Rattle.fb_faults.specs.Iface.Spaces.{chart_spaces, interface_spaces, network_spaces, resource_names, spaces_of}
 use Rattle.fb_faults.specs.Iface.Types.{instance_faults, instances_of, type_faults}
 use Rattle.fb_faults.specs.Iface.declared.ports.DeclaredInstance.{DeclaredInstance}
-use Rattle.fb_faults.proofs.Iface.Members.{contains_cases, contains_flat_map, contains_here, contains_later, contains_map, contains_nothing, origin_in_map}
+use Rattle.fb_text.proofs.Members.{contains_cases, contains_flat_map, contains_here, contains_later, contains_map, contains_nothing, got_in_map, map_gets, origin_in_map}
 use Rattle.fb_faults.specs.Netcheck.Networks.{application_place, networks_in, type_place}
 use Rattle.fb_faults.specs.Netcheck.Clean.{AreRight, IsCleanConnection, IsCleanNetwork}
 use Rattle.fb_faults.specs.Netcheck.Ends.{adapter_port, holder_of, port_in, port_in_role, target, target_named, target_of}
@@ -171,17 +171,6 @@ each_contains {A = A} P (y ∷ ys) h x c = by (contains_cases y ys x c) (each_co
     by : (y ≡ x) ⊎ Contains ys x → (Contains ys x → P x) → P x
     by (inl e) more = subst P e h.0
     by (inr d) more = more d
-
--- items at their places in a list of others
-got_in_map : {X Y : Type 0} (f : X → Y) (xs : List X) (i : ℕ) (y : Y) → slice_get (map f xs) i ≡ Some y → (x : X) × (slice_get xs i ≡ Some x) × (f x ≡ y)
-got_in_map f [] i y e = absurd (let no : ⊥ = cc in no)
-got_in_map f (x ∷ xs) zero y e = (x, refl, (let same : f x ≡ y = cc in same))
-got_in_map f (x ∷ xs) (suc i) y e = got_in_map f xs i y e
-
-map_gets : {X Y : Type 0} (f : X → Y) (xs : List X) (i : ℕ) (x : X) → slice_get xs i ≡ Some x → slice_get (map f xs) i ≡ Some (f x)
-map_gets f [] i x e = absurd (let no : ⊥ = cc in no)
-map_gets f (y ∷ ys) zero x e = let same : y ≡ x = cc in ap (λ z. Some (f z)) same
-map_gets f (y ∷ ys) (suc i) x e = map_gets f ys i x e
 
 module _ (sources : Sources) (unit : List ℕ) (s : SystemTree) (is : tree_at sources unit ≡ Some (system_configuration s)) (report : HasNoReport sources unit) where
   abbrev front : List (List NameUse)

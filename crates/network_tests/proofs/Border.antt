@@ -16,7 +16,7 @@ use Rattle.fb_network.specs.Clean.{IsClean, IsCleanThroughout, CleanThroughout, 
 use Rattle.network_tests.specs.Border.{input, inner}
 use Rattle.fb_compose.specs.Ordered.{IsNext}
 use Rattle.fb_compose.proofs.Equals.{bytes_same}
-use Rattle.fb_compose.proofs.Members.{contains_nothing, contains_cases}
+use Rattle.fb_text.proofs.Members.{contains_nothing, contains_cases}
 use Rattle.fb_compose.proofs.Composing.{found_by_name}
 
 only : {X : Type 0} (x y : X) → Contains (x ∷ []) y → x ≡ y

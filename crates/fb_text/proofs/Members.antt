@@ -1,8 +1,10 @@
 -- What is a member of a list that is built from others.
-use Rattle.std.proofs.Common.{zero, suc, ◌≡◌, ◌<◌, Bool, true, false, cond, List, [], ◌∷◌, ◌++◌, Option, Some, None, ◌⊎◌, inl, inr, refl, sym, ◌∙◌, ap, subst, true≢false, arith}
-use Rattle.std.specs.Prelude.{Contains, map, filter, flat_map}
+use Rattle.std.proofs.Common.{zero, suc, ◌≡◌, ℕ, ◌<◌, Bool, true, false, cond, List, [], ◌∷◌, ◌++◌, Option, Some, None, option_map, ◌⊎◌, inl, inr, refl, sym, ◌∙◌, ap, subst, true≢false, arith}
+use Rattle.std.specs.Prelude.{Contains, map, filter, flat_map, find}
+use Rattle.std.specs.List.{slice_get}
 use Rattle.std.specs.Option.{option_map_or}
 use Rattle.std.proofs.lemmas.List.Elements.{Contains-append_left, Contains-append_right, Contains-append_cases}
+use Rattle.std.proofs.lemmas.Option.{slice_get-map}
 
 pub contains_nothing : {X : Type 0} (y : X) → Contains [] y → ⊥
 contains_nothing y c = let h : c.0 < 0 = c.1 in omega arith
@@ -98,6 +100,15 @@ passes_in_filter {X = X} p (z ∷ xs) x c = by_test (p z) refl c (passes_in_filt
     by_test true g d more = by_case g (contains_cases z (filter p xs) x d) more
     by_test false g d more = later (more d)
 
+-- what a search finds stands in the list and passes
+pub passes_in_find : {X : Type 0} (p : X → Bool) (xs : List X) (x : X) → find p xs ≡ Some x → Passes p xs x
+passes_in_find p [] x e = absurd (cc)
+passes_in_find {X = X} p (z ∷ xs) x e = by_test (p z) refl e (passes_in_find p xs x)
+  where
+    by_test : (b : Bool) → p z ≡ b → cond b (Some z) (find p xs) ≡ Some x → (find p xs ≡ Some x → Passes p xs x) → Passes p (z ∷ xs) x
+    by_test true g d more = let same : z ≡ x = cc in record { among = subst (λ (w : X). Contains (z ∷ xs) w) same (contains_here z xs); passes = sym (ap p same) ∙ g }
+    by_test false g d more = let o = more d in record { among = contains_later z xs x o.among; passes = o.passes }
+
 -- one item, where a test fails
 pub in_unless : {X : Type 0} (b : Bool) (x y : X) → Contains (cond b [] (x ∷ [])) y → (b ≡ false) × (x ≡ y)
 in_unless true x y c = absurd (contains_nothing y c)
@@ -119,3 +130,12 @@ in_written f (Some x) y c = record { item = x; is = refl; has = c }
 
 pub written : {X Y : Type 0} (f : X → List Y) (o : Option X) (x : X) (y : Y) → o ≡ Some x → Contains (f x) y → Contains (option_map_or f o []) y
 written {X = X} f o x y e c = subst (λ (p : Option X). Contains (option_map_or f p []) y) (sym e) c
+
+-- items at their places in a list of others
+pub got_in_map : {X Y : Type 0} (f : X → Y) (xs : List X) (i : ℕ) (y : Y) → slice_get (map f xs) i ≡ Some y → (x : X) × (slice_get xs i ≡ Some x) × (f x ≡ y)
+got_in_map f [] i y e = absurd (let no : ⊥ = cc in no)
+got_in_map f (x ∷ xs) zero y e = (x, refl, (let same : f x ≡ y = cc in same))
+got_in_map f (x ∷ xs) (suc i) y e = got_in_map f xs i y e
+
+pub map_gets : {X Y : Type 0} (f : X → Y) (xs : List X) (i : ℕ) (x : X) → slice_get xs i ≡ Some x → slice_get (map f xs) i ≡ Some (f x)
+map_gets f xs i x e = slice_get-map f xs i ∙ ap (option_map f) e
