@@ -10,7 +10,7 @@ use Rattle.std.proofs.lemmas.List.Kept.{IsStrictlySortedBy-filter}
 use Rattle.fb_text.specs.Order.{name_cmp, in_order}
 use Rattle.fb_text.proofs.OrderLemmas.{in_order-sorted}
 use Rattle.fb_wiring.specs.Tree.Tree.{DeclTree, SystemTree, TypeTree, block_type, adapter_type, subapplication_type, system_configuration}
-use Rattle.fb_wiring.specs.Tree.Mentions.{kind_of}
+use Rattle.fb_wiring.specs.Tree.Mentions.{unit_kind_of}
 use Rattle.fb_wiring.specs.Tree.declared.kinds.UnitKind.TheVariants as kinds
 use Rattle.fb_wiring.specs.Library.View.{Sources, mentions_at, tree_at, tree_of}
 use Rattle.fb_wiring.specs.Library.Rests.{Rests, itself, through}
@@ -119,7 +119,7 @@ module _ (sources : Sources) (unit : List ℕ) where
       let flats = map (flat_application view (flats_of depth view)) list in
       let is : applications_at sources unit ≡ Some list = ap (option_map applications_of) present in
       let clean = applications_clean sources unit list is (unit_faultless sound) in
-      OfSystem list flats (ap (option_map kind_of) present) is
+      OfSystem list flats (ap (option_map unit_kind_of) present) is
       (flat_applications view depth list
       (λ a c. flat_with sources depth a.network (clean.sound a c).clean (λ i h. done_mention sound i.type_name ((applications_within sources unit list is a c).types i h))))
       (joined_is flats)
@@ -128,7 +128,7 @@ module _ (sources : Sources) (unit : List ℕ) where
   type_flat d present sound =
       let network = network_of (subapplication_type d) in
       let is : declared sources unit ≡ Some network = ap (option_map network_of) present in
-      OfSubapplication network (ap (option_map kind_of) present) is
+      OfSubapplication network (ap (option_map unit_kind_of) present) is
       (flat_with sources (length (far_of sources unit)) network (networks_clean sources unit network is (unit_faultless sound)).clean
       (λ i h. done_mention sound i.type_name ((declared_within sources unit network is).types i h)))
 
@@ -222,7 +222,7 @@ pub net_at_is : NetAtIsNet
 net_at_is sources unit net = (computed_is sources unit net, λ h. is_computed sources unit net h.0 h.1)
 
 same_kind : (a b : Sources) (unit : List ℕ) → get a unit ≡ get b unit → HasNet a unit → HasNet b unit
-same_kind a b unit e has = subst (λ o. (option_map kind_of (option_and_then tree_of o) ≡ Some kinds.Subapplication) ⊎ (option_map kind_of (option_and_then tree_of o) ≡ Some kinds.System)) e has
+same_kind a b unit e has = subst (λ o. (option_map unit_kind_of (option_and_then tree_of o) ≡ Some kinds.Subapplication) ⊎ (option_map unit_kind_of (option_and_then tree_of o) ≡ Some kinds.System)) e has
 
 there : (a b : Sources) (unit : List ℕ) → AgreeFar unit a b → (net : PlainNet) → net_at a unit ≡ Some net → net_at b unit ≡ Some net
 there a b unit agree net at =

@@ -6,7 +6,7 @@ use Rattle.std.specs.Prelude.{Contains, ◌≢◌, is_none, option_map}
 use Rattle.std.specs.Option.{option_or}
 use Rattle.std.specs.BTreeMap.{is_at}
 use Rattle.fb_text.specs.Order.{name_cmp}
-use Rattle.fb_wiring.specs.Tree.Mentions.{kind_of}
+use Rattle.fb_wiring.specs.Tree.Mentions.{unit_kind_of}
 use Rattle.fb_wiring.specs.Tree.Tree.{DeclTree, block_type, adapter_type, subapplication_type, system_configuration}
 use Rattle.fb_wiring.specs.Tree.declared.kinds.UnitKind.{UnitKind}
 use Rattle.fb_wiring.specs.Tree.declared.kinds.UnitKind.TheVariants as kinds
@@ -171,7 +171,7 @@ module _ {sources : Sources} {hints : List ℕ → Option PlainNet} {table : Vie
           let fit = type_composable o.names t unit made.network o.own made.there (λ i h. o.mentions i.type_name ((declared_within sources unit made.network d).types i h)) finished in
           made.whole (declared sources) fit.same fit.clean fit.finished
 
-      not_system : (tree' : DeclTree) → is_system_tree tree' ≡ false → Some (kind_of tree') ≡ Some kinds.System → ⊥
+      not_system : (tree' : DeclTree) → is_system_tree tree' ≡ false → Some (unit_kind_of tree') ≡ Some kinds.System → ⊥
       not_system (block_type e) s k = cc
       not_system (adapter_type e) s k = cc
       not_system (subapplication_type e) s k = cc
@@ -179,7 +179,7 @@ module _ {sources : Sources} {hints : List ℕ → Option PlainNet} {table : Vie
 
       by_kind : HasNet sources unit → IsUnitFlat sources unit flat
       by_kind (inl k) = OfSubapplication made.network k d is
-      by_kind (inr k) = absurd (not_system tree no_system (sym (ap (option_map kind_of) present) ∙ k))
+      by_kind (inr k) = absurd (not_system tree no_system (sym (ap (option_map unit_kind_of) present) ∙ k))
 
   -- what is composed of the applications of a system
   pub flat_of_system_is : (nets : Nets) {flat : PlainFlat} (tree : DeclTree) → tree_at sources unit ≡ Some tree → is_system_tree tree ≡ true → AllFinished sources nets unit order → IsSmall sources unit → AreComposedTogether table nets (applications_of tree) flat → IsUnitFlat sources unit flat
@@ -187,11 +187,11 @@ module _ {sources : Sources} {hints : List ℕ → Option PlainNet} {table : Vie
       let f = together (declared sources) (λ a c. application_composable o.names t unit tree o.own o.mentions present a c (λ i h k. own_finished nets tree present all small i (own_of_application tree a i c h) k)) in
       OfSystem (applications_of tree) f.flats kind (system_applications sources unit tree present) f.each f.joined
     where
-      is_kind : (tree' : DeclTree) → is_system_tree tree' ≡ true → kind_of tree' ≡ kinds.System
+      is_kind : (tree' : DeclTree) → is_system_tree tree' ≡ true → unit_kind_of tree' ≡ kinds.System
       is_kind (block_type e) s = absurd (let no : ⊥ = cc in no)
       is_kind (adapter_type e) s = absurd (let no : ⊥ = cc in no)
       is_kind (subapplication_type e) s = absurd (let no : ⊥ = cc in no)
       is_kind (system_configuration e) s = refl
 
       kind : kind_at sources unit ≡ Some kinds.System
-      kind = ap (option_map kind_of) present ∙ ap (λ (k : UnitKind). Some k) (is_kind tree system)
+      kind = ap (option_map unit_kind_of) present ∙ ap (λ (k : UnitKind). Some k) (is_kind tree system)

@@ -3,7 +3,7 @@ use Rattle.std.proofs.Common.{ℕ, ◌≡◌, ◌≤◌, ◌+◌, Bool, true, fa
 use Rattle.std.proofs.lemmas.Bool.{false≢true}
 use Rattle.std.specs.Prelude.{option_map, is_none}
 use Rattle.std.specs.Option.{option_or}
-use Rattle.fb_wiring.specs.Tree.Mentions.{kind_of}
+use Rattle.fb_wiring.specs.Tree.Mentions.{unit_kind_of}
 use Rattle.fb_wiring.specs.Tree.Tree.{DeclTree, block_type, adapter_type, subapplication_type, system_configuration}
 use Rattle.fb_wiring.specs.Tree.declared.kinds.UnitKind.TheVariants as kinds
 use Rattle.fb_wiring.specs.Library.View.{Sources, tree_at}
@@ -70,9 +70,9 @@ none_of (Some x) e = absurd (false≢true e)
 module _ (sources : Sources) (name : List ℕ) (kind : kind_at sources name ≡ Some kinds.Subapplication) (network : PlainNetwork) (there : declared sources name ≡ Some network) where
   -- the instances of a subapplication are those of its network
   of_type : (held : List Held) (tree : DeclTree) → tree_at sources name ≡ Some tree → AreInstances (declared sources) (own_instances tree) held → AreInstances (declared sources) network.instances held
-  of_type held (block_type d) present is = let same : kind_at sources name ≡ Some kinds.Block = ap (option_map kind_of) present in absurd (let no : ⊥ = cc in no)
-  of_type held (adapter_type d) present is = let same : kind_at sources name ≡ Some kinds.Adapter = ap (option_map kind_of) present in absurd (let no : ⊥ = cc in no)
-  of_type held (system_configuration s) present is = let same : kind_at sources name ≡ Some kinds.System = ap (option_map kind_of) present in absurd (let no : ⊥ = cc in no)
+  of_type held (block_type d) present is = let same : kind_at sources name ≡ Some kinds.Block = ap (option_map unit_kind_of) present in absurd (let no : ⊥ = cc in no)
+  of_type held (adapter_type d) present is = let same : kind_at sources name ≡ Some kinds.Adapter = ap (option_map unit_kind_of) present in absurd (let no : ⊥ = cc in no)
+  of_type held (system_configuration s) present is = let same : kind_at sources name ≡ Some kinds.System = ap (option_map unit_kind_of) present in absurd (let no : ⊥ = cc in no)
   of_type held (subapplication_type d) present is =
       let found : declared sources name ≡ Some (network_of (subapplication_type d)) = ap (option_map network_of) present in
       let same : network_of (subapplication_type d) ≡ network = cc in

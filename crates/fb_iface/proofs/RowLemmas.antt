@@ -5,7 +5,7 @@ use Rattle.std.specs.Option.{option_map_or}
 use Rattle.std.proofs.lemmas.List.Elements.{Contains-append_left, Contains-append_right, Contains-append_cases}
 use Rattle.fb_text.specs.declared.token.Span.{Span}
 use Rattle.fb_text.specs.declared.name.NameUse.{NameUse}
-use Rattle.fb_library.specs.Tree.Mentions.{kind_of}
+use Rattle.fb_library.specs.Tree.Mentions.{unit_kind_of}
 use Rattle.fb_library.specs.Tree.Tree.{ConstantTree, DeclTree, EventTree, InstanceTree, TypeTree, VariablesTree, block_type, adapter_type, subapplication_type, system_configuration, one_value, value_list}
 use Rattle.fb_library.specs.Tree.declared.constant.Simple.{Simple}
 use Rattle.fb_library.specs.Tree.declared.interface.Side.{Side}
@@ -119,7 +119,7 @@ mixed_reported d s n = subst (λ (b : Bool). Contains (cond b (fault_at MixedKin
 
 data TypeOrigin (sources : Sources) (i : InstanceTree) (f : Fault) : Type 0 where
   unknown : tree_at sources i.type_name.name ≡ None → fault_at UnknownType i.type_name ≡ f → TypeOrigin sources i f
-  unsuited : (type : DeclTree) → tree_at sources i.type_name.name ≡ Some type → suits i.role (kind_of type) ≡ false → fault_at WrongKind i.type_name ≡ f → TypeOrigin sources i f
+  unsuited : (type : DeclTree) → tree_at sources i.type_name.name ≡ Some type → suits i.role (unit_kind_of type) ≡ false → fault_at WrongKind i.type_name ≡ f → TypeOrigin sources i f
 
 record InstanceOrigin (sources : Sources) (decl : DeclTree) (f : Fault) : Type 0 where
   instance : InstanceTree
@@ -129,7 +129,7 @@ record InstanceOrigin (sources : Sources) (decl : DeclTree) (f : Fault) : Type 0
 type_origin : (sources : Sources) (i : InstanceTree) (f : Fault) (t : Option DeclTree) → tree_at sources i.type_name.name ≡ t → Contains (type_fault i.role i.type_name t) f → TypeOrigin sources i f
 type_origin sources i f None e h = unknown e (contains_single (fault_at UnknownType i.type_name) f h)
 type_origin sources i f (Some type) e h =
-    let fails = in_unless (suits i.role (kind_of type)) (fault_at WrongKind i.type_name) f h in
+    let fails = in_unless (suits i.role (unit_kind_of type)) (fault_at WrongKind i.type_name) f h in
     unsuited type e fails.0 fails.1
 
 instance_origin : (sources : Sources) (decl : DeclTree) (f : Fault) → Contains (type_faults sources decl) f → InstanceOrigin sources decl f
@@ -514,7 +514,7 @@ wrong_kinds sources unit span = (to, from)
 
     from : HasWrongKind sources unit span → Contains (declaration_faults sources unit (tree_at sources unit)) it
     from h =
-        let one = unless (suits h.instance.role (kind_of h.type)) (fault_at WrongKind h.instance.type_name) h.unsuited in
+        let one = unless (suits h.instance.role (unit_kind_of h.type)) (fault_at WrongKind h.instance.type_name) h.unsuited in
         let is = placed WrongKind h.instance.type_name span h.place in
         declared_reported sources unit h.decl it h.declared (whole-types sources unit h.decl it (instance_reported sources h.decl h.instance (Some h.type) it h.among h.known (subst (λ (f : Fault). Contains (type_fault h.instance.role h.instance.type_name (Some h.type)) f) is one)))
 

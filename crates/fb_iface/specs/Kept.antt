@@ -3,7 +3,7 @@ use Rattle.std.specs.Prelude.{ℕ, List, Option, Some, None, cond, nat_eq, optio
 use Rattle.std.specs.Option.{option_or}
 use Rattle.std.specs.Cmp.Lexicographic.{pointwise}
 use Rattle.fb_library.specs.Tree.Tree.{DeclTree}
-use Rattle.fb_library.specs.Tree.Mentions.{kind_of}
+use Rattle.fb_library.specs.Tree.Mentions.{unit_kind_of}
 use Rattle.fb_library.specs.Tree.declared.network.Role.{Role}
 use Rattle.fb_iface.specs.Ports.{Meanings, meanings_in}
 use Rattle.indexmap.specs.IndexMap.{get}
@@ -13,7 +13,7 @@ use Rattle.fb_iface.specs.declared.scope.Scope as kept
 
 -- what is kept of a type
 abbrev pub kept_of : DeclTree → KeptType
-kept_of decl = record { kind = kind_of decl; ports = meanings_in decl }
+kept_of decl = record { kind = unit_kind_of decl; ports = meanings_in decl }
 
 -- the ports of a type that is kept, where the role wants its kind
 abbrev pub kept_ports : Role → Option KeptType → Option Meanings

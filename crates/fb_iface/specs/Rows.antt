@@ -2,7 +2,7 @@
 use Rattle.std.specs.Prelude.{◌≡◌, ◌≢◌, ℕ, ◌<◌, true, false, List, Some, None, Contains, slice_get, ◌↔◌}
 use Rattle.fb_text.specs.declared.token.Span.{Span}
 use Rattle.fb_text.specs.declared.name.NameUse.{NameUse}
-use Rattle.fb_library.specs.Tree.Mentions.{kind_of}
+use Rattle.fb_library.specs.Tree.Mentions.{unit_kind_of}
 use Rattle.fb_library.specs.Tree.Tree.{ConstantTree, DeclTree, EventTree, InstanceTree, TypeTree, VariablesTree, block_type, one_value, value_list}
 use Rattle.fb_library.specs.Tree.declared.constant.Simple.{Simple}
 use Rattle.fb_library.specs.Tree.declared.interface.TypeForm.TheVariants as forms
@@ -72,7 +72,7 @@ pub record HasWrongKind (sources : Sources) (unit : List ℕ) (span : Span) : Ty
   pub among : Contains (instances_of decl) instance
   pub type : DeclTree
   pub known : IsDeclaredAt sources instance.type_name.name type
-  pub unsuited : suits instance.role (kind_of type) ≡ false
+  pub unsuited : suits instance.role (unit_kind_of type) ≡ false
   pub place : span ≡ instance.type_name.span
 
 -- a name behind WITH that stands for no data input (behind an event input), no data output (behind an event output)

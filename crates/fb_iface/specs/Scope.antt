@@ -2,7 +2,7 @@
 use Rattle.std.specs.Prelude.{ℕ, List, map, Option, Some, None, if◌then◌else◌}
 use Rattle.std.specs.Option.{option_and_then}
 use Rattle.fb_library.specs.Tree.Tree.{DeclTree, InstanceTree, NetworkTree, TypeTree}
-use Rattle.fb_library.specs.Tree.Mentions.{kind_of}
+use Rattle.fb_library.specs.Tree.Mentions.{unit_kind_of}
 use Rattle.fb_library.specs.Tree.declared.kinds.UnitKind.{UnitKind}
 use Rattle.fb_library.specs.Tree.declared.network.Role.{Role}
 use Rattle.fb_library.specs.View.{Sources, tree_at}
@@ -18,7 +18,7 @@ ports_where role kind ports = if suits role kind then Some ports else None
 -- the ports of a type, where it is usable in this role: present, not broken, and of the kind that the section wants
 abbrev pub usable : Role → Option DeclTree → Option Meanings
 usable role None = None
-usable role (Some decl) = ports_where role (kind_of decl) (meanings_in decl)
+usable role (Some decl) = ports_where role (unit_kind_of decl) (meanings_in decl)
 
 -- the declaration of a type that one of these instances has
 abbrev pub mentioned_type : Sources → List InstanceTree → List ℕ → Option DeclTree

@@ -2,7 +2,7 @@
 use Rattle.std.specs.Prelude.{Bool, true, false, List, [], ◌∷◌, Option, Some, None, if◌then◌else◌}
 use Rattle.std.specs.List.{flat_map}
 use Rattle.fb_text.specs.declared.name.NameUse.{NameUse}
-use Rattle.fb_library.specs.Tree.Mentions.{kind_of}
+use Rattle.fb_library.specs.Tree.Mentions.{unit_kind_of}
 use Rattle.fb_library.specs.Tree.Tree.{DeclTree, InstanceTree, block_type, adapter_type, subapplication_type, system_configuration}
 use Rattle.fb_library.specs.Tree.declared.kinds.UnitKind.{UnitKind}
 use Rattle.fb_library.specs.Tree.declared.kinds.UnitKind.TheVariants as kinds
@@ -31,7 +31,7 @@ suits role kind = false
 -- the type of an instance, where this is declared under its name
 abbrev pub type_fault : Role → NameUse → Option DeclTree → List Fault
 type_fault role name None = fault_at UnknownType name ∷ []
-type_fault role name (Some decl) = if suits role (kind_of decl) then [] else fault_at WrongKind name ∷ []
+type_fault role name (Some decl) = if suits role (unit_kind_of decl) then [] else fault_at WrongKind name ∷ []
 
 abbrev pub instance_faults : Sources → InstanceTree → List Fault
 instance_faults sources i = type_fault i.role i.type_name (tree_at sources i.type_name.name)

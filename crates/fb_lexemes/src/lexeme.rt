@@ -2,7 +2,7 @@
 ghost use Rattle.std.specs.Prelude.{◌≡◌, ◌≤◌, ◌↔◌, ℕ, true, not, ◌==◌, List, length, map, All, IfOk, None};
 ghost use Rattle.std.specs.List.{prefix_len};
 ghost use Rattle.fb_text.specs.Bytes.{hash};
-ghost use Rattle.fb_text.specs.Tokens.{Gives, LiesIn, SpansRise};
+ghost use Rattle.fb_text.specs.Tokens.{GivesReading, LiesIn, SpansRise};
 ghost use Rattle.fb_text.specs.declared.token.TokenKind.{TokenKind};
 ghost use Rattle.fb_text.specs.declared.token.TokenKind.TheVariants.{Word};
 ghost use Rattle.fb_lexemes.specs.Kind.{is_among, name_kinds};
@@ -153,7 +153,7 @@ fn lexeme_of(text: &str, token: &Token) -> Lexeme
 /// The tokens of a text, as the grammar sees them.
 #[tactic(auto, unfolding(crate::specs::Lexemes::lexemes_of))]
 pub fn lexemes(alloc: Global, text: &str) -> Result<Vec<Lexeme>, TokenFault>
-    ensures exact { Gives result (lexemes_of text.now) }
+    ensures exact { GivesReading result (lexemes_of text.now) }
     ensures within { IfOk result (λ lexemes. All (λ l. LiesIn text.now l.span) lexemes.items) }
     ensures rise { IfOk result
         (λ lexemes. SpansRise 0 (length text.now) (map (λ l. l.span) lexemes.items)) }

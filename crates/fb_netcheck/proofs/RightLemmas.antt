@@ -8,7 +8,7 @@ use Rattle.std.proofs.lemmas.Grind.{flat_map-append}
 use Rattle.std.proofs.lemmas.List.Elements.{All-cons, All-map, All-nil}
 use Rattle.fb_text.proofs.OrderLemmas.{same_name}
 use Rattle.fb_text.specs.declared.name.NameUse.{NameUse}
-use Rattle.fb_iface.specs.Tree.Mentions.{kind_of}
+use Rattle.fb_iface.specs.Tree.Mentions.{unit_kind_of}
 use Rattle.fb_iface.specs.Tree.Tree.{ApplicationTree, DeclTree, InstanceTree, NetworkTree, block_type, adapter_type, subapplication_type, system_configuration}
 use Rattle.fb_iface.specs.Tree.declared.kinds.UnitKind.{UnitKind}
 use Rattle.fb_iface.specs.Tree.declared.kinds.UnitKind.TheVariants.{Block, Subapplication}
@@ -38,7 +38,7 @@ use Rattle.fb_netcheck.proofs.LocalLemmas.{Each, instance_stands}
 
 usable_some : (role : Role) (name : NameUse) (tree : Option DeclTree) → type_fault role name tree ≡ [] → is_some (usable role tree) ≡ true
 usable_some role name None e = absurd (let no : ⊥ = cc in no)
-usable_some role name (Some decl) e = by (suits role (kind_of decl)) _ e
+usable_some role name (Some decl) e = by (suits role (unit_kind_of decl)) _ e
   where
     by : (b : Bool) (fault : Fault) → cond b [] (fault ∷ []) ≡ [] → is_some (cond b (Some (meanings_in decl)) None) ≡ true
     by true fault e = refl

@@ -7,7 +7,7 @@ use Rattle.fb_forms.proofs.Shapes.{Closed, Shape}
 use Rattle.fb_sections.specs.Constants.{number, range, ranges, length_of_string, plain_type, array_type, type_use, simple, constant_list, constant}
 use Rattle.fb_sections.specs.Sections.{optional_name}
 use Rattle.fb_sections.specs.Interface.{with_names, event, events, initial, variables, data_variables, internal_variables}
-use Rattle.fb_sections.specs.Network.{parameter, listed_parameters, parameters, optional_parameters, instance, plugs, sockets, blocks, subapplication, subapplications, end, connection, connections}
+use Rattle.fb_sections.specs.Network.{parameter, listed_parameters, parameters, optional_parameters, instance, plugs, sockets, blocks, inner_subapplication, subapplications, end, connection, connections}
 use Rattle.fb_sections.specs.Chart.{sent_event, action, actions, state, states}
 use Rattle.fb_sections.specs.SystemParts.{path, mapping, mappings, optional_semicolon, header, resource, device}
 use Rattle.fb_sections.specs.Skipped.{all_kinds, others, skipped, service}
@@ -37,7 +37,7 @@ unfolding blocks instance optional_parameters parameters listed_parameters param
 closed_blocks = record { predictive = refl; filled = refl; first = refl; after = refl }
 
 pub closed_subapplications : Closed subapplications (Subapps ∷ [])
-unfolding subapplications subapplication name
+unfolding subapplications inner_subapplication name
 closed_subapplications = record { predictive = refl; filled = refl; first = refl; after = refl }
 
 pub shape_end : Shape end name_kinds (Point ∷ [])

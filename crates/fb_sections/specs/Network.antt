@@ -50,14 +50,14 @@ unfoldable pub blocks : Form (List InstanceTree)
 blocks = section Fbs (instance role.Block) EndFbs
 
 -- name ':' name ';'
-unfoldable pub subapplication : Form InstanceTree
-subapplication =
+unfoldable pub inner_subapplication : Form InstanceTree
+inner_subapplication =
     as_value (λ v. record { role = role.Subapplication; name = v.0; type_name = v.1; parameters = [] })
     (both name (behind (key Colon) (before name (key Semicolon))))
 
 -- 'SUBAPPS' {name ':' name ';'} 'END_SUBAPPS'
 unfoldable pub subapplications : Form (List InstanceTree)
-subapplications = section Subapps subapplication EndSubapps
+subapplications = section Subapps inner_subapplication EndSubapps
 
 -- name ['.' name]
 unfoldable pub end : Form End

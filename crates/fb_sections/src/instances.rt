@@ -2,7 +2,7 @@
 
 ghost use Rattle.fb_forms.specs.Gives.{GivesEach};
 ghost use Rattle.fb_forms.specs.Reading.{read};
-ghost use Rattle.fb_sections.specs.Network.{blocks, instance, listed_parameters, optional_parameters, parameter, parameters, plugs, sockets, subapplication, subapplications};
+ghost use Rattle.fb_sections.specs.Network.{blocks, instance, listed_parameters, optional_parameters, parameter, parameters, plugs, sockets, inner_subapplication, subapplications};
 ghost use Rattle.fb_forms.specs.Tree.Tree.{InstanceTree, ParameterTree, instance_tree, parameter_tree};
 ghost use Rattle.std.specs.Prelude.{◌≡◌, map};
 
@@ -164,9 +164,9 @@ impl Reader for SubapplicationReader {
 
     ghost view = { instance_tree };
 
-    ghost reads = { λ _. read subapplication };
+    ghost reads = { λ _. read inner_subapplication };
 
-    #[tactic(auto, unfolding(crate::specs::Network::subapplication))]
+    #[tactic(auto, unfolding(crate::specs::Network::inner_subapplication))]
     fn read<'a>(
         &self,
         alloc: Global,
@@ -187,7 +187,7 @@ impl Reader for SubapplicationReader {
 }
 
 /// A section of subapplication instances.
-#[tactic(auto, unfolding(crate::specs::Network::subapplications, crate::specs::Network::subapplication, fb_forms::specs::Words::name))]
+#[tactic(auto, unfolding(crate::specs::Network::subapplications, crate::specs::Network::inner_subapplication, fb_forms::specs::Words::name))]
 pub fn subapplications(
     alloc: Global,
     tokens: &[Lexeme],

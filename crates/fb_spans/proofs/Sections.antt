@@ -9,7 +9,7 @@ use Rattle.fb_parse.specs.Lexemes.declared.lexeme.Lexeme.{Lexeme}
 use Rattle.fb_parse.specs.Sections.Chart.{sent_event, action, actions, state, states}
 use Rattle.fb_parse.specs.Sections.Constants.{number, ranges, length_of_string, element_or_sized, plain_type, array_of, array_type, type_use, other_literal_kinds, simple, in_brackets, constant_list, constant}
 use Rattle.fb_parse.specs.Sections.Interface.{with_names, event, events, initial, variables, data_variables, internal_variables}
-use Rattle.fb_parse.specs.Sections.Network.{parameter, listed_parameters, parameters, optional_parameters, instance, plugs, sockets, blocks, subapplication, subapplications, end, connection, connections}
+use Rattle.fb_parse.specs.Sections.Network.{parameter, listed_parameters, parameters, optional_parameters, instance, plugs, sockets, blocks, inner_subapplication, subapplications, end, connection, connections}
 use Rattle.fb_parse.specs.Sections.SystemParts.{path, mapping, mappings, header, resource, device}
 use Rattle.fb_parse.specs.Tree.Tree.{ParameterTree, one_value}
 use Rattle.fb_parse.specs.Tree.declared.interface.Section.{Section}
@@ -170,8 +170,8 @@ pub sound_blocks : Sound blocks (flat_map instance_parts)
 unfolding blocks
 sound_blocks = sound_section _ _ _ instance_parts (sound_instance _)
 
-sound_subapplication : Sound subapplication instance_parts
-unfolding subapplication
+sound_subapplication : Sound inner_subapplication instance_parts
+unfolding inner_subapplication
 sound_subapplication =
     sound_as _ _ instance_parts (sound_both name _ name_parts name_parts sound_name (sound_behind _ _ _ (sound_before name _ name_parts sound_name)))
 

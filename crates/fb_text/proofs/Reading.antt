@@ -5,7 +5,7 @@ use Rattle.std.specs.Str.{IsCharBoundary}
 use Rattle.std.proofs.lemmas.List.{drop-drop, drop_all}
 use Rattle.std.proofs.lemmas.List.Elements.{All-nil, All-push}
 use Rattle.std.proofs.lemmas.Str.{IsCharBoundary-start, IsCharBoundary-from_rest}
-use Rattle.fb_text.specs.Tokens.{before, with_token, piece_at, tokens_from, tokens_of, IsFront, LiesIn, IsSpelled, SpansRise, spans_of}
+use Rattle.fb_text.specs.Tokens.{piece_before, with_token, piece_at, tokens_from, tokens_of, IsFront, LiesIn, IsSpelled, SpansRise, spans_of}
 use Rattle.fb_text.specs.Forms.{HasForm}
 use Rattle.fb_text.specs.Scan.{AreOpen, no_quotes}
 use Rattle.fb_text.proofs.OpenLines.{AreOpen-later, AreOpen-none}
@@ -40,9 +40,9 @@ inside (suc n) place b bs h =
     ∙ ap (λ m. tokens_from 0 (place + 1 + m) (drop m bs)) (let e : suc n - 1 ≡ n = omega arith in e)
     ∙ ap (λ m. tokens_from 0 m (drop n bs)) (let e : place + 1 + n ≡ place + suc n = omega arith in e)
 
-step : (place b : ℕ) (bs : List ℕ) (piece : Piece) → piece_at (b ∷ bs) ≡ piece → tokens_from 0 place (b ∷ bs) ≡ before place (place + length (b ∷ bs)) piece (λ n. tokens_from (n - 1) (place + 1) bs)
+step : (place b : ℕ) (bs : List ℕ) (piece : Piece) → piece_at (b ∷ bs) ≡ piece → tokens_from 0 place (b ∷ bs) ≡ piece_before place (place + length (b ∷ bs)) piece (λ n. tokens_from (n - 1) (place + 1) bs)
 unfolding tokens_from
-step place b bs piece e = ap (λ p. before place (place + length (b ∷ bs)) p (λ n. tokens_from (n - 1) (place + 1) bs)) e
+step place b bs piece e = ap (λ p. piece_before place (place + length (b ∷ bs)) p (λ n. tokens_from (n - 1) (place + 1) bs)) e
 
 pub gap-step : (place : ℕ) (rest : List ℕ) (n : ℕ) → 0 < length rest → 0 < n → piece_at rest ≡ Gap n → tokens_from 0 place rest ≡ tokens_from 0 (place + n) (drop n rest)
 gap-step place [] n pos some e = absurd (omega arith)

@@ -75,27 +75,27 @@ abbrev pub with_token : Token → Result (List Token) Span → Result (List Toke
 with_token token reading = elim reading [ Ok tokens ↦ Ok (token ∷ tokens) | Err bad ↦ Err bad ]
 
 -- the piece at a place before the reading of what follows it
-abbrev pub before : ℕ → ℕ → Piece → (ℕ → Result (List Token) Span) → Result (List Token) Span
-before place end (Gap n) following = following n
-before place end Unclosed following = Err (record { start = place; end = end })
-before place end (Found kind n) following = with_token (record { kind = kind; span = record { start = place; end = place + n } }) (following n)
+abbrev pub piece_before : ℕ → ℕ → Piece → (ℕ → Result (List Token) Span) → Result (List Token) Span
+piece_before place end (Gap n) following = following n
+piece_before place end Unclosed following = Err (record { start = place; end = end })
+piece_before place end (Found kind n) following = with_token (record { kind = kind; span = record { start = place; end = place + n } }) (following n)
 
 -- The tokens from a place on, where the next `inside` bytes belong to the piece before it, or the span of a
 -- comment that is never closed.
 unfoldable pub tokens_from : ℕ → ℕ → List ℕ → Result (List Token) Span
 tokens_from inside place [] = Ok []
 tokens_from (suc inside) place (b ∷ bs) = tokens_from inside (place + 1) bs
-tokens_from zero place (b ∷ bs) = before place (place + length (b ∷ bs)) (piece_at (b ∷ bs)) (λ n. tokens_from (n - 1) (place + 1) bs)
+tokens_from zero place (b ∷ bs) = piece_before place (place + length (b ∷ bs)) (piece_at (b ∷ bs)) (λ n. tokens_from (n - 1) (place + 1) bs)
 
 -- the tokens of a text
 unfoldable pub tokens_of : List ℕ → Result (List Token) Span
 tokens_of text = tokens_from 0 0 text
 
 -- What a call returned is the reading of a text. Where memory ran out, the reading would have been without fault.
-abbrev pub Gives : {A : Type 0} → Result (Vec A Global) TokenFault → Result (List A) Span → Type 0
-Gives (Ok items) reading = reading ≡ Ok items.items
-Gives (Err (BadToken bad)) reading = reading ≡ Err bad
-Gives (Err Memory) reading = IsOk reading
+abbrev pub GivesReading : {A : Type 0} → Result (Vec A Global) TokenFault → Result (List A) Span → Type 0
+GivesReading (Ok items) reading = reading ≡ Ok items.items
+GivesReading (Err (BadToken bad)) reading = reading ≡ Err bad
+GivesReading (Err Memory) reading = IsOk reading
 
 -- the span is a part of the text that begins and ends between characters
 pub record LiesIn (text : List ℕ) (span : Span) : Type 0 where

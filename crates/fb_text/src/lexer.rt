@@ -1,6 +1,6 @@
 //! The tokens of a text.
 ghost use Rattle.std.specs.Prelude.{◌≡◌, ◌≢◌, ℕ, List, Result, length, IfOk, All};
-ghost use Rattle.fb_text.specs.Tokens.{tokens_of, token_at, Gives, IsLongest, IsSpelled, LiesIn, SpansRise, spans_of};
+ghost use Rattle.fb_text.specs.Tokens.{tokens_of, token_at, GivesReading, IsLongest, IsSpelled, LiesIn, SpansRise, spans_of};
 ghost use Rattle.fb_text.specs.Reads.{Reads};
 ghost use Rattle.fb_text.specs.declared.token.Span.{Span};
 ghost use Rattle.fb_text.specs.declared.token.Token.{Token};
@@ -15,7 +15,7 @@ use std::alloc::Global;
 
 /// The tokens of a text, in order. Blanks and comments are none.
 pub fn tokens(alloc: Global, text: &str) -> Result<Vec<Token>, TokenFault>
-    ensures exact { Gives result (tokens_of text.now) }
+    ensures exact { GivesReading result (tokens_of text.now) }
     ensures within { IfOk result (λ tokens. All (λ t. LiesIn text.now t.span) tokens.items) }
     ensures spelled { IfOk result (λ tokens. All (IsSpelled text.now) tokens.items) }
     ensures rise { IfOk result (λ tokens. SpansRise 0 (length text.now) (spans_of tokens.items)) }

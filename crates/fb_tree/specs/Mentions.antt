@@ -6,11 +6,11 @@ use Rattle.fb_tree.specs.Tree.{DeclTree, block_type, adapter_type, subapplicatio
 use Rattle.fb_tree.specs.declared.kinds.UnitKind.{UnitKind}
 use Rattle.fb_tree.specs.declared.kinds.UnitKind.TheVariants.{Block, Adapter, Subapplication, System}
 
-abbrev pub kind_of : DeclTree → UnitKind
-kind_of (block_type d) = Block
-kind_of (adapter_type d) = Adapter
-kind_of (subapplication_type d) = Subapplication
-kind_of (system_configuration s) = System
+abbrev pub unit_kind_of : DeclTree → UnitKind
+unit_kind_of (block_type d) = Block
+unit_kind_of (adapter_type d) = Adapter
+unit_kind_of (subapplication_type d) = Subapplication
+unit_kind_of (system_configuration s) = System
 
 -- the type name of each instance
 abbrev pub types_in : List InstanceTree → List (List ℕ)

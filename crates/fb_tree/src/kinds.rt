@@ -1,6 +1,6 @@
 //! The kinds of units.
 
-ghost use Rattle.fb_tree.specs.Mentions.{kind_of};
+ghost use Rattle.fb_tree.specs.Mentions.{unit_kind_of};
 ghost use Rattle.fb_tree.specs.Tree.{decl_tree};
 ghost use Rattle.std.specs.Prelude.{◌≡◌};
 
@@ -17,7 +17,7 @@ pub enum UnitKind {
 
 /// The kind of a declaration.
 pub fn kind(decl: &Decl) -> UnitKind
-    ensures { result ≡ kind_of (decl_tree decl.now) }
+    ensures { result ≡ unit_kind_of (decl_tree decl.now) }
 {
     match decl {
         Decl::Block(_) => UnitKind::Block,

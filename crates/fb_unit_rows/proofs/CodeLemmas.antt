@@ -8,7 +8,7 @@ use Rattle.fb_faults.specs.Tree.Tree.{ChartTree, DeclTree, InstanceTree, Interfa
 use Rattle.fb_faults.specs.Tree.declared.interface.Side.{Side}
 use Rattle.fb_faults.specs.Tree.declared.interface.Side.TheVariants.{Input, Output}
 use Rattle.fb_faults.specs.Tree.declared.network.End.{End}
-use Rattle.fb_faults.specs.Tree.Mentions.{kind_of}
+use Rattle.fb_faults.specs.Tree.Mentions.{unit_kind_of}
 use Rattle.fb_faults.specs.Library.View.{Sources, tree_at}
 use Rattle.fb_faults.specs.Iface.Declarations.{declaration_faults, declared_name, duplicate_faults, literal_faults_of, mixed_faults, name_faults, space_duplicates, with_faults_of}
 use Rattle.fb_faults.specs.Iface.Fault.{fault_at}
@@ -67,7 +67,7 @@ mixed_code (system_configuration s) f c = absurd (contains_nothing f c)
 type_code : (i : InstanceTree) (type : Option DeclTree) (f : Fault) → Contains (type_fault i.role i.type_name type) f → IsCodeOf Declarations f.code
 type_code i None f c = coded Declarations (fault_at UnknownType i.type_name) f (contains_single (fault_at UnknownType i.type_name) f c) unknown_type
 type_code i (Some decl) f c =
-    let is = in_unless (suits i.role (kind_of decl)) (fault_at WrongKind i.type_name) f c in
+    let is = in_unless (suits i.role (unit_kind_of decl)) (fault_at WrongKind i.type_name) f c in
     coded Declarations (fault_at WrongKind i.type_name) f is.1 wrong_kind
 
 types_code : (sources : Sources) (decl : DeclTree) (f : Fault) → Contains (type_faults sources decl) f → IsCodeOf Declarations f.code

@@ -9,7 +9,7 @@ use Rattle.fb_faults.specs.Lexemes.declared.kind.Kind.TheVariants as kinds
 use Rattle.fb_faults.specs.Lexemes.declared.lexeme.Lexeme.{Lexeme}
 use Rattle.fb_faults.specs.Forms.Form.{Form, Spells, both, either, many, as_value}
 use Rattle.fb_faults.specs.Forms.Words.{before, behind, key, name}
-use Rattle.fb_faults.specs.Sections.Network.{blocks, connections, instance, subapplication, subapplications}
+use Rattle.fb_faults.specs.Sections.Network.{blocks, connections, instance, inner_subapplication, subapplications}
 use Rattle.fb_faults.specs.Sections.Sections.{section}
 use Rattle.fb_faults.specs.Sections.SystemParts.{device, mappings}
 use Rattle.fb_faults.specs.Tree.Tree.{ApplicationTree, DeclTree, DeviceTree, InstanceTree, MappingTree, SystemTree, block_type, adapter_type, subapplication_type, system_configuration}
@@ -76,13 +76,13 @@ gives_blocks : GivesOnly blocks (Each IsInnerInstance)
 unfolding blocks
 gives_blocks = gives_section kinds.Fbs kinds.EndFbs (instance roles.Block) IsInnerInstance gives_block
 
-gives_subapplication : GivesOnly subapplication IsInnerInstance
-unfolding subapplication
+gives_subapplication : GivesOnly inner_subapplication IsInnerInstance
+unfolding inner_subapplication
 gives_subapplication tokens value s = ap (λ (i : InstanceTree). is_inner i.role) s.2
 
 gives_subapplications : GivesOnly subapplications (Each IsInnerInstance)
 unfolding subapplications
-gives_subapplications = gives_section kinds.Subapps kinds.EndSubapps subapplication IsInnerInstance gives_subapplication
+gives_subapplications = gives_section kinds.Subapps kinds.EndSubapps inner_subapplication IsInnerInstance gives_subapplication
 
 abbrev InContents : ContentsTree → Type 0
 InContents c = Each IsInnerInstance c.network.instances

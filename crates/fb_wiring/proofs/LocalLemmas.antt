@@ -1,7 +1,7 @@
 -- What is said under a name depends on the text under it alone.
 use Rattle.std.proofs.Common.{option_map, ap}
 use Rattle.std.specs.Option.{option_and_then}
-use Rattle.fb_faults.specs.Tree.Mentions.{kind_of}
+use Rattle.fb_faults.specs.Tree.Mentions.{unit_kind_of}
 use Rattle.fb_faults.specs.Library.View.{tree_of}
 use Rattle.fb_wiring.specs.Applications.{applications_of}
 use Rattle.fb_wiring.specs.Local.{NetworksAreLocal}
@@ -13,5 +13,5 @@ networks_local a b name same =
     record {
       network = ap (option_map network_of) tree;
       applications = ap (option_map applications_of) tree;
-      kind = ap (option_map kind_of) tree;
+      kind = ap (option_map unit_kind_of) tree;
     }

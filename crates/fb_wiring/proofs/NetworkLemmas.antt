@@ -4,7 +4,7 @@ use Rattle.std.proofs.lemmas.List.Elements.{All-contains}
 use Rattle.std.specs.List.{All, Contains, cons_option, filter_map}
 use Rattle.std.specs.Option.{option_and_then}
 use Rattle.fb_text.specs.declared.name.NameUse.{NameUse}
-use Rattle.fb_faults.specs.Tree.Mentions.{kind_of}
+use Rattle.fb_faults.specs.Tree.Mentions.{unit_kind_of}
 use Rattle.fb_faults.specs.Tree.Tree.{DeclTree, InstanceTree, NetworkTree}
 use Rattle.fb_faults.specs.Tree.declared.interface.Side.{Side}
 use Rattle.fb_faults.specs.Tree.declared.interface.Side.TheVariants.{Input, Output}
@@ -126,11 +126,11 @@ made_in_role roles.Subapplication name type_name i e =
 record HasType (sources : Sources) (role : Role) (name : List ℕ) : Type 0 where
   type : DeclTree
   there : tree_at sources name ≡ Some type
-  suited : suits role (kind_of type) ≡ true
+  suited : suits role (unit_kind_of type) ≡ true
 
 has_type : (sources : Sources) (role : Role) (name : NameUse) (tree : Option DeclTree) → tree_at sources name.name ≡ tree → type_fault role name tree ≡ [] → HasType sources role name.name
 has_type sources role name None is e = absurd (let no : ⊥ = cc in no)
-has_type sources role name (Some type) is e = record { type = type; there = is; suited = by (suits role (kind_of type)) _ e }
+has_type sources role name (Some type) is e = record { type = type; there = is; suited = by (suits role (unit_kind_of type)) _ e }
   where
     by : (b : Bool) (fault : Fault) → cond b [] (fault ∷ []) ≡ [] → b ≡ true
     by true fault e = refl
@@ -266,13 +266,13 @@ module _ (sources : Sources) (here : NetworkPlace) (n : NetworkTree) (ports : Li
       let o = origin_in_filter_map plain_instance n.instances i c in
       let m = made_in_role o.origin.role o.origin.name.name o.origin.type_name.name i o.gives in
       let t = type_there none o.origin o.among in
-      ap (kind_at sources) (sym m.typed) ∙ ap (option_map kind_of) t.there ∙ ap Some (m.kind (kind_of t.type) t.suited)
+      ap (kind_at sources) (sym m.typed) ∙ ap (option_map unit_kind_of) t.there ∙ ap Some (m.kind (unit_kind_of t.type) t.suited)
 
   -- a port of an instance, by the declaration of its type
   meets_type : (position : Position) (sort : Sort) (instance port : List ℕ) (role : Role) (decl : Option DeclTree) (mentioned : Bool) → type_of view network instance ≡ option_map network_of decl → is_right position (target_in holders.OfInstance sort (usable role (cond mentioned decl None)) port) ≡ true → Meets view network sort (target_in holders.OfInstance sort (usable role (cond mentioned decl None)) port) (Of instance port)
   meets_type position sort instance port role decl false type e = absurd (true≢false (sym e))
   meets_type position sort instance port role None true type e = absurd (true≢false (sym e))
-  meets_type position sort instance port role (Some decl) true type e = by (suits role (kind_of decl)) e
+  meets_type position sort instance port role (Some decl) true type e = by (suits role (unit_kind_of decl)) e
     where
       by : (b : Bool) → is_right position (target_in holders.OfInstance sort (cond b (Some (meanings_in decl)) None) port) ≡ true → Meets view network sort (target_in holders.OfInstance sort (cond b (Some (meanings_in decl)) None) port) (Of instance port)
       by false e = absurd (true≢false (sym e))

@@ -1,6 +1,6 @@
 -- Networks, applications and kinds by name.
 use Rattle.std.specs.Prelude.{ℕ, List, Option, option_map}
-use Rattle.fb_faults.specs.Tree.Mentions.{kind_of}
+use Rattle.fb_faults.specs.Tree.Mentions.{unit_kind_of}
 use Rattle.fb_faults.specs.Tree.declared.kinds.UnitKind.{UnitKind}
 use Rattle.fb_faults.specs.Library.View.{Sources, tree_at}
 use Rattle.fb_network.specs.Plain.{PlainNetwork}
@@ -16,4 +16,4 @@ abbrev pub applications_at : Sources → List ℕ → Option (List Application)
 applications_at sources unit = option_map applications_of (tree_at sources unit)
 
 abbrev pub kind_at : Sources → List ℕ → Option UnitKind
-kind_at sources unit = option_map kind_of (tree_at sources unit)
+kind_at sources unit = option_map unit_kind_of (tree_at sources unit)
