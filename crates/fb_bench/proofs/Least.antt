@@ -6,6 +6,7 @@ use Rattle.std.specs.Ordering.{is_eq, is_lt, is_gt, ordering_reverse}
 use Rattle.std.specs.declared.cmp.Ordering.{Ordering}
 use Rattle.std.specs.declared.cmp.Ordering.TheVariants.{Less, Equal, Greater}
 use Rattle.std.specs.Option.{option_map}
+use Rattle.std.proofs.lemmas.Bool.{or_left, or_right}
 use Rattle.fb_jobs.specs.Library.Texts.{Texts, held, names_of, text_in}
 use Rattle.fb_text.specs.Order.{name_cmp}
 use Rattle.fb_jobs.specs.Reads.{is_among}
@@ -18,13 +19,6 @@ use Rattle.fb_jobs.proofs.KindLemmas.{in_all_keys, no_kind}
 use Rattle.fb_bench.proofs.Order.{key_total, keys_equal}
 
 -- ---- the keys of texts
-
-or_left : (a b : Bool) → a ≡ true → (a || b) ≡ true
-or_left a b e = ap (λ x. x || b) e
-
-or_right : (a b : Bool) → b ≡ true → (a || b) ≡ true
-or_right true b e = refl
-or_right false b e = e
 
 held_named : (T : Texts) (name : List ℕ) (b : Bool) → is_among name (names_of T) ≡ b → b ≡ false → held T name ≡ None
 held_named [] name b is none = refl

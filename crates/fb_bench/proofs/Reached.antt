@@ -3,10 +3,11 @@ use Rattle.std.proofs.Common.{◌≡◌, ◌↔◌, ℕ, Bool, true, false, List
 use Rattle.std.proofs.lemmas.Bool.{false≢true}
 use Rattle.std.specs.List.{Contains, list_any}
 use Rattle.std.specs.BTreeMap.{is_at}
+use Rattle.fb_text.proofs.Tests.{by_bool, or_cases}
 use Rattle.fb_text.specs.Order.{name_cmp}
 use Rattle.fb_index.specs.Near.{Users, is_near, Reaches, near, through, ReachesSome}
 use Rattle.fb_index.proofs.Lookups.{flips}
-use Rattle.fb_index.proofs.Table.SeenLemmas.{by_bool, or_left, or_right, or_cases, same_is, same_self, Contains-has, has-Contains}
+use Rattle.fb_index.proofs.Table.SeenLemmas.{or_left, or_right, same_is, same_self, Contains-has, has-Contains}
 use Rattle.fb_jobs.proofs.FarNames.{far_is_all}
 use Rattle.fb_jobs.specs.Flatten.Far.{far_of}
 use Rattle.fb_jobs.specs.Library.Texts.{Texts, sources_of, text_at}

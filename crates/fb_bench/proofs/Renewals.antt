@@ -2,6 +2,7 @@
 use Rattle.std.proofs.Common.{◌≡◌, ◌↔◌, ℕ, Bool, true, false, ◌||◌, ◌&&◌, not, List, map, filter, refl, sym, ap, ◌∙◌, subst, Option, Some, None, cond, is_none}
 use Rattle.std.specs.BTreeMap as tree
 use Rattle.std.specs.BTreeSet as set
+use Rattle.fb_text.proofs.Tests.{or_true, and_false}
 use Rattle.fb_jobs.specs.Library.Texts.{Texts, Edit, unit_of, all_edited, text_in}
 use Rattle.std.specs.Option.{option_map}
 use Rattle.fb_jobs.specs.declared.key.Key.{Key}
@@ -22,14 +23,6 @@ use Rattle.fb_bench.specs.Indexed.{IsIndexOf, IsReached}
 use Rattle.fb_jobs.proofs.KindLemmas.{in_all_keys}
 use Rattle.fb_bench.proofs.Renewing.{of_filtered, held_all_edited, agree_unreached, ScratchLocal, blank_fits, kept_fits, gone_fits}
 use Rattle.fb_bench.proofs.Reached.{reached_by}
-
-or_true : (b : Bool) → (b || true) ≡ true
-or_true true = refl
-or_true false = refl
-
-and_false : (b : Bool) → (b && false) ≡ false
-and_false true = refl
-and_false false = refl
 
 -- ---- a key of no changed unit
 

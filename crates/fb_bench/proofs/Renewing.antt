@@ -7,6 +7,7 @@ use Rattle.std.specs.Ordering.{match_ordering}
 use Rattle.std.specs.declared.sync.Arc.{Arc}
 use Rattle.std.specs.declared.alloc.Global.{Global}
 use Rattle.std.specs.declared.cmp.Ordering.TheVariants.{Less, Equal, Greater}
+use Rattle.fb_text.proofs.Tests.{or_true, or_false, and_false, and_true}
 use Rattle.fb_jobs.proofs.Library.Names.{exact_name, name_total}
 use Rattle.std.proofs.lemmas.List.Folds.{list_any-append}
 use Rattle.std.proofs.lemmas.Cmp.{eq_by_cmp_equiv}
@@ -77,22 +78,6 @@ pub agree_unreached : (commit : ℕ) (es : List Edit) (T : Texts) (k : Key) → 
 agree_unreached commit es T k unreached n among = ap (option_map text_in) (held_all_edited n commit es T (not_met n (map unit_of es) (needs (all_edited commit es T) k) unreached among))
 
 -- ---- booleans
-
-or_true : (b : Bool) → (b || true) ≡ true
-or_true true = refl
-or_true false = refl
-
-or_false : (b : Bool) → (b || false) ≡ b
-or_false true = refl
-or_false false = refl
-
-and_false : (b : Bool) → (b && false) ≡ false
-and_false true = refl
-and_false false = refl
-
-and_true : (b : Bool) → (b && true) ≡ b
-and_true true = refl
-and_true false = refl
 
 -- ---- keys among keys
 

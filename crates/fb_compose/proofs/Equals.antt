@@ -7,7 +7,7 @@ use Rattle.std.specs.Cmp.{tied_itself}
 use Rattle.std.specs.Cmp.Lexicographic.{nat_list_cmp_total}
 use Rattle.std.specs.FinMap.{nat_cmp-IsAntisymmetric, slice_cmp-IsAntisymmetric}
 use Rattle.std.specs.BTreeMap.{is_at}
-use Rattle.fb_text.proofs.OrderLemmas.{is_equal}
+use Rattle.fb_text.proofs.OrderLemmas.{is_equal, both_equal}
 use Rattle.fb_text.specs.Order.{name_cmp}
 use Rattle.fb_network.specs.Tree.declared.network.Sort.{Sort}
 use Rattle.fb_network.specs.Tree.declared.network.Sort.TheVariants.{Event, Data, Adapter}
@@ -73,11 +73,6 @@ same_links k p q = λ i. record { sort = k i; from = p i; to = q i }
 
 pub same_borders : {a b c d : List ℕ} {sort sort' : Sort} → sort ≡ sort' → a ≡ b → c ≡ d → (let l : Border = record { sort = sort; port = a; place = c } in l) ≡ record { sort = sort'; port = b; place = d }
 same_borders k p q = λ i. record { sort = k i; port = p i; place = q i }
-
-both_equal : (r s : Ordering) → ordering_then r s ≡ Equal → (r ≡ Equal) × (s ≡ Equal)
-both_equal Less s e = absurd (let no : ⊥ = cc in no)
-both_equal Equal s e = (refl, e)
-both_equal Greater s e = absurd (let no : ⊥ = cc in no)
 
 -- links that compare equal are one
 pub exact_link : (a b : Link) → eq_by_cmp link_cmp a b ≡ true → a ≡ b

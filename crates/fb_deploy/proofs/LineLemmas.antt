@@ -4,15 +4,10 @@ use Rattle.std.specs.declared.cmp.Ordering.{Ordering}
 use Rattle.std.specs.declared.cmp.Ordering.TheVariants.{Less, Equal, Greater}
 use Rattle.std.specs.FinMap.{IsAntisymmetric, nat_cmp-IsAntisymmetric, slice_cmp-IsAntisymmetric}
 use Rattle.std.specs.Ordering.{eq_by_cmp, ordering_then}
-use Rattle.fb_text.proofs.OrderLemmas.{is_equal}
+use Rattle.fb_text.proofs.OrderLemmas.{is_equal, both_equal}
 use Rattle.fb_text.specs.Order.{name_cmp}
 use Rattle.fb_deploy.specs.Lines.{line_cmp}
 use Rattle.fb_deploy.specs.declared.lines.Line.{Line}
-
-both_equal : (r s : Ordering) → ordering_then r s ≡ Equal → (r ≡ Equal) × (s ≡ Equal)
-both_equal Less s e = absurd (let no : ⊥ = cc in no)
-both_equal Equal s e = (refl, e)
-both_equal Greater s e = absurd (let no : ⊥ = cc in no)
 
 exact_text : (x y : List ℕ) → name_cmp x y ≡ Equal → x ≡ y
 exact_text x y e = slice_cmp-IsAntisymmetric nat_cmp-IsAntisymmetric x y e

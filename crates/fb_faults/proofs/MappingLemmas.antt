@@ -6,6 +6,7 @@ use Rattle.std.specs.Cmp.Lexicographic.{pointwise}
 use Rattle.std.specs.Option.{option_map_or}
 use Rattle.std.specs.Cmp.{tied_then}
 use Rattle.std.proofs.Math.Bool.{or-false}
+use Rattle.fb_text.proofs.Tests.{not_true, not_false}
 use Rattle.fb_text.specs.Order.{name_cmp}
 use Rattle.fb_text.specs.declared.name.NameUse.{NameUse}
 use Rattle.fb_text.proofs.OrderLemmas.{same_name}
@@ -13,14 +14,6 @@ use Rattle.fb_netcheck.specs.Iface.Names.{has_name, is_same, stands_for}
 use Rattle.fb_netcheck.proofs.Iface.RepeatLemmas.{true_or}
 use Rattle.fb_netcheck.proofs.Iface.TableLemmas.{is_it, known-new, known-old, none}
 use Rattle.fb_faults.specs.Pairs.{pair_cmp}
-
-pub not_true : (b : Bool) → not b ≡ true → b ≡ false
-not_true true e = sym e
-not_true false e = refl
-
-pub not_false : (b : Bool) → not b ≡ false → b ≡ true
-not_false true e = refl
-not_false false e = sym e
 
 one_more : (old device names name : Bool) → ((old || (device && names)) || (device && name)) ≡ (old || (device && (names || name)))
 one_more true device names name = refl

@@ -1,11 +1,12 @@
 -- What rests on no recursive type rests on inner types through fewer depths than there are names.
 use Rattle.std.proofs.Common.{◌≡◌, ℕ, zero, suc, ◌≤◌, Bool, true, false, ◌||◌, List, [], ◌∷◌, length, refl, sym, ap, subst, ◌∙◌, arith}
-use Rattle.std.proofs.lemmas.Bool.{false≢true}
+use Rattle.std.proofs.lemmas.Bool.{false≢true, or_right}
 use Rattle.std.proofs.lemmas.Map.Views.{tells_apart}
 use Rattle.std.specs.Prelude.{Contains, ◌↔◌}
 use Rattle.std.specs.List.{list_any}
 use Rattle.std.specs.Ordering.{eq_by_cmp}
 use Rattle.std.specs.FinMap.{slice_cmp-IsAntisymmetric, nat_cmp-IsAntisymmetric}
+use Rattle.fb_text.proofs.Tests.{by_bool, or_cases}
 use Rattle.fb_text.specs.Order.{name_cmp}
 use Rattle.fb_wiring.specs.Library.View.{Sources, mentions_at}
 use Rattle.fb_wiring.specs.Library.Rests.{Rests, itself, through}
@@ -23,18 +24,6 @@ pub data Deep (sources : Sources) : ℕ → List ℕ → Type 0 where
   deep :
       {depth : ℕ} {name : List ℕ} → ((w : List ℕ) → Contains (mentions_at sources name) w → Deep sources depth w)
       → Deep sources (suc depth) name
-
-pub by_bool : {P : Type 0} (b : Bool) → (b ≡ true → P) → (b ≡ false → P) → P
-by_bool true t f = t refl
-by_bool false t f = f refl
-
-pub or_cases : {P : Type 0} (a b : Bool) → (a || b) ≡ true → (a ≡ true → P) → (b ≡ true → P) → P
-or_cases true b e l r = l refl
-or_cases false b e l r = r e
-
-pub or_right : (a b : Bool) → b ≡ true → (a || b) ≡ true
-or_right true b e = refl
-or_right false b e = e
 
 pub same_is : (x y : List ℕ) → eq_by_cmp name_cmp x y ≡ true → x ≡ y
 same_is x y = tells_apart (slice_cmp-IsAntisymmetric nat_cmp-IsAntisymmetric) x y

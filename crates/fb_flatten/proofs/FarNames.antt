@@ -1,6 +1,6 @@
 -- Opening names again and again finds all that a unit rests on.
 use Rattle.std.proofs.Common.{◌≡◌, ℕ, zero, suc, ◌+◌, ◌<◌, ◌≤◌, Bool, true, false, cond, if◌then◌else◌, ◌||◌, List, [], ◌∷◌, ◌++◌, length, ◌⊎◌, inl, inr, Some, refl, sym, ap, subst, ◌∙◌, arith}
-use Rattle.std.proofs.lemmas.Bool.{false≢true}
+use Rattle.std.proofs.lemmas.Bool.{false≢true, or_right, or_left}
 use Rattle.std.proofs.lemmas.List.Elements.{Contains-append_left, Contains-append_right, Contains-append_cases}
 use Rattle.std.specs.List.{Contains, flat_map}
 use Rattle.std.specs.List.Sorted.{IsStrictlySortedBy}
@@ -9,6 +9,7 @@ use Rattle.std.specs.Ordering.{eq_by_cmp}
 use Rattle.std.specs.Cmp.Lexicographic.{nat_list_cmp_total}
 use Rattle.std.specs.FinMap.{entries, get-entries, find, slice_cmp-IsAntisymmetric, nat_cmp-IsAntisymmetric}
 use Rattle.std.proofs.lemmas.Map.Views.{tells_apart}
+use Rattle.fb_text.proofs.Tests.{by_bool, no_both}
 use Rattle.fb_text.specs.Order.{name_cmp}
 use Rattle.fb_text.proofs.OrderLemmas.{in_order-members, in_order-sorted}
 use Rattle.fb_wiring.specs.Library.View.{Sources, tree_of, mentions_at, mentions_in}
@@ -19,20 +20,6 @@ use Rattle.fb_wiring.specs.Library.Seen.{has_name, unseen}
 use Rattle.fb_wiring.proofs.Library.WalkLemmas.{Contains-has, has-Contains}
 use Rattle.fb_text.proofs.Members.{contains_flat_map, origin_in_flat_map, contains_here, contains_single}
 use Rattle.fb_flatten.specs.Far.{mentioned_in, all_mentioned, opened, opened_times, far_of, FarIsAll, FarOfIsLocal}
-
-by_bool : {P : Type 0} (b : Bool) → (b ≡ true → P) → (b ≡ false → P) → P
-by_bool true t f = t refl
-by_bool false t f = f refl
-
-or_right : (a b : Bool) → b ≡ true → (a || b) ≡ true
-or_right true b e = refl
-or_right false b e = e
-
-or_left : (a b : Bool) → a ≡ true → (a || b) ≡ true
-or_left a b e = ap (λ x. x || b) e
-
-no_both : {P : Type 0} (b : Bool) → b ≡ true → b ≡ false → P
-no_both b t f = absurd (false≢true (sym f ∙ t))
 
 -- ---- counting what was not seen
 

@@ -5,6 +5,7 @@ use Rattle.std.proofs.lemmas.List.Elements.{Contains-push_cases}
 use Rattle.std.specs.Prelude.{Contains, ◌≢◌, is_none, option_map}
 use Rattle.std.specs.Option.{option_or}
 use Rattle.std.specs.BTreeMap.{is_at}
+use Rattle.fb_text.proofs.Tests.{by_bool}
 use Rattle.fb_text.specs.Order.{name_cmp}
 use Rattle.fb_wiring.specs.Tree.Mentions.{unit_kind_of}
 use Rattle.fb_wiring.specs.Tree.Tree.{DeclTree, block_type, adapter_type, subapplication_type, system_configuration}
@@ -32,7 +33,6 @@ use Rattle.fb_flatten.specs.Tables.{AllFinished, AreComposedTogether, IsAdded, I
 use Rattle.fb_flatten.specs.Units.{HasNet, IsUnitFlat, OfSubapplication, OfSystem, own_instances}
 use Rattle.fb_flatten.proofs.ComposeLemmas.{application_composable, type_composable}
 use Rattle.fb_flatten.proofs.CountLemmas.{inner_kind, inner_small, own_kind}
-use Rattle.fb_flatten.proofs.Depths.{by_bool}
 use Rattle.fb_flatten.proofs.HintLemmas.{kept_finished, no_flat, none_of}
 use Rattle.fb_flatten.proofs.KindLemmas.{subapplication_told}
 use Rattle.fb_flatten.proofs.MentionLemmas.{declared_within, own_within}

@@ -1,11 +1,12 @@
 -- What is left to look at where nets are kept.
 use Rattle.std.proofs.Common.{ℕ, ◌≡◌, ◌<◌, Bool, true, false, cond, ◌||◌, List, [], Option, Some, None, refl, sym, ◌∙◌, ap, subst, take, get_or, length}
-use Rattle.std.proofs.lemmas.Bool.{false≢true}
+use Rattle.std.proofs.lemmas.Bool.{false≢true, or_right}
 use Rattle.std.proofs.lemmas.List.{get_or_default}
 use Rattle.std.specs.Prelude.{Contains, ◌↔◌, is_none}
 use Rattle.std.specs.BTreeMap.{is_at}
 use Rattle.std.specs.Option.{option_and_then}
 use Rattle.std.specs.FinMap.{get, get-retain_keys, slice_cmp-IsAntisymmetric, nat_cmp-IsAntisymmetric}
+use Rattle.fb_text.proofs.Tests.{by_bool}
 use Rattle.fb_text.specs.Order.{name_cmp}
 use Rattle.fb_wiring.specs.Library.View.{Sources, tree_of, mentions_at, mentions_in}
 use Rattle.fb_wiring.specs.Library.Rests.{Rests, itself, through}
@@ -18,7 +19,7 @@ use Rattle.fb_flatten.specs.Hints.{AreRightHints, count_of_hint, count_of_net, i
 use Rattle.fb_flatten.specs.Net.{PlainNet, blocked, recursive, too_large, flat_net, IsNet, IsSound, IsWhole}
 use Rattle.fb_flatten.specs.Tables.{IsUnitOrder}
 use Rattle.fb_flatten.proofs.ComputedNets.{net_at_is}
-use Rattle.fb_flatten.proofs.Depths.{by_bool, or_right, rests_of_reach}
+use Rattle.fb_flatten.proofs.Depths.{rests_of_reach}
 use Rattle.fb_flatten.proofs.SoundLemmas.{sound_below, sound_where}
 
 or_false : (a b : Bool) → (a || b) ≡ false → b ≡ false

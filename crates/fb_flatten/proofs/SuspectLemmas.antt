@@ -1,7 +1,8 @@
 -- The walk to the names among which those that block a unit are looked for.
 use Rattle.std.proofs.Common.{◌≡◌, ℕ, ◌+◌, ◌<◌, Bool, true, false, if◌then◌else◌, ◌||◌, List, [], ◌∷◌, ◌++◌, length, Option, refl, sym, ap, ◌∙◌, arith}
-use Rattle.std.proofs.lemmas.Bool.{false≢true}
+use Rattle.std.proofs.lemmas.Bool.{false≢true, or_left, or_right}
 use Rattle.std.specs.Ordering.{eq_by_cmp}
+use Rattle.fb_text.proofs.Tests.{no_both, by_bool, or_cases}
 use Rattle.fb_text.specs.Order.{name_cmp}
 use Rattle.fb_wiring.specs.Library.View.{Sources, mentions_at}
 use Rattle.fb_wiring.specs.Library.Rests.{Rests, itself, through}
@@ -12,15 +13,9 @@ use Rattle.fb_flatten.specs.Blocking.{IsBlocking}
 use Rattle.fb_flatten.specs.Hints.{AreRightHints, is_whole_hint}
 use Rattle.fb_flatten.specs.Net.{PlainNet}
 use Rattle.fb_flatten.specs.Suspects.{mentions_beyond}
-use Rattle.fb_flatten.proofs.Depths.{by_bool, or_cases, or_right, same_is, same_self}
+use Rattle.fb_flatten.proofs.Depths.{same_is, same_self}
 use Rattle.fb_flatten.proofs.HintLemmas.{whole_hint}
 use Rattle.fb_flatten.proofs.OrderLemmas.{rests_on}
-
-no_both : {P : Type 0} (b : Bool) → b ≡ true → b ≡ false → P
-no_both b t f = absurd (false≢true (sym f ∙ t))
-
-or_left : (a b : Bool) → a ≡ true → (a || b) ≡ true
-or_left a b e = ap (λ x. x || b) e
 
 abbrev same : List ℕ → List ℕ → Bool
 same = eq_by_cmp name_cmp

@@ -1,6 +1,8 @@
 -- Spellings, fronts and what reading by a predictive form gives.
 use Rattle.std.proofs.Common.{◌≡◌, ℕ, zero, suc, ◌≤◌, ◌<◌, Bool, true, false, cond, ◌&&◌, ◌||◌, not, nat_eq, ◌⊎◌, inl, inr, List, [], ◌∷◌, ◌++◌, length, Some, None, Ok, Err, refl, sym, ◌∙◌, ap, subst, arith, append_assoc, length-append, ap₂}
+use Rattle.std.proofs.lemmas.Bool.{or_right, or_left}
 use borrow.Author.Tests.{eqb-true}
+use Rattle.fb_text.proofs.Tests.{not_true}
 use Rattle.fb_lexemes.specs.declared.kind.Kind.{Kind}
 use Rattle.fb_lexemes.specs.declared.lexeme.Lexeme.{Lexeme}
 use Rattle.fb_lexemes.specs.Kind.{is_among, same_kind, code_of}
@@ -18,25 +20,9 @@ and_right : (a b : Bool) → (a && b) ≡ true → b ≡ true
 and_right true b h = h
 and_right false b h = cc
 
-not_true : (a : Bool) → not a ≡ true → a ≡ false
-not_true true h = cc
-not_true false h = refl
-
-pub or_right : (a b : Bool) → b ≡ true → (a || b) ≡ true
-or_right true b h = refl
-or_right false b h = h
-
 pub or_cases : (a b : Bool) → (a || b) ≡ true → (a ≡ true) ⊎ (b ≡ true)
 or_cases true b h = inl refl
 or_cases false b h = inr h
-
-pub or_left : (a b : Bool) → a ≡ true → (a || b) ≡ true
-or_left true b h = refl
-or_left false b h = cc
-
-or_false : (a b : Bool) → (a || b) ≡ false → (a ≡ false) × (b ≡ false)
-or_false true b h = cc
-or_false false b h = (refl, h)
 
 pub among_left : (a b : List Kind) (k : Kind) → is_among a k ≡ true → is_among (a ++ b) k ≡ true
 among_left [] b k h = cc

@@ -1,10 +1,11 @@
 -- What the forms around a form need to know of it, so that one token tells how to go on in them.
+use Rattle.std.proofs.lemmas.Bool.{or_right, or_left}
 use Rattle.std.proofs.Common.{◌≡◌, Bool, true, false, not, ◌&&◌, ◌⊎◌, inl, inr, List, [], ◌∷◌, ◌++◌, refl, eq-eqb}
 use Rattle.fb_lexemes.specs.declared.kind.Kind.{Kind}
 use Rattle.fb_lexemes.specs.Kind.{is_among, same_kind, code_of}
 use Rattle.fb_forms.specs.Form.{Form, either}
 use Rattle.fb_forms.specs.Reading.{is_nullable, is_predictive, first, after, are_apart}
-use Rattle.fb_forms.proofs.Forms.{apart_among, or_cases, or_left, or_right}
+use Rattle.fb_forms.proofs.Forms.{apart_among, or_cases}
 
 -- a form that is closed by its last token: what begins it, and that nothing goes on behind it
 pub record Closed {A : Type 0} (x : Form A) (firsts : List Kind) : Type 0 where

@@ -4,14 +4,10 @@ use Rattle.std.specs.declared.cmp.Ordering.{Ordering}
 use Rattle.std.specs.declared.cmp.Ordering.TheVariants.{Less, Equal, Greater}
 use Rattle.std.specs.Ordering.{ordering_then}
 use Rattle.std.specs.FinMap.{IsAntisymmetric, nat_cmp-IsAntisymmetric}
+use Rattle.fb_text.proofs.OrderLemmas.{both_equal}
 use Rattle.fb_iface.specs.Code.{code_number}
 use Rattle.fb_iface.specs.Fault.{fault_cmp}
 use Rattle.fb_iface.proofs.CodeLemmas.{code_number-exact}
-
-pub both_equal : (r s : Ordering) → ordering_then r s ≡ Equal → (r ≡ Equal) × (s ≡ Equal)
-both_equal Less s e = absurd (let no : ⊥ = cc in no)
-both_equal Equal s e = (λ _. Equal, e)
-both_equal Greater s e = absurd (let no : ⊥ = cc in no)
 
 pub fault_cmp-exact : IsAntisymmetric fault_cmp
 fault_cmp-exact a b e =

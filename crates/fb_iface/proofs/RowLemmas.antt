@@ -3,6 +3,7 @@ use Rattle.std.proofs.Common.{◌≡◌, ◌≢◌, ℕ, ◌+◌, Bool, true, fa
 use Rattle.std.specs.List.{Contains, enumerate_from, filter, slice_get}
 use Rattle.std.specs.Option.{option_map_or}
 use Rattle.std.proofs.lemmas.List.Elements.{Contains-append_left, Contains-append_right, Contains-append_cases}
+use Rattle.fb_text.proofs.Tests.{not_true}
 use Rattle.fb_text.specs.declared.token.Span.{Span}
 use Rattle.fb_text.specs.declared.name.NameUse.{NameUse}
 use Rattle.fb_library.specs.Tree.Mentions.{unit_kind_of}
@@ -37,10 +38,6 @@ use Rattle.fb_iface.proofs.NameLemmas.{same_exact, same_itself}
 is_false : (b : Bool) → (b ≡ true → ⊥) → b ≡ false
 is_false true fails = absurd (fails refl)
 is_false false fails = refl
-
-not_true : (b : Bool) → not b ≡ true → b ≡ false
-not_true true e = absurd (true≢false (sym e))
-not_true false e = refl
 
 true_not : (b : Bool) → b ≡ false → not b ≡ true
 true_not b e = ap not e

@@ -1,6 +1,6 @@
 -- What is known of truth values.
+use Rattle.fb_text.proofs.Tests.{no_both}
 use Rattle.std.proofs.Common.{◌≡◌, Bool, true, false, ◌||◌, ◌&&◌, not, refl, sym, ap, ◌∙◌}
-use Rattle.fb_table.proofs.SeenLemmas.{no_both}
 
 -- one more name: `s` is whether it is this one, and `f` whether it is one before it
 pub one_less : (o u f s k : Bool) → (s ≡ true → k ≡ false) → ((o && not (u && (f && not k))) && not (u && s)) ≡ (o && not (u && ((f || s) && not k)))

@@ -13,11 +13,13 @@ use Rattle.std.specs.Cmp.{eq_by_cmp_equiv}
 use Rattle.std.specs.declared.vec.Vec.{Vec}
 use Rattle.std.specs.declared.alloc.Global.{Global}
 use Rattle.std.specs.declared.cmp.Ordering.TheVariants.{Less, Equal, Greater}
+use Rattle.fb_text.proofs.Tests.{and_false, and_true, or_false}
+use Rattle.fb_text.proofs.Tests.{no_both}
 use Rattle.fb_text.specs.Order.{name_cmp}
 use Rattle.fb_table.specs.Seen.{has_name}
 use Rattle.fb_table.proofs.Names.{name_total, exact_name}
 use Rattle.fb_table.proofs.Places.{sorted_put, sorted_removed}
-use Rattle.fb_table.proofs.SeenLemmas.{no_both, same_is, same_self, has-push}
+use Rattle.fb_table.proofs.SeenLemmas.{same_is, same_self, has-push}
 use Rattle.fb_index.specs.Near.{Users, users_of, is_near, IsIndexedAs, IsReplaced}
 use Rattle.fb_index.proofs.Bits.{own_bits, other_bits}
 
@@ -102,19 +104,7 @@ users_removed old rows new k units was sorted is none n =
 
 left_bits : (b u : Bool) (mine units : List (List ℕ)) (other : List ℕ) → (b ≡ true → has_name mine other ≡ (has_name units other && not u)) → has_name (if b then mine else units) other ≡ (has_name units other && not (u && b))
 left_bits true u mine units other less = less refl ∙ ap (λ c. has_name units other && not c) (sym (and_true u))
-  where
-    and_true : (u : Bool) → (u && true) ≡ u
-    and_true true = refl
-    and_true false = refl
-left_bits false u mine units other less = sym (ap (λ c. has_name units other && not c) (and_false u) ∙ and_right (has_name units other))
-  where
-    and_false : (u : Bool) → (u && false) ≡ false
-    and_false true = refl
-    and_false false = refl
-
-    and_right : (u : Bool) → (u && true) ≡ u
-    and_right true = refl
-    and_right false = refl
+left_bits false u mine units other less = sym (ap (λ c. has_name units other && not c) (and_false u) ∙ and_true (has_name units other))
 
 -- the unit is taken out under the name `k`
 pub unit_left : (old new : Users) (k unit : List ℕ) (others : List (List ℕ)) → ((other : List ℕ) → has_name others other ≡ (has_name (users_of old k) other && not (is_at (name_cmp unit) other))) → ((n : List ℕ) → users_of new n ≡ (if is_at (name_cmp k) n then others else users_of old n)) → (other n : List ℕ) → is_near new other n ≡ (is_near old other n && not (is_at (name_cmp unit) other && is_at (name_cmp k) n))
@@ -125,19 +115,7 @@ unit_left old new k unit others less are other n =
 
 joined_bits : (b u : Bool) (mine units : List (List ℕ)) (other : List ℕ) → (b ≡ true → has_name mine other ≡ (has_name units other || u)) → has_name (if b then mine else units) other ≡ (has_name units other || (u && b))
 joined_bits true u mine units other more = more refl ∙ ap (λ c. has_name units other || c) (sym (and_true u))
-  where
-    and_true : (u : Bool) → (u && true) ≡ u
-    and_true true = refl
-    and_true false = refl
-joined_bits false u mine units other more = sym (ap (λ c. has_name units other || c) (and_false u) ∙ or_right_false (has_name units other))
-  where
-    and_false : (u : Bool) → (u && false) ≡ false
-    and_false true = refl
-    and_false false = refl
-
-    or_right_false : (u : Bool) → (u || false) ≡ u
-    or_right_false true = refl
-    or_right_false false = refl
+joined_bits false u mine units other more = sym (ap (λ c. has_name units other || c) (and_false u) ∙ or_false (has_name units other))
 
 -- the unit is put under the name `k`
 pub unit_joined : (old new : Users) (k unit : List ℕ) (units : List (List ℕ)) → units ≡ users_of old k ++ unit ∷ [] → ((n : List ℕ) → users_of new n ≡ (if is_at (name_cmp k) n then units else users_of old n)) → (other n : List ℕ) → is_near new other n ≡ (is_near old other n || (is_at (name_cmp unit) other && is_at (name_cmp k) n))

@@ -4,7 +4,7 @@ use Rattle.std.specs.declared.cmp.Ordering.{Ordering}
 use Rattle.std.specs.declared.cmp.Ordering.TheVariants.{Less, Equal, Greater}
 use Rattle.std.specs.Ordering.{ordering_then, nat_cmp}
 use Rattle.std.specs.FinMap.{nat_cmp-IsAntisymmetric}
-use Rattle.fb_text.proofs.OrderLemmas.{is_equal}
+use Rattle.fb_text.proofs.OrderLemmas.{is_equal, both_equal}
 use Rattle.fb_deploy.proofs.Library.Names.{exact_name}
 use Rattle.fb_jobs.specs.declared.key.Kind.{Kind}
 use Rattle.fb_jobs.specs.declared.key.Kind.TheVariants.{Faults, Net, Deploy}
@@ -21,11 +21,6 @@ exact_kind Net Deploy e = absurd (omega arith)
 exact_kind Deploy Faults e = absurd (omega arith)
 exact_kind Deploy Net e = absurd (omega arith)
 exact_kind Deploy Deploy e = refl
-
-both_equal : (r s : Ordering) → ordering_then r s ≡ Equal → (r ≡ Equal) × (s ≡ Equal)
-both_equal Less s e = absurd (let no : ⊥ = cc in no)
-both_equal Equal s e = (refl, e)
-both_equal Greater s e = absurd (let no : ⊥ = cc in no)
 
 pub exact_key : (a b : Key) → key_cmp a b ≡ Equal → a ≡ b
 exact_key a b e =

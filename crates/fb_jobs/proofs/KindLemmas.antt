@@ -10,6 +10,7 @@ use Rattle.std.specs.declared.cmp.Ordering.{Ordering}
 use Rattle.std.specs.declared.cmp.Ordering.TheVariants.{Less, Equal, Greater}
 use Rattle.std.proofs.lemmas.Cmp.{tied_itself}
 use Rattle.std.proofs.lemmas.List.Folds.{list_any-append}
+use Rattle.fb_text.proofs.Tests.{and_false}
 use Rattle.fb_text.specs.Order.{name_cmp}
 use Rattle.fb_deploy.specs.Library.View.{Sources, near_of}
 use Rattle.fb_deploy.specs.Flatten.Far.{far_of}
@@ -67,10 +68,6 @@ both_eq Greater s = refl
 and_or : (a b c : Bool) → ((a && b) || (a && c)) ≡ (a && (b || c))
 and_or true b c = refl
 and_or false b c = refl
-
-and_false : (a : Bool) → (a && false) ≡ false
-and_false true = refl
-and_false false = refl
 
 -- the names with one kind
 in_kind : (key : Key) (kind : Kind) (names : List (List ℕ)) → list_any (same_key key) (keys_of_kind names kind) ≡ (is_at (kind_cmp key.kind) kind && is_among key.unit names)

@@ -5,10 +5,11 @@ use Rattle.std.specs.List.{Contains, flat_map}
 use Rattle.std.specs.Option.{option_and_then}
 use Rattle.std.specs.Cmp.Lexicographic.{slice_cmp}
 use Rattle.std.specs.FinMap.{entries, get-entries, find}
+use Rattle.fb_text.proofs.Tests.{by_bool, or_cases, or_assoc, or_false, no_both}
 use Rattle.fb_library.specs.View.{Sources, tree_of, mentions_at, mentions_in}
 use Rattle.fb_library.specs.Rests.{Rests, itself, through}
 use Rattle.fb_table.specs.Seen.{has_name, unseen, Opens}
-use Rattle.fb_table.proofs.SeenLemmas.{by_bool, or_left, or_right, or_cases, or_assoc, or_false, no_both, same, same_is, same_self}
+use Rattle.fb_table.proofs.SeenLemmas.{or_left, or_right, same, same_is, same_self}
 pub use Rattle.fb_table.proofs.SeenLemmas.{Contains-has, has-Contains, has-push, last_named, Opens-none, Opens-new, Opens-old, has-updates, not_true, not_false, begun, one_pushed, no_items, longer}
 
 -- ---- the whole walk

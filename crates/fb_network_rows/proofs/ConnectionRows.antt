@@ -3,6 +3,7 @@ use Rattle.std.proofs.Common.{◌≡◌, ◌≢◌, ℕ, Bool, true, false, cond
 use Rattle.std.specs.Cmp.Lexicographic.{bytes_decides, same_text}
 use Rattle.std.specs.List.{Contains}
 use Rattle.std.proofs.lemmas.List.Elements.{Contains-append_right}
+use Rattle.fb_text.proofs.Tests.{not_true}
 use Rattle.fb_text.specs.declared.token.Span.{Span}
 use Rattle.fb_netcheck.specs.Tree.Tree.{NetworkTree}
 use Rattle.fb_netcheck.specs.Tree.declared.interface.TypeForm.{TypeForm}
@@ -41,10 +42,6 @@ use Rattle.fb_network_rows.proofs.PlaceLemmas.{end_place, of_end}
 is_false : (b : Bool) → (b ≡ true → ⊥) → b ≡ false
 is_false true fails = absurd (fails refl)
 is_false false fails = refl
-
-not_true : (b : Bool) → not b ≡ true → b ≡ false
-not_true true e = absurd (true≢false (sym e))
-not_true false e = refl
 
 where_passes : {X : Type 0} (b : Bool) (x : X) → b ≡ true → Contains (cond b (x ∷ []) []) x
 where_passes true x e = contains_here x []

@@ -4,8 +4,9 @@ use Rattle.std.proofs.lemmas.Bool.{false≢true, or_left, or_right}
 use Rattle.std.proofs.lemmas.List.Kept.{IsStrictlySortedBy-filter}
 use Rattle.std.specs.List.{Contains, filter}
 use Rattle.std.specs.List.Sorted.{IsStrictlySortedBy}
+use Rattle.fb_text.proofs.Tests.{by_bool, or_cases, no_both}
 use Rattle.fb_text.specs.Order.{name_cmp}
-use Rattle.fb_table.proofs.SeenLemmas.{by_bool, no_both, or_cases, same, same_is, same_self}
+use Rattle.fb_table.proofs.SeenLemmas.{same, same_is, same_self}
 use Rattle.fb_library.specs.View.{Sources, mentions_at}
 use Rattle.fb_library.specs.Rests.{itself}
 use Rattle.fb_library.specs.Seen.{has_name}

@@ -5,7 +5,8 @@ use Rattle.std.proofs.lemmas.List.{map_push, length-map}
 use Rattle.std.proofs.Common.{append_assoc}
 use Rattle.std.specs.List.{Contains}
 use Rattle.std.proofs.lemmas.List.Elements.{Contains-append_left, Contains-append_right}
-use Rattle.fb_table.proofs.SeenLemmas.{by_bool, no_both, or_cases, or_assoc, or_false, same, same_is, same_self}
+use Rattle.fb_text.proofs.Tests.{by_bool, or_cases, or_assoc, or_false, no_both}
+use Rattle.fb_table.proofs.SeenLemmas.{same, same_is, same_self}
 use Rattle.fb_library.specs.View.{Sources, mentions_at}
 use Rattle.fb_library.specs.Rests.{Rests, itself, through}
 use Rattle.fb_library.specs.Seen.{has_name}

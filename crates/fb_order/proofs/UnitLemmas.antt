@@ -2,7 +2,8 @@
 use Rattle.std.proofs.Common.{ℕ, List, [], ◌∷◌, Option, Some, None, IfSome, sym, subst, ◌∙◌}
 use Rattle.std.proofs.lemmas.Bool.{or_left}
 use Rattle.std.specs.List.{Contains}
-use Rattle.fb_table.proofs.SeenLemmas.{or_false, same, same_is, same_self}
+use Rattle.fb_text.proofs.Tests.{or_false}
+use Rattle.fb_table.proofs.SeenLemmas.{same, same_is, same_self}
 use Rattle.fb_library.specs.View.{Sources}
 use Rattle.fb_library.specs.Rests.{Rests}
 use Rattle.fb_library.specs.Seen.{has_name}

@@ -1,15 +1,12 @@
 -- Joining what sections hold, one section after the other.
 use Rattle.std.proofs.Common.{◌≡◌, Bool, true, false, ◌||◌, List, [], ◌∷◌, ◌++◌, map, refl, ap, ◌∙◌, append_assoc}
 use Rattle.std.proofs.lemmas.List.{append-nil, map_push}
+use Rattle.fb_text.proofs.Tests.{or_assoc}
 use Rattle.fb_tree.specs.Tree.{InterfaceTree, NetworkTree, ChartTree}
 use Rattle.fb_parse.specs.declared.contents.Contents.{Contents}
 use Rattle.fb_parse.specs.Contents.{ContentsTree, contents_tree, no_interface, no_network, no_chart, nothing, interfaces_merged, networks_merged, charts_merged, merged, joined}
 use Rattle.fb_parse.specs.declared.system.SystemContents.{SystemContents}
 use Rattle.fb_parse.specs.SystemContents.{SystemContentsTree, system_contents_tree, systems_merged, system_joined}
-
-or_assoc : (a b c : Bool) → (a || (b || c)) ≡ ((a || b) || c)
-or_assoc true b c = refl
-or_assoc false b c = refl
 
 or_none : (a : Bool) → (a || false) ≡ a
 or_none true = refl

@@ -2,6 +2,7 @@
 use Rattle.std.proofs.Common.{◌≡◌, Bool, true, false, not, ◌&&◌, ◌||◌, nat_eq, cond, List, [], ◌∷◌, length, Ok, Err, refl, sym, ap, ◌∙◌, arith}
 use Rattle.std.proofs.lemmas.Bool.{eqb-true}
 use Rattle.std.specs.Prelude.{filter}
+use Rattle.fb_text.proofs.Tests.{and_false, or_false, and_true}
 use Rattle.fb_forms.specs.Lexemes.Kind.{is_among, same_kind, code_of}
 use Rattle.fb_forms.specs.Lexemes.declared.kind.Kind.{Kind}
 use Rattle.fb_forms.specs.Lexemes.declared.kind.Kind.TheVariants.{FunctionBlock, EndFunctionBlock, Adapter, EndAdapter, Subapplication, EndSubapplication, System, EndSystem, Application, EndApplication, Device, EndDevice, Resource, EndResource, Mappings, EndMappings, EventInput, EventOutput, EndEvent, Var, VarInput, VarOutput, EndVar, Plugs, EndPlugs, Sockets, EndSockets, Fbs, EndFbs, Subapps, EndSubapps, EventConnections, DataConnections, AdapterConnections, EndConnections, EcStates, EndStates, EcTransitions, EndTransitions, Algorithm, EndAlgorithm, Service, EndService, With, To, Array, Of, If, Then, Elsif, Else, EndIf, Case, EndCase, For, By, Do, EndFor, While, EndWhile, Repeat, Until, EndRepeat, Exit, Return, And, Or, Xor, Not, Mod, True, False, NameIn, NameOn, NameSt, Name, Zero, One, Number, RealNumber, TypedTruth, TypedInteger, TypedBits, TypedFree, TypedOther, Text, Assign, LessEqual, GreaterEqual, NotEqual, Power, Arrow, Range, Semicolon, Colon, Comma, Point, OpenParenthesis, CloseParenthesis, OpenBracket, CloseBracket, Equal, Less, Greater, Plus, Minus, Times, Divide, Ampersand, Other}
@@ -134,10 +135,6 @@ among_cond : (t : Bool) (x : Kind) (kinds : List Kind) (kind : Kind) → is_amon
 among_cond true x kinds kind = refl
 among_cond false x kinds kind = refl
 
-and_false : (b : Bool) → (b && false) ≡ false
-and_false true = refl
-and_false false = refl
-
 same_as : (end x kind : Kind) → same_kind x kind ≡ true → same_kind end x ≡ same_kind end kind
 same_as end x kind h = ap (λ n. nat_eq (code_of end) n) (eqb-true (code_of x) (code_of kind) h)
 
@@ -147,14 +144,6 @@ among_filtered end (x ∷ kinds) kind =
     among_cond (not (same_kind end x)) x (filter (λ k. not (same_kind end k)) kinds) kind
     ∙ ap (λ b. cond (not (same_kind end x)) (same_kind x kind || b) b) (among_filtered end kinds kind)
     ∙ step (same_kind end x) (same_kind end kind) (same_kind x kind) (is_among kinds kind) (same_as end x kind)
-
-or_false : (b : Bool) → (b || false) ≡ b
-or_false true = refl
-or_false false = refl
-
-and_true : (b : Bool) → (b && true) ≡ b
-and_true true = refl
-and_true false = refl
 
 among_others : (end kind : Kind) → is_among (others end) kind ≡ not (same_kind end kind)
 unfolding others

@@ -15,6 +15,7 @@ use Rattle.std.proofs.lemmas.Map.Lookups.{exact_unsigned}
 use Rattle.std.proofs.lemmas.Map.Views.{btree_map_contains_key_iff}
 use Rattle.std.specs.Cmp.{nat_cmp_total}
 use Rattle.std.specs.BTreeMap.{BTreeMap, get, keys, IsOrdered}
+use Rattle.fb_text.proofs.Tests.{not_false, not_true}
 use Rattle.fb_bench.specs.Story.{Record, turns_of, record_at}
 use Rattle.fb_shared.specs.Book.{IsBookOf, is_caller}
 use Rattle.fb_shared.specs.Seats.{Hall, SeatState, Claim}
@@ -145,14 +146,6 @@ caller_from_key book callers es kept q among =
 pub key_from_caller : (book : BTreeMap ℕ ℕ) (callers : ℕ) (es : List Record) → IsBookOf book callers es → (q : ℕ) → is_caller callers es q ≡ true → Contains (keys book) q
 key_from_caller book callers es kept q is =
     (btree_map_contains_key_iff nat_cmp_total exact_unsigned book q).0 (has_page (is_caller callers es q) (turns_of q es) (get nat_cmp book q) (kept.pages q) is)
-
-not_false : (b : Bool) → not b ≡ false → b ≡ true
-not_false true e = refl
-not_false false e = sym e
-
-not_true : (b : Bool) → not b ≡ true → b ≡ false
-not_true false e = refl
-not_true true e = sym e
 
 pub seated : (book : BTreeMap ℕ ℕ) (callers : ℕ) (es : List Record) (seats : List SeatState) → IsBookOf book callers es → find (λ q. not (has_seat seats q)) (keys book) ≡ None
     → (q : ℕ) → is_caller callers es q ≡ true → has_seat seats q ≡ true

@@ -2,6 +2,7 @@
 use Rattle.std.proofs.Common.{refl, ◌≡◌, inl, inr, List, [], ◌∷◌, ◌++◌, map, Option, Some, None, sym, subst}
 use Rattle.std.specs.Prelude.{Bool, true, false, ◌||◌}
 use Rattle.std.specs.List.{flat_map}
+use Rattle.std.proofs.lemmas.Bool.{or_right}
 use Rattle.fb_text.specs.declared.name.NameUse.{NameUse}
 use Rattle.fb_parse.specs.Forms.Form.{Form, one, both, either, option, many, as_value, Spells, SpellsOption, SpellsEach}
 use Rattle.fb_parse.specs.Forms.Words.{key, before, behind, or_none, optional_list, cons, separated, name, names}
@@ -143,10 +144,6 @@ each_items P f (x ∷ xs) ys h k =
 or_more : (a b c : Bool) → (b ≡ true → c ≡ true) → (a || b) ≡ true → (a || c) ≡ true
 or_more true b c f h = refl
 or_more false b c f h = f h
-
-or_right : (a b : Bool) → b ≡ true → (a || b) ≡ true
-or_right true b h = refl
-or_right false b h = h
 
 pub among_more : (kinds more : List Kind) (k : Kind) → is_among kinds k ≡ true → is_among (kinds ++ more) k ≡ true
 among_more [] more k h = cc

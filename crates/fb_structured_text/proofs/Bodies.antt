@@ -2,6 +2,7 @@
 use Rattle.std.proofs.Common.{◌≡◌, ℕ, zero, suc, ◌-◌, ◌<◌, Bool, true, false, ◌||◌, List, [], ◌∷◌, ◌++◌, Ok, Err, refl, sym, ap, ◌∙◌, append_assoc, arith}
 use Rattle.std.proofs.lemmas.List.{append-nil}
 use Rattle.std.specs.List.{flat_map}
+use Rattle.fb_text.proofs.Tests.{or_assoc}
 use Rattle.fb_forms.specs.Lexemes.declared.kind.Kind.{Kind}
 use Rattle.fb_forms.specs.Lexemes.declared.kind.Kind.TheVariants.{If, Case, For, While}
 use Rattle.fb_forms.specs.Lexemes.declared.lexeme.Lexeme.{Lexeme}
@@ -22,13 +23,9 @@ use Rattle.fb_structured_text.proofs.StatementLevels.{closed-simple, closed-stat
 
 -- what begins a statement
 
-or_assoc : (a b c : Bool) → ((a || b) || c) ≡ (a || (b || c))
-or_assoc true b c = refl
-or_assoc false b c = refl
-
 among-both : (a b : List Kind) (k : Kind) → is_among (a ++ b) k ≡ (is_among a k || is_among b k)
 among-both [] b k = refl
-among-both (x ∷ a) b k = ap (λ (z : Bool). same_kind x k || z) (among-both a b k) ∙ sym (or_assoc (same_kind x k) (is_among a k) (is_among b k))
+among-both (x ∷ a) b k = ap (λ (z : Bool). same_kind x k || z) (among-both a b k) ∙ or_assoc (same_kind x k) (is_among a k) (is_among b k)
 
 next-both : (a b : List Kind) (ts : List Lexeme) → is_next (a ++ b) ts ≡ (is_next a ts || is_next b ts)
 next-both a b [] = refl

@@ -9,32 +9,14 @@ use Rattle.std.specs.Cmp.Lexicographic.{slice_cmp, nat_list_cmp_total}
 use Rattle.std.specs.BTreeSet.{BTreeSet, Updates}
 use Rattle.std.specs.FinMap.{slice_cmp-IsAntisymmetric, nat_cmp-IsAntisymmetric}
 use Rattle.std.proofs.lemmas.Map.Views.{Contains-from_any, list_any-from_Contains, tells_apart}
+use Rattle.fb_text.proofs.Tests.{by_bool, or_cases, or_assoc, or_false, no_both}
 use Rattle.fb_table.specs.Seen.{has_name, unseen, Opens}
-
-pub by_bool : {P : Type 0} (b : Bool) → (b ≡ true → P) → (b ≡ false → P) → P
-by_bool true t f = t refl
-by_bool false t f = f refl
-
-pub or_cases : {P : Type 0} (a b : Bool) → (a || b) ≡ true → (a ≡ true → P) → (b ≡ true → P) → P
-or_cases true b e l r = l refl
-or_cases false b e l r = r e
-
-pub or_assoc : (a b c : Bool) → (a || (b || c)) ≡ ((a || b) || c)
-or_assoc true b c = refl
-or_assoc false b c = refl
-
-pub or_false : (a : Bool) → (a || false) ≡ a
-or_false true = refl
-or_false false = refl
 
 true_or : (b c : Bool) → cond b true c ≡ (c || b)
 true_or true true = refl
 true_or true false = refl
 true_or false true = refl
 true_or false false = refl
-
-pub no_both : {P : Type 0} (b : Bool) → b ≡ true → b ≡ false → P
-no_both b t f = absurd (false≢true (sym f ∙ t))
 
 abbrev pub same : List ℕ → List ℕ → Bool
 same = eq_by_cmp (slice_cmp nat_cmp)

@@ -10,3 +10,4 @@ pub mod Reading
 pub mod Relation
 pub mod OrderLemmas
 pub mod Members
+pub mod Tests

@@ -3,7 +3,7 @@ use Rattle.std.proofs.Common.{◌↔◌, length, nat_eq, arith, ◌≡◌, ℕ, 
 use Rattle.std.specs.declared.cmp.Ordering.{Ordering}
 use Rattle.std.specs.declared.cmp.Ordering.TheVariants.{Less, Equal, Greater}
 use Rattle.std.specs.List.{list_any}
-use Rattle.std.specs.Ordering.{eq_by_cmp, is_eq, match_ordering, ordering_reverse}
+use Rattle.std.specs.Ordering.{eq_by_cmp, is_eq, match_ordering, ordering_reverse, ordering_then}
 use Rattle.std.specs.List.{AllByRecursion, Contains}
 use Rattle.std.specs.List.Sorted.{IsStrictlySortedBy}
 use Rattle.std.specs.BTreeMap.{is_at}
@@ -16,11 +16,17 @@ use Rattle.std.specs.FinMap.{IsAntisymmetric, from_entries, entries, entries-ins
 use Rattle.std.specs.FinMap.Entries.{find, put, by_order}
 use Rattle.std.specs.BTreeSet.{insert_key}
 use Rattle.fb_text.specs.Order.{in_order, name_cmp}
+use Rattle.fb_text.proofs.Tests.{or_assoc}
 
 pub is_equal : (r : Ordering) → is_eq r ≡ true → r ≡ Equal
 is_equal Less e = absurd (true≢false (sym e))
 is_equal Equal e = refl
 is_equal Greater e = absurd (true≢false (sym e))
+
+pub both_equal : (r s : Ordering) → ordering_then r s ≡ Equal → (r ≡ Equal) × (s ≡ Equal)
+both_equal Less s e = absurd (let no : ⊥ = cc in no)
+both_equal Equal s e = (λ _. Equal, e)
+both_equal Greater s e = absurd (let no : ⊥ = cc in no)
 
 -- two names are equal where their order finds them so
 pub same_name : (a b : List ℕ) → pointwise nat_eq a b ≡ is_at (name_cmp a) b
@@ -51,10 +57,6 @@ module _ {K : Type 0} (R : K → K → Ordering) where
   pub has-append : (xs ys : List K) (q : K) → has (xs ++ ys) q ≡ (has xs q || has ys q)
   has-append [] ys q = refl
   has-append (x ∷ xs) ys q = ap (λ b. eq_by_cmp R q x || b) (has-append xs ys q) ∙ or_assoc (eq_by_cmp R q x) (has xs q) (has ys q)
-    where
-      or_assoc : (a b c : Bool) → (a || (b || c)) ≡ ((a || b) || c)
-      or_assoc true b c = refl
-      or_assoc false b c = refl
 
   has-push : (xs : List K) (x q : K) → has (xs ++ x ∷ []) q ≡ has (x ∷ xs) q
   has-push [] x q = refl

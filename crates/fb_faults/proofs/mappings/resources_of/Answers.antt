@@ -2,6 +2,7 @@ use Rattle.std.proofs.Common.{◌≡◌, ℕ, List, ◌+◌, ◌<◌, ◌&&◌, 
 use Rattle.std.proofs.lemmas.Grind.{common_steps}
 use Rattle.std.proofs.lemmas.List.{map-append}
 use Rattle.std.specs.BTreeSet.{contains}
+use Rattle.fb_text.proofs.Tests.{not_true, not_false}
 use Rattle.fb_text.specs.declared.name.NameUse.{NameUse}
 use Rattle.fb_netcheck.specs.Tree.Tree.{DeviceTree, ResourceTree, device_tree, resource_tree}
 use Rattle.fb_netcheck.specs.Tree.declared.system.Resource.{Resource}
@@ -9,7 +10,7 @@ use Rattle.fb_netcheck.specs.Iface.Names.{has_name, is_same, stands_for}
 use Rattle.fb_netcheck.proofs.Iface.TreeLemmas.{same_items}
 use Rattle.fb_faults.specs.Mappings.{resources_in}
 use Rattle.fb_faults.specs.Pairs.{pair_cmp}
-use Rattle.fb_faults.proofs.MappingLemmas.{among, among-new, among-old, not_false, not_true, seen-next}
+use Rattle.fb_faults.proofs.MappingLemmas.{among, among-new, among-old, seen-next}
 use Rattle.fb_faults.proofs.mappings.resources_of.Goals as goal
 use Rattle.fb_faults.proofs.mappings.resources_of.Goals.{then-branch+in_ok-add_resources, else-branch}
 
