@@ -10,7 +10,7 @@ use Rattle.fb_mapping.specs.Library.Rests.{Rests, itself}
 use Rattle.fb_mapping.specs.Library.Local.{AgreeFar}
 use Rattle.fb_mapping.specs.Network.PlainFlat.{PlainFlat}
 use Rattle.fb_mapping.specs.Flatten.Net.{PlainNet, blocked, recursive, too_large, flat_net}
-use Rattle.fb_mapping.proofs.Flatten.NetLocal.{net_local}
+use Rattle.fb_mapping.proofs.Flatten.NetLocality.{net_local}
 use Rattle.fb_mapping.proofs.Flatten.OneNet.{one_net_only}
 use Rattle.fb_mapping.specs.Netcheck.Spellings.{text_or_empty}
 use Rattle.fb_mapping.specs.Cuts.{cuts_of, home_at}

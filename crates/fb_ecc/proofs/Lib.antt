@@ -1,3 +1,3 @@
-pub mod LocalLemmas
+pub mod Locality
 pub mod RowLemmas
 pub mod TreeLemmas

@@ -1,4 +1,4 @@
 pub mod DemandLemmas
-pub mod LocalLemmas
+pub mod Locality
 pub mod ReferenceLemmas
 pub mod TreeLemmas

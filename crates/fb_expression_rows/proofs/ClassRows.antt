@@ -27,7 +27,7 @@ use Rattle.fb_expression_rows.proofs.ClassLemmas.{class_of, pair_in, pair_of, to
 use Rattle.fb_expression_rows.proofs.ExpressionLemmas.{IsPairOf}
 use Rattle.fb_expression_rows.proofs.PlaceLemmas.{stands, told_stands}
 use Rattle.fb_expression_rows.proofs.RuleLemmas.{misfits, no_change, no_join, none_change, none_combined, none_join, not_combined, told_misfit}
-use Rattle.fb_expression_rows.proofs.UnitLemmas.{DemandOf, reference, behind_for, operator, pair, subscript, test, in_place, of_counter, of_assignment, reported, unmet}
+use Rattle.fb_expression_rows.proofs.UnitDemands.{DemandOf, reference, behind_for, operator, pair, subscript, test, in_place, of_counter, of_assignment, reported, unmet}
 use Rattle.fb_expression_rows.proofs.VariableRows.{is_unknown_code}
 
 none_there : (o : Option ValueClass) → is_some o ≡ false → o ≡ None

@@ -1,6 +1,6 @@
 pub mod ExpressionLemmas
 pub mod StatementLemmas
-pub mod UnitLemmas
+pub mod UnitDemands
 pub mod TypeLemmas
 pub mod ReferentLemmas
 pub mod VariableRows

@@ -20,7 +20,7 @@ use Rattle.fb_expr.specs.declared.references.Referent.TheVariants.{Variable, Unj
 use Rattle.fb_expression_rows.specs.Rows.{HasUnknownVariable, IsNamedIn, in_reference, behind_for, NoOtherCodes, VariablesAreKnown, span_through}
 use Rattle.fb_expression_rows.specs.Variables.{IsNotJudged, NamesVariable}
 use Rattle.fb_expression_rows.proofs.ReferentLemmas.{is_judged, is_unknown, names_none}
-use Rattle.fb_expression_rows.proofs.UnitLemmas.{DemandOf, reference, behind_for as behind_for_demanded, operator, pair, subscript, test, in_place, of_counter, of_assignment, Unmet, reported, unmet}
+use Rattle.fb_expression_rows.proofs.UnitDemands.{DemandOf, reference, behind_for as behind_for_demanded, operator, pair, subscript, test, in_place, of_counter, of_assignment, Unmet, reported, unmet}
 
 unknown_only : (t : Referent) → is_known t ≡ false → t ≡ Unknown
 unknown_only (Variable used) e = absurd (true≢false e)

@@ -19,7 +19,7 @@ use Rattle.fb_wiring.specs.ByName.{declared}
 use Rattle.fb_wiring.specs.Applications.{applications_of, plain_application}
 use Rattle.fb_wiring.specs.declared.systems.Application.{Application}
 use Rattle.fb_text.proofs.Members.{contains_nothing, origin_in_map}
-use Rattle.fb_wiring.proofs.UnitLemmas.{applications_clean}
+use Rattle.fb_wiring.proofs.CleanUnits.{applications_clean}
 use Rattle.fb_compose.specs.Part.{SameAdapters}
 use Rattle.fb_compose.specs.Ready.{Nets, AreFinished}
 use Rattle.fb_flatten.specs.Far.{far_of}
@@ -27,10 +27,10 @@ use Rattle.fb_flatten.specs.Net.{PlainNet, IsSound}
 use Rattle.fb_flatten.specs.Tables.{IsComposable, IsSoundOrder, IsTable, IsUnitOrder}
 use Rattle.fb_flatten.proofs.ComputedFlats.{clean_with}
 use Rattle.fb_flatten.proofs.ComputedNets.{done_mention, unit_faultless}
-use Rattle.fb_flatten.proofs.LocalLemmas.{found}
+use Rattle.fb_flatten.proofs.FlatLocality.{found}
 use Rattle.fb_flatten.proofs.MentionLemmas.{applications_within, declared_within}
 use Rattle.fb_flatten.proofs.SoundLemmas.{clean_network, sound_mention, sound_network}
-use Rattle.fb_flatten.proofs.UnitLemmas.{system_applications}
+use Rattle.fb_flatten.proofs.FoundUnits.{system_applications}
 
 module _ (table view : View) where
   -- both have the same adapters of these ports

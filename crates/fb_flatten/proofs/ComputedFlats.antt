@@ -28,7 +28,7 @@ use Rattle.fb_compose.proofs.Equals.{exact_border, exact_link}
 use Rattle.fb_compose.proofs.FlatLemmas.{IsOrderOf, flat_of}
 use Rattle.fb_wiring.specs.ByName.{declared}
 use Rattle.fb_wiring.specs.Networks.{network_of}
-use Rattle.fb_wiring.proofs.UnitLemmas.{networks_clean}
+use Rattle.fb_wiring.proofs.CleanUnits.{networks_clean}
 use Rattle.fb_flatten.proofs.MentionLemmas.{declared_within}
 use Rattle.fb_flatten.proofs.OrderLemmas.{tree_of_faultless}
 use Rattle.fb_flatten.specs.Nets.{composed, composed_at, flats_of, held_inside, held_by, held_at, held_of}

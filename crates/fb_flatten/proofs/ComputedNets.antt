@@ -15,7 +15,7 @@ use Rattle.fb_wiring.specs.Tree.declared.kinds.UnitKind.TheVariants as kinds
 use Rattle.fb_wiring.specs.Library.View.{Sources, mentions_at, tree_at, tree_of}
 use Rattle.fb_wiring.specs.Library.Rests.{Rests, itself, through}
 use Rattle.fb_wiring.specs.Library.Local.{AgreeFar}
-use Rattle.fb_wiring.proofs.Library.LocalLemmas.{far_local}
+use Rattle.fb_wiring.proofs.Library.Locality.{far_local}
 use Rattle.fb_text.proofs.Members.{contains_nothing, contains_filter, passes_in_filter, contains_here, contains_later}
 use Rattle.fb_wiring.specs.Iface.declared.fault.Fault.{Fault}
 use Rattle.fb_wiring.specs.Faults.Faults.{faults_of}
@@ -33,14 +33,14 @@ use Rattle.fb_wiring.specs.Applications.{applications_of}
 use Rattle.fb_wiring.specs.ByName.{applications_at, declared}
 use Rattle.fb_wiring.specs.Networks.{network_of}
 use Rattle.fb_wiring.specs.declared.systems.Application.{Application}
-use Rattle.fb_wiring.proofs.UnitLemmas.{applications_clean, networks_clean}
+use Rattle.fb_wiring.proofs.CleanUnits.{applications_clean, networks_clean}
 use Rattle.fb_flatten.specs.Blocking.{AreThose, IsBlocking, is_blocking}
 use Rattle.fb_flatten.specs.Net.{PlainNet, too_large, flat_net, IsNet, IsSound}
 use Rattle.fb_flatten.specs.Units.{HasNet, has_net_tree, own_instances, AreFlatApplications, NoApplication, ThenApplication, Holds, IsUnitFlat, OfSubapplication, OfSystem}
 use Rattle.fb_flatten.proofs.KindLemmas.{net_kind, no_net_kind}
 use Rattle.fb_flatten.proofs.MentionLemmas.{applications_within, declared_within, own_within}
 use Rattle.fb_flatten.proofs.NetLemmas.{blocking_those, recursive_those}
-use Rattle.fb_flatten.proofs.NetLocal.{net_local}
+use Rattle.fb_flatten.proofs.NetLocality.{net_local}
 use Rattle.fb_flatten.proofs.OneNet.{one_net_only}
 use Rattle.fb_flatten.specs.Far.{far_of}
 use Rattle.fb_flatten.specs.Nets.{composed, flats_of, flat_application, joined, flat_of_tree, held_by, held_of, is_recursive, sized_net, finite_net, first_net, net_of_tree, has_net_in, net_in, net_at, HasNetByText, NetAtIsNet, NetAtIsLocal}

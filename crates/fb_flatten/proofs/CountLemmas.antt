@@ -22,7 +22,7 @@ use Rattle.fb_wiring.specs.Networks.{network_of}
 use Rattle.fb_wiring.specs.Applications.{applications_of}
 use Rattle.fb_wiring.specs.declared.systems.Application.{Application}
 use Rattle.fb_text.proofs.Members.{contains_cases, contains_nothing, origin_in_flat_map}
-use Rattle.fb_wiring.proofs.UnitLemmas.{applications_clean, networks_clean}
+use Rattle.fb_wiring.proofs.CleanUnits.{applications_clean, networks_clean}
 use Rattle.fb_compose.proofs.Equals.{same_bytes, not_at, at_not}
 use Rattle.fb_compose.specs.Counts.{IsCounted, AreCounted}
 use Rattle.fb_flatten.specs.Hints.{AreRightHints, count_of_hint}

@@ -15,7 +15,7 @@ use Rattle.fb_text.proofs.OrderLemmas.{in_order-members, in_order-sorted}
 use Rattle.fb_wiring.specs.Library.View.{Sources, tree_of, mentions_at, mentions_in}
 use Rattle.fb_wiring.specs.Library.Rests.{Rests, itself, through}
 use Rattle.fb_wiring.proofs.Library.FarLemmas.{one_list}
-use Rattle.fb_wiring.proofs.Library.LocalLemmas.{far_local}
+use Rattle.fb_wiring.proofs.Library.Locality.{far_local}
 use Rattle.fb_wiring.specs.Library.Seen.{has_name, unseen}
 use Rattle.fb_wiring.proofs.Library.WalkLemmas.{Contains-has, has-Contains}
 use Rattle.fb_text.proofs.Members.{contains_flat_map, origin_in_flat_map, contains_here, contains_single}

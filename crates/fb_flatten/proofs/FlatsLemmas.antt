@@ -37,7 +37,7 @@ use Rattle.fb_flatten.proofs.HintLemmas.{kept_finished, no_flat, none_of}
 use Rattle.fb_flatten.proofs.KindLemmas.{subapplication_told}
 use Rattle.fb_flatten.proofs.MentionLemmas.{declared_within, own_within}
 use Rattle.fb_flatten.proofs.SoundLemmas.{not_mentioned, sound_network}
-use Rattle.fb_flatten.proofs.UnitLemmas.{own_of_application, own_of_type, system_applications}
+use Rattle.fb_flatten.proofs.FoundUnits.{own_of_application, own_of_type, system_applications}
 
 in_take : {X : Type 0} (k : ℕ) (xs : List X) (x : X) → Contains (take k xs) x → Contains xs x
 in_take zero xs x c = absurd (contains_nothing x c)

@@ -1,12 +1,12 @@
 -- Lemmas of the proofs.
-pub mod LocalLemmas
+pub mod FlatLocality
 pub mod MentionLemmas
 pub mod OrderLemmas
 pub mod TableLemmas
-pub mod UnitLemmas
+pub mod FoundUnits
 pub mod NetLemmas
 pub mod OneNet
-pub mod NetLocal
+pub mod NetLocality
 pub mod KindLemmas
 pub mod FarNames
 pub mod Depths

@@ -13,8 +13,8 @@ use Rattle.fb_deploy.specs.Library.Local as local
 use Rattle.fb_deploy.proofs.Library.Names.{name_total, exact_name}
 use Rattle.fb_deploy.proofs.Library.Sources.{get_source}
 use Rattle.fb_deploy.proofs.Library.WalkLemmas.{has-Contains}
-use Rattle.fb_deploy.proofs.Library.LocalLemmas.{near_unit, near_local}
-use Rattle.fb_deploy.proofs.Faults.LocalLemmas.{faults_local}
+use Rattle.fb_deploy.proofs.Library.Locality.{near_unit, near_local}
+use Rattle.fb_deploy.proofs.Faults.Locality.{faults_local}
 use Rattle.fb_deploy.specs.Flatten.Far.{far_of}
 use Rattle.fb_deploy.proofs.Flatten.FarNames.{far_is_all, far_of_local, far_unit}
 use Rattle.fb_deploy.proofs.Flatten.ComputedNets.{net_at_local}

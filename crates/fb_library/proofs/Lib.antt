@@ -1,5 +1,5 @@
 pub mod FarLemmas
-pub mod LocalLemmas
+pub mod Locality
 pub mod Sources
 pub mod Units
 pub mod WalkLemmas

@@ -8,7 +8,7 @@ use Rattle.fb_flatten.specs.Library.Local.{AgreeFar}
 use Rattle.fb_flatten.specs.Network.PlainFlat.{PlainFlat}
 use Rattle.fb_flatten.specs.Network.declared.flat.FlatBlock.{FlatBlock}
 use Rattle.fb_flatten.specs.Net.{PlainNet, blocked, recursive, too_large, flat_net}
-use Rattle.fb_flatten.proofs.NetLocal.{net_local}
+use Rattle.fb_flatten.proofs.NetLocality.{net_local}
 use Rattle.fb_mapping.specs.Homes.{PlainHomes, astray, block_homes, homeless, homes_of, misplaced, unless_faulty}
 use Rattle.fb_mapping.specs.Laws.{PlaceIsLocal}
 use Rattle.fb_mapping.specs.Mappings.{mapping_path, names_used, resource_at}

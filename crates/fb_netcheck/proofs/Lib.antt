@@ -1,7 +1,7 @@
 pub mod CleanLemmas
 pub mod JoinLemmas
 pub mod KnownLemmas
-pub mod LocalLemmas
+pub mod Locality
 pub mod RepeatLemmas
 pub mod RightLemmas
 -- Passed on to the crates above, which do not list these libraries.

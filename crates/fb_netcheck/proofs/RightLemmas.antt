@@ -34,7 +34,7 @@ use Rattle.fb_netcheck.specs.Ends.{holder_of, is_right, port_in, target_held, ta
 use Rattle.fb_netcheck.specs.Networks.{application_network, application_place, network_faults, networks_in, tree_faults, type_place}
 use Rattle.fb_netcheck.specs.Settings.{NetworkPlace}
 use Rattle.fb_netcheck.proofs.CleanLemmas.{clean_network, left_none, none_of_each, right_none}
-use Rattle.fb_netcheck.proofs.LocalLemmas.{Each, instance_stands}
+use Rattle.fb_netcheck.proofs.Locality.{Each, instance_stands}
 
 usable_some : (role : Role) (name : NameUse) (tree : Option DeclTree) → type_fault role name tree ≡ [] → is_some (usable role tree) ≡ true
 usable_some role name None e = absurd (let no : ⊥ = cc in no)

@@ -2,11 +2,11 @@ pub mod DecidedLemmas
 pub mod ExploreLemmas
 pub mod FilterLemmas
 pub mod GraphLemmas
-pub mod LocalLemmas
+pub mod Locality
 pub mod NameLemmas
 pub mod OrderLemmas
 pub mod PartLemmas
 pub mod ReachLemmas
 pub mod SearchLemmas
 pub mod StackLemmas
-pub mod UnitLemmas
+pub mod SearchOfUnit

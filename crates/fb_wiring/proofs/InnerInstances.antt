@@ -22,7 +22,7 @@ use Rattle.fb_faults.specs.Parse.Grammar.{application, application_of, applicati
 use Rattle.fb_faults.specs.Parse.SystemContents.{SystemContentsTree, of_application, of_device, of_mappings, system_joined}
 use Rattle.fb_faults.proofs.Parse.Bodies.{told}
 use Rattle.fb_faults.specs.Library.View.{Sources, tree_at, tree_in, tree_of}
-use Rattle.fb_faults.proofs.Netcheck.LocalLemmas.{Each}
+use Rattle.fb_faults.proofs.Netcheck.Locality.{Each}
 
 -- each value that tokens spell by the form has the fact
 abbrev GivesOnly : {A : Type 0} → Form A → (A → Type 0) → Type 0

@@ -1,12 +1,12 @@
 pub mod Finding
 pub mod FirstOnes
 pub mod InnerInstances
-pub mod LocalLemmas
+pub mod Locality
 pub mod NameLemmas
 pub mod NetworkLemmas
 pub mod NothingLemmas
 pub mod PortLemmas
-pub mod UnitLemmas
+pub mod CleanUnits
 -- Passed on to the crates above, which do not list these libraries.
 pub use Rattle.fb_faults.proofs.Tree as Tree
 pub use Rattle.fb_faults.proofs.Library as Library

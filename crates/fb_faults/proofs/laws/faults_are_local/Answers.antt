@@ -1,4 +1,4 @@
-use Rattle.fb_faults.proofs.LocalLemmas.{faults_local}
+use Rattle.fb_faults.proofs.Locality.{faults_local}
 use Rattle.fb_faults.proofs.laws.faults_are_local.Goals as goal
 
 pub returns : goal.returns

@@ -1,5 +1,5 @@
 -- The law is the lemma on places, chains and instances.
-use Rattle.fb_flatten.proofs.LocalLemmas.{same_flats}
+use Rattle.fb_flatten.proofs.FlatLocality.{same_flats}
 use Rattle.fb_flatten.proofs.laws.flat_networks_are_local.Goals as goal
 
 pub returns : goal.returns

@@ -1,4 +1,4 @@
-use Rattle.fb_library.proofs.LocalLemmas.{near_local}
+use Rattle.fb_library.proofs.Locality.{near_local}
 use Rattle.fb_library.proofs.laws.near_is_local.Goals as goal
 
 pub returns : goal.returns

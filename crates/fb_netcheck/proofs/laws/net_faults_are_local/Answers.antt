@@ -1,4 +1,4 @@
-use Rattle.fb_netcheck.proofs.LocalLemmas.{net_faults_local}
+use Rattle.fb_netcheck.proofs.Locality.{net_faults_local}
 use Rattle.fb_netcheck.proofs.laws.net_faults_are_local.Goals as goal
 
 pub returns : goal.returns

@@ -1,5 +1,5 @@
 use Rattle.std.proofs.lemmas.Result.{IfOk-weaker}
-use Rattle.fb_order.proofs.UnitLemmas.{some_weaker, whole_of_one, loop_of_one, loop_to_one}
+use Rattle.fb_order.proofs.SearchOfUnit.{some_weaker, whole_of_one, loop_of_one, loop_to_one}
 use Rattle.fb_order.proofs.search.inner_first.Goals as goal
 
 pub returns-clause-whole : goal.returns-clause-whole

@@ -1,4 +1,4 @@
-use Rattle.fb_wiring.proofs.UnitLemmas.{applications_clean}
+use Rattle.fb_wiring.proofs.CleanUnits.{applications_clean}
 use Rattle.fb_wiring.proofs.laws.applications_are_clean.Goals as goal
 
 pub returns : goal.returns

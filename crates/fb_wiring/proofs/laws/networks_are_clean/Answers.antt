@@ -1,4 +1,4 @@
-use Rattle.fb_wiring.proofs.UnitLemmas.{networks_clean}
+use Rattle.fb_wiring.proofs.CleanUnits.{networks_clean}
 use Rattle.fb_wiring.proofs.laws.networks_are_clean.Goals as goal
 
 pub returns : goal.returns

@@ -1,4 +1,4 @@
-use Rattle.fb_wiring.proofs.LocalLemmas.{networks_local}
+use Rattle.fb_wiring.proofs.Locality.{networks_local}
 use Rattle.fb_wiring.proofs.laws.networks_are_local.Goals as goal
 
 pub returns : goal.returns

@@ -10,24 +10,24 @@ use Rattle.fb_text.proofs.OrderLemmas.{in_order-members}
 use Rattle.fb_wiring.specs.Library.View.{Sources, tree_at, tree_of, mentions_at, near_of}
 use Rattle.fb_wiring.specs.Library.Rests.{Rests, itself}
 use Rattle.fb_wiring.specs.Library.Local.{AgreeFar}
-use Rattle.fb_wiring.proofs.Library.LocalLemmas.{far_local}
+use Rattle.fb_wiring.proofs.Library.Locality.{far_local}
 use Rattle.fb_wiring.specs.Faults.Faults.{faults_of}
-use Rattle.fb_wiring.proofs.Faults.LocalLemmas.{faults_local}
+use Rattle.fb_wiring.proofs.Faults.Locality.{faults_local}
 use Rattle.fb_order.specs.Reaches.{IsRecursive}
-use Rattle.fb_order.proofs.LocalLemmas.{recursion_local}
+use Rattle.fb_order.proofs.Locality.{recursion_local}
 use Rattle.fb_wiring.specs.Network.PlainFlat.{PlainFlat}
 use Rattle.fb_wiring.specs.Network.Instances.{Held}
 use Rattle.fb_text.proofs.Members.{contains_nothing, contains_here, contains_later, contains_cases}
 use Rattle.fb_compose.specs.declared.application.FlatApplication.{FlatApplication}
 use Rattle.fb_wiring.specs.ByName.{declared}
 use Rattle.fb_wiring.specs.declared.systems.Application.{Application}
-use Rattle.fb_wiring.proofs.LocalLemmas.{networks_local}
+use Rattle.fb_wiring.proofs.Locality.{networks_local}
 use Rattle.fb_flatten.specs.Blocking.{AreThose, IsBlocking}
 use Rattle.fb_flatten.specs.Laws.{NetIsLocal}
 use Rattle.fb_flatten.specs.Locality.{Within, IsClosed, SameNetworks}
 use Rattle.fb_flatten.specs.Net.{PlainNet, blocked, recursive, too_large, flat_net, IsNet, IsSound}
 use Rattle.fb_flatten.specs.Units.{AreFlatApplications, NoApplication, ThenApplication, Holds, IsTooLarge, IsWithinLimit, IsUnitFlat, OfSubapplication, OfSystem}
-use Rattle.fb_flatten.proofs.LocalLemmas.{instances_there, same_flats}
+use Rattle.fb_flatten.proofs.FlatLocality.{instances_there, same_flats}
 use Rattle.fb_flatten.proofs.MentionLemmas.{applications_within, declared_within, own_within}
 use Rattle.fb_flatten.proofs.OrderLemmas.{rests_on}
 

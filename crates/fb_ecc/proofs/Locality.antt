@@ -6,7 +6,7 @@ use Rattle.std.specs.Option.{option_and_then}
 use Rattle.fb_iface.specs.Tree.Mentions.{types_in}
 use Rattle.fb_iface.specs.Tree.Tree.{DeclTree, block_type, adapter_type, subapplication_type, system_configuration}
 use Rattle.fb_iface.specs.Library.View.{Sources, mentions_in, tree_at, tree_of}
-use Rattle.fb_iface.proofs.Library.LocalLemmas.{near_unit}
+use Rattle.fb_iface.proofs.Library.Locality.{near_unit}
 use Rattle.fb_iface.proofs.ScopeLocal.{in_order_has, near_mention, scope_local}
 use Rattle.fb_ecc.specs.Charts.{chart_faults, chart_faults_in}
 use Rattle.fb_ecc.specs.Local.{EccIsLocal}

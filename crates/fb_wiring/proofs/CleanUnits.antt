@@ -26,7 +26,7 @@ use Rattle.fb_faults.specs.Netcheck.Sides.{is_own_port}
 use Rattle.fb_faults.specs.Netcheck.declared.ends.Holder.TheVariants as holders
 use Rattle.fb_faults.specs.Netcheck.declared.ends.Position.TheVariants.{Source, Destination}
 use Rattle.fb_faults.proofs.Netcheck.CleanLemmas.{left_none, networks_clean as faultless_clean, none_of_each, right_none}
-use Rattle.fb_faults.proofs.Netcheck.LocalLemmas.{Each, instance_stands}
+use Rattle.fb_faults.proofs.Netcheck.Locality.{Each, instance_stands}
 use Rattle.fb_faults.proofs.Netcheck.RightLemmas.{connections_right}
 use Rattle.fb_network.specs.Plain.{PlainNetwork}
 use Rattle.fb_network.specs.declared.network.End.TheVariants.{Own}

@@ -6,7 +6,7 @@ use Rattle.std.specs.FinMap.{get}
 use Rattle.fb_library.specs.View.{Sources, tree_of, mentions_at, mentions_in}
 use Rattle.fb_library.specs.Local.{AgreeFar}
 use Rattle.fb_library.specs.Rests.{Rests, itself, through}
-use Rattle.fb_library.proofs.LocalLemmas.{far_local}
+use Rattle.fb_library.proofs.Locality.{far_local}
 use Rattle.fb_order.specs.Local.{RecursionIsLocal}
 use Rattle.fb_order.specs.Reaches.{Reaches, directly, onward}
 

@@ -13,7 +13,7 @@ use Rattle.fb_iface.specs.Tree.declared.kinds.UnitKind.TheVariants.{Block, Subap
 use Rattle.fb_iface.specs.Tree.declared.network.Connection.{Connection}
 use Rattle.fb_iface.specs.Tree.declared.network.End.{End}
 use Rattle.fb_iface.specs.Library.View.{Sources, mentions_in, tree_at, tree_of}
-use Rattle.fb_iface.proofs.Library.LocalLemmas.{near_unit}
+use Rattle.fb_iface.proofs.Library.Locality.{near_unit}
 use Rattle.fb_iface.proofs.ScopeLocal.{in_order_has, near_mention, network_scope_local, scope_local}
 use Rattle.fb_iface.specs.Names.{first_ones, is_same, stands_for}
 use Rattle.fb_iface.specs.Ports.{instances_in}
