@@ -115,7 +115,8 @@ pub(crate) fn orders_of<V: View>(
 ) -> Result<Vec<Order>, AllocError>
     requires { get_by_text table.now ≡ home_at homes.now }
     ensures { IfOk result (λ orders. orders.items ≡ orders_of (V.sources view.now) system.now
-        (applications_in (tree_at (V.sources view.now) system.now)) resources.now flat.now homes.now) }
+        (applications_in (tree_at (V.sources view.now) system.now))
+        resources.now flat.now homes.now) }
 {
     let mut orders = Vec::new(alloc);
     push_line_orders(create_lines(alloc, table, flat.blocks())?, &mut orders)?;

@@ -50,10 +50,12 @@ pub fn judge_reference(
     found: &mut Vec<Fault>,
 ) -> Result<Class, AllocError>
     ensures class { IfOk result (λ class. class ≡ class_in (scope_in scope.now)
-        (reference_expression (reference_tree reference.now) (expressions_of (map expression_tree subscripts.now)))) }
+        (reference_expression (reference_tree reference.now)
+        (expressions_of (map expression_tree subscripts.now)))) }
     ensures faults { OnOk result
         (found.new.items ≡ found.old.items ++ faults_in (scope_in scope.now)
-        (reference_expression (reference_tree reference.now) (expressions_of (map expression_tree subscripts.now)))) }
+        (reference_expression (reference_tree reference.now)
+        (expressions_of (map expression_tree subscripts.now)))) }
 {
     let referent = referred(scope, reference);
     report_unknown(&referent, span_of_names(reference), found)?;

@@ -85,7 +85,9 @@ fn report_assignment(
 ) -> Result<(), AllocError>
     ensures { OnOk result
         (found.new.items ≡ found.old.items ++ assignment_faults (scope_in scope.now)
-        (reference_expression (reference_tree variable.now) (expressions_of (map expression_tree subscripts.now))) place (expression_tree value.now)) }
+        (reference_expression (reference_tree variable.now)
+        (expressions_of (map expression_tree subscripts.now)))
+        place (expression_tree value.now)) }
 {
     let target = judge_reference(scope, variable, subscripts, found)?;
     let value = judge(scope, value, found)?;

@@ -1,7 +1,5 @@
-//! Tests of the words of the program, of its runs, and of servers and their clients.
+//! Tests of the words of the program and of its runs.
 #![tactic(auto)]
 
 #[cfg(test)]
 mod program;
-#[cfg(test)]
-mod servers;

@@ -1,0 +1,5 @@
+//! Tests of servers and their clients.
+#![tactic(auto)]
+
+#[cfg(test)]
+mod servers;
