@@ -6,19 +6,6 @@ use Rattle.clap.specs.declared.builder.value_parser.ValueParser.TheVariants as r
 use Rattle.fb_arguments.specs.declared.asked.Settings.{Settings}
 use Rattle.fb_arguments.specs.declared.asked.Settings.TheVariants.{Script, Serve}
 
--- the most units and recorded calls of a workbench, and the most workers and sessions of a server, that may be asked for
-abbrev pub most_units : ℕ
-most_units = 4096
-
-abbrev pub most_history : ℕ
-most_history = 1000000
-
-abbrev pub most_workers : ℕ
-most_workers = 16
-
-abbrev pub most_sessions : ℕ
-most_sessions = 64
-
 -- an option `--name N` with N from 1 to a most, and its default
 abbrev pub number_option : Text → ℕ → Text → Rule
 number_option name most default = record (new_rule name) { long = Some name; parser = Some (reads.Unsigned 1 most); defaults = default ∷ [] }
@@ -28,10 +15,10 @@ abbrev pub port_option : Rule
 port_option = record (new_rule (codes "port")) { long = Some (codes "port"); parser = Some (reads.Unsigned 0 65535); required = true }
 
 abbrev pub units_option : Rule
-units_option = number_option (codes "units") most_units (codes "1024")
+units_option = number_option (codes "units") 4096 (codes "1024")
 
 abbrev pub history_option : Rule
-history_option = number_option (codes "history") most_history (codes "100000")
+history_option = number_option (codes "history") 1000000 (codes "100000")
 
 abbrev pub script_app : App
 script_app = with_rule (with_rule (new_app (codes "script")) units_option) history_option
@@ -39,8 +26,8 @@ script_app = with_rule (with_rule (new_app (codes "script")) units_option) histo
 abbrev pub serve_app : App
 serve_app =
     with_rule (with_rule (
-    with_rule (with_rule (with_rule (new_app (codes "serve")) port_option) (number_option (codes "workers") most_workers (codes "2")))
-    (number_option (codes "sessions") most_sessions (codes "1"))
+    with_rule (with_rule (with_rule (new_app (codes "serve")) port_option) (number_option (codes "workers") 16 (codes "2")))
+    (number_option (codes "sessions") 64 (codes "1"))
     ) units_option) history_option
 
 -- the program, of which a subcommand is asked
@@ -59,16 +46,15 @@ IsNumberIn least most name rows number = (number_of name rows ≡ Some number) �
 
 -- the settings of a script are those of these matches
 abbrev pub IsScript : List Row → Settings → Type 0
-IsScript rows (Script units history) = IsNumberIn 1 most_units (codes "units") rows units × IsNumberIn 1 most_history (codes "history") rows history
+IsScript rows (Script units history) = IsNumberIn 1 4096 (codes "units") rows units × IsNumberIn 1 1000000 (codes "history") rows history
 IsScript rows (Serve port workers sessions units history) = ⊥
 
 -- the settings of a server are those of these matches
 abbrev pub IsServe : List Row → Settings → Type 0
 IsServe rows (Script units history) = ⊥
 IsServe rows (Serve port workers sessions units history) =
-    IsNumberIn 0 65535 (codes "port") rows port × IsNumberIn 1 most_workers (codes "workers") rows workers
-    × IsNumberIn 1 most_sessions (codes "sessions") rows sessions × IsNumberIn 1 most_units (codes "units") rows units
-    × IsNumberIn 1 most_history (codes "history") rows history
+    IsNumberIn 0 65535 (codes "port") rows port × IsNumberIn 1 16 (codes "workers") rows workers × IsNumberIn 1 64 (codes "sessions") rows sessions
+    × IsNumberIn 1 4096 (codes "units") rows units × IsNumberIn 1 1000000 (codes "history") rows history
 
 -- the settings are those of this subcommand and its matches
 abbrev pub IsAsked : Option (Text × List Row) → Settings → Type 0

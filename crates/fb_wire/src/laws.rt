@@ -15,8 +15,7 @@ pub fn one_talk()
 
 /// The bytes and the workbench decide which calls are made, what is written and how the workbench is then.
 pub fn one_script()
-    ensures { (caller : ℕ) (bytes : List ℕ) (pairs others : List Pair) (out written : List ℕ)
-        (start left right : Story)
+    ensures { (caller : ℕ) (bytes : List ℕ) (pairs others : List Pair) (out written : List ℕ) (start left right : Story)
         → AnsweredAll bytes pairs out → Runs (IsStep caller) start pairs left
         → AnsweredAll bytes others written → Runs (IsStep caller) start others right
         → (pairs ≡ others) × (out ≡ written) × (left ≡ right) }
