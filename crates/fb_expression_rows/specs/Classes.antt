@@ -90,7 +90,8 @@ pub data IsArithmetic : BinaryOperator → Type 0 where
 pub data Makes : BinaryOperator → Class → Class → Type 0 where
   logic : {operator : BinaryOperator} {c : Class} → JoinsTruths operator → IsLogical c → Makes operator c c
   comparison : {operator : BinaryOperator} {c : Class} → Compares operator → Makes operator c B
-  arithmetic : {operator : BinaryOperator} {c g : Class} → IsArithmetic operator → Calculates c g → Makes operator c g
+  arithmetic : {operator : BinaryOperator} {c g : Class} → IsArithmetic operator → Calculates c g
+      → Makes operator c g
   modulo : {c g : Class} → Divides c g → Makes Modulo c g
 
 -- an operator between operands of these classes meets its rule, and gives the third
@@ -107,7 +108,8 @@ pub data Spoils : BinaryOperator → Class → Type 0 where
 -- the class of an operation, whether it meets its rule or not
 pub data Results (operator : BinaryOperator) (left right : Class) : Class → Type 0 where
   met : {g : Class} → Combines operator left right g → Results operator left right g
-  broken : {g : Class} → ((c : Class) → ¬ Combines operator left right c) → Spoils operator g → Results operator left right g
+  broken : {g : Class} → ((c : Class) → ¬ Combines operator left right c) → Spoils operator g
+      → Results operator left right g
 
 -- what places ask for: a condition is a truth value, a count and a subscript a whole number, the variable of a FOR one that is declared so, and
 -- CASE selects by anything but a truth value
@@ -125,20 +127,39 @@ pub data Fits : ClassPlace → Class → Type 0 where
 mutual
   pub data HasClass (sources : Sources) (d : TypeTree) : Expression → Class → Type 0 where
     of_literal : {l : Literal} → HasClass sources d (literal_expression l) (class_of_literal l.form)
-    of_variable : {r : ReferenceTree} (used : TypeUse) → NamesVariable sources d r.name r.member used → HasClass sources d (reference_expression r no_expressions) (class_of_type used)
-    of_element : {r : ReferenceTree} {e : Expression} {others : Expressions} (used : TypeUse) → NamesVariable sources d r.name r.member used → used.form ≡ forms.Array → HasClass sources d (reference_expression r (expression_then e others)) (class_of_name used.name.name)
-    of_no_array : {r : ReferenceTree} {e : Expression} {others : Expressions} (used : TypeUse) → NamesVariable sources d r.name r.member used → used.form ≢ forms.Array → HasClass sources d (reference_expression r (expression_then e others)) O
-    of_no_variable : {r : ReferenceTree} {subscripts : Expressions} → ((used : TypeUse) → ¬ NamesVariable sources d r.name r.member used) → HasClass sources d (reference_expression r subscripts) Free
-    of_operator : {used : UnaryUse} {x : Expression} {g : Class} (c : Class) → HasClass sources d x c → Changes used.operator c g → HasClass sources d (unary_expression used x) g
-    of_broken : {used : UnaryUse} {x : Expression} (c : Class) → HasClass sources d x c → ((g : Class) → ¬ Changes used.operator c g) → HasClass sources d (unary_expression used x) Free
-    of_row : {x : Expression} {operands : Operands} {g : Class} (c : Class) → HasClass sources d x c → RowHasClass sources d c operands g → HasClass sources d (row_expression x operands) g
-    of_parentheses : {x : Expression} {span : Span} {c : Class} → HasClass sources d x c → HasClass sources d (parentheses x span) c
+    of_variable : {r : ReferenceTree} (used : TypeUse)
+        → NamesVariable sources d r.name r.member used
+        → HasClass sources d (reference_expression r no_expressions) (class_of_type used)
+    of_element : {r : ReferenceTree} {e : Expression} {others : Expressions} (used : TypeUse)
+        → NamesVariable sources d r.name r.member used → used.form ≡ forms.Array
+        → HasClass sources d (reference_expression r (expression_then e others)) (class_of_name used.name.name)
+    of_no_array : {r : ReferenceTree} {e : Expression} {others : Expressions} (used : TypeUse)
+        → NamesVariable sources d r.name r.member used → used.form ≢ forms.Array
+        → HasClass sources d (reference_expression r (expression_then e others)) O
+    of_no_variable : {r : ReferenceTree} {subscripts : Expressions}
+        → ((used : TypeUse) → ¬ NamesVariable sources d r.name r.member used)
+        → HasClass sources d (reference_expression r subscripts) Free
+    of_operator : {used : UnaryUse} {x : Expression} {g : Class} (c : Class)
+        → HasClass sources d x c → Changes used.operator c g
+        → HasClass sources d (unary_expression used x) g
+    of_broken : {used : UnaryUse} {x : Expression} (c : Class) → HasClass sources d x c
+        → ((g : Class) → ¬ Changes used.operator c g)
+        → HasClass sources d (unary_expression used x) Free
+    of_row : {x : Expression} {operands : Operands} {g : Class} (c : Class) → HasClass sources d x c
+        → RowHasClass sources d c operands g → HasClass sources d (row_expression x operands) g
+    of_parentheses : {x : Expression} {span : Span} {c : Class} → HasClass sources d x c
+        → HasClass sources d (parentheses x span) c
 
   pub data RowHasClass (sources : Sources) (d : TypeTree) : Class → Operands → Class → Type 0 where
     at_end : {c : Class} → RowHasClass sources d c no_operands c
-    behind : {left h : Class} {used : BinaryUse} {x : Expression} {others : Operands} (c g : Class) → HasClass sources d x c → Results used.operator left c g → RowHasClass sources d g others h → RowHasClass sources d left (operand_then used x others) h
+    behind : {left h : Class} {used : BinaryUse} {x : Expression} {others : Operands} (c g : Class)
+        → HasClass sources d x c → Results used.operator left c g → RowHasClass sources d g others h
+        → RowHasClass sources d left (operand_then used x others) h
 
 -- an operator of a row, the class of what stands before it, and the operand behind it
 pub data IsPairIn (sources : Sources) (d : TypeTree) (used : BinaryUse) (before : Class) (x : Expression) : Class → Operands → Type 0 where
   first_pair : {others : Operands} → IsPairIn sources d used before x before (operand_then used x others)
-  later_pair : {first : BinaryUse} {left : Class} {y : Expression} {others : Operands} (c g : Class) → HasClass sources d y c → Results first.operator left c g → IsPairIn sources d used before x g others → IsPairIn sources d used before x left (operand_then first y others)
+  later_pair : {first : BinaryUse} {left : Class} {y : Expression} {others : Operands} (c g : Class)
+      → HasClass sources d y c → Results first.operator left c g
+      → IsPairIn sources d used before x g others
+      → IsPairIn sources d used before x left (operand_then first y others)

@@ -8,7 +8,8 @@ use Rattle.fb_tree.specs.declared.expression.UnaryUse.{UnaryUse}
 -- the last operand of a row
 pub data IsLast (e : Expression) : Operands → Type 0 where
   only : {used : BinaryUse} → IsLast e (operand_then used e no_operands)
-  later : {used : BinaryUse} {x : Expression} {others : Operands} → IsLast e others → IsLast e (operand_then used x others)
+  later : {used : BinaryUse} {x : Expression} {others : Operands} → IsLast e others
+      → IsLast e (operand_then used x others)
 
 -- from the start of one place to the end of another
 abbrev pub joined : Span → Span → Span
@@ -18,8 +19,11 @@ joined first last = record { start = first.start; end = last.end }
 -- parentheses with what they enclose.
 pub data StandsAt : Expression → Span → Type 0 where
   literal : {l : Literal} → StandsAt (literal_expression l) l.span
-  reference : {r : ReferenceTree} {subscripts : Expressions} → StandsAt (reference_expression r subscripts) r.span
-  operator : {used : UnaryUse} {x : Expression} (s : Span) → StandsAt x s → StandsAt (unary_expression used x) (joined used.span s)
-  row : {first : Expression} {operands : Operands} (x : Expression) (a b : Span) → StandsAt first a → IsLast x operands → StandsAt x b → StandsAt (row_expression first operands) (joined a b)
+  reference : {r : ReferenceTree} {subscripts : Expressions}
+      → StandsAt (reference_expression r subscripts) r.span
+  operator : {used : UnaryUse} {x : Expression} (s : Span) → StandsAt x s
+      → StandsAt (unary_expression used x) (joined used.span s)
+  row : {first : Expression} {operands : Operands} (x : Expression) (a b : Span) → StandsAt first a
+      → IsLast x operands → StandsAt x b → StandsAt (row_expression first operands) (joined a b)
   no_row : {first : Expression} {s : Span} → StandsAt first s → StandsAt (row_expression first no_operands) s
   enclosed : {x : Expression} {s : Span} → StandsAt (parentheses x s) s

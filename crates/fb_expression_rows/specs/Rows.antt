@@ -28,8 +28,10 @@ IsBlockAt sources unit d = tree_at sources unit ≡ Some (block_type d)
 
 -- the names of a reference in the guards and the algorithms of a type, or the name behind FOR in an algorithm
 pub data IsNamedIn (d : TypeTree) : NameUse → Option NameUse → Type 0 where
-  in_reference : (r : ReferenceTree) (subscripts : Expressions) → IsWrittenIn d (reference_expression r subscripts) → IsNamedIn d r.name r.member
-  behind_for : (name : NameUse) (from to : Expression) (by : Option Expression) (body : Statements) → IsRunIn d (count name from to by body) → IsNamedIn d name None
+  in_reference : (r : ReferenceTree) (subscripts : Expressions)
+      → IsWrittenIn d (reference_expression r subscripts) → IsNamedIn d r.name r.member
+  behind_for : (name : NameUse) (from to : Expression) (by : Option Expression) (body : Statements)
+      → IsRunIn d (count name from to by body) → IsNamedIn d name None
 
 -- from the first name through the last
 abbrev pub span_through : NameUse → Option NameUse → Span
@@ -51,13 +53,29 @@ pub record HasUnknownVariable (sources : Sources) (unit : List ℕ) (span : Span
 -- between operands that don't join, or whose join it has no rule for; at a subscript, a guard, or an expression in a statement that doesn't fit its
 -- place; at the variable of a FOR that is no whole number; and at the `:=` of an assignment whose sides don't join.
 pub data BreaksRule (sources : Sources) (d : TypeTree) : Span → Type 0 where
-  at_operator : (used : UnaryUse) (x : Expression) (c : ValueClass) → IsWrittenIn d (unary_expression used x) → HasClass sources d x c → ((g : ValueClass) → ¬ Changes used.operator c g) → BreaksRule sources d used.span
-  between_operands : (first : Expression) (row : Operands) (start : ValueClass) (used : BinaryUse) (before : ValueClass) (x : Expression) (c : ValueClass) → IsWrittenIn d (row_expression first row) → HasClass sources d first start → IsPairIn sources d used before x start row → HasClass sources d x c → ((g : ValueClass) → ¬ Combines used.operator before c g) → BreaksRule sources d used.span
-  at_subscript : {span : Span} (r : ReferenceTree) (subscripts : Expressions) (x : Expression) (c : ValueClass) → IsWrittenIn d (reference_expression r subscripts) → IsOneOf x subscripts → HasClass sources d x c → ¬ Fits Count c → StandsAt x span → BreaksRule sources d span
-  at_guard : {span : Span} (x : Expression) (c : ValueClass) → IsTestedIn d x → HasClass sources d x c → ¬ Fits Condition c → StandsAt x span → BreaksRule sources d span
-  in_statement : {span : Span} (s : Statement) (place : ClassPlace) (x : Expression) (c : ValueClass) → IsRunIn d s → Asks s place x → HasClass sources d x c → ¬ Fits place c → StandsAt x span → BreaksRule sources d span
-  at_counter : (name : NameUse) (from to : Expression) (by : Option Expression) (body : Statements) (used : TypeUse) → IsRunIn d (count name from to by body) → NamesVariable sources d name None used → ¬ Fits Counter (class_of_type used) → BreaksRule sources d name.span
-  at_assignment : (r : ReferenceTree) (subscripts : Expressions) (place : Span) (e : Expression) (a b : ValueClass) → IsRunIn d (assignment r subscripts place e) → HasClass sources d (reference_expression r subscripts) a → HasClass sources d e b → ((c : ValueClass) → ¬ Joins a b c) → BreaksRule sources d place
+  at_operator : (used : UnaryUse) (x : Expression) (c : ValueClass)
+      → IsWrittenIn d (unary_expression used x) → HasClass sources d x c
+      → ((g : ValueClass) → ¬ Changes used.operator c g) → BreaksRule sources d used.span
+  between_operands : (first : Expression) (row : Operands) (start : ValueClass) (used : BinaryUse)
+      (before : ValueClass) (x : Expression) (c : ValueClass)
+      → IsWrittenIn d (row_expression first row) → HasClass sources d first start
+      → IsPairIn sources d used before x start row → HasClass sources d x c
+      → ((g : ValueClass) → ¬ Combines used.operator before c g) → BreaksRule sources d used.span
+  at_subscript : {span : Span} (r : ReferenceTree) (subscripts : Expressions) (x : Expression) (c : ValueClass)
+      → IsWrittenIn d (reference_expression r subscripts) → IsOneOf x subscripts
+      → HasClass sources d x c → ¬ Fits Count c → StandsAt x span → BreaksRule sources d span
+  at_guard : {span : Span} (x : Expression) (c : ValueClass) → IsTestedIn d x
+      → HasClass sources d x c → ¬ Fits Condition c → StandsAt x span → BreaksRule sources d span
+  in_statement : {span : Span} (s : Statement) (place : ClassPlace) (x : Expression) (c : ValueClass)
+      → IsRunIn d s → Asks s place x → HasClass sources d x c → ¬ Fits place c → StandsAt x span
+      → BreaksRule sources d span
+  at_counter : (name : NameUse) (from to : Expression) (by : Option Expression) (body : Statements) (used : TypeUse)
+      → IsRunIn d (count name from to by body) → NamesVariable sources d name None used
+      → ¬ Fits Counter (class_of_type used) → BreaksRule sources d name.span
+  at_assignment : (r : ReferenceTree) (subscripts : Expressions) (place : Span) (e : Expression) (a b : ValueClass)
+      → IsRunIn d (assignment r subscripts place e)
+      → HasClass sources d (reference_expression r subscripts) a → HasClass sources d e b
+      → ((c : ValueClass) → ¬ Joins a b c) → BreaksRule sources d place
 
 -- a rule of classes that is broken
 pub record HasBrokenRule (sources : Sources) (unit : List ℕ) (span : Span) : Type 0 where
@@ -67,7 +85,8 @@ pub record HasBrokenRule (sources : Sources) (unit : List ℕ) (span : Span) : T
 
 -- the list of faults has the code at exactly these places
 abbrev pub IsReportedWhere : Code → (Sources → List ℕ → Span → Type 0) → Type 0
-IsReportedWhere code Has = (sources : Sources) (unit : List ℕ) (span : Span) → Contains (expr_faults_of sources unit) (record { code = code; span = span }) ↔ Has sources unit span
+IsReportedWhere code Has = (sources : Sources) (unit : List ℕ) (span : Span)
+    → Contains (expr_faults_of sources unit) (record { code = code; span = span }) ↔ Has sources unit span
 
 abbrev pub VariablesAreKnown : Type 0
 VariablesAreKnown = IsReportedWhere VariableUnknown HasUnknownVariable
@@ -77,8 +96,10 @@ ClassesAreRight = IsReportedWhere Class HasBrokenRule
 
 -- each expression has exactly one class
 abbrev pub ExpressionsHaveOneClass : Type 0
-ExpressionsHaveOneClass = (sources : Sources) (d : TypeTree) (e : Expression) → (c : ValueClass) × HasClass sources d e c × ((other : ValueClass) → HasClass sources d e other → other ≡ c)
+ExpressionsHaveOneClass = (sources : Sources) (d : TypeTree) (e : Expression)
+    → (c : ValueClass) × HasClass sources d e c × ((other : ValueClass) → HasClass sources d e other → other ≡ c)
 
 -- the faults of expressions and statements have these codes alone
 abbrev pub NoOtherCodes : Type 0
-NoOtherCodes = (sources : Sources) (unit : List ℕ) (f : Fault) → Contains (expr_faults_of sources unit) f → (f.code ≡ VariableUnknown) ⊎ (f.code ≡ Class)
+NoOtherCodes = (sources : Sources) (unit : List ℕ) (f : Fault)
+    → Contains (expr_faults_of sources unit) f → (f.code ≡ VariableUnknown) ⊎ (f.code ≡ Class)

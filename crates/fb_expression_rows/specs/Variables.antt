@@ -19,9 +19,16 @@ pub data IsAdapter (d : TypeTree) (name : List ℕ) (i : DeclaredInstance) : Typ
 -- The variable of this type that `X` or `p.X` names in a block type: one of its own, or a data input or output of the adapter type of an own plug
 -- or socket.
 pub data NamesVariable (sources : Sources) (d : TypeTree) : NameUse → Option NameUse → TypeUse → Type 0 where
-  own : {X : NameUse} (v : DeclaredVariable) → stands_for (meanings_in_type d).variables X.name ≡ Some v → NamesVariable sources d X None v.type_use
-  of_adapter : {p X : NameUse} (i : DeclaredInstance) (a : TypeTree) (v : DeclaredVariable) → IsAdapter d p.name i → tree_at sources i.type_name.name ≡ Some (adapter_type a) → stands_for (meanings_in_type a).variables X.name ≡ Some v → v.section ≢ Internal → NamesVariable sources d p (Some X) v.type_use
+  own : {X : NameUse} (v : DeclaredVariable)
+      → stands_for (meanings_in_type d).variables X.name ≡ Some v
+      → NamesVariable sources d X None v.type_use
+  of_adapter : {p X : NameUse} (i : DeclaredInstance) (a : TypeTree) (v : DeclaredVariable)
+      → IsAdapter d p.name i → tree_at sources i.type_name.name ≡ Some (adapter_type a)
+      → stands_for (meanings_in_type a).variables X.name ≡ Some v → v.section ≢ Internal
+      → NamesVariable sources d p (Some X) v.type_use
 
 -- `p.X` where the type of the own plug or socket p is absent, broken or no adapter type
 pub data IsNotJudged (sources : Sources) (d : TypeTree) : NameUse → Option NameUse → Type 0 where
-  of_unusable : {p X : NameUse} (i : DeclaredInstance) → IsAdapter d p.name i → ((a : TypeTree) → tree_at sources i.type_name.name ≢ Some (adapter_type a)) → IsNotJudged sources d p (Some X)
+  of_unusable : {p X : NameUse} (i : DeclaredInstance) → IsAdapter d p.name i
+      → ((a : TypeTree) → tree_at sources i.type_name.name ≢ Some (adapter_type a))
+      → IsNotJudged sources d p (Some X)

@@ -1,13 +1,14 @@
 //! Laws of the faults of expressions and statements: where each code is reported.
 ghost use Rattle.fb_expression_rows.specs.Rows.{ClassesAreRight, ExpressionsHaveOneClass, NoOtherCodes, VariablesAreKnown};
 
-/// A reference in a guard or an algorithm, or the name behind `FOR`, is a fault where it names no variable of the unit and no data of an own
+/// A reference in a guard or an algorithm, or the name behind `FOR`, is a fault exactly where it names no variable of the unit and no data of an own
 /// plug or socket, and rests on no type that is not usable.
 pub fn variables_are_known()
     ensures { VariablesAreKnown }
 {}
 
-/// An operator, a place in a statement, or an assignment in a guard or an algorithm is a fault where it breaks its rule of classes.
+/// An operator, a subscript, a guard, an expression in a statement, the variable of a `FOR`, or the `:=` of an assignment is a fault exactly
+/// where it breaks its rule of classes.
 pub fn classes_are_right()
     ensures { ClassesAreRight }
 {}

@@ -36,17 +36,29 @@ pub record Site : Type 0 where
 -- A network of the unit, where it stands: that of a block type, of a subapplication type, or of an application of a system, which has no own
 -- ports.
 pub data IsNetworkOf (sources : Sources) (unit : List ℕ) : Site → NetworkTree → Type 0 where
-  of_block : (d : TypeTree) → tree_at sources unit ≡ Some (block_type d) → IsNetworkOf sources unit (record { unit = unit; kind = kinds.Block; own = meanings_in_type d }) d.network
-  of_subapplication : (d : TypeTree) → tree_at sources unit ≡ Some (subapplication_type d) → IsNetworkOf sources unit (record { unit = unit; kind = kinds.Subapplication; own = meanings_in_type d }) d.network
-  of_application : (s : SystemTree) (a : ApplicationTree) → tree_at sources unit ≡ Some (system_configuration s) → Contains s.applications a → IsNetworkOf sources unit (record { unit = unit; kind = kinds.System; own = record { events = []; variables = []; instances = first_ones (instances_in a.network) } }) a.network
+  of_block : (d : TypeTree) → tree_at sources unit ≡ Some (block_type d)
+      → IsNetworkOf sources unit (record { unit = unit; kind = kinds.Block; own = meanings_in_type d }) d.network
+  of_subapplication : (d : TypeTree) → tree_at sources unit ≡ Some (subapplication_type d)
+      → IsNetworkOf sources unit (record { unit = unit; kind = kinds.Subapplication; own = meanings_in_type d }) d.network
+  of_application : (s : SystemTree) (a : ApplicationTree)
+      → tree_at sources unit ≡ Some (system_configuration s) → Contains s.applications a
+      → IsNetworkOf sources unit (record {
+        unit = unit;
+        kind = kinds.System;
+        own = record { events = []; variables = []; instances = first_ones (instances_in a.network) };
+      }) a.network
 
 -- The type of this name is usable in this role: present, not broken, and of the kind that the section wants. These are what its names stand
 -- for.
 pub data IsUsable (sources : Sources) (name : List ℕ) : Role → Meanings → Type 0 where
-  as_plug : (d : TypeTree) → tree_at sources name ≡ Some (adapter_type d) → IsUsable sources name roles.Plug (meanings_in_type d)
-  as_socket : (d : TypeTree) → tree_at sources name ≡ Some (adapter_type d) → IsUsable sources name roles.Socket (meanings_in_type d)
-  as_block : (d : TypeTree) → tree_at sources name ≡ Some (block_type d) → IsUsable sources name roles.Block (meanings_in_type d)
-  as_subapplication : (d : TypeTree) → tree_at sources name ≡ Some (subapplication_type d) → IsUsable sources name roles.Subapplication (meanings_in_type d)
+  as_plug : (d : TypeTree) → tree_at sources name ≡ Some (adapter_type d)
+      → IsUsable sources name roles.Plug (meanings_in_type d)
+  as_socket : (d : TypeTree) → tree_at sources name ≡ Some (adapter_type d)
+      → IsUsable sources name roles.Socket (meanings_in_type d)
+  as_block : (d : TypeTree) → tree_at sources name ≡ Some (block_type d)
+      → IsUsable sources name roles.Block (meanings_in_type d)
+  as_subapplication : (d : TypeTree) → tree_at sources name ≡ Some (subapplication_type d)
+      → IsUsable sources name roles.Subapplication (meanings_in_type d)
 
 -- an end of a connection, where it stands in it
 pub data IsEndOf (c : Connection) : Position → End → Type 0 where
@@ -63,31 +75,48 @@ place_of end = span_through end.name end.port
 
 -- two ends of the same names
 abbrev pub HaveSameNames : End → End → Type 0
-HaveSameNames a b = (a.name.name ≡ b.name.name) × (option_map (λ n. n.name) a.port ≡ option_map (λ n. n.name) b.port)
+HaveSameNames a b = (a.name.name ≡ b.name.name)
+    × (option_map (λ n. n.name) a.port ≡ option_map (λ n. n.name) b.port)
 
 -- a name of a unit stands for a port of this sort: an event, a data input or output, a socket as an input or a plug as an output
 pub data IsPort (ports : Meanings) (name : List ℕ) : Sort → Port → Type 0 where
-  event : (e : DeclaredEvent) → stands_for ports.events name ≡ Some e → IsPort ports name sorts.Event (record { side = e.side; flow = flows.Event })
-  data_input : (v : DeclaredVariable) → stands_for ports.variables name ≡ Some v → v.section ≡ sections.Input → IsPort ports name sorts.Data (record { side = Input; flow = flows.Data v.type_use })
-  data_output : (v : DeclaredVariable) → stands_for ports.variables name ≡ Some v → v.section ≡ sections.Output → IsPort ports name sorts.Data (record { side = Output; flow = flows.Data v.type_use })
-  socket : (i : DeclaredInstance) → stands_for ports.instances name ≡ Some i → i.role ≡ roles.Socket → IsPort ports name sorts.Adapter (record { side = Input; flow = flows.Adapter i.type_name })
-  plug : (i : DeclaredInstance) → stands_for ports.instances name ≡ Some i → i.role ≡ roles.Plug → IsPort ports name sorts.Adapter (record { side = Output; flow = flows.Adapter i.type_name })
+  event : (e : DeclaredEvent) → stands_for ports.events name ≡ Some e
+      → IsPort ports name sorts.Event (record { side = e.side; flow = flows.Event })
+  data_input : (v : DeclaredVariable) → stands_for ports.variables name ≡ Some v
+      → v.section ≡ sections.Input
+      → IsPort ports name sorts.Data (record { side = Input; flow = flows.Data v.type_use })
+  data_output : (v : DeclaredVariable) → stands_for ports.variables name ≡ Some v
+      → v.section ≡ sections.Output
+      → IsPort ports name sorts.Data (record { side = Output; flow = flows.Data v.type_use })
+  socket : (i : DeclaredInstance) → stands_for ports.instances name ≡ Some i → i.role ≡ roles.Socket
+      → IsPort ports name sorts.Adapter (record { side = Input; flow = flows.Adapter i.type_name })
+  plug : (i : DeclaredInstance) → stands_for ports.instances name ≡ Some i → i.role ≡ roles.Plug
+      → IsPort ports name sorts.Adapter (record { side = Output; flow = flows.Adapter i.type_name })
 
 -- Connections of this sort reach the ports of an instance; those of an own plug or socket are reached by events and data, in a block type.
 pub data IsReached (here : Site) (sort : Sort) (i : DeclaredInstance) : Holder → Type 0 where
   of_block_instance : i.role ≡ roles.Block → IsReached here sort i OfInstance
   of_subapplication_instance : i.role ≡ roles.Subapplication → IsReached here sort i OfInstance
-  of_plug : i.role ≡ roles.Plug → here.kind ≡ kinds.Block → sort ≢ sorts.Adapter → IsReached here sort i OfPlug
-  of_socket : i.role ≡ roles.Socket → here.kind ≡ kinds.Block → sort ≢ sorts.Adapter → IsReached here sort i OfSocket
+  of_plug : i.role ≡ roles.Plug → here.kind ≡ kinds.Block → sort ≢ sorts.Adapter
+      → IsReached here sort i OfPlug
+  of_socket : i.role ≡ roles.Socket → here.kind ≡ kinds.Block → sort ≢ sorts.Adapter
+      → IsReached here sort i OfSocket
 
 -- The port of this sort that `X` or `I.X` names: whose it is, and the unit in whose text it is declared.
 pub data Names (sources : Sources) (here : Site) (sort : Sort) : NameUse → Option NameUse → Holder → List ℕ → Port → Type 0 where
-  own_port : {X : NameUse} {port : Port} → IsPort here.own X.name sort port → Names sources here sort X None Own here.unit port
-  port_of : {I X : NameUse} {holder : Holder} {port : Port} (i : DeclaredInstance) (ports : Meanings) → stands_for here.own.instances I.name ≡ Some i → IsReached here sort i holder → IsUsable sources i.type_name.name i.role ports → IsPort ports X.name sort port → Names sources here sort I (Some X) holder i.type_name.name port
+  own_port : {X : NameUse} {port : Port} → IsPort here.own X.name sort port
+      → Names sources here sort X None Own here.unit port
+  port_of : {I X : NameUse} {holder : Holder} {port : Port} (i : DeclaredInstance) (ports : Meanings)
+      → stands_for here.own.instances I.name ≡ Some i → IsReached here sort i holder
+      → IsUsable sources i.type_name.name i.role ports → IsPort ports X.name sort port
+      → Names sources here sort I (Some X) holder i.type_name.name port
 
--- `I.X` where the type of I is not usable
+-- `I.X` where connections of this sort reach the ports of I, and its type is not usable
 pub data IsNotJudged (sources : Sources) (here : Site) (sort : Sort) : NameUse → Option NameUse → Type 0 where
-  unusable : {I X : NameUse} {holder : Holder} (i : DeclaredInstance) → stands_for here.own.instances I.name ≡ Some i → IsReached here sort i holder → ((ports : Meanings) → ¬ IsUsable sources i.type_name.name i.role ports) → IsNotJudged sources here sort I (Some X)
+  unusable : {I X : NameUse} {holder : Holder} (i : DeclaredInstance)
+      → stands_for here.own.instances I.name ≡ Some i → IsReached here sort i holder
+      → ((ports : Meanings) → ¬ IsUsable sources i.type_name.name i.role ports)
+      → IsNotJudged sources here sort I (Some X)
 
 -- The right sides. What comes in at an own input, or through a plug, is a source inside.
 pub data IsRightSide : Position → Holder → Side → Type 0 where

@@ -32,7 +32,7 @@ use Rattle.fb_netcheck.specs.Networks.{net_faults_of}
 use Rattle.fb_netcheck.specs.Spellings.{words_at}
 use Rattle.fb_network_rows.specs.Ends.{HaveSameNames, IsEndOf, IsNetworkOf, IsNotJudged, IsRightSide, IsUsable, Names, NamesRight, Site, place_of}
 
--- an end that names no port of the connection's sort, though the type of the instance, if there is one, is usable
+-- an end that names no port of the connection's sort, and is none of an instance that connections of this sort reach and whose type is not usable
 pub record HasUnknownPort (sources : Sources) (unit : List ℕ) (span : Span) : Type 0 where
   pub here : Site
   pub network : NetworkTree
@@ -42,7 +42,8 @@ pub record HasUnknownPort (sources : Sources) (unit : List ℕ) (span : Span) : 
   pub position : Position
   pub end : End
   pub is_end : IsEndOf connection position end
-  pub unknown : (holder : Holder) (home : List ℕ) (port : Port) → ¬ Names sources here connection.sort end.name end.port holder home port
+  pub unknown : (holder : Holder) (home : List ℕ) (port : Port)
+      → ¬ Names sources here connection.sort end.name end.port holder home port
   pub judged : ¬ IsNotJudged sources here connection.sort end.name end.port
   pub place : span ≡ place_of end
 
@@ -66,15 +67,23 @@ pub record HasWrongSide (sources : Sources) (unit : List ℕ) (span : Span) : Ty
 -- Two data types that are the same, each in the text of a unit: plain ones of one name, and two with a length or two arrays whose tokens are
 -- the same in upper case.
 pub data IsSameType (sources : Sources) (unit : List ℕ) (a : TypeUse) (other : List ℕ) (b : TypeUse) : Type 0 where
-  of_names : a.form ≡ forms.Plain → b.form ≡ forms.Plain → a.name.name ≡ b.name.name → IsSameType sources unit a other b
-  of_sizes : a.form ≡ forms.Sized → b.form ≡ forms.Sized → words_at sources unit a.span ≡ words_at sources other b.span → IsSameType sources unit a other b
-  of_arrays : a.form ≡ forms.Array → b.form ≡ forms.Array → words_at sources unit a.span ≡ words_at sources other b.span → IsSameType sources unit a other b
+  of_names : a.form ≡ forms.Plain → b.form ≡ forms.Plain → a.name.name ≡ b.name.name
+      → IsSameType sources unit a other b
+  of_sizes : a.form ≡ forms.Sized → b.form ≡ forms.Sized
+      → words_at sources unit a.span ≡ words_at sources other b.span
+      → IsSameType sources unit a other b
+  of_arrays : a.form ≡ forms.Array → b.form ≡ forms.Array
+      → words_at sources unit a.span ≡ words_at sources other b.span
+      → IsSameType sources unit a other b
 
 -- Two ports of different types, each declared in the text of a unit: of data types, where neither is of the class Free; of adapter types by
 -- their names.
 pub data DifferInType (sources : Sources) (unit other : List ℕ) : Flow → Flow → Type 0 where
-  data_types : {a b : TypeUse} → class_of_type a ≢ Free → class_of_type b ≢ Free → ¬ IsSameType sources unit a other b → DifferInType sources unit other (flows.Data a) (flows.Data b)
-  adapter_types : {a b : NameUse} → a.name ≢ b.name → DifferInType sources unit other (flows.Adapter a) (flows.Adapter b)
+  data_types : {a b : TypeUse} → class_of_type a ≢ Free → class_of_type b ≢ Free
+      → ¬ IsSameType sources unit a other b
+      → DifferInType sources unit other (flows.Data a) (flows.Data b)
+  adapter_types : {a b : NameUse} → a.name ≢ b.name
+      → DifferInType sources unit other (flows.Adapter a) (flows.Adapter b)
 
 -- a connection of two ports of the right sides and of different types
 pub record HasOtherType (sources : Sources) (unit : List ℕ) (span : Span) : Type 0 where
@@ -106,7 +115,9 @@ pub record HasSecondSource (sources : Sources) (unit : List ℕ) (span : Span) :
 
 -- an end of an adapter connection that is an end of an earlier one, or a destination that is the source of its own
 pub data IsTaken (before : List Connection) (c : Connection) : Position → End → Type 0 where
-  by_earlier : {position : Position} {end : End} (first : Connection) (other : Position) (taken : End) → Contains before first → first.sort ≡ sorts.Adapter → IsEndOf first other taken → HaveSameNames taken end → IsTaken before c position end
+  by_earlier : {position : Position} {end : End} (first : Connection) (other : Position) (taken : End)
+      → Contains before first → first.sort ≡ sorts.Adapter → IsEndOf first other taken
+      → HaveSameNames taken end → IsTaken before c position end
   by_source : HaveSameNames c.source c.destination → IsTaken before c Destination c.destination
 
 -- an end of an adapter connection that is taken
@@ -152,7 +163,8 @@ pub record HasUnknownParameter (sources : Sources) (unit : List ℕ) (span : Spa
   pub usable : IsUsable sources instance.type_name.name roles.Block ports
   pub parameter : ParameterTree
   pub written : Contains instance.parameters parameter
-  pub no_input : (v : DeclaredVariable) → stands_for ports.variables parameter.name.name ≡ Some v → v.section ≢ sections.Input
+  pub no_input : (v : DeclaredVariable) → stands_for ports.variables parameter.name.name ≡ Some v
+      → v.section ≢ sections.Input
   pub place : span ≡ parameter.name.span
 
 -- a parameter of a block instance that stands for a data input of its type, and whose value doesn't fit the input's type
@@ -185,7 +197,8 @@ pub data IsCodeOfNetworks : Code → Type 0 where
 
 -- the list of faults has the code at exactly these places
 abbrev pub IsReportedWhere : Code → (Sources → List ℕ → Span → Type 0) → Type 0
-IsReportedWhere code Has = (sources : Sources) (unit : List ℕ) (span : Span) → Contains (net_faults_of sources unit) (record { code = code; span = span }) ↔ Has sources unit span
+IsReportedWhere code Has = (sources : Sources) (unit : List ℕ) (span : Span)
+    → Contains (net_faults_of sources unit) (record { code = code; span = span }) ↔ Has sources unit span
 
 abbrev pub PortsAreKnown : Type 0
 PortsAreKnown = IsReportedWhere PortUnknown HasUnknownPort
@@ -212,4 +225,5 @@ abbrev pub ParametersFit : Type 0
 ParametersFit = IsReportedWhere Literal HasMisfit
 
 abbrev pub NoOtherCodes : Type 0
-NoOtherCodes = (sources : Sources) (unit : List ℕ) (fault : Fault) → Contains (net_faults_of sources unit) fault → IsCodeOfNetworks fault.code
+NoOtherCodes = (sources : Sources) (unit : List ℕ) (fault : Fault)
+    → Contains (net_faults_of sources unit) fault → IsCodeOfNetworks fault.code

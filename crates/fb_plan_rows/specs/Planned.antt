@@ -22,13 +22,15 @@ pub record IsPlanned (sources : Sources) (system : List ℕ) (flat : PlainFlat) 
 -- The home of what stands at a path is the resource of the mapping with the longest path that is this path or stands in front of it by whole
 -- names.
 abbrev pub IsHome : Sources → List ℕ → List ℕ → List ℕ → Type 0
-IsHome sources system path resource = IsNearest (resource_at (mappings_in (tree_at sources system))) path (Some resource)
+IsHome sources system path resource =
+    IsNearest (resource_at (mappings_in (tree_at sources system))) path (Some resource)
 
 -- the block at an end of a link: its path is the longest of those that stand in front of the end by whole names
 pub record IsBlockAt (blocks : List FlatBlock) (end : List ℕ) (block : FlatBlock) : Type 0 where
   pub listed : Contains blocks block
   pub front : IsFront block.path end
-  pub longest : (other : FlatBlock) → Contains blocks other → IsFront other.path end → length other.path ≤ length block.path
+  pub longest : (other : FlatBlock) → Contains blocks other → IsFront other.path end
+      → length other.path ≤ length block.path
 
 -- an end of a link stands on the home of the block at this end
 pub record StandsOn (sources : Sources) (system : List ℕ) (blocks : List FlatBlock) (end resource : List ℕ) : Type 0 where
@@ -38,7 +40,8 @@ pub record StandsOn (sources : Sources) (system : List ℕ) (blocks : List FlatB
 
 -- Nothing of the system is misplaced: each block has a home, and each mapping is of an application, a block or a subapplication instance.
 pub record IsPlacedWhole (sources : Sources) (system : List ℕ) (flat : PlainFlat) : Type 0 where
-  pub homes : (block : FlatBlock) → Contains flat.blocks block → (resource : List ℕ) × IsHome sources system block.path resource
+  pub homes : (block : FlatBlock) → Contains flat.blocks block
+      → (resource : List ℕ) × IsHome sources system block.path resource
   pub mappings :
       (m : MappingTree) → Contains (mappings_in (tree_at sources system)) m
       → leads_nowhere sources system (applications_in (tree_at sources system)) (names_used m.path) ≡ false

@@ -33,7 +33,8 @@ pub record JoinsResources (sources : Sources) (system : List ℕ) (flat : PlainF
 
 -- the links of the flat network that join resources, in its order, each once
 pub record AreCuts (sources : Sources) (system : List ℕ) (flat : PlainFlat) (cuts : List Link) : Type 0 where
-  pub members : (link : Link) → Contains cuts link ↔ (Contains flat.links link × JoinsResources sources system flat link)
+  pub members : (link : Link)
+      → Contains cuts link ↔ (Contains flat.links link × JoinsResources sources system flat link)
   pub in_order : IsStrictlySortedBy link_cmp cuts
 
 -- ---- commands
@@ -73,11 +74,13 @@ pub record SetsParameter (sources : Sources) (system : List ℕ) (flat : PlainFl
   pub listed : Contains flat.blocks block
   pub home : IsHome sources system block.path resource
   pub standing : PlainStanding
-  pub stands : standing_at sources system (applications_in (tree_at sources system)) (path_names block.path) ≡ Some standing
+  pub stands : standing_at sources system (applications_in (tree_at sources system)) (path_names block.path)
+      ≡ Some standing
   pub parameter : ParameterTree
   pub given : Contains standing.instance.parameters parameter
   pub place : line.place ≡ dotted block.path parameter.name.name
-  pub command : line.command ≡ write_text (dotted block.path parameter.name.name) (written (text_or_empty sources standing.unit) parameter.value)
+  pub command : line.command
+      ≡ write_text (dotted block.path parameter.name.name) (written (text_or_empty sources standing.unit) parameter.value)
   pub on_home : line.resource ≡ resource
 
 -- The commands of a resource set the parameters of the blocks whose home it is, by the bytes of their places, each once; no other command
@@ -111,7 +114,8 @@ pub record MakesItsLinks (sources : Sources) (system : List ℕ) (flat : PlainFl
 
 -- the item stands in the list once
 abbrev pub StandsOnce : List (List ℕ) → List ℕ → Type 0
-StandsOnce items item = (before after : List (List ℕ)) → items ≡ before ++ item ∷ after → ¬ Contains before item × ¬ Contains after item
+StandsOnce items item = (before after : List (List ℕ)) → items ≡ before ++ item ∷ after
+    → ¬ Contains before item × ¬ Contains after item
 
 -- Blocks are made, then parameters set, then links made, then this resource is started: by one command, where the system's text has the
 -- resource once.
@@ -148,57 +152,70 @@ pub record IsCutOrMade (sources : Sources) (system : List ℕ) (flat : PlainFlat
 -- ---- laws
 
 -- what holds of each resource of a plan
-abbrev pub HoldsOfResources : (Sources → List ℕ → PlainFlat → List PlainResource → PlainResource → Type 0) → Type 0
+abbrev pub HoldsOfResources : (Sources → List ℕ → PlainFlat → List PlainResource → PlainResource → Type 0)
+    → Type 0
 HoldsOfResources Fact =
-    (sources : Sources) (system : List ℕ) (flat : PlainFlat) (cuts : List Link) (resources : List PlainResource) → IsPlanned sources system flat cuts resources
+    (sources : Sources) (system : List ℕ) (flat : PlainFlat) (cuts : List Link) (resources : List PlainResource)
+    → IsPlanned sources system flat cuts resources
     → (entry : PlainResource) → Contains resources entry → Fact sources system flat resources entry
 
 -- a system with a flat network has commands where nothing is misplaced
 abbrev pub PlacedSystemsHaveCommands : Type 0
 PlacedSystemsHaveCommands =
-    (sources : Sources) (system : List ℕ) (flat : PlainFlat) → IsSystem sources system → HasFlat sources system flat
+    (sources : Sources) (system : List ℕ) (flat : PlainFlat) → IsSystem sources system
+    → HasFlat sources system flat
     → HasCommands sources system flat ↔ IsPlacedWhole sources system flat
 
 -- what stands at a path has one home
 abbrev pub BlocksHaveOneHome : Type 0
-BlocksHaveOneHome = (sources : Sources) (system path a b : List ℕ) → IsHome sources system path a → IsHome sources system path b → a ≡ b
+BlocksHaveOneHome = (sources : Sources) (system path a b : List ℕ) → IsHome sources system path a
+    → IsHome sources system path b → a ≡ b
 
 -- an end stands on one resource
 abbrev pub EndsHaveOneHome : Type 0
 EndsHaveOneHome =
-    (sources : Sources) (system : List ℕ) (blocks : List FlatBlock) (end a b : List ℕ) → StandsOn sources system blocks end a → StandsOn sources system blocks end b
+    (sources : Sources) (system : List ℕ) (blocks : List FlatBlock) (end a b : List ℕ)
+    → StandsOn sources system blocks end a → StandsOn sources system blocks end b
     → a ≡ b
 
 abbrev pub CutsJoinResources : Type 0
 CutsJoinResources =
-    (sources : Sources) (system : List ℕ) (flat : PlainFlat) (cuts : List Link) (resources : List PlainResource) → IsPlanned sources system flat cuts resources
+    (sources : Sources) (system : List ℕ) (flat : PlainFlat) (cuts : List Link) (resources : List PlainResource)
+    → IsPlanned sources system flat cuts resources
     → AreCuts sources system flat cuts
 
 abbrev pub BlocksAreMadeAtHome : Type 0
-BlocksAreMadeAtHome = HoldsOfResources (λ sources system flat resources entry. MakesItsBlocks sources system flat entry)
+BlocksAreMadeAtHome =
+    HoldsOfResources (λ sources system flat resources entry. MakesItsBlocks sources system flat entry)
 
 abbrev pub ParametersAreSetAtHome : Type 0
-ParametersAreSetAtHome = HoldsOfResources (λ sources system flat resources entry. SetsItsParameters sources system flat entry)
+ParametersAreSetAtHome =
+    HoldsOfResources (λ sources system flat resources entry. SetsItsParameters sources system flat entry)
 
 abbrev pub LinksAreMadeAtHome : Type 0
-LinksAreMadeAtHome = HoldsOfResources (λ sources system flat resources entry. MakesItsLinks sources system flat entry)
+LinksAreMadeAtHome =
+    HoldsOfResources (λ sources system flat resources entry. MakesItsLinks sources system flat entry)
 
 abbrev pub CommandsAreInOrder : Type 0
-CommandsAreInOrder = HoldsOfResources (λ sources system flat resources entry. IsInOrder (map (λ r. r.name) resources) entry)
+CommandsAreInOrder =
+    HoldsOfResources (λ sources system flat resources entry. IsInOrder (map (λ r. r.name) resources) entry)
 
 -- DEVICE.RESOURCE, device by device
 abbrev pub ResourcesHaveTheirCommands : Type 0
 ResourcesHaveTheirCommands =
-    (sources : Sources) (system : List ℕ) (flat : PlainFlat) (cuts : List Link) (resources : List PlainResource) → IsPlanned sources system flat cuts resources
+    (sources : Sources) (system : List ℕ) (flat : PlainFlat) (cuts : List Link) (resources : List PlainResource)
+    → IsPlanned sources system flat cuts resources
     → (s : SystemTree) → tree_at sources system ≡ Some (system_configuration s)
     → map (λ r. r.name) resources ≡ flat_map (λ d. map (λ r. dotted d.name.name r.name.name) d.resources) s.devices
 
 abbrev pub HomesHaveCommands : Type 0
 HomesHaveCommands =
-    (sources : Sources) (system : List ℕ) (flat : PlainFlat) (cuts : List Link) (resources : List PlainResource) → IsPlanned sources system flat cuts resources
+    (sources : Sources) (system : List ℕ) (flat : PlainFlat) (cuts : List Link) (resources : List PlainResource)
+    → IsPlanned sources system flat cuts resources
     → (block : FlatBlock) → Contains flat.blocks block → HasResource sources system resources block
 
 abbrev pub LinksAreCutOrMade : Type 0
 LinksAreCutOrMade =
-    (sources : Sources) (system : List ℕ) (flat : PlainFlat) (cuts : List Link) (resources : List PlainResource) → IsPlanned sources system flat cuts resources
+    (sources : Sources) (system : List ℕ) (flat : PlainFlat) (cuts : List Link) (resources : List PlainResource)
+    → IsPlanned sources system flat cuts resources
     → (link : Link) → Contains flat.links link → IsCutOrMade sources system flat cuts resources link

@@ -22,7 +22,8 @@ pub record IsFirstEvent (interface : InterfaceTree) (name : List ℕ) (place : �
   pub event : EventTree
   pub there : slice_get interface.events place ≡ Some event
   pub named : event.name.name ≡ name
-  pub first : (earlier : ℕ) (other : EventTree) → earlier < place → slice_get interface.events earlier ≡ Some other → other.name.name ≢ name
+  pub first : (earlier : ℕ) (other : EventTree) → earlier < place
+      → slice_get interface.events earlier ≡ Some other → other.name.name ≢ name
 
 -- an event input or an event output, with its type where one is written
 pub record IsEventOn (interface : InterfaceTree) (side : Side) (name : List ℕ) (type_name : Option NameUse) : Type 0 where
@@ -54,7 +55,8 @@ pub record IsFirstVariable (interface : InterfaceTree) (name : List ℕ) (place 
   pub spelled : NameUse
   pub there : StandsAt interface place row spelled
   pub named : spelled.name ≡ name
-  pub first : (earlier : Cell) (other_row : VariablesTree) (other : NameUse) → IsBefore earlier place → StandsAt interface earlier other_row other → other.name ≢ name
+  pub first : (earlier : Cell) (other_row : VariablesTree) (other : NameUse)
+      → IsBefore earlier place → StandsAt interface earlier other_row other → other.name ≢ name
 
 -- a variable of this section, VAR_INPUT, VAR_OUTPUT or VAR, with its type
 pub record IsVariableIn (interface : InterfaceTree) (section : Section) (name : List ℕ) (type_use : TypeUse) : Type 0 where
@@ -65,8 +67,12 @@ pub record IsVariableIn (interface : InterfaceTree) (section : Section) (name : 
 
 -- a data input is declared in VAR_INPUT, a data output in VAR_OUTPUT
 pub data IsDataOn (interface : InterfaceTree) : Side → List ℕ → TypeUse → Type 0 where
-  data_input : {name : List ℕ} {type_use : TypeUse} → IsVariableIn interface sections.Input name type_use → IsDataOn interface sides.Input name type_use
-  data_output : {name : List ℕ} {type_use : TypeUse} → IsVariableIn interface sections.Output name type_use → IsDataOn interface sides.Output name type_use
+  data_input : {name : List ℕ} {type_use : TypeUse}
+      → IsVariableIn interface sections.Input name type_use
+      → IsDataOn interface sides.Input name type_use
+  data_output : {name : List ℕ} {type_use : TypeUse}
+      → IsVariableIn interface sections.Output name type_use
+      → IsDataOn interface sides.Output name type_use
 
 -- ---- adapters
 
@@ -75,7 +81,8 @@ pub record IsFirstInstance (network : NetworkTree) (name : List ℕ) (place : �
   pub instance : InstanceTree
   pub there : slice_get network.instances place ≡ Some instance
   pub named : instance.name.name ≡ name
-  pub first : (earlier : ℕ) (other : InstanceTree) → earlier < place → slice_get network.instances earlier ≡ Some other → other.name.name ≢ name
+  pub first : (earlier : ℕ) (other : InstanceTree) → earlier < place
+      → slice_get network.instances earlier ≡ Some other → other.name.name ≢ name
 
 -- an instance in this role, as a plug or a socket, with its type
 pub record IsInstanceAs (network : NetworkTree) (role : Role) (name : List ℕ) (type_name : NameUse) : Type 0 where

@@ -20,12 +20,15 @@ abbrev pub nearer : ℕ → Lexeme → Lexeme
 nearer bytes token = record { span = nearer_span bytes token.span; kind = token.kind; name = token.name }
 
 abbrev pub nearer_simple : ℕ → Simple → Simple
-nearer_simple bytes (simple.Literal literal) = simple.Literal (record { form = literal.form; span = nearer_span bytes literal.span })
-nearer_simple bytes (simple.Name name) = simple.Name (record { name = name.name; span = nearer_span bytes name.span })
+nearer_simple bytes (simple.Literal literal) =
+    simple.Literal (record { form = literal.form; span = nearer_span bytes literal.span })
+nearer_simple bytes (simple.Name name) =
+    simple.Name (record { name = name.name; span = nearer_span bytes name.span })
 
 abbrev pub nearer_constant : ℕ → ConstantTree → ConstantTree
 nearer_constant bytes (one_value value) = one_value (nearer_simple bytes value)
-nearer_constant bytes (value_list values span) = value_list (map (nearer_simple bytes) values) (nearer_span bytes span)
+nearer_constant bytes (value_list values span) =
+    value_list (map (nearer_simple bytes) values) (nearer_span bytes span)
 
 -- these are the tokens of the text from where the span begins to where it ends
 abbrev pub CutIs : List ℕ → Span → List Lexeme → Type 0
@@ -39,4 +42,5 @@ pub record ReadsAlone (text : List ℕ) (part : Part) : Type 0 where
 
 -- The text of the constant alone spells that constant, nearer to the begin.
 abbrev pub ConstantReadsAlone : List ℕ → ConstantTree → Type 0
-ConstantReadsAlone text c = (tokens : List Lexeme) × CutIs text (constant_span c) tokens × Spells constant tokens (nearer_constant (constant_span c).start c)
+ConstantReadsAlone text c = (tokens : List Lexeme) × CutIs text (constant_span c) tokens
+    × Spells constant tokens (nearer_constant (constant_span c).start c)

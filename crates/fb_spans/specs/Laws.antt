@@ -22,7 +22,8 @@ PartsAreWritten =
 abbrev pub SpansCoverTokens : Type 0
 SpansCoverTokens =
     (text : List ℕ) (tree : DeclTree) → body_of text ≡ Whole tree
-    → (tokens : List Token) × (tokens_of text ≡ Ok tokens) × All (λ p. Covers (spans_of tokens) (part_span p)) (tree_parts tree)
+    → (tokens : List Token) × (tokens_of text ≡ Ok tokens)
+    × All (λ p. Covers (spans_of tokens) (part_span p)) (tree_parts tree)
 
 -- The span of each part is a part of the text that is not empty, between characters.
 abbrev pub SpansLieInText : Type 0
@@ -34,11 +35,13 @@ SpansLieInText =
 abbrev pub NamesAreWords : Type 0
 NamesAreWords =
     (text : List ℕ) (tree : DeclTree) → IsUtf8 text → body_of text ≡ Whole tree
-    → (tokens : List Token) × (tokens_of text ≡ Ok tokens) × ((name : NameUse) → Contains (tree_parts tree) (name_part name) → IsWord text tokens name)
+    → (tokens : List Token) × (tokens_of text ≡ Ok tokens)
+    × ((name : NameUse) → Contains (tree_parts tree) (name_part name) → IsWord text tokens name)
 
 -- Each part reads alone as it does in the text.
 abbrev pub PartsReadAlone : Type 0
-PartsReadAlone = (text : List ℕ) (tree : DeclTree) → IsUtf8 text → body_of text ≡ Whole tree → All (ReadsAlone text) (tree_parts tree)
+PartsReadAlone = (text : List ℕ) (tree : DeclTree) → IsUtf8 text → body_of text ≡ Whole tree
+    → All (ReadsAlone text) (tree_parts tree)
 
 -- The text of each constant alone reads as that constant.
 abbrev pub ConstantsReadAlone : Type 0

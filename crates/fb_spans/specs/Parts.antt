@@ -58,7 +58,8 @@ abbrev pub event_parts : EventTree → List Part
 event_parts e = name_part e.name ∷ (option_parts name_parts e.type_name ++ map name_part e.with)
 
 abbrev pub variables_parts : VariablesTree → List Part
-variables_parts v = map name_part v.names ++ (type_use_parts v.type_use ++ option_parts constant_parts v.initial)
+variables_parts v =
+    map name_part v.names ++ (type_use_parts v.type_use ++ option_parts constant_parts v.initial)
 
 abbrev pub interface_parts : InterfaceTree → List Part
 interface_parts i = flat_map event_parts i.events ++ flat_map variables_parts i.variables
@@ -88,9 +89,12 @@ reference_parts r = name_part r.name ∷ option_parts name_parts r.member
 abbrev mutual
   pub expression_parts : Expression → List Part
   expression_parts (literal_expression literal) = expression_part (literal_expression literal) ∷ []
-  expression_parts (reference_expression reference subscripts) = expression_part (reference_expression reference subscripts) ∷ (reference_parts reference ++ expressions_parts subscripts)
-  expression_parts (unary_expression sign e) = expression_part (unary_expression sign e) ∷ sign_part sign ∷ expression_parts e
-  expression_parts (row_expression e operands) = expression_part (row_expression e operands) ∷ (expression_parts e ++ operands_parts operands)
+  expression_parts (reference_expression reference subscripts) =
+      expression_part (reference_expression reference subscripts) ∷ (reference_parts reference ++ expressions_parts subscripts)
+  expression_parts (unary_expression sign e) =
+      expression_part (unary_expression sign e) ∷ sign_part sign ∷ expression_parts e
+  expression_parts (row_expression e operands) =
+      expression_part (row_expression e operands) ∷ (expression_parts e ++ operands_parts operands)
   expression_parts (parentheses e span) = expression_part (parentheses e span) ∷ expression_parts e
 
   pub expressions_parts : Expressions → List Part
@@ -99,7 +103,8 @@ abbrev mutual
 
   pub operands_parts : Operands → List Part
   operands_parts no_operands = []
-  operands_parts (operand_then operator e others) = operator_part operator ∷ (expression_parts e ++ operands_parts others)
+  operands_parts (operand_then operator e others) =
+      operator_part operator ∷ (expression_parts e ++ operands_parts others)
 
 -- Statements
 
@@ -107,11 +112,13 @@ abbrev mutual
   pub statement_parts : Statement → List Part
   statement_parts empty = []
   -- the variable is an expression, too
-  statement_parts (assignment reference subscripts span value) = expression_parts (reference_expression reference subscripts) ++ (mark_part Assign span ∷ expression_parts value)
+  statement_parts (assignment reference subscripts span value) =
+      expression_parts (reference_expression reference subscripts) ++ (mark_part Assign span ∷ expression_parts value)
   statement_parts exit = []
   statement_parts return = []
   statement_parts (choice arms otherwise) = arms_parts arms ++ statements_parts otherwise
-  statement_parts (selection selector cases otherwise) = expression_parts selector ++ (statements_parts cases ++ statements_parts otherwise)
+  statement_parts (selection selector cases otherwise) =
+      expression_parts selector ++ (statements_parts cases ++ statements_parts otherwise)
   statement_parts (count variable from to by body) =
       name_part variable ∷ (expression_parts from ++ (expression_parts to ++ (option_parts expression_parts by ++ statements_parts body)))
   statement_parts (while_loop condition body) = expression_parts condition ++ statements_parts body
@@ -123,7 +130,8 @@ abbrev mutual
 
   pub arms_parts : Arms → List Part
   arms_parts no_arms = []
-  arms_parts (arm_then condition body others) = (expression_parts condition ++ statements_parts body) ++ arms_parts others
+  arms_parts (arm_then condition body others) =
+      (expression_parts condition ++ statements_parts body) ++ arms_parts others
 
 -- Charts
 
@@ -146,12 +154,14 @@ abbrev pub algorithm_parts : AlgorithmTree → List Part
 algorithm_parts a = name_part a.name ∷ name_part a.language ∷ flat_map statement_parts a.statements
 
 abbrev pub chart_parts : ChartTree → List Part
-chart_parts c = flat_map state_parts c.states ++ (flat_map transition_parts c.transitions ++ flat_map algorithm_parts c.algorithms)
+chart_parts c =
+    flat_map state_parts c.states ++ (flat_map transition_parts c.transitions ++ flat_map algorithm_parts c.algorithms)
 
 -- Declarations
 
 abbrev pub declared_parts : TypeTree → List Part
-declared_parts t = name_part t.name ∷ (interface_parts t.interface ++ (network_parts t.network ++ chart_parts t.chart))
+declared_parts t =
+    name_part t.name ∷ (interface_parts t.interface ++ (network_parts t.network ++ chart_parts t.chart))
 
 abbrev pub application_parts : ApplicationTree → List Part
 application_parts a = name_part a.name ∷ network_parts a.network
@@ -160,13 +170,15 @@ abbrev pub resource_parts : ResourceTree → List Part
 resource_parts r = name_part r.name ∷ name_part r.type_name ∷ flat_map parameter_parts r.parameters
 
 abbrev pub device_parts : DeviceTree → List Part
-device_parts d = (name_part d.name ∷ name_part d.type_name ∷ flat_map parameter_parts d.parameters) ++ flat_map resource_parts d.resources
+device_parts d =
+    (name_part d.name ∷ name_part d.type_name ∷ flat_map parameter_parts d.parameters) ++ flat_map resource_parts d.resources
 
 abbrev pub mapping_parts : MappingTree → List Part
 mapping_parts m = map name_part m.path ++ name_part m.device ∷ name_part m.resource ∷ []
 
 abbrev pub system_parts : SystemTree → List Part
-system_parts s = name_part s.name ∷ (flat_map application_parts s.applications ++ (flat_map device_parts s.devices ++ flat_map mapping_parts s.mappings))
+system_parts s =
+    name_part s.name ∷ (flat_map application_parts s.applications ++ (flat_map device_parts s.devices ++ flat_map mapping_parts s.mappings))
 
 abbrev pub tree_parts : DeclTree → List Part
 tree_parts (block_type t) = declared_parts t

@@ -65,15 +65,18 @@ PartsHaveAllOtherCodes = (code : Code) → code ≢ Syntax ↔ HasPart code
 
 -- what a part reports has one of its codes
 abbrev pub PartsHaveOwnCodes : Type 0
-PartsHaveOwnCodes = (part : Part) (sources : Sources) (unit : List ℕ) (fault : Fault) → Contains (faults_by part sources unit) fault → IsCodeOf part fault.code
+PartsHaveOwnCodes = (part : Part) (sources : Sources) (unit : List ℕ) (fault : Fault)
+    → Contains (faults_by part sources unit) fault → IsCodeOf part fault.code
 
 -- the code of constants, in initial values and in parameters
 abbrev pub IsOfConstants : Part → Part → Code → Type 0
-IsOfConstants p q code = (code ≡ Literal) × (((p ≡ Declarations) × (q ≡ Networks)) ⊎ ((p ≡ Networks) × (q ≡ Declarations)))
+IsOfConstants p q code = (code ≡ Literal)
+    × (((p ≡ Declarations) × (q ≡ Networks)) ⊎ ((p ≡ Networks) × (q ≡ Declarations)))
 
 -- two parts share that code alone
 abbrev pub PartsShareOneCode : Type 0
-PartsShareOneCode = (p q : Part) (code : Code) → p ≢ q → IsCodeOf p code → IsCodeOf q code → IsOfConstants p q code
+PartsShareOneCode = (p q : Part) (code : Code) → p ≢ q → IsCodeOf p code → IsCodeOf q code
+    → IsOfConstants p q code
 
 -- a part reports the fault
 pub record IsOfPart (sources : Sources) (unit : List ℕ) (fault : Fault) : Type 0 where
@@ -82,11 +85,15 @@ pub record IsOfPart (sources : Sources) (unit : List ℕ) (fault : Fault) : Type
 
 -- a unit that is present and not broken has the faults of its parts, and no other
 abbrev pub WholeUnitsHaveFaultsOfParts : Type 0
-WholeUnitsHaveFaultsOfParts = (sources : Sources) (unit : List ℕ) (decl : DeclTree) → tree_at sources unit ≡ Some decl → (fault : Fault) → Contains (faults_of sources unit) fault ↔ IsOfPart sources unit fault
+WholeUnitsHaveFaultsOfParts = (sources : Sources) (unit : List ℕ) (decl : DeclTree)
+    → tree_at sources unit ≡ Some decl → (fault : Fault)
+    → Contains (faults_of sources unit) fault ↔ IsOfPart sources unit fault
 
 -- a code that one part has is reported of a unit where this part reports it
 abbrev pub CodesAreOfTheirParts : Type 0
-CodesAreOfTheirParts = (part : Part) (sources : Sources) (unit : List ℕ) (fault : Fault) → IsCodeOf part fault.code → fault.code ≢ Literal → Contains (faults_of sources unit) fault ↔ Contains (faults_by part sources unit) fault
+CodesAreOfTheirParts = (part : Part) (sources : Sources) (unit : List ℕ) (fault : Fault)
+    → IsCodeOf part fault.code → fault.code ≢ Literal
+    → Contains (faults_of sources unit) fault ↔ Contains (faults_by part sources unit) fault
 
 -- a fault of a constant
 abbrev pub of_constant : Span → Fault
@@ -94,4 +101,6 @@ of_constant span = record { code = Literal; span = span }
 
 -- the code of constants is reported of a unit where its declarations or its networks have it
 abbrev pub ConstantsAreOfTwoParts : Type 0
-ConstantsAreOfTwoParts = (sources : Sources) (unit : List ℕ) (span : Span) → Contains (faults_of sources unit) (of_constant span) ↔ (Contains (iface_faults_of sources unit) (of_constant span) ⊎ Contains (net_faults_of sources unit) (of_constant span))
+ConstantsAreOfTwoParts = (sources : Sources) (unit : List ℕ) (span : Span)
+    → Contains (faults_of sources unit) (of_constant span)
+    ↔ (Contains (iface_faults_of sources unit) (of_constant span) ⊎ Contains (net_faults_of sources unit) (of_constant span))

@@ -49,8 +49,11 @@ pub record IsFirstDevice (devices : List DeviceTree) (name : List ℕ) (device :
 
 -- the system has no device of the name that the mapping gives, or its first device of that name no resource of the name that the mapping gives
 pub data IsLost (system : SystemTree) (mapping : MappingTree) : Type 0 where
-  no_device : ((device : DeviceTree) → Contains system.devices device → device.name.name ≢ mapping.device.name) → IsLost system mapping
-  no_resource : (device : DeviceTree) → IsFirstDevice system.devices mapping.device.name device → ((resource : ResourceTree) → Contains device.resources resource → resource.name.name ≢ mapping.resource.name) → IsLost system mapping
+  no_device : ((device : DeviceTree) → Contains system.devices device → device.name.name ≢ mapping.device.name)
+      → IsLost system mapping
+  no_resource : (device : DeviceTree) → IsFirstDevice system.devices mapping.device.name device
+      → ((resource : ResourceTree) → Contains device.resources resource → resource.name.name ≢ mapping.resource.name)
+      → IsLost system mapping
 
 -- a mapping to a device that the system doesn't have, or to a resource that the device doesn't have
 pub record HasLostMapping (sources : Sources) (unit : List ℕ) (span : Span) : Type 0 where
@@ -64,7 +67,8 @@ pub record HasLostMapping (sources : Sources) (unit : List ℕ) (span : Span) : 
 
 -- the list of faults of mappings has the code at exactly these places
 abbrev pub IsReportedWhere : Code → (Sources → List ℕ → Span → Type 0) → Type 0
-IsReportedWhere code Has = (sources : Sources) (unit : List ℕ) (span : Span) → Contains (mapping_faults_of sources unit) (record { code = code; span = span }) ↔ Has sources unit span
+IsReportedWhere code Has = (sources : Sources) (unit : List ℕ) (span : Span)
+    → Contains (mapping_faults_of sources unit) (record { code = code; span = span }) ↔ Has sources unit span
 
 abbrev pub MappingsHaveOwnPaths : Type 0
 MappingsHaveOwnPaths = IsReportedWhere MappedTwice HasSecondMapping

@@ -20,16 +20,21 @@ broken_at span = record { code = Syntax; span = span }
 
 -- the code stands for a broken text, and for nothing else
 abbrev pub BrokenTextsAreReported : Type 0
-BrokenTextsAreReported = (sources : Sources) (unit : List ℕ) (span : Span) → Contains (faults_of sources unit) (broken_at span) ↔ IsBroken sources unit span
+BrokenTextsAreReported = (sources : Sources) (unit : List ℕ) (span : Span)
+    → Contains (faults_of sources unit) (broken_at span) ↔ IsBroken sources unit span
 
 -- a unit whose text is broken has this fault and no other
 abbrev pub BrokenTextsAreReportedAlone : Type 0
-BrokenTextsAreReportedAlone = (sources : Sources) (unit : List ℕ) (span : Span) → IsBroken sources unit span → faults_of sources unit ≡ broken_at span ∷ []
+BrokenTextsAreReportedAlone = (sources : Sources) (unit : List ℕ) (span : Span)
+    → IsBroken sources unit span → faults_of sources unit ≡ broken_at span ∷ []
 
 -- a unit that is present and not broken has no such fault
 abbrev pub WholeTextsAreNotReported : Type 0
-WholeTextsAreNotReported = (sources : Sources) (unit : List ℕ) (decl : DeclTree) → tree_at sources unit ≡ Some decl → (fault : Fault) → Contains (faults_of sources unit) fault → fault.code ≢ Syntax
+WholeTextsAreNotReported = (sources : Sources) (unit : List ℕ) (decl : DeclTree)
+    → tree_at sources unit ≡ Some decl → (fault : Fault) → Contains (faults_of sources unit) fault
+    → fault.code ≢ Syntax
 
 -- a unit that is absent has no faults
 abbrev pub AbsentUnitsHaveNoFaults : Type 0
-AbsentUnitsHaveNoFaults = (sources : Sources) (unit : List ℕ) → get sources unit ≡ None → faults_of sources unit ≡ []
+AbsentUnitsHaveNoFaults = (sources : Sources) (unit : List ℕ) → get sources unit ≡ None
+    → faults_of sources unit ≡ []

@@ -3,12 +3,12 @@ ghost use Rattle.fb_unit_rows.specs.Parts.{CodesAreOfTheirParts, ConstantsAreOfT
 ghost use Rattle.fb_unit_rows.specs.Rows.{MappingsHaveHomes, MappingsHaveOwnPaths};
 ghost use Rattle.fb_unit_rows.specs.Texts.{AbsentUnitsHaveNoFaults, BrokenTextsAreReported, BrokenTextsAreReportedAlone, WholeTextsAreNotReported};
 
-/// A mapping is a fault where its path is that of an earlier one of the system.
+/// A mapping is a fault exactly where its path is that of an earlier one of the system.
 pub fn mappings_have_own_paths()
     ensures { MappingsHaveOwnPaths }
 {}
 
-/// A mapping is a fault where the first device of its device's name has no resource of its resource's name, or no device has that name.
+/// A mapping is a fault exactly where the first device of its device's name has no resource of its resource's name, or no device has that name.
 pub fn mappings_have_homes()
     ensures { MappingsHaveHomes }
 {}
