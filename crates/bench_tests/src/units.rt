@@ -268,6 +268,26 @@ const TWO_ENGINEERS: &str = r#"
 < {"refused":"NoSuchUnit","unit":"GATE"}
 "#;
 
+// Ends and types of data connections.
+const DATA_CONNECTIONS: &str = r#"
+> {"op":"commit","changes":[{"put":"N","base":0,"text":"FUNCTION_BLOCK N VAR_INPUT A:INT; END_VAR FBS F:M; END_FBS DATA_CONNECTIONS A TO F.X; A TO F.X; F.X TO F.Z; END_CONNECTIONS END_FUNCTION_BLOCK"},{"put":"M","base":0,"text":"FUNCTION_BLOCK M VAR_INPUT X:BOOL; END_VAR END_FUNCTION_BLOCK"}]}
+< {"commit":1}
+> {"op":"work","turns":9}
+< {"accepted":2}
+> {"op":"ask","kind":"faults","unit":"N"}
+< {"faults":[["DATA_TYPE",81,84],["DATA_TYPE",91,94],["SECOND_SOURCE",91,94],["PORT_SIDE",96,99],["PORT_UNKNOWN",103,106]]}
+"#;
+
+// A chart and its algorithm.
+const CHART: &str = r#"
+> {"op":"commit","changes":[{"put":"K","base":0,"text":"FUNCTION_BLOCK K EVENT_INPUT E; END_EVENT VAR X:INT; B:BOOL; END_VAR EC_STATES S0; S1: G; END_STATES EC_TRANSITIONS S0 TO S1 := E[X]; S1 TO S2 := 1; END_TRANSITIONS ALGORITHM G IN ST: B := X + TRUE; END_ALGORITHM END_FUNCTION_BLOCK"}]}
+< {"commit":1}
+> {"op":"work","turns":9}
+< {"accepted":1}
+> {"op":"ask","kind":"faults","unit":"K"}
+< {"faults":[["CLASS",130,131],["STATE_UNKNOWN",140,142],["CLASS",191,192]]}
+"#;
+
 const TALKS: &[(&str, &str)] = &[
     ("missing type", MISSING_TYPE),
     ("removed type", REMOVED_TYPE),
@@ -282,6 +302,8 @@ const TALKS: &[(&str, &str)] = &[
     ("held jobs", HELD_JOBS),
     ("back again", BACK_AGAIN),
     ("two engineers", TWO_ENGINEERS),
+    ("data connections", DATA_CONNECTIONS),
+    ("chart", CHART),
 ];
 
 #[test]

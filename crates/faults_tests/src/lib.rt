@@ -14,6 +14,8 @@ mod declarations;
 #[cfg(test)]
 mod expressions;
 #[cfg(test)]
+mod interfaces;
+#[cfg(test)]
 mod laws;
 #[cfg(test)]
 mod libraries;

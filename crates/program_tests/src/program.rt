@@ -3,6 +3,7 @@ use fb_program::streams::{MemoryFeed, MemorySink};
 use fb_program::{Outcome, Settings, refuse_words, run, settings};
 use std::alloc::{AllocError, Global};
 use std::io::ErrorKind;
+use std::process::Abort;
 use std::test::Fail;
 
 const ALWAYS: u64 = u64::MAX;
@@ -10,6 +11,20 @@ const ALWAYS: u64 = u64::MAX;
 const TAKE: &[u8] = b"{\"op\":\"take\"}\n";
 
 const NO_JOB: &str = "{\"job\":0}\n";
+
+/// How many reads and writes of a run are good, and how many reads it may make.
+#[derive(Clone, Copy)]
+struct Room {
+    reads: u64,
+    writes: u64,
+    turns: u64,
+}
+
+const AMPLE: Room = Room {
+    reads: ALWAYS,
+    writes: ALWAYS,
+    turns: 1000,
+};
 
 /// What a run wrote, what it said on its errors, and its status, or none where it asks for a server.
 #[derive(Drop)]
@@ -19,95 +34,188 @@ struct Ended {
     status: Option<u8>,
 }
 
-// A run in which so many reads and writes are good.
-fn run_over(
-    alloc: Global,
-    words: &[&str],
-    input: &[u8],
-    good_reads: u64,
-    good_writes: u64,
-    turns: u64,
-) -> Result<Ended, AllocError> {
-    let mut reader = MemoryFeed::new(input, 8192, good_reads);
-    let mut writer = MemorySink::new(alloc, 8192, good_writes);
-    let mut errors = Vec::new(alloc);
-    let status = match run(alloc, words, &mut reader, &mut writer, &mut errors, turns) {
+/// Whether a run ended with this status, and wrote and said this.
+fn is_ended(ended: &Ended, status: u8, output: &str, said: &str) -> bool {
+    ended.status == Some(status)
+        && ended.output.as_slice() == output.as_bytes()
+        && ended.errors.as_slice() == said.as_bytes()
+}
+
+fn status_of(outcome: Outcome) -> Option<u8> {
+    match outcome {
         Outcome::Ended(status) => Some(status),
         Outcome::Serves { .. } => None,
-    };
+    }
+}
+
+fn run_over(alloc: Global, words: &[&str], input: &[u8], room: Room) -> Result<Ended, AllocError> {
+    let mut reader = MemoryFeed::new(input, 8192, room.reads);
+    let mut writer = MemorySink::new(alloc, 8192, room.writes);
+    let mut errors = Vec::new(alloc);
+    let outcome = run(
+        alloc,
+        words,
+        &mut reader,
+        &mut writer,
+        &mut errors,
+        room.turns,
+    );
+    let output = writer.as_slice().to_vec(alloc)?;
     Ok(Ended {
-        output: writer.as_slice().to_vec(alloc)?,
+        output,
         errors,
-        status,
+        status: status_of(outcome),
     })
+}
+
+/// Says which row of a table is not as it should be.
+fn is_right(rt: &impl Abort, is_as_expected: bool, about: &str) {
+    assert!(rt; is_as_expected, "{about}");
 }
 
 fn words_of<'a>(alloc: Global, line: &'a str) -> Result<Vec<&'a str>, AllocError> {
     line.split_whitespace().collect(alloc)
 }
 
-// Words, and the most units and records that they ask for.
-const ASKED: &[(&str, u64, u64)] = &[
-    ("bench61499 script", 1024, 100_000),
-    ("bench61499 script --history 3", 1024, 3),
-    ("bench61499 script --history 5", 1024, 5),
-    ("bench61499 script --history 129", 1024, 129),
-    ("bench61499 script --units 1", 1, 100_000),
-    ("bench61499 script --units=4096", 4096, 100_000),
-];
+/// What the words of a line ask for, if it is anything.
+fn asked(alloc: Global, line: &str) -> Result<Option<Settings>, AllocError> {
+    let words = words_of(alloc, line)?;
+    Ok(settings(alloc, words.as_slice()).ok())
+}
 
-#[test]
-fn words_give_settings(rt: HostRuntime) -> Result<(), Fail> {
-    for (line, units, history) in ASKED {
-        let words = words_of(rt.alloc(), line)?;
-        let found = settings(rt.alloc(), &words)?;
-        let (units, history) = (*units, *history);
-        assert_eq!(rt; found, Settings::Script { units, history }, "{line}");
+/// How a run of the words of a line ends, over one request.
+fn ended_by(alloc: Global, line: &str) -> Result<Ended, AllocError> {
+    let words = words_of(alloc, line)?;
+    run_over(alloc, words.as_slice(), TAKE, AMPLE)
+}
+
+fn compare_asked(
+    rt: &impl Abort,
+    alloc: Global,
+    rows: &[(&str, Option<Settings>)],
+) -> Result<(), Fail> {
+    for (line, expected) in rows {
+        is_right(rt, asked(alloc, line)? == *expected, line);
     }
     Ok(())
 }
 
-// Words, and the port, workers, sessions, most units and most records of the server that they ask for.
-const SERVED: &[(&str, u16, u8, u8, u64, u64)] = &[
-    ("bench61499 serve --port 0", 0, 2, 1, 1024, 100_000),
-    ("bench61499 serve --port=65535", 65_535, 2, 1, 1024, 100_000),
+// Words, and what they ask for.
+const SCRIPTS: &[(&str, Option<Settings>)] = &[
     (
-        "bench61499 serve --port 7 --workers 16 --sessions 64 --units 3 --history 9",
-        7,
-        16,
-        64,
-        3,
-        9,
+        "bench61499 script",
+        Some(Settings::Script {
+            units: 1024,
+            history: 100_000,
+        }),
     ),
     (
-        "bench61499 serve --history 1 --sessions 1 --workers 1 --port 1",
-        1,
-        1,
-        1,
-        1024,
-        1,
+        "bench61499 script --history 3",
+        Some(Settings::Script {
+            units: 1024,
+            history: 3,
+        }),
+    ),
+    (
+        "bench61499 script --history 5",
+        Some(Settings::Script {
+            units: 1024,
+            history: 5,
+        }),
+    ),
+    (
+        "bench61499 script --history 129",
+        Some(Settings::Script {
+            units: 1024,
+            history: 129,
+        }),
+    ),
+    (
+        "bench61499 script --units 1",
+        Some(Settings::Script {
+            units: 1,
+            history: 100_000,
+        }),
+    ),
+    (
+        "bench61499 script --units=4096",
+        Some(Settings::Script {
+            units: 4096,
+            history: 100_000,
+        }),
     ),
 ];
 
 #[test]
-fn words_give_servers(rt: HostRuntime) -> Result<(), Fail> {
-    for (line, port, workers, sessions, units, history) in SERVED {
-        let words = words_of(rt.alloc(), line)?;
-        let found = settings(rt.alloc(), &words)?;
-        let served = Settings::Serve {
-            port: *port,
-            workers: *workers,
-            sessions: *sessions,
-            units: *units,
-            history: *history,
-        };
-        assert_eq!(rt; found, served, "{line}");
-        let ended = run_over(rt.alloc(), &words, TAKE, ALWAYS, ALWAYS, 1000)?;
-        assert!(rt; ended.status.is_none(), "{line}");
-        let is_silent = ended.errors.is_empty() && ended.output.is_empty();
-        assert!(rt; is_silent, "{line}");
+fn words_give_settings(rt: HostRuntime) -> Result<(), Fail> {
+    compare_asked(&rt, rt.alloc(), SCRIPTS)
+}
+
+// Words that ask for a server.
+const SERVED: &[(&str, Option<Settings>)] = &[
+    (
+        "bench61499 serve --port 0",
+        Some(Settings::Serve {
+            port: 0,
+            workers: 2,
+            sessions: 1,
+            units: 1024,
+            history: 100_000,
+        }),
+    ),
+    (
+        "bench61499 serve --port=65535",
+        Some(Settings::Serve {
+            port: 65_535,
+            workers: 2,
+            sessions: 1,
+            units: 1024,
+            history: 100_000,
+        }),
+    ),
+    (
+        "bench61499 serve --port 7 --workers 16 --sessions 64 --units 3 --history 9",
+        Some(Settings::Serve {
+            port: 7,
+            workers: 16,
+            sessions: 64,
+            units: 3,
+            history: 9,
+        }),
+    ),
+    (
+        "bench61499 serve --history 1 --sessions 1 --workers 1 --port 1",
+        Some(Settings::Serve {
+            port: 1,
+            workers: 1,
+            sessions: 1,
+            units: 1024,
+            history: 1,
+        }),
+    ),
+];
+
+/// Whether a run gives words that ask for a server back, and does nothing.
+fn is_given_back(alloc: Global, line: &str) -> Result<bool, AllocError> {
+    let ended = ended_by(alloc, line)?;
+    Ok(ended.status.is_none() && ended.errors.is_empty() && ended.output.is_empty())
+}
+
+fn compare_served(
+    rt: &impl Abort,
+    alloc: Global,
+    rows: &[(&str, Option<Settings>)],
+) -> Result<(), Fail> {
+    for (line, _) in rows {
+        is_right(rt, is_given_back(alloc, line)?, line);
     }
     Ok(())
+}
+
+#[test]
+fn words_give_servers(rt: HostRuntime) -> Result<(), Fail> {
+    compare_asked(&rt, rt.alloc(), SERVED)?;
+    compare_served(&rt, rt.alloc(), SERVED)
 }
 
 // Words that ask for nothing that the program does, or for help.
@@ -136,58 +244,111 @@ const REFUSED: &[&str] = &[
     "bench61499 serve --port 0 --help",
 ];
 
-#[test]
-fn refused_words(rt: HostRuntime) -> Result<(), Fail> {
-    for line in REFUSED {
-        let words = words_of(rt.alloc(), line)?;
-        assert!(rt; settings(rt.alloc(), &words).is_err(), "{line}");
-        let ended = run_over(rt.alloc(), &words, TAKE, ALWAYS, ALWAYS, 1000)?;
-        assert_eq!(rt; ended.status, Some(2), "{line}");
-        let is_said = !ended.errors.is_empty();
-        assert!(rt; is_said && ended.output.is_empty(), "{line}");
+/// Whether words ask for nothing, and a run refuses them with a text.
+fn is_refused(alloc: Global, line: &str) -> Result<bool, AllocError> {
+    let ended = ended_by(alloc, line)?;
+    let is_silent = ended.errors.is_empty() || !ended.output.is_empty();
+    Ok(ended.status == Some(2) && !is_silent && asked(alloc, line)?.is_none())
+}
+
+fn compare_refused(rt: &impl Abort, alloc: Global, lines: &[&str]) -> Result<(), Fail> {
+    for line in lines {
+        is_right(rt, is_refused(alloc, line)?, line);
     }
     Ok(())
 }
 
-// How many spaces follow a line, how many reads and writes are good, and the turns; then the status, what is
-// written and what is said.
-const RUNS: &[(usize, u64, u64, u64, u8, &str, &str)] = &[
-    (0, ALWAYS, ALWAYS, 1000, 0, NO_JOB, ""),
-    (
-        1_048_577,
-        ALWAYS,
-        ALWAYS,
-        1000,
-        1,
-        NO_JOB,
-        "bench61499: line too long\n",
-    ),
-    (0, 1, ALWAYS, 1000, 1, NO_JOB, "bench61499: read failed\n"),
-    (0, ALWAYS, 0, 1000, 1, "", "bench61499: write failed\n"),
-    (
-        0,
-        ALWAYS,
-        ALWAYS,
-        1,
-        1,
-        NO_JOB,
-        "bench61499: too many reads\n",
-    ),
+#[test]
+fn refused_words(rt: HostRuntime) -> Result<(), Fail> {
+    compare_refused(&rt, rt.alloc(), REFUSED)
+}
+
+/// How a run of a script ends.
+struct ScriptRow {
+    request: &'static [u8],
+    /// So many spaces follow the request.
+    spaces: usize,
+    room: Room,
+    status: u8,
+    output: &'static str,
+    said: &'static str,
+}
+
+const RUNS: &[ScriptRow] = &[
+    ScriptRow {
+        request: b"",
+        spaces: 0,
+        room: AMPLE,
+        status: 0,
+        output: "",
+        said: "",
+    },
+    ScriptRow {
+        request: TAKE,
+        spaces: 0,
+        room: AMPLE,
+        status: 0,
+        output: NO_JOB,
+        said: "",
+    },
+    ScriptRow {
+        request: TAKE,
+        spaces: 1_048_577,
+        room: AMPLE,
+        status: 1,
+        output: NO_JOB,
+        said: "bench61499: line too long\n",
+    },
+    ScriptRow {
+        request: TAKE,
+        spaces: 0,
+        room: Room { reads: 1, ..AMPLE },
+        status: 1,
+        output: NO_JOB,
+        said: "bench61499: read failed\n",
+    },
+    ScriptRow {
+        request: TAKE,
+        spaces: 0,
+        room: Room { writes: 0, ..AMPLE },
+        status: 1,
+        output: "",
+        said: "bench61499: write failed\n",
+    },
+    ScriptRow {
+        request: TAKE,
+        spaces: 0,
+        room: Room { turns: 1, ..AMPLE },
+        status: 1,
+        output: NO_JOB,
+        said: "bench61499: too many reads\n",
+    },
 ];
+
+/// A request, and so many spaces behind it.
+fn input_with(alloc: Global, request: &[u8], spaces: usize) -> Result<Vec<u8>, AllocError> {
+    let mut input = request.to_vec(alloc)?;
+    input.extend_from_slice(&vec![in alloc; b' '; spaces]?)?;
+    Ok(input)
+}
+
+fn is_run(alloc: Global, row: &ScriptRow) -> Result<bool, AllocError> {
+    let input = input_with(alloc, row.request, row.spaces)?;
+    let words = ["bench61499", "script"];
+    let ended = run_over(alloc, &words, input.as_slice(), row.room)?;
+    Ok(is_ended(&ended, row.status, row.output, row.said))
+}
+
+fn compare_runs(rt: &impl Abort, alloc: Global, rows: &[ScriptRow]) -> Result<(), Fail> {
+    for row in rows {
+        is_right(rt, is_run(alloc, row)?, row.said);
+    }
+    Ok(())
+}
 
 #[test]
 fn runs(rt: HostRuntime) -> Result<(), Fail> {
-    let alloc = rt.alloc();
-    let words = ["bench61499", "script"];
-    for (spaces, reads, writes, turns, status, output, said) in RUNS {
-        let mut input = TAKE.to_vec(alloc)?;
-        input.extend_from_slice(&vec![in alloc; b' '; *spaces]?)?;
-        let ended = run_over(alloc, &words, &input, *reads, *writes, *turns)?;
-        assert_eq!(rt; ended.status, Some(*status), "{said}");
-        assert!(rt; ended.output.as_slice() == output.as_bytes(), "{said}");
-        assert!(rt; ended.errors.as_slice() == said.as_bytes());
-    }
-    Ok(())
+    compare_runs(&rt, rt.alloc(), RUNS)
 }
 
 // Why words could not be read, with the status and what is said.
@@ -200,13 +361,18 @@ const UNREAD: &[(ErrorKind, u8, &str)] = &[
     (ErrorKind::OutOfMemory, 1, "bench61499: out of memory\n"),
 ];
 
-#[test]
-fn words_that_could_not_be_read(rt: HostRuntime) -> Result<(), Fail> {
-    for (kind, status, said) in UNREAD {
-        let mut errors = Vec::new(rt.alloc());
-        let found = refuse_words(*kind, &mut errors);
-        assert_eq!(rt; found, *status, "{said}");
-        assert!(rt; errors.as_slice() == said.as_bytes(), "{said}");
+fn is_unread(alloc: Global, kind: ErrorKind, status: u8, said: &str) -> bool {
+    let mut errors = Vec::new(alloc);
+    refuse_words(kind, &mut errors) == status && errors.as_slice() == said.as_bytes()
+}
+
+fn compare_unread(rt: &impl Abort, alloc: Global, rows: &[(ErrorKind, u8, &str)]) {
+    for (kind, status, said) in rows {
+        is_right(rt, is_unread(alloc, *kind, *status, said), said);
     }
-    Ok(())
+}
+
+#[test]
+fn words_that_could_not_be_read(rt: HostRuntime) {
+    compare_unread(&rt, rt.alloc(), UNREAD);
 }

@@ -7,6 +7,7 @@ use std::alloc::{AllocError, Global};
 use std::io;
 use std::io::{Read, Write};
 use std::net::{Net, OpenListener, OpenStream, Shutdown, TcpListener, TcpStream};
+use std::process::Abort;
 use std::sync::Wait;
 use std::test::Fail;
 use std::thread::{Threads, join};
@@ -102,6 +103,22 @@ fn talk_all<R: Net<Listener = TcpListener, Stream = TcpStream>>(
     Ok(told)
 }
 
+/// A server's numbers, how many of its writes are good, and what its clients say.
+struct Play<'a> {
+    workers: u8,
+    sessions: u8,
+    good_writes: u64,
+    texts: &'a [&'a str],
+}
+
+/// What the clients are told, and what the server prints behind its greeting, says on its errors and comes to.
+struct Wanted<'a> {
+    told: &'a str,
+    printed: &'a str,
+    errors: &'a str,
+    status: u8,
+}
+
 // A server with a session for each of the texts.
 fn serve_texts<R: Net<Listener = TcpListener, Stream = TcpStream> + Threads + Wait + Sync>(
     rt: &R,
@@ -138,44 +155,102 @@ fn serve_texts<R: Net<Listener = TcpListener, Stream = TcpStream> + Threads + Wa
     })
 }
 
+/// Whether all is as it is wanted.
+fn is_as_wanted(ended: &Ended, wanted: &Wanted<'_>) -> bool {
+    let is_printed = ended.printed.as_str() == wanted.printed && ended.status == wanted.status;
+    let is_said = ended.errors.as_slice() == wanted.errors.as_bytes();
+    is_printed && is_said && ended.told.as_str() == wanted.told
+}
+
+/// Plays, and compares what comes of it with what is wanted.
+fn compare<R: Net<Listener = TcpListener, Stream = TcpStream> + Threads + Wait + Sync + Abort>(
+    rt: &R,
+    alloc: Global,
+    play: &Play<'_>,
+    wanted: &Wanted<'_>,
+) -> Result<(), Fail> {
+    let Play {
+        workers,
+        sessions,
+        good_writes,
+        texts,
+    } = play;
+    let ended = serve_texts(rt, alloc, *workers, *sessions, *good_writes, texts)?;
+    assert!(rt; is_as_wanted(&ended, wanted), "{}", ended.told);
+    Ok(())
+}
+
 #[test]
 fn one_session(rt: HostRuntime) -> Result<(), Fail> {
-    let ended = serve_texts(&rt, rt.alloc(), 1, 1, ALWAYS, &[FIRST])?;
-    assert_eq!(rt; ended.told.as_str(), FIRST_TOLD);
-    assert_eq!(rt; ended.printed.as_str(), "closed\n");
-    assert!(rt; ended.errors.is_empty());
-    assert_eq!(rt; ended.status, 0);
-    Ok(())
+    let play = Play {
+        workers: 1,
+        sessions: 1,
+        good_writes: ALWAYS,
+        texts: &[FIRST],
+    };
+    let wanted = Wanted {
+        told: FIRST_TOLD,
+        printed: "closed\n",
+        errors: "",
+        status: 0,
+    };
+    compare(&rt, rt.alloc(), &play, &wanted)
 }
 
 #[test]
 fn two_sessions(rt: HostRuntime) -> Result<(), Fail> {
-    let ended = serve_texts(&rt, rt.alloc(), 2, 2, ALWAYS, &[FIRST, SECOND])?;
-    assert_eq!(rt; ended.told.as_str(), BOTH_TOLD);
-    assert_eq!(rt; ended.printed.as_str(), "closed\n");
-    assert!(rt; ended.errors.is_empty());
-    assert_eq!(rt; ended.status, 0);
-    Ok(())
+    let play = Play {
+        workers: 2,
+        sessions: 2,
+        good_writes: ALWAYS,
+        texts: &[FIRST, SECOND],
+    };
+    let wanted = Wanted {
+        told: BOTH_TOLD,
+        printed: "closed\n",
+        errors: "",
+        status: 0,
+    };
+    compare(&rt, rt.alloc(), &play, &wanted)
+}
+
+/// A line that is too long.
+fn long_line(alloc: Global) -> Result<String, Fail> {
+    let line = vec![in alloc; b' '; 1_048_577]?;
+    Ok(String::from_utf8(line).ok().ok_or("no text")?)
 }
 
 #[test]
 fn a_session_fails_alone(rt: HostRuntime) -> Result<(), Fail> {
-    let line = vec![in rt.alloc(); b' '; 1_048_577]?;
-    let line = String::from_utf8(line).ok().ok_or("no text")?;
-    let ended = serve_texts(&rt, rt.alloc(), 1, 2, ALWAYS, &[line.as_str(), FIRST])?;
-    assert_eq!(rt; ended.told.as_str(), FIRST_TOLD);
-    assert_eq!(rt; ended.printed.as_str(), "closed\n");
-    assert!(rt; ended.errors.as_slice() == b"session 1: line too long\n".as_slice());
-    assert_eq!(rt; ended.status, 0);
-    Ok(())
+    let line = long_line(rt.alloc())?;
+    let play = Play {
+        workers: 1,
+        sessions: 2,
+        good_writes: ALWAYS,
+        texts: &[line.as_str(), FIRST],
+    };
+    let wanted = Wanted {
+        told: FIRST_TOLD,
+        printed: "closed\n",
+        errors: "session 1: line too long\n",
+        status: 0,
+    };
+    compare(&rt, rt.alloc(), &play, &wanted)
 }
 
 #[test]
 fn a_line_is_not_printed(rt: HostRuntime) -> Result<(), Fail> {
-    let ended = serve_texts(&rt, rt.alloc(), 1, 1, 1, &[FIRST])?;
-    assert_eq!(rt; ended.told.as_str(), FIRST_TOLD);
-    assert_eq!(rt; ended.printed.as_str(), "");
-    assert!(rt; ended.errors.is_empty());
-    assert_eq!(rt; ended.status, 1);
-    Ok(())
+    let play = Play {
+        workers: 1,
+        sessions: 1,
+        good_writes: 1,
+        texts: &[FIRST],
+    };
+    let wanted = Wanted {
+        told: FIRST_TOLD,
+        printed: "",
+        errors: "",
+        status: 1,
+    };
+    compare(&rt, rt.alloc(), &play, &wanted)
 }

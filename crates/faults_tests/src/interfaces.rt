@@ -1,0 +1,132 @@
+//! The ports that `interface` gives, told as six lists: event inputs, event outputs, data inputs, data outputs, plugs and sockets. Behind each
+//! name stands its type, where it has one.
+use crate::plant::same;
+use fb_faults::iface::{Ports, interface};
+use fb_faults::parse::Source;
+use fb_faults::tree::TypeUse;
+use fb_text::{Name, NameUse};
+use std::alloc::{AllocError, Global};
+use std::process::Abort;
+use std::test::Fail;
+
+// Texts, and their ports. A name stands for its first declaration, and internal variables are no ports.
+static INTERFACES: [(&str, &str); 6] = [
+    (
+        "FUNCTION_BLOCK TN EVENT_INPUT I; END_EVENT EVENT_OUTPUT O; END_EVENT VAR_INPUT DT:TIME; END_VAR END_FUNCTION_BLOCK",
+        "I | O | DT:TIME |  |  | ",
+    ),
+    (
+        "FUNCTION_BLOCK W VAR X:INT; END_VAR VAR_INPUT X, Y:BOOL; END_VAR VAR_OUTPUT Z:ARRAY[0..1] OF WORD; END_VAR EVENT_INPUT B; A:KIND; B; END_EVENT PLUGS P:AD; END_PLUGS SOCKETS Q:AD; P:B; END_SOCKETS END_FUNCTION_BLOCK",
+        "B A:KIND |  | Y:BOOL | Z:WORD | P:AD | Q:AD",
+    ),
+    (
+        "ADAPTER AD EVENT_OUTPUT RQ; END_EVENT VAR_OUTPUT V:INT; END_VAR END_ADAPTER",
+        " | RQ |  | V:INT |  | ",
+    ),
+    (
+        "SUBAPPLICATION S EVENT_INPUT E; END_EVENT FBS F:T; END_FBS PLUGS P:AD; END_PLUGS END_SUBAPPLICATION",
+        "E |  |  |  | P:AD | ",
+    ),
+    ("SYSTEM Y END_SYSTEM", " |  |  |  |  | "),
+    ("SYSTEM Y", "none"),
+];
+
+/// Puts a blank between two names of a list.
+fn tell_blank(told: &mut String, is_first: bool) -> Result<(), AllocError> {
+    if is_first { Ok(()) } else { told.push_str(" ") }
+}
+
+fn tell_typed(told: &mut String, name: &Name, type_name: &Name) -> Result<(), AllocError> {
+    write!(told, "{name}:{type_name}")
+}
+
+fn tell_event(
+    told: &mut String,
+    name: &Name,
+    type_name: Option<&NameUse>,
+) -> Result<(), AllocError> {
+    match type_name {
+        Some(type_name) => tell_typed(told, name, &type_name.name),
+        None => write!(told, "{name}"),
+    }
+}
+
+fn events_told(alloc: Global, events: &[(Name, Option<NameUse>)]) -> Result<String, AllocError> {
+    let mut told = String::new(alloc);
+    for (name, type_name) in events {
+        let is_first = told.is_empty();
+        tell_blank(&mut told, is_first)?;
+        tell_event(&mut told, name, type_name.as_ref())?;
+    }
+    Ok(told)
+}
+
+fn data_told(alloc: Global, variables: &[(Name, TypeUse)]) -> Result<String, AllocError> {
+    let mut told = String::new(alloc);
+    for (name, used) in variables {
+        let is_first = told.is_empty();
+        tell_blank(&mut told, is_first)?;
+        tell_typed(&mut told, name, &used.name.name)?;
+    }
+    Ok(told)
+}
+
+fn adapters_told(alloc: Global, adapters: &[(Name, NameUse)]) -> Result<String, AllocError> {
+    let mut told = String::new(alloc);
+    for (name, type_name) in adapters {
+        let is_first = told.is_empty();
+        tell_blank(&mut told, is_first)?;
+        tell_typed(&mut told, name, &type_name.name)?;
+    }
+    Ok(told)
+}
+
+fn all_events_told(alloc: Global, ports: &Ports) -> Result<String, AllocError> {
+    let inputs = events_told(alloc, &ports.event_inputs(alloc)?)?;
+    let outputs = events_told(alloc, &ports.event_outputs(alloc)?)?;
+    format!(in alloc; "{inputs} | {outputs}")
+}
+
+fn all_data_told(alloc: Global, ports: &Ports) -> Result<String, AllocError> {
+    let inputs = data_told(alloc, &ports.data_inputs(alloc)?)?;
+    let outputs = data_told(alloc, &ports.data_outputs(alloc)?)?;
+    format!(in alloc; "{inputs} | {outputs}")
+}
+
+fn all_adapters_told(alloc: Global, ports: &Ports) -> Result<String, AllocError> {
+    let plugs = adapters_told(alloc, &ports.plugs(alloc)?)?;
+    let sockets = adapters_told(alloc, &ports.sockets(alloc)?)?;
+    format!(in alloc; "{plugs} | {sockets}")
+}
+
+fn ports_told(alloc: Global, ports: &Ports) -> Result<String, AllocError> {
+    let events = all_events_told(alloc, ports)?;
+    let data = all_data_told(alloc, ports)?;
+    let adapters = all_adapters_told(alloc, ports)?;
+    format!(in alloc; "{events} | {data} | {adapters}")
+}
+
+fn interface_told(alloc: Global, source: &Source) -> Result<String, AllocError> {
+    match interface(alloc, source)? {
+        Some(ports) => ports_told(alloc, &ports),
+        None => "none".to_string(alloc),
+    }
+}
+
+fn told_of_text(alloc: Global, text: &str) -> Result<String, Fail> {
+    let source = Source::read(alloc, Name::read("U")?, text)?;
+    Ok(interface_told(alloc, &source)?)
+}
+
+fn compare_interfaces(rt: &impl Abort, alloc: Global, rows: &[(&str, &str)]) -> Result<(), Fail> {
+    for (text, expected) in rows {
+        let told = told_of_text(alloc, text)?;
+        same(rt, told.as_str(), expected, text);
+    }
+    Ok(())
+}
+
+#[test]
+fn ports_of_units(rt: HostRuntime) -> Result<(), Fail> {
+    compare_interfaces(&rt, rt.alloc(), &INTERFACES)
+}
