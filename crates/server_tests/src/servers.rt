@@ -104,6 +104,7 @@ fn talk_all<R: Net<Listener = TcpListener, Stream = TcpStream>>(
 }
 
 /// A server's numbers, how many of its writes are good, and what its clients say.
+#[derive(Drop)]
 struct Play<'a> {
     workers: u8,
     sessions: u8,
@@ -112,6 +113,7 @@ struct Play<'a> {
 }
 
 /// What the clients are told, and what the server prints behind its greeting, says on its errors and comes to.
+#[derive(Drop)]
 struct Wanted<'a> {
     told: &'a str,
     printed: &'a str,
