@@ -1,9 +1,9 @@
 //! Each checker alone, on a text that has faults of all, and on one that has none.
-use crate::checkers::{Checker, found_by};
+use crate::checkers::{Checker, find, found_by};
 use crate::plant::{all_told, library, plant_with, same};
 use fb_faults::library::Library;
 use fb_text::Name;
-use std::alloc::{AllocError, Global};
+use std::alloc::Global;
 use std::process::Abort;
 use std::test::Fail;
 
@@ -50,7 +50,7 @@ fn each_checker_finds_its_own_faults(rt: HostRuntime) -> Result<(), Fail> {
 }
 
 // A subapplication without faults, and the type of its blocks.
-static SOUND: [(&str, &str); 2] = [
+static FAULTLESS: [(&str, &str); 2] = [
     (
         "TN",
         "FUNCTION_BLOCK TN EVENT_INPUT I; END_EVENT EVENT_OUTPUT O; END_EVENT VAR_INPUT DT:TIME; END_VAR END_FUNCTION_BLOCK",
@@ -61,40 +61,14 @@ static SOUND: [(&str, &str); 2] = [
     ),
 ];
 
-/// Whether a checker finds nothing in a unit.
-fn finds_nothing(
-    alloc: Global,
-    library: &Library,
-    unit: &Name,
-    checker: Checker,
-) -> Result<bool, AllocError> {
-    let found = found_by(checker, alloc, library, unit)?;
-    Ok(found.is_empty())
-}
-
-/// Whether none of the checkers finds something in a unit.
-fn is_without_faults(
-    alloc: Global,
-    library: &Library,
-    unit: &Name,
-    rows: &[(Checker, &str)],
-) -> Result<bool, AllocError> {
-    for (checker, _) in rows {
-        if !finds_nothing(alloc, library, unit, *checker)? {
-            return Ok(false);
-        }
-    }
-    Ok(true)
-}
-
-fn compare_sound(rt: &impl Abort, alloc: Global, library: &Library) -> Result<(), Fail> {
+fn compare_faultless(rt: &impl Abort, alloc: Global, library: &Library) -> Result<(), Fail> {
     let unit = Name::read("SA")?;
-    assert!(rt; is_without_faults(alloc, library, &unit, &FOUND)?);
+    assert!(rt; find(alloc, library, &unit, &[])?);
     Ok(())
 }
 
 #[test]
 fn no_checker_finds_a_fault(rt: HostRuntime) -> Result<(), Fail> {
-    let library = library(rt.alloc(), &SOUND)?;
-    compare_sound(&rt, rt.alloc(), &library)
+    let library = library(rt.alloc(), &FAULTLESS)?;
+    compare_faultless(&rt, rt.alloc(), &library)
 }

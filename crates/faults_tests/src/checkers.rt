@@ -81,7 +81,7 @@ fn of_checkers(alloc: Global, all: &[Fault]) -> Result<Vec<Fault>, AllocError> {
 }
 
 /// Whether the checkers find these faults together.
-fn find(
+pub fn find(
     alloc: Global,
     library: &Library,
     unit: &Name,

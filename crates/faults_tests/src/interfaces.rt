@@ -36,66 +36,65 @@ fn tell_blank(told: &mut String, is_first: bool) -> Result<(), AllocError> {
     if is_first { Ok(()) } else { told.push_str(" ") }
 }
 
-fn tell_typed(told: &mut String, name: &Name, type_name: &Name) -> Result<(), AllocError> {
-    write!(told, "{name}:{type_name}")
+/// What stands behind a name in a list of ports.
+trait Typed {
+    /// The name of the type, where there is one.
+    fn type_name(&self) -> Option<&Name>;
 }
 
-fn tell_event(
-    told: &mut String,
-    name: &Name,
-    type_name: Option<&NameUse>,
-) -> Result<(), AllocError> {
+impl Typed for Option<NameUse> {
+    fn type_name(&self) -> Option<&Name> {
+        match self {
+            Some(used) => Some(&used.name),
+            None => None,
+        }
+    }
+}
+
+impl Typed for TypeUse {
+    fn type_name(&self) -> Option<&Name> {
+        Some(&self.name.name)
+    }
+}
+
+impl Typed for NameUse {
+    fn type_name(&self) -> Option<&Name> {
+        Some(&self.name)
+    }
+}
+
+fn tell_port(told: &mut String, name: &Name, type_name: Option<&Name>) -> Result<(), AllocError> {
     match type_name {
-        Some(type_name) => tell_typed(told, name, &type_name.name),
+        Some(type_name) => write!(told, "{name}:{type_name}"),
         None => write!(told, "{name}"),
     }
 }
 
-fn events_told(alloc: Global, events: &[(Name, Option<NameUse>)]) -> Result<String, AllocError> {
+fn list_told<T: Typed>(alloc: Global, ports: &[(Name, T)]) -> Result<String, AllocError> {
     let mut told = String::new(alloc);
-    for (name, type_name) in events {
+    for (name, typed) in ports {
         let is_first = told.is_empty();
         tell_blank(&mut told, is_first)?;
-        tell_event(&mut told, name, type_name.as_ref())?;
-    }
-    Ok(told)
-}
-
-fn data_told(alloc: Global, variables: &[(Name, TypeUse)]) -> Result<String, AllocError> {
-    let mut told = String::new(alloc);
-    for (name, used) in variables {
-        let is_first = told.is_empty();
-        tell_blank(&mut told, is_first)?;
-        tell_typed(&mut told, name, &used.name.name)?;
-    }
-    Ok(told)
-}
-
-fn adapters_told(alloc: Global, adapters: &[(Name, NameUse)]) -> Result<String, AllocError> {
-    let mut told = String::new(alloc);
-    for (name, type_name) in adapters {
-        let is_first = told.is_empty();
-        tell_blank(&mut told, is_first)?;
-        tell_typed(&mut told, name, &type_name.name)?;
+        tell_port(&mut told, name, typed.type_name())?;
     }
     Ok(told)
 }
 
 fn all_events_told(alloc: Global, ports: &Ports) -> Result<String, AllocError> {
-    let inputs = events_told(alloc, &ports.event_inputs(alloc)?)?;
-    let outputs = events_told(alloc, &ports.event_outputs(alloc)?)?;
+    let inputs = list_told(alloc, &ports.event_inputs(alloc)?)?;
+    let outputs = list_told(alloc, &ports.event_outputs(alloc)?)?;
     format!(in alloc; "{inputs} | {outputs}")
 }
 
 fn all_data_told(alloc: Global, ports: &Ports) -> Result<String, AllocError> {
-    let inputs = data_told(alloc, &ports.data_inputs(alloc)?)?;
-    let outputs = data_told(alloc, &ports.data_outputs(alloc)?)?;
+    let inputs = list_told(alloc, &ports.data_inputs(alloc)?)?;
+    let outputs = list_told(alloc, &ports.data_outputs(alloc)?)?;
     format!(in alloc; "{inputs} | {outputs}")
 }
 
 fn all_adapters_told(alloc: Global, ports: &Ports) -> Result<String, AllocError> {
-    let plugs = adapters_told(alloc, &ports.plugs(alloc)?)?;
-    let sockets = adapters_told(alloc, &ports.sockets(alloc)?)?;
+    let plugs = list_told(alloc, &ports.plugs(alloc)?)?;
+    let sockets = list_told(alloc, &ports.sockets(alloc)?)?;
     format!(in alloc; "{plugs} | {sockets}")
 }
 

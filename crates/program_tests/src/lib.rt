@@ -1,5 +1,7 @@
-//! Tests of the words of the program and of its runs.
+//! Tests of the words of the program, of its runs, and of servers.
 #![tactic(auto)]
 
 #[cfg(test)]
 mod program;
+#[cfg(test)]
+mod servers;

@@ -1,5 +1,0 @@
-//! Tests of servers and their clients.
-#![tactic(auto)]
-
-#[cfg(test)]
-mod servers;
