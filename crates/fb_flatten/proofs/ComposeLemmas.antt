@@ -4,22 +4,22 @@ use Rattle.std.specs.Prelude.{Contains, ◌&&◌}
 use Rattle.std.specs.Option.{option_and_then}
 use Rattle.std.specs.BTreeMap.{is_at}
 use Rattle.fb_text.specs.Order.{name_cmp}
-use Rattle.fb_wiring.specs.Tree.Tree.{DeclTree}
-use Rattle.fb_wiring.specs.Tree.declared.network.Sort.TheVariants.{Adapter}
-use Rattle.fb_wiring.specs.Library.View.{Sources, mentions_at, tree_at}
-use Rattle.fb_wiring.specs.Network.Sorts.{same_sort}
-use Rattle.fb_wiring.specs.Network.declared.network.Port.{Port}
-use Rattle.fb_wiring.specs.Network.declared.network.Instance.{Instance}
-use Rattle.fb_wiring.specs.Network.declared.network.End.{End}
-use Rattle.fb_wiring.specs.Network.declared.network.End.TheVariants.{Own, Of}
-use Rattle.fb_wiring.specs.Network.Plain.{PlainNetwork}
-use Rattle.fb_wiring.specs.Network.Network.{View, instance_named}
-use Rattle.fb_wiring.specs.Network.Clean.{port_named}
-use Rattle.fb_wiring.specs.ByName.{declared}
-use Rattle.fb_wiring.specs.Applications.{applications_of, plain_application}
-use Rattle.fb_wiring.specs.declared.systems.Application.{Application}
+use Rattle.fb_clean.specs.Tree.Tree.{DeclTree}
+use Rattle.fb_clean.specs.Tree.declared.network.Sort.TheVariants.{Adapter}
+use Rattle.fb_clean.specs.Library.View.{Sources, mentions_at, tree_at}
+use Rattle.fb_clean.specs.Network.Sorts.{same_sort}
+use Rattle.fb_clean.specs.Network.declared.network.Port.{Port}
+use Rattle.fb_clean.specs.Network.declared.network.Instance.{Instance}
+use Rattle.fb_clean.specs.Network.declared.network.End.{End}
+use Rattle.fb_clean.specs.Network.declared.network.End.TheVariants.{Own, Of}
+use Rattle.fb_clean.specs.Network.Plain.{PlainNetwork}
+use Rattle.fb_clean.specs.Network.Network.{View, instance_named}
+use Rattle.fb_clean.specs.Network.Clean.{port_named}
+use Rattle.fb_clean.specs.Wiring.ByName.{declared}
+use Rattle.fb_clean.specs.Wiring.Applications.{applications_of, plain_application}
+use Rattle.fb_clean.specs.Wiring.declared.systems.Application.{Application}
 use Rattle.fb_text.proofs.Members.{contains_nothing, origin_in_map}
-use Rattle.fb_wiring.proofs.CleanUnits.{applications_clean}
+use Rattle.fb_clean.proofs.CleanUnits.{applications_clean}
 use Rattle.fb_compose.specs.Part.{SameAdapters}
 use Rattle.fb_compose.specs.Ready.{Nets, AreFinished}
 use Rattle.fb_flatten.specs.Far.{far_of}

@@ -6,29 +6,29 @@ use Rattle.std.specs.Ordering.{is_eq}
 use Rattle.std.specs.declared.cmp.Ordering.TheVariants.{Equal}
 use Rattle.fb_text.specs.Order.{in_order}
 use Rattle.fb_text.proofs.OrderLemmas.{in_order-members, in_order-sorted}
-use Rattle.fb_wiring.specs.Library.View.{Sources, mentions_at}
-use Rattle.fb_wiring.specs.Library.Rests.{Rests, itself, through}
+use Rattle.fb_clean.specs.Library.View.{Sources, mentions_at}
+use Rattle.fb_clean.specs.Library.Rests.{Rests, itself, through}
 use Rattle.fb_text.proofs.Members.{contains_here, contains_later}
-use Rattle.fb_wiring.specs.Faults.Faults.{faults_of}
-use Rattle.fb_wiring.specs.Network.declared.network.InstanceKind.{InstanceKind}
-use Rattle.fb_wiring.specs.Network.declared.network.InstanceKind.TheVariants.{Block, Subapplication}
-use Rattle.fb_wiring.specs.Network.declared.network.Instance.{Instance}
-use Rattle.fb_wiring.specs.Network.declared.flat.Link.{Link}
-use Rattle.fb_wiring.specs.Network.declared.flat.Border.{Border}
-use Rattle.fb_wiring.specs.Network.Plain.{PlainNetwork}
-use Rattle.fb_wiring.specs.Network.LinkOrder.{link_cmp, link_cmp_total, border_cmp, border_cmp_total}
-use Rattle.fb_wiring.specs.Network.Network.{View, IsInner, instance_named}
-use Rattle.fb_wiring.specs.Network.Clean.{IsClean, IsCleanThroughout, CleanThroughout}
-use Rattle.fb_wiring.specs.Network.Instances.{Held, held_as, AreInstances, NoInstance, ThenBlock, ThenSubapplication}
-use Rattle.fb_wiring.specs.Network.FlatNet.{IsFlat}
+use Rattle.fb_clean.specs.Faults.Faults.{faults_of}
+use Rattle.fb_clean.specs.Network.declared.network.InstanceKind.{InstanceKind}
+use Rattle.fb_clean.specs.Network.declared.network.InstanceKind.TheVariants.{Block, Subapplication}
+use Rattle.fb_clean.specs.Network.declared.network.Instance.{Instance}
+use Rattle.fb_clean.specs.Network.declared.flat.Link.{Link}
+use Rattle.fb_clean.specs.Network.declared.flat.Border.{Border}
+use Rattle.fb_clean.specs.Network.Plain.{PlainNetwork}
+use Rattle.fb_clean.specs.Network.LinkOrder.{link_cmp, link_cmp_total, border_cmp, border_cmp_total}
+use Rattle.fb_clean.specs.Network.Network.{View, IsInner, instance_named}
+use Rattle.fb_clean.specs.Network.Clean.{IsClean, IsCleanThroughout, CleanThroughout}
+use Rattle.fb_clean.specs.Network.Instances.{Held, held_as, AreInstances, NoInstance, ThenBlock, ThenSubapplication}
+use Rattle.fb_clean.specs.Network.FlatNet.{IsFlat}
 use Rattle.fb_compose.specs.Composed.{composed_blocks, composed_borders, composed_links}
 use Rattle.fb_compose.specs.Ready.{Nets, IsFinished, AreFinished}
 use Rattle.fb_compose.proofs.Composing.{found_by_name}
 use Rattle.fb_compose.proofs.Equals.{exact_border, exact_link}
 use Rattle.fb_compose.proofs.FlatLemmas.{IsOrderOf, flat_of}
-use Rattle.fb_wiring.specs.ByName.{declared}
-use Rattle.fb_wiring.specs.Networks.{network_of}
-use Rattle.fb_wiring.proofs.CleanUnits.{networks_clean}
+use Rattle.fb_clean.specs.Wiring.ByName.{declared}
+use Rattle.fb_clean.specs.Wiring.Networks.{network_of}
+use Rattle.fb_clean.proofs.CleanUnits.{networks_clean}
 use Rattle.fb_flatten.proofs.MentionLemmas.{declared_within}
 use Rattle.fb_flatten.proofs.OrderLemmas.{tree_of_faultless}
 use Rattle.fb_flatten.specs.Nets.{composed, composed_at, flats_of, held_inside, held_by, held_at, held_of}

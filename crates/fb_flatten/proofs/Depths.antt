@@ -8,10 +8,10 @@ use Rattle.std.specs.Ordering.{eq_by_cmp}
 use Rattle.std.specs.FinMap.{slice_cmp-IsAntisymmetric, nat_cmp-IsAntisymmetric}
 use Rattle.fb_text.proofs.Tests.{by_bool, or_cases}
 use Rattle.fb_text.specs.Order.{name_cmp}
-use Rattle.fb_wiring.specs.Library.View.{Sources, mentions_at}
-use Rattle.fb_wiring.specs.Library.Rests.{Rests, itself, through}
-use Rattle.fb_wiring.specs.Library.Seen.{has_name, unseen}
-use Rattle.fb_wiring.proofs.Library.WalkLemmas.{Contains-has, has-Contains}
+use Rattle.fb_clean.specs.Library.View.{Sources, mentions_at}
+use Rattle.fb_clean.specs.Library.Rests.{Rests, itself, through}
+use Rattle.fb_clean.specs.Library.Seen.{has_name, unseen}
+use Rattle.fb_clean.proofs.Library.WalkLemmas.{Contains-has, has-Contains}
 use Rattle.fb_order.specs.Reaches.{Reaches, directly, onward, IsRecursive}
 use Rattle.fb_order.proofs.StackLemmas.{reaches_more}
 use Rattle.fb_text.proofs.Members.{contains_here}

@@ -12,12 +12,12 @@ use Rattle.std.proofs.lemmas.Map.Views.{tells_apart}
 use Rattle.fb_text.proofs.Tests.{by_bool, no_both}
 use Rattle.fb_text.specs.Order.{name_cmp}
 use Rattle.fb_text.proofs.OrderLemmas.{in_order-members, in_order-sorted}
-use Rattle.fb_wiring.specs.Library.View.{Sources, tree_of, mentions_at, mentions_in}
-use Rattle.fb_wiring.specs.Library.Rests.{Rests, itself, through}
-use Rattle.fb_wiring.proofs.Library.FarLemmas.{one_list}
-use Rattle.fb_wiring.proofs.Library.Locality.{far_local}
-use Rattle.fb_wiring.specs.Library.Seen.{has_name, unseen}
-use Rattle.fb_wiring.proofs.Library.WalkLemmas.{Contains-has, has-Contains}
+use Rattle.fb_clean.specs.Library.View.{Sources, tree_of, mentions_at, mentions_in}
+use Rattle.fb_clean.specs.Library.Rests.{Rests, itself, through}
+use Rattle.fb_clean.proofs.Library.FarLemmas.{one_list}
+use Rattle.fb_clean.proofs.Library.Locality.{far_local}
+use Rattle.fb_clean.specs.Library.Seen.{has_name, unseen}
+use Rattle.fb_clean.proofs.Library.WalkLemmas.{Contains-has, has-Contains}
 use Rattle.fb_text.proofs.Members.{contains_flat_map, origin_in_flat_map, contains_here, contains_single}
 use Rattle.fb_flatten.specs.Far.{mentioned_in, all_mentioned, opened, opened_times, far_of, FarIsAll, FarOfIsLocal}
 

@@ -7,23 +7,23 @@ use Rattle.std.specs.Option.{option_or}
 use Rattle.std.specs.BTreeMap.{is_at}
 use Rattle.fb_text.proofs.Tests.{by_bool}
 use Rattle.fb_text.specs.Order.{name_cmp}
-use Rattle.fb_wiring.specs.Tree.Mentions.{unit_kind_of}
-use Rattle.fb_wiring.specs.Tree.Tree.{DeclTree, block_type, adapter_type, subapplication_type, system_configuration}
-use Rattle.fb_wiring.specs.Tree.declared.kinds.UnitKind.{UnitKind}
-use Rattle.fb_wiring.specs.Tree.declared.kinds.UnitKind.TheVariants as kinds
-use Rattle.fb_wiring.specs.Library.View.{Sources, mentions_at, tree_at}
-use Rattle.fb_wiring.specs.Library.Rests.{itself}
-use Rattle.fb_wiring.specs.Network.declared.network.InstanceKind.TheVariants.{Subapplication}
-use Rattle.fb_wiring.specs.Network.declared.network.Instance.{Instance}
-use Rattle.fb_wiring.specs.Network.Plain.{PlainNetwork}
-use Rattle.fb_wiring.specs.Network.PlainFlat.{PlainFlat}
-use Rattle.fb_wiring.specs.Network.Network.{View}
-use Rattle.fb_wiring.specs.Network.Instances.{AreInstances}
-use Rattle.fb_wiring.specs.Network.FlatNet.{IsFlat}
-use Rattle.fb_wiring.specs.Applications.{applications_of}
-use Rattle.fb_wiring.specs.ByName.{declared, kind_at}
-use Rattle.fb_wiring.specs.Networks.{network_of}
-use Rattle.fb_wiring.specs.declared.systems.Application.{Application}
+use Rattle.fb_clean.specs.Tree.Mentions.{unit_kind_of}
+use Rattle.fb_clean.specs.Tree.Tree.{DeclTree, block_type, adapter_type, subapplication_type, system_configuration}
+use Rattle.fb_clean.specs.Tree.declared.kinds.UnitKind.{UnitKind}
+use Rattle.fb_clean.specs.Tree.declared.kinds.UnitKind.TheVariants as kinds
+use Rattle.fb_clean.specs.Library.View.{Sources, mentions_at, tree_at}
+use Rattle.fb_clean.specs.Library.Rests.{itself}
+use Rattle.fb_clean.specs.Network.declared.network.InstanceKind.TheVariants.{Subapplication}
+use Rattle.fb_clean.specs.Network.declared.network.Instance.{Instance}
+use Rattle.fb_clean.specs.Network.Plain.{PlainNetwork}
+use Rattle.fb_clean.specs.Network.PlainFlat.{PlainFlat}
+use Rattle.fb_clean.specs.Network.Network.{View}
+use Rattle.fb_clean.specs.Network.Instances.{AreInstances}
+use Rattle.fb_clean.specs.Network.FlatNet.{IsFlat}
+use Rattle.fb_clean.specs.Wiring.Applications.{applications_of}
+use Rattle.fb_clean.specs.Wiring.ByName.{declared, kind_at}
+use Rattle.fb_clean.specs.Wiring.Networks.{network_of}
+use Rattle.fb_clean.specs.Wiring.declared.systems.Application.{Application}
 use Rattle.fb_text.proofs.Members.{contains_cases, contains_here, contains_later, contains_nothing}
 use Rattle.fb_compose.proofs.Equals.{same_bytes, not_at, at_not}
 use Rattle.fb_compose.specs.Ready.{Nets, IsFinished, AreFinished}

@@ -20,8 +20,8 @@ pub mod ComposeLemmas
 pub mod FlatsLemmas
 pub mod SuspectLemmas
 -- Passed on to the crates above, which do not list these libraries.
-pub use Rattle.fb_wiring.proofs.Tree as Tree
-pub use Rattle.fb_wiring.proofs.Library as Library
-pub use Rattle.fb_wiring.proofs.Iface as Iface
-pub use Rattle.fb_wiring.proofs.Faults as Faults
+pub use Rattle.fb_clean.proofs.Tree as Tree
+pub use Rattle.fb_clean.proofs.Library as Library
+pub use Rattle.fb_clean.proofs.Iface as Iface
+pub use Rattle.fb_clean.proofs.Faults as Faults
 pub use Rattle.fb_compose.proofs as Compose

@@ -7,21 +7,21 @@ use Rattle.std.specs.Cmp.Lexicographic.{nat_list_cmp_total}
 use Rattle.std.proofs.lemmas.List.Elements.{Contains-append_cases}
 use Rattle.fb_text.specs.Order.{name_cmp}
 use Rattle.fb_text.proofs.OrderLemmas.{in_order-members}
-use Rattle.fb_wiring.specs.Library.View.{Sources, tree_at, tree_of, mentions_at, near_of}
-use Rattle.fb_wiring.specs.Library.Rests.{Rests, itself}
-use Rattle.fb_wiring.specs.Library.Local.{AgreeFar}
-use Rattle.fb_wiring.proofs.Library.Locality.{far_local}
-use Rattle.fb_wiring.specs.Faults.Faults.{faults_of}
-use Rattle.fb_wiring.proofs.Faults.Locality.{faults_local}
+use Rattle.fb_clean.specs.Library.View.{Sources, tree_at, tree_of, mentions_at, near_of}
+use Rattle.fb_clean.specs.Library.Rests.{Rests, itself}
+use Rattle.fb_clean.specs.Library.Local.{AgreeFar}
+use Rattle.fb_clean.proofs.Library.Locality.{far_local}
+use Rattle.fb_clean.specs.Faults.Faults.{faults_of}
+use Rattle.fb_clean.proofs.Faults.Locality.{faults_local}
 use Rattle.fb_order.specs.Reaches.{IsRecursive}
 use Rattle.fb_order.proofs.Locality.{recursion_local}
-use Rattle.fb_wiring.specs.Network.PlainFlat.{PlainFlat}
-use Rattle.fb_wiring.specs.Network.Instances.{Held}
+use Rattle.fb_clean.specs.Network.PlainFlat.{PlainFlat}
+use Rattle.fb_clean.specs.Network.Instances.{Held}
 use Rattle.fb_text.proofs.Members.{contains_nothing, contains_here, contains_later, contains_cases}
 use Rattle.fb_compose.specs.declared.application.FlatApplication.{FlatApplication}
-use Rattle.fb_wiring.specs.ByName.{declared}
-use Rattle.fb_wiring.specs.declared.systems.Application.{Application}
-use Rattle.fb_wiring.proofs.Locality.{networks_local}
+use Rattle.fb_clean.specs.Wiring.ByName.{declared}
+use Rattle.fb_clean.specs.Wiring.declared.systems.Application.{Application}
+use Rattle.fb_clean.proofs.Wiring.Locality.{networks_local}
 use Rattle.fb_flatten.specs.Blocking.{AreThose, IsBlocking}
 use Rattle.fb_flatten.specs.Laws.{NetIsLocal}
 use Rattle.fb_flatten.specs.Locality.{Within, IsClosed, SameNetworks}

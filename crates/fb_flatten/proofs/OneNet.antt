@@ -1,21 +1,21 @@
 -- A unit has one net only.
 use Rattle.std.proofs.Common.{ℕ, ◌≡◌, List, [], ◌∷◌, refl, sym, ◌∙◌, ap, subst, arith, length}
 use Rattle.std.specs.Cmp.Lexicographic.{nat_list_cmp_total}
-use Rattle.fb_wiring.specs.Tree.Tree.{DeclTree}
-use Rattle.fb_wiring.specs.Library.View.{Sources}
-use Rattle.fb_wiring.specs.Network.LinkOrder.{link_cmp_total}
-use Rattle.fb_wiring.specs.Network.Plain.{PlainNetwork}
-use Rattle.fb_wiring.specs.Network.PlainFlat.{PlainFlat}
-use Rattle.fb_wiring.specs.Network.Network.{View}
-use Rattle.fb_wiring.specs.Network.Instances.{Held, AreInstances}
-use Rattle.fb_wiring.specs.Network.FlatNet.{IsFlat}
+use Rattle.fb_clean.specs.Tree.Tree.{DeclTree}
+use Rattle.fb_clean.specs.Library.View.{Sources}
+use Rattle.fb_clean.specs.Network.LinkOrder.{link_cmp_total}
+use Rattle.fb_clean.specs.Network.Plain.{PlainNetwork}
+use Rattle.fb_clean.specs.Network.PlainFlat.{PlainFlat}
+use Rattle.fb_clean.specs.Network.Network.{View}
+use Rattle.fb_clean.specs.Network.Instances.{Held, AreInstances}
+use Rattle.fb_clean.specs.Network.FlatNet.{IsFlat}
 use Rattle.fb_compose.specs.SystemFlat.{IsSystemFlat}
 use Rattle.fb_compose.specs.declared.application.FlatApplication.{FlatApplication}
 use Rattle.fb_compose.proofs.BlockLemmas.{same_instances}
 use Rattle.fb_compose.proofs.OneFlat.{same_flat}
 use Rattle.fb_compose.proofs.SameSorted.{same_sorted}
-use Rattle.fb_wiring.specs.ByName.{declared}
-use Rattle.fb_wiring.specs.declared.systems.Application.{Application}
+use Rattle.fb_clean.specs.Wiring.ByName.{declared}
+use Rattle.fb_clean.specs.Wiring.declared.systems.Application.{Application}
 use Rattle.fb_flatten.specs.Blocking.{AreThose}
 use Rattle.fb_flatten.specs.Net.{PlainNet, blocked, recursive, too_large, flat_net, IsNet}
 use Rattle.fb_flatten.specs.Laws.{OneNet}

@@ -8,8 +8,8 @@ use Rattle.std.specs.Option.{option_and_then}
 use Rattle.std.specs.FinMap.{get, get-retain_keys, slice_cmp-IsAntisymmetric, nat_cmp-IsAntisymmetric}
 use Rattle.fb_text.proofs.Tests.{by_bool}
 use Rattle.fb_text.specs.Order.{name_cmp}
-use Rattle.fb_wiring.specs.Library.View.{Sources, tree_of, mentions_at, mentions_in}
-use Rattle.fb_wiring.specs.Library.Rests.{Rests, itself, through}
+use Rattle.fb_clean.specs.Library.View.{Sources, tree_of, mentions_at, mentions_in}
+use Rattle.fb_clean.specs.Library.Rests.{Rests, itself, through}
 use Rattle.fb_text.proofs.Members.{contains_nothing}
 use Rattle.fb_order.specs.Order.{IsOrdered}
 use Rattle.fb_order.specs.Reaches.{Reaches, directly, onward, IsRecursive, RestsOnRecursive}

@@ -5,13 +5,13 @@ use Rattle.std.specs.BTreeMap.{is_at}
 use Rattle.std.proofs.lemmas.List.Elements.{Contains-push_cases}
 use Rattle.std.proofs.Math.Seq.{take-suc}
 use Rattle.fb_text.specs.Order.{name_cmp}
-use Rattle.fb_wiring.specs.Library.View.{Sources}
-use Rattle.fb_wiring.specs.Network.declared.network.Port.{Port}
-use Rattle.fb_wiring.specs.Network.Plain.{PlainNetwork}
-use Rattle.fb_wiring.specs.Network.Network.{View}
+use Rattle.fb_clean.specs.Library.View.{Sources}
+use Rattle.fb_clean.specs.Network.declared.network.Port.{Port}
+use Rattle.fb_clean.specs.Network.Plain.{PlainNetwork}
+use Rattle.fb_clean.specs.Network.Network.{View}
 use Rattle.fb_compose.proofs.Equals.{same_bytes}
 use Rattle.fb_text.proofs.Members.{contains_nothing}
-use Rattle.fb_wiring.specs.ByName.{declared}
+use Rattle.fb_clean.specs.Wiring.ByName.{declared}
 use Rattle.fb_flatten.specs.Tables.{Grows, Has, HasAdapter, HasAdapters, HasType, IsTable, IsTrue}
 
 pub nothing_true : (sources : Sources) (table : View) → ((name : List ℕ) → table name ≡ None) → IsTrue sources table

@@ -3,9 +3,9 @@ use Rattle.std.specs.Prelude.{ℕ, ◌≡◌, ◌+◌, Bool, true, false, ◌||�
 use Rattle.std.specs.BTreeMap.{is_at}
 use Rattle.std.specs.FinMap.{retain_keys}
 use Rattle.fb_text.specs.Order.{name_cmp}
-use Rattle.fb_wiring.specs.Library.View.{Sources}
-use Rattle.fb_wiring.specs.Network.declared.count.TheConstants.{INSTANCE_LIMIT}
-use Rattle.fb_wiring.specs.Network.PlainFlat.{PlainFlat}
+use Rattle.fb_clean.specs.Library.View.{Sources}
+use Rattle.fb_clean.specs.Network.declared.count.TheConstants.{INSTANCE_LIMIT}
+use Rattle.fb_clean.specs.Network.PlainFlat.{PlainFlat}
 use Rattle.fb_flatten.specs.Net.{PlainNet, blocked, recursive, too_large, flat_net}
 use Rattle.fb_flatten.specs.Nets.{net_at}
 

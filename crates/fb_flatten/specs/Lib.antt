@@ -10,11 +10,12 @@ pub mod Nets
 pub mod Hints
 pub mod Suspects
 -- Passed on to the crates above, which do not list these libraries.
-pub use Rattle.fb_wiring.specs.Tree as Tree
-pub use Rattle.fb_wiring.specs.Parse as Parse
-pub use Rattle.fb_wiring.specs.Library as Library
-pub use Rattle.fb_wiring.specs.Iface as Iface
-pub use Rattle.fb_wiring.specs.Netcheck as Netcheck
-pub use Rattle.fb_wiring.specs.Faults as Faults
-pub use Rattle.fb_wiring.specs.Network as Network
-pub use Rattle.fb_wiring.specs as Wiring
+pub use Rattle.fb_clean.specs.Tree as Tree
+pub use Rattle.fb_clean.specs.Parse as Parse
+pub use Rattle.fb_clean.specs.Library as Library
+pub use Rattle.fb_clean.specs.Iface as Iface
+pub use Rattle.fb_clean.specs.Netcheck as Netcheck
+pub use Rattle.fb_clean.specs.Faults as Faults
+pub use Rattle.fb_clean.specs.Network as Network
+pub use Rattle.fb_clean.specs.Wiring as Wiring
+pub use Rattle.fb_clean.specs as Clean

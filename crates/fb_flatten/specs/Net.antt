@@ -1,8 +1,8 @@
 -- The net of a unit: its flat network, or why it has none.
 use Rattle.std.specs.Prelude.{ℕ, ◌≢◌, List, []}
-use Rattle.fb_wiring.specs.Library.View.{Sources}
+use Rattle.fb_clean.specs.Library.View.{Sources}
 use Rattle.fb_order.specs.Reaches.{IsRecursive}
-use Rattle.fb_wiring.specs.Network.PlainFlat.{PlainFlat}
+use Rattle.fb_clean.specs.Network.PlainFlat.{PlainFlat}
 use Rattle.fb_flatten.specs.declared.unit_net.Net.{Net}
 use Rattle.fb_flatten.specs.declared.unit_net.Net.TheVariants.{Blocked, Recursive, TooLarge, Flat}
 use Rattle.fb_flatten.specs.Blocking.{IsBlocking, AreThose}

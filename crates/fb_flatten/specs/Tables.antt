@@ -3,25 +3,25 @@ use Rattle.std.specs.Prelude.{ℕ, ◌≡◌, ◌≢◌, ◌<◌, ◌≤◌, ◌
 use Rattle.std.specs.Option.{option_or}
 use Rattle.std.specs.BTreeMap.{is_at}
 use Rattle.fb_text.specs.Order.{name_cmp}
-use Rattle.fb_wiring.specs.Tree.Tree.{DeclTree, block_type, adapter_type, subapplication_type, system_configuration}
-use Rattle.fb_wiring.specs.Tree.declared.kinds.UnitKind.TheVariants as kinds
-use Rattle.fb_wiring.specs.Library.View.{Sources, mentions_at, tree_at}
-use Rattle.fb_wiring.specs.Library.Rests.{Rests}
-use Rattle.fb_wiring.specs.Network.declared.count.TheConstants.{INSTANCE_LIMIT}
-use Rattle.fb_wiring.specs.Network.declared.network.Port.{Port}
-use Rattle.fb_wiring.specs.Network.Plain.{PlainNetwork}
-use Rattle.fb_wiring.specs.Network.PlainFlat.{PlainFlat}
-use Rattle.fb_wiring.specs.Network.Network.{View}
-use Rattle.fb_wiring.specs.Network.Instances.{Held, AreInstances}
-use Rattle.fb_wiring.specs.Network.Clean.{IsCleanThroughout}
-use Rattle.fb_wiring.specs.Network.Count.{IsCount}
+use Rattle.fb_clean.specs.Tree.Tree.{DeclTree, block_type, adapter_type, subapplication_type, system_configuration}
+use Rattle.fb_clean.specs.Tree.declared.kinds.UnitKind.TheVariants as kinds
+use Rattle.fb_clean.specs.Library.View.{Sources, mentions_at, tree_at}
+use Rattle.fb_clean.specs.Library.Rests.{Rests}
+use Rattle.fb_clean.specs.Network.declared.count.TheConstants.{INSTANCE_LIMIT}
+use Rattle.fb_clean.specs.Network.declared.network.Port.{Port}
+use Rattle.fb_clean.specs.Network.Plain.{PlainNetwork}
+use Rattle.fb_clean.specs.Network.PlainFlat.{PlainFlat}
+use Rattle.fb_clean.specs.Network.Network.{View}
+use Rattle.fb_clean.specs.Network.Instances.{Held, AreInstances}
+use Rattle.fb_clean.specs.Network.Clean.{IsCleanThroughout}
+use Rattle.fb_clean.specs.Network.Count.{IsCount}
 use Rattle.fb_compose.specs.Counts.{IsCounted, AreCounted}
 use Rattle.fb_compose.specs.Part.{IsFlatInWhole, SameAdapters}
 use Rattle.fb_compose.specs.Ready.{Nets, IsFinished, AreFinished}
 use Rattle.fb_compose.specs.SystemFlat.{IsSystemFlat}
 use Rattle.fb_compose.specs.declared.application.FlatApplication.{FlatApplication}
-use Rattle.fb_wiring.specs.ByName.{declared, kind_at}
-use Rattle.fb_wiring.specs.declared.systems.Application.{Application}
+use Rattle.fb_clean.specs.Wiring.ByName.{declared, kind_at}
+use Rattle.fb_clean.specs.Wiring.declared.systems.Application.{Application}
 use Rattle.fb_flatten.specs.Hints.{count_of_hint, flat_of_hint}
 use Rattle.fb_flatten.specs.Net.{PlainNet, IsSound}
 use Rattle.fb_flatten.specs.Units.{AreFlatApplications, Holds, IsFlatApplication, IsWithinLimit}

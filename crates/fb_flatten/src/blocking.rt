@@ -4,9 +4,9 @@ ghost use Rattle.fb_flatten.specs.Blocking.{is_blocking, is_some_name};
 ghost use Rattle.fb_flatten.specs.Hints.{AreRightHints};
 
 use crate::hints::{Hints, is_known_whole};
+use fb_clean::faults::faults;
+use fb_clean::library::View;
 use fb_text::Name;
-use fb_wiring::faults::faults;
-use fb_wiring::library::View;
 use std::alloc::{AllocError, Global};
 
 /// Whether the name is that of no unit, or of one with faults.

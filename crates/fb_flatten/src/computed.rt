@@ -1,6 +1,6 @@
 //! What a unit rests on, and its net, by the functions of the specs.
 ghost use Rattle.std.specs.Prelude.{◌≡◌, true, Some, IfOk};
-ghost use Rattle.fb_wiring.specs.Library.View.{tree_at};
+ghost use Rattle.fb_clean.specs.Library.View.{tree_at};
 ghost use Rattle.fb_flatten.specs.Net.{plain_net};
 ghost use Rattle.fb_flatten.specs.Far.{far_of};
 ghost use Rattle.fb_flatten.specs.Hints.{AreRightHints};
@@ -10,8 +10,8 @@ use crate::hints::Hints;
 use crate::kinds::has_net;
 use crate::scratch::net;
 use crate::unit_net::{Net, net_with};
+use fb_clean::library::{View, far};
 use fb_text::Name;
-use fb_wiring::library::{View, far};
 use std::alloc::{AllocError, Global};
 
 /// All names that the unit rests on, itself and absent ones included, in order, each once.

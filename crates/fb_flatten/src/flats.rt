@@ -8,10 +8,10 @@ ghost use Rattle.fb_flatten.specs.Tables.{AllFinished, IsAdded, IsComposed, IsTa
 use crate::hints::{Hints, KnownFlats, kept_count};
 use crate::kinds::is_subapplication;
 use crate::tables::Table;
+use fb_clean::library::View;
+use fb_clean::plain::Flat;
 use fb_compose::{Nets, compose_by_part};
 use fb_text::{Name, same_name};
-use fb_wiring::library::View;
-use fb_wiring::plain::Flat;
 use std::alloc::{AllocError, Global};
 use std::collections::BTreeMap;
 

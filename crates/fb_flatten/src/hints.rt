@@ -8,9 +8,9 @@ ghost use Rattle.fb_flatten.specs.Net.{PlainNet, plain_net};
 ghost use Rattle.fb_flatten.specs.Tables.{known_flats};
 
 use crate::unit_net::Net;
+use fb_clean::plain::{Flat, INSTANCE_LIMIT};
 use fb_compose::Nets;
 use fb_text::Name;
-use fb_wiring::plain::{Flat, INSTANCE_LIMIT};
 use std::collections::BTreeMap;
 
 /// Kept nets by the names of their units.

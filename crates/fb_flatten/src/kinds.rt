@@ -1,13 +1,13 @@
 //! Which units have nets.
 ghost use Rattle.std.specs.Prelude.{◌≡◌, ◌↔◌, IsTrue};
-ghost use Rattle.fb_wiring.specs.Library.View.{tree_at};
-ghost use Rattle.fb_wiring.specs.Tree.Tree.{decl_tree};
+ghost use Rattle.fb_clean.specs.Library.View.{tree_at};
+ghost use Rattle.fb_clean.specs.Tree.Tree.{decl_tree};
 ghost use Rattle.fb_flatten.specs.Tables.{is_subapplication_in, is_subapplication_tree, is_system_tree};
 ghost use Rattle.fb_flatten.specs.Units.{HasNet, has_net_tree};
 
+use fb_clean::library::{View, tree_by_name};
+use fb_clean::tree::Decl;
 use fb_text::Name;
-use fb_wiring::library::{View, tree_by_name};
-use fb_wiring::tree::Decl;
 
 fn is_of_net(decl: &Decl) -> bool
     ensures { result ≡ has_net_tree (decl_tree decl.now) }

@@ -29,52 +29,50 @@ pub mod compose {
     pub use fb_compose::sort_once;
 }
 
-/// Of `fb_wiring::faults`, for the crates above.
+/// Of `fb_clean::faults`, for the crates above.
 pub mod faults {
-    pub use fb_wiring::faults::faults;
+    pub use fb_clean::faults::faults;
 }
 
-/// Of `fb_wiring::iface`, for the crates above.
+/// Of `fb_clean::iface`, for the crates above.
 pub mod iface {
-    pub use fb_wiring::iface::Fault;
+    pub use fb_clean::iface::Fault;
 }
 
-/// Of `fb_wiring::library`, for the crates above.
+/// Of `fb_clean::library`, for the crates above.
 pub mod library {
-    pub use fb_wiring::library::{
-        Change, Library, View, far, mentions_by_name, near, tree_by_name,
-    };
+    pub use fb_clean::library::{Change, Library, View, far, mentions_by_name, near, tree_by_name};
 }
 
-/// Of `fb_wiring::netcheck`, for the crates above.
+/// Of `fb_clean::netcheck`, for the crates above.
 pub mod netcheck {
-    pub use fb_wiring::netcheck::{part_of, text_by_name};
+    pub use fb_clean::netcheck::{part_of, text_by_name};
 }
 
-/// Of `fb_wiring::plain`, for the crates above.
+/// Of `fb_clean::plain`, for the crates above.
 pub mod network {
-    pub use fb_wiring::plain::{
+    pub use fb_clean::plain::{
         Border, End, Flat, FlatBlock, Link, Network, Path, Port, is_same_sort, sort_number,
     };
 }
 
-/// Of `fb_wiring::parse`, for the crates above.
+/// Of `fb_clean::parse`, for the crates above.
 pub mod parse {
-    pub use fb_wiring::parse::{ReadFault, Source};
+    pub use fb_clean::parse::{ReadFault, Source};
 }
 
-/// Of `fb_wiring::tree`, for the crates above.
+/// Of `fb_clean::tree`, for the crates above.
 pub mod tree {
-    pub use fb_wiring::tree::{
+    pub use fb_clean::tree::{
         Application, Constant, Decl, Device, Instance, Mapping, Parameter, Resource, Role, Side,
         Simple, Sort,
     };
 }
 
-/// Of `fb_wiring`, for the crates above.
+/// Of `fb_clean` and of `fb_clean::wiring`, for the crates above.
 pub mod wiring {
-    pub use fb_wiring::{
-        applications, applications_are_clean, network, networks_are_clean, networks_are_local,
-        without_faults_nothing_is_reported,
+    pub use fb_clean::wiring::{applications, network, networks_are_local};
+    pub use fb_clean::{
+        applications_are_clean, networks_are_clean, without_faults_nothing_is_reported,
     };
 }

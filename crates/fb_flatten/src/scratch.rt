@@ -5,8 +5,8 @@ ghost use Rattle.fb_flatten.specs.Units.{HasNet};
 
 use crate::hints::NoHints;
 use crate::unit_net::{Net, net_with};
+use fb_clean::library::View;
 use fb_text::Name;
-use fb_wiring::library::View;
 use std::alloc::{AllocError, Global};
 
 /// The flat network of a subapplication or a system, or the first reason why it has none: that it rests on units that are absent or have

@@ -1,13 +1,13 @@
 //! The names among which those that block a unit are looked for.
 ghost use Rattle.std.specs.Prelude.{◌≡◌, IfOk, OnOk};
-ghost use Rattle.fb_wiring.specs.Library.Seen.{Opens};
+ghost use Rattle.fb_clean.specs.Library.Seen.{Opens};
 ghost use Rattle.fb_flatten.specs.Hints.{AreRightHints};
 ghost use Rattle.fb_flatten.specs.Suspects.{AreSuspects, mentions_beyond};
 
 use crate::hints::{Hints, is_known_whole};
+use fb_clean::library::{View, mentions_by_name};
 use fb_table::{names_of, open_new};
 use fb_text::Name;
-use fb_wiring::library::{View, mentions_by_name};
 use std::alloc::{AllocError, Global};
 use std::collections::BTreeSet;
 

@@ -7,11 +7,11 @@ ghost use Rattle.fb_flatten.specs.Tables.{AllCounted, Grows, Has, HasAdapter, Ha
 
 use crate::hints::{Hints, kept_count};
 use crate::kinds::is_subapplication;
+use fb_clean::library::{View, tree_by_name};
+use fb_clean::plain::{Network, Port};
+use fb_clean::wiring::network;
 use fb_compose::count_instances;
 use fb_text::Name;
-use fb_wiring::library::{View, tree_by_name};
-use fb_wiring::network;
-use fb_wiring::plain::{Network, Port};
 use std::alloc::{AllocError, Global};
 use std::collections::BTreeMap;
 

@@ -11,10 +11,10 @@ use crate::rest::Rest;
 use crate::suspects::suspects;
 use crate::tables::networks_of;
 use crate::units::{count_of_unit, flat_of_unit};
+use fb_clean::library::{View, far};
+use fb_clean::plain::{Flat, INSTANCE_LIMIT};
 use fb_order::{inner_first, recursive};
 use fb_text::Name;
-use fb_wiring::library::{View, far};
-use fb_wiring::plain::{Flat, INSTANCE_LIMIT};
 use std::alloc::{AllocError, Global};
 
 /// The flat network of a unit, or why it has none.

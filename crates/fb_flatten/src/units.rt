@@ -2,7 +2,7 @@
 ghost use Rattle.std.specs.Prelude.{◌≡◌, IfOk};
 ghost use Rattle.std.specs.BTreeMap.{get};
 ghost use Rattle.fb_text.specs.Order.{name_cmp};
-ghost use Rattle.fb_wiring.specs.Tree.Tree.{decl_tree};
+ghost use Rattle.fb_clean.specs.Tree.Tree.{decl_tree};
 ghost use Rattle.fb_flatten.specs.Hints.{AreRightHints};
 ghost use Rattle.fb_flatten.specs.Tables.{AreComposedApplications, AreComposedTogether, IsComposedApplication, IsSmall, IsTable, IsUnitCount, IsUnitOrder};
 ghost use Rattle.fb_flatten.specs.Units.{HasNet, IsUnitFlat, instances_in, own_instances};
@@ -11,12 +11,12 @@ use crate::flats::{flat_of_type, missing_flats};
 use crate::hints::{Hints, KnownFlats};
 use crate::kinds::is_of_system;
 use crate::tables::{Table, counts_in_order};
+use fb_clean::library::{View, tree_by_name};
+use fb_clean::plain::{Flat, Instance, Network};
+use fb_clean::tree::Decl;
+use fb_clean::wiring::{Application, applications, network};
 use fb_compose::{FlatApplication, Nets, compose_by_part, count_instances, join};
 use fb_text::Name;
-use fb_wiring::library::{View, tree_by_name};
-use fb_wiring::plain::{Flat, Instance, Network};
-use fb_wiring::tree::Decl;
-use fb_wiring::{Application, applications, network};
 use std::alloc::{AllocError, Global};
 
 /// The instances of all applications.

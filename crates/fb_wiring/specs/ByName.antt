@@ -1,8 +1,8 @@
 -- Networks, applications and kinds by name.
 use Rattle.std.specs.Prelude.{ℕ, List, Option, option_map}
-use Rattle.fb_faults.specs.Tree.Mentions.{unit_kind_of}
-use Rattle.fb_faults.specs.Tree.declared.kinds.UnitKind.{UnitKind}
-use Rattle.fb_faults.specs.Library.View.{Sources, tree_at}
+use Rattle.fb_iface.specs.Tree.Mentions.{unit_kind_of}
+use Rattle.fb_iface.specs.Tree.declared.kinds.UnitKind.{UnitKind}
+use Rattle.fb_iface.specs.Library.View.{Sources, tree_at}
 use Rattle.fb_network.specs.Plain.{PlainNetwork}
 use Rattle.fb_wiring.specs.Applications.{applications_of}
 use Rattle.fb_wiring.specs.Networks.{network_of}

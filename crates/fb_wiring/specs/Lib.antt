@@ -3,14 +3,10 @@ pub mod Ports
 pub mod Networks
 pub mod Applications
 pub mod ByName
-pub mod Clean
 pub mod Local
-pub mod Nothing
 -- Passed on to the crates above, which do not list these libraries.
-pub use Rattle.fb_faults.specs.Tree as Tree
-pub use Rattle.fb_faults.specs.Parse as Parse
-pub use Rattle.fb_faults.specs.Library as Library
-pub use Rattle.fb_faults.specs.Iface as Iface
-pub use Rattle.fb_faults.specs.Netcheck as Netcheck
-pub use Rattle.fb_faults.specs as Faults
+pub use Rattle.fb_iface.specs.Tree as Tree
+pub use Rattle.fb_iface.specs.Parse as Parse
+pub use Rattle.fb_iface.specs.Library as Library
+pub use Rattle.fb_iface.specs as Iface
 pub use Rattle.fb_network.specs as Network

@@ -2,12 +2,12 @@
 use Rattle.std.specs.Prelude.{ℕ, List, [], map, Option, Some, None}
 use Rattle.std.specs.List.{filter_map}
 use Rattle.fb_text.specs.declared.name.NameUse.{NameUse}
-use Rattle.fb_faults.specs.Tree.Tree.{DeclTree, InstanceTree, NetworkTree, TypeTree, block_type, adapter_type, subapplication_type, system_configuration}
-use Rattle.fb_faults.specs.Tree.declared.network.Connection.{Connection as ConnectionTree}
-use Rattle.fb_faults.specs.Tree.declared.network.End.{End as EndTree}
-use Rattle.fb_faults.specs.Tree.declared.network.Role.{Role}
-use Rattle.fb_faults.specs.Tree.declared.network.Role.TheVariants as roles
-use Rattle.fb_faults.specs.Iface.Ports.{meanings_in_type}
+use Rattle.fb_iface.specs.Tree.Tree.{DeclTree, InstanceTree, NetworkTree, TypeTree, block_type, adapter_type, subapplication_type, system_configuration}
+use Rattle.fb_iface.specs.Tree.declared.network.Connection.{Connection as ConnectionTree}
+use Rattle.fb_iface.specs.Tree.declared.network.End.{End as EndTree}
+use Rattle.fb_iface.specs.Tree.declared.network.Role.{Role}
+use Rattle.fb_iface.specs.Tree.declared.network.Role.TheVariants as roles
+use Rattle.fb_iface.specs.Ports.{meanings_in_type}
 use Rattle.fb_network.specs.Plain.{PlainNetwork}
 use Rattle.fb_network.specs.declared.network.Connection.{Connection}
 use Rattle.fb_network.specs.declared.network.End.{End}

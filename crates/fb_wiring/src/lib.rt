@@ -1,4 +1,4 @@
-//! What the trees of units say as networks in plain, and that units without faults are clean.
+//! What the trees of units say as networks in plain.
 #![tactic(auto)]
 
 mod laws;
@@ -6,41 +6,26 @@ mod networks;
 mod ports;
 mod systems;
 
-pub use laws::{
-    applications_are_clean, networks_are_clean, networks_are_local,
-    without_faults_nothing_is_reported,
-};
+pub use laws::networks_are_local;
 pub use networks::network;
 pub use systems::{Application, applications};
 
-/// Of `fb_faults`, for the crates above.
-pub mod faults {
-    pub use fb_faults::faults;
-}
-
-/// Of `fb_faults::iface`, for the crates above.
+/// Of `fb_iface`, for the crates above.
 pub mod iface {
-    pub use fb_faults::iface::Fault;
+    pub use fb_iface::Fault;
 }
 
-/// Of `fb_faults::library`, for the crates above.
+/// Of `fb_iface::library`, for the crates above.
 pub mod library {
-    pub use fb_faults::library::{
-        Change, Library, View, far, mentions_by_name, near, tree_by_name,
-    };
+    pub use fb_iface::library::{Change, Library, View, far, mentions_by_name, near, tree_by_name};
 }
 
-/// Of `fb_faults::netcheck`, for the crates above.
-pub mod netcheck {
-    pub use fb_faults::netcheck::{part_of, text_by_name};
-}
-
-/// Of `fb_faults::parse`, for the crates above.
+/// Of `fb_iface::parse`, for the crates above.
 pub mod parse {
-    pub use fb_faults::parse::{ReadFault, Source};
+    pub use fb_iface::parse::{ReadFault, Source};
 }
 
-/// Of `fb_plain`, for the crates above.
+/// Of `fb_network`, for the crates above.
 pub mod plain {
     pub use fb_network::{
         Border, End, Flat, FlatBlock, INSTANCE_LIMIT, Instance, Link, Network, Path, Port,
@@ -48,9 +33,9 @@ pub mod plain {
     };
 }
 
-/// Of `fb_faults::tree`, for the crates above.
+/// Of `fb_iface::tree`, for the crates above.
 pub mod tree {
-    pub use fb_faults::tree::{
+    pub use fb_iface::tree::{
         Application, Constant, Decl, Device, Instance, Mapping, Parameter, Resource, Role, Side,
         Simple, Sort,
     };

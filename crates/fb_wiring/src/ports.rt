@@ -1,13 +1,13 @@
 //! The ports of a type in plain (IEC 61499-1, 5.2: interfaces of function block types; 5.5: adapters).
 ghost use Rattle.std.specs.Prelude.{◌≡◌, ◌++◌, IfOk, OnOk, map};
-ghost use Rattle.fb_faults.specs.Tree.Tree.{type_tree};
-ghost use Rattle.fb_faults.specs.Tree.declared.interface.Side.TheVariants as sides;
-ghost use Rattle.fb_faults.specs.Tree.declared.network.Role.TheVariants as roles;
-ghost use Rattle.fb_faults.specs.Iface.Ports.{data_on, events_on, instances_as, meanings_in_type};
+ghost use Rattle.fb_iface.specs.Tree.Tree.{type_tree};
+ghost use Rattle.fb_iface.specs.Tree.declared.interface.Side.TheVariants as sides;
+ghost use Rattle.fb_iface.specs.Tree.declared.network.Role.TheVariants as roles;
+ghost use Rattle.fb_iface.specs.Ports.{data_on, events_on, instances_as, meanings_in_type};
 ghost use Rattle.fb_wiring.specs.Ports.{plain_adapter, plain_data, plain_event, plain_ports};
 
-use fb_faults::iface::Ports;
-use fb_faults::tree::{Side, Sort, TypeDeclaration, TypeUse};
+use fb_iface::Ports;
+use fb_iface::tree::{Side, Sort, TypeDeclaration, TypeUse};
 use fb_network::Port;
 use fb_text::{Name, NameUse};
 use std::alloc::{AllocError, Global};

@@ -3,9 +3,9 @@ use Rattle.std.proofs.Common.{◌≡◌, Some, None, sym, ap, ◌∙◌}
 use Rattle.std.specs.Prelude.{option_map}
 use Rattle.std.specs.BTreeMap.{get}
 use Rattle.fb_text.specs.Order.{name_cmp}
-use Rattle.fb_wiring.specs.Network.Plain.{PlainNetwork}
-use Rattle.fb_wiring.specs.ByName.{declared}
-use Rattle.fb_wiring.specs.Networks.{network_of}
+use Rattle.fb_clean.specs.Network.Plain.{PlainNetwork}
+use Rattle.fb_clean.specs.Wiring.ByName.{declared}
+use Rattle.fb_clean.specs.Wiring.Networks.{network_of}
 use Rattle.fb_flatten.proofs.TableLemmas.{grows_none, has_none, has_there, put_grows, put_has}
 use Rattle.fb_flatten.proofs.tables.add_adapter.Goals as goal
 

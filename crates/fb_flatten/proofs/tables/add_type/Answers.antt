@@ -3,10 +3,10 @@ use Rattle.std.proofs.Common.{◌≡◌, List, Some, None, sym, ap, subst, ◌�
 use Rattle.std.specs.Prelude.{option_map}
 use Rattle.std.specs.BTreeMap.{get}
 use Rattle.fb_text.specs.Order.{name_cmp}
-use Rattle.fb_wiring.specs.Network.declared.network.Port.{Port}
-use Rattle.fb_wiring.specs.Network.Plain.{PlainNetwork}
-use Rattle.fb_wiring.specs.ByName.{declared}
-use Rattle.fb_wiring.specs.Networks.{network_of}
+use Rattle.fb_clean.specs.Network.declared.network.Port.{Port}
+use Rattle.fb_clean.specs.Network.Plain.{PlainNetwork}
+use Rattle.fb_clean.specs.Wiring.ByName.{declared}
+use Rattle.fb_clean.specs.Wiring.Networks.{network_of}
 use Rattle.fb_flatten.specs.Tables.{HasAdapters}
 use Rattle.fb_flatten.proofs.TableLemmas.{adapters_kept, grows_both, grows_none, put_grows, put_has, type_is, type_none}
 use Rattle.fb_flatten.proofs.tables.add_type.Goals as goal

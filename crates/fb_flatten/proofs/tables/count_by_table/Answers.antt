@@ -3,8 +3,8 @@ use Rattle.std.proofs.Common.{◌≡◌, Some, sym, ap, ◌∙◌, subst}
 use Rattle.std.specs.Option.{option_copied}
 use Rattle.std.specs.BTreeMap.{get}
 use Rattle.fb_text.specs.Order.{name_cmp}
-use Rattle.fb_wiring.specs.Network.Plain.{PlainNetwork}
-use Rattle.fb_wiring.specs.Network.Count.{IsCount}
+use Rattle.fb_clean.specs.Network.Plain.{PlainNetwork}
+use Rattle.fb_clean.specs.Network.Count.{IsCount}
 use Rattle.fb_compose.specs.Counts.{AreCounted}
 use Rattle.fb_flatten.proofs.tables.count_by_table.Goals as goal
 

@@ -1,7 +1,7 @@
 -- The unit is there, its inner types are counted, and then it is.
 use Rattle.std.proofs.Common.{◌≡◌, Some, ◌∙◌}
-use Rattle.fb_wiring.specs.Tree.Tree.{decl_tree}
-use Rattle.fb_wiring.specs.Library.View.{tree_at}
+use Rattle.fb_clean.specs.Tree.Tree.{decl_tree}
+use Rattle.fb_clean.specs.Library.View.{tree_at}
 use Rattle.fb_flatten.proofs.CountLemmas.{unit_counted}
 use Rattle.fb_flatten.proofs.SoundLemmas.{sound_tree}
 use Rattle.fb_flatten.proofs.FoundUnits.{present_of, some_of_map}

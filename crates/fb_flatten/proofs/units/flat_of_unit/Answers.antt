@@ -2,9 +2,9 @@
 use Rattle.std.proofs.Common.{◌≡◌, List, Some, sym, subst, ◌∙◌}
 use Rattle.std.specs.BTreeMap.{get}
 use Rattle.fb_text.specs.Order.{name_cmp}
-use Rattle.fb_wiring.specs.Tree.Tree.{decl_tree}
-use Rattle.fb_wiring.specs.Library.View.{tree_at}
-use Rattle.fb_wiring.specs.declared.systems.Application.{Application}
+use Rattle.fb_clean.specs.Tree.Tree.{decl_tree}
+use Rattle.fb_clean.specs.Library.View.{tree_at}
+use Rattle.fb_clean.specs.Wiring.declared.systems.Application.{Application}
 use Rattle.fb_flatten.specs.Tables.{AreComposedTogether, known_flats}
 use Rattle.fb_flatten.proofs.CountLemmas.{in_table}
 use Rattle.fb_flatten.proofs.FlatsLemmas.{flat_of_system_is, flat_of_type_is}

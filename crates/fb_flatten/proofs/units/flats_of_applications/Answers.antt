@@ -2,7 +2,7 @@
 use Rattle.std.proofs.Common.{List, [], ◌∷◌, ◌++◌, sym, subst, take}
 use Rattle.std.proofs.lemmas.List.{take_all}
 use Rattle.fb_compose.specs.declared.application.FlatApplication.{FlatApplication}
-use Rattle.fb_wiring.specs.declared.systems.Application.{Application}
+use Rattle.fb_clean.specs.Wiring.declared.systems.Application.{Application}
 use Rattle.fb_flatten.specs.Units.{AreFlatApplications, NoApplication}
 use Rattle.fb_flatten.proofs.FoundUnits.{applications_further, flats-push}
 use Rattle.fb_flatten.proofs.units.flats_of_applications.Goals as goal

@@ -2,7 +2,7 @@
 use Rattle.std.proofs.Common.{take}
 use Rattle.std.specs.BTreeMap.{get}
 use Rattle.fb_text.specs.Order.{name_cmp}
-use Rattle.fb_wiring.specs.Network.Network.{View}
+use Rattle.fb_clean.specs.Network.Network.{View}
 use Rattle.fb_flatten.specs.Tables.{AreComposable}
 use Rattle.fb_flatten.specs.Units.{AreFlatApplications}
 use Rattle.fb_flatten.proofs.units.flats_of_applications.Given as goal

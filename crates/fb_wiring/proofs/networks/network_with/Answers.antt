@@ -1,7 +1,7 @@
 use Rattle.std.proofs.Common.{◌≡◌, List, [], ◌∷◌, Option, map, refl, sym, ap, ◌∙◌}
 use Rattle.std.specs.List.{cons_option, filter_map}
-use Rattle.fb_faults.specs.Tree.Tree.{instance_tree}
-use Rattle.fb_faults.specs.Tree.declared.network.Instance.{Instance as InstanceUse}
+use Rattle.fb_iface.specs.Tree.Tree.{instance_tree}
+use Rattle.fb_iface.specs.Tree.declared.network.Instance.{Instance as InstanceUse}
 use Rattle.fb_network.specs.Plain.{PlainNetwork}
 use Rattle.fb_network.specs.declared.network.Connection.{Connection}
 use Rattle.fb_network.specs.declared.network.Instance.{Instance}

@@ -23,13 +23,13 @@ use Rattle.fb_faults.specs.Netcheck.Ends.{adapter_port, data_port, event_port, p
 use Rattle.fb_faults.specs.Netcheck.declared.ends.Flow.{Flow}
 use Rattle.fb_faults.specs.Netcheck.declared.ends.Flow.TheVariants as flows
 use Rattle.fb_faults.specs.Netcheck.declared.ends.Port.{Port as JudgedPort}
-use Rattle.fb_network.specs.Clean.{port_named}
-use Rattle.fb_network.specs.Sorts.{same_sort}
-use Rattle.fb_network.specs.declared.network.Port.{Port}
+use Rattle.fb_wiring.specs.Network.Clean.{port_named}
+use Rattle.fb_wiring.specs.Network.Sorts.{same_sort}
+use Rattle.fb_wiring.specs.Network.declared.network.Port.{Port}
 use Rattle.fb_wiring.specs.Networks.{network_of}
 use Rattle.fb_wiring.specs.Ports.{plain_adapter, plain_data, plain_event, plain_ports}
-use Rattle.fb_wiring.proofs.Finding.{found_by_name, found_nowhere}
-use Rattle.fb_wiring.proofs.FirstOnes.{Distinct, first_ones-distinct}
+use Rattle.fb_clean.proofs.Finding.{found_by_name, found_nowhere}
+use Rattle.fb_clean.proofs.FirstOnes.{Distinct, first_ones-distinct}
 
 abbrev pub plain_flow : Flow → Option (List ℕ)
 plain_flow flows.Event = None

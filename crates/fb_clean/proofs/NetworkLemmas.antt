@@ -40,21 +40,21 @@ use Rattle.fb_faults.specs.Netcheck.declared.ends.Position.{Position}
 use Rattle.fb_faults.specs.Netcheck.declared.ends.Position.TheVariants.{Source, Destination}
 use Rattle.fb_faults.specs.Netcheck.declared.ends.Target.{Target}
 use Rattle.fb_faults.specs.Netcheck.declared.ends.Target.TheVariants.{Found}
-use Rattle.fb_network.specs.Clean.{IsDeclared, IsDestination, IsSource, adapter_name_at, port_named, side_at, type_of}
-use Rattle.fb_network.specs.Network.{IsConnected, View, instance_named, place_of}
-use Rattle.fb_network.specs.Plain.{PlainNetwork}
-use Rattle.fb_network.specs.declared.network.End.{End}
-use Rattle.fb_network.specs.declared.network.End.TheVariants.{Own, Of}
-use Rattle.fb_network.specs.declared.network.Instance.{Instance}
-use Rattle.fb_network.specs.declared.network.InstanceKind.TheVariants as instances
-use Rattle.fb_network.specs.declared.network.Port.{Port}
+use Rattle.fb_wiring.specs.Network.Clean.{IsDeclared, IsDestination, IsSource, adapter_name_at, port_named, side_at, type_of}
+use Rattle.fb_wiring.specs.Network.Network.{IsConnected, View, instance_named, place_of}
+use Rattle.fb_wiring.specs.Network.Plain.{PlainNetwork}
+use Rattle.fb_wiring.specs.Network.declared.network.End.{End}
+use Rattle.fb_wiring.specs.Network.declared.network.End.TheVariants.{Own, Of}
+use Rattle.fb_wiring.specs.Network.declared.network.Instance.{Instance}
+use Rattle.fb_wiring.specs.Network.declared.network.InstanceKind.TheVariants as instances
+use Rattle.fb_wiring.specs.Network.declared.network.Port.{Port}
 use Rattle.fb_wiring.specs.ByName.{declared, kind_at}
-use Rattle.fb_wiring.specs.Clean.{IsCleanWithKinds, wanted_kind}
+use Rattle.fb_clean.specs.Clean.{IsCleanWithKinds, wanted_kind}
 use Rattle.fb_wiring.specs.Networks.{end_named, instance_in_role, network_of, plain_connection, plain_end, plain_instance, plain_network}
-use Rattle.fb_wiring.proofs.Finding.{found_by_name}
-use Rattle.fb_wiring.proofs.FirstOnes.{Distinct, stands_for-first_ones}
-use Rattle.fb_wiring.proofs.NameLemmas.{stands_for_itself}
-use Rattle.fb_wiring.proofs.PortLemmas.{declared_port, plain_flow, plain_port}
+use Rattle.fb_clean.proofs.Finding.{found_by_name}
+use Rattle.fb_clean.proofs.FirstOnes.{Distinct, stands_for-first_ones}
+use Rattle.fb_clean.proofs.NameLemmas.{stands_for_itself}
+use Rattle.fb_clean.proofs.PortLemmas.{declared_port, plain_flow, plain_port}
 
 -- instances in plain
 

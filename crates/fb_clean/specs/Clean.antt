@@ -5,11 +5,11 @@ use Rattle.fb_faults.specs.Tree.declared.kinds.UnitKind.TheVariants as kinds
 use Rattle.fb_faults.specs.Library.View.{Sources}
 use Rattle.fb_faults.specs.Iface.Names.{is_same}
 use Rattle.fb_faults.specs.Faults.{faults_of}
-use Rattle.fb_network.specs.Clean.{IsClean}
-use Rattle.fb_network.specs.Plain.{PlainNetwork}
-use Rattle.fb_network.specs.declared.network.Instance.{Instance}
-use Rattle.fb_network.specs.declared.network.InstanceKind.{InstanceKind}
-use Rattle.fb_network.specs.declared.network.InstanceKind.TheVariants.{Block, Subapplication}
+use Rattle.fb_wiring.specs.Network.Clean.{IsClean}
+use Rattle.fb_wiring.specs.Network.Plain.{PlainNetwork}
+use Rattle.fb_wiring.specs.Network.declared.network.Instance.{Instance}
+use Rattle.fb_wiring.specs.Network.declared.network.InstanceKind.{InstanceKind}
+use Rattle.fb_wiring.specs.Network.declared.network.InstanceKind.TheVariants.{Block, Subapplication}
 use Rattle.fb_wiring.specs.ByName.{applications_at, declared, kind_at}
 use Rattle.fb_wiring.specs.declared.systems.Application.{Application}
 

@@ -12,7 +12,7 @@ use Rattle.fb_faults.specs.Iface.declared.fault.Fault.{Fault}
 use Rattle.fb_text.proofs.Members.{contains_cases, contains_nothing}
 use Rattle.fb_faults.proofs.Iface.NameLemmas.{same_exact, same_itself}
 use Rattle.fb_faults.proofs.Iface.RowLemmas.{duplicates}
-use Rattle.fb_wiring.proofs.FirstOnes.{Distinct}
+use Rattle.fb_clean.proofs.FirstOnes.{Distinct}
 
 -- no two places of the list have one name
 abbrev pub AreApart : List NameUse → Type 0

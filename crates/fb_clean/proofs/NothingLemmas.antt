@@ -11,7 +11,7 @@ use Rattle.fb_faults.proofs.Netcheck.CleanLemmas.{left_none, right_none}
 use Rattle.fb_faults.specs.Faults.{reported_of, syntax_faults_of}
 use Rattle.fb_faults.specs.Mappings.{mapping_faults_of}
 use Rattle.fb_faults.proofs.OrderLemmas.{those_reported}
-use Rattle.fb_wiring.specs.Nothing.{NothingIsReported}
+use Rattle.fb_clean.specs.Nothing.{NothingIsReported}
 
 without_members : {A : Type 0} (xs : List A) → ((x : A) → Contains xs x → ⊥) → xs ≡ []
 without_members [] h = refl

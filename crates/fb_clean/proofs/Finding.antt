@@ -3,7 +3,7 @@ use Rattle.std.proofs.Common.{◌≡◌, ℕ, Bool, true, false, cond, List, [],
 use Rattle.std.specs.List.{cons_option, filter_map, find}
 use Rattle.std.specs.Option.{option_and_then}
 use Rattle.fb_faults.specs.Iface.Names.{is_same, stands_for}
-use Rattle.fb_wiring.proofs.FirstOnes.{Distinct}
+use Rattle.fb_clean.proofs.FirstOnes.{Distinct}
 use Rattle.fb_faults.proofs.Iface.NameLemmas.{same_exact}
 
 module _ {P : Type 0} (test : P → Bool) where

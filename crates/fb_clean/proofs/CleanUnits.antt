@@ -28,22 +28,22 @@ use Rattle.fb_faults.specs.Netcheck.declared.ends.Position.TheVariants.{Source, 
 use Rattle.fb_faults.proofs.Netcheck.CleanLemmas.{left_none, networks_clean as faultless_clean, none_of_each, right_none}
 use Rattle.fb_faults.proofs.Netcheck.Locality.{Each, instance_stands}
 use Rattle.fb_faults.proofs.Netcheck.RightLemmas.{connections_right}
-use Rattle.fb_network.specs.Plain.{PlainNetwork}
-use Rattle.fb_network.specs.declared.network.End.TheVariants.{Own}
-use Rattle.fb_network.specs.declared.network.Port.{Port}
+use Rattle.fb_wiring.specs.Network.Plain.{PlainNetwork}
+use Rattle.fb_wiring.specs.Network.declared.network.End.TheVariants.{Own}
+use Rattle.fb_wiring.specs.Network.declared.network.Port.{Port}
 use Rattle.fb_wiring.specs.Applications.{applications_of, plain_application}
-use Rattle.fb_wiring.specs.Clean.{ApplicationsAreClean, AreCleanWithKinds, IsCleanWithKinds, NetworksAreClean, application_named}
+use Rattle.fb_clean.specs.Clean.{ApplicationsAreClean, AreCleanWithKinds, IsCleanWithKinds, NetworksAreClean, application_named}
 use Rattle.fb_wiring.specs.Networks.{end_named, network_of, plain_network}
-use Rattle.fb_wiring.specs.Nothing.{HasNoReport}
+use Rattle.fb_clean.specs.Nothing.{HasNoReport}
 use Rattle.fb_wiring.specs.Ports.{plain_ports}
 use Rattle.fb_wiring.specs.declared.systems.Application.{Application}
-use Rattle.fb_wiring.proofs.Finding.{found_by_name}
-use Rattle.fb_wiring.proofs.FirstOnes.{Distinct, first_ones-distinct}
-use Rattle.fb_wiring.proofs.InnerInstances.{IsInnerInstance, inner_instances, is_inner}
-use Rattle.fb_wiring.proofs.NameLemmas.{AreApart, apart, distinct, stands_for_itself}
-use Rattle.fb_wiring.proofs.NetworkLemmas.{meaning, sound}
-use Rattle.fb_wiring.proofs.NothingLemmas.{nothing_reported}
-use Rattle.fb_wiring.proofs.PortLemmas.{plain_port, port_by_name}
+use Rattle.fb_clean.proofs.Finding.{found_by_name}
+use Rattle.fb_clean.proofs.FirstOnes.{Distinct, first_ones-distinct}
+use Rattle.fb_clean.proofs.InnerInstances.{IsInnerInstance, inner_instances, is_inner}
+use Rattle.fb_clean.proofs.NameLemmas.{AreApart, apart, distinct, stands_for_itself}
+use Rattle.fb_clean.proofs.NetworkLemmas.{meaning, sound}
+use Rattle.fb_clean.proofs.NothingLemmas.{nothing_reported}
+use Rattle.fb_clean.proofs.PortLemmas.{plain_port, port_by_name}
 
 -- ports alone
 leaf_sound : (sources : Sources) (ports : List Port) → IsCleanWithKinds sources (record { ports = ports; instances = []; connections = [] })

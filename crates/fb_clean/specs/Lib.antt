@@ -1,0 +1,12 @@
+-- What the contracts of this crate cite.
+pub mod Clean
+pub mod Nothing
+-- Passed on to the crates above, which do not list these libraries.
+pub use Rattle.fb_faults.specs.Tree as Tree
+pub use Rattle.fb_faults.specs.Parse as Parse
+pub use Rattle.fb_faults.specs.Library as Library
+pub use Rattle.fb_faults.specs.Iface as Iface
+pub use Rattle.fb_faults.specs.Netcheck as Netcheck
+pub use Rattle.fb_faults.specs as Faults
+pub use Rattle.fb_wiring.specs.Network as Network
+pub use Rattle.fb_wiring.specs as Wiring
