@@ -1,18 +1,21 @@
 -- What the contracts of this crate cite.
-pub mod Written
-pub mod Lines
-pub mod Orders
-pub mod PlainResource
-pub mod Resources
+pub mod Placed
 pub mod Deploy
 pub mod Laws
 pub mod Plans
 -- Passed on to the crates above, which do not list these libraries.
-pub use Rattle.fb_mapping.specs.Tree as Tree
-pub use Rattle.fb_mapping.specs.Flatten.Parse as Parse
-pub use Rattle.fb_mapping.specs.Library as Library
-pub use Rattle.fb_mapping.specs.Flatten.Iface as Iface
-pub use Rattle.fb_mapping.specs.Flatten.Faults as Faults
-pub use Rattle.fb_mapping.specs.Network as Network
-pub use Rattle.fb_mapping.specs.Flatten as Flatten
-pub use Rattle.fb_mapping.specs as Mapping
+pub use Rattle.fb_flatten.specs.Tree as Tree
+pub use Rattle.fb_flatten.specs.Parse as Parse
+pub use Rattle.fb_flatten.specs.Library as Library
+pub use Rattle.fb_flatten.specs.Iface as Iface
+pub use Rattle.fb_flatten.specs.Netcheck as Netcheck
+pub use Rattle.fb_flatten.specs.Faults as Faults
+pub use Rattle.fb_flatten.specs.Network as Network
+pub use Rattle.fb_flatten.specs as Flatten
+pub use Rattle.fb_commands.specs.Mapping as Mapping
+pub use Rattle.fb_commands.specs.Written as Written
+pub use Rattle.fb_commands.specs.Lines as Lines
+pub use Rattle.fb_commands.specs.Orders as Orders
+pub use Rattle.fb_commands.specs.PlainResource as PlainResource
+pub use Rattle.fb_commands.specs.Resources as Resources
+pub use Rattle.fb_commands.specs as Commands

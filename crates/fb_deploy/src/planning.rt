@@ -1,16 +1,15 @@
 //! The plans of systems.
 ghost use Rattle.std.specs.Prelude.{◌≡◌, IfOk};
-ghost use Rattle.fb_mapping.specs.Flatten.Hints.{AreRightHints};
-ghost use Rattle.fb_mapping.specs.Library.View.{tree_at};
-ghost use Rattle.fb_mapping.specs.Placed.{IsSystem};
+ghost use Rattle.fb_flatten.specs.Hints.{AreRightHints};
+ghost use Rattle.fb_flatten.specs.Library.View.{tree_at};
+ghost use Rattle.fb_deploy.specs.Placed.{IsSystem};
 ghost use Rattle.fb_deploy.specs.Deploy.{IsPlan, flat_plan, plain_deploy, tree_plan};
 
-use crate::orders::orders_of;
-use crate::resources::{ResourcePlan, resource_plans, resources_of};
-use fb_mapping::flatten::{Hints, Net, NoHints, net_with};
-use fb_mapping::library::View;
-use fb_mapping::network::{Flat, Link};
-use fb_mapping::{Home, Homes, Misplaced, cuts_of, home_table, homes_of};
+use fb_commands::mapping::{Home, Homes, Misplaced, cuts_of, home_table, homes_of};
+use fb_commands::{ResourcePlan, orders_of, resource_plans, resources_of};
+use fb_flatten::library::View;
+use fb_flatten::network::{Flat, Link};
+use fb_flatten::{Hints, Net, NoHints, net_with};
 use fb_text::Name;
 use std::alloc::{AllocError, Global};
 

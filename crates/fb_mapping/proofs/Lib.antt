@@ -8,9 +8,6 @@ pub mod ListLemmas
 pub mod PathNameLemmas
 pub mod StandingLemmas
 pub mod StandingLocal
-pub mod PlaceLocal
-pub mod OnePlacement
-pub mod KindLemmas
+pub mod HomesLocal
 -- Passed on to the crates above, which do not list these libraries.
-pub use Rattle.fb_flatten.proofs.Compose as Compose
-pub use Rattle.fb_flatten.proofs as Flatten
+pub use Rattle.fb_compose.proofs as Compose

@@ -1,9 +1,8 @@
 -- The names of a path, point by point.
-use Rattle.std.proofs.Common.{ℕ, zero, suc, ◌≡◌, ◌<◌, ◌≤◌, ◌+◌, ◌-◌, ◌==◌, Bool, true, false, cond, List, [], ◌∷◌, ◌++◌, refl, sym, ◌∙◌, ap, take, drop, get_or, length, map, arith, eq-eqb, get_or-drop, length-drop}
+use Rattle.std.proofs.Common.{ℕ, zero, suc, ◌≡◌, ◌<◌, ◌≤◌, ◌+◌, ◌-◌, Bool, cond, List, [], ◌∷◌, ◌++◌, refl, sym, ◌∙◌, ap, take, drop, get_or, length, map, arith, eq-eqb, get_or-drop, length-drop}
 use Rattle.std.proofs.lemmas.Bool.{ne_eqb}
 use Rattle.std.specs.Borrow.{Bor}
 use Rattle.fb_mapping.specs.Standing.{on_first, path_names}
-use Rattle.fb_mapping.proofs.ListLemmas.{map-push}
 
 drop_all : (n : ℕ) → drop {A = ℕ} n [] ≡ []
 drop_all zero = refl

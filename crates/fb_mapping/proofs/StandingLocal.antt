@@ -1,20 +1,18 @@
 -- What stands at the paths of a system depends on the texts alone that the system rests on.
-use Rattle.std.proofs.Common.{ℕ, ◌≡◌, ◌⊎◌, Bool, true, false, not, cond, List, [], ◌∷◌, Option, Some, None, inl, inr, refl, sym, ◌∙◌, ap, subst}
-use Rattle.std.specs.Prelude.{Contains, map, find, option_map, option_and_then}
+use Rattle.std.proofs.Common.{ℕ, ◌≡◌, Bool, true, false, not, cond, List, [], ◌∷◌, Option, Some, None, refl, sym, ◌∙◌, ap, subst}
+use Rattle.std.specs.Prelude.{Contains, find, option_map, option_and_then}
 use Rattle.std.specs.Option.{option_map_or}
-use Rattle.std.specs.List.{flat_map}
 use Rattle.std.specs.Str.{bytes_eq}
 use Rattle.std.specs.FinMap.{slice_cmp-IsAntisymmetric, nat_cmp-IsAntisymmetric}
 use Rattle.std.specs.Cmp.Lexicographic.{nat_list_cmp_total}
 use Rattle.fb_text.specs.Order.{name_cmp}
 use Rattle.fb_text.proofs.OrderLemmas.{in_order-members}
-use Rattle.fb_flatten.specs.Tree.Tree.{ApplicationTree, DeclTree, InstanceTree, block_type, adapter_type, subapplication_type, system_configuration}
-use Rattle.fb_flatten.specs.Tree.Mentions.{mentioned_in, types_in}
-use Rattle.fb_flatten.specs.Library.View.{Sources, tree_at, tree_of, mentions_at, mentions_in}
-use Rattle.fb_flatten.specs.Library.Rests.{Rests, itself}
-use Rattle.fb_flatten.specs.Library.Local.{AgreeFar}
+use Rattle.fb_library.specs.Tree.Tree.{ApplicationTree, DeclTree, InstanceTree, block_type, adapter_type, subapplication_type, system_configuration}
+use Rattle.fb_library.specs.Tree.Mentions.{mentioned_in, types_in}
+use Rattle.fb_library.specs.View.{Sources, tree_at, tree_of, mentions_at, mentions_in}
+use Rattle.fb_library.specs.Rests.{Rests, itself, through}
+use Rattle.fb_library.specs.Local.{AgreeFar}
 use Rattle.fb_text.proofs.Members.{contains_nothing, contains_here, contains_later, contains_flat_map, contains_map}
-use Rattle.fb_flatten.proofs.OrderLemmas.{rests_on}
 use Rattle.fb_mapping.specs.Firsts.{first_at}
 use Rattle.fb_mapping.specs.Standing.{PlainStanding, application_called, inner_instances, is_placed, leads_nowhere, standing_among, standing_at, standing_beyond, standing_from, standing_inside}
 use Rattle.fb_mapping.specs.Systems.{applications_in}
@@ -33,6 +31,11 @@ found_in {X = X} {Y = Y} key value (x ∷ xs) q y e = by_test (bytes_eq (key x) 
     by_test : (b : Bool) → option_map value (cond b (Some x) (find (λ (z : X). bytes_eq (key z) q) xs)) ≡ Some y → (first_at key value xs q ≡ Some y → IsFound value xs y) → IsFound value (x ∷ xs) y
     by_test true e more = record { item = x; among = contains_here x xs; gives = cc }
     by_test false e more = let f = more e in record { item = f.item; among = contains_later x xs f.item f.among; gives = f.gives }
+
+-- what is rested on may mention more
+rests_on : {sources : Sources} {u v w : List ℕ} → Rests sources u v → Contains (mentions_at sources v) w → Rests sources u w
+rests_on itself m = through m itself
+rests_on (through k r) m = through k (rests_on r m)
 
 -- the type of an instance
 abbrev type_of : PlainStanding → List ℕ

@@ -2,8 +2,8 @@
 ghost use Rattle.std.specs.Prelude.{◌≡◌, IfOk};
 ghost use Rattle.fb_text.specs.Order.{names_in_order};
 
-use fb_flatten::compose::sort_once;
-use fb_flatten::network::Path;
+use fb_compose::sort_once;
+use fb_network::Path;
 use std::alloc::AllocError;
 
 /// The paths by their bytes, each once.

@@ -11,8 +11,8 @@ use Rattle.fb_deploy.specs.Mapping.Cuts.{same_home}
 use Rattle.fb_deploy.specs.Mapping.Fronts.{nearest}
 use Rattle.fb_deploy.specs.Orders.{connection_orders, connection_text, line_order, link_resource, start_order, start_text}
 use Rattle.fb_deploy.specs.Resources.{commands_for}
-use Rattle.fb_deploy.specs.declared.lines.Line.{Line}
-use Rattle.fb_deploy.specs.declared.orders.Order.{Order}
+use Rattle.fb_deploy.specs.Commands.declared.lines.Line.{Line}
+use Rattle.fb_deploy.specs.Commands.declared.orders.Order.{Order}
 use Rattle.fb_plan_rows.proofs.HomeLemmas.{bytes_same, same_bytes}
 
 -- ---- what a list gives

@@ -14,7 +14,7 @@ use Rattle.fb_deploy.specs.Network.LinkOrder.{link_cmp}
 use Rattle.fb_deploy.specs.Network.declared.flat.FlatBlock.{FlatBlock}
 use Rattle.fb_deploy.specs.Network.declared.flat.Link.{Link}
 use Rattle.fb_deploy.specs.Network.PlainFlat.{PlainFlat}
-use Rattle.fb_deploy.specs.Mapping.Netcheck.Spellings.{text_or_empty}
+use Rattle.fb_deploy.specs.Netcheck.Spellings.{text_or_empty}
 use Rattle.fb_deploy.specs.Mapping.Cuts.{home_at}
 use Rattle.fb_deploy.specs.Mapping.Fronts.{nearest}
 use Rattle.fb_deploy.specs.Mapping.Homes.{block_home}
@@ -27,8 +27,8 @@ use Rattle.fb_deploy.specs.Network.Places.{dotted}
 use Rattle.fb_deploy.specs.Written.{written}
 use Rattle.fb_deploy.specs.PlainResource.{PlainResource}
 use Rattle.fb_deploy.specs.Resources.{commands_for, resource_plan, resource_plans, resources_of}
-use Rattle.fb_deploy.specs.declared.lines.Line.{Line}
-use Rattle.fb_deploy.specs.declared.orders.Order.{Order}
+use Rattle.fb_deploy.specs.Commands.declared.lines.Line.{Line}
+use Rattle.fb_deploy.specs.Commands.declared.orders.Order.{Order}
 use Rattle.fb_plan_rows.proofs.HomeLemmas.{bytes_same, home_listed, nearest_of, of_nearest, same_bytes}
 use Rattle.fb_plan_rows.proofs.PlannedLemmas.{Known, home_there, homes_in, known, links_sorted, mapped, names_in, stands}
 use Rattle.fb_plan_rows.proofs.CommandLemmas.{commands_append, for_lines, for_links, for_starts, given, gives_member, is_of, is_resource, link_command, link_on, lines_on, links_on, of_is, on_link}

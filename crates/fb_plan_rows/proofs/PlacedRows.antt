@@ -18,7 +18,7 @@ use Rattle.fb_deploy.specs.Mapping.Cuts.{cuts_of, home_at}
 use Rattle.fb_deploy.specs.Mapping.Fronts.{nearest}
 use Rattle.fb_deploy.specs.Mapping.Homes.{astray, homeless, misplaced, unless_faulty}
 use Rattle.fb_deploy.specs.Mapping.Mappings.{mapping_path, names_used}
-use Rattle.fb_deploy.specs.Mapping.Placed.{IsSystem}
+use Rattle.fb_deploy.specs.Placed.{IsSystem}
 use Rattle.fb_deploy.specs.Mapping.Standing.{leads_nowhere}
 use Rattle.fb_deploy.specs.Mapping.Systems.{applications_in, mappings_in}
 use Rattle.fb_deploy.specs.Mapping.declared.homes.Misplaced.{Misplaced}

@@ -21,7 +21,7 @@ use Rattle.fb_deploy.specs.Mapping.Cuts.{cuts_of, home_at}
 use Rattle.fb_deploy.specs.Mapping.Fronts.{nearest}
 use Rattle.fb_deploy.specs.Mapping.Homes.{block_homes, homeless, misplaced, unless_faulty}
 use Rattle.fb_deploy.specs.Mapping.Mappings.{resource_at}
-use Rattle.fb_deploy.specs.Mapping.Placed.{IsSystem}
+use Rattle.fb_deploy.specs.Placed.{IsSystem}
 use Rattle.fb_deploy.specs.Mapping.Systems.{applications_in, devices_in, mappings_in}
 use Rattle.fb_deploy.specs.Mapping.declared.homes.Home.{Home}
 use Rattle.fb_deploy.specs.Mapping.declared.homes.Misplaced.{Misplaced}

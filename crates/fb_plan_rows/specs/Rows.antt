@@ -9,16 +9,16 @@ use Rattle.fb_deploy.specs.Network.Places.{dotted}
 use Rattle.fb_deploy.specs.Network.declared.flat.FlatBlock.{FlatBlock}
 use Rattle.fb_deploy.specs.Network.declared.flat.Link.{Link}
 use Rattle.fb_deploy.specs.Network.PlainFlat.{PlainFlat}
-use Rattle.fb_deploy.specs.Mapping.Placed.{IsSystem}
+use Rattle.fb_deploy.specs.Placed.{IsSystem}
 use Rattle.fb_deploy.specs.Flatten.Net.{HasFlat}
-use Rattle.fb_deploy.specs.Mapping.Netcheck.Spellings.{text_or_empty}
+use Rattle.fb_deploy.specs.Netcheck.Spellings.{text_or_empty}
 use Rattle.fb_deploy.specs.Mapping.Standing.{PlainStanding, path_names, standing_at}
 use Rattle.fb_deploy.specs.Mapping.Systems.{applications_in}
 use Rattle.fb_deploy.specs.Lines.{create_text, line_cmp, write_text}
 use Rattle.fb_deploy.specs.Orders.{connection_text}
 use Rattle.fb_deploy.specs.PlainResource.{PlainResource}
 use Rattle.fb_deploy.specs.Written.{written}
-use Rattle.fb_deploy.specs.declared.lines.Line.{Line}
+use Rattle.fb_deploy.specs.Commands.declared.lines.Line.{Line}
 use Rattle.fb_plan_rows.specs.Planned.{HasCommands, IsHome, IsPlacedWhole, IsPlanned, StandsOn}
 
 -- ---- cuts

@@ -1,10 +1,8 @@
 -- Each home that is passed is added, if its path has none yet.
-use Rattle.std.proofs.Common.{◌≡◌, ℕ, List, cond, Some, None, string_bytes, ◌∙◌, ap, sym}
+use Rattle.std.proofs.Common.{◌≡◌, cond, Some, None, string_bytes, ◌∙◌}
 use Rattle.std.specs.BTreeMap.{get_by_text}
 use Rattle.std.specs.Option.{option_or}
 use Rattle.std.specs.Str.{bytes_eq}
-use Rattle.std.proofs.lemmas.List.{take_all}
-use Rattle.fb_mapping.specs.Cuts.{home_at}
 use Rattle.fb_mapping.specs.declared.homes.Home.{Home}
 use Rattle.fb_mapping.proofs.FirstLemmas.{table_step}
 use Rattle.fb_mapping.proofs.cuts.home_table.Goals as goal

@@ -1,4 +1,4 @@
-use Rattle.std.proofs.Common.{◌≡◌, List, [], ◌∷◌, ◌++◌, Option, Some, None, sym, ◌∙◌, ap, append-nil}
+use Rattle.std.proofs.Common.{[], ◌++◌, Option, sym, ◌∙◌, ap, append-nil}
 use Rattle.std.specs.BTreeMap.{get_by_text}
 use Rattle.std.specs.List.{cons_option}
 use Rattle.fb_mapping.specs.Homes.{block_home}

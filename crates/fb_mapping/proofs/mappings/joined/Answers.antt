@@ -1,5 +1,5 @@
 -- A point stands before each name but the first.
-use Rattle.std.proofs.Common.{◌≡◌, ℕ, List, [], ◌∷◌, ◌++◌, string_bytes, sym, ◌∙◌, ap, append_assoc, arith}
+use Rattle.std.proofs.Common.{◌≡◌, ℕ, List, [], ◌∷◌, ◌++◌, string_bytes, ◌∙◌, ap, append_assoc, arith}
 use Rattle.fb_mapping.proofs.NameLemmas.{joined_first, joined_next}
 use Rattle.fb_mapping.proofs.mappings.joined.Goals as goal
 use Rattle.fb_mapping.proofs.mappings.joined.Goals.{then-i-gt0+in_ok-push, else-i-gt0}

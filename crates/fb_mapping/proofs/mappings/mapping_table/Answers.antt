@@ -1,11 +1,11 @@
 -- Each mapping that is passed is added, if its path has none yet.
-use Rattle.std.proofs.Common.{◌≡◌, ℕ, List, cond, Some, None, string_bytes, ◌∙◌, ap, sym, take}
+use Rattle.std.proofs.Common.{◌≡◌, ℕ, List, cond, Some, None, string_bytes, ◌∙◌, ap, sym}
 use Rattle.std.specs.BTreeMap.{get_by_text}
 use Rattle.std.specs.Option.{option_or}
 use Rattle.std.specs.Str.{bytes_eq}
 use Rattle.std.proofs.lemmas.List.{take_all}
-use Rattle.fb_flatten.specs.Tree.Tree.{mapping_tree}
-use Rattle.fb_flatten.specs.Tree.declared.system.Mapping.{Mapping}
+use Rattle.fb_library.specs.Tree.Tree.{mapping_tree}
+use Rattle.fb_library.specs.Tree.declared.system.Mapping.{Mapping}
 use Rattle.fb_mapping.specs.Firsts.{first_at}
 use Rattle.fb_mapping.specs.Mappings.{mapping_home, mapping_path}
 use Rattle.fb_mapping.proofs.FirstLemmas.{first_at-map, table_step}

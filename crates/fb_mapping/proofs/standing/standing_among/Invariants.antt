@@ -1,6 +1,5 @@
 -- No instance so far has the name.
 use Rattle.std.proofs.Common.{◌≡◌, None, take}
-use Rattle.fb_flatten.specs.Tree.Tree.{instance_tree}
 use Rattle.fb_mapping.specs.Firsts.{first_at}
 use Rattle.fb_mapping.proofs.StandingLemmas.{standing_as}
 use Rattle.fb_mapping.proofs.standing.standing_among.Given as goal

@@ -1,0 +1,6 @@
+-- Lemmas of the proofs.
+pub mod LineLemmas
+pub mod LinesLocal
+pub mod StepLemmas
+-- Passed on to the crates above, which do not list these libraries.
+pub use Rattle.fb_mapping.proofs as Mapping

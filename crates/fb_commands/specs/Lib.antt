@@ -1,0 +1,8 @@
+-- What the contracts of this crate cite.
+pub mod Written
+pub mod Lines
+pub mod Orders
+pub mod PlainResource
+pub mod Resources
+-- Passed on to the crates above, which do not list these libraries.
+pub use Rattle.fb_mapping.specs as Mapping
