@@ -1,14 +1,14 @@
-pub mod Alike
 pub mod Currents
 pub mod HintLemmas
-pub mod KeyLemmas
-pub mod KindLemmas
-pub mod SameNeeds
 pub mod Searches
-pub mod Sources
 -- Passed on to the crates above, which do not list these libraries.
-pub use Rattle.fb_deploy.proofs.Tree as Tree
-pub use Rattle.fb_deploy.proofs.Library as Library
-pub use Rattle.fb_deploy.proofs.Iface as Iface
-pub use Rattle.fb_deploy.proofs.Compose as Compose
-pub use Rattle.fb_deploy.proofs.Flatten.FarNames as FarNames
+pub use Rattle.fb_values.proofs.Alike as Alike
+pub use Rattle.fb_values.proofs.KeyLemmas as KeyLemmas
+pub use Rattle.fb_values.proofs.KindLemmas as KindLemmas
+pub use Rattle.fb_values.proofs.SameNeeds as SameNeeds
+pub use Rattle.fb_values.proofs.Sources as Sources
+pub use Rattle.fb_values.proofs.Tree as Tree
+pub use Rattle.fb_values.proofs.Library as Library
+pub use Rattle.fb_values.proofs.Iface as Iface
+pub use Rattle.fb_values.proofs.Compose as Compose
+pub use Rattle.fb_values.proofs.FarNames as FarNames

@@ -1,28 +1,25 @@
--- Values that are kept from before, and the nets among them that a job is given along.
+-- The nets among kept values that a job is given along.
 use Rattle.std.specs.Prelude.{◌≡◌, ◌⊎◌, ℕ, true, List, Option, Some, None}
 use Rattle.std.specs.BTreeMap as tree
 use Rattle.std.specs.declared.sync.Arc.{Arc}
 use Rattle.std.specs.declared.alloc.Global.{Global}
 use Rattle.fb_text.specs.Order.{name_cmp}
-use Rattle.fb_deploy.specs.Library.Texts.{Texts}
-use Rattle.fb_deploy.specs.Flatten.Net.{PlainNet, plain_net}
-use Rattle.fb_jobs.specs.declared.key.Kind.{Kind}
-use Rattle.fb_jobs.specs.declared.key.Kind.TheVariants as kind
-use Rattle.fb_jobs.specs.declared.key.Key.{Key}
-use Rattle.fb_jobs.specs.declared.value.Value.{Value}
-use Rattle.fb_jobs.specs.declared.value.Value.TheVariants.{Faults, Net, Deploy}
-use Rattle.fb_jobs.specs.Keys.{Finding, scratch}
-use Rattle.fb_jobs.specs.Kinds.{needs_all}
-use Rattle.fb_jobs.specs.Reads.{Seen, read_names, is_among}
-use Rattle.fb_jobs.specs.Values.{finding_of}
+use Rattle.fb_values.specs.Library.Texts.{Texts}
+use Rattle.fb_values.specs.Flatten.Net.{PlainNet, plain_net}
+use Rattle.fb_values.specs.declared.key.Kind.{Kind}
+use Rattle.fb_values.specs.declared.key.Kind.TheVariants as kind
+use Rattle.fb_values.specs.declared.key.Key.{Key}
+use Rattle.fb_values.specs.declared.value.Value.{Value}
+use Rattle.fb_values.specs.declared.value.Value.TheVariants.{Faults, Net, Deploy}
+use Rattle.fb_values.specs.Keys.{Finding, scratch}
+pub use Rattle.fb_values.specs.Kept.{AreKept}
+use Rattle.fb_values.specs.Kinds.{needs_all}
+use Rattle.fb_values.specs.Reads.{Seen, read_names, is_among}
+use Rattle.fb_values.specs.Values.{finding_of}
 
 -- the key of a unit's net
 abbrev pub net_key : List ℕ → Key
 net_key unit = record { kind = kind.Net; unit = unit }
-
--- each kept value is what the texts give from scratch
-abbrev pub AreKept : Texts → (Key → Option Finding) → Type 0
-AreKept texts kept = (key : Key) (finding : Finding) → kept key ≡ Some finding → finding ≡ scratch texts key
 
 -- nets by the names of their units
 abbrev pub Nets : Type 0

@@ -1,31 +1,17 @@
-//! Values that are kept, and the nets among them that a job is given along.
-ghost use Rattle.std.specs.Prelude.{◌≡◌, ℕ, List, Option, Some, None, option_map, option_copied, IfOk, OnOk};
+//! The nets among kept values that a job is given along.
+ghost use Rattle.std.specs.Prelude.{◌≡◌, option_map, option_copied, IfOk, OnOk};
 ghost use Rattle.std.specs.BTreeMap as tree;
 ghost use Rattle.fb_text.specs.Order.{name_cmp};
-ghost use Rattle.fb_deploy.specs.Flatten.Net.{plain_net};
-ghost use Rattle.fb_jobs.specs.declared.key.Key.{Key};
+ghost use Rattle.fb_values.specs.Flatten.Net.{plain_net};
 ghost use Rattle.fb_jobs.specs.Hints.{AddsHint, AreChosen, AreOfReads, hint_in, net_in, net_key};
-ghost use Rattle.fb_jobs.specs.Keys.{Finding};
-ghost use Rattle.fb_jobs.specs.Values.{all_seen, finding_of};
+ghost use Rattle.fb_values.specs.Values.{all_seen};
 
-use crate::key::{Key, Kind};
-use crate::read::Read;
-use crate::value::Value;
-use fb_deploy::flatten::{Hints, Net};
 use fb_text::Name;
+use fb_values::flatten::{Hints, Net};
+use fb_values::{Kept, Key, Kind, Read, Value};
 use std::alloc::{AllocError, Global};
 use std::collections::BTreeMap;
 use std::sync::Arc;
-
-/// Values that are kept from before, by their keys.
-pub trait Kept {
-    ghost kept: { Self → (Key → Option Finding) };
-
-    /// The value that is kept of a key.
-    fn value(&self, key: &Key) -> Option<&Arc<Value>>
-        ensures { option_map (λ it. finding_of it.value) (option_copied result)
-            ≡ kept self.now key.now };
-}
 
 /// Nets by the names of their units.
 #[derive(Clone, Copy)]

@@ -1,14 +1,26 @@
 //! The reads of a library for a key.
 ghost use Rattle.std.specs.Prelude.{◌≡◌, IfOk, All};
-ghost use Rattle.fb_deploy.specs.Library.Texts.{held};
-ghost use Rattle.fb_jobs.specs.Reads.{reads_for};
-ghost use Rattle.fb_jobs.specs.Values.{all_seen, seen_of, IsOwn};
+ghost use Rattle.fb_values.specs.Library.Texts.{held};
+ghost use Rattle.fb_values.specs.Keys.{needs};
+ghost use Rattle.fb_values.specs.Reads.{reads_for};
+ghost use Rattle.fb_values.specs.Values.{all_seen, seen_of, IsOwn};
 
-use crate::key::Key;
-use crate::read::{Read, needed};
-use fb_deploy::library::Library;
 use fb_text::Name;
+use fb_values::flatten::all_far;
+use fb_values::library::{Library, near};
+use fb_values::{Key, Kind, Read};
 use std::alloc::{AllocError, Global};
+
+/// The names whose texts decide the key's value, in order.
+#[tactic(auto, unfolding(fb_values::specs::Keys::needs))]
+pub fn needed(alloc: Global, library: &Library, key: Key) -> Result<Vec<Name>, AllocError>
+    ensures { IfOk result (λ names. names.items ≡ needs library.now key) }
+{
+    match key.kind {
+        Kind::Faults => near(alloc, library, key.unit),
+        Kind::Net | Kind::Deploy => all_far(alloc, library, key.unit),
+    }
+}
 
 fn read_under(library: &Library, name: Name) -> Result<Read, AllocError>
     ensures seen { IfOk result

@@ -1,5 +1,5 @@
 -- Nothing is chosen for the faults of a unit.
-use Rattle.fb_jobs.specs.Values.{all_seen}
+use Rattle.fb_values.specs.Values.{all_seen}
 use Rattle.fb_jobs.proofs.HintLemmas.{none_chosen}
 use Rattle.fb_jobs.proofs.kept.hints_of.Goals as goal
 

@@ -1,8 +1,8 @@
 -- One more read.
 use Rattle.std.proofs.Common.{◌≡◌, ◌+◌, ◌++◌, ◌∷◌, [], List, take, arith, subst}
-use Rattle.fb_jobs.specs.declared.read.Read.{Read}
+use Rattle.fb_values.specs.declared.read.Read.{Read}
 use Rattle.fb_jobs.specs.Hints.{AreOfReads}
-use Rattle.fb_jobs.specs.Values.{all_seen}
+use Rattle.fb_values.specs.Values.{all_seen}
 use Rattle.std.proofs.lemmas.Grind.{common_steps}
 use Rattle.std.proofs.lemmas.List.{take_all}
 use Rattle.fb_jobs.proofs.HintLemmas.{nothing_kept, one_more_read}

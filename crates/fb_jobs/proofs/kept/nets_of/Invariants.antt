@@ -1,6 +1,6 @@
 use Rattle.std.proofs.Common.{take}
 use Rattle.fb_jobs.specs.Hints.{AreOfReads}
-use Rattle.fb_jobs.specs.Values.{all_seen}
+use Rattle.fb_values.specs.Values.{all_seen}
 use Rattle.fb_jobs.proofs.kept.nets_of.Given as goal
 
 abbrev pub invariant-loop-read : goal.invariant-loop-read

@@ -1,0 +1,19 @@
+//! Values that are kept.
+ghost use Rattle.std.specs.Prelude.{◌≡◌, Option, option_map, option_copied};
+ghost use Rattle.fb_values.specs.declared.key.Key.{Key};
+ghost use Rattle.fb_values.specs.Keys.{Finding};
+ghost use Rattle.fb_values.specs.Values.{finding_of};
+
+use crate::key::Key;
+use crate::value::Value;
+use std::sync::Arc;
+
+/// Values that are kept from before, by their keys.
+pub trait Kept {
+    ghost kept: { Self → (Key → Option Finding) };
+
+    /// The value that is kept of a key.
+    fn value(&self, key: &Key) -> Option<&Arc<Value>>
+        ensures { option_map (λ it. finding_of it.value) (option_copied result)
+            ≡ kept self.now key.now };
+}
