@@ -20,8 +20,8 @@ use Rattle.fb_clean.specs.Wiring.Applications.{applications_of, plain_applicatio
 use Rattle.fb_clean.specs.Wiring.declared.systems.Application.{Application}
 use Rattle.fb_text.proofs.Members.{contains_nothing, origin_in_map}
 use Rattle.fb_clean.proofs.CleanUnits.{applications_clean}
-use Rattle.fb_compose.specs.Part.{SameAdapters}
-use Rattle.fb_compose.specs.Ready.{Nets, AreFinished}
+use Rattle.fb_net_parts.specs.Compose.Part.{SameAdapters}
+use Rattle.fb_net_parts.specs.Compose.Ready.{Nets, AreFinished}
 use Rattle.fb_flatten.specs.Far.{far_of}
 use Rattle.fb_flatten.specs.Net.{PlainNet, IsSound}
 use Rattle.fb_flatten.specs.Tables.{IsComposable, IsSoundOrder, IsTable, IsUnitOrder}
@@ -30,7 +30,7 @@ use Rattle.fb_flatten.proofs.ComputedNets.{done_mention, unit_faultless}
 use Rattle.fb_flatten.proofs.FlatLocality.{found}
 use Rattle.fb_flatten.proofs.MentionLemmas.{applications_within, declared_within}
 use Rattle.fb_flatten.proofs.SoundLemmas.{clean_network, sound_mention, sound_network}
-use Rattle.fb_flatten.proofs.FoundUnits.{system_applications}
+use Rattle.fb_net_parts.proofs.FoundUnits.{system_applications}
 
 module _ (table view : View) where
   -- both have the same adapters of these ports

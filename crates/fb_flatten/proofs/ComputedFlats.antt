@@ -21,11 +21,11 @@ use Rattle.fb_clean.specs.Network.Network.{View, IsInner, instance_named}
 use Rattle.fb_clean.specs.Network.Clean.{IsClean, IsCleanThroughout, CleanThroughout}
 use Rattle.fb_clean.specs.Network.Instances.{Held, held_as, AreInstances, NoInstance, ThenBlock, ThenSubapplication}
 use Rattle.fb_clean.specs.Network.FlatNet.{IsFlat}
-use Rattle.fb_compose.specs.Composed.{composed_blocks, composed_borders, composed_links}
-use Rattle.fb_compose.specs.Ready.{Nets, IsFinished, AreFinished}
-use Rattle.fb_compose.proofs.Composing.{found_by_name}
-use Rattle.fb_compose.proofs.Equals.{exact_border, exact_link}
-use Rattle.fb_compose.proofs.FlatLemmas.{IsOrderOf, flat_of}
+use Rattle.fb_net_parts.specs.Compose.Composed.{composed_blocks, composed_borders, composed_links}
+use Rattle.fb_net_parts.specs.Compose.Ready.{Nets, IsFinished, AreFinished}
+use Rattle.fb_net_parts.proofs.Compose.Composing.{found_by_name}
+use Rattle.fb_net_parts.proofs.Compose.Equals.{exact_border, exact_link}
+use Rattle.fb_net_parts.proofs.Compose.FlatLemmas.{IsOrderOf, flat_of}
 use Rattle.fb_clean.specs.Wiring.ByName.{declared}
 use Rattle.fb_clean.specs.Wiring.Networks.{network_of}
 use Rattle.fb_clean.proofs.CleanUnits.{networks_clean}

@@ -26,9 +26,9 @@ use Rattle.fb_clean.specs.Network.LinkOrder.{link_cmp, link_cmp_total}
 use Rattle.fb_clean.specs.Network.Network.{View}
 use Rattle.fb_clean.specs.Network.FlatNet.{IsFlat}
 use Rattle.fb_clean.specs.Network.Instances.{Held}
-use Rattle.fb_compose.specs.SystemFlat.{IsSystemFlat, application_links}
-use Rattle.fb_compose.specs.declared.application.FlatApplication.{FlatApplication}
-use Rattle.fb_compose.proofs.SystemLemmas.{system_links_are}
+use Rattle.fb_net_parts.specs.Compose.SystemFlat.{IsSystemFlat, application_links}
+use Rattle.fb_net_parts.specs.Compose.declared.application.FlatApplication.{FlatApplication}
+use Rattle.fb_net_parts.proofs.Compose.SystemLemmas.{system_links_are}
 use Rattle.fb_clean.specs.Wiring.Applications.{applications_of}
 use Rattle.fb_clean.specs.Wiring.ByName.{applications_at, declared}
 use Rattle.fb_clean.specs.Wiring.Networks.{network_of}
@@ -36,8 +36,8 @@ use Rattle.fb_clean.specs.Wiring.declared.systems.Application.{Application}
 use Rattle.fb_clean.proofs.CleanUnits.{applications_clean, networks_clean}
 use Rattle.fb_flatten.specs.Blocking.{AreThose, IsBlocking, is_blocking}
 use Rattle.fb_flatten.specs.Net.{PlainNet, too_large, flat_net, IsNet, IsSound}
-use Rattle.fb_flatten.specs.Units.{HasNet, has_net_tree, own_instances, AreFlatApplications, NoApplication, ThenApplication, Holds, IsUnitFlat, OfSubapplication, OfSystem}
-use Rattle.fb_flatten.proofs.KindLemmas.{net_kind, no_net_kind}
+use Rattle.fb_net_parts.specs.Units.{HasNet, has_net_tree, own_instances, AreFlatApplications, NoApplication, ThenApplication, Holds, IsUnitFlat, OfSubapplication, OfSystem}
+use Rattle.fb_net_parts.proofs.KindLemmas.{net_kind, no_net_kind}
 use Rattle.fb_flatten.proofs.MentionLemmas.{applications_within, declared_within, own_within}
 use Rattle.fb_flatten.proofs.NetLemmas.{blocking_those, recursive_those}
 use Rattle.fb_flatten.proofs.NetLocality.{net_local}

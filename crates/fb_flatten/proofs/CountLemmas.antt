@@ -23,15 +23,15 @@ use Rattle.fb_clean.specs.Wiring.Applications.{applications_of}
 use Rattle.fb_clean.specs.Wiring.declared.systems.Application.{Application}
 use Rattle.fb_text.proofs.Members.{contains_cases, contains_nothing, origin_in_flat_map}
 use Rattle.fb_clean.proofs.CleanUnits.{applications_clean, networks_clean}
-use Rattle.fb_compose.proofs.Equals.{same_bytes, not_at, at_not}
-use Rattle.fb_compose.specs.Counts.{IsCounted, AreCounted}
+use Rattle.fb_net_parts.proofs.Compose.Equals.{same_bytes, not_at, at_not}
+use Rattle.fb_net_parts.specs.Compose.Counts.{IsCounted, AreCounted}
 use Rattle.fb_flatten.specs.Hints.{AreRightHints, count_of_hint}
 use Rattle.fb_flatten.specs.Net.{PlainNet, IsSound}
 use Rattle.fb_flatten.specs.Tables.{AllCounted, IsCountable, IsSmallType, IsSoundOrder, IsTable, IsUnitCount, IsUnitOrder, SameOthers, is_subapplication_in}
-use Rattle.fb_flatten.specs.Units.{own_instances}
+use Rattle.fb_net_parts.specs.Units.{own_instances}
 use Rattle.fb_flatten.proofs.ComputedNets.{unit_faultless}
 use Rattle.fb_flatten.proofs.HintLemmas.{kept_counted}
-use Rattle.fb_flatten.proofs.KindLemmas.{subapplication_told}
+use Rattle.fb_net_parts.proofs.KindLemmas.{subapplication_told}
 use Rattle.fb_flatten.proofs.MentionLemmas.{declared_within, own_within}
 use Rattle.fb_flatten.proofs.SoundLemmas.{sound_network}
 

@@ -25,19 +25,19 @@ use Rattle.fb_clean.specs.Wiring.ByName.{declared, kind_at}
 use Rattle.fb_clean.specs.Wiring.Networks.{network_of}
 use Rattle.fb_clean.specs.Wiring.declared.systems.Application.{Application}
 use Rattle.fb_text.proofs.Members.{contains_cases, contains_here, contains_later, contains_nothing}
-use Rattle.fb_compose.proofs.Equals.{same_bytes, not_at, at_not}
-use Rattle.fb_compose.specs.Ready.{Nets, IsFinished, AreFinished}
+use Rattle.fb_net_parts.proofs.Compose.Equals.{same_bytes, not_at, at_not}
+use Rattle.fb_net_parts.specs.Compose.Ready.{Nets, IsFinished, AreFinished}
 use Rattle.fb_flatten.specs.Hints.{AreRightHints, count_of_hint, flat_of_hint}
 use Rattle.fb_flatten.specs.Net.{PlainNet}
 use Rattle.fb_flatten.specs.Tables.{AllFinished, AreComposedTogether, IsAdded, IsComposed, IsSmall, IsSmallType, IsTable, IsUnitOrder, SameOthers, is_missing, is_subapplication_in, is_system_tree, known_flats}
-use Rattle.fb_flatten.specs.Units.{HasNet, IsUnitFlat, OfSubapplication, OfSystem, own_instances}
+use Rattle.fb_net_parts.specs.Units.{HasNet, IsUnitFlat, OfSubapplication, OfSystem, own_instances}
 use Rattle.fb_flatten.proofs.ComposeLemmas.{application_composable, type_composable}
 use Rattle.fb_flatten.proofs.CountLemmas.{inner_kind, inner_small, own_kind}
 use Rattle.fb_flatten.proofs.HintLemmas.{kept_finished, no_flat, none_of}
-use Rattle.fb_flatten.proofs.KindLemmas.{subapplication_told}
+use Rattle.fb_net_parts.proofs.KindLemmas.{subapplication_told}
 use Rattle.fb_flatten.proofs.MentionLemmas.{declared_within, own_within}
 use Rattle.fb_flatten.proofs.SoundLemmas.{not_mentioned, sound_network}
-use Rattle.fb_flatten.proofs.FoundUnits.{own_of_application, own_of_type, system_applications}
+use Rattle.fb_net_parts.proofs.FoundUnits.{own_of_application, own_of_type, system_applications}
 
 in_take : {X : Type 0} (k : ℕ) (xs : List X) (x : X) → Contains (take k xs) x → Contains xs x
 in_take zero xs x c = absurd (contains_nothing x c)

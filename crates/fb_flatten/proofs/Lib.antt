@@ -2,12 +2,9 @@
 pub mod FlatLocality
 pub mod MentionLemmas
 pub mod OrderLemmas
-pub mod TableLemmas
-pub mod FoundUnits
 pub mod NetLemmas
 pub mod OneNet
 pub mod NetLocality
-pub mod KindLemmas
 pub mod FarNames
 pub mod Depths
 pub mod ComputedFlats
@@ -24,4 +21,4 @@ pub use Rattle.fb_clean.proofs.Tree as Tree
 pub use Rattle.fb_clean.proofs.Library as Library
 pub use Rattle.fb_clean.proofs.Iface as Iface
 pub use Rattle.fb_clean.proofs.Faults as Faults
-pub use Rattle.fb_compose.proofs as Compose
+pub use Rattle.fb_net_parts.proofs.Compose as Compose

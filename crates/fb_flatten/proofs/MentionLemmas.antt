@@ -28,7 +28,7 @@ use Rattle.fb_clean.specs.Wiring.Networks.{instance_in_role, plain_instance, net
 use Rattle.fb_clean.specs.Wiring.Ports.{plain_ports, plain_event, plain_data, plain_adapter}
 use Rattle.fb_clean.specs.Wiring.declared.systems.Application.{Application}
 use Rattle.fb_flatten.specs.Locality.{Within}
-use Rattle.fb_flatten.specs.Units.{own_instances}
+use Rattle.fb_net_parts.specs.Units.{own_instances}
 
 -- an element of which the member is given
 record IsGiven {X Y : Type 0} (f : X → Option Y) (xs : List X) (y : Y) : Type 0 where

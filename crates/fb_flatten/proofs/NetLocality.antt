@@ -18,7 +18,7 @@ use Rattle.fb_order.proofs.Locality.{recursion_local}
 use Rattle.fb_clean.specs.Network.PlainFlat.{PlainFlat}
 use Rattle.fb_clean.specs.Network.Instances.{Held}
 use Rattle.fb_text.proofs.Members.{contains_nothing, contains_here, contains_later, contains_cases}
-use Rattle.fb_compose.specs.declared.application.FlatApplication.{FlatApplication}
+use Rattle.fb_net_parts.specs.Compose.declared.application.FlatApplication.{FlatApplication}
 use Rattle.fb_clean.specs.Wiring.ByName.{declared}
 use Rattle.fb_clean.specs.Wiring.declared.systems.Application.{Application}
 use Rattle.fb_clean.proofs.Wiring.Locality.{networks_local}
@@ -26,7 +26,7 @@ use Rattle.fb_flatten.specs.Blocking.{AreThose, IsBlocking}
 use Rattle.fb_flatten.specs.Laws.{NetIsLocal}
 use Rattle.fb_flatten.specs.Locality.{Within, IsClosed, SameNetworks}
 use Rattle.fb_flatten.specs.Net.{PlainNet, blocked, recursive, too_large, flat_net, IsNet, IsSound}
-use Rattle.fb_flatten.specs.Units.{AreFlatApplications, NoApplication, ThenApplication, Holds, IsTooLarge, IsWithinLimit, IsUnitFlat, OfSubapplication, OfSystem}
+use Rattle.fb_net_parts.specs.Units.{AreFlatApplications, NoApplication, ThenApplication, Holds, IsTooLarge, IsWithinLimit, IsUnitFlat, OfSubapplication, OfSystem}
 use Rattle.fb_flatten.proofs.FlatLocality.{instances_there, same_flats}
 use Rattle.fb_flatten.proofs.MentionLemmas.{applications_within, declared_within, own_within}
 use Rattle.fb_flatten.proofs.OrderLemmas.{rests_on}

@@ -5,7 +5,7 @@ use Rattle.std.proofs.lemmas.List.{get_or_default}
 use Rattle.std.specs.Prelude.{Contains, ◌↔◌, is_none}
 use Rattle.std.specs.BTreeMap.{is_at}
 use Rattle.std.specs.Option.{option_and_then}
-use Rattle.std.specs.FinMap.{get, get-retain_keys, slice_cmp-IsAntisymmetric, nat_cmp-IsAntisymmetric}
+use Rattle.std.specs.FinMap.{get}
 use Rattle.fb_text.proofs.Tests.{by_bool}
 use Rattle.fb_text.specs.Order.{name_cmp}
 use Rattle.fb_clean.specs.Library.View.{Sources, tree_of, mentions_at, mentions_in}
@@ -14,7 +14,8 @@ use Rattle.fb_text.proofs.Members.{contains_nothing}
 use Rattle.fb_order.specs.Order.{IsOrdered}
 use Rattle.fb_order.specs.Reaches.{Reaches, directly, onward, IsRecursive, RestsOnRecursive}
 use Rattle.fb_order.proofs.OrderLemmas.{ordered_not_recursive}
-use Rattle.fb_compose.proofs.Equals.{bytes_same}
+use Rattle.fb_net_parts.proofs.Compose.Equals.{bytes_same}
+use Rattle.fb_net_parts.proofs.LeftLemmas.{get_left}
 use Rattle.fb_flatten.specs.Hints.{AreRightHints, count_of_hint, count_of_net, is_left, left_of}
 use Rattle.fb_flatten.specs.Net.{PlainNet, blocked, recursive, too_large, flat_net, IsNet, IsSound, IsWhole}
 use Rattle.fb_flatten.specs.Tables.{IsUnitOrder}
@@ -44,11 +45,8 @@ module _ (hints : List ℕ → Option PlainNet) (sources : Sources) (unit : List
   abbrev left : Sources
   left = left_of hints sources unit
 
-  pub get_left : (n : List ℕ) → get left n ≡ cond (is_left hints unit n) (get sources n) None
-  get_left n = get-retain_keys sources (is_left hints unit) n (λ x e. ap (is_left hints unit) (sym (slice_cmp-IsAntisymmetric nat_cmp-IsAntisymmetric n x e)))
-
   mentions_by : (n : List ℕ) (b : Bool) → is_left hints unit n ≡ b → mentions_at left n ≡ mentions_in (option_and_then tree_of (cond b (get sources n) None))
-  mentions_by n b e = ap (λ o. mentions_in (option_and_then tree_of o)) (get_left n ∙ ap (λ c. cond c (get sources n) None) e)
+  mentions_by n b e = ap (λ o. mentions_in (option_and_then tree_of o)) (get_left hints sources unit n ∙ ap (λ c. cond c (get sources n) None) e)
 
   mentioned : (n w : List ℕ) → is_left hints unit n ≡ true → Contains (mentions_at sources n) w → Contains (mentions_at left n) w
   mentioned n w t m = subst (λ (l : List (List ℕ)). Contains l w) (sym (mentions_by n true t)) m

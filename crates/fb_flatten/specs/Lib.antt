@@ -1,7 +1,6 @@
 -- What the contracts of this crate cite.
 pub mod Locality
 pub mod Blocking
-pub mod Units
 pub mod Net
 pub mod Tables
 pub mod Laws
@@ -19,3 +18,5 @@ pub use Rattle.fb_clean.specs.Faults as Faults
 pub use Rattle.fb_clean.specs.Network as Network
 pub use Rattle.fb_clean.specs.Wiring as Wiring
 pub use Rattle.fb_clean.specs as Clean
+pub use Rattle.fb_net_parts.specs.Units as Units
+pub use Rattle.fb_net_parts.specs as Parts

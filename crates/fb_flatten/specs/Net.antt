@@ -3,24 +3,9 @@ use Rattle.std.specs.Prelude.{ℕ, ◌≢◌, List, []}
 use Rattle.fb_clean.specs.Library.View.{Sources}
 use Rattle.fb_order.specs.Reaches.{IsRecursive}
 use Rattle.fb_clean.specs.Network.PlainFlat.{PlainFlat}
-use Rattle.fb_flatten.specs.declared.unit_net.Net.{Net}
-use Rattle.fb_flatten.specs.declared.unit_net.Net.TheVariants.{Blocked, Recursive, TooLarge, Flat}
+pub use Rattle.fb_net_parts.specs.Net.{PlainNet, blocked, recursive, too_large, flat_net, plain_net}
 use Rattle.fb_flatten.specs.Blocking.{IsBlocking, AreThose}
-use Rattle.fb_flatten.specs.Units.{IsTooLarge, IsWithinLimit, IsUnitFlat}
-
--- a net in plain; a flat network stands with the number of instances of all depths
-pub data PlainNet : Type 0 where
-  blocked : List (List ℕ) → PlainNet
-  recursive : List (List ℕ) → PlainNet
-  too_large : PlainNet
-  flat_net : PlainFlat → ℕ → PlainNet
-
--- a net without where it lies in memory
-abbrev pub plain_net : Net → PlainNet
-plain_net (Blocked names) = blocked names.items
-plain_net (Recursive names) = recursive names.items
-plain_net TooLarge = too_large
-plain_net (Flat flat instances) = flat_net flat instances
+use Rattle.fb_net_parts.specs.Units.{IsTooLarge, IsWithinLimit, IsUnitFlat}
 
 -- all that the unit rests on is present and without faults
 abbrev pub IsWhole : Sources → List ℕ → Type 0

@@ -15,17 +15,17 @@ use Rattle.fb_clean.specs.Network.PlainFlat.{PlainFlat}
 use Rattle.fb_clean.specs.Network.LinkOrder.{link_cmp, border_cmp}
 use Rattle.fb_clean.specs.Network.Network.{View, instance_named}
 use Rattle.fb_clean.specs.Network.Instances.{Held, held_as, held_within}
-use Rattle.fb_compose.specs.Composed.{composed_blocks, composed_borders, composed_links}
-use Rattle.fb_compose.specs.Ready.{Nets}
-use Rattle.fb_compose.specs.SystemFlat.{application_blocks, application_links}
-use Rattle.fb_compose.specs.declared.application.FlatApplication.{FlatApplication}
+use Rattle.fb_net_parts.specs.Compose.Composed.{composed_blocks, composed_borders, composed_links}
+use Rattle.fb_net_parts.specs.Compose.Ready.{Nets}
+use Rattle.fb_net_parts.specs.Compose.SystemFlat.{application_blocks, application_links}
+use Rattle.fb_net_parts.specs.Compose.declared.application.FlatApplication.{FlatApplication}
 use Rattle.fb_clean.specs.Wiring.Applications.{applications_of}
 use Rattle.fb_clean.specs.Wiring.ByName.{declared}
 use Rattle.fb_clean.specs.Wiring.Networks.{network_of}
 use Rattle.fb_clean.specs.Wiring.declared.systems.Application.{Application}
 use Rattle.fb_flatten.specs.Blocking.{is_blocking}
 use Rattle.fb_flatten.specs.Net.{PlainNet, blocked, recursive, too_large, flat_net, IsNet}
-use Rattle.fb_flatten.specs.Units.{HasNet, has_net_tree, own_instances}
+use Rattle.fb_net_parts.specs.Units.{HasNet, has_net_tree, own_instances}
 use Rattle.fb_flatten.specs.Far.{far_of}
 
 -- ---- flat networks

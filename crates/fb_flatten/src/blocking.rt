@@ -3,9 +3,9 @@ ghost use Rattle.std.specs.Prelude.{◌≡◌, IfOk, filter};
 ghost use Rattle.fb_flatten.specs.Blocking.{is_blocking, is_some_name};
 ghost use Rattle.fb_flatten.specs.Hints.{AreRightHints};
 
-use crate::hints::{Hints, is_known_whole};
 use fb_clean::faults::faults;
 use fb_clean::library::View;
+use fb_net_parts::{Hints, is_known_whole};
 use fb_text::Name;
 use std::alloc::{AllocError, Global};
 

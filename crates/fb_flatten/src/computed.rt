@@ -6,11 +6,10 @@ ghost use Rattle.fb_flatten.specs.Far.{far_of};
 ghost use Rattle.fb_flatten.specs.Hints.{AreRightHints};
 ghost use Rattle.fb_flatten.specs.Nets.{has_net_in, net_at};
 
-use crate::hints::Hints;
-use crate::kinds::has_net;
 use crate::scratch::net;
-use crate::unit_net::{Net, net_with};
+use crate::unit_net::net_with;
 use fb_clean::library::{View, far};
+use fb_net_parts::{Hints, Net, has_net};
 use fb_text::Name;
 use std::alloc::{AllocError, Global};
 

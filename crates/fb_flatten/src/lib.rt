@@ -3,30 +3,26 @@
 
 mod blocking;
 mod computed;
+mod counts;
 mod flats;
-mod hints;
-mod kinds;
 mod laws;
-mod rest;
 mod scratch;
 mod suspects;
-mod tables;
 mod unit_net;
 mod units;
 
 pub use computed::{all_far, is_of_net, net_of_unit, net_of_unit_with};
-pub use hints::{Hints, NoHints};
-pub use kinds::{has_net, is_of_system};
+pub use fb_net_parts::{Hints, Net, NoHints, has_net, is_of_system};
 pub use laws::{
     far_is_all, far_of_is_local, flat_networks_are_local, has_net_by_text, net_at_is_local,
     net_at_is_net, net_is_local, one_net,
 };
 pub use scratch::net;
-pub use unit_net::{Net, net_with};
+pub use unit_net::net_with;
 
-/// Of `fb_compose`, for the crates above.
+/// Of `fb_net_parts::compose`, for the crates above.
 pub mod compose {
-    pub use fb_compose::sort_once;
+    pub use fb_net_parts::compose::sort_once;
 }
 
 /// Of `fb_clean::faults`, for the crates above.

@@ -1,11 +1,11 @@
 //! The nets of units from scratch.
 ghost use Rattle.std.specs.Prelude.{IfOk};
 ghost use Rattle.fb_flatten.specs.Net.{IsNet, plain_net};
-ghost use Rattle.fb_flatten.specs.Units.{HasNet};
+ghost use Rattle.fb_net_parts.specs.Units.{HasNet};
 
-use crate::hints::NoHints;
-use crate::unit_net::{Net, net_with};
+use crate::unit_net::net_with;
 use fb_clean::library::View;
+use fb_net_parts::{Net, NoHints};
 use fb_text::Name;
 use std::alloc::{AllocError, Global};
 

@@ -3,32 +3,17 @@ ghost use Rattle.std.specs.Prelude.{IfOk};
 ghost use Rattle.fb_flatten.specs.Hints.{AreRightHints};
 ghost use Rattle.fb_flatten.specs.Net.{IsNet, plain_net};
 ghost use Rattle.fb_flatten.specs.Tables.{IsUnitOrder};
-ghost use Rattle.fb_flatten.specs.Units.{HasNet};
+ghost use Rattle.fb_net_parts.specs.Units.{HasNet};
 
 use crate::blocking::{blocking, has_some};
-use crate::hints::Hints;
-use crate::rest::Rest;
 use crate::suspects::suspects;
-use crate::tables::networks_of;
 use crate::units::{count_of_unit, flat_of_unit};
 use fb_clean::library::{View, far};
-use fb_clean::plain::{Flat, INSTANCE_LIMIT};
+use fb_clean::plain::INSTANCE_LIMIT;
+use fb_net_parts::{Hints, Net, Rest, networks_of};
 use fb_order::{inner_first, recursive};
 use fb_text::Name;
 use std::alloc::{AllocError, Global};
-
-/// The flat network of a unit, or why it has none.
-#[derive(Drop)]
-pub enum Net {
-    /// The names that the unit rests on that are of no unit, or of one with faults.
-    Blocked(Vec<Name>),
-    /// The types that the unit rests on that reach themselves.
-    Recursive(Vec<Name>),
-    /// More instances than the limit.
-    TooLarge,
-    /// The flat network, and how many instances the unit holds at all depths.
-    Flat { flat: Flat, instances: u32 },
-}
 
 /// The flat network of a subapplication or a system, or the first reason why it has none, where the nets of some units are kept. Below a unit
 /// whose kept net tells that it is flat or too large nothing is looked at.

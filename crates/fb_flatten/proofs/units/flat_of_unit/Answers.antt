@@ -9,7 +9,7 @@ use Rattle.fb_flatten.specs.Tables.{AreComposedTogether, known_flats}
 use Rattle.fb_flatten.proofs.CountLemmas.{in_table}
 use Rattle.fb_flatten.proofs.FlatsLemmas.{flat_of_system_is, flat_of_type_is}
 use Rattle.fb_flatten.proofs.SoundLemmas.{sound_tree}
-use Rattle.fb_flatten.proofs.FoundUnits.{if_ok, present_of, some_of_map}
+use Rattle.fb_net_parts.proofs.FoundUnits.{if_ok, present_of, some_of_map}
 use Rattle.fb_flatten.proofs.units.flat_of_unit.Goals as goal
 
 pub unwrap-decl-requires : goal.unwrap-decl-requires

@@ -1,0 +1,13 @@
+-- The applications passed so far have what is composed of them.
+use Rattle.std.proofs.Common.{take}
+use Rattle.std.specs.BTreeMap.{get}
+use Rattle.fb_text.specs.Order.{name_cmp}
+use Rattle.fb_wiring.specs.Network.Network.{View}
+use Rattle.fb_net_parts.specs.Tables.{AreComposable}
+use Rattle.fb_net_parts.specs.Units.{AreFlatApplications}
+use Rattle.fb_net_parts.proofs.applications.flats_of_applications.Given as goal
+
+abbrev pub invariant-loop-application : goal.invariant-loop-application
+invariant-loop-application g l =
+    (whole : View) → AreComposable (get name_cmp l.table) whole (g.N.Nets.nets l.nets) l.applications
+    → AreFlatApplications whole (take l.application-index l.applications) l.flats.items
