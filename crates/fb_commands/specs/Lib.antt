@@ -4,5 +4,6 @@ pub mod Lines
 pub mod Orders
 pub mod PlainResource
 pub mod Resources
+pub mod Commands
 -- Passed on to the crates above, which do not list these libraries.
 pub use Rattle.fb_mapping.specs as Mapping

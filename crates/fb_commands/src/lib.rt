@@ -2,14 +2,15 @@
 #![tactic(auto)]
 
 mod command;
+mod commands;
 mod lines;
 mod orders;
 mod resources;
 mod written;
 
 pub use command::Command;
-pub use orders::{Order, orders_of};
-pub use resources::{ResourcePlan, resource_plans, resources_of};
+pub use commands::{Commands, commands_of};
+pub use resources::ResourcePlan;
 
 /// Of `fb_mapping`, for the crates above.
 pub mod mapping {

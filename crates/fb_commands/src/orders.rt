@@ -104,7 +104,7 @@ fn push_start_orders(
 }
 
 /// All commands: blocks are made first, then parameters are set, then connections are made, then resources are started.
-pub fn orders_of<V: View>(
+pub(crate) fn orders_of<V: View>(
     alloc: Global,
     view: &V,
     system: &Name,

@@ -90,7 +90,7 @@ fn resources_in(alloc: Global, devices: &[Device]) -> Result<Vec<Path>, AllocErr
 }
 
 /// The resources of a system, in the order of the text.
-pub fn resources_of<V: View>(
+pub(crate) fn resources_of<V: View>(
     alloc: Global,
     view: &V,
     system: &Name,
@@ -140,7 +140,7 @@ fn commands_for(alloc: Global, groups: &Groups, resource: &Path) -> Result<Vec<C
 }
 
 /// Each resource with its commands.
-pub fn resource_plans(
+pub(crate) fn resource_plans(
     alloc: Global,
     orders: Vec<Order>,
     resources: Vec<Path>,

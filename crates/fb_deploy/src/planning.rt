@@ -5,8 +5,8 @@ ghost use Rattle.fb_flatten.specs.Library.View.{tree_at};
 ghost use Rattle.fb_deploy.specs.Placed.{IsSystem};
 ghost use Rattle.fb_deploy.specs.Deploy.{IsPlan, flat_plan, plain_deploy, tree_plan};
 
-use fb_commands::mapping::{Home, Homes, Misplaced, cuts_of, home_table, homes_of};
-use fb_commands::{ResourcePlan, orders_of, resource_plans, resources_of};
+use fb_commands::mapping::{Home, Homes, Misplaced, homes_of};
+use fb_commands::{Commands, ResourcePlan, commands_of};
 use fb_flatten::library::View;
 use fb_flatten::network::{Flat, Link};
 use fb_flatten::{Hints, Net, NoHints, net_with};
@@ -39,11 +39,7 @@ fn plan_homes<V: View>(
         ≡ tree_plan (V.sources view.now) system.now
         (tree_at (V.sources view.now) system.now) flat.now homes.now) }
 {
-    let table = home_table(alloc, homes)?;
-    let cuts = cuts_of(alloc, &table, flat.links())?;
-    let names = resources_of(alloc, view, system)?;
-    let orders = orders_of(alloc, view, system, names.as_slice(), flat, homes, &table)?;
-    let resources = resource_plans(alloc, orders, names)?;
+    let Commands { cuts, resources } = commands_of(alloc, view, system, flat, homes)?;
     Ok(Deploy::Plan { cuts, resources })
 }
 
