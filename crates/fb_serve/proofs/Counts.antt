@@ -9,7 +9,7 @@ use Rattle.fb_wire.specs.Bench.Story.{turns_of}
 use Rattle.fb_shared.specs.Book.{is_caller}
 use Rattle.fb_shared.specs.Closing.{AgreesWith, receipts_of}
 use Rattle.fb_shared.specs.Runs.{IsRun, Works, Empty}
-use Rattle.fb_shared.specs.declared.work.WorkEnd.{WorkEnd}
+use Rattle.fb_shared.specs.Locked.declared.look.WorkEnd.{WorkEnd}
 use Rattle.fb_shared.specs.Seats.{Hall, SeatState, Claim, seat_after}
 use Rattle.fb_serve.specs.Shown.{IsNew, IsShown, AreShown, ShowsAll}
 

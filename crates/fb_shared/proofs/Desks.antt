@@ -1,9 +1,9 @@
 -- Answers of a desk, from the replies in receipts.
 use Rattle.std.proofs.Common.{◌≡◌, Option, ap, sym}
-use Rattle.fb_bench.specs.Jobs.Reads.{PlainJob}
-use Rattle.fb_bench.specs.Machine.{Reply, OfCommit, OfTake, OfDeliver, OfGiveBack, OfAsk}
-use Rattle.fb_bench.specs.Requests.{job_of}
-use Rattle.fb_shared.specs.Seats.{IsTaken}
+use Rattle.fb_locked.specs.Bench.Jobs.Reads.{PlainJob}
+use Rattle.fb_locked.specs.Bench.Machine.{Reply, OfCommit, OfTake, OfDeliver, OfGiveBack, OfAsk}
+use Rattle.fb_locked.specs.Bench.Requests.{job_of}
+use Rattle.fb_locked.specs.Seats.{IsTaken}
 
 -- a reply to a take, by the job in it
 pub taken_reply : (reply : Reply) (job : Option PlainJob) → IsTaken reply → job ≡ job_of reply → reply ≡ OfTake job

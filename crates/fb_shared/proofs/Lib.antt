@@ -1,6 +1,3 @@
-pub mod Books
-pub mod Closings
-pub mod Receipts
 pub mod Works
 pub mod Histories
 pub mod Crossing

@@ -1,15 +1,13 @@
 -- Calls of a worker, one list after another.
-use Rattle.std.proofs.Common.{◌≡◌, ℕ, ◌+◌, ◌*◌, ◌≤◌, List, [], ◌∷◌, ◌++◌, Option, Some, None, true, is_some, sym, ap, ◌∙◌, subst, arith, append_assoc, append-nil, length-append, refl}
-use Rattle.fb_bench.specs.Jobs.declared.key.Key.{Key}
-use Rattle.fb_bench.specs.Machine.{Call, State, ToTake, next, reply, taken}
-use Rattle.fb_bench.specs.Requests.{job_of}
-use Rattle.fb_shared.specs.declared.locked.SharedRefused.{SharedRefused}
-use Rattle.fb_shared.specs.declared.locked.SharedRefused.TheVariants as refused
-use Rattle.fb_shared.specs.declared.work.WorkEnd.{WorkEnd}
-use Rattle.fb_shared.specs.Seats.{SeatState, Claim, IsReceiptOf, seat_after}
-use Rattle.fb_shared.specs.Refusals.{IsRefusalOf}
-use Rattle.fb_shared.specs.Ends.{NamesSeat, end_of}
-use Rattle.fb_shared.specs.Runs.{Hand, Empty, hand_after, IsRun, IsWork, Follows, AddsWork, Works, IsRefusal}
+use Rattle.std.proofs.Common.{◌≡◌, ℕ, ◌+◌, ◌*◌, ◌≤◌, List, [], ◌∷◌, ◌++◌, Option, None, sym, ap, ◌∙◌, subst, arith, append_assoc, append-nil, length-append, refl}
+use Rattle.fb_locked.specs.Bench.Machine.{Call}
+use Rattle.fb_locked.specs.declared.locked.SharedRefused.{SharedRefused}
+use Rattle.fb_locked.specs.declared.locked.SharedRefused.TheVariants as refused
+use Rattle.fb_locked.specs.declared.look.WorkEnd.{WorkEnd}
+use Rattle.fb_locked.specs.Seats.{SeatState, Claim, IsReceiptOf, seat_after}
+use Rattle.fb_locked.specs.Refusals.{IsRefusalOf}
+use Rattle.fb_locked.specs.Ends.{NamesSeat, end_of}
+use Rattle.fb_locked.specs.Runs.{Hand, Empty, hand_after, IsRun, IsWork, Follows, AddsWork, Works, IsRefusal}
 
 run_append : (seat : SeatState) (xs ys : List Claim) (middle after : SeatState) → IsRun seat xs middle → IsRun middle ys after → IsRun seat (xs ++ ys) after
 run_append seat [] ys middle after one two = subst (λ (s : SeatState). IsRun s ys after) one two
@@ -75,12 +73,3 @@ refusal_names seat (refused.SeatDiffers turns book) named = named
 refusal_names seat (refused.Behind seen len) named = named
 refusal_names seat refused.HistoryFull named = tt
 refusal_names seat refused.Memory named = tt
-
--- where there is a key to take, a take hands out its job
-job_for_key : (state : State) (key : Option Key) → is_some key ≡ true → taken key state ≡ None → ⊥
-job_for_key state None waits none = cc
-job_for_key state (Some key) waits none = cc
-
-pub job_waits : (state : State) → is_some (next state) ≡ true → job_of (reply state ToTake) ≡ None → ⊥
-unfolding reply
-job_waits state waits none = job_for_key state (next state) waits none

@@ -1,12 +1,12 @@
 -- A shared workbench as the desk of one seat. Nothing is known of the workbench but what the seat and its receipts tell.
 use Rattle.std.specs.Prelude.{◌≡◌, ◌++◌, ◌∷◌, [], List}
-use Rattle.fb_bench.specs.Machine.{Call}
-use Rattle.fb_bench.specs.Calls.{Answer, Replied, FullHistory, BehindHistory}
-use Rattle.fb_bench.specs.declared.desk.DeskRefused.{DeskRefused}
-use Rattle.fb_bench.specs.declared.desk.DeskRefused.TheVariants as desk
-use Rattle.fb_shared.specs.declared.locked.SharedRefused.{SharedRefused}
-use Rattle.fb_shared.specs.declared.locked.SharedRefused.TheVariants.{SeatDiffers, Behind, HistoryFull, Memory}
-use Rattle.fb_shared.specs.Seats.{SeatState, Claim, IsReceiptOf, seat_after}
+use Rattle.fb_locked.specs.Bench.Machine.{Call}
+use Rattle.fb_locked.specs.Bench.Calls.{Answer, Replied, FullHistory, BehindHistory}
+use Rattle.fb_locked.specs.Bench.declared.desk.DeskRefused.{DeskRefused}
+use Rattle.fb_locked.specs.Bench.declared.desk.DeskRefused.TheVariants as desk
+use Rattle.fb_locked.specs.declared.locked.SharedRefused.{SharedRefused}
+use Rattle.fb_locked.specs.declared.locked.SharedRefused.TheVariants.{SeatDiffers, Behind, HistoryFull, Memory}
+use Rattle.fb_locked.specs.Seats.{SeatState, Claim, IsReceiptOf, seat_after}
 
 -- a seat with the receipts of its calls
 pub record Sitter : Type 0 where

@@ -1,8 +1,8 @@
 //! Laws of histories and of the receipts of their calls.
 ghost use Rattle.std.specs.Prelude.{List};
-ghost use Rattle.fb_bench.specs.Story.{Record, AreTurns};
-ghost use Rattle.fb_shared.specs.Closing.{AreReceiptsRight, NumbersRise, EnoughShowAll};
-ghost use Rattle.fb_shared.specs.Seats.{Claim};
+ghost use Rattle.fb_locked.specs.Bench.Story.{Record, AreTurns};
+ghost use Rattle.fb_locked.specs.Closing.{AreReceiptsRight, NumbersRise, EnoughShowAll};
+ghost use Rattle.fb_locked.specs.Seats.{Claim};
 
 /// In a history, whose turns count their callers' records, numbers rise with the turns of a caller.
 pub fn numbers_rise_with_turns()

@@ -1,16 +1,15 @@
 //! A shared workbench as the desk of one seat.
 ghost use Rattle.std.specs.Prelude.{◌≡◌};
-ghost use Rattle.fb_bench.specs.Machine.{OfCommit, OfDeliver, OfGiveBack};
-ghost use Rattle.fb_bench.specs.Records.{job_in};
-ghost use Rattle.fb_shared.specs.Seats.{IsCommitted, IsDelivered, IsReturned};
+ghost use Rattle.fb_locked.specs.Bench.Machine.{OfCommit, OfDeliver, OfGiveBack};
+ghost use Rattle.fb_locked.specs.Bench.Records.{job_in};
+ghost use Rattle.fb_locked.specs.Seats.{IsCommitted, IsDelivered, IsReturned};
 ghost use Rattle.fb_shared.specs.Sitting.{desk_refused};
 
-use crate::locked::SharedRefused;
-use crate::seat::{Receipt, Seat};
 use crate::shared::Shared;
-use fb_bench::jobs::{Finished, Job, Key};
-use fb_bench::library::Change;
-use fb_bench::{Asked, Committed, Delivered, Desk, DeskRefused, GivenBack, Reply, Taken};
+use fb_locked::bench::jobs::{Finished, Job, Key};
+use fb_locked::bench::library::Change;
+use fb_locked::bench::{Asked, Committed, Delivered, Desk, DeskRefused, GivenBack, Reply, Taken};
+use fb_locked::{Receipt, Seat, SharedRefused};
 use std::marker::Model;
 use std::sync::Wait;
 

@@ -1,14 +1,13 @@
 //! Workers, which take jobs, run them and deliver the results.
 ghost use Rattle.std.specs.Prelude.{◌≡◌, ◌*◌, ◌<◌, IfOk, IfSome, Some, vec_len, vec_capacity};
-ghost use Rattle.fb_shared.specs.Ends.{end_of, NamesSeat, LookNames};
-ghost use Rattle.fb_shared.specs.Runs.{Works, Empty, Holds};
-ghost use Rattle.fb_shared.specs.Looks.{LookAdds};
-ghost use Rattle.fb_shared.specs.declared.work.WorkEnd.TheVariants.{TurnsOver, Memory};
+ghost use Rattle.fb_locked.specs.Ends.{NamesSeat, LookNames};
+ghost use Rattle.fb_locked.specs.Runs.{Works, Empty, Holds};
+ghost use Rattle.fb_locked.specs.Looks.{LookAdds};
+ghost use Rattle.fb_locked.specs.declared.look.WorkEnd.TheVariants.{TurnsOver, Memory};
 
-use crate::locked::SharedRefused;
-use crate::seat::{Receipt, Seat};
 use crate::shared::Shared;
-use fb_bench::jobs::{Finished, Job};
+use fb_locked::bench::jobs::{Finished, Job};
+use fb_locked::{Look, Receipt, Seat, SharedRefused, WorkEnd};
 use std::alloc::{AllocError, Global};
 use std::sync::Wait;
 
@@ -27,42 +26,6 @@ impl Gate for Plain {
     fn run(&self, alloc: Global, _worker: u32, job: &Job) -> Result<Finished, AllocError> {
         job.run(alloc)
     }
-}
-
-/// Why a worker ended.
-#[derive(Clone, Copy, PartialEq, Eq, Debug)]
-pub enum WorkEnd {
-    /// All its turns are used. A turn of a worker is one look for a job.
-    TurnsOver,
-    /// The workers are to stop.
-    Stopped,
-    /// Its seat's number of calls is not that of its caller's records.
-    SeatDiffers { turns: u64, book: u64 },
-    /// The history is shorter than what its seat has seen.
-    Behind { seen: u64, len: u64 },
-    /// As many calls are recorded as the limits allow.
-    HistoryFull,
-    Memory,
-}
-
-impl WorkEnd {
-    pub(crate) fn of(refused: SharedRefused) -> WorkEnd
-        ensures { result ≡ end_of refused }
-    {
-        match refused {
-            SharedRefused::SeatDiffers { turns, book } => WorkEnd::SeatDiffers { turns, book },
-            SharedRefused::Behind { seen, len } => WorkEnd::Behind { seen, len },
-            SharedRefused::HistoryFull => WorkEnd::HistoryFull,
-            SharedRefused::Memory => WorkEnd::Memory,
-        }
-    }
-}
-
-/// What a look for a job found.
-pub(crate) enum Look {
-    Ended(WorkEnd),
-    Nothing,
-    Taken(Job),
 }
 
 /// Takes jobs, runs each by the gate with no lock held, and delivers the result, at most as often as there are turns. A turn is one look for a

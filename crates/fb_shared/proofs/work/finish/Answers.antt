@@ -1,8 +1,8 @@
 use Rattle.std.proofs.Common.{refl, sym, subst}
-use Rattle.fb_shared.specs.declared.work.WorkEnd.{WorkEnd}
-use Rattle.fb_shared.specs.Ends.{NamesSeat, end_of}
-use Rattle.fb_shared.specs.Runs.{Holds, IsRefusal}
-use Rattle.fb_shared.specs.Seats.{SeatState}
+use Rattle.fb_locked.specs.declared.look.WorkEnd.{WorkEnd}
+use Rattle.fb_locked.specs.Ends.{NamesSeat, end_of}
+use Rattle.fb_locked.specs.Runs.{Holds, IsRefusal}
+use Rattle.fb_locked.specs.Seats.{SeatState}
 use Rattle.fb_shared.proofs.Works.{adds_nothing, refusal_ends, refusal_names}
 use Rattle.fb_shared.proofs.work.finish.Goals as goal
 

@@ -1,5 +1,5 @@
 use Rattle.std.proofs.Common.{refl}
-use Rattle.fb_shared.specs.Runs.{Holds}
+use Rattle.fb_locked.specs.Runs.{Holds}
 use Rattle.fb_shared.proofs.Works.{adds_nothing}
 use Rattle.fb_shared.proofs.work.give_back.Goals as goal
 

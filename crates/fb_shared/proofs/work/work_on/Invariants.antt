@@ -1,5 +1,5 @@
 use Rattle.std.proofs.Common.{◌*◌}
-use Rattle.fb_shared.specs.Runs.{AddsWork, Empty}
+use Rattle.fb_locked.specs.Runs.{AddsWork, Empty}
 use Rattle.fb_shared.proofs.work.work_on.Given as goal
 
 abbrev pub invariant-looks : goal.invariant-looks

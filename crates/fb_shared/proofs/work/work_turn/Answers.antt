@@ -1,4 +1,4 @@
-use Rattle.fb_shared.specs.Runs.{Empty, Holds}
+use Rattle.fb_locked.specs.Runs.{Empty, Holds}
 use Rattle.fb_shared.proofs.Works.{works_after}
 use Rattle.fb_shared.proofs.work.work_turn.Goals as goal
 

@@ -1,0 +1,20 @@
+-- The receipt of the next record is one of the seat that fits.
+use Rattle.std.proofs.Common.{◌≡◌, ◌+◌, ◌≤◌, length, refl, ap, sym, subst, arith}
+use Rattle.fb_bench.specs.Machine.{State, Call, ToCommit, ToTake, ToDeliver, ToGiveBack, ToAsk, reply}
+use Rattle.fb_bench.specs.Story.{turns_of, state_of}
+use Rattle.fb_locked.specs.Seats.{Hall, SeatState, Claim, Fits, next_claim, IsReceiptOf}
+
+-- the machine's reply is of the call's kind
+pub fits_reply : (state : State) (call : Call) → Fits call (reply state call)
+unfolding reply
+fits_reply state (ToCommit edits) = tt
+fits_reply state ToTake = tt
+fits_reply state (ToDeliver order) = tt
+fits_reply state (ToGiveBack key) = tt
+fits_reply state (ToAsk key) = tt
+
+pub answered : (hall : Hall) (seat : SeatState) (call : Call) (claim : Claim) → claim ≡ next_claim hall seat.caller call → turns_of seat.caller hall.bench.log.records ≡ seat.turns → seat.seen ≤ length hall.bench.log.records → IsReceiptOf seat call claim
+answered hall seat call claim is turns seen =
+    let fits : IsReceiptOf seat call (next_claim hall seat.caller call) =
+    record { caller_is = refl; call_is = refl; turn_is = ap (λ n. n + 1) turns; reply_fits = fits_reply (state_of hall.bench) call; later = omega arith } in
+    subst (IsReceiptOf seat call) (sym is) fits

@@ -1,0 +1,11 @@
+-- The receipt is the next one of the seat.
+use Rattle.std.proofs.Common.{◌∙◌, ap}
+use Rattle.fb_bench.specs.Requests.{call_for}
+use Rattle.fb_locked.specs.Seats.{next_claim}
+use Rattle.fb_locked.proofs.Receipts.{answered}
+use Rattle.fb_locked.proofs.locked.Locked.perform.Goals as goal
+
+pub returns-clause-fits : goal.returns-clause-fits
+returns-clause-fits c =
+    let call = call_for c.args.request.now in
+    answered c.args.self.now c.args.seat.now call _ (c.in-Ok.ensures.receipt ∙ ap (λ caller. next_claim c.args.self.now caller call) c.caller.ensures) c.in_ok-admit.ensures.fits.0 c.in_ok-admit.ensures.fits.1

@@ -1,0 +1,126 @@
+-- Seats and receipts against the book and the history.
+use Rattle.std.specs.Prelude.{◌≡◌, ◌==◌, ◌&&◌, ℕ, ◌<◌, ◌≤◌, List, Bool, true, false, not, take, min, Option, None, Some, Result, Ok, Err, slice_get, count_by, All}
+use Rattle.std.specs.List.{list_any, Contains}
+use Rattle.std.specs.BTreeMap.{BTreeMap}
+use Rattle.fb_bench.specs.Story.{Record, Story, turns_of, record_at}
+use Rattle.fb_locked.specs.Seats.{Hall, SeatState, Claim}
+use Rattle.fb_locked.specs.Book.{is_caller, IsBookOf}
+use Rattle.fb_locked.specs.declared.close.CloseFault.{CloseFault}
+use Rattle.fb_locked.specs.declared.close.CloseFault.TheVariants.{SeatMissing, SeatDiffers, ReceiptDiffers, ReceiptTwice, Memory}
+
+-- a seat of this caller is among the seats
+abbrev pub has_seat : List SeatState → ℕ → Bool
+has_seat seats q = list_any (λ s. s.caller == q) seats
+
+-- a seat of this caller is among the seats whose number of calls is not that of its records
+abbrev pub has_wrong_seat : List Record → List SeatState → ℕ → Bool
+has_wrong_seat records seats q = list_any (λ s. s.caller == q && not (turns_of q records == s.turns)) seats
+
+-- each caller's seat is there
+abbrev pub AreSeated : Hall → List SeatState → Type 0
+AreSeated hall seats = (q : ℕ) → is_caller hall.callers hall.bench.log.records q ≡ true → has_seat seats q ≡ true
+
+-- no seat differs from its caller's records
+abbrev pub AreSeatsRight : List Record → List SeatState → Type 0
+AreSeatsRight records seats = (q : ℕ) → has_wrong_seat records seats q ≡ false
+
+-- the record at the receipt's number is the receipt's
+abbrev pub IsReceiptRight : List Record → Claim → Type 0
+IsReceiptRight records claim = record_at records claim.number ≡ Some claim.entry
+
+-- how many of the receipts have this number
+abbrev pub times : ℕ → List Claim → ℕ
+times number receipts = count_by (λ c. c.number == number) receipts
+
+-- how many of the receipts are of this caller
+abbrev pub receipts_of : ℕ → List Claim → ℕ
+receipts_of caller receipts = count_by (λ c. c.entry.caller == caller) receipts
+
+-- the lesser of the caller that was found and one that is wrong
+abbrev pub lesser_of : Option ℕ → ℕ → Bool → Option ℕ
+lesser_of o q false = o
+lesser_of None q true = Some q
+lesser_of (Some p) q true = Some (min q p)
+
+-- each receipt is right, and no number comes twice
+pub record AreReceiptsRight (records : List Record) (receipts : List Claim) : Type 0 where
+  pub right : All (IsReceiptRight records) receipts
+  pub once : (number : ℕ) → times number receipts ≤ 1
+
+-- all seats and receipts are right
+pub record AgreesWith (hall : Hall) (seats : List SeatState) (receipts : List Claim) : Type 0 where
+  pub seated : AreSeated hall seats
+  pub turns : AreSeatsRight hall.bench.log.records seats
+  pub shown : AreReceiptsRight hall.bench.log.records receipts
+
+-- in these records numbers rise with the turns of a caller
+abbrev pub NumbersRise : List Record → Type 0
+NumbersRise records =
+    (m n : ℕ) (earlier later : Record) → record_at records m ≡ Some earlier → record_at records n ≡ Some later → earlier.caller ≡ later.caller
+    → earlier.turn < later.turn → m < n
+
+-- of each record of the caller there is a receipt
+abbrev pub AreShown : ℕ → List Record → List Claim → Type 0
+AreShown caller records receipts =
+    (number : ℕ) (it : Record) → record_at records number ≡ Some it → it.caller ≡ caller → Contains receipts (record { number = number; entry = it })
+
+-- a caller whose receipts are as many as its records has shown them all
+abbrev pub EnoughShowAll : List Record → List Claim → Type 0
+EnoughShowAll records receipts = (caller : ℕ) → receipts_of caller receipts ≡ turns_of caller records → AreShown caller records receipts
+
+-- the k-th receipt is the first that is wrong, and has this number
+abbrev pub IsFirstWrong : List Record → List Claim → ℕ → ℕ → Type 0
+IsFirstWrong records receipts k number =
+    AreReceiptsRight records (take k receipts)
+    × ((claim : Claim) × (slice_get receipts k ≡ Some claim) × (claim.number ≡ number) × (IsReceiptRight records claim → ⊥))
+
+-- the k-th receipt is right, as are those before it, and one of these has its number
+abbrev pub IsFirstTwice : List Record → List Claim → ℕ → ℕ → Type 0
+IsFirstTwice records receipts k number =
+    AreReceiptsRight records (take k receipts)
+    × ((claim : Claim) × (slice_get receipts k ≡ Some claim) × (claim.number ≡ number) × IsReceiptRight records claim)
+    × (times number (take k receipts) ≡ 1)
+
+-- the first fault of a list of receipts
+abbrev pub IsReceiptFault : List Record → List Claim → CloseFault → Type 0
+IsReceiptFault records receipts (SeatMissing q) = ⊥
+IsReceiptFault records receipts (SeatDiffers q) = ⊥
+IsReceiptFault records receipts (ReceiptDiffers number) = (k : ℕ) × IsFirstWrong records receipts k number
+IsReceiptFault records receipts (ReceiptTwice number) = (k : ℕ) × IsFirstTwice records receipts k number
+IsReceiptFault records receipts Memory = Unit {0}
+
+-- each receipt is right and none comes twice, or this is their first fault
+abbrev pub ChecksReceipts : {R : Type 0} → List Record → List Claim → Result R CloseFault → Type 0
+ChecksReceipts records receipts (Ok done) = AreReceiptsRight records receipts
+ChecksReceipts records receipts (Err fault) = IsReceiptFault records receipts fault
+
+-- the fault stands there, and no earlier one does
+abbrev pub IsFirstFault : Hall → List SeatState → List Claim → CloseFault → Type 0
+IsFirstFault hall seats receipts (SeatMissing q) =
+    (is_caller hall.callers hall.bench.log.records q ≡ true)
+    × (has_seat seats q ≡ false)
+    × ((p : ℕ) → p < q → is_caller hall.callers hall.bench.log.records p ≡ true → has_seat seats p ≡ true)
+IsFirstFault hall seats receipts (SeatDiffers q) =
+    AreSeated hall seats
+    × (has_wrong_seat hall.bench.log.records seats q ≡ true)
+    × ((p : ℕ) → p < q → has_wrong_seat hall.bench.log.records seats p ≡ false)
+IsFirstFault hall seats receipts (ReceiptDiffers number) =
+    AreSeated hall seats × AreSeatsRight hall.bench.log.records seats × ((k : ℕ) × IsFirstWrong hall.bench.log.records receipts k number)
+IsFirstFault hall seats receipts (ReceiptTwice number) =
+    AreSeated hall seats × AreSeatsRight hall.bench.log.records seats × ((k : ℕ) × IsFirstTwice hall.bench.log.records receipts k number)
+IsFirstFault hall seats receipts Memory = AreSeated hall seats × AreSeatsRight hall.bench.log.records seats
+
+-- all seats and receipts are right, or this is their first fault
+abbrev pub ChecksAll : Hall → List SeatState → List Claim → Option CloseFault → Type 0
+ChecksAll hall seats receipts None = AgreesWith hall seats receipts
+ChecksAll hall seats receipts (Some fault) = IsFirstFault hall seats receipts fault
+
+-- The workbench and the book of a close: they lay under the lock, with which the seats and the receipts agree.
+abbrev pub IsCloseOf : List SeatState → List Claim → Story → BTreeMap ℕ ℕ → Type 0
+IsCloseOf seats receipts bench counts =
+    (hall : Hall) × (hall.bench ≡ bench) × AgreesWith hall seats receipts × IsBookOf counts hall.callers hall.bench.log.records
+
+-- the least number that passes, or none does
+abbrev pub IsLeast : (ℕ → Bool) → Option ℕ → Type 0
+IsLeast test None = (q : ℕ) → test q ≡ false
+IsLeast test (Some q) = (test q ≡ true) × ((p : ℕ) → p < q → test p ≡ false)

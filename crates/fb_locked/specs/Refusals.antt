@@ -1,0 +1,26 @@
+-- Why a call with a seat is refused.
+use Rattle.std.specs.Prelude.{◌≡◌, ◌≢◌, ◌==◌, ◌<◌, Option, Some, None, length, nat_lt, nat_le, if◌then◌else◌}
+use Rattle.fb_locked.specs.declared.locked.SharedRefused.{SharedRefused}
+use Rattle.fb_locked.specs.declared.locked.SharedRefused.TheVariants.{SeatDiffers, Behind, HistoryFull, Memory}
+use Rattle.fb_bench.specs.Story.{turns_of}
+use Rattle.fb_locked.specs.Seats.{Hall, SeatState}
+
+-- the first cause, want of memory apart
+abbrev pub refusal_of : Hall → SeatState → Option SharedRefused
+refusal_of hall seat =
+    if turns_of seat.caller hall.bench.log.records == seat.turns then (
+    if nat_lt (length hall.bench.log.records) seat.seen then Some (Behind seat.seen (length hall.bench.log.records))
+    else if nat_le hall.bench.log.limit (length hall.bench.log.records) then Some HistoryFull else None
+    ) else Some (SeatDiffers seat.turns (turns_of seat.caller hall.bench.log.records))
+
+-- the cause where there is one, and otherwise want of memory
+abbrev pub RefusedAs : Option SharedRefused → SharedRefused → Type 0
+RefusedAs None refused = refused ≡ Memory
+RefusedAs (Some cause) refused = refused ≡ cause
+
+-- what a refusal says of the seat
+abbrev pub IsRefusalOf : SeatState → SharedRefused → Type 0
+IsRefusalOf seat (SeatDiffers turns book) = (turns ≡ seat.turns) × (book ≢ turns)
+IsRefusalOf seat (Behind seen len) = (seen ≡ seat.seen) × (len < seen)
+IsRefusalOf seat HistoryFull = Unit {0}
+IsRefusalOf seat Memory = Unit {0}

@@ -1,0 +1,92 @@
+-- Calls with one seat, one after another, and those that a worker makes.
+use Rattle.std.specs.Prelude.{◌≡◌, ℕ, ◌≤◌, ◌<◌, ◌++◌, [], ◌∷◌, List, Option, Some, None, length}
+use Rattle.fb_bench.specs.Jobs.Reads.{PlainJob}
+use Rattle.fb_bench.specs.Machine.{Call, ToCommit, ToTake, ToDeliver, ToGiveBack, ToAsk, Reply}
+use Rattle.fb_bench.specs.Requests.{job_of}
+use Rattle.fb_locked.specs.declared.look.Look.{Look}
+use Rattle.fb_locked.specs.declared.look.Look.TheVariants.{Ended, Nothing, Taken}
+use Rattle.fb_locked.specs.declared.look.WorkEnd.{WorkEnd}
+use Rattle.fb_locked.specs.declared.look.WorkEnd.TheVariants.{TurnsOver, Stopped, SeatDiffers, Behind, HistoryFull, Memory}
+use Rattle.fb_locked.specs.Seats.{SeatState, Claim, IsReceiptOf, seat_after}
+
+-- the receipts are of calls with the seat, one after another
+abbrev pub IsRun : SeatState → List Claim → SeatState → Type 0
+IsRun seat [] after = after ≡ seat
+IsRun seat (claim ∷ claims) after = IsReceiptOf seat claim.entry.call claim × IsRun (seat_after seat claim) claims after
+
+-- what a worker has in hand between two calls: no job; a job that it has taken; or it has given one back, and is done
+pub data Hand : Type 0 where
+  Empty : Hand
+  Holds : PlainJob → Hand
+  Gave : Hand
+
+abbrev pub hand_with : Option PlainJob → Hand
+hand_with None = Empty
+hand_with (Some order) = Holds order
+
+-- what it has in hand after a call with this reply
+abbrev pub hand_after : Call → Reply → Hand
+hand_after ToTake answer = hand_with (job_of answer)
+hand_after (ToGiveBack key) answer = Gave
+hand_after (ToDeliver order) answer = Empty
+hand_after (ToCommit edits) answer = Empty
+hand_after (ToAsk key) answer = Empty
+
+abbrev pub IsTake : Call → Type 0
+IsTake ToTake = Unit {0}
+IsTake _ = ⊥
+
+-- the result of the job, or its key given back
+abbrev pub Settles : PlainJob → Call → Type 0
+Settles order (ToDeliver result) = result ≡ order
+Settles order (ToGiveBack key) = key ≡ order.key
+Settles order _ = ⊥
+
+-- the calls that a worker makes: with nothing in hand it takes, and a job that it holds it settles before it takes the next one
+abbrev pub Follows : Hand → Call → Type 0
+Follows Empty call = IsTake call
+Follows (Holds order) call = Settles order call
+Follows Gave call = ⊥
+
+-- the receipts are of a worker's calls, which lead from what it had in hand to what it has now
+abbrev pub IsWork : Hand → List Claim → Hand → Type 0
+IsWork hand [] now = now ≡ hand
+IsWork hand (claim ∷ claims) now = Follows hand claim.entry.call × IsWork (hand_after claim.entry.call claim.entry.reply) claims now
+
+-- Receipts of calls with the seat, as a worker makes them, are added at the end, at most so many.
+pub record AddsWork (hand : Hand) (most : ℕ) (seat : SeatState) (old new : List Claim) (after : SeatState) (now : Hand) : Type 0 where
+  pub added : List Claim
+  pub behind : new ≡ old ++ added
+  pub run : IsRun seat added after
+  pub work : IsWork hand added now
+  pub few : length added ≤ most
+
+-- an end that comes after a call was refused
+abbrev pub IsRefusal : WorkEnd → Type 0
+IsRefusal TurnsOver = ⊥
+IsRefusal Stopped = ⊥
+IsRefusal (SeatDiffers turns book) = Unit {0}
+IsRefusal (Behind seen len) = Unit {0}
+IsRefusal HistoryFull = Unit {0}
+IsRefusal Memory = Unit {0}
+
+-- What a worker may have in hand where it ends: a job only where a call was refused, and it has given one back only for want of memory.
+abbrev pub EndsWith : Hand → WorkEnd → Type 0
+EndsWith Empty end = Unit {0}
+EndsWith (Holds order) end = IsRefusal end
+EndsWith Gave end = end ≡ Memory
+
+-- a worker that goes on has nothing in hand
+abbrev pub GoesOnWith : Hand → Option WorkEnd → Type 0
+GoesOnWith hand None = hand ≡ Empty
+GoesOnWith hand (Some end) = EndsWith hand end
+
+-- a worker's calls up to where it ends, or goes on
+abbrev pub Works : Hand → ℕ → SeatState → List Claim → List Claim → SeatState → Option WorkEnd → Type 0
+Works hand most seat old new after end = (now : Hand) × AddsWork hand most seat old new after now × GoesOnWith now end
+
+-- What a look for a job adds: the receipt of the take where it takes one, with room for one more, and otherwise nothing.
+abbrev pub AddsLook : Look → ℕ → ℕ → SeatState → List Claim → List Claim → SeatState → Type 0
+AddsLook (Taken job) size room seat old new after = (size < room) × AddsWork Empty 1 seat old new after (Holds job)
+AddsLook Nothing size room seat old new after = (new ≡ old) × (after ≡ seat)
+AddsLook (Ended end) size room seat old new after = (new ≡ old) × (after ≡ seat)
