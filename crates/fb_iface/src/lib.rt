@@ -28,7 +28,7 @@ pub use laws::{
     wrong_kinds_are_reported,
 };
 pub use literals::report_constant;
-pub use names::first_declared;
+pub use names::{FirstOnes, first_declared};
 pub use ports::{
     DeclaredEvent, DeclaredInstance, DeclaredVariable, Ports, is_beside, is_same_side,
 };
