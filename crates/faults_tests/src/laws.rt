@@ -1,11 +1,11 @@
 //! The laws of these crates are functions that do nothing, which each crate above may cite.
-use fb_faults::ecc::{algorithms_are_declared, ecc_is_local, events_are_known, states_are_listed};
-use fb_faults::expr::{expr_faults_are_local, expr_faults_are_unmet};
-use fb_faults::iface::{
+use fb_faults::declarations::{
     duplicates_are_reported, misfits_are_reported, mixed_kinds_are_reported,
     other_names_are_reported, unknown_types_are_reported, unknown_withs_are_reported,
     wrong_kinds_are_reported,
 };
+use fb_faults::ecc::{algorithms_are_declared, ecc_is_local, events_are_known, states_are_listed};
+use fb_faults::expr::{expr_faults_are_local, expr_faults_are_unmet};
 use fb_faults::library::{far_is_local, far_is_one_list, near_is_local};
 use fb_faults::netcheck::{
     connections_are_right, faultless_networks_are_clean, net_faults_are_local,

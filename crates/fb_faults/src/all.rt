@@ -9,9 +9,10 @@ ghost use Rattle.fb_netcheck.specs.Settings.{place_in};
 ghost use Rattle.fb_faults.specs.Faults.{block_faults, faults_here, faults_of, reported_in, reported_of};
 
 use crate::mappings::report_mappings;
+use fb_declarations::report_declarations;
 use fb_ecc::report_charts;
 use fb_expr::report_expressions;
-use fb_netcheck::iface::{Code, Fault, Ports, Scope, ports_of, report_declarations, sorted_faults};
+use fb_netcheck::iface::{Code, Fault, Ports, Scope, ports_of, sorted_faults};
 use fb_netcheck::library::View;
 use fb_netcheck::parse::Body;
 use fb_netcheck::tree::{Decl, TypeDeclaration, UnitKind};

@@ -20,13 +20,18 @@ pub mod expr {
     pub use fb_expr::{expr_faults_are_local, expr_faults_are_unmet};
 }
 
+/// Of `fb_declarations`, for the crates above.
+pub mod declarations {
+    pub use fb_declarations::{
+        duplicates_are_reported, iface_faults, misfits_are_reported, mixed_kinds_are_reported,
+        other_names_are_reported, unknown_types_are_reported, unknown_withs_are_reported,
+        wrong_kinds_are_reported,
+    };
+}
+
 /// Of `fb_netcheck::iface`, for the crates above.
 pub mod iface {
-    pub use fb_netcheck::iface::{
-        Code, Fault, Ports, duplicates_are_reported, first_declared, interface,
-        misfits_are_reported, mixed_kinds_are_reported, other_names_are_reported, sorted_faults,
-        unknown_types_are_reported, unknown_withs_are_reported, wrong_kinds_are_reported,
-    };
+    pub use fb_netcheck::iface::{Code, Fault, Ports, first_declared, interface, sorted_faults};
 }
 
 /// Of `fb_netcheck::library`, for the crates above.

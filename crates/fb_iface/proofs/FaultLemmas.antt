@@ -1,8 +1,4 @@
 -- Faults that compare equal are one.
-use Rattle.std.specs.Prelude.{◌≡◌}
-use Rattle.std.specs.declared.cmp.Ordering.{Ordering}
-use Rattle.std.specs.declared.cmp.Ordering.TheVariants.{Less, Equal, Greater}
-use Rattle.std.specs.Ordering.{ordering_then}
 use Rattle.std.specs.FinMap.{IsAntisymmetric, nat_cmp-IsAntisymmetric}
 use Rattle.fb_text.proofs.OrderLemmas.{both_equal}
 use Rattle.fb_iface.specs.Code.{code_number}

@@ -6,7 +6,7 @@ use Rattle.fb_library.specs.Tree.Tree.{DeclTree}
 use Rattle.fb_library.specs.Tree.Mentions.{unit_kind_of}
 use Rattle.fb_library.specs.Tree.declared.network.Role.{Role}
 use Rattle.fb_iface.specs.Ports.{Meanings, meanings_in}
-use Rattle.indexmap.specs.IndexMap.{get}
+use Rattle.std.specs.HashMap.{get}
 use Rattle.fb_iface.specs.Scope.{Scope, ports_where}
 use Rattle.fb_iface.specs.declared.scope.KeptType.{KeptType}
 use Rattle.fb_iface.specs.declared.scope.Scope as kept

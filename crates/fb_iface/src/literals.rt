@@ -1,48 +1,14 @@
 //! Constants that do not fit their type.
 ghost use Rattle.std.specs.Prelude.{◌≡◌, ◌++◌, OnOk};
-ghost use Rattle.fb_library.specs.Tree.Tree.{one_value, constant_tree, decl_tree, interface_tree, variables_tree};
-ghost use Rattle.fb_iface.specs.Declarations.{literal_faults_of};
-ghost use Rattle.fb_iface.specs.Literals.{constant_faults, fits_alone, initial_faults, list_faults, literal_fault, literal_faults, misfits, simple_span};
+ghost use Rattle.fb_library.specs.Tree.Tree.{one_value, constant_tree};
+ghost use Rattle.fb_iface.specs.Literals.{constant_faults, fits_alone, list_faults, literal_fault, misfits, simple_span};
 
 use crate::classes::{Class, class_by_name, class_of, class_of_constant, is_taken};
 use crate::code::Code;
 use crate::fault::Fault;
-use fb_library::tree::{Constant, Decl, Interface, Simple, TypeForm, TypeUse, Variables};
+use fb_library::tree::{Constant, Simple, TypeForm, TypeUse};
 use fb_text::Span;
 use std::alloc::AllocError;
-
-/// Reports the initial values that do not fit their type.
-pub fn report_literals(decl: &Decl, found: &mut Vec<Fault>) -> Result<(), AllocError>
-    ensures { OnOk result
-        (found.new.items ≡ found.old.items ++ literal_faults_of (decl_tree decl.now)) }
-{
-    match decl {
-        Decl::Block(declared) | Decl::Adapter(declared) | Decl::Subapplication(declared) => {
-            report_in_interface(&declared.interface, found)
-        }
-        Decl::System(_) => Ok(()),
-    }
-}
-
-fn report_in_interface(interface: &Interface, found: &mut Vec<Fault>) -> Result<(), AllocError>
-    ensures { OnOk result
-        (found.new.items ≡ found.old.items ++ literal_faults (interface_tree interface.now)) }
-{
-    for group in &interface.variables {
-        report_initial(group, found)?;
-    }
-    Ok(())
-}
-
-fn report_initial(group: &Variables, found: &mut Vec<Fault>) -> Result<(), AllocError>
-    ensures { OnOk result
-        (found.new.items ≡ found.old.items ++ initial_faults (variables_tree group.now)) }
-{
-    match &group.initial {
-        Some(constant) => report_constant(&group.type_use, constant, found),
-        None => Ok(()),
-    }
-}
 
 /// Reports a constant that does not fit the type, or the elements of a list that do not.
 pub fn report_constant(

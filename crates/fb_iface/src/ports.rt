@@ -4,12 +4,11 @@ ghost use Rattle.fb_library.specs.Tree.Tree.{interface_tree, network_tree, varia
 ghost use Rattle.fb_iface.specs.Ports.{events_in, instances_in, same_role, same_side, variables_in, variables_together};
 ghost use Rattle.fb_iface.specs.Sides.{is_data_on};
 
-use crate::names::first_declared;
+use crate::names::{FirstOnes, first_declared};
 use fb_library::tree::{
     Event, Instance, Interface, Network, Role, Section, Side, TypeDeclaration, TypeUse, Variables,
 };
 use fb_text::{Name, NameUse};
-use indexmap::IndexMap;
 use std::alloc::{AllocError, Global};
 use std::marker::Model;
 
@@ -38,9 +37,9 @@ pub struct DeclaredInstance {
 /// stands for its first declaration: an internal variable or an instance may hide a port of that name.
 #[derive(Drop)]
 pub struct Ports {
-    events: IndexMap<Name, DeclaredEvent>,
-    variables: IndexMap<Name, DeclaredVariable>,
-    instances: IndexMap<Name, DeclaredInstance>,
+    events: FirstOnes<DeclaredEvent>,
+    variables: FirstOnes<DeclaredVariable>,
+    instances: FirstOnes<DeclaredInstance>,
 }
 
 impl Model for Ports {
@@ -48,7 +47,7 @@ impl Model for Ports {
 
     ghost Value = { Meanings };
 
-    ghost view = { λ p. record { events = p.events.entries; variables = p.variables.entries; instances = p.instances.entries } };
+    ghost view = { λ p. record { events = p.events; variables = p.variables; instances = p.instances } };
 }
 
 impl Ports {
@@ -65,9 +64,9 @@ impl Ports {
         ensures { result ≡ record { events = []; variables = []; instances = [] } }
     {
         Ports {
-            events: IndexMap::new(alloc),
-            variables: IndexMap::new(alloc),
-            instances: IndexMap::new(alloc),
+            events: FirstOnes::new(alloc),
+            variables: FirstOnes::new(alloc),
+            instances: FirstOnes::new(alloc),
         }
     }
 
@@ -91,8 +90,8 @@ impl Ports {
     {
         let instances = declared_instances(alloc, network)?;
         Ok(Ports {
-            events: IndexMap::new(alloc),
-            variables: IndexMap::new(alloc),
+            events: FirstOnes::new(alloc),
+            variables: FirstOnes::new(alloc),
             instances: first_declared(alloc, instances.as_slice())?,
         })
     }
@@ -168,7 +167,7 @@ impl Ports {
         ensures { IfOk result (λ ports. ports.items ≡ events_on side self.now) }
     {
         let mut ports = Vec::new(alloc);
-        for (name, event) in self.events.iter() {
+        for (name, event) in self.events.as_slice() {
             if is_same_side(event.side, side) {
                 ports.push((*name, event.type_name))?;
             }
@@ -180,7 +179,7 @@ impl Ports {
         ensures { IfOk result (λ ports. ports.items ≡ data_on side self.now) }
     {
         let mut ports = Vec::new(alloc);
-        for (name, variable) in self.variables.iter() {
+        for (name, variable) in self.variables.as_slice() {
             if is_beside(side, variable.section) {
                 ports.push((*name, variable.type_use))?;
             }
@@ -192,7 +191,7 @@ impl Ports {
         ensures { IfOk result (λ ports. ports.items ≡ instances_as role self.now) }
     {
         let mut ports = Vec::new(alloc);
-        for (name, instance) in self.instances.iter() {
+        for (name, instance) in self.instances.as_slice() {
             if is_same_role(instance.role, role) {
                 ports.push((*name, instance.type_name))?;
             }

@@ -6,7 +6,7 @@ ghost use Rattle.fb_library.specs.Tree.Tree.{instance_tree, network_tree, type_t
 ghost use Rattle.fb_library.specs.View.{tree_at};
 ghost use Rattle.fb_iface.specs.Scope.{instance_ports, mentioned_type, ports_of, scope_of_network, scope_of_type, type_ports_of};
 ghost use Rattle.fb_iface.specs.Kept.{kept_of, scope_in, with_type};
-ghost use Rattle.indexmap.specs.IndexMap.{get};
+ghost use Rattle.std.specs.HashMap.{get};
 
 use crate::instances::is_suited;
 use crate::interfaces;
@@ -14,8 +14,8 @@ use crate::ports::{DeclaredInstance, Ports};
 use fb_library::tree::{Instance, Network, Role, TypeDeclaration, UnitKind, kind};
 use fb_library::{View, tree_by_name};
 use fb_text::Name;
-use indexmap::IndexMap;
 use std::alloc::{AllocError, Global};
+use std::collections::HashMap;
 
 /// A type that is present and not broken, with its ports.
 #[derive(Drop)]
@@ -28,7 +28,7 @@ struct KeptType {
 #[derive(Drop)]
 pub struct Scope {
     own: Ports,
-    types: IndexMap<Name, KeptType>,
+    types: HashMap<Name, KeptType>,
 }
 
 impl Scope {
@@ -120,12 +120,12 @@ fn types_of<V: View>(
     alloc: Global,
     view: &V,
     instances: &[Instance],
-) -> Result<IndexMap<Name, KeptType>, AllocError>
+) -> Result<HashMap<Name, KeptType>, AllocError>
     ensures { IfOk result (λ types. (name : List ℕ) → get (pointwise nat_eq) types name
         ≡ option_map kept_of
         (mentioned_type (V.sources view.now) (map instance_tree instances.now) name)) }
 {
-    let mut types = IndexMap::new(alloc);
+    let mut types = HashMap::new(alloc);
     for instance in instances {
         add_type(alloc, view, &instance.type_name.name, &mut types)?;
     }
@@ -137,7 +137,7 @@ fn add_type<V: View>(
     alloc: Global,
     view: &V,
     name: &Name,
-    types: &mut IndexMap<Name, KeptType>,
+    types: &mut HashMap<Name, KeptType>,
 ) -> Result<(), AllocError>
     ensures { OnOk result ((q : List ℕ) → get (pointwise nat_eq) types.new q
         ≡ with_type name.now (tree_at (V.sources view.now) name.now)

@@ -23,10 +23,7 @@ pub use spellings::{part_of, text_by_name};
 /// Of `fb_iface`, for the crates above.
 pub mod iface {
     pub use fb_iface::{
-        Code, Fault, Ports, Scope, duplicates_are_reported, first_declared, iface_faults,
-        interface, misfits_are_reported, mixed_kinds_are_reported, other_names_are_reported,
-        ports_of, report_declarations, sorted_faults, unknown_types_are_reported,
-        unknown_withs_are_reported, wrong_kinds_are_reported,
+        Code, Fault, Ports, Scope, first_declared, interface, ports_of, sorted_faults,
     };
 }
 

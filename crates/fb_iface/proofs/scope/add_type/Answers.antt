@@ -3,7 +3,7 @@ use Rattle.std.proofs.lemmas.Grind.{common_steps}
 use Rattle.std.specs.Cmp.Lexicographic.{pointwise}
 use Rattle.fb_library.specs.Tree.Tree.{decl_tree}
 use Rattle.fb_library.specs.View.{tree_at}
-use Rattle.indexmap.specs.IndexMap.{get}
+use Rattle.std.specs.HashMap.{get}
 use Rattle.fb_iface.proofs.ScopeLemmas.{with_type-new}
 use Rattle.fb_iface.proofs.scope.add_type.Goals as goal
 

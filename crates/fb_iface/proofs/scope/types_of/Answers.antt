@@ -1,7 +1,7 @@
 use Rattle.std.proofs.Common.{◌≡◌, ◌+◌, ◌<◌, ◌∷◌, [], ◌++◌, None, cond, length, sym, ap, ◌∙◌, arith, take, nat_eq, option_map}
 use Rattle.std.proofs.lemmas.Grind.{common_steps}
 use Rattle.std.specs.Cmp.Lexicographic.{pointwise}
-use Rattle.indexmap.specs.IndexMap.{get}
+use Rattle.std.specs.HashMap.{get}
 use Rattle.fb_library.specs.View.{tree_at}
 use Rattle.fb_iface.proofs.ScopeLemmas.{type_names, type_names-more, with_type-more}
 use Rattle.fb_iface.specs.Kept.{kept_of}

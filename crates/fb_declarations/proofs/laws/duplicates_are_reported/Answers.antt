@@ -1,0 +1,5 @@
+use Rattle.fb_iface.proofs.RowLemmas.{duplicates}
+use Rattle.fb_declarations.proofs.laws.duplicates_are_reported.Goals as goal
+
+pub returns : goal.returns
+returns c = duplicates

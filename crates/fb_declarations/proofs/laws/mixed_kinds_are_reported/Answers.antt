@@ -1,0 +1,5 @@
+use Rattle.fb_iface.proofs.RowLemmas.{mixed_kinds}
+use Rattle.fb_declarations.proofs.laws.mixed_kinds_are_reported.Goals as goal
+
+pub returns : goal.returns
+returns c = mixed_kinds

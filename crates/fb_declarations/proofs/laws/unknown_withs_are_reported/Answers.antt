@@ -1,0 +1,5 @@
+use Rattle.fb_iface.proofs.RowLemmas.{unknown_withs}
+use Rattle.fb_declarations.proofs.laws.unknown_withs_are_reported.Goals as goal
+
+pub returns : goal.returns
+returns c = unknown_withs

@@ -1,0 +1,87 @@
+//! What declares a name.
+ghost use Rattle.std.specs.Prelude.{◌≡◌};
+ghost use Rattle.fb_text.specs.declared.name.NameUse.{NameUse};
+
+use fb_iface::tree::{Algorithm, Application, Device, Event, Instance, Parameter, Resource, State};
+use fb_text::NameUse;
+
+/// What declares a name.
+pub trait Named {
+    ghost name_of: { Self → NameUse };
+
+    /// The name where it is declared.
+    fn name(&self) -> NameUse
+        ensures { result ≡ name_of self.now };
+}
+
+impl Named for NameUse {
+    ghost name_of = { λ n. n };
+
+    fn name(&self) -> NameUse {
+        *self
+    }
+}
+
+impl Named for Event {
+    ghost name_of = { λ d. d.name };
+
+    fn name(&self) -> NameUse {
+        self.name
+    }
+}
+
+impl Named for State {
+    ghost name_of = { λ d. d.name };
+
+    fn name(&self) -> NameUse {
+        self.name
+    }
+}
+
+impl Named for Algorithm {
+    ghost name_of = { λ d. d.name };
+
+    fn name(&self) -> NameUse {
+        self.name
+    }
+}
+
+impl Named for Instance {
+    ghost name_of = { λ d. d.name };
+
+    fn name(&self) -> NameUse {
+        self.name
+    }
+}
+
+impl Named for Parameter {
+    ghost name_of = { λ d. d.name };
+
+    fn name(&self) -> NameUse {
+        self.name
+    }
+}
+
+impl Named for Application {
+    ghost name_of = { λ d. d.name };
+
+    fn name(&self) -> NameUse {
+        self.name
+    }
+}
+
+impl Named for Device {
+    ghost name_of = { λ d. d.name };
+
+    fn name(&self) -> NameUse {
+        self.name
+    }
+}
+
+impl Named for Resource {
+    ghost name_of = { λ d. d.name };
+
+    fn name(&self) -> NameUse {
+        self.name
+    }
+}

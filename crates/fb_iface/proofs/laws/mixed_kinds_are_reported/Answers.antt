@@ -1,5 +1,0 @@
-use Rattle.fb_iface.proofs.RowLemmas.{mixed_kinds}
-use Rattle.fb_iface.proofs.laws.mixed_kinds_are_reported.Goals as goal
-
-pub returns : goal.returns
-returns c = mixed_kinds

@@ -1,5 +1,0 @@
-use Rattle.fb_iface.proofs.RowLemmas.{other_names}
-use Rattle.fb_iface.proofs.laws.other_names_are_reported.Goals as goal
-
-pub returns : goal.returns
-returns c = other_names
