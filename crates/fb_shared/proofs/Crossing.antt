@@ -23,7 +23,7 @@ use Rattle.fb_bench.specs.Tree.contracts.declaration.TypeDeclaration as TypeDecl
 use Rattle.fb_bench.specs.Tree.contracts.declaration.Decl as Decl
 use Rattle.fb_bench.specs.Parse.contracts.body.Body as Body
 use Rattle.fb_bench.specs.Parse.contracts.source.Source as Source
-use Rattle.fb_bench.specs.contracts.record.Wanted as Wanted
+use Rattle.fb_bench.specs.History.contracts.record.Wanted as Wanted
 use Rattle.fb_bench.specs.Iface.contracts.fault.Fault as Fault
 use Rattle.fb_bench.specs.Network.contracts.path.Path as Path
 use Rattle.fb_bench.specs.Network.contracts.flat.FlatBlock as FlatBlock
@@ -36,10 +36,10 @@ use Rattle.fb_bench.specs.Deploy.contracts.command.Command as Command
 use Rattle.fb_bench.specs.Deploy.contracts.resources.ResourcePlan as ResourcePlan
 use Rattle.fb_bench.specs.Deploy.contracts.planning.Deploy as Deploy
 use Rattle.fb_bench.specs.Jobs.contracts.value.Value as Value
-use Rattle.fb_bench.specs.contracts.record.Call as Call
-use Rattle.fb_bench.specs.contracts.answers.Asked as Asked
-use Rattle.fb_bench.specs.contracts.record.Reply as Reply
-use Rattle.fb_bench.specs.contracts.record.Record as Record
+use Rattle.fb_bench.specs.History.contracts.record.Call as Call
+use Rattle.fb_bench.specs.History.contracts.answers.Asked as Asked
+use Rattle.fb_bench.specs.History.contracts.record.Reply as Reply
+use Rattle.fb_bench.specs.History.contracts.record.Record as Record
 use Rattle.fb_shared.specs.contracts.seat.Receipt as Receipt
 use Rattle.fb_shared.specs.contracts.seat.Seat as Seat
 use Rattle.fb_bench.specs.Library.contracts.library.Library as Library
