@@ -4,26 +4,22 @@ use Rattle.std.specs.BTreeMap as tree
 use Rattle.std.specs.BTreeSet as set
 use Rattle.std.specs.Map.{lookup}
 use Rattle.std.specs.BTreeMap.{is_at}
-use Rattle.std.specs.List.Sorted.{IsStrictlySortedBy}
 use Rattle.std.specs.List.{list_any}
 use Rattle.fb_jobs.specs.Library.Texts.{Texts}
 use Rattle.fb_jobs.specs.declared.key.Key.{Key}
 use Rattle.fb_jobs.specs.Keys.{has_key}
 use Rattle.fb_jobs.specs.KeyOrder.{key_cmp}
-use Rattle.fb_bench.specs.declared.entry.Entry.{Entry}
-use Rattle.fb_bench.specs.Story.{Log, IsOrigin, opened, start, replay, replies}
+use Rattle.fb_entries.specs.declared.entry.Entry.{Entry}
+use Rattle.fb_history.specs.Story.{Log, opened, start, replay, replies}
 use Rattle.fb_bench.specs.Kept.{Agrees, IsKept, EntryFits}
 use Rattle.fb_index.specs.Near.{Users}
-use Rattle.fb_bench.proofs.Indexing.{indexed_none}
+use Rattle.fb_entries.proofs.Indexing.{indexed_none}
 use Rattle.fb_jobs.proofs.KindLemmas.{no_kind}
+use Rattle.fb_history.proofs.AfterCalls.{begins_empty}
 
 no_key : (key : Key) → has_key [] key ≡ false
 unfolding has_key
 no_key key = no_kind key.kind
-
-pub begins_empty : (most : ℕ) → IsOrigin (start most)
-unfolding IsStrictlySortedBy
-begins_empty most = record { rise = tt; waiting = λ key none. refl }
 
 agrees_empty : (most : ℕ) (entries : tree.BTreeMap Key Entry) (ready waiting : set.BTreeSet Key) → entries.entries ≡ [] → ready.keys ≡ [] → waiting.keys ≡ [] → Agrees [] 0 entries ready waiting (opened (start most))
 agrees_empty most entries ready waiting no_entries no_keys none_wait = record {

@@ -1,20 +1,10 @@
-pub mod Steps
+pub mod Keeping
 pub mod Empty
-pub mod Order
-pub mod Least
+pub mod Showing
 pub mod Marks
 pub mod Renewing
-pub mod Committing
-pub mod Dues
-pub mod Writes
-pub mod Numbers
-pub mod Sorted
-pub mod AfterCalls
-pub mod Reached
-pub mod Indexing
 pub mod Renewals
-pub mod KeySteps
 pub mod KeysKept
-pub mod Again
+pub mod Committing
 -- Passed on to the crates above, which do not list these libraries.
 pub use Rattle.fb_jobs.proofs.Tree as Tree

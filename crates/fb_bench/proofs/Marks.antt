@@ -14,13 +14,14 @@ use Rattle.fb_jobs.specs.Values.{finding_of}
 use Rattle.fb_jobs.specs.Hints.{AreKept}
 use Rattle.fb_jobs.specs.Keys.{Finding, has_key, scratch}
 use Rattle.fb_jobs.specs.KeyOrder.{key_cmp, same_key}
-use Rattle.fb_bench.specs.declared.entry.Entry.{Entry}
+use Rattle.fb_entries.specs.declared.entry.Entry.{Entry}
 use Rattle.fb_jobs.specs.Reads.{PlainJob, stale}
-use Rattle.fb_bench.specs.Machine.{State, is_ready, after_take, after_deliver, removed, unless_stale, deliver_answer}
-use Rattle.fb_bench.specs.declared.answers.Delivered.{Delivered}
-use Rattle.fb_bench.specs.declared.answers.Delivered.TheVariants.{Accepted, NoSuchKey, NotPending, Stale}
-use Rattle.fb_bench.specs.Kept.{Agrees, EntryFits, IsScratch, kept_in}
-use Rattle.fb_bench.proofs.Order.{keys_equal}
+use Rattle.fb_history.specs.Machine.{State, is_ready, after_take, after_deliver, removed, unless_stale, deliver_answer}
+use Rattle.fb_history.specs.declared.answers.Delivered.{Delivered}
+use Rattle.fb_history.specs.declared.answers.Delivered.TheVariants.{Accepted, NoSuchKey, NotPending, Stale}
+use Rattle.fb_bench.specs.Kept.{Agrees, EntryFits, IsScratch}
+use Rattle.fb_entries.specs.Found.{kept_in}
+use Rattle.fb_values.proofs.Order.{keys_equal}
 
 pub ready_has : (s : State) (k : Key) (o : Option Entry) → EntryFits s k o → is_ready s k ≡ true → has_key s.units k ≡ true
 ready_has s k None fits ready = let no : is_ready s k ≡ false = ap (λ b. b && not (s.out k)) fits.1 in cc

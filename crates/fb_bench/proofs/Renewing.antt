@@ -19,12 +19,12 @@ use Rattle.fb_jobs.specs.declared.value.Value.{Value}
 use Rattle.fb_jobs.specs.Keys.{has_key, needs, scratch}
 use Rattle.fb_jobs.specs.KeyOrder.{same_key}
 use Rattle.fb_jobs.specs.Reads.{is_among, Agree}
-use Rattle.fb_bench.specs.declared.entry.Entry.{Entry}
-use Rattle.fb_bench.specs.Machine.{State, after_done, reaches}
+use Rattle.fb_entries.specs.declared.entry.Entry.{Entry}
+use Rattle.fb_history.specs.Machine.{State, after_done, reaches}
 use Rattle.fb_bench.specs.Kept.{EntryFits, IsScratch}
-use Rattle.fb_bench.specs.Marking.{is_of, blank}
+use Rattle.fb_entries.specs.Marking.{is_of, blank}
 use Rattle.fb_text.proofs.OrderLemmas.{is_equal}
-use Rattle.fb_bench.proofs.Order.{key_total, keys_equal}
+use Rattle.fb_history.proofs.AfterCalls.{or_parts, not_met}
 
 -- ---- names that are not changed
 
@@ -53,10 +53,6 @@ edit_elsewhere : (n : List ℕ) (commit : ℕ) (e : Edit) (T : Texts) → is_at 
 edit_elsewhere n commit (Puts u base text) T apart = put_elsewhere n u _ T apart
 edit_elsewhere n commit (Removes u base) T apart = remove_elsewhere n u T apart
 
-or_parts : (a b : Bool) → (a || b) ≡ false → (a ≡ false) × (b ≡ false)
-or_parts true b e = cc
-or_parts false b e = (refl, e)
-
 -- a name that no edit is of keeps what it has
 pub held_all_edited : (n : List ℕ) (commit : ℕ) (es : List Edit) (T : Texts) → is_among n (map unit_of es) ≡ false → held (all_edited commit es T) n ≡ held T n
 held_all_edited n commit [] T apart = refl
@@ -64,45 +60,9 @@ held_all_edited n commit (e ∷ es) T apart =
     let parts = or_parts (is_at (name_cmp n) (unit_of e)) (is_among n (map unit_of es)) apart in
     held_all_edited n commit es (edited commit e T) parts.1 ∙ edit_elsewhere n commit e T parts.0
 
-pub not_met : (n : List ℕ) (changed names : List (List ℕ)) → list_any (λ d. is_among d names) changed ≡ false → is_among n names ≡ true → is_among n changed ≡ false
-not_met n [] names none among = refl
-not_met n (d ∷ ds) names none among =
-    let parts = or_parts (is_among d names) (list_any (λ x. is_among x names) ds) none in
-    elim (is_at (name_cmp n) d) as (λ b. is_at (name_cmp n) d ≡ b → (b || is_among n ds) ≡ false) [
-      | true ↦ λ at. let met : is_among d names ≡ true = subst (λ m. is_among m names ≡ true) (exact_name n d (is_equal _ at)) among in let no : is_among d names ≡ false = parts.0 in cc
-      | false ↦ λ _. not_met n ds names parts.1 among
-    ] refl
-
 -- texts before and after agree on what a key needs that is not reached
 pub agree_unreached : (commit : ℕ) (es : List Edit) (T : Texts) (k : Key) → reaches (map unit_of es) (all_edited commit es T) k ≡ false → Agree (all_edited commit es T) T (needs (all_edited commit es T) k)
 agree_unreached commit es T k unreached n among = ap (option_map text_in) (held_all_edited n commit es T (not_met n (map unit_of es) (needs (all_edited commit es T) k) unreached among))
-
--- ---- booleans
-
--- ---- keys among keys
-
-same_flips : (a b : Key) → same_key a b ≡ same_key b a
-same_flips a b = (eq_by_cmp_equiv key_total).symm a b
-
-pub of_more : (q k : Key) (ks : List Key) → is_of q (ks ++ k ∷ []) ≡ (is_of q ks || same_key k q)
-of_more q k ks = list_any-append (same_key q) ks (k ∷ []) ∙ ap (λ b. is_of q ks || b) (or_false (same_key q k) ∙ same_flips q k)
-
-pub of_both : (q : Key) (ks others : List Key) → is_of q (ks ++ others) ≡ (is_of q ks || is_of q others)
-of_both q ks others = list_any-append (same_key q) ks others
-
-module _ (p : Key → Bool) (q k : Key) (ks : List Key) where
-  of_one : (same keep : Bool) → same_key q k ≡ same → p k ≡ keep → is_of q (filter p ks) ≡ (is_of q ks && p q) → is_of q (cond keep (k ∷ filter p ks) (filter p ks)) ≡ ((same || is_of q ks) && p q)
-  of_one true true at keeps rest = ap (λ b. b || is_of q (filter p ks)) at ∙ sym (ap p (keys_equal q k at) ∙ keeps)
-  of_one true false at keeps rest =
-      let here : p q ≡ false = ap p (keys_equal q k at) ∙ keeps in
-      rest ∙ ap (λ b. is_of q ks && b) here ∙ and_false (is_of q ks) ∙ sym here
-  of_one false true at keeps rest = ap (λ b. b || is_of q (filter p ks)) at ∙ rest
-  of_one false false at keeps rest = rest
-
--- the keys that pass a test
-pub of_filtered : (p : Key → Bool) (q : Key) (ks : List Key) → is_of q (filter p ks) ≡ (is_of q ks && p q)
-of_filtered p q [] = refl
-of_filtered p q (k ∷ ks) = of_one p q k ks (same_key q k) (p k) refl refl (of_filtered p q ks)
 
 -- ---- names among names
 

@@ -1,6 +1,5 @@
 -- What a workbench keeps beside its history agrees with where the history has led.
 use Rattle.std.specs.Prelude.{◌≡◌, ℕ, ◌≤◌, true, false, length, List, Option, Some, None, is_none}
-use Rattle.std.specs.Option.{option_map}
 use Rattle.std.specs.BTreeMap as tree
 use Rattle.std.specs.BTreeSet as set
 use Rattle.std.specs.declared.sync.Arc.{Arc}
@@ -8,25 +7,20 @@ use Rattle.std.specs.declared.alloc.Global.{Global}
 use Rattle.fb_jobs.specs.Library.Texts.{Texts}
 use Rattle.fb_jobs.specs.declared.key.Key.{Key}
 use Rattle.fb_jobs.specs.declared.value.Value.{Value}
-use Rattle.fb_jobs.specs.Keys.{Finding, has_key, scratch}
+use Rattle.fb_jobs.specs.Keys.{has_key, scratch}
 use Rattle.fb_jobs.specs.KeyOrder.{key_cmp}
 use Rattle.fb_jobs.specs.Values.{finding_of}
-use Rattle.fb_bench.specs.Machine.{State, is_ready, keys_of}
-use Rattle.fb_bench.specs.Story.{Story, IsOrigin, state_of, IsReplay}
-use Rattle.fb_bench.specs.declared.entries.Entries.{Entries}
-use Rattle.fb_bench.specs.declared.entry.Entry.{Entry}
+use Rattle.fb_history.specs.Machine.{State, is_ready, keys_of}
+use Rattle.fb_history.specs.Story.{Story, IsOrigin, state_of, IsReplay}
+use Rattle.fb_entries.specs.declared.entries.Entries.{Entries}
+use Rattle.fb_entries.specs.declared.entry.Entry.{Entry}
 use Rattle.fb_index.specs.Near.{Users}
-use Rattle.fb_bench.specs.Indexed.{IsIndexOf}
+use Rattle.fb_entries.specs.Indexed.{IsIndexOf}
 
 -- a kept value is the key's value from scratch
 abbrev pub IsScratch : Texts → Key → Option (Arc Value Global) → Type 0
 IsScratch texts key None = Unit {0}
 IsScratch texts key (Some value) = finding_of value.value ≡ scratch texts key
-
--- the value that an entry keeps
-abbrev pub kept_in : Option Entry → Option Finding
-kept_in None = None
-kept_in (Some it) = option_map (λ value. finding_of value.value) it.value
 
 -- an entry for each key of the texts, and for no other, with its marks and its value
 abbrev pub EntryFits : State → Key → Option Entry → Type 0

@@ -1,21 +1,19 @@
-pub mod Machine
-pub mod Story
 pub mod Records
-pub mod Logs
 pub mod Kept
-pub mod Indexed
-pub mod Marking
-pub mod Renew
 pub mod Outcomes
-pub mod Due
 pub mod Peeks
 pub mod Requests
 pub mod Calls
 pub mod Solo
 pub mod Refusals
-pub mod Limits
-pub mod Laws
 -- Passed on to the crates above, which do not list these libraries.
+pub use Rattle.fb_history.specs.Machine as Machine
+pub use Rattle.fb_history.specs.Story as Story
+pub use Rattle.fb_history.specs.Logs as Logs
+pub use Rattle.fb_history.specs.Limits as Limits
+pub use Rattle.fb_history.specs.Due as Due
+pub use Rattle.fb_history.specs.Laws as Laws
+pub use Rattle.fb_history.specs as History
 pub use Rattle.fb_jobs.specs.Tree as Tree
 pub use Rattle.fb_jobs.specs.Parse as Parse
 pub use Rattle.fb_jobs.specs.Library as Library

@@ -1,80 +1,11 @@
--- Records of the program as what they say.
-use Rattle.std.specs.Prelude.{◌+◌, List, map, take, Option, Some, None, string_bytes}
-use Rattle.fb_jobs.specs.Library.Texts.{Edit, Puts, Removes}
-use Rattle.fb_jobs.specs.Library.declared.change.Change.{Change}
-use Rattle.fb_jobs.specs.Library.Changes.{edits_of}
-use Rattle.fb_jobs.specs.Reads.{PlainJob}
-use Rattle.fb_jobs.specs.Values.{texts_seen, finding_of}
-use Rattle.fb_bench.specs.Machine as machine
-use Rattle.fb_bench.specs.Machine.{most_changes, ToCommit, ToTake, ToDeliver, ToGiveBack, ToAsk, Shown, Finds, Waits, Unknown, OfCommit, OfTake, OfDeliver, OfGiveBack, OfAsk}
-use Rattle.fb_bench.specs.Story.{Record}
-use Rattle.fb_bench.specs.declared.answers.Asked.{Asked}
-use Rattle.fb_bench.specs.declared.answers.Asked.TheVariants.{Value, Pending, NoSuchKey}
-use Rattle.fb_bench.specs.declared.answers.Delivered.{Delivered}
-use Rattle.fb_bench.specs.declared.answers.Delivered.TheVariants.{Accepted}
+-- Records of the program as what they say, and the jobs that are handed out.
+use Rattle.std.specs.Prelude.{Option, Some, None}
+use Rattle.fb_values.specs.Reads.{PlainJob}
+pub use Rattle.fb_history.specs.Records.{wanted_job, wanted_job_in, text_edit, text_edits, call_of, shown_in, delivered_in, reply_of, records_in, listed, commit_of}
 use Rattle.fb_bench.specs.declared.answers.Taken.{Taken}
 use Rattle.fb_bench.specs.declared.answers.Taken.TheVariants.{Job, Nothing}
-use Rattle.fb_bench.specs.declared.record.Wanted.{Wanted}
-use Rattle.fb_bench.specs.declared.record.TextChange.{TextChange}
-use Rattle.fb_bench.specs.declared.record.TextChange.TheVariants.{Put, Remove}
-use Rattle.fb_bench.specs.declared.record.Call.{Call}
-use Rattle.fb_bench.specs.declared.record.Call.TheVariants.{Commit, Take, Deliver, GiveBack, Ask}
-use Rattle.fb_bench.specs.declared.record.Reply.{Reply}
-use Rattle.fb_bench.specs.declared.record.Reply.TheVariants.{Committing, Taking, Delivering, GivingBack, Asking}
-use Rattle.std.specs.declared.boxed.Box.{Box}
-use Rattle.std.specs.declared.sync.Arc.{Arc}
-use Rattle.std.specs.declared.alloc.Global.{Global}
-
-abbrev pub wanted_job : Wanted → PlainJob
-wanted_job it = record { key = it.key; reads = texts_seen it.reads.value.items }
-
-abbrev pub wanted_job_in : Option (Box Wanted Global) → Option PlainJob
-wanted_job_in None = None
-wanted_job_in (Some it) = Some (wanted_job it.value)
-
-abbrev pub text_edit : TextChange → Edit
-text_edit (Put unit base text) = Puts unit base (string_bytes text.value)
-text_edit (Remove unit base) = Removes unit base
-
-abbrev pub text_edits : List TextChange → List Edit
-text_edits changes = map text_edit changes
-
-abbrev pub call_of : Call → machine.Call
-call_of (Commit changes) = ToCommit (text_edits changes.items)
-call_of Take = ToTake
-call_of (Deliver it) = ToDeliver (wanted_job it.value)
-call_of (GiveBack key) = ToGiveBack key
-call_of (Ask key) = ToAsk key
-
-abbrev pub shown_in : Asked → Shown
-shown_in (Value value) = Finds (finding_of value.value)
-shown_in Pending = Waits
-shown_in NoSuchKey = Unknown
-
--- a record keeps the answer to a delivery that is refused, and none where the result is taken in
-abbrev pub delivered_in : Option (Box Delivered Global) → Delivered
-delivered_in None = Accepted
-delivered_in (Some it) = it.value
-
-abbrev pub reply_of : Reply → machine.Reply
-reply_of (Committing answer) = OfCommit answer.value
-reply_of (Taking order) = OfTake (wanted_job_in order)
-reply_of (Delivering answer) = OfDeliver (delivered_in answer)
-reply_of (GivingBack answer) = OfGiveBack answer
-reply_of (Asking answer) = OfAsk (shown_in answer)
-
-abbrev pub records_in : List (Arc Record Global) → List Record
-records_in records = map (λ (it : Arc Record Global). it.value) records
 
 -- the job that is handed out
 abbrev pub job_in : Taken → Option PlainJob
 job_in (Job job) = Some job
 job_in Nothing = None
-
--- The changes of a commit that are recorded: one more than the most is too many as well.
-abbrev pub listed : List Change → List Edit
-listed changes = edits_of (take (most_changes + 1) changes)
-
--- a commit of these changes
-abbrev pub commit_of : List Change → machine.Call
-commit_of changes = ToCommit (listed changes)

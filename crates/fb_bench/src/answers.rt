@@ -1,59 +1,13 @@
 //! What the five recorded calls answer.
-ghost use Rattle.std.specs.Prelude.{◌≡◌};
-ghost use Rattle.fb_bench.specs.declared.answers.Refused.TheVariants.{Memory};
 
-use fb_jobs::{Job, Value};
-use fb_text::Name;
-use std::alloc::AllocError;
-use std::sync::Arc;
-
-/// What a commit comes to: its number, or the first reason against it.
-#[derive(Clone, Copy, PartialEq, Eq)]
-pub enum Committed {
-    /// The count of good commits, this one included, which is the revision of the units put.
-    Done(u64),
-    NoChange,
-    /// More than sixteen.
-    TooManyChanges,
-    /// The unit of the first change whose unit came before.
-    SameUnitTwice(Name),
-    /// `current` is the unit's revision, 0 where it is absent.
-    StaleBase { unit: Name, current: u64 },
-    NoSuchUnit(Name),
-    /// More units after all changes than the limits allow.
-    TooManyUnits,
-}
+use fb_history::{Asked, Committed, Delivered, GivenBack};
+use fb_jobs::Job;
 
 /// A job that is then handed out, or nothing to do.
 #[derive(Drop)]
 pub enum Taken {
     Job(Job),
     Nothing,
-}
-
-/// Whether a result was taken in.
-#[derive(Clone, Copy, PartialEq, Eq)]
-pub enum Delivered {
-    Accepted,
-    NoSuchKey,
-    NotPending,
-    /// The least name that was read and is not as it was.
-    Stale(Name),
-}
-
-/// Whether a key was handed out.
-#[derive(Clone, Copy, PartialEq, Eq)]
-pub enum GivenBack {
-    Returned,
-    NothingOut,
-}
-
-/// What is known of a key.
-#[derive(Drop)]
-pub enum Asked {
-    Value(Arc<Value>),
-    Pending,
-    NoSuchKey,
 }
 
 /// The answer to any of the calls.
@@ -64,19 +18,4 @@ pub enum Answered {
     Deliver(Delivered),
     GiveBack(GivenBack),
     Ask(Asked),
-}
-
-/// Why a call is not recorded. It then changes nothing.
-#[derive(Clone, Copy, PartialEq, Eq, Debug)]
-pub enum Refused {
-    HistoryFull,
-    Memory,
-}
-
-impl From<AllocError> for Refused {
-    ghost from_gives = { λ _ refused. refused ≡ Memory };
-
-    fn from(_error: AllocError) -> Refused {
-        Refused::Memory
-    }
 }

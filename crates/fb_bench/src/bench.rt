@@ -4,14 +4,15 @@ ghost use Rattle.fb_jobs.specs.Reads.{stale, is_current};
 ghost use Rattle.fb_jobs.specs.Values.{all_seen, seen_of};
 ghost use Rattle.fb_bench.specs.Records.{job_in};
 
-use crate::answers::{Answered, Asked, Committed, Delivered, GivenBack, Refused, Taken};
+use crate::answers::{Answered, Taken};
 use crate::commit::{Outcome, first_changes, outcome_of, record_with_room};
-use crate::entries::Entries;
-use crate::entry::{join, keep, leave, mark_out};
-use crate::limits::Limits;
-use crate::log::History;
 use crate::peek::Shown;
-use crate::record::{Call, Record, Reply, Request, TextChange};
+use crate::request::{Request, call_of_result, reply_of_job};
+use fb_entries::{Entries, join, keep, leave, mark_out};
+use fb_history::{
+    Asked, Call, Committed, Delivered, GivenBack, History, Limits, Record, Refused, Reply,
+    TextChange,
+};
 use fb_index::Index;
 use fb_jobs::library::{Change, Library};
 use fb_jobs::{Finished, Job, Key, Read, current_reads, locality};
@@ -33,7 +34,7 @@ pub struct Bench {
 }
 
 impl Model for Bench {
-    ghost use Rattle.fb_bench.specs.Story.{Story, start, story_of};
+    ghost use Rattle.fb_history.specs.Story.{Story, start, story_of};
 
     ghost Value = { Story };
 
@@ -49,18 +50,18 @@ impl Bench {
     ghost use Rattle.std.specs.Option.{option_map};
     ghost use Rattle.std.specs.List.Sorted.{IsStrictlySortedBy};
     ghost use Rattle.fb_jobs.specs.KeyOrder.{key_cmp};
-    ghost use Rattle.fb_bench.specs.Machine.{ToTake, ToDeliver, ToGiveBack, ToAsk, OfCommit, OfTake, OfDeliver, OfGiveBack, OfAsk, shown, next, deliver_answer, keys_of};
+    ghost use Rattle.fb_history.specs.Machine.{ToTake, ToDeliver, ToGiveBack, ToAsk, OfCommit, OfTake, OfDeliver, OfGiveBack, OfAsk, shown, next, deliver_answer, keys_of};
     ghost use Rattle.fb_jobs.specs.Keys.{scratch};
     ghost use Rattle.fb_jobs.specs.Reads.{read_texts};
     ghost use Rattle.fb_jobs.specs.Values.{all_seen};
-    ghost use Rattle.fb_bench.specs.declared.answers.Delivered.TheVariants.{Accepted};
-    ghost use Rattle.fb_bench.specs.Story.{IsOrigin, IsFull, new_story, state_of, reply_at, recorded, record_of, record_at, calls_of, IsReplay, AreTurns};
+    ghost use Rattle.fb_history.specs.declared.answers.Delivered.TheVariants.{Accepted};
+    ghost use Rattle.fb_history.specs.Story.{IsOrigin, IsFull, new_story, state_of, reply_at, recorded, record_of, record_at, calls_of, IsReplay, AreTurns};
     ghost use Rattle.fb_bench.specs.Records.{call_of, reply_of, shown_in, job_in, commit_of};
     ghost use Rattle.fb_bench.specs.Refusals.{IsFullRefusal};
     ghost use Rattle.fb_bench.specs.Requests.{call_for, reply_in};
     ghost use Rattle.fb_bench.specs.Peeks.{shown_by, is_pending};
-    ghost use Rattle.fb_bench.specs.Due.{is_due};
-    ghost use Rattle.fb_bench.specs.Laws.{entry_after};
+    ghost use Rattle.fb_history.specs.Due.{is_due};
+    ghost use Rattle.fb_history.specs.Laws.{entry_after};
     ghost use Rattle.fb_jobs.specs.Library.Texts.{held, revision_of};
 
     /// An empty workbench. It keeps the allocator for all its calls.
@@ -261,7 +262,7 @@ impl Bench {
     {
         let wanted = key;
         let job = Job::make(self.alloc, &self.library, wanted, &self.entries)?;
-        let answer = Reply::of_job(self.alloc, &job)?;
+        let answer = reply_of_job(self.alloc, &job)?;
         Ok((job, answer))
     }
 
@@ -377,7 +378,7 @@ impl Bench {
             return Err(Refused::HistoryFull);
         }
         let answer = self.judged(finished.key(), finished.reads());
-        let call = Call::of_result(self.alloc, finished)?;
+        let call = call_of_result(self.alloc, finished)?;
         match answer {
             Delivered::Accepted => {
                 current_reads();

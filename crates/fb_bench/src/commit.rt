@@ -3,17 +3,15 @@ ghost use Rattle.std.specs.Prelude.{◌≡◌, ◌+◌, ◌<◌, length, map, ta
 ghost use Rattle.fb_jobs.specs.Library.Texts.{unit_of};
 ghost use Rattle.fb_jobs.specs.Library.Changes.{edit_of, edits_of};
 ghost use Rattle.fb_jobs.specs.Reads.{is_among};
-ghost use Rattle.fb_bench.specs.Machine.{most_changes, first_repeated, misfit, first_misfit, refusal};
-ghost use Rattle.fb_bench.specs.Indexed.{IsIndexOf};
-ghost use Rattle.fb_bench.specs.Outcomes.{IsOutcome, MakesRoom, LosesRoom};
+ghost use Rattle.fb_history.specs.Machine.{most_changes, first_repeated, misfit, first_misfit, refusal};
+ghost use Rattle.fb_entries.specs.Indexed.{IsIndexOf};
+ghost use Rattle.fb_bench.specs.Outcomes.{IsOutcome};
+ghost use Rattle.fb_entries.specs.Found.{MakesRoom, LosesRoom};
 ghost use Rattle.fb_bench.specs.Records.{call_of, reply_of};
-ghost use Rattle.fb_bench.specs.Story.{logged, record_after};
+ghost use Rattle.fb_history.specs.Story.{logged, record_after};
 
-use crate::answers::Committed;
-use crate::entries::{Entries, Found};
-use crate::log::History;
-use crate::record::{Call, Record, Reply};
-use crate::renewal::Renewal;
+use fb_entries::{Entries, Found, Renewal};
+use fb_history::{Call, Committed, History, Record, Reply};
 use fb_index::Index;
 use fb_jobs::library::{Change, Library};
 use fb_text::{Name, same_name};

@@ -2,8 +2,9 @@
 ghost use Rattle.std.specs.Prelude.{◌≡◌};
 ghost use Rattle.fb_bench.specs.Refusals.{as_desk};
 
-use crate::answers::{Asked, Committed, Delivered, GivenBack, Refused, Taken};
+use crate::answers::Taken;
 use crate::bench::Bench;
+use fb_history::{Asked, Committed, Delivered, GivenBack, Refused};
 use fb_jobs::library::Change;
 use fb_jobs::{Finished, Key};
 
@@ -20,7 +21,7 @@ pub enum DeskRefused {
 
 /// The five recorded calls, as one session makes them.
 pub trait Desk {
-    ghost use Rattle.fb_bench.specs.Machine.{Call, ToCommit, ToTake, ToDeliver, ToGiveBack, ToAsk, OfCommit, OfDeliver, OfGiveBack};
+    ghost use Rattle.fb_history.specs.Machine.{Call, ToCommit, ToTake, ToDeliver, ToGiveBack, ToAsk, OfCommit, OfDeliver, OfGiveBack};
     ghost use Rattle.fb_bench.specs.Records.{listed};
     ghost use Rattle.fb_bench.specs.Calls.{Answer, Serves, take_reply, ask_reply};
 

@@ -5,25 +5,18 @@ mod answers;
 mod bench;
 mod commit;
 mod desk;
-mod entries;
-mod entry;
-mod keys;
-mod laws;
-mod limits;
-mod log;
 mod peek;
-mod reach;
-mod record;
-mod renewal;
-mod same;
+mod request;
 
-pub use answers::{Answered, Asked, Committed, Delivered, GivenBack, Refused, Taken};
+pub use answers::{Answered, Taken};
 pub use bench::Bench;
 pub use desk::{Desk, DeskRefused, Solo};
-pub use laws::{entries_follow_the_texts, reach_before_and_after};
-pub use limits::Limits;
+pub use fb_history::{
+    Asked, Call, Committed, Delivered, GivenBack, Limits, Record, Refused, Reply, TextChange,
+    Wanted, entries_follow_the_texts, reach_before_and_after,
+};
 pub use peek::Shown;
-pub use record::{Call, Record, Reply, Request, TextChange, Wanted};
+pub use request::Request;
 
 /// Of `fb_jobs::deploy`, for the crates above.
 pub mod deploy {

@@ -23,7 +23,7 @@ use Rattle.fb_locked.specs.Bench.Tree.contracts.declaration.TypeDeclaration as T
 use Rattle.fb_locked.specs.Bench.Tree.contracts.declaration.Decl as Decl
 use Rattle.fb_locked.specs.Bench.Parse.contracts.body.Body as Body
 use Rattle.fb_locked.specs.Bench.Parse.contracts.source.Source as Source
-use Rattle.fb_locked.specs.Bench.contracts.record.Wanted as Wanted
+use Rattle.fb_locked.specs.Bench.History.contracts.record.Wanted as Wanted
 use Rattle.fb_locked.specs.Bench.Iface.contracts.fault.Fault as Fault
 use Rattle.fb_locked.specs.Bench.Network.contracts.path.Path as Path
 use Rattle.fb_locked.specs.Bench.Network.contracts.flat.FlatBlock as FlatBlock
@@ -36,10 +36,10 @@ use Rattle.fb_locked.specs.Bench.Deploy.contracts.command.Command as Command
 use Rattle.fb_locked.specs.Bench.Deploy.contracts.resources.ResourcePlan as ResourcePlan
 use Rattle.fb_locked.specs.Bench.Deploy.contracts.planning.Deploy as Deploy
 use Rattle.fb_locked.specs.Bench.Jobs.contracts.value.Value as Value
-use Rattle.fb_locked.specs.Bench.contracts.record.Call as Call
-use Rattle.fb_locked.specs.Bench.contracts.answers.Asked as Asked
-use Rattle.fb_locked.specs.Bench.contracts.record.Reply as Reply
-use Rattle.fb_locked.specs.Bench.contracts.record.Record as Record
+use Rattle.fb_locked.specs.Bench.History.contracts.record.Call as Call
+use Rattle.fb_locked.specs.Bench.History.contracts.answers.Asked as Asked
+use Rattle.fb_locked.specs.Bench.History.contracts.record.Reply as Reply
+use Rattle.fb_locked.specs.Bench.History.contracts.record.Record as Record
 use Rattle.fb_locked.specs.contracts.seat.Receipt as Receipt
 use Rattle.fb_locked.specs.contracts.seat.Seat as Seat
 use Rattle.fb_locked.specs.Bench.Library.contracts.library.Library as Library

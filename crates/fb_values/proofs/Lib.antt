@@ -1,6 +1,7 @@
 pub mod Alike
 pub mod KeyLemmas
 pub mod KindLemmas
+pub mod Order
 pub mod SameNeeds
 pub mod Sources
 -- Passed on to the crates above, which do not list these libraries.

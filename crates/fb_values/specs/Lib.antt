@@ -5,6 +5,7 @@ pub mod Kinds
 pub mod Reads
 pub mod Values
 pub mod Kept
+pub mod Reach
 -- Passed on to the crates above, which do not list these libraries.
 pub use Rattle.fb_deploy.specs.Tree as Tree
 pub use Rattle.fb_deploy.specs.Parse as Parse

@@ -8,7 +8,7 @@ use Rattle.fb_bench.specs.Calls.{Answer, Replied, FullHistory, BehindHistory, Se
 use Rattle.fb_bench.specs.Jobs.Reads.{PlainJob}
 use Rattle.std.specs.Result.{result_ok}
 use Rattle.fb_bench.specs.declared.answers.Taken.{Taken}
-use Rattle.fb_bench.specs.declared.answers.Delivered.{Delivered}
+use Rattle.fb_bench.specs.History.declared.answers.Delivered.{Delivered}
 use Rattle.fb_wire.specs.declared.answer.Round.{Round}
 use Rattle.fb_bench.specs.declared.desk.DeskRefused.{DeskRefused}
 use Rattle.fb_bench.specs.declared.desk.DeskRefused.TheVariants.{HistoryFull, Behind, Memory}

@@ -8,7 +8,7 @@ use Rattle.fb_bench.specs.Library.Texts.{Edit, Puts, Removes}
 use Rattle.fb_bench.specs.Jobs.Reads.{PlainJob}
 use Rattle.fb_bench.specs.Machine.{most_changes, Call, ToCommit, ToTake, ToDeliver, ToGiveBack, ToAsk, OfTake, OfDeliver}
 use Rattle.fb_bench.specs.Calls.{Answer, Replied, FullHistory, BehindHistory}
-use Rattle.fb_bench.specs.declared.answers.Delivered.TheVariants.{Accepted}
+use Rattle.fb_bench.specs.History.declared.answers.Delivered.TheVariants.{Accepted}
 use Rattle.fb_wire.specs.Lines.{Fits, is_blank}
 use Rattle.fb_messages.specs.Replies.{refused, work_done, work_refused, reply_line}
 use Rattle.fb_wire.specs.Said.{said_to}

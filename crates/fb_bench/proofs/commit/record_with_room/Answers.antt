@@ -1,5 +1,5 @@
 -- The room is taken back where the commit could not be recorded.
-use Rattle.fb_bench.proofs.Renewals.{taken_back}
+use Rattle.fb_entries.proofs.Findings.{taken_back}
 use Rattle.fb_bench.proofs.commit.record_with_room.Goals as goal
 
 pub returns-in-Err-clause-back : goal.returns-in-Err-clause-back

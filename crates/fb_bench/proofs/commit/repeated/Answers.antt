@@ -3,7 +3,7 @@ use Rattle.std.proofs.Common.{◌≡◌, [], map, Some, None, sym, ◌∙◌, ar
 use Rattle.std.proofs.lemmas.Grind.{common_steps}
 use Rattle.fb_jobs.specs.Library.Texts.{unit_of}
 use Rattle.fb_jobs.specs.Library.Changes.{edits_of}
-use Rattle.fb_bench.proofs.Again.{repeated_after, again}
+use Rattle.fb_entries.proofs.Again.{repeated_after, again}
 use Rattle.fb_bench.proofs.commit.repeated.Goals as goal
 
 pub returns-then-is_changed : goal.returns-then-is_changed

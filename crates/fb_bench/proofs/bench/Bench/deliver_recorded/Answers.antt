@@ -2,12 +2,13 @@
 use Rattle.std.proofs.Common.{◌≡◌, sym, ap, subst, refl, ◌∙◌, arith, rules}
 use Rattle.fb_jobs.specs.Reads.{PlainJob}
 use Rattle.fb_jobs.specs.Values.{all_seen}
-use Rattle.fb_bench.specs.declared.answers.Delivered.TheVariants.{Accepted}
-use Rattle.fb_bench.specs.Machine.{State, ToDeliver, deliver_answer}
-use Rattle.fb_bench.specs.Story.{Story, state_of, start, logged, record_after}
+use Rattle.fb_history.specs.declared.answers.Delivered.TheVariants.{Accepted}
+use Rattle.fb_history.specs.Machine.{State, ToDeliver, deliver_answer}
+use Rattle.fb_history.specs.Story.{Story, state_of, start, logged, record_after}
 use Rattle.fb_bench.specs.Kept.{Agrees}
 use Rattle.fb_bench.proofs.Marks.{accepted_fresh, deliver_stays}
-use Rattle.fb_bench.proofs.Steps.{kept_pushed, story_pushed, share_pushed, delivers_is, delivered_is}
+use Rattle.fb_bench.proofs.Keeping.{kept_pushed}
+use Rattle.fb_history.proofs.Steps.{story_pushed, share_pushed, delivers_is, delivered_is}
 use Rattle.fb_bench.proofs.bench.Bench.deliver_recorded.Goals as goal
 
 pub take_in-requires : goal.take_in-requires

@@ -2,9 +2,9 @@
 use Rattle.std.proofs.Common.{subst}
 use Rattle.std.specs.List.Sorted.{IsStrictlySortedBy}
 use Rattle.fb_jobs.specs.KeyOrder.{key_cmp}
-use Rattle.fb_bench.specs.Machine.{keys_of}
-use Rattle.fb_bench.specs.Story.{Story, start, state_of}
-use Rattle.fb_bench.proofs.Sorted.{keys_rise}
+use Rattle.fb_history.specs.Machine.{keys_of}
+use Rattle.fb_history.specs.Story.{Story, start, state_of}
+use Rattle.fb_history.proofs.Sorted.{keys_rise}
 use Rattle.fb_bench.proofs.bench.Bench.key_at.Goals as goal
 
 pub returns-clause-ordered : goal.returns-clause-ordered

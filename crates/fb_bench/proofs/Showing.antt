@@ -1,0 +1,27 @@
+-- What is shown as pending is due.
+use Rattle.std.proofs.Common.{◌≡◌, Bool, true, false, ◌&&◌, not, refl, cond}
+use Rattle.fb_jobs.specs.declared.key.Key.{Key}
+use Rattle.fb_jobs.specs.Keys.{Finding, has_key, scratch}
+use Rattle.fb_history.specs.Machine as machine
+use Rattle.fb_history.specs.Machine.{Finds, Waits, Unknown}
+use Rattle.fb_history.specs.Story.{Story, IsOrigin, opened, calls_of, state_of}
+use Rattle.fb_history.specs.Due.{due_from, is_due}
+use Rattle.fb_bench.specs.declared.peek.Shown.{Shown}
+use Rattle.fb_bench.specs.declared.peek.Shown.TheVariants.{NoSuchKey, Pending, Value}
+use Rattle.fb_bench.specs.Peeks.{shown_by, is_pending}
+use Rattle.fb_history.proofs.Dues.{pending_is_due}
+
+shown_bits : (r : Shown) (h p d : Bool) (f : Finding) → p ≡ (h && d) → shown_by r ≡ cond (not h) Unknown (cond p Waits (Finds f)) → is_pending r ≡ (h && d)
+shown_bits NoSuchKey false p d f is e = refl
+shown_bits Pending false p d f is e = cc
+shown_bits (Value v) false p d f is e = cc
+shown_bits NoSuchKey true true d f is e = cc
+shown_bits NoSuchKey true false d f is e = cc
+shown_bits Pending true true d f is e = is
+shown_bits Pending true false d f is e = cc
+shown_bits (Value v) true true d f is e = cc
+shown_bits (Value v) true false d f is e = is
+
+-- what is shown as pending is due
+pub due_shown : (r : Shown) (story : Story) (k : Key) → IsOrigin story.origin → shown_by r ≡ machine.shown (state_of story) k → is_pending r ≡ is_due story k
+due_shown r story k begins e = shown_bits r (has_key (state_of story).units k) ((state_of story).pending k) (due_from (opened story.origin) (calls_of story.log) k) (scratch (state_of story).units k) (pending_is_due story k begins) e

@@ -1,9 +1,0 @@
-use Rattle.std.proofs.Common.{◌≡◌, take, drop, None}
-use Rattle.fb_bench.proofs.Again.{repeated_after}
-use Rattle.fb_bench.proofs.Indexing.{IsReindexed}
-use Rattle.fb_bench.proofs.reach.reindexed.Given as goal
-
-abbrev pub invariant-loop-unit : goal.invariant-loop-unit
-invariant-loop-unit l =
-    (repeated_after (take l.unit-index l.units) (drop l.unit-index l.units) ≡ None)
-    × IsReindexed l.before l.after (take l.unit-index l.units) l.fn.index l.index

@@ -1,0 +1,41 @@
+//! Calls to be made, and what is recorded of jobs and results.
+ghost use Rattle.std.specs.Prelude.{◌≡◌, IfOk, Some};
+ghost use Rattle.fb_history.specs.Machine.{ToDeliver, OfTake};
+ghost use Rattle.fb_history.specs.Records.{call_of, reply_of};
+
+use fb_history::{Call, Reply, Wanted};
+use fb_jobs::library::Change;
+use fb_jobs::{Finished, Job, Key};
+use std::alloc::{AllocError, Global};
+
+/// A call to be made.
+#[derive(Clone, Copy)]
+pub enum Request<'a> {
+    Commit(&'a [Change]),
+    Take,
+    Deliver(&'a Finished),
+    GiveBack(Key),
+    Ask(Key),
+}
+
+/// The delivery of a result, sharing its texts.
+pub(crate) fn call_of_result(alloc: Global, finished: &Finished) -> Result<Call, AllocError>
+    ensures { IfOk result (λ it. call_of it ≡ ToDeliver finished.now) }
+{
+    let wanted = Wanted {
+        key: finished.key(),
+        reads: finished.texts().clone()?,
+    };
+    Ok(Call::Deliver(Box::new(alloc, wanted)?))
+}
+
+/// The job that is handed out, sharing its texts.
+pub(crate) fn reply_of_job(alloc: Global, job: &Job) -> Result<Reply, AllocError>
+    ensures { IfOk result (λ it. reply_of it ≡ OfTake (Some job.now)) }
+{
+    let wanted = Wanted {
+        key: job.key(),
+        reads: job.texts().clone()?,
+    };
+    Ok(Reply::Taking(Some(Box::new(alloc, wanted)?)))
+}

@@ -1,0 +1,4 @@
+pub mod Marking
+pub mod Renew
+pub mod Indexed
+pub mod Found

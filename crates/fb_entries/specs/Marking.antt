@@ -1,0 +1,81 @@
+-- What small steps write to entries and to sets of keys.
+use Rattle.std.specs.Prelude.{◌≡◌, Bool, true, false, List, Option, Some, None, is_none, if◌then◌else◌}
+use Rattle.std.specs.List.{list_any}
+use Rattle.std.specs.Option.{option_map}
+use Rattle.std.specs.BTreeMap as tree
+use Rattle.std.specs.BTreeSet as set
+use Rattle.std.specs.declared.sync.Arc.{Arc}
+use Rattle.std.specs.declared.alloc.Global.{Global}
+use Rattle.fb_values.specs.declared.key.Key.{Key}
+use Rattle.fb_values.specs.declared.value.Value.{Value}
+use Rattle.fb_values.specs.KeyOrder.{key_cmp, same_key}
+use Rattle.fb_entries.specs.declared.entry.Entry.{Entry}
+
+-- whether the key is one of these
+abbrev pub is_of : Key → List Key → Bool
+is_of key keys = list_any (same_key key) keys
+
+-- ---- entries
+
+-- an entry that waits for a result
+abbrev pub blank : Entry
+blank = record { value = None; out = false }
+
+-- an entry with this handed-out mark
+abbrev pub with_out : Bool → Entry → Entry
+with_out out it = record it { out = out }
+
+-- an entry that is not handed out, with this value
+abbrev pub with_value : Arc Value Global → Entry → Entry
+with_value value it = record it { value = Some value; out = false }
+
+-- the entry of a key that is to wait for a result or not
+abbrev pub waiting_if : Bool → Option Entry → Option Entry
+waiting_if renewed it = if renewed then option_map (λ (old : Entry). blank) it else it
+
+-- the entry of the key, if there is one, is changed, and no other
+abbrev pub ChangesEntry : Key → (Entry → Entry) → tree.BTreeMap Key Entry → tree.BTreeMap Key Entry → Type 0
+ChangesEntry key change old new =
+    (other : Key) → tree.get key_cmp new other ≡ (if same_key key other then option_map change (tree.get key_cmp old other) else tree.get key_cmp old other)
+
+-- the entry of the key, if there is one, waits for a result, and no other is changed
+abbrev pub RenewsEntry : Key → tree.BTreeMap Key Entry → tree.BTreeMap Key Entry → Type 0
+RenewsEntry key old new = (other : Key) → tree.get key_cmp new other ≡ waiting_if (same_key key other) (tree.get key_cmp old other)
+
+-- the same for each of these keys
+abbrev pub RenewsEntries : List Key → tree.BTreeMap Key Entry → tree.BTreeMap Key Entry → Type 0
+RenewsEntries keys old new = (other : Key) → tree.get key_cmp new other ≡ waiting_if (is_of other keys) (tree.get key_cmp old other)
+
+-- these keys have no entry any more, and no other entry is changed
+abbrev pub LosesEntries : List Key → tree.BTreeMap Key Entry → tree.BTreeMap Key Entry → Type 0
+LosesEntries keys old new = (other : Key) → tree.get key_cmp new other ≡ (if is_of other keys then None else tree.get key_cmp old other)
+
+-- no entry is changed but those of these keys
+abbrev pub KeepsOtherEntries : List Key → tree.BTreeMap Key Entry → tree.BTreeMap Key Entry → Type 0
+KeepsOtherEntries keys old new = (other : Key) → is_of other keys ≡ false → tree.get key_cmp new other ≡ tree.get key_cmp old other
+
+-- each of these keys has an entry
+abbrev pub HasEntries : List Key → tree.BTreeMap Key Entry → Type 0
+HasEntries keys entries = (other : Key) → is_of other keys ≡ true → is_none (tree.get key_cmp entries other) ≡ false
+
+-- ---- sets of keys
+
+-- both have the same keys
+abbrev pub SameKeys : set.BTreeSet Key → set.BTreeSet Key → Type 0
+SameKeys old new = (other : Key) → set.contains key_cmp new other ≡ set.contains key_cmp old other
+
+-- the key is in the set now or not, and all else is as it was
+abbrev pub MarksKey : Key → Bool → set.BTreeSet Key → set.BTreeSet Key → Type 0
+MarksKey key mark old new = (other : Key) → set.contains key_cmp new other ≡ (if same_key key other then mark else set.contains key_cmp old other)
+
+-- these keys are no longer in the set, and all else is as it was
+abbrev pub LosesKeys : List Key → set.BTreeSet Key → set.BTreeSet Key → Type 0
+LosesKeys keys old new = (other : Key) → set.contains key_cmp new other ≡ (if is_of other keys then false else set.contains key_cmp old other)
+
+-- no key has joined or left but these
+abbrev pub KeepsOtherKeys : List Key → set.BTreeSet Key → set.BTreeSet Key → Type 0
+KeepsOtherKeys keys old new = (other : Key) → is_of other keys ≡ false → set.contains key_cmp new other ≡ set.contains key_cmp old other
+
+-- each of these keys is in the set
+abbrev pub HasKeys : List Key → set.BTreeSet Key → Type 0
+HasKeys keys members = (other : Key) → is_of other keys ≡ true → set.contains key_cmp members other ≡ true

@@ -1,0 +1,51 @@
+//! What changed units reach, by the index of what each unit mentions.
+ghost use Rattle.std.specs.Prelude.{◌≡◌, ◌↔◌, true, None, IfOk};
+ghost use Rattle.fb_values.specs.declared.key.Key.{Key};
+ghost use Rattle.fb_values.specs.Reach.{first_repeated};
+ghost use Rattle.fb_entries.specs.Indexed.{IsIndexOf, IsReached};
+ghost use Rattle.fb_values.specs.Reach.{AgreeApartFrom};
+ghost use Rattle.fb_entries.specs.Marking.{is_of};
+
+use fb_index::Index;
+use fb_text::Name;
+use fb_values::library::{Library, near};
+use fb_values::{Key, keys_near_and_far};
+use std::alloc::{AllocError, Global};
+
+/// The index of the library after, which has other texts than the one before under these names alone.
+pub(crate) fn reindexed(
+    alloc: Global,
+    index: &Index,
+    before: &Library,
+    after: &Library,
+    units: &[Name],
+) -> Result<Index, AllocError>
+    requires known { IsIndexOf before.now index.now }
+    requires once { first_repeated units.now ≡ None }
+    requires others { AgreeApartFrom units.now before.now after.now }
+    ensures { IfOk result (IsIndexOf after.now) }
+{
+    let mut index = index.copy()?;
+    for unit in units {
+        let old = near(alloc, before, *unit)?;
+        let new = near(alloc, after, *unit)?;
+        index.replace(alloc, *unit, &old, &new)?;
+    }
+    Ok(index)
+}
+
+/// The keys whose values one of the changed names decides: those of what the name is far of for the kinds that need all that a
+/// unit rests on, those of what it is near for the others.
+pub(crate) fn reached_keys(
+    alloc: Global,
+    index: &Index,
+    changed: &[Name],
+) -> Result<Vec<Key>, AllocError>
+    ensures { IfOk result
+        (λ keys. (key : Key) → (is_of key keys.items ≡ true)
+        ↔ IsReached index.now changed.now key.kind key.unit) }
+{
+    let near = index.near_of(alloc, changed)?;
+    let far = index.far_of(alloc, changed)?;
+    keys_near_and_far(alloc, &near, &far)
+}

@@ -1,0 +1,181 @@
+//! What a commit does to the entries: found and made room for first, and then only written.
+ghost use Rattle.std.specs.Prelude.{◌≡◌, not, is_none, map, filter, IfOk, OnOk};
+ghost use Rattle.std.specs.BTreeMap as tree;
+ghost use Rattle.std.specs.BTreeSet as set;
+ghost use Rattle.fb_values.specs.Library.Texts.{unit_of};
+ghost use Rattle.fb_values.specs.Library.Changes.{edits_of};
+ghost use Rattle.fb_values.specs.Keys.{has_key};
+ghost use Rattle.fb_values.specs.KeyOrder.{key_cmp};
+ghost use Rattle.fb_entries.specs.Marking.{KeepsOtherEntries, HasEntries, LosesEntries, RenewsEntries, KeepsOtherKeys, HasKeys, LosesKeys};
+ghost use Rattle.fb_entries.specs.Renew.{AreKeys, have_entries, items_or};
+
+use crate::entry::{Entry, join, leave, renew};
+use crate::keys::present_keys;
+use fb_text::Name;
+use fb_values::library::{Change, Library};
+use fb_values::{Key, has_key};
+use std::alloc::{AllocError, Global};
+use std::collections::{BTreeMap, BTreeSet};
+
+/// The keys that a commit makes, reaches and ends. Nothing is changed by finding them.
+#[derive(Drop)]
+pub struct Renewal {
+    /// New keys, which have no entry yet.
+    pub fresh: Vec<Key>,
+    /// Keys of changed units that the new texts don't have.
+    pub gone: Vec<Key>,
+    /// New and reached keys, which are to wait for a result, and which of them are to join the sets.
+    pub renewed: Vec<Key>,
+    pub unready: Vec<Key>,
+    pub unwaiting: Vec<Key>,
+}
+
+/// The units of the changes.
+pub(crate) fn changed_units(alloc: Global, changes: &[Change]) -> Result<Vec<Name>, AllocError>
+    ensures { IfOk result (λ names. names.items ≡ map unit_of (edits_of changes.now)) }
+{
+    let mut names = Vec::new(alloc);
+    for change in changes {
+        names.push(change.unit())?;
+    }
+    Ok(names)
+}
+
+/// The keys of these that have no entry.
+pub(crate) fn without_entry(
+    alloc: Global,
+    entries: &BTreeMap<Key, Entry>,
+    keys: &[Key],
+) -> Result<Vec<Key>, AllocError>
+    ensures { IfOk result
+        (λ fresh. fresh.items
+        ≡ filter (λ key. is_none (tree.get key_cmp entries.now key)) keys.now) }
+{
+    let mut fresh = Vec::new(alloc);
+    for key in keys {
+        if !entries.contains_key(key) {
+            fresh.push(*key)?;
+        }
+    }
+    Ok(fresh)
+}
+
+/// The keys of these that the library doesn't have.
+pub(crate) fn absent(alloc: Global, library: &Library, keys: &[Key]) -> Result<Vec<Key>, AllocError>
+    ensures { IfOk result
+        (λ gone. gone.items ≡ filter (λ key. not (has_key library.now key)) keys.now) }
+{
+    let mut gone = Vec::new(alloc);
+    for key in keys {
+        if !has_key(library, *key) {
+            gone.push(*key)?;
+        }
+    }
+    Ok(gone)
+}
+
+/// The keys of these that are not in the set.
+pub(crate) fn not_in(
+    alloc: Global,
+    keys: &BTreeSet<Key>,
+    all: &[Key],
+) -> Result<Vec<Key>, AllocError>
+    ensures { IfOk result
+        (λ others. others.items ≡ filter (λ key. not (set.contains key_cmp keys.now key)) all.now) }
+{
+    let mut others = Vec::new(alloc);
+    for key in all {
+        if !keys.contains(key) {
+            others.push(*key)?;
+        }
+    }
+    Ok(others)
+}
+
+/// Whether one of the keys has an entry.
+fn have_entries(entries: &BTreeMap<Key, Entry>, keys: &[Key]) -> bool
+    ensures { result ≡ have_entries entries.now keys.now }
+{
+    keys.iter().any(|key| entries.contains_key(key))
+}
+
+impl Renewal {
+    /// The keys of the library, where they are not those that have entries.
+    pub(crate) fn keys(
+        &self,
+        alloc: Global,
+        library: &Library,
+        entries: &BTreeMap<Key, Entry>,
+    ) -> Result<Option<Vec<Key>>, AllocError>
+        ensures { IfOk result
+            (λ keys. AreKeys library.now entries.now
+            self.now.fresh.items self.now.gone.items keys) }
+    {
+        if self.fresh.is_empty() && !have_entries(entries, &self.gone) {
+            return Ok(None);
+        }
+        Ok(Some(present_keys(alloc, library)?))
+    }
+}
+
+/// Puts other keys in the place of these, if there are others.
+pub(crate) fn replace(keys: &mut Vec<Key>, others: Option<Vec<Key>>)
+    ensures { keys.new.items ≡ items_or others keys.old.items }
+{
+    if let Some(others) = others {
+        *keys = others;
+    }
+}
+
+/// Makes an entry that waits for a result for each of these keys.
+pub(crate) fn put_blank(entries: &mut BTreeMap<Key, Entry>, keys: &[Key]) -> Result<(), AllocError>
+    ensures others { KeepsOtherEntries keys.now entries.old entries.new }
+    ensures there { OnOk result (HasEntries keys.now entries.new) }
+{
+    for key in keys {
+        let blank = Entry {
+            value: None,
+            out: false,
+        };
+        if entries.insert(*key, blank).is_err() {
+            return Err(AllocError);
+        }
+    }
+    Ok(())
+}
+
+/// Takes the entries of these keys out.
+pub(crate) fn take_out(entries: &mut BTreeMap<Key, Entry>, keys: &[Key])
+    ensures { LosesEntries keys.now entries.old entries.new }
+{
+    for key in keys {
+        let _ = entries.remove(key);
+    }
+}
+
+pub(crate) fn join_all(members: &mut BTreeSet<Key>, keys: &[Key]) -> Result<(), AllocError>
+    ensures others { KeepsOtherKeys keys.now members.old members.new }
+    ensures there { OnOk result (HasKeys keys.now members.new) }
+{
+    for key in keys {
+        join(members, key)?;
+    }
+    Ok(())
+}
+
+pub(crate) fn leave_all(members: &mut BTreeSet<Key>, keys: &[Key])
+    ensures { LosesKeys keys.now members.old members.new }
+{
+    for key in keys {
+        leave(members, key);
+    }
+}
+
+/// Lets all of these keys wait for a result.
+pub(crate) fn renew_all(entries: &mut BTreeMap<Key, Entry>, keys: &[Key])
+    ensures { RenewsEntries keys.now entries.old entries.new }
+{
+    for key in keys {
+        renew(entries, key);
+    }
+}

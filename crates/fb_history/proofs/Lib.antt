@@ -1,0 +1,6 @@
+pub mod Steps
+pub mod Numbers
+pub mod Least
+pub mod Sorted
+pub mod Dues
+pub mod AfterCalls

@@ -1,0 +1,72 @@
+-- The records by number, and their turns.
+use Rattle.std.proofs.Common.{◌≡◌, ℕ, zero, suc, ◌+◌, ◌-◌, ◌<◌, ◌==◌, ◌⊎◌, inl, inr, true, List, [], ◌∷◌, ◌++◌, length, take, refl, sym, ap, ◌∙◌, subst, arith, Option, Some, None, cond, slice_get, ◌≤◌, get_or}
+use Rattle.std.specs.Option.{option_map}
+use Rattle.std.specs.declared.sync.Arc.{Arc}
+use Rattle.std.specs.declared.alloc.Global.{Global}
+use Rattle.std.proofs.lemmas.Option.{slice_get-map, slice_get_read, slice_get_past}
+use Rattle.std.proofs.lemmas.List.{map-append}
+use Rattle.std.proofs.lemmas.List.Sums.{sum_by_push}
+use Rattle.std.proofs.lemmas.Bool.Decides.{nat_tests}
+use Rattle.fb_history.specs.Story.{Record, record_at, turns_of, AreTurns}
+use Rattle.fb_history.specs.Records.{records_in}
+
+-- the record at a place
+pub record_found : (shares : List (Arc Record Global)) (place : ℕ) → slice_get (records_in shares) place ≡ option_map (λ (it : Arc Record Global). it.value) (slice_get shares place)
+record_found shares place = slice_get-map (λ (it : Arc Record Global). it.value) shares place
+
+-- the record of a number stands one place before it
+pub record_before : (records : List Record) (number : ℕ) → 0 < number → record_at records number ≡ slice_get records (number - 1)
+record_before records zero some = absurd (omega arith)
+record_before records (suc place) some = let e : place ≡ suc place - 1 = omega arith in ap (λ p. slice_get records p) e
+
+-- at a place of the longer list stands an earlier record, the new one, or none
+abbrev AtPlace : List Record → Record → ℕ → Type 0
+AtPlace records it place =
+    ((slice_get (records ++ it ∷ []) place ≡ slice_get records place) × (take (suc place) (records ++ it ∷ []) ≡ take (suc place) records))
+    ⊎ (((slice_get (records ++ it ∷ []) place ≡ Some it) × (take (suc place) (records ++ it ∷ []) ≡ records ++ it ∷ []))
+    ⊎ (slice_get (records ++ it ∷ []) place ≡ None))
+
+at_next : (first : Record) (records : List Record) (it : Record) (place : ℕ) → AtPlace records it place → AtPlace (first ∷ records) it (suc place)
+at_next first records it place (inl (same, front)) = inl (same, ap (λ rs. first ∷ rs) front)
+at_next first records it place (inr (inl (here, front))) = inr (inl (here, ap (λ rs. first ∷ rs) front))
+at_next first records it place (inr (inr past)) = inr (inr past)
+
+at_place : (records : List Record) (it : Record) (place : ℕ) → AtPlace records it place
+at_place [] it zero = inr (inl (refl, refl))
+at_place [] it (suc place) = inr (inr refl)
+at_place (first ∷ records) it zero = inl (refl, refl)
+at_place (first ∷ records) it (suc place) = at_next first records it place (at_place records it place)
+
+own_turn : (records : List Record) (it : Record) → turns_of it.caller (records ++ it ∷ []) ≡ turns_of it.caller records + 1
+own_turn records it =
+    sum_by_push (λ (r : Record). cond (r.caller == it.caller) 1 0) records it
+    ∙ (let same : (it.caller == it.caller) ≡ true = grind (arith, nat_tests) in ap (λ b. turns_of it.caller records + cond b 1 0) same)
+
+turn_at : (records : List Record) (it : Record) → AreTurns records → it.turn ≡ turns_of it.caller records + 1 → (place : ℕ) (found : Record) → AtPlace records it place → slice_get (records ++ it ∷ []) place ≡ Some found → found.turn ≡ turns_of found.caller (take (suc place) (records ++ it ∷ []))
+turn_at records it so_far turn place found (inl (same, front)) at = so_far (suc place) found (sym same ∙ at) ∙ ap (λ rs. turns_of found.caller rs) (sym front)
+turn_at records it so_far turn place found (inr (inl (here, front))) at =
+    let is : it ≡ found = cc in
+    subst (λ r. r.turn ≡ turns_of r.caller (take (suc place) (records ++ it ∷ []))) is (turn ∙ sym (own_turn records it) ∙ ap (λ rs. turns_of it.caller rs) (sym front))
+turn_at records it so_far turn place found (inr (inr past)) at = cc
+
+-- one more record with its turn
+pub turns_pushed : (records : List Record) (it : Record) → AreTurns records → it.turn ≡ turns_of it.caller records + 1 → AreTurns (records ++ it ∷ [])
+turns_pushed records it so_far turn zero found at = cc
+turns_pushed records it so_far turn (suc place) found at = turn_at records it so_far turn place found (at_place records it place) at
+
+found_at : (shares : List (Arc Record Global)) (number : ℕ) (found : Option (Arc Record Global)) → 0 < number → slice_get shares (number - 1) ≡ found → option_map (λ (it : Arc Record Global). it.value) found ≡ record_at (records_in shares) number
+found_at shares number found some at =
+    ap (λ o. option_map (λ (it : Arc Record Global). it.value) o) (sym at) ∙ sym (record_found shares (number - 1)) ∙ sym (record_before (records_in shares) number some)
+
+-- a share at the number's place shows its record
+pub record_here : (shares : List (Arc Record Global)) (number : ℕ) (it : Arc Record Global) → 0 < number → number - 1 < length shares → it ≡ get_or shares (number - 1) it → Some it.value ≡ record_at (records_in shares) number
+record_here shares number it some within here = found_at shares number (Some it) some (slice_get_read shares (length shares) (number - 1) it refl within here)
+
+-- there is no record past the end
+pub record_past : (shares : List (Arc Record Global)) (number : ℕ) → 0 < number → length shares ≤ number - 1 → None ≡ record_at (records_in shares) number
+record_past shares number some past = found_at shares number None some (slice_get_past shares (number - 1) past)
+
+-- the same of the shares
+pub turns_shared : (old new : List (Arc Record Global)) (it : Arc Record Global) → new ≡ old ++ it ∷ [] → AreTurns (records_in old) → it.value.turn ≡ turns_of it.value.caller (records_in old) + 1 → AreTurns (records_in new)
+turns_shared old new it is so_far turn =
+    subst (λ rs. AreTurns rs) (sym (ap records_in is ∙ map-append (λ (x : Arc Record Global). x.value) old (it ∷ []))) (turns_pushed (records_in old) it.value so_far turn)

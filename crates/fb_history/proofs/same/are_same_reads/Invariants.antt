@@ -1,0 +1,6 @@
+use Rattle.fb_values.specs.Values.{text_seen}
+use Rattle.fb_values.proofs.Alike.{SameLeft}
+use Rattle.fb_history.proofs.same.are_same_reads.Given as goal
+
+abbrev pub invariant-loop-place : goal.invariant-loop-place
+invariant-loop-place l = SameLeft text_seen l.a l.b l.place

@@ -1,0 +1,44 @@
+-- When a key waits, said by places in the list of calls.
+use Rattle.std.specs.Prelude.{Bool, false, ◌&&◌, ◌||◌, not, List, [], ◌∷◌, map, is_none}
+use Rattle.fb_values.specs.Library.Texts.{Edit, unit_of, all_edited}
+use Rattle.fb_values.specs.declared.key.Key.{Key}
+use Rattle.fb_values.specs.Keys.{has_key}
+use Rattle.fb_values.specs.KeyOrder.{same_key}
+use Rattle.fb_values.specs.Reads.{stale}
+use Rattle.fb_history.specs.declared.answers.Committed.{Committed}
+use Rattle.fb_history.specs.declared.answers.Committed.TheVariants.{Done}
+use Rattle.fb_history.specs.Machine.{State, Call, ToCommit, ToDeliver, commit_answer, reaches, after}
+use Rattle.fb_history.specs.Story.{Story, opened, state_of, calls_of}
+
+abbrev pub marks_done : Committed → State → List Edit → Key → Bool
+marks_done (Done commit) state edits key =
+    has_key (all_edited commit edits state.units) key && (not (has_key state.units key) || reaches (map unit_of edits) (all_edited commit edits state.units) key)
+marks_done _ state edits key = false
+
+-- a good commit that made the key or reached it
+abbrev pub marks : State → Call → Key → Bool
+marks state (ToCommit edits) key = marks_done (commit_answer state edits) state edits key
+marks state _ key = false
+
+-- a delivery for the key whose reads are current there
+abbrev pub settles : State → Call → Key → Bool
+settles state (ToDeliver order) key = same_key order.key key && is_none (stale state.units order.reads)
+settles state _ key = false
+
+-- some place settles the key
+unfoldable pub settled : State → List Call → Key → Bool
+settled state [] key = false
+settled state (call ∷ calls) key = settles state call key || settled (after state call) calls key
+
+-- some place marks the key, and none after it settles it
+unfoldable pub due : State → List Call → Key → Bool
+due state [] key = false
+due state (call ∷ calls) key = (marks state call key && not (settled (after state call) calls key)) || due (after state call) calls key
+
+-- pending where the calls begin, and settled by none of them, or due by one of them
+abbrev pub due_from : State → List Call → Key → Bool
+due_from state calls key = (state.pending key && not (settled state calls key)) || due state calls key
+
+-- a key of the present texts for which no current result has come since the last commit that made or reached it
+abbrev pub is_due : Story → Key → Bool
+is_due story key = has_key (state_of story).units key && due_from (opened story.origin) (calls_of story.log) key

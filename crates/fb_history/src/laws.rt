@@ -1,0 +1,19 @@
+//! Laws of a workbench: its entries follow its texts, whatever the calls are.
+ghost use Rattle.std.specs.Prelude.{ℕ, List};
+ghost use Rattle.fb_history.specs.Machine.{State};
+ghost use Rattle.fb_history.specs.Story.{Origin, IsOrigin, start};
+ghost use Rattle.fb_history.specs.Laws.{EntriesFollow, RefusalsStay, ReachAnywhere};
+
+/// After any list of calls, stale and foreign results among them, each entry that is not pending is what the
+/// present texts give from scratch, and it is pending exactly while no current result has come since the last
+/// commit that made or reached its key. A refused call changes no text, no entry and no handed-out mark.
+pub fn entries_follow_the_texts()
+    ensures entries { (origin : Origin) → IsOrigin origin → EntriesFollow origin }
+    ensures begins { (most_units : ℕ) → IsOrigin (start most_units) }
+    ensures refused { (state : State) → RefusalsStay state }
+{}
+
+/// Changed names reach a key in the texts before the change exactly where they reach it in those after it.
+pub fn reach_before_and_after()
+    ensures { (changed : List (List ℕ)) → ReachAnywhere changed }
+{}

@@ -1,0 +1,167 @@
+//! The records of a history. They keep texts, and no trees.
+ghost use Rattle.std.specs.Prelude.{◌≡◌, IfOk};
+ghost use Rattle.fb_values.specs.Library.Changes.{edit_of, edits_of};
+ghost use Rattle.fb_history.specs.Machine.{OfCommit, OfDeliver};
+ghost use Rattle.fb_history.specs.Records.{text_edit, text_edits, reply_of};
+
+use crate::answers::{Asked, Committed, Delivered, GivenBack};
+use crate::same::{is_same_call, is_same_reply};
+use fb_text::Name;
+use fb_values::library::Change;
+use fb_values::{Key, TextRead};
+use std::alloc::{AllocError, Global};
+use std::marker::Model;
+use std::sync::Arc;
+
+/// A key with the texts that a job for it has read.
+#[derive(Drop)]
+pub struct Wanted {
+    pub key: Key,
+    pub reads: Arc<Vec<TextRead>>,
+}
+
+/// A change as it is recorded.
+#[derive(Drop)]
+pub enum TextChange {
+    Put {
+        unit: Name,
+        base: u64,
+        text: Arc<String>,
+    },
+    Remove {
+        unit: Name,
+        base: u64,
+    },
+}
+
+impl TextChange {
+    fn of_change(change: &Change) -> Result<TextChange, AllocError>
+        ensures { IfOk result (λ it. text_edit it ≡ edit_of change.now) }
+    {
+        match change {
+            Change::Put { base, source } => {
+                let text = source.shared_text().clone()?;
+                Ok(TextChange::Put {
+                    unit: source.unit(),
+                    base: *base,
+                    text,
+                })
+            }
+            Change::Remove { unit, base } => Ok(TextChange::Remove {
+                unit: *unit,
+                base: *base,
+            }),
+        }
+    }
+
+    /// The changes as they are recorded, sharing their texts.
+    pub fn of_changes(alloc: Global, changes: &[Change]) -> Result<Vec<TextChange>, AllocError>
+        ensures { IfOk result (λ made. text_edits made.items ≡ edits_of changes.now) }
+    {
+        let mut made = Vec::with_capacity(alloc, changes.len())?;
+        for change in changes {
+            made.push(TextChange::of_change(change)?)?;
+        }
+        Ok(made)
+    }
+}
+
+/// A recorded call. It has room for a key, since most calls ask; what is larger stands in a box.
+#[derive(Drop)]
+pub enum Call {
+    Commit(Vec<TextChange>),
+    Take,
+    Deliver(Box<Wanted>),
+    GiveBack(Key),
+    Ask(Key),
+}
+
+/// The answer to a recorded call. What is large stands in a box.
+#[derive(Drop)]
+pub enum Reply {
+    Committing(Box<Committed>),
+    Taking(Option<Box<Wanted>>),
+    /// None where the result was taken in.
+    Delivering(Option<Box<Delivered>>),
+    GivingBack(GivenBack),
+    Asking(Asked),
+}
+
+impl Reply {
+    /// What a commit comes to.
+    pub fn of_commit(alloc: Global, answer: Committed) -> Result<Reply, AllocError>
+        ensures { IfOk result (λ it. reply_of it ≡ OfCommit answer) }
+    {
+        Ok(Reply::Committing(Box::new(alloc, answer)?))
+    }
+
+    /// Whether a result was taken in.
+    pub fn of_delivery(alloc: Global, answer: Delivered) -> Result<Reply, AllocError>
+        ensures { IfOk result (λ it. reply_of it ≡ OfDeliver answer) }
+    {
+        match answer {
+            Delivered::Accepted => Ok(Reply::Delivering(None)),
+            refused => Ok(Reply::Delivering(Some(Box::new(alloc, refused)?))),
+        }
+    }
+}
+
+/// One call of the history. `turn` counts its caller's recorded calls up to this one.
+#[derive(Drop)]
+pub struct Record {
+    pub(crate) caller: u32,
+    pub(crate) turn: u64,
+    pub(crate) call: Call,
+    pub(crate) reply: Reply,
+}
+
+impl Model for Record {
+    ghost use Rattle.fb_history.specs.Story as story;
+
+    ghost Value = { story.Record };
+
+    ghost use Rattle.fb_history.specs.Records.{call_of, reply_of};
+
+    ghost view = { λ it. record { caller = it.caller; turn = it.turn; call = call_of it.call; reply = reply_of it.reply } };
+}
+
+impl Record {
+    ghost use Rattle.std.specs.Prelude.{◌≡◌, ◌↔◌, IsTrue};
+    ghost use Rattle.fb_history.specs.Records.{call_of, reply_of};
+
+    /// Who made the call.
+    pub fn caller(&self) -> u32
+        ensures { result ≡ self.now.caller }
+    {
+        self.caller
+    }
+
+    /// How many recorded calls its caller had made then, this one included.
+    pub fn turn(&self) -> u64
+        ensures { result ≡ self.now.turn }
+    {
+        self.turn
+    }
+
+    pub fn call(&self) -> &Call
+        ensures { call_of result.now ≡ self.now.call }
+    {
+        &self.call
+    }
+
+    pub fn reply(&self) -> &Reply
+        ensures { reply_of result.now ≡ self.now.reply }
+    {
+        &self.reply
+    }
+
+    /// Whether both are the same by content: of one caller and turn, with the same call and the same answer.
+    pub fn is_same(&self, other: &Record) -> bool
+        ensures { IsTrue result ↔ (self.now ≡ other.now) }
+    {
+        other.caller == self.caller
+            && self.turn == other.turn
+            && is_same_call(&self.call, &other.call)
+            && is_same_reply(&self.reply, &other.reply)
+    }
+}

@@ -1,0 +1,213 @@
+//! Whether two records say the same, by content.
+ghost use Rattle.std.specs.Prelude.{◌≡◌, ◌↔◌, IsTrue, string_bytes};
+ghost use Rattle.fb_values.specs.Values.{text_found, text_seen, texts_seen, finding_of};
+ghost use Rattle.fb_history.specs.Records.{wanted_job, wanted_job_in, text_edit, text_edits, call_of, shown_in, delivered_in, reply_of};
+
+use crate::answers::{Asked, Committed, Delivered, GivenBack};
+use crate::record::{Call, Reply, TextChange, Wanted};
+use fb_text::{Name, same_name};
+use fb_values::{Key, TextRead, is_same_value};
+use std::sync::Arc;
+
+/// The same call.
+pub(crate) fn is_same_call(a: &Call, b: &Call) -> bool
+    ensures { IsTrue result ↔ (call_of a.now ≡ call_of b.now) }
+{
+    match (a, b) {
+        (Call::Commit(a), Call::Commit(b)) => are_same_changes(a, b),
+        (Call::Take, Call::Take) => true,
+        (Call::Deliver(a), Call::Deliver(b)) => is_same_wanted(a, b),
+        (Call::GiveBack(a), Call::GiveBack(b)) => is_one_key(a, b),
+        (Call::Ask(a), Call::Ask(b)) => is_one_key(a, b),
+        _ => false,
+    }
+}
+
+/// The same answer.
+pub(crate) fn is_same_reply(a: &Reply, b: &Reply) -> bool
+    ensures { IsTrue result ↔ (reply_of a.now ≡ reply_of b.now) }
+{
+    match (a, b) {
+        (Reply::Committing(a), Reply::Committing(b)) => is_same_end(a, b),
+        (Reply::Taking(None), Reply::Taking(None)) => true,
+        (Reply::Taking(Some(a)), Reply::Taking(Some(b))) => is_same_wanted(a, b),
+        (Reply::Delivering(a), Reply::Delivering(b)) => is_same_delivery(
+            &delivered(a),
+            &delivered(b),
+        ),
+        (Reply::GivingBack(a), Reply::GivingBack(b)) => is_same_return(a, b),
+        (Reply::Asking(a), Reply::Asking(b)) => is_same_asked(a, b),
+        _ => false,
+    }
+}
+
+fn is_one_name(a: &Name, b: &Name) -> bool
+    ensures { IsTrue result ↔ (a.now ≡ b.now) }
+{
+    same_name(a, b)
+}
+
+fn is_one_key(a: &Key, b: &Key) -> bool
+    ensures { IsTrue result ↔ (a.now ≡ b.now) }
+{
+    *a == *b
+}
+
+fn is_same_text(a: &String, b: &String) -> bool
+    ensures { IsTrue result ↔ (string_bytes a.now ≡ string_bytes b.now) }
+{
+    a.as_str() == b.as_str()
+}
+
+fn is_same_change(a: &TextChange, b: &TextChange) -> bool
+    ensures { IsTrue result ↔ (text_edit a.now ≡ text_edit b.now) }
+{
+    match (a, b) {
+        (
+            TextChange::Put {
+                unit: of_a,
+                base: a,
+                text: text_a,
+            },
+            TextChange::Put {
+                unit: of_b,
+                base: b,
+                text: text_b,
+            },
+        ) => { is_one_name(of_a, of_b) && a == b && is_same_text(text_a, text_b) }
+        (
+            TextChange::Remove {
+                unit: of_a,
+                base: a,
+            },
+            TextChange::Remove {
+                unit: of_b,
+                base: b,
+            },
+        ) => { is_one_name(of_a, of_b) && a == b }
+        _ => false,
+    }
+}
+
+fn are_same_changes(a: &[TextChange], b: &[TextChange]) -> bool
+    ensures { IsTrue result ↔ (text_edits a.now ≡ text_edits b.now) }
+{
+    if a.len() != b.len() {
+        return false;
+    }
+    for place in 0..a.len() {
+        if !is_same_change(&a[place], &b[place]) {
+            return false;
+        }
+    }
+    true
+}
+
+/// The same text at the same revision, or none.
+fn is_same_find(
+    revision: u64,
+    text: &Option<Arc<String>>,
+    other_revision: u64,
+    other: &Option<Arc<String>>,
+) -> bool
+    ensures { IsTrue result ↔ (text_found revision text.now ≡ text_found other_revision other.now) }
+{
+    match (text, other) {
+        (None, None) => true,
+        (Some(a), Some(b)) => revision == other_revision && is_same_text(a, b),
+        _ => false,
+    }
+}
+
+fn is_same_read(a: &TextRead, b: &TextRead) -> bool
+    ensures { IsTrue result ↔ (text_seen a.now ≡ text_seen b.now) }
+{
+    is_one_name(&a.name, &b.name) && is_same_find(a.revision, &a.text, b.revision, &b.text)
+}
+
+fn are_same_reads(a: &[TextRead], b: &[TextRead]) -> bool
+    ensures { IsTrue result ↔ (texts_seen a.now ≡ texts_seen b.now) }
+{
+    if a.len() != b.len() {
+        return false;
+    }
+    for place in 0..a.len() {
+        if !is_same_read(&a[place], &b[place]) {
+            return false;
+        }
+    }
+    true
+}
+
+fn is_same_wanted(a: &Wanted, b: &Wanted) -> bool
+    ensures { IsTrue result ↔ (wanted_job a.now ≡ wanted_job b.now) }
+{
+    is_one_key(&a.key, &b.key) && are_same_reads(&a.reads, &b.reads)
+}
+
+fn is_same_end(a: &Committed, b: &Committed) -> bool
+    ensures { IsTrue result ↔ (a.now ≡ b.now) }
+{
+    match (a, b) {
+        (Committed::Done(a), Committed::Done(b)) => a == b,
+        (Committed::NoChange, Committed::NoChange) => true,
+        (Committed::TooManyChanges, Committed::TooManyChanges) => true,
+        (Committed::SameUnitTwice(a), Committed::SameUnitTwice(b)) => is_one_name(a, b),
+        (
+            Committed::StaleBase {
+                unit: of_a,
+                current: a,
+            },
+            Committed::StaleBase {
+                unit: of_b,
+                current: b,
+            },
+        ) => is_one_name(of_a, of_b) && a == b,
+        (Committed::NoSuchUnit(a), Committed::NoSuchUnit(b)) => is_one_name(a, b),
+        (Committed::TooManyUnits, Committed::TooManyUnits) => true,
+        _ => false,
+    }
+}
+
+// the answer that a record keeps
+fn delivered(answer: &Option<Box<Delivered>>) -> Delivered
+    ensures { result ≡ delivered_in answer.now }
+{
+    match answer {
+        None => Delivered::Accepted,
+        Some(refused) => **refused,
+    }
+}
+
+fn is_same_delivery(a: &Delivered, b: &Delivered) -> bool
+    ensures { IsTrue result ↔ (a.now ≡ b.now) }
+{
+    match (a, b) {
+        (Delivered::Accepted, Delivered::Accepted) => true,
+        (Delivered::NoSuchKey, Delivered::NoSuchKey) => true,
+        (Delivered::NotPending, Delivered::NotPending) => true,
+        (Delivered::Stale(a), Delivered::Stale(b)) => is_one_name(a, b),
+        _ => false,
+    }
+}
+
+fn is_same_return(a: &GivenBack, b: &GivenBack) -> bool
+    ensures { IsTrue result ↔ (a.now ≡ b.now) }
+{
+    match (a, b) {
+        (GivenBack::Returned, GivenBack::Returned) => true,
+        (GivenBack::NothingOut, GivenBack::NothingOut) => true,
+        _ => false,
+    }
+}
+
+fn is_same_asked(a: &Asked, b: &Asked) -> bool
+    ensures { IsTrue result ↔ (shown_in a.now ≡ shown_in b.now) }
+{
+    match (a, b) {
+        (Asked::Value(a), Asked::Value(b)) => is_same_value(a, b),
+        (Asked::Pending, Asked::Pending) => true,
+        (Asked::NoSuchKey, Asked::NoSuchKey) => true,
+        _ => false,
+    }
+}
