@@ -10,21 +10,19 @@ use Rattle.fb_clean.specs.Library.View.{Sources, mentions_at, tree_at}
 use Rattle.fb_clean.specs.Network.Sorts.{same_sort}
 use Rattle.fb_clean.specs.Network.declared.network.Port.{Port}
 use Rattle.fb_clean.specs.Network.declared.network.Instance.{Instance}
-use Rattle.fb_clean.specs.Network.declared.network.End.{End}
 use Rattle.fb_clean.specs.Network.declared.network.End.TheVariants.{Own, Of}
 use Rattle.fb_clean.specs.Network.Plain.{PlainNetwork}
 use Rattle.fb_clean.specs.Network.Network.{View, instance_named}
 use Rattle.fb_clean.specs.Network.Clean.{port_named}
 use Rattle.fb_clean.specs.Wiring.ByName.{declared}
-use Rattle.fb_clean.specs.Wiring.Applications.{applications_of, plain_application}
+use Rattle.fb_clean.specs.Wiring.Applications.{applications_of}
 use Rattle.fb_clean.specs.Wiring.declared.systems.Application.{Application}
-use Rattle.fb_text.proofs.Members.{contains_nothing, origin_in_map}
 use Rattle.fb_clean.proofs.CleanUnits.{applications_clean}
 use Rattle.fb_net_parts.specs.Compose.Part.{SameAdapters}
 use Rattle.fb_net_parts.specs.Compose.Ready.{Nets, AreFinished}
 use Rattle.fb_flatten.specs.Far.{far_of}
-use Rattle.fb_flatten.specs.Net.{PlainNet, IsSound}
-use Rattle.fb_flatten.specs.Tables.{IsComposable, IsSoundOrder, IsTable, IsUnitOrder}
+use Rattle.fb_flatten.specs.Net.{PlainNet}
+use Rattle.fb_flatten.specs.Tables.{IsComposable, IsSoundOrder, IsTable}
 use Rattle.fb_flatten.proofs.ComputedFlats.{clean_with}
 use Rattle.fb_flatten.proofs.ComputedNets.{done_mention, unit_faultless}
 use Rattle.fb_flatten.proofs.FlatLocality.{found}

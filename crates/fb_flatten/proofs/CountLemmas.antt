@@ -1,5 +1,5 @@
 -- One more name of an order is counted.
-use Rattle.std.proofs.Common.{ℕ, ◌≡◌, ◌<◌, ◌≤◌, suc, Bool, true, false, arith, length, is_some, ◌+◌, List, [], ◌∷◌, ◌++◌, Option, Some, None, ◌⊎◌, inl, inr, refl, sym, ◌∙◌, ap, subst, take, get_or, length-append}
+use Rattle.std.proofs.Common.{ℕ, ◌≡◌, ◌<◌, ◌≤◌, suc, Bool, true, false, arith, length, is_some, ◌+◌, List, [], ◌∷◌, ◌++◌, Option, Some, ◌⊎◌, inl, inr, refl, sym, ◌∙◌, ap, subst, take, get_or, length-append}
 use Rattle.std.proofs.lemmas.Bool.{false≢true}
 use Rattle.std.proofs.lemmas.List.{length-map}
 use Rattle.std.proofs.lemmas.List.Elements.{Contains-push_cases}
@@ -10,7 +10,7 @@ use Rattle.fb_clean.specs.Tree.Tree.{DeclTree, block_type, adapter_type, subappl
 use Rattle.fb_clean.specs.Tree.declared.kinds.UnitKind.TheVariants as kinds
 use Rattle.fb_clean.specs.Library.View.{Sources, tree_at}
 use Rattle.fb_clean.specs.Network.declared.count.TheConstants.{INSTANCE_LIMIT}
-use Rattle.fb_clean.specs.Network.declared.network.InstanceKind.TheVariants.{Block, Subapplication}
+use Rattle.fb_clean.specs.Network.declared.network.InstanceKind.TheVariants.{Subapplication}
 use Rattle.fb_clean.specs.Network.declared.network.Instance.{Instance}
 use Rattle.fb_clean.specs.Network.Plain.{PlainNetwork}
 use Rattle.fb_clean.specs.Network.Network.{View}
@@ -23,7 +23,7 @@ use Rattle.fb_clean.specs.Wiring.Applications.{applications_of}
 use Rattle.fb_clean.specs.Wiring.declared.systems.Application.{Application}
 use Rattle.fb_text.proofs.Members.{contains_cases, contains_nothing, origin_in_flat_map}
 use Rattle.fb_clean.proofs.CleanUnits.{applications_clean, networks_clean}
-use Rattle.fb_net_parts.proofs.Compose.Equals.{same_bytes, not_at, at_not}
+use Rattle.fb_net_parts.proofs.Compose.Equals.{same_bytes, at_not}
 use Rattle.fb_net_parts.specs.Compose.Counts.{IsCounted, AreCounted}
 use Rattle.fb_flatten.specs.Hints.{AreRightHints, count_of_hint}
 use Rattle.fb_flatten.specs.Net.{PlainNet, IsSound}

@@ -1,5 +1,5 @@
 -- One more name of an order is finished.
-use Rattle.std.proofs.Common.{ℕ, zero, suc, ◌≡◌, ◌<◌, Bool, true, false, not, ◌&&◌, List, [], ◌∷◌, ◌++◌, Option, Some, None, ◌⊎◌, inl, inr, refl, sym, ◌∙◌, ap, subst, take, get_or, length}
+use Rattle.std.proofs.Common.{ℕ, zero, suc, ◌≡◌, ◌<◌, Bool, true, false, not, ◌&&◌, List, [], ◌∷◌, ◌++◌, Option, Some, ◌⊎◌, inl, inr, refl, sym, ◌∙◌, ap, subst, take, get_or, length}
 use Rattle.std.proofs.lemmas.Bool.{false≢true}
 use Rattle.std.proofs.lemmas.List.Elements.{Contains-push_cases}
 use Rattle.std.specs.Prelude.{Contains, ◌≢◌, is_none, option_map}
@@ -12,7 +12,6 @@ use Rattle.fb_clean.specs.Tree.Tree.{DeclTree, block_type, adapter_type, subappl
 use Rattle.fb_clean.specs.Tree.declared.kinds.UnitKind.{UnitKind}
 use Rattle.fb_clean.specs.Tree.declared.kinds.UnitKind.TheVariants as kinds
 use Rattle.fb_clean.specs.Library.View.{Sources, mentions_at, tree_at}
-use Rattle.fb_clean.specs.Library.Rests.{itself}
 use Rattle.fb_clean.specs.Network.declared.network.InstanceKind.TheVariants.{Subapplication}
 use Rattle.fb_clean.specs.Network.declared.network.Instance.{Instance}
 use Rattle.fb_clean.specs.Network.Plain.{PlainNetwork}
@@ -23,7 +22,6 @@ use Rattle.fb_clean.specs.Network.FlatNet.{IsFlat}
 use Rattle.fb_clean.specs.Wiring.Applications.{applications_of}
 use Rattle.fb_clean.specs.Wiring.ByName.{declared, kind_at}
 use Rattle.fb_clean.specs.Wiring.Networks.{network_of}
-use Rattle.fb_clean.specs.Wiring.declared.systems.Application.{Application}
 use Rattle.fb_text.proofs.Members.{contains_cases, contains_here, contains_later, contains_nothing}
 use Rattle.fb_net_parts.proofs.Compose.Equals.{same_bytes, not_at, at_not}
 use Rattle.fb_net_parts.specs.Compose.Ready.{Nets, IsFinished, AreFinished}

@@ -1,5 +1,5 @@
 -- What kept nets tell of their units.
-use Rattle.std.proofs.Common.{ℕ, ◌≡◌, ◌≤◌, ◌+◌, Bool, true, false, arith, length, List, Option, Some, None, refl, sym, ◌∙◌, ap, subst}
+use Rattle.std.proofs.Common.{ℕ, ◌≡◌, ◌+◌, Bool, true, false, arith, length, List, Option, Some, None, refl, sym, ap, subst}
 use Rattle.std.proofs.lemmas.Bool.{false≢true}
 use Rattle.std.specs.Prelude.{option_map, is_none}
 use Rattle.std.specs.Option.{option_or}
@@ -11,7 +11,6 @@ use Rattle.fb_clean.specs.Library.Rests.{itself}
 use Rattle.fb_clean.specs.Network.declared.count.TheConstants.{INSTANCE_LIMIT}
 use Rattle.fb_clean.specs.Network.Plain.{PlainNetwork}
 use Rattle.fb_clean.specs.Network.PlainFlat.{PlainFlat}
-use Rattle.fb_clean.specs.Network.Network.{View}
 use Rattle.fb_clean.specs.Network.Instances.{Held, AreInstances}
 use Rattle.fb_clean.specs.Network.Count.{IsCount}
 use Rattle.fb_text.proofs.Members.{contains_nothing}

@@ -1,6 +1,6 @@
 -- The walk to the names among which those that block a unit are looked for.
 use Rattle.std.proofs.Common.{◌≡◌, ℕ, ◌+◌, ◌<◌, Bool, true, false, if◌then◌else◌, ◌||◌, List, [], ◌∷◌, ◌++◌, length, Option, refl, sym, ap, ◌∙◌, arith}
-use Rattle.std.proofs.lemmas.Bool.{false≢true, or_left, or_right}
+use Rattle.std.proofs.lemmas.Bool.{or_left, or_right}
 use Rattle.std.specs.Ordering.{eq_by_cmp}
 use Rattle.fb_text.proofs.Tests.{no_both, by_bool, or_cases}
 use Rattle.fb_text.specs.Order.{name_cmp}

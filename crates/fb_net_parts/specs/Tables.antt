@@ -1,12 +1,11 @@
 -- Networks, counts and flat networks of the names of an order.
-use Rattle.std.specs.Prelude.{ℕ, ◌≡◌, ◌≢◌, ◌<◌, ◌≤◌, ◌+◌, Bool, true, false, not, ◌&&◌, is_none, List, Option, Some, None, Contains, length, min, slice_index_or, take}
+use Rattle.std.specs.Prelude.{ℕ, ◌≡◌, ◌≢◌, ◌≤◌, ◌+◌, Bool, true, false, not, ◌&&◌, is_none, List, Option, Some, None, Contains, length, min}
 use Rattle.std.specs.Option.{option_or}
 use Rattle.std.specs.BTreeMap.{is_at}
 use Rattle.fb_text.specs.Order.{name_cmp}
 use Rattle.fb_wiring.specs.Tree.Tree.{DeclTree, block_type, adapter_type, subapplication_type, system_configuration}
 use Rattle.fb_wiring.specs.Tree.declared.kinds.UnitKind.TheVariants as kinds
-use Rattle.fb_wiring.specs.Library.View.{Sources, mentions_at, tree_at}
-use Rattle.fb_wiring.specs.Library.Rests.{Rests}
+use Rattle.fb_wiring.specs.Library.View.{Sources, tree_at}
 use Rattle.fb_wiring.specs.Network.declared.count.TheConstants.{INSTANCE_LIMIT}
 use Rattle.fb_wiring.specs.Network.declared.network.Port.{Port}
 use Rattle.fb_wiring.specs.Network.Plain.{PlainNetwork}

@@ -1,5 +1,5 @@
 -- What is left is looked up, and nothing else is there.
-use Rattle.std.proofs.Common.{◌≡◌, cond, Some, None, sym, ap, ◌∙◌}
+use Rattle.std.proofs.Common.{cond, None, sym, ap, ◌∙◌}
 use Rattle.std.specs.FinMap.{get}
 use Rattle.fb_net_parts.proofs.LeftLemmas.{get_left}
 use Rattle.fb_net_parts.proofs.rest.source_left.Goals as goal
