@@ -30,10 +30,10 @@ use Rattle.fb_locked.specs.Bench.Network.contracts.flat.FlatBlock as FlatBlock
 use Rattle.fb_locked.specs.Bench.Network.contracts.flat.Link as Link
 use Rattle.fb_locked.specs.Bench.Network.contracts.flat.Border as Border
 use Rattle.fb_locked.specs.Bench.Network.contracts.flat.Flat as Flat
-use Rattle.fb_locked.specs.Bench.Flatten.contracts.unit_net.Net as Net
+use Rattle.fb_locked.specs.Bench.Flatten.Parts.contracts.nets.Net as Net
 use Rattle.fb_locked.specs.Bench.Mapping.contracts.homes.Misplaced as Misplaced
-use Rattle.fb_locked.specs.Bench.Deploy.contracts.command.Command as Command
-use Rattle.fb_locked.specs.Bench.Deploy.contracts.resources.ResourcePlan as ResourcePlan
+use Rattle.fb_locked.specs.Bench.Deploy.Commands.contracts.command.Command as Command
+use Rattle.fb_locked.specs.Bench.Deploy.Commands.contracts.resources.ResourcePlan as ResourcePlan
 use Rattle.fb_locked.specs.Bench.Deploy.contracts.planning.Deploy as Deploy
 use Rattle.fb_locked.specs.Bench.Jobs.contracts.value.Value as Value
 use Rattle.fb_locked.specs.Bench.History.contracts.record.Call as Call
