@@ -22,7 +22,7 @@ use Rattle.fb_history.specs.Story.{Story, IsOrigin, state_of}
 use Rattle.fb_bench.specs.Kept.{EntryFits, Agrees}
 use Rattle.fb_entries.specs.Marking.{is_of}
 use Rattle.fb_entries.specs.Renew.{is_own, have_entries, AreKeys, items_or, IsRenewal}
-use Rattle.fb_values.proofs.Order.{key_total, keys_equal, same_keys}
+use Rattle.fb_jobs.proofs.Order.{key_total, keys_equal, same_keys}
 use Rattle.fb_history.proofs.Least.{key_named}
 use Rattle.fb_entries.proofs.Members.{of_filtered}
 use Rattle.fb_bench.proofs.Renewals.{has_apart}

@@ -21,7 +21,7 @@ use Rattle.fb_history.specs.declared.answers.Delivered.{Delivered}
 use Rattle.fb_history.specs.declared.answers.Delivered.TheVariants.{Accepted, NoSuchKey, NotPending, Stale}
 use Rattle.fb_bench.specs.Kept.{Agrees, EntryFits, IsScratch}
 use Rattle.fb_entries.specs.Found.{kept_in}
-use Rattle.fb_values.proofs.Order.{keys_equal}
+use Rattle.fb_jobs.proofs.Order.{keys_equal}
 
 pub ready_has : (s : State) (k : Key) (o : Option Entry) → EntryFits s k o → is_ready s k ≡ true → has_key s.units k ≡ true
 ready_has s k None fits ready = let no : is_ready s k ≡ false = ap (λ b. b && not (s.out k)) fits.1 in cc

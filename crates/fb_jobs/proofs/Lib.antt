@@ -6,6 +6,7 @@ pub use Rattle.fb_values.proofs.Alike as Alike
 pub use Rattle.fb_values.proofs.KeyLemmas as KeyLemmas
 pub use Rattle.fb_values.proofs.KindLemmas as KindLemmas
 pub use Rattle.fb_values.proofs.SameNeeds as SameNeeds
+pub use Rattle.fb_values.proofs.Order as Order
 pub use Rattle.fb_values.proofs.Sources as Sources
 pub use Rattle.fb_values.proofs.Tree as Tree
 pub use Rattle.fb_values.proofs.Library as Library
