@@ -2,7 +2,7 @@
 use crate::checkers::{Checker, find, found_by};
 use crate::plant::{all_told, library, plant_with, same};
 use fb_faults::library::Library;
-use fb_text::Name;
+use fb_faults::text::Name;
 use std::alloc::Global;
 use std::process::Abort;
 use std::test::Fail;

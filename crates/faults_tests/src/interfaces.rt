@@ -3,8 +3,8 @@
 use crate::plant::same;
 use fb_faults::iface::{Ports, interface};
 use fb_faults::parse::Source;
+use fb_faults::text::{Name, NameUse};
 use fb_faults::tree::TypeUse;
-use fb_text::{Name, NameUse};
 use std::alloc::{AllocError, Global};
 use std::process::Abort;
 use std::test::Fail;

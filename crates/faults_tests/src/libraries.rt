@@ -4,7 +4,7 @@ use fb_faults::faults;
 use fb_faults::iface::{Code, Fault, first_declared, interface, sorted_faults};
 use fb_faults::library::{Change, Library, View, declaration_by_name, far, near, tree_by_name};
 use fb_faults::parse::{Body, Source};
-use fb_text::{Name, Span};
+use fb_faults::text::{Name, Span};
 use std::alloc::{AllocError, Global};
 use std::process::Abort;
 use std::test::Fail;

@@ -7,7 +7,7 @@ use fb_faults::faults;
 use fb_faults::iface::Fault;
 use fb_faults::library::{Change, Library};
 use fb_faults::parse::Source;
-use fb_text::{Name, Span};
+use fb_faults::text::{Name, Span};
 use std::alloc::{AllocError, Global};
 use std::fmt::Debug;
 use std::process::Abort;

@@ -5,17 +5,17 @@ use Rattle.std.specs.BTreeSet as set
 use Rattle.std.specs.Map.{lookup}
 use Rattle.std.specs.BTreeMap.{is_at}
 use Rattle.std.specs.List.{list_any}
-use Rattle.fb_jobs.specs.Library.Texts.{Texts}
-use Rattle.fb_jobs.specs.declared.key.Key.{Key}
-use Rattle.fb_jobs.specs.Keys.{has_key}
-use Rattle.fb_jobs.specs.KeyOrder.{key_cmp}
+use Rattle.fb_entries.specs.Library.Texts.{Texts}
+use Rattle.fb_entries.specs.Jobs.declared.key.Key.{Key}
+use Rattle.fb_entries.specs.KeysAndValues.Keys.{has_key}
+use Rattle.fb_entries.specs.KeysAndValues.KeyOrder.{key_cmp}
 use Rattle.fb_entries.specs.declared.entry.Entry.{Entry}
-use Rattle.fb_history.specs.Story.{Log, opened, start, replay, replies}
+use Rattle.fb_entries.specs.History.Story.{Log, opened, start, replay, replies}
 use Rattle.fb_bench.specs.Kept.{Agrees, IsKept, EntryFits}
-use Rattle.fb_index.specs.Near.{Users}
+use Rattle.fb_entries.specs.Index.Near.{Users}
 use Rattle.fb_entries.proofs.Indexing.{indexed_none}
-use Rattle.fb_jobs.proofs.KindLemmas.{no_kind}
-use Rattle.fb_history.proofs.AfterCalls.{begins_empty}
+use Rattle.fb_entries.proofs.KeysAndValues.KindLemmas.{no_kind}
+use Rattle.fb_entries.proofs.History.AfterCalls.{begins_empty}
 
 no_key : (key : Key) → has_key [] key ≡ false
 unfolding has_key

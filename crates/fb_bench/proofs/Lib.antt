@@ -7,4 +7,5 @@ pub mod Renewals
 pub mod KeysKept
 pub mod Committing
 -- Passed on to the crates above, which do not list these libraries.
-pub use Rattle.fb_jobs.proofs.Tree as Tree
+pub use Rattle.fb_entries.proofs.Tree as Tree
+pub use Rattle.fb_entries.proofs.Text as Text

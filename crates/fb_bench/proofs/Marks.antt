@@ -7,21 +7,21 @@ use Rattle.std.specs.BTreeMap.{is_at}
 use Rattle.std.specs.BTreeSet as set
 use Rattle.std.specs.declared.sync.Arc.{Arc}
 use Rattle.std.specs.declared.alloc.Global.{Global}
-use Rattle.fb_jobs.specs.Library.Texts.{Texts}
-use Rattle.fb_jobs.specs.declared.key.Key.{Key}
-use Rattle.fb_jobs.specs.declared.value.Value.{Value}
-use Rattle.fb_jobs.specs.Values.{finding_of}
-use Rattle.fb_jobs.specs.Hints.{AreKept}
-use Rattle.fb_jobs.specs.Keys.{Finding, has_key, scratch}
-use Rattle.fb_jobs.specs.KeyOrder.{key_cmp, same_key}
+use Rattle.fb_entries.specs.Library.Texts.{Texts}
+use Rattle.fb_entries.specs.Jobs.declared.key.Key.{Key}
+use Rattle.fb_entries.specs.Jobs.declared.value.Value.{Value}
+use Rattle.fb_entries.specs.KeysAndValues.Values.{finding_of}
+use Rattle.fb_entries.specs.Jobs.Hints.{AreKept}
+use Rattle.fb_entries.specs.KeysAndValues.Keys.{Finding, has_key, scratch}
+use Rattle.fb_entries.specs.KeysAndValues.KeyOrder.{key_cmp, same_key}
 use Rattle.fb_entries.specs.declared.entry.Entry.{Entry}
-use Rattle.fb_jobs.specs.Reads.{PlainJob, stale}
-use Rattle.fb_history.specs.Machine.{State, is_ready, after_take, after_deliver, removed, unless_stale, deliver_answer}
-use Rattle.fb_history.specs.declared.answers.Delivered.{Delivered}
-use Rattle.fb_history.specs.declared.answers.Delivered.TheVariants.{Accepted, NoSuchKey, NotPending, Stale}
+use Rattle.fb_entries.specs.KeysAndValues.Reads.{PlainJob, stale}
+use Rattle.fb_entries.specs.History.Machine.{State, is_ready, after_take, after_deliver, removed, unless_stale, deliver_answer}
+use Rattle.fb_entries.specs.History.declared.answers.Delivered.{Delivered}
+use Rattle.fb_entries.specs.History.declared.answers.Delivered.TheVariants.{Accepted, NoSuchKey, NotPending, Stale}
 use Rattle.fb_bench.specs.Kept.{Agrees, EntryFits, IsScratch}
 use Rattle.fb_entries.specs.Found.{kept_in}
-use Rattle.fb_jobs.proofs.Order.{keys_equal}
+use Rattle.fb_entries.proofs.KeysAndValues.Order.{keys_equal}
 
 pub ready_has : (s : State) (k : Key) (o : Option Entry) → EntryFits s k o → is_ready s k ≡ true → has_key s.units k ≡ true
 ready_has s k None fits ready = let no : is_ready s k ≡ false = ap (λ b. b && not (s.out k)) fits.1 in cc

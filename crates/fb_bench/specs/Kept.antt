@@ -4,17 +4,17 @@ use Rattle.std.specs.BTreeMap as tree
 use Rattle.std.specs.BTreeSet as set
 use Rattle.std.specs.declared.sync.Arc.{Arc}
 use Rattle.std.specs.declared.alloc.Global.{Global}
-use Rattle.fb_jobs.specs.Library.Texts.{Texts}
-use Rattle.fb_jobs.specs.declared.key.Key.{Key}
-use Rattle.fb_jobs.specs.declared.value.Value.{Value}
-use Rattle.fb_jobs.specs.Keys.{has_key, scratch}
-use Rattle.fb_jobs.specs.KeyOrder.{key_cmp}
-use Rattle.fb_jobs.specs.Values.{finding_of}
-use Rattle.fb_history.specs.Machine.{State, is_ready, keys_of}
-use Rattle.fb_history.specs.Story.{Story, IsOrigin, state_of, IsReplay}
+use Rattle.fb_entries.specs.Library.Texts.{Texts}
+use Rattle.fb_entries.specs.Jobs.declared.key.Key.{Key}
+use Rattle.fb_entries.specs.Jobs.declared.value.Value.{Value}
+use Rattle.fb_entries.specs.KeysAndValues.Keys.{has_key, scratch}
+use Rattle.fb_entries.specs.KeysAndValues.KeyOrder.{key_cmp}
+use Rattle.fb_entries.specs.KeysAndValues.Values.{finding_of}
+use Rattle.fb_entries.specs.History.Machine.{State, is_ready, keys_of}
+use Rattle.fb_entries.specs.History.Story.{Story, IsOrigin, state_of, IsReplay}
 use Rattle.fb_entries.specs.declared.entries.Entries.{Entries}
 use Rattle.fb_entries.specs.declared.entry.Entry.{Entry}
-use Rattle.fb_index.specs.Near.{Users}
+use Rattle.fb_entries.specs.Index.Near.{Users}
 use Rattle.fb_entries.specs.Indexed.{IsIndexOf}
 
 -- a kept value is the key's value from scratch

@@ -3,7 +3,7 @@ use Rattle.std.proofs.Common.{◌≡◌, ℕ, ◌<◌, true, false, ◌&&◌, Li
 use Rattle.std.proofs.lemmas.List.Elements.{All-contains, All-head, Contains-append_left, Contains-append_right}
 use Rattle.std.specs.List.{All, Contains, filter_map, find, flat_map, slice_get}
 use Rattle.std.specs.Option.{option_and_then}
-use Rattle.fb_text.specs.declared.name.NameUse.{NameUse}
+use Rattle.fb_faults.specs.Text.declared.name.NameUse.{NameUse}
 use Rattle.fb_faults.specs.Tree.Tree.{ApplicationTree, DeclTree, InstanceTree, NetworkTree, SystemTree, TypeTree, block_type, adapter_type, subapplication_type, system_configuration}
 use Rattle.fb_faults.specs.Tree.declared.kinds.UnitKind.TheVariants as kinds
 use Rattle.fb_faults.specs.Tree.declared.network.Role.{Role}
@@ -17,7 +17,7 @@ use Rattle.fb_faults.specs.Iface.Ports.{events_in, instances_in, meanings_in_typ
 use Rattle.fb_faults.specs.Iface.Spaces.{chart_spaces, interface_spaces, network_spaces, resource_names, spaces_of}
 use Rattle.fb_faults.specs.Iface.Types.{instance_faults, instances_of, type_faults}
 use Rattle.fb_faults.specs.Iface.declared.ports.DeclaredInstance.{DeclaredInstance}
-use Rattle.fb_text.proofs.Members.{contains_cases, contains_flat_map, contains_here, contains_later, contains_map, contains_nothing, got_in_map, map_gets, origin_in_map}
+use Rattle.fb_faults.proofs.Text.Members.{contains_cases, contains_flat_map, contains_here, contains_later, contains_map, contains_nothing, got_in_map, map_gets, origin_in_map}
 use Rattle.fb_faults.specs.Netcheck.Networks.{application_place, networks_in, type_place}
 use Rattle.fb_faults.specs.Netcheck.Clean.{AreRight, IsCleanConnection, IsCleanNetwork}
 use Rattle.fb_faults.specs.Netcheck.Ends.{adapter_port, holder_of, port_in, port_in_role, target, target_named, target_of}
@@ -28,15 +28,15 @@ use Rattle.fb_faults.specs.Netcheck.declared.ends.Position.TheVariants.{Source, 
 use Rattle.fb_faults.proofs.Netcheck.CleanLemmas.{left_none, networks_clean as faultless_clean, none_of_each, right_none}
 use Rattle.fb_faults.proofs.Netcheck.Locality.{Each, instance_stands}
 use Rattle.fb_faults.proofs.Netcheck.RightLemmas.{connections_right}
-use Rattle.fb_wiring.specs.Network.Plain.{PlainNetwork}
-use Rattle.fb_wiring.specs.Network.declared.network.End.TheVariants.{Own}
-use Rattle.fb_wiring.specs.Network.declared.network.Port.{Port}
-use Rattle.fb_wiring.specs.Applications.{applications_of, plain_application}
+use Rattle.fb_commands.specs.Network.Plain.{PlainNetwork}
+use Rattle.fb_commands.specs.Network.declared.network.End.TheVariants.{Own}
+use Rattle.fb_commands.specs.Network.declared.network.Port.{Port}
+use Rattle.fb_commands.specs.Wiring.Applications.{applications_of, plain_application}
 use Rattle.fb_clean.specs.Clean.{ApplicationsAreClean, AreCleanWithKinds, IsCleanWithKinds, NetworksAreClean, application_named}
-use Rattle.fb_wiring.specs.Networks.{end_named, network_of, plain_network}
+use Rattle.fb_commands.specs.Wiring.Networks.{end_named, network_of, plain_network}
 use Rattle.fb_clean.specs.Nothing.{HasNoReport}
-use Rattle.fb_wiring.specs.Ports.{plain_ports}
-use Rattle.fb_wiring.specs.declared.systems.Application.{Application}
+use Rattle.fb_commands.specs.Wiring.Ports.{plain_ports}
+use Rattle.fb_commands.specs.Wiring.declared.systems.Application.{Application}
 use Rattle.fb_clean.proofs.Finding.{found_by_name}
 use Rattle.fb_clean.proofs.FirstOnes.{Distinct, first_ones-distinct}
 use Rattle.fb_clean.proofs.InnerInstances.{IsInnerInstance, inner_instances, is_inner}

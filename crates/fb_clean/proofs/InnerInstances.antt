@@ -2,7 +2,7 @@
 use Rattle.std.proofs.Common.{◌≡◌, ℕ, Bool, true, false, List, [], ◌∷◌, ◌++◌, length, Option, Some, None, Result, Ok, Err, sym, ap, subst, inl, inr}
 use Rattle.std.specs.FinMap.{get}
 use Rattle.std.specs.Option.{option_and_then}
-use Rattle.fb_text.specs.declared.token.Span.{Span}
+use Rattle.fb_faults.specs.Text.declared.token.Span.{Span}
 use Rattle.fb_faults.specs.Lexemes.Lexemes.{lexemes_of}
 use Rattle.fb_faults.specs.Lexemes.declared.kind.Kind.{Kind}
 use Rattle.fb_faults.specs.Lexemes.declared.kind.Kind.TheVariants as kinds

@@ -1,7 +1,7 @@
 -- Without duplicates, no name is declared twice.
 use Rattle.std.proofs.Common.{◌≡◌, suc, ℕ, ◌<◌, Bool, true, false, cond, List, [], ◌∷◌, map, Some, None, refl, sym, ap, ◌∙◌, subst, ◌⊎◌, inl, inr, arith}
 use Rattle.std.specs.List.{Contains, slice_get}
-use Rattle.fb_text.specs.declared.name.NameUse.{NameUse}
+use Rattle.fb_faults.specs.Text.declared.name.NameUse.{NameUse}
 use Rattle.fb_faults.specs.Tree.Tree.{DeclTree}
 use Rattle.fb_faults.specs.Library.View.{Sources, tree_at}
 use Rattle.fb_faults.specs.Iface.Declarations.{iface_faults_of}
@@ -9,7 +9,7 @@ use Rattle.fb_faults.specs.Iface.Names.{is_same, stands_for}
 use Rattle.fb_faults.specs.Iface.Spaces.{spaces_of}
 use Rattle.fb_faults.specs.Iface.declared.code.Code.TheVariants.{Duplicate}
 use Rattle.fb_faults.specs.Iface.declared.fault.Fault.{Fault}
-use Rattle.fb_text.proofs.Members.{contains_cases, contains_nothing}
+use Rattle.fb_faults.proofs.Text.Members.{contains_cases, contains_nothing}
 use Rattle.fb_faults.proofs.Iface.NameLemmas.{same_exact, same_itself}
 use Rattle.fb_faults.proofs.Iface.RowLemmas.{duplicates}
 use Rattle.fb_clean.proofs.FirstOnes.{Distinct}

@@ -3,7 +3,7 @@ use Rattle.std.proofs.Common.{◌≡◌, ℕ, Bool, true, false, cond, ◌&&◌,
 use Rattle.std.proofs.lemmas.List.Elements.{All-contains}
 use Rattle.std.specs.List.{All, Contains, cons_option, filter_map}
 use Rattle.std.specs.Option.{option_and_then}
-use Rattle.fb_text.specs.declared.name.NameUse.{NameUse}
+use Rattle.fb_faults.specs.Text.declared.name.NameUse.{NameUse}
 use Rattle.fb_faults.specs.Tree.Mentions.{unit_kind_of}
 use Rattle.fb_faults.specs.Tree.Tree.{DeclTree, InstanceTree, NetworkTree}
 use Rattle.fb_faults.specs.Tree.declared.interface.Side.{Side}
@@ -24,7 +24,7 @@ use Rattle.fb_faults.specs.Iface.Scope.{ports_of, type_ports_of, usable}
 use Rattle.fb_faults.specs.Iface.Types.{instance_faults, suits, type_fault}
 use Rattle.fb_faults.specs.Iface.declared.fault.Fault.{Fault}
 use Rattle.fb_faults.specs.Iface.declared.ports.DeclaredInstance.{DeclaredInstance}
-use Rattle.fb_text.proofs.Members.{contains_cases, contains_here, contains_later, contains_nothing, origin_in_map}
+use Rattle.fb_faults.proofs.Text.Members.{contains_cases, contains_here, contains_later, contains_nothing, origin_in_map}
 use Rattle.fb_faults.proofs.Iface.NameLemmas.{same_exact}
 use Rattle.fb_faults.specs.Netcheck.Clean.{AreRight, IsCleanConnection, IsCleanNetwork}
 use Rattle.fb_faults.specs.Netcheck.Ends.{adapter_port, holder_of, is_right, port_in, port_in_role, right_side, target, target_held, target_in, target_named, target_of, target_of_instance}
@@ -40,17 +40,17 @@ use Rattle.fb_faults.specs.Netcheck.declared.ends.Position.{Position}
 use Rattle.fb_faults.specs.Netcheck.declared.ends.Position.TheVariants.{Source, Destination}
 use Rattle.fb_faults.specs.Netcheck.declared.ends.Target.{Target}
 use Rattle.fb_faults.specs.Netcheck.declared.ends.Target.TheVariants.{Found}
-use Rattle.fb_wiring.specs.Network.Clean.{IsDeclared, IsDestination, IsSource, adapter_name_at, port_named, side_at, type_of}
-use Rattle.fb_wiring.specs.Network.Network.{IsConnected, View, instance_named, place_of}
-use Rattle.fb_wiring.specs.Network.Plain.{PlainNetwork}
-use Rattle.fb_wiring.specs.Network.declared.network.End.{End}
-use Rattle.fb_wiring.specs.Network.declared.network.End.TheVariants.{Own, Of}
-use Rattle.fb_wiring.specs.Network.declared.network.Instance.{Instance}
-use Rattle.fb_wiring.specs.Network.declared.network.InstanceKind.TheVariants as instances
-use Rattle.fb_wiring.specs.Network.declared.network.Port.{Port}
-use Rattle.fb_wiring.specs.ByName.{declared, kind_at}
+use Rattle.fb_commands.specs.Network.Clean.{IsDeclared, IsDestination, IsSource, adapter_name_at, port_named, side_at, type_of}
+use Rattle.fb_commands.specs.Network.Network.{IsConnected, View, instance_named, place_of}
+use Rattle.fb_commands.specs.Network.Plain.{PlainNetwork}
+use Rattle.fb_commands.specs.Network.declared.network.End.{End}
+use Rattle.fb_commands.specs.Network.declared.network.End.TheVariants.{Own, Of}
+use Rattle.fb_commands.specs.Network.declared.network.Instance.{Instance}
+use Rattle.fb_commands.specs.Network.declared.network.InstanceKind.TheVariants as instances
+use Rattle.fb_commands.specs.Network.declared.network.Port.{Port}
+use Rattle.fb_commands.specs.Wiring.ByName.{declared, kind_at}
 use Rattle.fb_clean.specs.Clean.{IsCleanWithKinds, wanted_kind}
-use Rattle.fb_wiring.specs.Networks.{end_named, instance_in_role, network_of, plain_connection, plain_end, plain_instance, plain_network}
+use Rattle.fb_commands.specs.Wiring.Networks.{end_named, instance_in_role, network_of, plain_connection, plain_end, plain_instance, plain_network}
 use Rattle.fb_clean.proofs.Finding.{found_by_name}
 use Rattle.fb_clean.proofs.FirstOnes.{Distinct, stands_for-first_ones}
 use Rattle.fb_clean.proofs.NameLemmas.{stands_for_itself}

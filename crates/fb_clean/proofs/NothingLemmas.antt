@@ -1,7 +1,7 @@
 -- Without faults, no check reports any.
 use Rattle.std.proofs.Common.{◌≡◌, List, [], ◌∷◌, ◌++◌, refl, subst}
 use Rattle.std.specs.List.{Contains}
-use Rattle.fb_text.proofs.Members.{contains_here, contains_nothing}
+use Rattle.fb_faults.proofs.Text.Members.{contains_here, contains_nothing}
 use Rattle.fb_faults.specs.Iface.Declarations.{iface_faults_of}
 use Rattle.fb_faults.specs.Iface.declared.fault.Fault.{Fault}
 use Rattle.fb_faults.specs.Expr.Charts.{expr_faults_of}

@@ -23,11 +23,11 @@ use Rattle.fb_faults.specs.Netcheck.Ends.{adapter_port, data_port, event_port, p
 use Rattle.fb_faults.specs.Netcheck.declared.ends.Flow.{Flow}
 use Rattle.fb_faults.specs.Netcheck.declared.ends.Flow.TheVariants as flows
 use Rattle.fb_faults.specs.Netcheck.declared.ends.Port.{Port as JudgedPort}
-use Rattle.fb_wiring.specs.Network.Clean.{port_named}
-use Rattle.fb_wiring.specs.Network.Sorts.{same_sort}
-use Rattle.fb_wiring.specs.Network.declared.network.Port.{Port}
-use Rattle.fb_wiring.specs.Networks.{network_of}
-use Rattle.fb_wiring.specs.Ports.{plain_adapter, plain_data, plain_event, plain_ports}
+use Rattle.fb_commands.specs.Network.Clean.{port_named}
+use Rattle.fb_commands.specs.Network.Sorts.{same_sort}
+use Rattle.fb_commands.specs.Network.declared.network.Port.{Port}
+use Rattle.fb_commands.specs.Wiring.Networks.{network_of}
+use Rattle.fb_commands.specs.Wiring.Ports.{plain_adapter, plain_data, plain_event, plain_ports}
 use Rattle.fb_clean.proofs.Finding.{found_by_name, found_nowhere}
 use Rattle.fb_clean.proofs.FirstOnes.{Distinct, first_ones-distinct}
 

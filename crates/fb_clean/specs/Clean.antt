@@ -5,13 +5,13 @@ use Rattle.fb_faults.specs.Tree.declared.kinds.UnitKind.TheVariants as kinds
 use Rattle.fb_faults.specs.Library.View.{Sources}
 use Rattle.fb_faults.specs.Iface.Names.{is_same}
 use Rattle.fb_faults.specs.Faults.{faults_of}
-use Rattle.fb_wiring.specs.Network.Clean.{IsClean}
-use Rattle.fb_wiring.specs.Network.Plain.{PlainNetwork}
-use Rattle.fb_wiring.specs.Network.declared.network.Instance.{Instance}
-use Rattle.fb_wiring.specs.Network.declared.network.InstanceKind.{InstanceKind}
-use Rattle.fb_wiring.specs.Network.declared.network.InstanceKind.TheVariants.{Block, Subapplication}
-use Rattle.fb_wiring.specs.ByName.{applications_at, declared, kind_at}
-use Rattle.fb_wiring.specs.declared.systems.Application.{Application}
+use Rattle.fb_commands.specs.Network.Clean.{IsClean}
+use Rattle.fb_commands.specs.Network.Plain.{PlainNetwork}
+use Rattle.fb_commands.specs.Network.declared.network.Instance.{Instance}
+use Rattle.fb_commands.specs.Network.declared.network.InstanceKind.{InstanceKind}
+use Rattle.fb_commands.specs.Network.declared.network.InstanceKind.TheVariants.{Block, Subapplication}
+use Rattle.fb_commands.specs.Wiring.ByName.{applications_at, declared, kind_at}
+use Rattle.fb_commands.specs.Wiring.declared.systems.Application.{Application}
 
 -- the kind that an instance wants of its type
 abbrev pub wanted_kind : InstanceKind → UnitKind

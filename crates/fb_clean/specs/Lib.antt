@@ -8,5 +8,11 @@ pub use Rattle.fb_faults.specs.Library as Library
 pub use Rattle.fb_faults.specs.Iface as Iface
 pub use Rattle.fb_faults.specs.Netcheck as Netcheck
 pub use Rattle.fb_faults.specs as Faults
-pub use Rattle.fb_wiring.specs.Network as Network
-pub use Rattle.fb_wiring.specs as Wiring
+pub use Rattle.fb_commands.specs.Network as Network
+pub use Rattle.fb_commands.specs.Wiring as Wiring
+pub use Rattle.fb_commands.specs.NetParts as NetParts
+pub use Rattle.fb_commands.specs.Mapping as Mapping
+pub use Rattle.fb_commands.specs as Commands
+pub use Rattle.fb_faults.specs.Text as Text
+pub use Rattle.fb_commands.specs.Compose as Compose
+pub use Rattle.fb_commands.specs.Order as Order

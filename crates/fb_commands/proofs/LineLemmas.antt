@@ -3,8 +3,8 @@ use Rattle.std.proofs.Common.{ℕ, ◌≡◌, true, List}
 use Rattle.std.specs.declared.cmp.Ordering.TheVariants.{Equal}
 use Rattle.std.specs.FinMap.{IsAntisymmetric, nat_cmp-IsAntisymmetric, slice_cmp-IsAntisymmetric}
 use Rattle.std.specs.Ordering.{eq_by_cmp, ordering_then}
-use Rattle.fb_text.proofs.OrderLemmas.{is_equal, both_equal}
-use Rattle.fb_text.specs.Order.{name_cmp}
+use Rattle.fb_mapping.proofs.Text.OrderLemmas.{is_equal, both_equal}
+use Rattle.fb_mapping.specs.Text.Order.{name_cmp}
 use Rattle.fb_commands.specs.Lines.{line_cmp}
 use Rattle.fb_commands.specs.declared.lines.Line.{Line}
 

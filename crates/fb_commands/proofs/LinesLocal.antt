@@ -2,11 +2,11 @@
 use Rattle.std.proofs.Common.{ℕ, ◌≡◌, ◌++◌, List, [], ◌∷◌, Option, Some, None, refl, ◌∙◌, ap, map}
 use Rattle.std.specs.Prelude.{unwrap_or}
 use Rattle.std.specs.List.{flat_map}
-use Rattle.fb_text.specs.Order.{in_order}
+use Rattle.fb_mapping.specs.Text.Order.{in_order}
 use Rattle.fb_mapping.specs.Library.View.{Sources, tree_at}
 use Rattle.fb_mapping.specs.Library.Rests.{Rests}
 use Rattle.fb_mapping.specs.Library.Local.{AgreeFar}
-use Rattle.fb_netcheck.specs.Spellings.{text_or_empty}
+use Rattle.fb_mapping.specs.Netcheck.Spellings.{text_or_empty}
 use Rattle.fb_mapping.specs.Standing.{PlainStanding, path_names, standing_at}
 use Rattle.fb_mapping.specs.Systems.{applications_in}
 use Rattle.fb_mapping.specs.declared.homes.Home.{Home}

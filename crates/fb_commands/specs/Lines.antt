@@ -5,12 +5,12 @@ use Rattle.std.specs.List.{filter_map, flat_map}
 use Rattle.std.specs.Ordering.{on, then_cmp}
 use Rattle.std.specs.Cmp.{IsTotalOrder, then_total, on_total}
 use Rattle.std.specs.Cmp.Lexicographic.{nat_list_cmp_total}
-use Rattle.fb_text.specs.Order.{in_order, name_cmp}
+use Rattle.fb_mapping.specs.Text.Order.{in_order, name_cmp}
 use Rattle.fb_mapping.specs.Tree.Tree.{ApplicationTree, ParameterTree}
 use Rattle.fb_mapping.specs.Library.View.{Sources}
 use Rattle.fb_mapping.specs.Network.Places.{dotted}
 use Rattle.fb_mapping.specs.Network.declared.flat.FlatBlock.{FlatBlock}
-use Rattle.fb_netcheck.specs.Spellings.{text_or_empty}
+use Rattle.fb_mapping.specs.Netcheck.Spellings.{text_or_empty}
 use Rattle.fb_mapping.specs.Standing.{PlainStanding, path_names, standing_at}
 use Rattle.fb_mapping.specs.declared.homes.Home.{Home}
 use Rattle.fb_commands.specs.declared.lines.Line.{Line}

@@ -1,12 +1,12 @@
 -- Constants as they are written.
 use Rattle.std.specs.Prelude.{ℕ, List, [], Result, Ok, Err, slice_range}
 use Rattle.std.specs.List.{flat_map}
-use Rattle.fb_text.specs.Tokens.{tokens_of}
-use Rattle.fb_text.specs.declared.token.Span.{Span}
-use Rattle.fb_text.specs.declared.token.Token.{Token}
+use Rattle.fb_mapping.specs.Text.Tokens.{tokens_of}
+use Rattle.fb_mapping.specs.Text.declared.token.Span.{Span}
+use Rattle.fb_mapping.specs.Text.declared.token.Token.{Token}
 use Rattle.fb_mapping.specs.Tree.Tree.{ConstantTree, one_value, value_list}
-use Rattle.fb_netcheck.specs.Iface.Literals.{simple_span}
-use Rattle.fb_netcheck.specs.Spellings.{part}
+use Rattle.fb_mapping.specs.Iface.Literals.{simple_span}
+use Rattle.fb_mapping.specs.Netcheck.Spellings.{part}
 
 abbrev pub token_text : List ℕ → Token → List ℕ
 token_text text t = slice_range text t.span.start t.span.end

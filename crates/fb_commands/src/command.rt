@@ -3,7 +3,7 @@ ghost use Rattle.std.specs.Prelude.{◌≡◌, ◌∷◌, ◌++◌, IfOk, nat_eq
 ghost use Rattle.std.specs.Ordering.{as_partial_cmp};
 ghost use Rattle.std.specs.Cmp.{partial_equiv_from_equiv};
 ghost use Rattle.std.specs.Cmp.Lexicographic.{pointwise, nat_list_eq_equiv, nat_list_cmp_total, texts_po, texts_ties};
-ghost use Rattle.fb_text.specs.Order.{name_cmp};
+ghost use Rattle.fb_mapping.specs.Text.Order.{name_cmp};
 
 use std::alloc::{AllocError, Global};
 use std::cmp::Ordering;

@@ -8,8 +8,8 @@ use crate::orders::orders_of;
 use crate::resources::{ResourcePlan, resource_plans, resources_of};
 use fb_mapping::library::View;
 use fb_mapping::network::{Flat, Link};
+use fb_mapping::text::Name;
 use fb_mapping::{Home, cuts_of, home_table};
-use fb_text::Name;
 use std::alloc::{AllocError, Global};
 
 /// The links between resources, and the commands of each resource, in the order of the text.

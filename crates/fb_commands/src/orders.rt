@@ -10,8 +10,8 @@ use crate::command::Command;
 use crate::lines::{Line, create_lines, write_lines};
 use fb_mapping::library::View;
 use fb_mapping::network::{Flat, Link, Path};
+use fb_mapping::text::Name;
 use fb_mapping::{Home, PathTable, is_cut, nearest};
-use fb_text::Name;
 use std::alloc::{AllocError, Global};
 
 /// A command and the resource that it is for.

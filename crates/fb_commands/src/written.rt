@@ -1,15 +1,15 @@
 //! Constants as they are written.
 ghost use Rattle.std.specs.Prelude.{◌≡◌, All, IfOk, string_bytes};
 ghost use Rattle.std.specs.List.{flat_map};
-ghost use Rattle.fb_text.specs.Tokens.{LiesIn};
+ghost use Rattle.fb_mapping.specs.Text.Tokens.{LiesIn};
 ghost use Rattle.fb_mapping.specs.Tree.Tree.{constant_tree};
-ghost use Rattle.fb_netcheck.specs.Spellings.{part};
-ghost use Rattle.fb_netcheck.specs.Iface.Literals.{simple_span};
+ghost use Rattle.fb_mapping.specs.Netcheck.Spellings.{part};
+ghost use Rattle.fb_mapping.specs.Iface.Literals.{simple_span};
 ghost use Rattle.fb_commands.specs.Written.{constant_span, token_text, without_gaps, written};
 
+use fb_mapping::netcheck::part_of;
+use fb_mapping::text::{Span, Token, TokenFault, tokens};
 use fb_mapping::tree::{Constant, Simple};
-use fb_netcheck::part_of;
-use fb_text::{Span, Token, TokenFault, tokens};
 use std::alloc::{AllocError, Global};
 
 fn span_of_simple(value: &Simple) -> Span

@@ -10,7 +10,7 @@ use Rattle.fb_network.specs.Network.{View}
 use Rattle.fb_compose.specs.Composed.{block_within, blocks_of, blocks_of_kind, inner_blocks, composed_blocks}
 use Rattle.fb_network.specs.Instances.{Held, held_as, held_within, AreInstances, NoInstance, ThenBlock, ThenSubapplication, leaf_first, leaves_of, AreBlocks}
 use Rattle.fb_compose.specs.Ready.{Nets, IsFinished, AreFinished}
-use Rattle.fb_text.proofs.Members.{contains_here, contains_later}
+use Rattle.fb_network.proofs.Text.Members.{contains_here, contains_later}
 use Rattle.fb_compose.proofs.Equals.{printed-within}
 
 -- a network's list of instances is one only

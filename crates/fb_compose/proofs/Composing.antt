@@ -2,7 +2,7 @@
 use Rattle.std.proofs.Common.{ℕ, ◌≡◌, Bool, true, false, List, [], ◌∷◌, ◌++◌, Option, Some, None, ◌⊎◌, inl, inr, refl, sym, ◌∙◌, ap, subst, append_assoc}
 use Rattle.std.specs.Prelude.{Contains, flat_map, filter, ◌&&◌}
 use Rattle.std.specs.BTreeMap.{is_at}
-use Rattle.fb_text.specs.Order.{name_cmp}
+use Rattle.fb_network.specs.Text.Order.{name_cmp}
 use Rattle.std.proofs.lemmas.List.Elements.{Contains-append_left, Contains-append_right, Contains-append_cases}
 use Rattle.fb_network.specs.Sorts.{same_sort}
 use Rattle.fb_network.specs.Tree.declared.network.Sort.{Sort}
@@ -31,7 +31,7 @@ use Rattle.fb_network.specs.Flat.{PrintsLink, PrintsBorder, AreLinks, AreBorders
 use Rattle.fb_compose.specs.Ready.{Nets, AreFinished}
 use Rattle.fb_network.specs.Places.{dotted}
 use Rattle.fb_network.specs.Printed.{printed}
-use Rattle.fb_text.proofs.Members.{contains_nothing, contains_here, contains_cases, contains_map, origin_in_map, contains_flat_map, origin_in_flat_map, contains_filter, passes_in_filter, passes_in_find}
+use Rattle.fb_network.proofs.Text.Members.{contains_nothing, contains_here, contains_cases, contains_map, origin_in_map, contains_flat_map, origin_in_flat_map, contains_filter, passes_in_filter, passes_in_find}
 use Rattle.fb_compose.proofs.Equals.{same_bytes, bytes_same, same_sorts, sort_same, same_links, printed-within}
 use Rattle.fb_compose.proofs.LinkLemmas.{no_leaf_nothing, leaf_behind, link_composed, border_composed, link_of_composed, border_of_composed}
 

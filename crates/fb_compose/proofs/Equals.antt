@@ -7,8 +7,8 @@ use Rattle.std.specs.Cmp.{tied_itself}
 use Rattle.std.specs.Cmp.Lexicographic.{nat_list_cmp_total}
 use Rattle.std.specs.FinMap.{nat_cmp-IsAntisymmetric, slice_cmp-IsAntisymmetric}
 use Rattle.std.specs.BTreeMap.{is_at}
-use Rattle.fb_text.proofs.OrderLemmas.{is_equal, both_equal}
-use Rattle.fb_text.specs.Order.{name_cmp}
+use Rattle.fb_network.proofs.Text.OrderLemmas.{is_equal, both_equal}
+use Rattle.fb_network.specs.Text.Order.{name_cmp}
 use Rattle.fb_network.specs.Tree.declared.network.Sort.{Sort}
 use Rattle.fb_network.specs.Tree.declared.network.Sort.TheVariants.{Event, Data, Adapter}
 use Rattle.fb_network.specs.Sorts.{number_of, same_sort}

@@ -4,7 +4,7 @@ use Rattle.std.specs.Prelude.{Contains}
 use Rattle.std.specs.BTreeMap.{is_at}
 use Rattle.std.proofs.lemmas.List.Elements.{Contains-append_left, Contains-push, Contains-push_cases}
 use Rattle.std.proofs.Math.Seq.{take-suc}
-use Rattle.fb_text.specs.Order.{name_cmp}
+use Rattle.fb_network.specs.Text.Order.{name_cmp}
 use Rattle.fb_network.specs.declared.network.InstanceKind.TheVariants.{Subapplication}
 use Rattle.fb_network.specs.declared.network.Instance.{Instance}
 use Rattle.fb_network.specs.Plain.{PlainNetwork}
@@ -14,7 +14,7 @@ use Rattle.fb_network.specs.Clean.{IsClean, IsCleanThroughout, CleanThroughout}
 use Rattle.fb_network.specs.FlatNet.{IsFlat}
 use Rattle.fb_compose.specs.Ready.{Nets, IsFinished}
 use Rattle.fb_compose.specs.Ordered.{IsNext, IsOrdered, AreClean, AreCleanThroughout, IsReady, AddsFlat, AreFlat}
-use Rattle.fb_text.proofs.Members.{contains_nothing}
+use Rattle.fb_network.proofs.Text.Members.{contains_nothing}
 use Rattle.fb_compose.proofs.Equals.{same_bytes, not_at, at_not}
 use Rattle.fb_compose.proofs.Composing.{found_by_name}
 

@@ -4,7 +4,7 @@ use Rattle.std.specs.Prelude.{Contains}
 use Rattle.fb_network.specs.Plain.{PlainNetwork}
 use Rattle.fb_network.specs.Network.{View}
 use Rattle.fb_network.specs.Clean.{IsCleanThroughout, CleanThroughout}
-use Rattle.fb_text.proofs.Members.{contains_nothing}
+use Rattle.fb_network.proofs.Text.Members.{contains_nothing}
 use Rattle.fb_compose.proofs.Composing.{found_by_name}
 
 not_among : {X : Type 0} (xs : List X) (x : X) → xs ≡ [] → Contains xs x → ⊥

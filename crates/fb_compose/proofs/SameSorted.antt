@@ -7,7 +7,7 @@ use Rattle.std.specs.declared.cmp.Ordering.TheVariants.{Less, Greater}
 use Rattle.std.specs.Ordering.{ordering_reverse}
 use Rattle.std.specs.List.Sorted.{IsStrictlySortedBy}
 use Rattle.std.proofs.lemmas.Map.Keys.{Less-from_sorted}
-use Rattle.fb_text.proofs.Members.{contains_nothing, contains_here, contains_later, contains_cases}
+use Rattle.fb_network.proofs.Text.Members.{contains_nothing, contains_here, contains_later, contains_cases}
 
 -- each element is below the later ones
 abbrev Rises : {X : Type 0} → (X → X → Ordering) → List X → Type 0

@@ -9,7 +9,7 @@ use Rattle.fb_network.specs.PlainFlat.{PlainFlat}
 use Rattle.fb_network.specs.LinkOrder.{link_cmp_total}
 use Rattle.fb_compose.specs.SystemFlat.{IsApplicationLink, IsSystemFlat, application_links}
 use Rattle.fb_compose.proofs.SameSorted.{same_sorted}
-use Rattle.fb_text.proofs.Members.{contains_map, origin_in_map, contains_flat_map, origin_in_flat_map}
+use Rattle.fb_network.proofs.Text.Members.{contains_map, origin_in_map, contains_flat_map, origin_in_flat_map}
 
 link_of_application : (applications : List FlatApplication) (link : Link) → Contains (flat_map application_links applications) link → IsApplicationLink applications link
 link_of_application applications link c =

@@ -3,7 +3,7 @@ use Rattle.std.proofs.Common.{ℕ, ◌≡◌, ◌<◌, ◌+◌, Bool, true, fals
 use Rattle.std.specs.Prelude.{is_some}
 use Rattle.std.specs.BTreeMap.{is_at}
 use Rattle.std.proofs.Math.Seq.{take-suc}
-use Rattle.fb_text.specs.Order.{name_cmp}
+use Rattle.fb_network.specs.Text.Order.{name_cmp}
 use Rattle.fb_network.specs.declared.network.Instance.{Instance}
 use Rattle.fb_network.specs.Network.{instance_named}
 use Rattle.fb_compose.specs.Composed.{Instances}

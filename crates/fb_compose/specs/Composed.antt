@@ -1,7 +1,7 @@
 -- The lists of links, borders and blocks that a network and the flat networks of its subapplications give.
 use Rattle.std.specs.Prelude.{ℕ, List, [], ◌∷◌, ◌++◌, Option, Some, None, Bool, ◌&&◌, filter, map, flat_map}
 use Rattle.std.specs.BTreeMap.{is_at}
-use Rattle.fb_text.specs.Order.{name_cmp}
+use Rattle.fb_network.specs.Text.Order.{name_cmp}
 use Rattle.fb_network.specs.Tree.declared.network.Sort.{Sort}
 use Rattle.fb_network.specs.Tree.declared.network.Sort.TheVariants.{Event, Data, Adapter}
 use Rattle.fb_network.specs.Tree.declared.interface.Side.{Side}

@@ -2,16 +2,16 @@
 ghost use Rattle.std.specs.Prelude.{◌≡◌, [], ◌∷◌, ◌++◌, OnOk};
 ghost use Rattle.std.specs.Option.{option_copied, option_and_then};
 ghost use Rattle.std.specs.BTreeMap.{get};
-ghost use Rattle.fb_text.specs.Order.{name_cmp};
+ghost use Rattle.fb_network.specs.Text.Order.{name_cmp};
 ghost use Rattle.fb_network.specs.Network.{instance_named, place_of};
 ghost use Rattle.fb_network.specs.Clean.{adapter_at, port_named};
 ghost use Rattle.fb_compose.specs.Composed.{adapter_links, plug_links, port_links};
 
 use crate::look_up::Networks;
 use crate::table::Table;
+use fb_network::text::{Name, same_name};
 use fb_network::tree::{Side, Sort};
 use fb_network::{End, Link, Network, Path, Port, is_same_sort};
-use fb_text::{Name, same_name};
 use std::alloc::{AllocError, Global};
 
 /// The links of an adapter's ports between a plug and a socket: its outputs lead from the plug to the socket, its inputs from the socket

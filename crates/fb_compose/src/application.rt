@@ -1,7 +1,7 @@
 //! Applications of a system.
 
 use fb_network::Flat;
-use fb_text::Name;
+use fb_network::text::Name;
 
 /// An application of a system, with the flat network of its network.
 #[derive(Debug, Drop)]

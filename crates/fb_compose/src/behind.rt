@@ -1,14 +1,14 @@
 //! The places of blocks behind an end of a connection.
 ghost use Rattle.std.specs.Prelude.{◌≡◌, IfOk};
 ghost use Rattle.std.specs.BTreeMap.{get};
-ghost use Rattle.fb_text.specs.Order.{name_cmp};
+ghost use Rattle.fb_network.specs.Text.Order.{name_cmp};
 ghost use Rattle.fb_compose.specs.Composed.{behind_instance, behind_of, belongs, border_places};
 
 use crate::look_up::Nets;
 use crate::table::Table;
+use fb_network::text::{Name, same_name};
 use fb_network::tree::Sort;
 use fb_network::{Border, End, Flat, Instance, InstanceKind, Path, is_same_sort};
-use fb_text::{Name, same_name};
 use std::alloc::{AllocError, Global};
 
 fn is_border_of(border: &Border, sort: Sort, port: &Name) -> bool

@@ -3,8 +3,8 @@ ghost use Rattle.std.specs.Prelude.{◌≡◌, ◌++◌, IfOk, OnOk, Some};
 ghost use Rattle.fb_compose.specs.Composed.{blocks_of, composed_blocks, inner_blocks};
 
 use crate::look_up::Nets;
+use fb_network::text::Name;
 use fb_network::{Flat, FlatBlock, Instance, InstanceKind, Network, Path};
-use fb_text::Name;
 use std::alloc::{AllocError, Global};
 
 /// The blocks of a flat network, inside the instance of that name.

@@ -1,7 +1,7 @@
 //! The borders of a network, not yet in order.
 ghost use Rattle.std.specs.Prelude.{◌≡◌, ◌++◌, IfOk, OnOk};
 ghost use Rattle.std.specs.BTreeMap.{get};
-ghost use Rattle.fb_text.specs.Order.{name_cmp};
+ghost use Rattle.fb_network.specs.Text.Order.{name_cmp};
 ghost use Rattle.fb_compose.specs.Composed.{composed_borders, connection_borders, end_borders};
 
 use crate::behind::behind;

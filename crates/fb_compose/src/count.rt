@@ -1,13 +1,13 @@
 //! How many instances a network holds.
 ghost use Rattle.std.specs.Prelude.{◌≡◌, ◌+◌, min};
 ghost use Rattle.std.specs.BTreeMap.{get};
-ghost use Rattle.fb_text.specs.Order.{name_cmp};
+ghost use Rattle.fb_network.specs.Text.Order.{name_cmp};
 ghost use Rattle.fb_network.specs.Network.{View};
 ghost use Rattle.fb_network.specs.Count.{IsCount};
 ghost use Rattle.fb_compose.specs.Counts.{AreCounted, count_in};
 
+use fb_network::text::Name;
 use fb_network::{INSTANCE_LIMIT, Instance, InstanceKind, Network};
-use fb_text::Name;
 use std::collections::BTreeMap;
 
 /// How many instances stand in an instance.

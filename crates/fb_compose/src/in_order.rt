@@ -1,13 +1,13 @@
 //! The flat networks of many types.
 ghost use Rattle.std.specs.Prelude.{IfOk, OnOk};
 ghost use Rattle.std.specs.BTreeMap.{get};
-ghost use Rattle.fb_text.specs.Order.{name_cmp};
+ghost use Rattle.fb_network.specs.Text.Order.{name_cmp};
 ghost use Rattle.fb_compose.specs.Ordered.{AddsFlat, AreClean, AreFlat, IsOrdered, IsReady};
 
 use crate::flat_network::compose;
 use crate::look_up::Networks;
 use fb_network::Flat;
-use fb_text::Name;
+use fb_network::text::Name;
 use std::alloc::{AllocError, Global};
 use std::collections::BTreeMap;
 

@@ -25,3 +25,11 @@ pub use laws::{chains_are_composed, flat_is_one, system_is_one};
 pub use look_up::{Nets, Networks};
 pub use sorted::sort_once;
 pub use system::join;
+
+/// Of `fb_network`, for the crates above.
+pub mod network {
+    pub use fb_network::{
+        Border, Connection, End, Flat, FlatBlock, INSTANCE_LIMIT, Instance, InstanceKind, Link,
+        Network, Path, Port, is_same_sort, sort_number,
+    };
+}

@@ -1,7 +1,7 @@
 //! The links of a network, not yet in order.
 ghost use Rattle.std.specs.Prelude.{◌≡◌, ◌++◌, IfOk, OnOk, Some};
 ghost use Rattle.std.specs.BTreeMap.{get};
-ghost use Rattle.fb_text.specs.Order.{name_cmp};
+ghost use Rattle.fb_network.specs.Text.Order.{name_cmp};
 ghost use Rattle.fb_network.specs.Network.{instance_named};
 ghost use Rattle.fb_compose.specs.Composed.{composed_links, connection_links, inner_links, link_pairs, links_from, links_of};
 ghost use Rattle.std.specs.List.{flat_map};
@@ -10,9 +10,9 @@ use crate::adapters::{find_adapter, push_adapter_links};
 use crate::behind::behind;
 use crate::look_up::{Nets, Networks};
 use crate::table::Table;
+use fb_network::text::Name;
 use fb_network::tree::Sort;
 use fb_network::{Connection, Flat, Instance, InstanceKind, Link, Network, Path};
-use fb_text::Name;
 use std::alloc::{AllocError, Global};
 
 fn push_links_from(

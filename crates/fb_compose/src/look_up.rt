@@ -2,12 +2,12 @@
 ghost use Rattle.std.specs.Prelude.{◌≡◌};
 ghost use Rattle.std.specs.Option.{option_copied};
 ghost use Rattle.std.specs.BTreeMap.{get};
-ghost use Rattle.fb_text.specs.Order.{name_cmp};
+ghost use Rattle.fb_network.specs.Text.Order.{name_cmp};
 ghost use Rattle.fb_network.specs.Network.{View};
 ghost use Rattle.fb_compose.specs.Ready as ready;
 
+use fb_network::text::Name;
 use fb_network::{Flat, Network};
-use fb_text::Name;
 use std::collections::BTreeMap;
 
 /// Networks by the names of their types.

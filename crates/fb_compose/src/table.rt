@@ -1,11 +1,11 @@
 //! The instances of a network by their names.
 ghost use Rattle.std.specs.Prelude.{◌≡◌, IfOk};
 ghost use Rattle.std.specs.BTreeMap.{get};
-ghost use Rattle.fb_text.specs.Order.{name_cmp};
+ghost use Rattle.fb_network.specs.Text.Order.{name_cmp};
 ghost use Rattle.fb_network.specs.Network.{instance_named};
 
 use fb_network::Instance;
-use fb_text::Name;
+use fb_network::text::Name;
 use std::alloc::{AllocError, Global};
 use std::collections::BTreeMap;
 

@@ -1,19 +1,19 @@
 //! The check of what a unit declares.
 ghost use Rattle.std.specs.Prelude.{◌≡◌, ◌++◌, IfOk, OnOk, Some};
-ghost use Rattle.fb_iface.specs.Tree.Tree.{decl_tree};
-ghost use Rattle.fb_iface.specs.Library.View.{tree_at};
-ghost use Rattle.fb_iface.specs.Declarations.{declaration_faults, declared_name, iface_faults_of, mixed_faults, name_faults};
-ghost use Rattle.fb_iface.specs.Fault.{faults_in_order};
-ghost use Rattle.fb_iface.specs.Ports.{meanings_in};
+ghost use Rattle.fb_ecc.specs.Tree.Tree.{decl_tree};
+ghost use Rattle.fb_ecc.specs.Library.View.{tree_at};
+ghost use Rattle.fb_ecc.specs.Iface.Declarations.{declaration_faults, declared_name, iface_faults_of, mixed_faults, name_faults};
+ghost use Rattle.fb_ecc.specs.Iface.Fault.{faults_in_order};
+ghost use Rattle.fb_ecc.specs.Iface.Ports.{meanings_in};
 
 use crate::instances::report_types;
 use crate::literals::report_literals;
 use crate::repeats::report_duplicates;
 use crate::withs::report_withs;
-use fb_iface::library::{View, tree_by_name};
-use fb_iface::tree::Decl;
-use fb_iface::{Code, Fault, Ports, ports_of, sorted_faults};
-use fb_text::{Name, NameUse, same_name};
+use fb_ecc::iface::{Code, Fault, Ports, ports_of, sorted_faults};
+use fb_ecc::library::{View, tree_by_name};
+use fb_ecc::text::{Name, NameUse, same_name};
+use fb_ecc::tree::Decl;
 use std::alloc::{AllocError, Global};
 
 /// The faults of what a unit declares, in order, each once.

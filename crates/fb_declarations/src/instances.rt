@@ -1,12 +1,12 @@
 //! The types of instances, plugs and sockets.
 ghost use Rattle.std.specs.Prelude.{◌≡◌, ◌++◌, OnOk};
 ghost use Rattle.std.specs.List.{flat_map};
-ghost use Rattle.fb_iface.specs.Tree.Tree.{decl_tree, instance_tree, network_tree};
-ghost use Rattle.fb_iface.specs.Types.{instance_faults, type_faults};
+ghost use Rattle.fb_ecc.specs.Tree.Tree.{decl_tree, instance_tree, network_tree};
+ghost use Rattle.fb_ecc.specs.Iface.Types.{instance_faults, type_faults};
 
-use fb_iface::library::{View, tree_by_name};
-use fb_iface::tree::{Application, Decl, Instance, Network, kind};
-use fb_iface::{Code, Fault, is_suited};
+use fb_ecc::iface::{Code, Fault, is_suited};
+use fb_ecc::library::{View, tree_by_name};
+use fb_ecc::tree::{Application, Decl, Instance, Network, kind};
 use std::alloc::AllocError;
 
 /// Reports the types that are absent, broken or of another kind.

@@ -1,5 +1,5 @@
 //! Laws of the faults of declarations: where each code is reported.
-ghost use Rattle.fb_iface.specs.Rows.{DuplicatesAreReported, MisfitsAreReported, MixedKindsAreReported, OtherNamesAreReported, UnknownTypesAreReported, UnknownWithsAreReported, WrongKindsAreReported};
+ghost use Rattle.fb_ecc.specs.Iface.Rows.{DuplicatesAreReported, MisfitsAreReported, MixedKindsAreReported, OtherNamesAreReported, UnknownTypesAreReported, UnknownWithsAreReported, WrongKindsAreReported};
 
 /// The declared name is a fault where it is not the unit's.
 pub fn other_names_are_reported()

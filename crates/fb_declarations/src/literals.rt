@@ -1,11 +1,11 @@
 //! Initial values that do not fit their type.
 ghost use Rattle.std.specs.Prelude.{◌≡◌, ◌++◌, OnOk};
-ghost use Rattle.fb_iface.specs.Tree.Tree.{decl_tree, interface_tree, variables_tree};
-ghost use Rattle.fb_iface.specs.Declarations.{literal_faults_of};
-ghost use Rattle.fb_iface.specs.Literals.{initial_faults, literal_faults};
+ghost use Rattle.fb_ecc.specs.Tree.Tree.{decl_tree, interface_tree, variables_tree};
+ghost use Rattle.fb_ecc.specs.Iface.Declarations.{literal_faults_of};
+ghost use Rattle.fb_ecc.specs.Iface.Literals.{initial_faults, literal_faults};
 
-use fb_iface::tree::{Decl, Interface, Variables};
-use fb_iface::{Fault, report_constant};
+use fb_ecc::iface::{Fault, report_constant};
+use fb_ecc::tree::{Decl, Interface, Variables};
 use std::alloc::AllocError;
 
 /// Reports the initial values that do not fit their type.

@@ -1,9 +1,9 @@
 //! What declares a name.
 ghost use Rattle.std.specs.Prelude.{◌≡◌};
-ghost use Rattle.fb_text.specs.declared.name.NameUse.{NameUse};
+ghost use Rattle.fb_ecc.specs.Text.declared.name.NameUse.{NameUse};
 
-use fb_iface::tree::{Algorithm, Application, Device, Event, Instance, Parameter, Resource, State};
-use fb_text::NameUse;
+use fb_ecc::text::NameUse;
+use fb_ecc::tree::{Algorithm, Application, Device, Event, Instance, Parameter, Resource, State};
 
 /// What declares a name.
 pub trait Named {

@@ -1,17 +1,17 @@
 //! Names that are declared again in their name space.
 ghost use Rattle.std.specs.Prelude.{◌≡◌, ◌++◌, map, IfOk, OnOk};
 ghost use Rattle.std.specs.List.{flat_map};
-ghost use Rattle.fb_iface.specs.Tree.Tree.{chart_tree, decl_tree, device_tree, instance_tree, interface_tree, network_tree, system_tree, type_tree};
-ghost use Rattle.fb_iface.specs.Declarations.{duplicate_faults, space_duplicates};
-ghost use Rattle.fb_iface.specs.Spaces.{chart_spaces, interface_spaces, network_spaces, parameter_names, resource_names, system_spaces, type_spaces};
+ghost use Rattle.fb_ecc.specs.Tree.Tree.{chart_tree, decl_tree, device_tree, instance_tree, interface_tree, network_tree, system_tree, type_tree};
+ghost use Rattle.fb_ecc.specs.Iface.Declarations.{duplicate_faults, space_duplicates};
+ghost use Rattle.fb_ecc.specs.Iface.Spaces.{chart_spaces, interface_spaces, network_spaces, parameter_names, resource_names, system_spaces, type_spaces};
 
 use crate::named::Named;
-use fb_iface::tree::{
+use fb_ecc::iface::{Code, Fault};
+use fb_ecc::text::NameUse;
+use fb_ecc::tree::{
     Application, Chart, Decl, Device, Instance, Interface, Network, Role, System, TypeDeclaration,
     Variables,
 };
-use fb_iface::{Code, Fault};
-use fb_text::NameUse;
 use std::alloc::{AllocError, Global};
 use std::collections::BTreeSet;
 

@@ -1,15 +1,15 @@
 //! Names behind `WITH` (IEC 61499-1, 5.2: the data that an event carries).
 ghost use Rattle.std.specs.Prelude.{◌≡◌, ◌++◌, OnOk};
 ghost use Rattle.std.specs.List.{flat_map};
-ghost use Rattle.fb_iface.specs.Tree.Tree.{decl_tree, event_tree, interface_tree};
-ghost use Rattle.fb_iface.specs.Declarations.{with_faults_of};
-ghost use Rattle.fb_iface.specs.Names.{first_ones, stands_for};
-ghost use Rattle.fb_iface.specs.Ports.{meanings_in, variables_in};
-ghost use Rattle.fb_iface.specs.Withs.{carries, event_withs, with_faults};
+ghost use Rattle.fb_ecc.specs.Tree.Tree.{decl_tree, event_tree, interface_tree};
+ghost use Rattle.fb_ecc.specs.Iface.Declarations.{with_faults_of};
+ghost use Rattle.fb_ecc.specs.Iface.Names.{first_ones, stands_for};
+ghost use Rattle.fb_ecc.specs.Iface.Ports.{meanings_in, variables_in};
+ghost use Rattle.fb_ecc.specs.Iface.Withs.{carries, event_withs, with_faults};
 
-use fb_iface::tree::{Decl, Event, Interface, Side};
-use fb_iface::{Code, Fault, Ports, is_beside};
-use fb_text::Name;
+use fb_ecc::iface::{Code, Fault, Ports, is_beside};
+use fb_ecc::text::Name;
+use fb_ecc::tree::{Decl, Event, Interface, Side};
 use std::alloc::AllocError;
 
 /// Reports the names behind `WITH` that are no data of the event's side. The unit has these ports.

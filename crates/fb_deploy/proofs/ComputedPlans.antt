@@ -11,7 +11,7 @@ use Rattle.fb_flatten.specs.Tables.{is_system_tree}
 use Rattle.fb_deploy.specs.Placed.{IsSystem}
 use Rattle.fb_flatten.proofs.ComputedNets.{net_at_is, net_at_local}
 use Rattle.fb_deploy.proofs.KindLemmas.{no_system, system_kind}
-use Rattle.fb_commands.proofs.Mapping.StandingLocal.{tree_same}
+use Rattle.fb_flatten.proofs.Mapping.StandingLocal.{tree_same}
 use Rattle.fb_deploy.specs.Deploy.{PlainDeploy, IsPlan, planned_by}
 use Rattle.fb_deploy.specs.Plans.{HasPlanByText, PlanAtIsLocal, PlanAtIsPlan, PlanAtOfSystems, has_plan_in, plan_at}
 use Rattle.fb_deploy.proofs.PlanLocal.{one_plan_only, planned_same}

@@ -11,4 +11,7 @@ pub use Rattle.fb_flatten.proofs.Iface as Iface
 pub use Rattle.fb_flatten.proofs.Faults as Faults
 pub use Rattle.fb_flatten.proofs.Compose as Compose
 pub use Rattle.fb_flatten.proofs as Flatten
-pub use Rattle.fb_commands.proofs.LineLemmas as LineLemmas
+pub use Rattle.fb_flatten.proofs.Commands.LineLemmas as LineLemmas
+pub use Rattle.fb_flatten.proofs.Text as Text
+pub use Rattle.fb_flatten.proofs.Mapping as Mapping
+pub use Rattle.fb_flatten.proofs.Table as Table

@@ -4,7 +4,7 @@ use Rattle.fb_flatten.specs.Library.View.{Sources}
 use Rattle.fb_flatten.specs.Library.Local.{AgreeFar}
 use Rattle.fb_flatten.specs.Net.{PlainNet, blocked, recursive, too_large, flat_net}
 use Rattle.fb_flatten.proofs.NetLocality.{net_local}
-use Rattle.fb_commands.proofs.Mapping.HomesLocal.{homes_same}
+use Rattle.fb_flatten.proofs.Mapping.HomesLocal.{homes_same}
 use Rattle.fb_deploy.specs.Laws.{PlaceIsLocal}
 use Rattle.fb_deploy.specs.Placed.{placed_by, with_cuts}
 

@@ -5,14 +5,14 @@ use Rattle.fb_flatten.specs.Library.View.{Sources, tree_at}
 use Rattle.fb_flatten.specs.Network.PlainFlat.{PlainFlat}
 use Rattle.fb_flatten.specs.Network.declared.flat.Link.{Link}
 use Rattle.fb_flatten.specs.Net.{PlainNet, IsNet, blocked, recursive, too_large, flat_net, plain_net}
-use Rattle.fb_commands.specs.Mapping.Cuts.{cuts_of, home_at}
-use Rattle.fb_commands.specs.Mapping.Homes.{PlainHomes, faulty_homes, all_homes, homes_of}
-use Rattle.fb_commands.specs.Mapping.Systems.{applications_in, devices_in}
-use Rattle.fb_commands.specs.Mapping.declared.homes.Home.{Home}
-use Rattle.fb_commands.specs.Mapping.declared.homes.Misplaced.{Misplaced}
-use Rattle.fb_commands.specs.Orders.{orders_of}
-use Rattle.fb_commands.specs.PlainResource.{PlainResource}
-use Rattle.fb_commands.specs.Resources.{resource_plans, resources_of}
+use Rattle.fb_flatten.specs.Mapping.Cuts.{cuts_of, home_at}
+use Rattle.fb_flatten.specs.Mapping.Homes.{PlainHomes, faulty_homes, all_homes, homes_of}
+use Rattle.fb_flatten.specs.Mapping.Systems.{applications_in, devices_in}
+use Rattle.fb_flatten.specs.Mapping.declared.homes.Home.{Home}
+use Rattle.fb_flatten.specs.Mapping.declared.homes.Misplaced.{Misplaced}
+use Rattle.fb_flatten.specs.Commands.Orders.{orders_of}
+use Rattle.fb_flatten.specs.Commands.PlainResource.{PlainResource}
+use Rattle.fb_flatten.specs.Commands.Resources.{resource_plans, resources_of}
 use Rattle.fb_deploy.specs.declared.planning.Deploy.{Deploy}
 use Rattle.fb_deploy.specs.declared.planning.Deploy.TheVariants as deploy
 

@@ -6,12 +6,12 @@ use Rattle.fb_flatten.specs.Wiring.ByName.{kind_at}
 use Rattle.fb_flatten.specs.Network.declared.flat.Link.{Link}
 use Rattle.fb_flatten.specs.Network.PlainFlat.{PlainFlat}
 use Rattle.fb_flatten.specs.Net.{PlainNet, IsNet, blocked, recursive, too_large, flat_net, plain_net}
-use Rattle.fb_commands.specs.Mapping.declared.homes.Home.{Home}
-use Rattle.fb_commands.specs.Mapping.declared.homes.Misplaced.{Misplaced}
+use Rattle.fb_flatten.specs.Mapping.declared.homes.Home.{Home}
+use Rattle.fb_flatten.specs.Mapping.declared.homes.Misplaced.{Misplaced}
 use Rattle.fb_deploy.specs.declared.placement.Placed.{Placed}
 use Rattle.fb_deploy.specs.declared.placement.Placed.TheVariants as placed
-use Rattle.fb_commands.specs.Mapping.Cuts.{cuts_of, home_at}
-use Rattle.fb_commands.specs.Mapping.Homes.{PlainHomes, faulty_homes, all_homes, homes_of}
+use Rattle.fb_flatten.specs.Mapping.Cuts.{cuts_of, home_at}
+use Rattle.fb_flatten.specs.Mapping.Homes.{PlainHomes, faulty_homes, all_homes, homes_of}
 
 -- systems are placed
 abbrev pub IsSystem : Sources → List ℕ → Type 0

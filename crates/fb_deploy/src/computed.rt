@@ -9,7 +9,7 @@ use crate::planning::{Deploy, plan_with};
 use crate::systems::is_system;
 use fb_flatten::Hints;
 use fb_flatten::library::View;
-use fb_text::Name;
+use fb_flatten::text::Name;
 use std::alloc::{AllocError, Global};
 
 /// Whether the unit is a system, and so has a plan.

@@ -8,7 +8,7 @@ mod planning;
 mod systems;
 
 pub use computed::{is_of_plan, plan_of_unit_with};
-pub use fb_commands::{Command, ResourcePlan};
+pub use fb_flatten::commands::{Command, ResourcePlan};
 pub use laws::{
     has_plan_by_text, one_plan, plan_at_is_local, plan_at_is_plan, plan_at_of_systems,
     plan_is_local,
@@ -41,17 +41,20 @@ pub mod library {
     };
 }
 
-/// Placements, and of `fb_commands::mapping`, for the crates above.
+/// Placements, and of `fb_flatten::mapping`, for the crates above.
 pub mod mapping {
     pub use crate::laws::{one_place, place_is_local};
     pub use crate::placement::{Placed, place};
     pub use crate::systems::is_system;
-    pub use fb_commands::mapping::{Home, Misplaced, homes_are_nearest, path_names};
+    pub use fb_flatten::mapping::{Home, Misplaced, homes_are_nearest, path_names};
 }
 
 /// Of `fb_flatten::network`, for the crates above.
 pub mod network {
-    pub use fb_flatten::network::{Border, Flat, FlatBlock, Link};
+    pub use fb_flatten::network::{
+        Border, Connection, End, Flat, FlatBlock, Instance, InstanceKind, Link, Network, Path,
+        Port, is_same_sort, sort_number,
+    };
 }
 
 /// Of `fb_flatten::parse`, for the crates above.
@@ -61,7 +64,7 @@ pub mod parse {
 
 /// Of `fb_flatten::tree`, for the crates above.
 pub mod tree {
-    pub use fb_flatten::tree::Sort;
+    pub use fb_flatten::tree::{Side, Sort};
 }
 
 /// Of `fb_flatten::wiring`, for the crates above.
@@ -69,5 +72,25 @@ pub mod wiring {
     pub use fb_flatten::wiring::{
         applications, applications_are_clean, network, networks_are_clean, networks_are_local,
         without_faults_nothing_is_reported,
+    };
+}
+
+/// Of `fb_flatten::compose`, for the crates above.
+pub mod compose {
+    pub use fb_flatten::compose::{
+        FlatApplication, chains_are_composed, compose, compose_in_order, count_instances,
+        flat_is_one, join, system_is_one,
+    };
+}
+
+/// Of `fb_flatten::text`, for the crates above.
+pub mod text {
+    pub use fb_flatten::text::{Name, same_name};
+}
+
+/// Of `fb_flatten::order`, for the crates above.
+pub mod order {
+    pub use fb_flatten::order::{
+        inner_first, ordered_is_not_recursive, recursion_is_local, recursive,
     };
 }

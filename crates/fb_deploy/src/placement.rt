@@ -2,11 +2,11 @@
 ghost use Rattle.std.specs.Prelude.{◌≡◌, IfOk};
 ghost use Rattle.fb_deploy.specs.Placed.{IsPlaced, IsSystem, flat_placed, plain_placed};
 
-use fb_commands::mapping::{Home, Homes, Misplaced, cuts_of, home_table, homes_of};
 use fb_flatten::library::View;
+use fb_flatten::mapping::{Home, Homes, Misplaced, cuts_of, home_table, homes_of};
 use fb_flatten::network::{Flat, Link};
+use fb_flatten::text::Name;
 use fb_flatten::{Net, net};
-use fb_text::Name;
 use std::alloc::{AllocError, Global};
 
 /// Where the blocks of a system stand.

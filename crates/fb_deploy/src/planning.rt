@@ -5,12 +5,12 @@ ghost use Rattle.fb_flatten.specs.Library.View.{tree_at};
 ghost use Rattle.fb_deploy.specs.Placed.{IsSystem};
 ghost use Rattle.fb_deploy.specs.Deploy.{IsPlan, flat_plan, plain_deploy, tree_plan};
 
-use fb_commands::mapping::{Home, Homes, Misplaced, homes_of};
-use fb_commands::{Commands, ResourcePlan, commands_of};
+use fb_flatten::commands::{Commands, ResourcePlan, commands_of};
 use fb_flatten::library::View;
+use fb_flatten::mapping::{Home, Homes, Misplaced, homes_of};
 use fb_flatten::network::{Flat, Link};
+use fb_flatten::text::Name;
 use fb_flatten::{Hints, Net, NoHints, net_with};
-use fb_text::Name;
 use std::alloc::{AllocError, Global};
 
 /// What is to be done on each resource of a system.

@@ -4,7 +4,7 @@ ghost use Rattle.fb_deploy.specs.Placed.{IsSystem};
 
 use fb_flatten::is_of_system;
 use fb_flatten::library::{View, tree_by_name};
-use fb_text::Name;
+use fb_flatten::text::Name;
 
 /// Whether the unit is a system, which has a placement.
 pub fn is_system<V: View>(view: &V, unit: &Name) -> bool

@@ -3,25 +3,25 @@ use Rattle.std.proofs.Common.{◌≡◌, ◌≢◌, ℕ, Bool, true, false, List
 use Rattle.std.specs.List.{Contains, flat_map}
 use Rattle.std.specs.Option.{option_map_or}
 use Rattle.std.proofs.lemmas.List.Elements.{Contains-append_left, Contains-append_right, Contains-append_cases}
-use Rattle.fb_text.specs.declared.name.NameUse.{NameUse}
-use Rattle.fb_iface.specs.Tree.Tree.{AlgorithmTree, ChartTree, DeclTree, StateTree, TransitionTree, TypeTree, block_type, adapter_type, subapplication_type, system_configuration}
-use Rattle.fb_iface.specs.Tree.declared.chart.Action.{Action}
-use Rattle.fb_iface.specs.Tree.declared.interface.Side.{Side}
-use Rattle.fb_iface.specs.Tree.declared.interface.Side.TheVariants.{Input, Output}
-use Rattle.fb_iface.specs.Tree.declared.network.End.{End}
-use Rattle.fb_iface.specs.Tree.declared.network.Role.{Role}
-use Rattle.fb_iface.specs.Tree.declared.network.Role.TheVariants.{Plug, Socket, Block, Subapplication}
-use Rattle.fb_iface.specs.Library.View.{Sources, tree_at}
-use Rattle.fb_iface.specs.declared.code.Code.{Code}
-use Rattle.fb_iface.specs.declared.code.Code.TheVariants.{AlgorithmUnknown, EventUnknown, StateUnknown}
-use Rattle.fb_iface.specs.declared.fault.Fault.{Fault}
-use Rattle.fb_iface.specs.declared.ports.DeclaredEvent.{DeclaredEvent}
-use Rattle.fb_iface.specs.declared.ports.DeclaredInstance.{DeclaredInstance}
-use Rattle.fb_iface.specs.Fault.{fault_at}
-use Rattle.fb_iface.specs.Names.{has_name, stands_for}
-use Rattle.fb_iface.specs.Ports.{Meanings, same_side}
-use Rattle.fb_iface.specs.Scope.{Scope, instance_ports, scope_of_type}
-use Rattle.fb_text.proofs.Members.{contains_cases, contains_flat_map, contains_here, contains_later, contains_map, contains_nothing, contains_single, in_unless, in_written, origin_in_flat_map, origin_in_map, unless, written}
+use Rattle.fb_expr.specs.Text.declared.name.NameUse.{NameUse}
+use Rattle.fb_expr.specs.Tree.Tree.{AlgorithmTree, ChartTree, DeclTree, StateTree, TransitionTree, TypeTree, block_type, adapter_type, subapplication_type, system_configuration}
+use Rattle.fb_expr.specs.Tree.declared.chart.Action.{Action}
+use Rattle.fb_expr.specs.Tree.declared.interface.Side.{Side}
+use Rattle.fb_expr.specs.Tree.declared.interface.Side.TheVariants.{Input, Output}
+use Rattle.fb_expr.specs.Tree.declared.network.End.{End}
+use Rattle.fb_expr.specs.Tree.declared.network.Role.{Role}
+use Rattle.fb_expr.specs.Tree.declared.network.Role.TheVariants.{Plug, Socket, Block, Subapplication}
+use Rattle.fb_expr.specs.Library.View.{Sources, tree_at}
+use Rattle.fb_expr.specs.Iface.declared.code.Code.{Code}
+use Rattle.fb_expr.specs.Iface.declared.code.Code.TheVariants.{AlgorithmUnknown, EventUnknown, StateUnknown}
+use Rattle.fb_expr.specs.Iface.declared.fault.Fault.{Fault}
+use Rattle.fb_expr.specs.Iface.declared.ports.DeclaredEvent.{DeclaredEvent}
+use Rattle.fb_expr.specs.Iface.declared.ports.DeclaredInstance.{DeclaredInstance}
+use Rattle.fb_expr.specs.Iface.Fault.{fault_at}
+use Rattle.fb_expr.specs.Iface.Names.{has_name, stands_for}
+use Rattle.fb_expr.specs.Iface.Ports.{Meanings, same_side}
+use Rattle.fb_expr.specs.Iface.Scope.{Scope, instance_ports, scope_of_type}
+use Rattle.fb_expr.proofs.Text.Members.{contains_cases, contains_flat_map, contains_here, contains_later, contains_map, contains_nothing, contains_single, in_unless, in_written, origin_in_flat_map, origin_in_map, unless, written}
 use Rattle.fb_ecc.specs.Algorithms.{algorithm_fault, algorithm_faults, algorithm_names, run_faults}
 use Rattle.fb_ecc.specs.Charts.{chart_faults, chart_faults_in}
 use Rattle.fb_ecc.specs.declared.events.EventTarget.{EventTarget}
@@ -29,7 +29,7 @@ use Rattle.fb_ecc.specs.declared.events.EventTarget.TheVariants.{Found, Unknown,
 use Rattle.fb_ecc.specs.Events.{end_event_faults, event_among, event_behind, event_faults, event_in, event_named, event_of_adapter, event_on, opposite, sent_faults, side_through, span_from, target_faults, trigger_faults, written_fault}
 use Rattle.fb_ecc.specs.Rows.{AlgorithmsAreDeclared, EventsAreKnown, HasUnknownAlgorithm, HasUnknownSent, HasUnknownState, HasUnknownTrigger, IsEventOf, IsNoEventOf, IsNotJudged, StandsForEvent, StatesAreListed, own, of_plug, of_socket}
 use Rattle.fb_ecc.specs.States.{transition_faults, state_fault, state_faults, state_names}
-use Rattle.fb_iface.proofs.NameLemmas.{none_named, not_named}
+use Rattle.fb_expr.proofs.Iface.NameLemmas.{none_named, not_named}
 
 -- states
 

@@ -1,21 +1,21 @@
 -- Each code of charts in words of its own: where the list of faults has it.
 use Rattle.std.specs.Prelude.{◌≡◌, ◌≢◌, ℕ, List, [], ◌∷◌, Option, Some, None, Contains, ◌↔◌, ◌⊎◌}
-use Rattle.fb_text.specs.declared.token.Span.{Span}
-use Rattle.fb_text.specs.declared.name.NameUse.{NameUse}
-use Rattle.fb_iface.specs.Tree.Tree.{AlgorithmTree, StateTree, TransitionTree, TypeTree, block_type}
-use Rattle.fb_iface.specs.Tree.declared.chart.Action.{Action}
-use Rattle.fb_iface.specs.Tree.declared.interface.Side.{Side}
-use Rattle.fb_iface.specs.Tree.declared.interface.Side.TheVariants.{Input, Output}
-use Rattle.fb_iface.specs.Tree.declared.network.End.{End}
-use Rattle.fb_iface.specs.Tree.declared.network.Role.TheVariants.{Plug, Socket}
-use Rattle.fb_iface.specs.Library.View.{Sources, tree_at}
-use Rattle.fb_iface.specs.declared.code.Code.{Code}
-use Rattle.fb_iface.specs.declared.code.Code.TheVariants.{AlgorithmUnknown, EventUnknown, StateUnknown}
-use Rattle.fb_iface.specs.declared.ports.DeclaredEvent.{DeclaredEvent}
-use Rattle.fb_iface.specs.declared.ports.DeclaredInstance.{DeclaredInstance}
-use Rattle.fb_iface.specs.Names.{stands_for}
-use Rattle.fb_iface.specs.Ports.{Meanings}
-use Rattle.fb_iface.specs.Scope.{Scope, instance_ports, scope_of_type}
+use Rattle.fb_expr.specs.Text.declared.token.Span.{Span}
+use Rattle.fb_expr.specs.Text.declared.name.NameUse.{NameUse}
+use Rattle.fb_expr.specs.Tree.Tree.{AlgorithmTree, StateTree, TransitionTree, TypeTree, block_type}
+use Rattle.fb_expr.specs.Tree.declared.chart.Action.{Action}
+use Rattle.fb_expr.specs.Tree.declared.interface.Side.{Side}
+use Rattle.fb_expr.specs.Tree.declared.interface.Side.TheVariants.{Input, Output}
+use Rattle.fb_expr.specs.Tree.declared.network.End.{End}
+use Rattle.fb_expr.specs.Tree.declared.network.Role.TheVariants.{Plug, Socket}
+use Rattle.fb_expr.specs.Library.View.{Sources, tree_at}
+use Rattle.fb_expr.specs.Iface.declared.code.Code.{Code}
+use Rattle.fb_expr.specs.Iface.declared.code.Code.TheVariants.{AlgorithmUnknown, EventUnknown, StateUnknown}
+use Rattle.fb_expr.specs.Iface.declared.ports.DeclaredEvent.{DeclaredEvent}
+use Rattle.fb_expr.specs.Iface.declared.ports.DeclaredInstance.{DeclaredInstance}
+use Rattle.fb_expr.specs.Iface.Names.{stands_for}
+use Rattle.fb_expr.specs.Iface.Ports.{Meanings}
+use Rattle.fb_expr.specs.Iface.Scope.{Scope, instance_ports, scope_of_type}
 use Rattle.fb_ecc.specs.Charts.{ecc_faults_of}
 use Rattle.fb_ecc.specs.Events.{event_in, opposite, span_from}
 

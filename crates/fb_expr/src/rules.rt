@@ -2,8 +2,8 @@
 ghost use Rattle.std.specs.Prelude.{◌≡◌, ◌++◌, OnOk};
 ghost use Rattle.fb_expr.specs.Rules.{allows, class_faults};
 
-use fb_iface::{Class, Code, Fault};
-use fb_text::Span;
+use fb_netcheck::iface::{Class, Code, Fault};
+use fb_tree::text::Span;
 use std::alloc::AllocError;
 
 /// A place of an algorithm that asks for certain classes.

@@ -3,7 +3,7 @@ ghost use Rattle.std.specs.Prelude.{◌≡◌};
 ghost use Rattle.fb_tree.specs.Expression.{expression_tree, reference_tree};
 ghost use Rattle.fb_expr.specs.Spans.{across, names_span, span_of};
 
-use fb_text::Span;
+use fb_tree::text::Span;
 use fb_tree::{Expr, Reference};
 
 /// From the start of one to the end of the other.

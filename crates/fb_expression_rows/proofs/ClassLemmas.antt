@@ -7,10 +7,10 @@ use Rattle.fb_tree.specs.declared.expression.UnaryUse.{UnaryUse}
 use Rattle.fb_tree.specs.declared.interface.TypeForm.{TypeForm}
 use Rattle.fb_tree.specs.declared.interface.TypeForm.TheVariants.{Plain, Sized, Array}
 use Rattle.fb_tree.specs.declared.interface.TypeUse.{TypeUse}
-use Rattle.fb_iface.specs.Library.View.{Sources}
-use Rattle.fb_iface.specs.Scope.{Scope, scope_of_type}
-use Rattle.fb_iface.specs.declared.classes.Class.{Class}
-use Rattle.fb_iface.specs.declared.classes.Class.TheVariants.{O, Free}
+use Rattle.fb_expr.specs.Library.View.{Sources}
+use Rattle.fb_expr.specs.Iface.Scope.{Scope, scope_of_type}
+use Rattle.fb_expr.specs.Iface.declared.classes.Class.{Class}
+use Rattle.fb_expr.specs.Iface.declared.classes.Class.TheVariants.{O, Free}
 use Rattle.fb_expr.specs.Classes.{change, pair_class, unary_class}
 use Rattle.fb_expr.specs.Expressions.{class_in, row_class}
 use Rattle.fb_expr.specs.References.{class_of_element, class_of_referent, class_with}

@@ -2,16 +2,16 @@
 use Rattle.std.proofs.Common.{◌≡◌, false, Option, Some, None, refl, sym, ap, ◌∙◌, subst, true≢false}
 use Rattle.std.specs.Prelude.{is_some}
 use Rattle.std.specs.List.{Contains}
-use Rattle.fb_text.specs.declared.name.NameUse.{NameUse}
-use Rattle.fb_text.specs.declared.token.Span.{Span}
+use Rattle.fb_tree.specs.Text.declared.name.NameUse.{NameUse}
+use Rattle.fb_tree.specs.Text.declared.token.Span.{Span}
 use Rattle.fb_tree.specs.Expression.{Expression, reference_expression, no_expressions}
 use Rattle.fb_tree.specs.Statement.{Statements, count}
 use Rattle.fb_tree.specs.Tree.{TypeTree}
-use Rattle.fb_iface.specs.Library.View.{Sources}
-use Rattle.fb_iface.specs.Scope.{Scope, scope_of_type}
-use Rattle.fb_iface.specs.declared.classes.Class.{Class as ValueClass}
-use Rattle.fb_iface.specs.declared.code.Code.TheVariants.{Class}
-use Rattle.fb_iface.specs.declared.fault.Fault.{Fault}
+use Rattle.fb_expr.specs.Library.View.{Sources}
+use Rattle.fb_expr.specs.Iface.Scope.{Scope, scope_of_type}
+use Rattle.fb_expr.specs.Iface.declared.classes.Class.{Class as ValueClass}
+use Rattle.fb_expr.specs.Iface.declared.code.Code.TheVariants.{Class}
+use Rattle.fb_expr.specs.Iface.declared.fault.Fault.{Fault}
 use Rattle.fb_expr.specs.Charts.{expr_faults_of}
 use Rattle.fb_expr.specs.Classes.{change, combined, join}
 use Rattle.fb_expr.specs.Demands.{Demand, suits_operand, suits_operands, suits_place, assigns, code_of_demand, is_met, name_alone, place_of}

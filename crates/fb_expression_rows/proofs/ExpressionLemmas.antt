@@ -5,9 +5,9 @@ use Rattle.std.proofs.lemmas.List.Elements.{Contains-append_cases, Contains-appe
 use Rattle.fb_tree.specs.Expression.{ReferenceTree, Expression, literal_expression, reference_expression, unary_expression, row_expression, parentheses, Expressions, no_expressions, expression_then, Operands, no_operands, operand_then}
 use Rattle.fb_tree.specs.declared.expression.BinaryUse.{BinaryUse}
 use Rattle.fb_tree.specs.declared.expression.UnaryUse.{UnaryUse}
-use Rattle.fb_iface.specs.Scope.{Scope}
-use Rattle.fb_iface.specs.declared.classes.Class.{Class as ValueClass}
-use Rattle.fb_text.proofs.Members.{contains_cases, contains_here, contains_later, contains_nothing, contains_single}
+use Rattle.fb_expr.specs.Iface.Scope.{Scope}
+use Rattle.fb_expr.specs.Iface.declared.classes.Class.{Class as ValueClass}
+use Rattle.fb_tree.proofs.Text.Members.{contains_cases, contains_here, contains_later, contains_nothing, contains_single}
 use Rattle.fb_expr.specs.Classes.{pair_class}
 use Rattle.fb_expr.specs.Demands.{Demand, names_variable, suits_operand, suits_operands, suits_place, demands_in, row_demands, subscript_demands}
 use Rattle.fb_expr.specs.Expressions.{class_in}

@@ -1,19 +1,19 @@
 -- What names of references stand for, by the tests of the check.
 use Rattle.std.proofs.Common.{◌≡◌, ◌≢◌, Bool, true, Option, Some, None, refl, sym, ap, ◌∙◌, if◌then◌else◌, subst, true≢false}
 use Rattle.std.specs.Option.{option_and_then, option_map_or}
-use Rattle.fb_text.specs.declared.name.NameUse.{NameUse}
+use Rattle.fb_tree.specs.Text.declared.name.NameUse.{NameUse}
 use Rattle.fb_tree.specs.Tree.{DeclTree, TypeTree, block_type, adapter_type, subapplication_type, system_configuration}
 use Rattle.fb_tree.specs.declared.interface.Section.{Section}
 use Rattle.fb_tree.specs.declared.interface.Section.TheVariants.{Input, Output, Internal}
 use Rattle.fb_tree.specs.declared.interface.TypeUse.{TypeUse}
 use Rattle.fb_tree.specs.declared.network.Role.{Role}
 use Rattle.fb_tree.specs.declared.network.Role.TheVariants.{Plug, Socket, Block, Subapplication}
-use Rattle.fb_iface.specs.Library.View.{Sources, tree_at}
-use Rattle.fb_iface.specs.Names.{stands_for}
-use Rattle.fb_iface.specs.Ports.{Meanings, meanings_in_type}
-use Rattle.fb_iface.specs.Scope.{Scope, instance_ports, scope_of_type}
-use Rattle.fb_iface.specs.declared.ports.DeclaredInstance.{DeclaredInstance}
-use Rattle.fb_iface.specs.declared.ports.DeclaredVariable.{DeclaredVariable}
+use Rattle.fb_expr.specs.Library.View.{Sources, tree_at}
+use Rattle.fb_expr.specs.Iface.Names.{stands_for}
+use Rattle.fb_expr.specs.Iface.Ports.{Meanings, meanings_in_type}
+use Rattle.fb_expr.specs.Iface.Scope.{Scope, instance_ports, scope_of_type}
+use Rattle.fb_expr.specs.Iface.declared.ports.DeclaredInstance.{DeclaredInstance}
+use Rattle.fb_expr.specs.Iface.declared.ports.DeclaredVariable.{DeclaredVariable}
 use Rattle.fb_expr.specs.References.{data_referent, is_adapter, is_at_adapter, is_data, member_named, own_referent, port_referent, variable_named}
 use Rattle.fb_expr.specs.declared.references.Referent.{Referent}
 use Rattle.fb_expr.specs.declared.references.Referent.TheVariants.{Variable, Unjudged, Unknown}

@@ -5,8 +5,8 @@ use Rattle.fb_tree.specs.declared.expression.BinaryOperator.{BinaryOperator}
 use Rattle.fb_tree.specs.declared.expression.BinaryOperator.TheVariants.{Or, Xor, And, Equal, NotEqual, Less, Greater, LessOrEqual, GreaterOrEqual, Add, Subtract, Multiply, Divide, Modulo, Power}
 use Rattle.fb_tree.specs.declared.expression.UnaryOperator.{UnaryOperator}
 use Rattle.fb_tree.specs.declared.expression.UnaryOperator.TheVariants.{Plus, Minus, Not}
-use Rattle.fb_iface.specs.declared.classes.Class.{Class}
-use Rattle.fb_iface.specs.declared.classes.Class.TheVariants.{B, I, W, O, Free, Num, Any}
+use Rattle.fb_expr.specs.Iface.declared.classes.Class.{Class}
+use Rattle.fb_expr.specs.Iface.declared.classes.Class.TheVariants.{B, I, W, O, Free, Num, Any}
 use Rattle.fb_expr.specs.Classes.{arithmetical, change, class_of_broken, combined, join, logical, operation, pair_class, whole as whole_of}
 use Rattle.fb_expr.specs.Rules.{allows}
 use Rattle.fb_expr.specs.declared.rules.ClassPlace.{ClassPlace}

@@ -3,12 +3,12 @@ use Rattle.std.proofs.Common.{◌≡◌, List, [], ◌∷◌, ◌++◌, Option, 
 use Rattle.std.specs.List.{Contains}
 use Rattle.std.specs.Option.{option_map_or}
 use Rattle.std.proofs.lemmas.List.Elements.{Contains-append_cases, Contains-append_left, Contains-append_right}
-use Rattle.fb_text.specs.declared.name.NameUse.{NameUse}
-use Rattle.fb_text.specs.declared.token.Span.{Span}
+use Rattle.fb_tree.specs.Text.declared.name.NameUse.{NameUse}
+use Rattle.fb_tree.specs.Text.declared.token.Span.{Span}
 use Rattle.fb_tree.specs.Expression.{ReferenceTree, Expression, reference_expression, Expressions, no_expressions}
 use Rattle.fb_tree.specs.Statement.{Statement, empty, assignment, exit, return, choice, selection, count, while_loop, repeat_loop, Statements, no_statements, statement_then, Arms, no_arms, arm_then}
-use Rattle.fb_iface.specs.Scope.{Scope}
-use Rattle.fb_text.proofs.Members.{contains_cases, contains_here, contains_later, contains_nothing, contains_single}
+use Rattle.fb_expr.specs.Iface.Scope.{Scope}
+use Rattle.fb_tree.proofs.Text.Members.{contains_cases, contains_here, contains_later, contains_nothing, contains_single}
 use Rattle.fb_expr.specs.Demands.{Demand, names_variable, suits_place, assigns, demands_in, demands_at, name_alone, counter_demands, range_demands, statement_demands, statements_demands, arms_demands}
 use Rattle.fb_expr.specs.declared.rules.ClassPlace.{ClassPlace}
 use Rattle.fb_expr.specs.declared.rules.ClassPlace.TheVariants.{Condition, Count, Counter, Selector}

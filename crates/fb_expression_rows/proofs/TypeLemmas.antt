@@ -1,17 +1,17 @@
 -- The types of own plugs and sockets, by what the check knows of them.
 use Rattle.std.proofs.Common.{◌≡◌, ◌≢◌, ℕ, ◌+◌, Bool, true, false, cond, List, [], ◌∷◌, map, Option, Some, None, ◌⊎◌, inl, inr, refl, ap, ◌∙◌, subst}
 use Rattle.std.specs.List.{Contains, enumerate_from}
-use Rattle.fb_text.specs.declared.name.NameUse.{NameUse}
+use Rattle.fb_tree.specs.Text.declared.name.NameUse.{NameUse}
 use Rattle.fb_tree.specs.Tree.{DeclTree, InstanceTree, NetworkTree, TypeTree, block_type, adapter_type, subapplication_type, system_configuration}
 use Rattle.fb_tree.specs.declared.network.Role.{Role}
 use Rattle.fb_tree.specs.declared.network.Role.TheVariants.{Plug, Socket}
-use Rattle.fb_iface.specs.Library.View.{Sources, tree_at}
-use Rattle.fb_iface.specs.Names.{first_ones, has_name, is_same, stands_for}
-use Rattle.fb_iface.specs.Ports.{instances_in, meanings_in_type}
-use Rattle.fb_iface.specs.Scope.{instance_ports, scope_of_type, usable}
-use Rattle.fb_iface.specs.declared.ports.DeclaredInstance.{DeclaredInstance}
-use Rattle.fb_text.proofs.Members.{contains_cases, contains_here, contains_later, contains_map, contains_nothing, origin_in_map, passes_in_filter}
-use Rattle.fb_iface.proofs.NameLemmas.{named}
+use Rattle.fb_expr.specs.Library.View.{Sources, tree_at}
+use Rattle.fb_expr.specs.Iface.Names.{first_ones, has_name, is_same, stands_for}
+use Rattle.fb_expr.specs.Iface.Ports.{instances_in, meanings_in_type}
+use Rattle.fb_expr.specs.Iface.Scope.{instance_ports, scope_of_type, usable}
+use Rattle.fb_expr.specs.Iface.declared.ports.DeclaredInstance.{DeclaredInstance}
+use Rattle.fb_tree.proofs.Text.Members.{contains_cases, contains_here, contains_later, contains_map, contains_nothing, origin_in_map, passes_in_filter}
+use Rattle.fb_expr.proofs.Iface.NameLemmas.{named}
 use Rattle.fb_expression_rows.specs.Variables.{IsAdapter, plug, socket}
 
 -- what a name stands for is declared

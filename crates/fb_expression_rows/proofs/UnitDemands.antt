@@ -2,18 +2,18 @@
 use Rattle.std.proofs.Common.{◌≡◌, ℕ, false, List, [], ◌∷◌, Option, Some, None, ◌⊎◌, inl, inr, refl, subst}
 use Rattle.std.specs.List.{Contains, flat_map}
 use Rattle.std.proofs.lemmas.List.Elements.{Contains-append_cases, Contains-append_left, Contains-append_right}
-use Rattle.fb_text.specs.declared.name.NameUse.{NameUse}
-use Rattle.fb_text.specs.declared.token.Span.{Span}
+use Rattle.fb_tree.specs.Text.declared.name.NameUse.{NameUse}
+use Rattle.fb_tree.specs.Text.declared.token.Span.{Span}
 use Rattle.fb_tree.specs.Expression.{ReferenceTree, Expression, reference_expression, unary_expression, row_expression, Expressions, no_expressions, Operands}
 use Rattle.fb_tree.specs.Statement.{Statement, assignment, count, Statements, statements_of}
 use Rattle.fb_tree.specs.Tree.{ConditionTree, always, on_event, guarded, guard, DeclTree, TypeTree, block_type, adapter_type, subapplication_type, system_configuration}
 use Rattle.fb_tree.specs.declared.expression.BinaryUse.{BinaryUse}
 use Rattle.fb_tree.specs.declared.expression.UnaryUse.{UnaryUse}
-use Rattle.fb_iface.specs.Library.View.{Sources, tree_at}
-use Rattle.fb_iface.specs.Scope.{Scope, scope_of_type}
-use Rattle.fb_iface.specs.declared.classes.Class.{Class as ValueClass}
-use Rattle.fb_iface.specs.declared.fault.Fault.{Fault}
-use Rattle.fb_text.proofs.Members.{contains_flat_map, contains_here, contains_nothing, contains_single, origin_in_flat_map}
+use Rattle.fb_expr.specs.Library.View.{Sources, tree_at}
+use Rattle.fb_expr.specs.Iface.Scope.{Scope, scope_of_type}
+use Rattle.fb_expr.specs.Iface.declared.classes.Class.{Class as ValueClass}
+use Rattle.fb_expr.specs.Iface.declared.fault.Fault.{Fault}
+use Rattle.fb_tree.proofs.Text.Members.{contains_flat_map, contains_here, contains_nothing, contains_single, origin_in_flat_map}
 use Rattle.fb_expr.specs.Charts.{expr_faults_of, faults_in_unit}
 use Rattle.fb_expr.specs.Demands.{Demand, names_variable, suits_operand, suits_operands, suits_place, assigns, is_met, fault_of, demands_in, demands_at, name_alone, guard_demands, transition_demands, algorithm_demands, chart_demands}
 use Rattle.fb_expr.specs.Expressions.{class_in}

@@ -2,15 +2,15 @@
 use Rattle.std.proofs.Common.{◌≡◌, Bool, true, false, Option, Some, None, ◌⊎◌, inl, inr, refl, sym, ap, ◌∙◌, true≢false}
 use Rattle.std.specs.List.{Contains}
 use Rattle.std.specs.Option.{option_map_or}
-use Rattle.fb_text.specs.declared.name.NameUse.{NameUse}
+use Rattle.fb_tree.specs.Text.declared.name.NameUse.{NameUse}
 use Rattle.fb_tree.specs.Tree.{TypeTree, block_type}
 use Rattle.fb_tree.specs.Expression.{ReferenceTree}
 use Rattle.fb_tree.specs.declared.interface.TypeUse.{TypeUse}
-use Rattle.fb_iface.specs.Library.View.{tree_at}
-use Rattle.fb_iface.specs.Scope.{scope_of_type}
-use Rattle.fb_iface.specs.declared.code.Code.{Code}
-use Rattle.fb_iface.specs.declared.code.Code.TheVariants.{Class, VariableUnknown}
-use Rattle.fb_iface.specs.declared.fault.Fault.{Fault}
+use Rattle.fb_expr.specs.Library.View.{tree_at}
+use Rattle.fb_expr.specs.Iface.Scope.{scope_of_type}
+use Rattle.fb_expr.specs.Iface.declared.code.Code.{Code}
+use Rattle.fb_expr.specs.Iface.declared.code.Code.TheVariants.{Class, VariableUnknown}
+use Rattle.fb_expr.specs.Iface.declared.fault.Fault.{Fault}
 use Rattle.fb_expr.specs.Charts.{expr_faults_of}
 use Rattle.fb_expr.specs.Demands.{Demand, names_variable, suits_operand, suits_operands, suits_place, assigns, code_of_demand, fault_of, is_known, is_met, name_alone}
 use Rattle.fb_expr.specs.References.{referent_of}

@@ -9,13 +9,13 @@ use Rattle.fb_tree.specs.declared.expression.BinaryUse.{BinaryUse}
 use Rattle.fb_tree.specs.declared.expression.UnaryOperator.{UnaryOperator}
 use Rattle.fb_tree.specs.declared.expression.UnaryOperator.TheVariants.{Plus, Minus, Not}
 use Rattle.fb_tree.specs.declared.expression.UnaryUse.{UnaryUse}
-use Rattle.fb_text.specs.declared.token.Span.{Span}
+use Rattle.fb_tree.specs.Text.declared.token.Span.{Span}
 use Rattle.fb_tree.specs.declared.interface.TypeForm.TheVariants as forms
 use Rattle.fb_tree.specs.declared.interface.TypeUse.{TypeUse}
-use Rattle.fb_iface.specs.Class.{class_of_literal, class_of_name, class_of_type}
-use Rattle.fb_iface.specs.Library.View.{Sources}
-use Rattle.fb_iface.specs.declared.classes.Class.{Class}
-use Rattle.fb_iface.specs.declared.classes.Class.TheVariants.{B, I, W, O, Free, Num, Any}
+use Rattle.fb_expr.specs.Iface.Class.{class_of_literal, class_of_name, class_of_type}
+use Rattle.fb_expr.specs.Library.View.{Sources}
+use Rattle.fb_expr.specs.Iface.declared.classes.Class.{Class}
+use Rattle.fb_expr.specs.Iface.declared.classes.Class.TheVariants.{B, I, W, O, Free, Num, Any}
 use Rattle.fb_expr.specs.declared.rules.ClassPlace.{ClassPlace}
 use Rattle.fb_expr.specs.declared.rules.ClassPlace.TheVariants.{Condition, Count, Counter, Selector}
 use Rattle.fb_expression_rows.specs.Variables.{NamesVariable}

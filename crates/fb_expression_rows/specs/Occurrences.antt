@@ -1,7 +1,7 @@
 -- Where expressions and statements stand, at any depth.
 use Rattle.std.specs.Prelude.{Option, Some, Contains}
-use Rattle.fb_text.specs.declared.name.NameUse.{NameUse}
-use Rattle.fb_text.specs.declared.token.Span.{Span}
+use Rattle.fb_tree.specs.Text.declared.name.NameUse.{NameUse}
+use Rattle.fb_tree.specs.Text.declared.token.Span.{Span}
 use Rattle.fb_tree.specs.Expression.{ReferenceTree, Expression, reference_expression, unary_expression, row_expression, parentheses, Expressions, expression_then, Operands, operand_then}
 use Rattle.fb_tree.specs.Statement.{Statement, assignment, choice, selection, count, while_loop, repeat_loop, Statements, statement_then, Arms, arm_then, statements_of}
 use Rattle.fb_tree.specs.Tree.{AlgorithmTree, ConditionTree, guarded, guard, TransitionTree, TypeTree}

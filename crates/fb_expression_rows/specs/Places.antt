@@ -1,5 +1,5 @@
 -- Where expressions stand.
-use Rattle.fb_text.specs.declared.token.Span.{Span}
+use Rattle.fb_tree.specs.Text.declared.token.Span.{Span}
 use Rattle.fb_tree.specs.Expression.{ReferenceTree, Expression, literal_expression, reference_expression, unary_expression, row_expression, parentheses, Expressions, Operands, no_operands, operand_then}
 use Rattle.fb_tree.specs.declared.constant.Literal.{Literal}
 use Rattle.fb_tree.specs.declared.expression.BinaryUse.{BinaryUse}

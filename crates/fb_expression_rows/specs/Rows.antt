@@ -1,19 +1,19 @@
 -- Each code of expressions and statements in words of its own: where the list of faults has it.
 use Rattle.std.specs.Prelude.{◌≡◌, ℕ, List, Option, Some, None, Contains, ◌↔◌, ◌⊎◌}
-use Rattle.fb_text.specs.declared.name.NameUse.{NameUse}
-use Rattle.fb_text.specs.declared.token.Span.{Span}
+use Rattle.fb_tree.specs.Text.declared.name.NameUse.{NameUse}
+use Rattle.fb_tree.specs.Text.declared.token.Span.{Span}
 use Rattle.fb_tree.specs.Expression.{ReferenceTree, Expression, reference_expression, unary_expression, row_expression, Expressions, Operands}
 use Rattle.fb_tree.specs.Statement.{Statement, assignment, count, Statements}
 use Rattle.fb_tree.specs.Tree.{TypeTree, block_type}
 use Rattle.fb_tree.specs.declared.expression.BinaryUse.{BinaryUse}
 use Rattle.fb_tree.specs.declared.expression.UnaryUse.{UnaryUse}
 use Rattle.fb_tree.specs.declared.interface.TypeUse.{TypeUse}
-use Rattle.fb_iface.specs.Library.View.{Sources, tree_at}
-use Rattle.fb_iface.specs.Class.{class_of_type}
-use Rattle.fb_iface.specs.declared.classes.Class.{Class as ValueClass}
-use Rattle.fb_iface.specs.declared.code.Code.{Code}
-use Rattle.fb_iface.specs.declared.code.Code.TheVariants.{Class, VariableUnknown}
-use Rattle.fb_iface.specs.declared.fault.Fault.{Fault}
+use Rattle.fb_expr.specs.Library.View.{Sources, tree_at}
+use Rattle.fb_expr.specs.Iface.Class.{class_of_type}
+use Rattle.fb_expr.specs.Iface.declared.classes.Class.{Class as ValueClass}
+use Rattle.fb_expr.specs.Iface.declared.code.Code.{Code}
+use Rattle.fb_expr.specs.Iface.declared.code.Code.TheVariants.{Class, VariableUnknown}
+use Rattle.fb_expr.specs.Iface.declared.fault.Fault.{Fault}
 use Rattle.fb_expr.specs.Charts.{expr_faults_of}
 use Rattle.fb_expr.specs.declared.rules.ClassPlace.{ClassPlace}
 use Rattle.fb_expr.specs.declared.rules.ClassPlace.TheVariants.{Condition, Count, Counter}

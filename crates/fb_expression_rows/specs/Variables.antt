@@ -1,15 +1,15 @@
 -- The variables that names of references stand for.
 use Rattle.std.specs.Prelude.{◌≡◌, ◌≢◌, ℕ, List, Option, Some, None}
-use Rattle.fb_text.specs.declared.name.NameUse.{NameUse}
+use Rattle.fb_tree.specs.Text.declared.name.NameUse.{NameUse}
 use Rattle.fb_tree.specs.Tree.{TypeTree, adapter_type}
 use Rattle.fb_tree.specs.declared.interface.Section.TheVariants.{Internal}
 use Rattle.fb_tree.specs.declared.interface.TypeUse.{TypeUse}
 use Rattle.fb_tree.specs.declared.network.Role.TheVariants.{Plug, Socket}
-use Rattle.fb_iface.specs.Library.View.{Sources, tree_at}
-use Rattle.fb_iface.specs.Names.{stands_for}
-use Rattle.fb_iface.specs.Ports.{meanings_in_type}
-use Rattle.fb_iface.specs.declared.ports.DeclaredInstance.{DeclaredInstance}
-use Rattle.fb_iface.specs.declared.ports.DeclaredVariable.{DeclaredVariable}
+use Rattle.fb_expr.specs.Library.View.{Sources, tree_at}
+use Rattle.fb_expr.specs.Iface.Names.{stands_for}
+use Rattle.fb_expr.specs.Iface.Ports.{meanings_in_type}
+use Rattle.fb_expr.specs.Iface.declared.ports.DeclaredInstance.{DeclaredInstance}
+use Rattle.fb_expr.specs.Iface.declared.ports.DeclaredVariable.{DeclaredVariable}
 
 -- an own plug or socket of a block type
 pub data IsAdapter (d : TypeTree) (name : List ℕ) (i : DeclaredInstance) : Type 0 where

@@ -10,14 +10,16 @@ pub use laws::{
     broken_texts_have_one_fault, faults_are_in_order, faults_are_local, faults_are_those_reported,
 };
 
-/// Of `fb_ecc`, for the crates above.
+/// Of `fb_declarations::ecc`, for the crates above.
 pub mod ecc {
-    pub use fb_ecc::{algorithms_are_declared, ecc_is_local, events_are_known, states_are_listed};
+    pub use fb_declarations::ecc::{
+        algorithms_are_declared, ecc_faults, ecc_is_local, events_are_known, states_are_listed,
+    };
 }
 
-/// Of `fb_expr`, for the crates above.
+/// Of `fb_declarations::expr`, for the crates above.
 pub mod expr {
-    pub use fb_expr::{expr_faults_are_local, expr_faults_are_unmet};
+    pub use fb_declarations::expr::{expr_faults, expr_faults_are_local, expr_faults_are_unmet};
 }
 
 /// Of `fb_declarations`, for the crates above.
@@ -29,36 +31,48 @@ pub mod declarations {
     };
 }
 
-/// Of `fb_netcheck::iface`, for the crates above.
+/// Of `fb_declarations::iface`, for the crates above.
 pub mod iface {
-    pub use fb_netcheck::iface::{Code, Fault, Ports, first_declared, interface, sorted_faults};
+    pub use fb_declarations::iface::{
+        Code, Fault, Ports, first_declared, interface, sorted_faults,
+    };
 }
 
-/// Of `fb_netcheck::library`, for the crates above.
+/// Of `fb_declarations::library`, for the crates above.
 pub mod library {
-    pub use fb_netcheck::library::{
+    pub use fb_declarations::library::{
         Change, Library, View, declaration_by_name, far, far_is_local, far_is_one_list,
         mentions_by_name, near, near_is_local, tree_by_name,
     };
 }
 
-/// Of `fb_netcheck`, for the crates above.
+/// Of `fb_declarations::netcheck`, for the crates above.
 pub mod netcheck {
-    pub use fb_netcheck::{
-        connections_are_right, faultless_networks_are_clean, net_faults_are_local, part_of,
-        text_by_name,
+    pub use fb_declarations::netcheck::{
+        connections_are_right, faultless_networks_are_clean, net_faults, net_faults_are_local,
+        part_of, text_by_name,
     };
 }
 
-/// Of `fb_netcheck::parse`, for the crates above.
+/// Of `fb_declarations::parse`, for the crates above.
 pub mod parse {
-    pub use fb_netcheck::parse::{Body, ReadFault, Source};
+    pub use fb_declarations::parse::{Body, ReadFault, Source};
 }
 
-/// Of `fb_netcheck::tree`, for the crates above.
+/// Of `fb_declarations::tree`, for the crates above.
 pub mod tree {
-    pub use fb_netcheck::tree::{
+    pub use fb_declarations::tree::{
         Application, Connection, Constant, Decl, Device, End, Instance, Mapping, Network,
         Parameter, Resource, Role, Side, Simple, Sort, TypeDeclaration, TypeUse,
     };
+}
+
+/// Of `fb_declarations::text`, for the crates above.
+pub mod text {
+    pub use fb_declarations::text::{Name, NameUse, Span, same_name};
+}
+
+/// Of `fb_declarations::table`, for the crates above.
+pub mod table {
+    pub use fb_declarations::table::{names_of, open_new};
 }

@@ -4,11 +4,11 @@ use Rattle.std.specs.Prelude.{Contains, ◌≢◌, option_map}
 use Rattle.std.specs.FinMap.{get}
 use Rattle.std.specs.Ordering.{is_eq}
 use Rattle.std.specs.declared.cmp.Ordering.TheVariants.{Equal}
-use Rattle.fb_text.specs.Order.{in_order}
-use Rattle.fb_text.proofs.OrderLemmas.{in_order-members, in_order-sorted}
+use Rattle.fb_clean.specs.Text.Order.{in_order}
+use Rattle.fb_clean.proofs.Text.OrderLemmas.{in_order-members, in_order-sorted}
 use Rattle.fb_clean.specs.Library.View.{Sources, mentions_at}
 use Rattle.fb_clean.specs.Library.Rests.{Rests, itself, through}
-use Rattle.fb_text.proofs.Members.{contains_here, contains_later}
+use Rattle.fb_clean.proofs.Text.Members.{contains_here, contains_later}
 use Rattle.fb_clean.specs.Faults.Faults.{faults_of}
 use Rattle.fb_clean.specs.Network.declared.network.InstanceKind.{InstanceKind}
 use Rattle.fb_clean.specs.Network.declared.network.InstanceKind.TheVariants.{Block, Subapplication}
@@ -21,11 +21,11 @@ use Rattle.fb_clean.specs.Network.Network.{View, IsInner, instance_named}
 use Rattle.fb_clean.specs.Network.Clean.{IsClean, IsCleanThroughout, CleanThroughout}
 use Rattle.fb_clean.specs.Network.Instances.{Held, held_as, AreInstances, NoInstance, ThenBlock, ThenSubapplication}
 use Rattle.fb_clean.specs.Network.FlatNet.{IsFlat}
-use Rattle.fb_net_parts.specs.Compose.Composed.{composed_blocks, composed_borders, composed_links}
-use Rattle.fb_net_parts.specs.Compose.Ready.{Nets, IsFinished, AreFinished}
-use Rattle.fb_net_parts.proofs.Compose.Composing.{found_by_name}
-use Rattle.fb_net_parts.proofs.Compose.Equals.{exact_border, exact_link}
-use Rattle.fb_net_parts.proofs.Compose.FlatLemmas.{IsOrderOf, flat_of}
+use Rattle.fb_clean.specs.Compose.Composed.{composed_blocks, composed_borders, composed_links}
+use Rattle.fb_clean.specs.Compose.Ready.{Nets, IsFinished, AreFinished}
+use Rattle.fb_clean.proofs.Compose.Composing.{found_by_name}
+use Rattle.fb_clean.proofs.Compose.Equals.{exact_border, exact_link}
+use Rattle.fb_clean.proofs.Compose.FlatLemmas.{IsOrderOf, flat_of}
 use Rattle.fb_clean.specs.Wiring.ByName.{declared}
 use Rattle.fb_clean.specs.Wiring.Networks.{network_of}
 use Rattle.fb_clean.proofs.CleanUnits.{networks_clean}

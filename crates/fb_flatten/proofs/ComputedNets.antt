@@ -7,8 +7,8 @@ use Rattle.std.specs.List.{flat_map}
 use Rattle.std.specs.Option.{option_and_then}
 use Rattle.std.specs.FinMap.{get}
 use Rattle.std.proofs.lemmas.List.Kept.{IsStrictlySortedBy-filter}
-use Rattle.fb_text.specs.Order.{name_cmp, in_order}
-use Rattle.fb_text.proofs.OrderLemmas.{in_order-sorted}
+use Rattle.fb_clean.specs.Text.Order.{name_cmp, in_order}
+use Rattle.fb_clean.proofs.Text.OrderLemmas.{in_order-sorted}
 use Rattle.fb_clean.specs.Tree.Tree.{DeclTree, SystemTree, TypeTree, block_type, adapter_type, subapplication_type, system_configuration}
 use Rattle.fb_clean.specs.Tree.Mentions.{unit_kind_of}
 use Rattle.fb_clean.specs.Tree.declared.kinds.UnitKind.TheVariants as kinds
@@ -16,19 +16,19 @@ use Rattle.fb_clean.specs.Library.View.{Sources, mentions_at, tree_at, tree_of}
 use Rattle.fb_clean.specs.Library.Rests.{Rests, itself, through}
 use Rattle.fb_clean.specs.Library.Local.{AgreeFar}
 use Rattle.fb_clean.proofs.Library.Locality.{far_local}
-use Rattle.fb_text.proofs.Members.{contains_nothing, contains_filter, passes_in_filter, contains_here, contains_later}
+use Rattle.fb_clean.proofs.Text.Members.{contains_nothing, contains_filter, passes_in_filter, contains_here, contains_later}
 use Rattle.fb_clean.specs.Iface.declared.fault.Fault.{Fault}
 use Rattle.fb_clean.specs.Faults.Faults.{faults_of}
-use Rattle.fb_order.specs.Reaches.{IsRecursive}
+use Rattle.fb_clean.specs.Order.Reaches.{IsRecursive}
 use Rattle.fb_clean.specs.Network.declared.count.TheConstants.{INSTANCE_LIMIT}
 use Rattle.fb_clean.specs.Network.PlainFlat.{PlainFlat}
 use Rattle.fb_clean.specs.Network.LinkOrder.{link_cmp, link_cmp_total}
 use Rattle.fb_clean.specs.Network.Network.{View}
 use Rattle.fb_clean.specs.Network.FlatNet.{IsFlat}
 use Rattle.fb_clean.specs.Network.Instances.{Held}
-use Rattle.fb_net_parts.specs.Compose.SystemFlat.{IsSystemFlat, application_links}
-use Rattle.fb_net_parts.specs.Compose.declared.application.FlatApplication.{FlatApplication}
-use Rattle.fb_net_parts.proofs.Compose.SystemLemmas.{system_links_are}
+use Rattle.fb_clean.specs.Compose.SystemFlat.{IsSystemFlat, application_links}
+use Rattle.fb_clean.specs.Compose.declared.application.FlatApplication.{FlatApplication}
+use Rattle.fb_clean.proofs.Compose.SystemLemmas.{system_links_are}
 use Rattle.fb_clean.specs.Wiring.Applications.{applications_of}
 use Rattle.fb_clean.specs.Wiring.ByName.{applications_at, declared}
 use Rattle.fb_clean.specs.Wiring.Networks.{network_of}
@@ -36,8 +36,8 @@ use Rattle.fb_clean.specs.Wiring.declared.systems.Application.{Application}
 use Rattle.fb_clean.proofs.CleanUnits.{applications_clean, networks_clean}
 use Rattle.fb_flatten.specs.Blocking.{AreThose, IsBlocking, is_blocking}
 use Rattle.fb_flatten.specs.Net.{PlainNet, too_large, flat_net, IsNet, IsSound}
-use Rattle.fb_net_parts.specs.Units.{HasNet, has_net_tree, own_instances, AreFlatApplications, NoApplication, ThenApplication, Holds, IsUnitFlat, OfSubapplication, OfSystem}
-use Rattle.fb_net_parts.proofs.KindLemmas.{net_kind, no_net_kind}
+use Rattle.fb_clean.specs.NetParts.Units.{HasNet, has_net_tree, own_instances, AreFlatApplications, NoApplication, ThenApplication, Holds, IsUnitFlat, OfSubapplication, OfSystem}
+use Rattle.fb_clean.proofs.NetParts.KindLemmas.{net_kind, no_net_kind}
 use Rattle.fb_flatten.proofs.MentionLemmas.{applications_within, declared_within, own_within}
 use Rattle.fb_flatten.proofs.NetLemmas.{blocking_those, recursive_those}
 use Rattle.fb_flatten.proofs.NetLocality.{net_local}

@@ -5,7 +5,7 @@ use Rattle.std.proofs.lemmas.List.{length-map}
 use Rattle.std.proofs.lemmas.List.Elements.{Contains-push_cases}
 use Rattle.std.specs.Prelude.{Contains, map, option_map}
 use Rattle.std.specs.BTreeMap.{is_at}
-use Rattle.fb_text.specs.Order.{name_cmp}
+use Rattle.fb_clean.specs.Text.Order.{name_cmp}
 use Rattle.fb_clean.specs.Tree.Tree.{DeclTree, block_type, adapter_type, subapplication_type, system_configuration}
 use Rattle.fb_clean.specs.Tree.declared.kinds.UnitKind.TheVariants as kinds
 use Rattle.fb_clean.specs.Library.View.{Sources, tree_at}
@@ -21,17 +21,17 @@ use Rattle.fb_clean.specs.Clean.{wanted_kind}
 use Rattle.fb_clean.specs.Wiring.Networks.{network_of}
 use Rattle.fb_clean.specs.Wiring.Applications.{applications_of}
 use Rattle.fb_clean.specs.Wiring.declared.systems.Application.{Application}
-use Rattle.fb_text.proofs.Members.{contains_cases, contains_nothing, origin_in_flat_map}
+use Rattle.fb_clean.proofs.Text.Members.{contains_cases, contains_nothing, origin_in_flat_map}
 use Rattle.fb_clean.proofs.CleanUnits.{applications_clean, networks_clean}
-use Rattle.fb_net_parts.proofs.Compose.Equals.{same_bytes, at_not}
-use Rattle.fb_net_parts.specs.Compose.Counts.{IsCounted, AreCounted}
+use Rattle.fb_clean.proofs.Compose.Equals.{same_bytes, at_not}
+use Rattle.fb_clean.specs.Compose.Counts.{IsCounted, AreCounted}
 use Rattle.fb_flatten.specs.Hints.{AreRightHints, count_of_hint}
 use Rattle.fb_flatten.specs.Net.{PlainNet, IsSound}
 use Rattle.fb_flatten.specs.Tables.{AllCounted, IsCountable, IsSmallType, IsSoundOrder, IsTable, IsUnitCount, IsUnitOrder, SameOthers, is_subapplication_in}
-use Rattle.fb_net_parts.specs.Units.{own_instances}
+use Rattle.fb_clean.specs.NetParts.Units.{own_instances}
 use Rattle.fb_flatten.proofs.ComputedNets.{unit_faultless}
 use Rattle.fb_flatten.proofs.HintLemmas.{kept_counted}
-use Rattle.fb_net_parts.proofs.KindLemmas.{subapplication_told}
+use Rattle.fb_clean.proofs.NetParts.KindLemmas.{subapplication_told}
 use Rattle.fb_flatten.proofs.MentionLemmas.{declared_within, own_within}
 use Rattle.fb_flatten.proofs.SoundLemmas.{sound_network}
 

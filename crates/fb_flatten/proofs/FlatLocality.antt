@@ -3,7 +3,7 @@ use Rattle.std.proofs.Common.{ℕ, ◌≡◌, Bool, true, false, cond, List, [],
 use Rattle.std.specs.Prelude.{Contains, find, ◌&&◌, option_and_then}
 use Rattle.std.proofs.lemmas.List.Elements.{Contains-append_right}
 use Rattle.std.specs.BTreeMap.{is_at}
-use Rattle.fb_text.specs.Order.{name_cmp}
+use Rattle.fb_clean.specs.Text.Order.{name_cmp}
 use Rattle.fb_clean.specs.Tree.declared.network.Sort.{Sort}
 use Rattle.fb_clean.specs.Tree.declared.network.Sort.TheVariants.{Adapter}
 use Rattle.fb_clean.specs.Network.Sorts.{same_sort}

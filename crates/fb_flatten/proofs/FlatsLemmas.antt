@@ -5,8 +5,8 @@ use Rattle.std.proofs.lemmas.List.Elements.{Contains-push_cases}
 use Rattle.std.specs.Prelude.{Contains, ◌≢◌, is_none, option_map}
 use Rattle.std.specs.Option.{option_or}
 use Rattle.std.specs.BTreeMap.{is_at}
-use Rattle.fb_text.proofs.Tests.{by_bool}
-use Rattle.fb_text.specs.Order.{name_cmp}
+use Rattle.fb_clean.proofs.Text.Tests.{by_bool}
+use Rattle.fb_clean.specs.Text.Order.{name_cmp}
 use Rattle.fb_clean.specs.Tree.Mentions.{unit_kind_of}
 use Rattle.fb_clean.specs.Tree.Tree.{DeclTree, block_type, adapter_type, subapplication_type, system_configuration}
 use Rattle.fb_clean.specs.Tree.declared.kinds.UnitKind.{UnitKind}
@@ -22,20 +22,20 @@ use Rattle.fb_clean.specs.Network.FlatNet.{IsFlat}
 use Rattle.fb_clean.specs.Wiring.Applications.{applications_of}
 use Rattle.fb_clean.specs.Wiring.ByName.{declared, kind_at}
 use Rattle.fb_clean.specs.Wiring.Networks.{network_of}
-use Rattle.fb_text.proofs.Members.{contains_cases, contains_here, contains_later, contains_nothing}
-use Rattle.fb_net_parts.proofs.Compose.Equals.{same_bytes, not_at, at_not}
-use Rattle.fb_net_parts.specs.Compose.Ready.{Nets, IsFinished, AreFinished}
+use Rattle.fb_clean.proofs.Text.Members.{contains_cases, contains_here, contains_later, contains_nothing}
+use Rattle.fb_clean.proofs.Compose.Equals.{same_bytes, not_at, at_not}
+use Rattle.fb_clean.specs.Compose.Ready.{Nets, IsFinished, AreFinished}
 use Rattle.fb_flatten.specs.Hints.{AreRightHints, count_of_hint, flat_of_hint}
 use Rattle.fb_flatten.specs.Net.{PlainNet}
 use Rattle.fb_flatten.specs.Tables.{AllFinished, AreComposedTogether, IsAdded, IsComposed, IsSmall, IsSmallType, IsTable, IsUnitOrder, SameOthers, is_missing, is_subapplication_in, is_system_tree, known_flats}
-use Rattle.fb_net_parts.specs.Units.{HasNet, IsUnitFlat, OfSubapplication, OfSystem, own_instances}
+use Rattle.fb_clean.specs.NetParts.Units.{HasNet, IsUnitFlat, OfSubapplication, OfSystem, own_instances}
 use Rattle.fb_flatten.proofs.ComposeLemmas.{application_composable, type_composable}
 use Rattle.fb_flatten.proofs.CountLemmas.{inner_kind, inner_small, own_kind}
 use Rattle.fb_flatten.proofs.HintLemmas.{kept_finished, no_flat, none_of}
-use Rattle.fb_net_parts.proofs.KindLemmas.{subapplication_told}
+use Rattle.fb_clean.proofs.NetParts.KindLemmas.{subapplication_told}
 use Rattle.fb_flatten.proofs.MentionLemmas.{declared_within, own_within}
 use Rattle.fb_flatten.proofs.SoundLemmas.{not_mentioned, sound_network}
-use Rattle.fb_net_parts.proofs.FoundUnits.{own_of_application, own_of_type, system_applications}
+use Rattle.fb_clean.proofs.NetParts.FoundUnits.{own_of_application, own_of_type, system_applications}
 
 in_take : {X : Type 0} (k : ℕ) (xs : List X) (x : X) → Contains (take k xs) x → Contains xs x
 in_take zero xs x c = absurd (contains_nothing x c)

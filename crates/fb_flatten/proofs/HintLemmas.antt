@@ -13,16 +13,16 @@ use Rattle.fb_clean.specs.Network.Plain.{PlainNetwork}
 use Rattle.fb_clean.specs.Network.PlainFlat.{PlainFlat}
 use Rattle.fb_clean.specs.Network.Instances.{Held, AreInstances}
 use Rattle.fb_clean.specs.Network.Count.{IsCount}
-use Rattle.fb_text.proofs.Members.{contains_nothing}
+use Rattle.fb_clean.proofs.Text.Members.{contains_nothing}
 use Rattle.fb_clean.specs.Wiring.ByName.{declared, kind_at}
 use Rattle.fb_clean.specs.Wiring.Networks.{network_of}
-use Rattle.fb_net_parts.specs.Compose.Ready.{Nets, IsFinished}
-use Rattle.fb_net_parts.proofs.Compose.BlockLemmas.{same_instances}
+use Rattle.fb_clean.specs.Compose.Ready.{Nets, IsFinished}
+use Rattle.fb_clean.proofs.Compose.BlockLemmas.{same_instances}
 use Rattle.fb_flatten.specs.Blocking.{is_blocking}
 use Rattle.fb_flatten.specs.Hints.{AreRightHints, count_of_hint, count_of_net, flat_of_hint, is_whole_hint, is_whole_net}
 use Rattle.fb_flatten.specs.Net.{PlainNet, blocked, recursive, too_large, flat_net, IsNet, IsWhole}
 use Rattle.fb_flatten.specs.Tables.{IsSmallType, known_flats}
-use Rattle.fb_net_parts.specs.Units.{IsTooLarge, IsUnitFlat, OfSubapplication, OfSystem, own_instances}
+use Rattle.fb_clean.specs.NetParts.Units.{IsTooLarge, IsUnitFlat, OfSubapplication, OfSystem, own_instances}
 use Rattle.fb_flatten.proofs.ComputedNets.{net_at_is}
 use Rattle.fb_flatten.proofs.NetLemmas.{blocking_is}
 

@@ -21,4 +21,8 @@ pub use Rattle.fb_clean.proofs.Tree as Tree
 pub use Rattle.fb_clean.proofs.Library as Library
 pub use Rattle.fb_clean.proofs.Iface as Iface
 pub use Rattle.fb_clean.proofs.Faults as Faults
-pub use Rattle.fb_net_parts.proofs.Compose as Compose
+pub use Rattle.fb_clean.proofs.Compose as Compose
+pub use Rattle.fb_clean.proofs.Commands as Commands
+pub use Rattle.fb_clean.proofs.Mapping as Mapping
+pub use Rattle.fb_clean.proofs.Text as Text
+pub use Rattle.fb_clean.proofs.Table as Table

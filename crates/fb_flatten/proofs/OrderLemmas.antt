@@ -10,7 +10,7 @@ use Rattle.fb_clean.specs.Library.Rests.{Rests, itself, through}
 use Rattle.fb_clean.specs.Iface.declared.code.Code.TheVariants.{Syntax}
 use Rattle.fb_clean.specs.Iface.declared.fault.Fault.{Fault}
 use Rattle.fb_clean.specs.Faults.Faults.{faults_of, syntax_faults_of, text_faults, body_faults}
-use Rattle.fb_order.specs.Reaches.{Reaches, directly, onward}
+use Rattle.fb_clean.specs.Order.Reaches.{Reaches, directly, onward}
 use Rattle.fb_clean.proofs.NothingLemmas.{nothing_reported}
 
 -- the unit has a tree

@@ -2,11 +2,11 @@
 use Rattle.std.proofs.Common.{ℕ, ◌≡◌, List, [], Some, subst}
 use Rattle.std.specs.Prelude.{Contains}
 use Rattle.std.specs.List.Sorted.{IsStrictlySortedBy}
-use Rattle.fb_text.specs.Order.{name_cmp}
+use Rattle.fb_clean.specs.Text.Order.{name_cmp}
 use Rattle.fb_clean.specs.Library.View.{Sources, mentions_at}
 use Rattle.fb_clean.specs.Library.Rests.{Rests, itself, through}
-use Rattle.fb_text.proofs.Members.{contains_nothing}
-use Rattle.fb_order.specs.Reaches.{IsRecursive}
+use Rattle.fb_clean.proofs.Text.Members.{contains_nothing}
+use Rattle.fb_clean.specs.Order.Reaches.{IsRecursive}
 use Rattle.fb_clean.specs.Network.Plain.{PlainNetwork}
 use Rattle.fb_clean.specs.Network.Clean.{IsCleanThroughout}
 use Rattle.fb_clean.specs.Wiring.ByName.{declared}

@@ -2,7 +2,7 @@
 use Rattle.std.specs.Prelude.{ℕ, ◌≡◌, ◌≢◌, ◌↔◌, ◌⊎◌, Bool, true, false, ◌||◌, List, [], ◌∷◌, None, is_none, Contains}
 use Rattle.std.specs.FinMap.{get}
 use Rattle.std.specs.List.Sorted.{IsStrictlySortedBy}
-use Rattle.fb_text.specs.Order.{name_cmp}
+use Rattle.fb_clean.specs.Text.Order.{name_cmp}
 use Rattle.fb_clean.specs.Library.View.{Sources}
 use Rattle.fb_clean.specs.Library.Rests.{Rests}
 use Rattle.fb_clean.specs.Iface.declared.fault.Fault.{Fault}

@@ -2,7 +2,7 @@
 use Rattle.std.specs.Prelude.{◌≡◌, ℕ, zero, suc, List, [], ◌∷◌, ◌++◌, length}
 use Rattle.std.specs.List.{flat_map}
 use Rattle.std.specs.FinMap.{entries}
-use Rattle.fb_text.specs.Order.{names_in_order}
+use Rattle.fb_clean.specs.Text.Order.{names_in_order}
 use Rattle.fb_clean.specs.Library.View.{Sources, tree_of, mentions_at, mentions_in}
 use Rattle.fb_clean.specs.Library.Local.{AgreeFar, IsFar}
 

@@ -18,5 +18,9 @@ pub use Rattle.fb_clean.specs.Faults as Faults
 pub use Rattle.fb_clean.specs.Network as Network
 pub use Rattle.fb_clean.specs.Wiring as Wiring
 pub use Rattle.fb_clean.specs as Clean
-pub use Rattle.fb_net_parts.specs.Units as Units
-pub use Rattle.fb_net_parts.specs as Parts
+pub use Rattle.fb_clean.specs.NetParts.Units as Units
+pub use Rattle.fb_clean.specs.NetParts as Parts
+pub use Rattle.fb_clean.specs.Mapping as Mapping
+pub use Rattle.fb_clean.specs.Commands as Commands
+pub use Rattle.fb_clean.specs.Text as Text
+pub use Rattle.fb_clean.specs.Compose as Compose

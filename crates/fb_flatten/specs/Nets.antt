@@ -1,7 +1,7 @@
 -- The net of a unit, computed from the texts.
 use Rattle.std.specs.Prelude.{◌≡◌, ℕ, zero, suc, Bool, true, false, if◌then◌else◌, nat_lt, List, [], ◌∷◌, ◌++◌, length, map, filter, Option, Some, None, ◌↔◌}
 use Rattle.std.specs.List.{flat_map, list_any}
-use Rattle.fb_text.specs.Order.{in_order}
+use Rattle.fb_clean.specs.Text.Order.{in_order}
 use Rattle.fb_clean.specs.Tree.Tree.{DeclTree, block_type, adapter_type, subapplication_type, system_configuration}
 use Rattle.fb_clean.specs.Library.View.{Sources, mentions_at, tree_at}
 use Rattle.fb_clean.specs.Library.Local.{AgreeFar}
@@ -15,17 +15,17 @@ use Rattle.fb_clean.specs.Network.PlainFlat.{PlainFlat}
 use Rattle.fb_clean.specs.Network.LinkOrder.{link_cmp, border_cmp}
 use Rattle.fb_clean.specs.Network.Network.{View, instance_named}
 use Rattle.fb_clean.specs.Network.Instances.{Held, held_as, held_within}
-use Rattle.fb_net_parts.specs.Compose.Composed.{composed_blocks, composed_borders, composed_links}
-use Rattle.fb_net_parts.specs.Compose.Ready.{Nets}
-use Rattle.fb_net_parts.specs.Compose.SystemFlat.{application_blocks, application_links}
-use Rattle.fb_net_parts.specs.Compose.declared.application.FlatApplication.{FlatApplication}
+use Rattle.fb_clean.specs.Compose.Composed.{composed_blocks, composed_borders, composed_links}
+use Rattle.fb_clean.specs.Compose.Ready.{Nets}
+use Rattle.fb_clean.specs.Compose.SystemFlat.{application_blocks, application_links}
+use Rattle.fb_clean.specs.Compose.declared.application.FlatApplication.{FlatApplication}
 use Rattle.fb_clean.specs.Wiring.Applications.{applications_of}
 use Rattle.fb_clean.specs.Wiring.ByName.{declared}
 use Rattle.fb_clean.specs.Wiring.Networks.{network_of}
 use Rattle.fb_clean.specs.Wiring.declared.systems.Application.{Application}
 use Rattle.fb_flatten.specs.Blocking.{is_blocking}
 use Rattle.fb_flatten.specs.Net.{PlainNet, blocked, recursive, too_large, flat_net, IsNet}
-use Rattle.fb_net_parts.specs.Units.{HasNet, has_net_tree, own_instances}
+use Rattle.fb_clean.specs.NetParts.Units.{HasNet, has_net_tree, own_instances}
 use Rattle.fb_flatten.specs.Far.{far_of}
 
 -- ---- flat networks

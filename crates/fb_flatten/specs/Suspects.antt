@@ -1,7 +1,7 @@
 -- Names among which those that block a unit are looked for.
 use Rattle.std.specs.Prelude.{ℕ, if◌then◌else◌, List, [], Option, Contains}
 use Rattle.std.specs.List.Sorted.{IsStrictlySortedBy}
-use Rattle.fb_text.specs.Order.{name_cmp}
+use Rattle.fb_clean.specs.Text.Order.{name_cmp}
 use Rattle.fb_clean.specs.Library.View.{Sources, mentions_at}
 use Rattle.fb_clean.specs.Library.Rests.{Rests}
 use Rattle.fb_flatten.specs.Blocking.{IsBlocking}

@@ -5,8 +5,8 @@ ghost use Rattle.fb_flatten.specs.Hints.{AreRightHints};
 
 use fb_clean::faults::faults;
 use fb_clean::library::View;
-use fb_net_parts::{Hints, is_known_whole};
-use fb_text::Name;
+use fb_clean::net_parts::{Hints, is_known_whole};
+use fb_clean::text::Name;
 use std::alloc::{AllocError, Global};
 
 /// Whether the name is that of no unit, or of one with faults.

@@ -9,8 +9,8 @@ ghost use Rattle.fb_flatten.specs.Nets.{has_net_in, net_at};
 use crate::scratch::net;
 use crate::unit_net::net_with;
 use fb_clean::library::{View, far};
-use fb_net_parts::{Hints, Net, has_net};
-use fb_text::Name;
+use fb_clean::net_parts::{Hints, Net, has_net};
+use fb_clean::text::Name;
 use std::alloc::{AllocError, Global};
 
 /// All names that the unit rests on, itself and absent ones included, in order, each once.

@@ -12,7 +12,7 @@ mod unit_net;
 mod units;
 
 pub use computed::{all_far, is_of_net, net_of_unit, net_of_unit_with};
-pub use fb_net_parts::{Hints, Net, NoHints, has_net, is_of_system};
+pub use fb_clean::net_parts::{Hints, Net, NoHints, has_net, is_of_system};
 pub use laws::{
     far_is_all, far_of_is_local, flat_networks_are_local, has_net_by_text, net_at_is_local,
     net_at_is_net, net_is_local, one_net,
@@ -20,9 +20,12 @@ pub use laws::{
 pub use scratch::net;
 pub use unit_net::net_with;
 
-/// Of `fb_net_parts::compose`, for the crates above.
+/// Of `fb_clean::compose`, for the crates above.
 pub mod compose {
-    pub use fb_net_parts::compose::sort_once;
+    pub use fb_clean::compose::{
+        FlatApplication, chains_are_composed, compose, compose_in_order, count_instances,
+        flat_is_one, join, sort_once, system_is_one,
+    };
 }
 
 /// Of `fb_clean::faults`, for the crates above.
@@ -48,7 +51,8 @@ pub mod netcheck {
 /// Of `fb_clean::plain`, for the crates above.
 pub mod network {
     pub use fb_clean::plain::{
-        Border, End, Flat, FlatBlock, Link, Network, Path, Port, is_same_sort, sort_number,
+        Border, Connection, End, Flat, FlatBlock, Instance, InstanceKind, Link, Network, Path,
+        Port, is_same_sort, sort_number,
     };
 }
 
@@ -70,5 +74,29 @@ pub mod wiring {
     pub use fb_clean::wiring::{applications, network, networks_are_local};
     pub use fb_clean::{
         applications_are_clean, networks_are_clean, without_faults_nothing_is_reported,
+    };
+}
+
+/// Of `fb_clean::commands`, for the crates above.
+pub mod commands {
+    pub use fb_clean::commands::{Command, Commands, ResourcePlan, commands_of};
+}
+
+/// Of `fb_clean::mapping`, for the crates above.
+pub mod mapping {
+    pub use fb_clean::mapping::{
+        Home, Homes, Misplaced, cuts_of, home_table, homes_are_nearest, homes_of, path_names,
+    };
+}
+
+/// Of `fb_clean::text`, for the crates above.
+pub mod text {
+    pub use fb_clean::text::{Name, same_name};
+}
+
+/// Of `fb_clean::order`, for the crates above.
+pub mod order {
+    pub use fb_clean::order::{
+        inner_first, ordered_is_not_recursive, recursion_is_local, recursive,
     };
 }

@@ -5,9 +5,9 @@ ghost use Rattle.fb_flatten.specs.Hints.{AreRightHints};
 ghost use Rattle.fb_flatten.specs.Suspects.{AreSuspects, mentions_beyond};
 
 use fb_clean::library::{View, mentions_by_name};
-use fb_net_parts::{Hints, is_known_whole};
-use fb_table::{names_of, open_new};
-use fb_text::Name;
+use fb_clean::net_parts::{Hints, is_known_whole};
+use fb_clean::table::{names_of, open_new};
+use fb_clean::text::Name;
 use std::alloc::{AllocError, Global};
 use std::collections::BTreeSet;
 

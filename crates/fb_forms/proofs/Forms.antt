@@ -2,7 +2,7 @@
 use Rattle.std.proofs.Common.{◌≡◌, ℕ, zero, suc, ◌≤◌, ◌<◌, Bool, true, false, cond, ◌&&◌, ◌||◌, not, nat_eq, ◌⊎◌, inl, inr, List, [], ◌∷◌, ◌++◌, length, Some, None, Ok, Err, refl, sym, ◌∙◌, ap, subst, arith, append_assoc, length-append, ap₂}
 use Rattle.std.proofs.lemmas.Bool.{or_right, or_left}
 use borrow.Author.Tests.{eqb-true}
-use Rattle.fb_text.proofs.Tests.{not_true}
+use Rattle.fb_lexemes.proofs.Text.Tests.{not_true}
 use Rattle.fb_lexemes.specs.declared.kind.Kind.{Kind}
 use Rattle.fb_lexemes.specs.declared.lexeme.Lexeme.{Lexeme}
 use Rattle.fb_lexemes.specs.Kind.{is_among, same_kind, code_of}

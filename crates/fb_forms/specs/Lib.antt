@@ -7,4 +7,5 @@ pub mod Repetition
 pub mod Gives
 -- Passed on to the crates above, which do not list these libraries.
 pub use Rattle.fb_lexemes.specs as Lexemes
-pub use Rattle.fb_tree.specs as Tree
+pub use Rattle.fb_lexemes.specs.Tree as Tree
+pub use Rattle.fb_lexemes.specs.Text as Text

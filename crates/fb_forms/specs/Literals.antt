@@ -1,13 +1,13 @@
 -- Literals by the kinds of their tokens.
 use Rattle.std.specs.Prelude.{List, [], ◌∷◌, ◌++◌}
-use Rattle.fb_text.specs.declared.token.Span.{Span}
-use Rattle.fb_text.specs.declared.elementary.TypeClass.TheVariants as class
+use Rattle.fb_lexemes.specs.Text.declared.token.Span.{Span}
+use Rattle.fb_lexemes.specs.Text.declared.elementary.TypeClass.TheVariants as class
 use Rattle.fb_lexemes.specs.declared.kind.Kind.{Kind}
 use Rattle.fb_lexemes.specs.declared.kind.Kind.TheVariants.{Zero, One, Number, RealNumber, TypedTruth, TypedInteger, TypedBits, TypedFree, TypedOther, Text, True, False}
 use Rattle.fb_lexemes.specs.declared.lexeme.Lexeme.{Lexeme}
-use Rattle.fb_tree.specs.declared.constant.Literal.{Literal}
-use Rattle.fb_tree.specs.declared.constant.LiteralForm.{LiteralForm}
-use Rattle.fb_tree.specs.declared.constant.LiteralForm.TheVariants as form
+use Rattle.fb_lexemes.specs.Tree.declared.constant.Literal.{Literal}
+use Rattle.fb_lexemes.specs.Tree.declared.constant.LiteralForm.{LiteralForm}
+use Rattle.fb_lexemes.specs.Tree.declared.constant.LiteralForm.TheVariants as form
 
 -- NUMBER
 abbrev pub number_kinds : List Kind

@@ -5,7 +5,7 @@ use Rattle.fb_lexemes.specs.declared.kind.Kind.TheVariants.{Comma}
 use Rattle.fb_lexemes.specs.declared.lexeme.Lexeme.{Lexeme}
 use Rattle.fb_lexemes.specs.Kind.{name_kinds}
 use Rattle.fb_lexemes.specs.Lexemes.{name_use}
-use Rattle.fb_text.specs.declared.name.NameUse.{NameUse}
+use Rattle.fb_lexemes.specs.Text.declared.name.NameUse.{NameUse}
 use Rattle.fb_forms.specs.Form.{Form, one, both, option, many, as_value}
 
 -- a reserved word or a symbol

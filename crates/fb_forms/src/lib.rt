@@ -16,11 +16,16 @@ pub mod lexemes {
     pub use fb_lexemes::{Kind, Lexeme, lexemes};
 }
 
-/// Of `fb_tree`, for the crates above.
+/// Of `fb_lexemes::tree`, for the crates above.
 pub mod tree {
-    pub use fb_tree::{
+    pub use fb_lexemes::tree::{
         Action, Connection, Constant, Device, End, Event, Instance, Literal, LiteralForm, Mapping,
         Parameter, Resource, Role, Section, Side, Simple, Sort, State, TypeForm, TypeUse,
         Variables,
     };
+}
+
+/// Of `fb_lexemes::text`, for the crates above.
+pub mod text {
+    pub use fb_lexemes::text::NameUse;
 }

@@ -4,9 +4,9 @@ ghost use Rattle.fb_forms.specs.Literals.{across, literal_form, literal_kinds, l
 ghost use Rattle.fb_lexemes.specs.Kind.{is_among};
 ghost use Rattle.std.specs.Prelude.{◌≡◌, true};
 
+use fb_lexemes::text::{Span, TypeClass};
+use fb_lexemes::tree::{Literal, LiteralForm};
 use fb_lexemes::{Kind, Lexeme};
-use fb_text::{Span, TypeClass};
-use fb_tree::{Literal, LiteralForm};
 
 /// The kinds of numbers.
 pub const NUMBERS: [Kind; 4] = [Kind::Zero, Kind::One, Kind::Number, Kind::RealNumber];

@@ -5,13 +5,13 @@ ghost use Rattle.fb_forms.specs.Gives.{Gives};
 ghost use Rattle.fb_forms.specs.Reading.{is_next, read};
 ghost use Rattle.fb_forms.specs.Words.{key, name, names};
 ghost use Rattle.fb_lexemes.specs.Lexemes.{name_use};
-ghost use Rattle.fb_text.specs.declared.name.NameUse.{NameUse};
+ghost use Rattle.fb_lexemes.specs.Text.declared.name.NameUse.{NameUse};
 ghost use Rattle.std.specs.Prelude.{◌≡◌};
 
 use crate::repetition::{Reader, listed};
 use crate::stop::Stop;
+use fb_lexemes::text::NameUse;
 use fb_lexemes::{Kind, Lexeme};
-use fb_text::NameUse;
 use std::alloc::Global;
 
 /// Whether the next token is of one of these kinds.

@@ -1,10 +1,10 @@
 -- When a key waits, said by places in the list of calls.
 use Rattle.std.specs.Prelude.{Bool, false, ◌&&◌, ◌||◌, not, List, [], ◌∷◌, map, is_none}
-use Rattle.fb_values.specs.Library.Texts.{Edit, unit_of, all_edited}
-use Rattle.fb_values.specs.declared.key.Key.{Key}
-use Rattle.fb_values.specs.Keys.{has_key}
-use Rattle.fb_values.specs.KeyOrder.{same_key}
-use Rattle.fb_values.specs.Reads.{stale}
+use Rattle.fb_jobs.specs.Library.Texts.{Edit, unit_of, all_edited}
+use Rattle.fb_jobs.specs.KeysAndValues.declared.key.Key.{Key}
+use Rattle.fb_jobs.specs.Keys.{has_key}
+use Rattle.fb_jobs.specs.KeyOrder.{same_key}
+use Rattle.fb_jobs.specs.Reads.{stale}
 use Rattle.fb_history.specs.declared.answers.Committed.{Committed}
 use Rattle.fb_history.specs.declared.answers.Committed.TheVariants.{Done}
 use Rattle.fb_history.specs.Machine.{State, Call, ToCommit, ToDeliver, commit_answer, reaches, after}

@@ -1,10 +1,10 @@
 -- Records of the program as what they say.
 use Rattle.std.specs.Prelude.{◌+◌, List, map, take, Option, Some, None, string_bytes}
-use Rattle.fb_values.specs.Library.Texts.{Edit, Puts, Removes}
-use Rattle.fb_values.specs.Library.declared.change.Change.{Change}
-use Rattle.fb_values.specs.Library.Changes.{edits_of}
-use Rattle.fb_values.specs.Reads.{PlainJob}
-use Rattle.fb_values.specs.Values.{texts_seen, finding_of}
+use Rattle.fb_jobs.specs.Library.Texts.{Edit, Puts, Removes}
+use Rattle.fb_jobs.specs.Library.declared.change.Change.{Change}
+use Rattle.fb_jobs.specs.Library.Changes.{edits_of}
+use Rattle.fb_jobs.specs.Reads.{PlainJob}
+use Rattle.fb_jobs.specs.Values.{texts_seen, finding_of}
 use Rattle.fb_history.specs.Machine as machine
 use Rattle.fb_history.specs.Machine.{most_changes, ToCommit, ToTake, ToDeliver, ToGiveBack, ToAsk, Shown, Finds, Waits, Unknown, OfCommit, OfTake, OfDeliver, OfGiveBack, OfAsk}
 use Rattle.fb_history.specs.Story.{Record}

@@ -2,8 +2,8 @@
 ghost use Rattle.std.specs.Prelude.{◌≡◌};
 ghost use Rattle.fb_history.specs.declared.answers.Refused.TheVariants.{Memory};
 
-use fb_text::Name;
-use fb_values::Value;
+use fb_jobs::Value;
+use fb_jobs::text::Name;
 use std::alloc::AllocError;
 use std::sync::Arc;
 

@@ -1,14 +1,14 @@
 //! The records of a history. They keep texts, and no trees.
 ghost use Rattle.std.specs.Prelude.{◌≡◌, IfOk};
-ghost use Rattle.fb_values.specs.Library.Changes.{edit_of, edits_of};
+ghost use Rattle.fb_jobs.specs.Library.Changes.{edit_of, edits_of};
 ghost use Rattle.fb_history.specs.Machine.{OfCommit, OfDeliver};
 ghost use Rattle.fb_history.specs.Records.{text_edit, text_edits, reply_of};
 
 use crate::answers::{Asked, Committed, Delivered, GivenBack};
 use crate::same::{is_same_call, is_same_reply};
-use fb_text::Name;
-use fb_values::library::Change;
-use fb_values::{Key, TextRead};
+use fb_jobs::library::Change;
+use fb_jobs::text::Name;
+use fb_jobs::{Key, TextRead};
 use std::alloc::{AllocError, Global};
 use std::marker::Model;
 use std::sync::Arc;

@@ -1,12 +1,12 @@
 //! Whether two records say the same, by content.
 ghost use Rattle.std.specs.Prelude.{◌≡◌, ◌↔◌, IsTrue, string_bytes};
-ghost use Rattle.fb_values.specs.Values.{text_found, text_seen, texts_seen, finding_of};
+ghost use Rattle.fb_jobs.specs.Values.{text_found, text_seen, texts_seen, finding_of};
 ghost use Rattle.fb_history.specs.Records.{wanted_job, wanted_job_in, text_edit, text_edits, call_of, shown_in, delivered_in, reply_of};
 
 use crate::answers::{Asked, Committed, Delivered, GivenBack};
 use crate::record::{Call, Reply, TextChange, Wanted};
-use fb_text::{Name, same_name};
-use fb_values::{Key, TextRead, is_same_value};
+use fb_jobs::text::{Name, same_name};
+use fb_jobs::{Key, TextRead, is_same_value};
 use std::sync::Arc;
 
 /// The same call.

@@ -10,6 +10,7 @@ pub mod ScopeLocal
 pub mod TableLemmas
 pub mod TreeLemmas
 -- Passed on to the crates above, which do not list these libraries.
-pub use Rattle.fb_library.proofs.Tree as Tree
 pub use Rattle.fb_library.proofs.Parse as Parse
 pub use Rattle.fb_library.proofs as Library
+pub use Rattle.fb_library.proofs.Text as Text
+pub use Rattle.fb_library.proofs.Table as Table

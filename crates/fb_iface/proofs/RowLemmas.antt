@@ -3,9 +3,9 @@ use Rattle.std.proofs.Common.{◌≡◌, ◌≢◌, ℕ, ◌+◌, Bool, true, fa
 use Rattle.std.specs.List.{Contains, enumerate_from, filter, slice_get}
 use Rattle.std.specs.Option.{option_map_or}
 use Rattle.std.proofs.lemmas.List.Elements.{Contains-append_left, Contains-append_right, Contains-append_cases}
-use Rattle.fb_text.proofs.Tests.{not_true}
-use Rattle.fb_text.specs.declared.token.Span.{Span}
-use Rattle.fb_text.specs.declared.name.NameUse.{NameUse}
+use Rattle.fb_library.proofs.Text.Tests.{not_true}
+use Rattle.fb_library.specs.Text.declared.token.Span.{Span}
+use Rattle.fb_library.specs.Text.declared.name.NameUse.{NameUse}
 use Rattle.fb_library.specs.Tree.Mentions.{unit_kind_of}
 use Rattle.fb_library.specs.Tree.Tree.{ConstantTree, DeclTree, EventTree, InstanceTree, TypeTree, VariablesTree, block_type, adapter_type, subapplication_type, system_configuration, one_value, value_list}
 use Rattle.fb_library.specs.Tree.declared.constant.Simple.{Simple}
@@ -30,7 +30,7 @@ use Rattle.fb_iface.specs.Sides.{goes_with}
 use Rattle.fb_iface.specs.Spaces.{spaces_of}
 use Rattle.fb_iface.specs.Types.{instance_faults, instances_of, suits, type_fault, type_faults}
 use Rattle.fb_iface.specs.Withs.{carries, event_withs, with_faults}
-use Rattle.fb_text.proofs.Members.{contains_filter, contains_flat_map, contains_here, contains_map, contains_nothing, contains_single, origin_in_flat_map, origin_in_map, in_unless, in_written, passes_in_filter, unless, written}
+use Rattle.fb_library.proofs.Text.Members.{contains_filter, contains_flat_map, contains_here, contains_map, contains_nothing, contains_single, origin_in_flat_map, origin_in_map, in_unless, in_written, passes_in_filter, unless, written}
 use Rattle.fb_iface.proofs.EarlierLemmas.{IsEarlier, at_place, earlier_name, has_earlier, in_places}
 use Rattle.fb_iface.proofs.NameLemmas.{same_exact, same_itself}
 

@@ -3,8 +3,8 @@ use Rattle.std.proofs.Common.{◌≡◌, ℕ, Bool, true, false, cond, ◌||◌,
 use Rattle.std.proofs.lemmas.List.Folds.{list_any-append}
 use Rattle.std.specs.Option.{option_or}
 use Rattle.std.specs.Cmp.Lexicographic.{pointwise}
-use Rattle.fb_text.proofs.OrderLemmas.{same_name}
-use Rattle.fb_text.specs.declared.name.NameUse.{NameUse}
+use Rattle.fb_library.proofs.Text.OrderLemmas.{same_name}
+use Rattle.fb_library.specs.Text.declared.name.NameUse.{NameUse}
 use Rattle.fb_library.specs.Tree.Tree.{DeclTree, instance_tree}
 use Rattle.fb_library.specs.Tree.declared.network.Instance.{Instance}
 use Rattle.fb_library.specs.Tree.declared.network.Role.{Role}

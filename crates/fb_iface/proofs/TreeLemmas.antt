@@ -3,7 +3,7 @@ use Rattle.std.proofs.Common.{◌≡◌, List, [], ◌∷◌, ◌++◌, map, ref
 use Rattle.std.specs.List.{flat_map}
 use Rattle.std.proofs.lemmas.Grind.{flat_map-append}
 use Rattle.std.proofs.lemmas.List.Folds.{flat_map-map}
-use Rattle.fb_text.specs.declared.name.NameUse.{NameUse}
+use Rattle.fb_library.specs.Text.declared.name.NameUse.{NameUse}
 use Rattle.fb_library.specs.Tree.Tree.{InstanceTree, algorithm_tree, application_tree, chart_tree, device_tree, event_tree, instance_tree, interface_tree, network_tree, parameter_tree, resource_tree, state_tree, system_tree, variables_tree}
 use Rattle.fb_library.specs.Tree.declared.chart.Chart.{Chart}
 use Rattle.fb_library.specs.Tree.declared.interface.Interface.{Interface}

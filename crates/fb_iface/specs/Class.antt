@@ -1,8 +1,8 @@
 -- Classes of types and constants.
 use Rattle.std.specs.Prelude.{ℕ, Bool, true, false, List}
-use Rattle.fb_text.specs.Elementary.{type_class_of}
-use Rattle.fb_text.specs.declared.elementary.TypeClass.{TypeClass}
-use Rattle.fb_text.specs.declared.elementary.TypeClass.TheVariants as types
+use Rattle.fb_library.specs.Text.Elementary.{type_class_of}
+use Rattle.fb_library.specs.Text.declared.elementary.TypeClass.{TypeClass}
+use Rattle.fb_library.specs.Text.declared.elementary.TypeClass.TheVariants as types
 use Rattle.fb_library.specs.Tree.declared.constant.LiteralForm.{LiteralForm}
 use Rattle.fb_library.specs.Tree.declared.constant.LiteralForm.TheVariants as literals
 use Rattle.fb_library.specs.Tree.declared.constant.Simple.{Simple}

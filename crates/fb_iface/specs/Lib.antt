@@ -20,3 +20,5 @@ pub use Rattle.fb_library.specs.Forms as Forms
 pub use Rattle.fb_library.specs.Sections as Sections
 pub use Rattle.fb_library.specs.Parse as Parse
 pub use Rattle.fb_library.specs as Library
+pub use Rattle.fb_library.specs.Text as Text
+pub use Rattle.fb_library.specs.Table as Table

@@ -2,7 +2,7 @@
 use Rattle.std.specs.Prelude.{Bool, List, [], ◌∷◌, not, map, filter, if◌then◌else◌}
 use Rattle.std.specs.List.{flat_map}
 use Rattle.std.specs.Option.{option_map_or}
-use Rattle.fb_text.specs.declared.token.Span.{Span}
+use Rattle.fb_library.specs.Text.declared.token.Span.{Span}
 use Rattle.fb_library.specs.Tree.Tree.{ConstantTree, one_value, value_list, VariablesTree, InterfaceTree}
 use Rattle.fb_library.specs.Tree.declared.constant.Simple.{Simple}
 use Rattle.fb_library.specs.Tree.declared.constant.Simple.TheVariants as constants

@@ -1,7 +1,7 @@
 -- What the names of a unit stand for.
 use Rattle.std.specs.Prelude.{ℕ, Bool, true, false, List, [], map, filter, Option, option_map}
 use Rattle.std.specs.List.{flat_map}
-use Rattle.fb_text.specs.declared.name.NameUse.{NameUse}
+use Rattle.fb_library.specs.Text.declared.name.NameUse.{NameUse}
 use Rattle.fb_library.specs.Tree.Tree.{DeclTree, InterfaceTree, NetworkTree, TypeTree, VariablesTree, block_type, adapter_type, subapplication_type, system_configuration}
 use Rattle.fb_library.specs.Tree.declared.interface.Side.{Side}
 use Rattle.fb_library.specs.Tree.declared.interface.Side.TheVariants as sides

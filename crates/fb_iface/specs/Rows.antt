@@ -1,7 +1,7 @@
 -- Each code of declarations in words of its own: where the list of faults has it.
 use Rattle.std.specs.Prelude.{◌≡◌, ◌≢◌, ℕ, ◌<◌, true, false, List, Some, None, Contains, slice_get, ◌↔◌}
-use Rattle.fb_text.specs.declared.token.Span.{Span}
-use Rattle.fb_text.specs.declared.name.NameUse.{NameUse}
+use Rattle.fb_library.specs.Text.declared.token.Span.{Span}
+use Rattle.fb_library.specs.Text.declared.name.NameUse.{NameUse}
 use Rattle.fb_library.specs.Tree.Mentions.{unit_kind_of}
 use Rattle.fb_library.specs.Tree.Tree.{ConstantTree, DeclTree, EventTree, InstanceTree, TypeTree, VariablesTree, block_type, one_value, value_list}
 use Rattle.fb_library.specs.Tree.declared.constant.Simple.{Simple}

@@ -1,7 +1,7 @@
 -- The types of instances, plugs and sockets.
 use Rattle.std.specs.Prelude.{Bool, true, false, List, [], ◌∷◌, Option, Some, None, if◌then◌else◌}
 use Rattle.std.specs.List.{flat_map}
-use Rattle.fb_text.specs.declared.name.NameUse.{NameUse}
+use Rattle.fb_library.specs.Text.declared.name.NameUse.{NameUse}
 use Rattle.fb_library.specs.Tree.Mentions.{unit_kind_of}
 use Rattle.fb_library.specs.Tree.Tree.{DeclTree, InstanceTree, block_type, adapter_type, subapplication_type, system_configuration}
 use Rattle.fb_library.specs.Tree.declared.kinds.UnitKind.{UnitKind}

@@ -45,3 +45,13 @@ pub mod tree {
         Variables, kind,
     };
 }
+
+/// Of `fb_library::text`, for the crates above.
+pub mod text {
+    pub use fb_library::text::{Name, NameUse, Span, Token, TokenFault, same_name, tokens};
+}
+
+/// Of `fb_library::table`, for the crates above.
+pub mod table {
+    pub use fb_library::table::{names_of, open_new};
+}

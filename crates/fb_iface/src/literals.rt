@@ -6,8 +6,8 @@ ghost use Rattle.fb_iface.specs.Literals.{constant_faults, fits_alone, list_faul
 use crate::classes::{Class, class_by_name, class_of, class_of_constant, is_taken};
 use crate::code::Code;
 use crate::fault::Fault;
+use fb_library::text::Span;
 use fb_library::tree::{Constant, Simple, TypeForm, TypeUse};
-use fb_text::Span;
 use std::alloc::AllocError;
 
 /// Reports a constant that does not fit the type, or the elements of a list that do not.

@@ -5,7 +5,7 @@ ghost use Rattle.std.specs.HashMap.{get};
 ghost use Rattle.std.specs.Option.{option_copied};
 ghost use Rattle.fb_iface.specs.Names.{first_ones, stands_for};
 
-use fb_text::Name;
+use fb_library::text::Name;
 use std::alloc::{AllocError, Global};
 use std::collections::HashMap;
 use std::marker::Model;

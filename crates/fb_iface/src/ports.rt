@@ -5,10 +5,10 @@ ghost use Rattle.fb_iface.specs.Ports.{events_in, instances_in, same_role, same_
 ghost use Rattle.fb_iface.specs.Sides.{is_data_on};
 
 use crate::names::{FirstOnes, first_declared};
+use fb_library::text::{Name, NameUse};
 use fb_library::tree::{
     Event, Instance, Interface, Network, Role, Section, Side, TypeDeclaration, TypeUse, Variables,
 };
-use fb_text::{Name, NameUse};
 use std::alloc::{AllocError, Global};
 use std::marker::Model;
 

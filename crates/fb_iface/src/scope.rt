@@ -11,9 +11,9 @@ ghost use Rattle.std.specs.HashMap.{get};
 use crate::instances::is_suited;
 use crate::interfaces;
 use crate::ports::{DeclaredInstance, Ports};
+use fb_library::text::Name;
 use fb_library::tree::{Instance, Network, Role, TypeDeclaration, UnitKind, kind};
 use fb_library::{View, tree_by_name};
-use fb_text::Name;
 use std::alloc::{AllocError, Global};
 use std::collections::HashMap;
 

@@ -13,9 +13,9 @@ use Rattle.std.specs.Cmp.{eq_by_cmp_equiv}
 use Rattle.std.specs.declared.vec.Vec.{Vec}
 use Rattle.std.specs.declared.alloc.Global.{Global}
 use Rattle.std.specs.declared.cmp.Ordering.TheVariants.{Less, Equal, Greater}
-use Rattle.fb_text.proofs.Tests.{and_false, and_true, or_false}
-use Rattle.fb_text.proofs.Tests.{no_both}
-use Rattle.fb_text.specs.Order.{name_cmp}
+use Rattle.fb_table.proofs.Text.Tests.{and_false, and_true, or_false}
+use Rattle.fb_table.proofs.Text.Tests.{no_both}
+use Rattle.fb_table.specs.Text.Order.{name_cmp}
 use Rattle.fb_table.specs.Seen.{has_name}
 use Rattle.fb_table.proofs.Names.{name_total, exact_name}
 use Rattle.fb_table.proofs.Places.{sorted_put, sorted_removed}

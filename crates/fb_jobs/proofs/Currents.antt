@@ -11,7 +11,7 @@ use Rattle.fb_values.proofs.Library.Names.{name_total}
 use Rattle.std.specs.Cmp.Lexicographic.{pointwise}
 use Rattle.std.specs.BTreeMap.{is_at}
 use Rattle.std.specs.Option.{option_map}
-use Rattle.fb_text.specs.Order.{name_cmp}
+use Rattle.fb_values.specs.Text.Order.{name_cmp}
 use Rattle.fb_values.specs.Library.Texts.{Texts, Held, held, text_in}
 use Rattle.fb_values.specs.declared.key.Key.{Key}
 use Rattle.fb_values.specs.Keys.{needs, has_key, scratch}

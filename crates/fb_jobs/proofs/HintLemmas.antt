@@ -6,7 +6,7 @@ use Rattle.std.specs.Ordering.{is_eq}
 use Rattle.std.specs.BTreeMap as tree
 use Rattle.std.specs.declared.sync.Arc.{Arc}
 use Rattle.std.specs.declared.alloc.Global.{Global}
-use Rattle.fb_text.specs.Order.{name_cmp}
+use Rattle.fb_values.specs.Text.Order.{name_cmp}
 use Rattle.fb_values.specs.Library.Texts.{Texts, sources_of}
 use Rattle.fb_values.specs.Library.View.{Sources}
 use Rattle.fb_values.specs.Library.Rests.{Rests, itself, through}

@@ -13,3 +13,7 @@ pub use Rattle.fb_values.proofs.Library as Library
 pub use Rattle.fb_values.proofs.Iface as Iface
 pub use Rattle.fb_values.proofs.Compose as Compose
 pub use Rattle.fb_values.proofs.FarNames as FarNames
+pub use Rattle.fb_values.proofs.Text as Text
+pub use Rattle.fb_values.proofs.Table as Table
+pub use Rattle.fb_values.proofs as KeysAndValues
+pub use Rattle.fb_values.proofs.Flatten as Flatten

@@ -3,7 +3,7 @@ use Rattle.std.specs.Prelude.{◌≡◌, ◌⊎◌, ℕ, true, List, Option, Som
 use Rattle.std.specs.BTreeMap as tree
 use Rattle.std.specs.declared.sync.Arc.{Arc}
 use Rattle.std.specs.declared.alloc.Global.{Global}
-use Rattle.fb_text.specs.Order.{name_cmp}
+use Rattle.fb_values.specs.Text.Order.{name_cmp}
 use Rattle.fb_values.specs.Library.Texts.{Texts}
 use Rattle.fb_values.specs.Flatten.Net.{PlainNet, plain_net}
 use Rattle.fb_values.specs.declared.key.Kind.{Kind}

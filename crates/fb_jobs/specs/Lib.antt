@@ -15,3 +15,6 @@ pub use Rattle.fb_values.specs.Network as Network
 pub use Rattle.fb_values.specs.Flatten as Flatten
 pub use Rattle.fb_values.specs.Mapping as Mapping
 pub use Rattle.fb_values.specs.Deploy as Deploy
+pub use Rattle.fb_values.specs as KeysAndValues
+pub use Rattle.fb_values.specs.Text as Text
+pub use Rattle.fb_values.specs.Commands as Commands

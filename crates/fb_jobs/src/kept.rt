@@ -1,13 +1,13 @@
 //! The nets among kept values that a job is given along.
 ghost use Rattle.std.specs.Prelude.{◌≡◌, option_map, option_copied, IfOk, OnOk};
 ghost use Rattle.std.specs.BTreeMap as tree;
-ghost use Rattle.fb_text.specs.Order.{name_cmp};
+ghost use Rattle.fb_values.specs.Text.Order.{name_cmp};
 ghost use Rattle.fb_values.specs.Flatten.Net.{plain_net};
 ghost use Rattle.fb_jobs.specs.Hints.{AddsHint, AreChosen, AreOfReads, hint_in, net_in, net_key};
 ghost use Rattle.fb_values.specs.Values.{all_seen};
 
-use fb_text::Name;
 use fb_values::flatten::{Hints, Net};
+use fb_values::text::Name;
 use fb_values::{Kept, Key, Kind, Read, Value};
 use std::alloc::{AllocError, Global};
 use std::collections::BTreeMap;

@@ -2,7 +2,7 @@
 ghost use Rattle.std.specs.Prelude.{◌≡◌, ℕ, List, None, Some};
 ghost use Rattle.std.specs.List.{Contains};
 ghost use Rattle.std.specs.List.Sorted.{IsStrictlySortedBy};
-ghost use Rattle.fb_text.specs.Order.{name_cmp};
+ghost use Rattle.fb_values.specs.Text.Order.{name_cmp};
 ghost use Rattle.fb_values.specs.Library.Texts.{Texts};
 ghost use Rattle.fb_values.specs.declared.key.Key.{Key};
 ghost use Rattle.fb_values.specs.declared.key.Kind.{Kind};

@@ -66,3 +66,8 @@ pub mod tree {
 pub mod value {
     pub use fb_values::Value;
 }
+
+/// Of `fb_values::text`, for the crates above.
+pub mod text {
+    pub use fb_values::text::{Name, same_name};
+}

@@ -5,9 +5,9 @@ ghost use Rattle.fb_values.specs.Keys.{needs};
 ghost use Rattle.fb_values.specs.Reads.{reads_for};
 ghost use Rattle.fb_values.specs.Values.{all_seen, seen_of, IsOwn};
 
-use fb_text::Name;
 use fb_values::flatten::all_far;
 use fb_values::library::{Library, near};
+use fb_values::text::Name;
 use fb_values::{Key, Kind, Read};
 use std::alloc::{AllocError, Global};
 

@@ -2,8 +2,8 @@
 use Rattle.std.proofs.Common.{◌≡◌, List, [], ◌∷◌, ℕ, map, refl, ap, subst}
 use Rattle.std.specs.Prelude.{All}
 use Rattle.std.proofs.lemmas.List.Elements.{All-map}
-use Rattle.fb_text.specs.Tokens.{LiesIn, SpansRise, spans_of}
-use Rattle.fb_text.specs.declared.token.Token.{Token}
+use Rattle.fb_tree.specs.Text.Tokens.{LiesIn, SpansRise, spans_of}
+use Rattle.fb_tree.specs.Text.declared.token.Token.{Token}
 use Rattle.fb_lexemes.specs.Lexemes.{lexeme_of}
 
 -- a token keeps its place

@@ -6,7 +6,7 @@ use Rattle.std.specs.Cmp.Lexicographic.{pointwise, same_text}
 use Rattle.std.proofs.lemmas.Bool.Decides.{nat_tests}
 use Rattle.std.proofs.lemmas.List.{length-map}
 use Rattle.std.proofs.lemmas.Map.Entries.{lookup-filter-keys}
-use Rattle.fb_text.specs.Forms.{same_word}
+use Rattle.fb_tree.specs.Text.Forms.{same_word}
 use Rattle.fb_lexemes.specs.ReservedWords.{keyword, reserved_words, symbol, symbols}
 use Rattle.fb_lexemes.specs.ByLength.{words_between, symbols_of}
 

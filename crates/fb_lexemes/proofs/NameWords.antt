@@ -5,13 +5,13 @@ use Rattle.std.specs.Map.{lookup}
 use Rattle.std.specs.Cmp.Lexicographic.{pointwise}
 use Rattle.std.proofs.lemmas.Bool.{and_parts, cond-true, cond-false, ltb-false, le-ltb}
 use Rattle.std.proofs.lemmas.Option.{none-some, same_Some}
-use Rattle.fb_text.proofs.Longest.{by_test}
-use Rattle.fb_text.specs.Forms.{same_word}
-use Rattle.fb_text.specs.Elementary.{type_class_of}
-use Rattle.fb_text.specs.declared.elementary.TypeClass.{TypeClass}
-use Rattle.fb_text.specs.declared.elementary.TypeClass.TheVariants as class
-use Rattle.fb_text.specs.declared.token.TokenKind.{TokenKind}
-use Rattle.fb_text.specs.declared.token.TokenKind.TheVariants as found
+use Rattle.fb_tree.proofs.Text.Longest.{by_test}
+use Rattle.fb_tree.specs.Text.Forms.{same_word}
+use Rattle.fb_tree.specs.Text.Elementary.{type_class_of}
+use Rattle.fb_tree.specs.Text.declared.elementary.TypeClass.{TypeClass}
+use Rattle.fb_tree.specs.Text.declared.elementary.TypeClass.TheVariants as class
+use Rattle.fb_tree.specs.Text.declared.token.TokenKind.{TokenKind}
+use Rattle.fb_tree.specs.Text.declared.token.TokenKind.TheVariants as found
 use Rattle.fb_lexemes.specs.declared.kind.Kind.{Kind}
 use Rattle.fb_lexemes.specs.declared.kind.Kind.TheVariants.{NameIn, NameOn, NameSt, Name, Zero, One, Number, RealNumber, Other}
 use Rattle.fb_lexemes.specs.Kind.{is_among, name_kinds}

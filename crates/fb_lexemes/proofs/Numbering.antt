@@ -4,7 +4,7 @@ use Rattle.std.specs.List.{Contains}
 use Rattle.std.proofs.Math.Bool.{or-true}
 use Rattle.std.proofs.lemmas.Bool.{eqb-true}
 use Rattle.std.proofs.lemmas.Bool.Decides.{nat_tests}
-use Rattle.fb_text.proofs.Longest.{by_test}
+use Rattle.fb_tree.proofs.Text.Longest.{by_test}
 use Rattle.fb_lexemes.specs.declared.kind.Kind.{Kind}
 use Rattle.fb_lexemes.specs.declared.kind.Kind.TheVariants.{FunctionBlock, EndFunctionBlock, Adapter, EndAdapter, Subapplication, EndSubapplication, System, EndSystem, Application, EndApplication, Device, EndDevice, Resource, EndResource, Mappings, EndMappings, EventInput, EventOutput, EndEvent, Var, VarInput, VarOutput, EndVar, Plugs, EndPlugs, Sockets, EndSockets, Fbs, EndFbs, Subapps, EndSubapps, EventConnections, DataConnections, AdapterConnections, EndConnections, EcStates, EndStates, EcTransitions, EndTransitions, Algorithm, EndAlgorithm, Service, EndService, With, To, Array, Of, If, Then, Elsif, Else, EndIf, Case, EndCase, For, By, Do, EndFor, While, EndWhile, Repeat, Until, EndRepeat, Exit, Return, And, Or, Xor, Not, Mod, True, False, NameIn, NameOn, NameSt, Name, Zero, One, Number, RealNumber, TypedTruth, TypedInteger, TypedBits, TypedFree, TypedOther, Text, Assign, LessEqual, GreaterEqual, NotEqual, Power, Arrow, Range, Semicolon, Colon, Comma, Point, OpenParenthesis, CloseParenthesis, OpenBracket, CloseBracket, Equal, Less, Greater, Plus, Minus, Times, Divide, Ampersand, Other}
 use Rattle.fb_lexemes.specs.Kind.{code_of, same_kind, is_among}

@@ -2,12 +2,12 @@
 ghost use Rattle.std.specs.Prelude.{◌≡◌, ◌∷◌, [], nat_eq};
 ghost use Rattle.std.specs.Map.{lookup};
 ghost use Rattle.std.specs.Cmp.Lexicographic.{pointwise};
-ghost use Rattle.fb_text.specs.Forms.{same_word};
+ghost use Rattle.fb_tree.specs.Text.Forms.{same_word};
 ghost use Rattle.fb_lexemes.specs.ReservedWords.{keyword, symbol};
 ghost use Rattle.fb_lexemes.specs.ByLength.{words_between, symbols_of};
 
 use crate::kind::Kind;
-use fb_text::same_word;
+use fb_tree::text::same_word;
 
 /// The reserved words of 2 letters.
 #[tactic(auto, unfolding(crate::specs::ByLength::words_between))]

@@ -1,17 +1,17 @@
 //! Tokens with what the grammar asks of them.
 ghost use Rattle.std.specs.Prelude.{◌≡◌, ◌≤◌, ◌↔◌, ℕ, true, not, ◌==◌, List, length, map, All, IfOk, None};
 ghost use Rattle.std.specs.List.{prefix_len};
-ghost use Rattle.fb_text.specs.Bytes.{hash};
-ghost use Rattle.fb_text.specs.Tokens.{GivesReading, LiesIn, SpansRise};
-ghost use Rattle.fb_text.specs.declared.token.TokenKind.{TokenKind};
-ghost use Rattle.fb_text.specs.declared.token.TokenKind.TheVariants.{Word};
+ghost use Rattle.fb_tree.specs.Text.Bytes.{hash};
+ghost use Rattle.fb_tree.specs.Text.Tokens.{GivesReading, LiesIn, SpansRise};
+ghost use Rattle.fb_tree.specs.Text.declared.token.TokenKind.{TokenKind};
+ghost use Rattle.fb_tree.specs.Text.declared.token.TokenKind.TheVariants.{Word};
 ghost use Rattle.fb_lexemes.specs.Kind.{is_among, name_kinds};
 ghost use Rattle.fb_lexemes.specs.ReservedWords.{keyword};
 ghost use Rattle.fb_lexemes.specs.Lexemes.{kind_of, lexeme_of, lexemes_of, name_kind, number_kind, symbol_kind, type_name, typed_kind, word_kind};
 
 use crate::keywords::{keyword, symbol};
 use crate::kind::Kind;
-use fb_text::{
+use fb_tree::text::{
     Name, NameUse, Span, Token, TokenFault, TokenKind, TypeClass, same_word, tokens, type_class,
 };
 use std::alloc::Global;

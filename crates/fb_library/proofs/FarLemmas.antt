@@ -5,8 +5,8 @@ use Rattle.std.specs.Cmp.{eq_by_cmp_equiv}
 use Rattle.std.specs.FinMap.{slice_cmp-IsAntisymmetric, nat_cmp-IsAntisymmetric}
 use Rattle.std.specs.Cmp.Lexicographic.{nat_list_cmp_total}
 use Rattle.std.specs.List.{Contains}
-use Rattle.fb_text.specs.Order.{name_cmp}
-use Rattle.fb_text.proofs.OrderLemmas.{has, in_order-same}
+use Rattle.fb_parse.specs.Text.Order.{name_cmp}
+use Rattle.fb_parse.proofs.Text.OrderLemmas.{has, in_order-same}
 use Rattle.fb_library.specs.Local.{FarIsOneList}
 use Rattle.fb_table.proofs.Places.{already_in_order}
 

@@ -7,5 +7,6 @@ pub mod WalkLemmas
 pub use Rattle.fb_table.proofs.Names as Names
 pub use Rattle.fb_table.proofs.Places as Places
 pub use Rattle.fb_table.proofs.Searches as Searches
-pub use Rattle.fb_parse.proofs.Tree as Tree
 pub use Rattle.fb_parse.proofs as Parse
+pub use Rattle.fb_parse.proofs.Text as Text
+pub use Rattle.fb_table.proofs as Table

@@ -4,8 +4,8 @@ use Rattle.std.specs.List.{Contains}
 use Rattle.std.specs.Option.{option_and_then}
 use Rattle.std.specs.FinMap.{get, slice_cmp-IsAntisymmetric, nat_cmp-IsAntisymmetric}
 use Rattle.std.specs.Cmp.Lexicographic.{nat_list_cmp_total}
-use Rattle.fb_text.specs.Order.{name_cmp, names_in_order}
-use Rattle.fb_text.proofs.OrderLemmas.{in_order-members}
+use Rattle.fb_parse.specs.Text.Order.{name_cmp, names_in_order}
+use Rattle.fb_parse.proofs.Text.OrderLemmas.{in_order-members}
 use Rattle.fb_library.specs.View.{Sources, tree_of, mentions_at, mentions_in, near_of}
 use Rattle.fb_library.specs.Local.{NearIsLocal, FarIsLocal, AgreeFar}
 use Rattle.fb_library.specs.Rests.{Rests, itself, through}

@@ -3,7 +3,7 @@ use Rattle.std.proofs.Common.{◌≡◌, ℕ, List, [], ◌∷◌, map, Option, 
 use Rattle.std.specs.Option.{option_map}
 use Rattle.std.specs.Ordering.{eq_by_cmp}
 use Rattle.std.specs.FinMap.{find, get, get-from_entries}
-use Rattle.fb_text.specs.Order.{name_cmp}
+use Rattle.fb_parse.specs.Text.Order.{name_cmp}
 use Rattle.fb_library.specs.Texts.{Texts, Held, held, text_at, sources_of, text_in}
 use Rattle.fb_table.proofs.Names.{name_total}
 

@@ -7,7 +7,7 @@ use Rattle.std.specs.Ordering.{is_eq, match_ordering}
 use Rattle.std.specs.declared.cmp.Ordering.{Ordering}
 use Rattle.std.specs.declared.cmp.Ordering.TheVariants.{Less, Equal, Greater}
 use Rattle.std.proofs.lemmas.Bool.{false≢true}
-use Rattle.fb_text.specs.Order.{name_cmp}
+use Rattle.fb_parse.specs.Text.Order.{name_cmp}
 use Rattle.fb_library.specs.Texts.{held, names_of}
 use Rattle.fb_library.specs.Filed.{held_of, texts_of, AreOwn}
 use Rattle.fb_library.specs.declared.library.Filed.{Filed}

@@ -5,7 +5,7 @@ use Rattle.std.specs.List.{Contains, flat_map}
 use Rattle.std.specs.Option.{option_and_then}
 use Rattle.std.specs.Cmp.Lexicographic.{slice_cmp}
 use Rattle.std.specs.FinMap.{entries, get-entries, find}
-use Rattle.fb_text.proofs.Tests.{by_bool, or_cases, or_assoc, or_false, no_both}
+use Rattle.fb_parse.proofs.Text.Tests.{by_bool, or_cases, or_assoc, or_false, no_both}
 use Rattle.fb_library.specs.View.{Sources, tree_of, mentions_at, mentions_in}
 use Rattle.fb_library.specs.Rests.{Rests, itself, through}
 use Rattle.fb_table.specs.Seen.{has_name, unseen, Opens}

@@ -13,3 +13,5 @@ pub use Rattle.fb_parse.specs.Tree as Tree
 pub use Rattle.fb_parse.specs.Forms as Forms
 pub use Rattle.fb_parse.specs.Sections as Sections
 pub use Rattle.fb_parse.specs as Parse
+pub use Rattle.fb_parse.specs.Text as Text
+pub use Rattle.fb_table.specs as Table

@@ -2,7 +2,7 @@
 use Rattle.std.specs.Prelude.{◌≡◌, ℕ, List, Contains, ◌↔◌}
 use Rattle.std.specs.FinMap.{get}
 use Rattle.std.specs.List.Sorted.{IsStrictlySortedBy}
-use Rattle.fb_text.specs.Order.{name_cmp}
+use Rattle.fb_parse.specs.Text.Order.{name_cmp}
 use Rattle.fb_library.specs.View.{Sources, near_of}
 use Rattle.fb_library.specs.Rests.{Rests}
 

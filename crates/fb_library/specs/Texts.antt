@@ -4,7 +4,7 @@ use Rattle.std.specs.Option.{option_map}
 use Rattle.std.specs.Map.{lookup, remove_entry}
 use Rattle.std.specs.BTreeMap.{is_at, insert_entry}
 use Rattle.std.specs.FinMap.{from_entries}
-use Rattle.fb_text.specs.Order.{name_cmp}
+use Rattle.fb_parse.specs.Text.Order.{name_cmp}
 use Rattle.fb_library.specs.View.{Sources}
 
 -- a unit's text with the number of the commit that put it

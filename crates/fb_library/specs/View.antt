@@ -2,7 +2,7 @@
 use Rattle.std.specs.Prelude.{ℕ, List, [], ◌∷◌, ◌++◌, Option, Some, None}
 use Rattle.std.specs.Option.{option_and_then}
 use Rattle.std.specs.FinMap.{FinMap, get}
-use Rattle.fb_text.specs.Order.{name_cmp, names_in_order}
+use Rattle.fb_parse.specs.Text.Order.{name_cmp, names_in_order}
 use Rattle.fb_parse.specs.Tree.Tree.{DeclTree, TypeTree, block_type, adapter_type, subapplication_type, system_configuration}
 use Rattle.fb_parse.specs.Tree.Mentions.{mentions_of}
 use Rattle.fb_parse.specs.Body.{BodyTree, Whole, BrokenAt, body_of}

@@ -4,7 +4,7 @@ ghost use Rattle.fb_library.specs.Texts.{unit_of};
 ghost use Rattle.fb_library.specs.Changes.{edit_of, edits_of};
 
 use fb_parse::Source;
-use fb_text::Name;
+use fb_parse::text::Name;
 use std::alloc::{AllocError, Global};
 use std::sync::Arc;
 

@@ -29,3 +29,16 @@ pub mod tree {
         UnitKind, Variables, kind,
     };
 }
+
+/// Of `fb_parse::text`, for the crates above.
+pub mod text {
+    pub use fb_parse::text::{
+        Name, NameUse, Span, Token, TokenFault, TypeClass, same_name, sorted_once, tokens,
+        type_class,
+    };
+}
+
+/// Of `fb_table`, for the crates above.
+pub mod table {
+    pub use fb_table::{names_of, open_new};
+}

@@ -5,9 +5,9 @@ ghost use Rattle.std.specs.FinMap as map;
 ghost use Rattle.fb_parse.specs.Tree.Tree.{decl_tree, type_tree};
 ghost use Rattle.fb_library.specs.View.{Sources, tree_of, type_in, tree_at, declaration_at};
 
+use fb_parse::text::Name;
 use fb_parse::tree::{Decl, TypeDeclaration};
 use fb_parse::{Body, Source};
-use fb_text::Name;
 
 /// Sources by the names of their units: a library, or what a job has read of one.
 pub trait View {

@@ -1,13 +1,13 @@
 //! The names that a unit rests on.
 ghost use Rattle.std.specs.Prelude.{ℕ, List, Contains, IfOk};
 ghost use Rattle.std.specs.List.Sorted.{IsStrictlySortedBy};
-ghost use Rattle.fb_text.specs.Order.{name_cmp};
+ghost use Rattle.fb_parse.specs.Text.Order.{name_cmp};
 ghost use Rattle.fb_library.specs.Rests.{Rests};
 
 use crate::look_up::View;
 use crate::mentions::mentions_by_name;
+use fb_parse::text::Name;
 use fb_table::{names_of, open_new};
-use fb_text::Name;
 use std::alloc::{AllocError, Global};
 use std::collections::BTreeSet;
 

@@ -8,3 +8,4 @@ pub mod Looks
 pub mod Closing
 -- Passed on to the crates above, which do not list this library.
 pub use Rattle.fb_bench.specs as Bench
+pub use Rattle.fb_bench.specs.Index as Index

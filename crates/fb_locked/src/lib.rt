@@ -19,3 +19,8 @@ pub mod bench {
         library, parse,
     };
 }
+
+/// Of `fb_bench::text`, for the crates above.
+pub mod text {
+    pub use fb_bench::text::Name;
+}

@@ -1,11 +1,11 @@
 -- The homes of the blocks of a system depend on the texts alone that the system rests on.
 use Rattle.std.proofs.Common.{ℕ, ◌≡◌, ◌++◌, List, Option, ◌∙◌, ap, map}
-use Rattle.fb_text.specs.Order.{names_in_order}
-use Rattle.fb_library.specs.Tree.Tree.{DeclTree, MappingTree}
-use Rattle.fb_library.specs.View.{Sources, tree_at}
-use Rattle.fb_library.specs.Rests.{itself}
-use Rattle.fb_library.specs.Local.{AgreeFar}
-use Rattle.fb_network.specs.declared.flat.FlatBlock.{FlatBlock}
+use Rattle.fb_net_parts.specs.Text.Order.{names_in_order}
+use Rattle.fb_net_parts.specs.Tree.Tree.{DeclTree, MappingTree}
+use Rattle.fb_net_parts.specs.Library.View.{Sources, tree_at}
+use Rattle.fb_net_parts.specs.Library.Rests.{itself}
+use Rattle.fb_net_parts.specs.Library.Local.{AgreeFar}
+use Rattle.fb_net_parts.specs.Network.declared.flat.FlatBlock.{FlatBlock}
 use Rattle.fb_mapping.specs.Homes.{PlainHomes, astray, block_homes, homeless, homes_of, misplaced, unless_faulty}
 use Rattle.fb_mapping.specs.Mappings.{mapping_path, names_used, resource_at}
 use Rattle.fb_mapping.specs.Standing.{leads_nowhere}

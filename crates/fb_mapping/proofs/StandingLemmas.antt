@@ -2,9 +2,9 @@
 use Rattle.std.proofs.Common.{ℕ, suc, ◌≡◌, ◌<◌, List, [], ◌∷◌, Option, Some, None, refl, ◌∙◌, ap, drop, get_or, length, map}
 use Rattle.std.proofs.Math.Seq.{drop-cons}
 use Rattle.std.specs.Borrow.{Bor}
-use Rattle.fb_library.specs.Tree.Tree.{instance_tree}
-use Rattle.fb_library.specs.Tree.declared.network.Instance.{Instance}
-use Rattle.fb_library.specs.View.{Sources}
+use Rattle.fb_net_parts.specs.Tree.Tree.{instance_tree}
+use Rattle.fb_net_parts.specs.Tree.declared.network.Instance.{Instance}
+use Rattle.fb_net_parts.specs.Library.View.{Sources}
 use Rattle.fb_mapping.specs.Standing.{PlainStanding, standing_beyond, standing_inside}
 
 abbrev pub standing_as : List ℕ → Instance → PlainStanding

@@ -5,14 +5,14 @@ use Rattle.std.specs.Option.{option_map_or}
 use Rattle.std.specs.Str.{bytes_eq}
 use Rattle.std.specs.FinMap.{slice_cmp-IsAntisymmetric, nat_cmp-IsAntisymmetric}
 use Rattle.std.specs.Cmp.Lexicographic.{nat_list_cmp_total}
-use Rattle.fb_text.specs.Order.{name_cmp}
-use Rattle.fb_text.proofs.OrderLemmas.{in_order-members}
-use Rattle.fb_library.specs.Tree.Tree.{ApplicationTree, DeclTree, InstanceTree, block_type, adapter_type, subapplication_type, system_configuration}
-use Rattle.fb_library.specs.Tree.Mentions.{mentioned_in, types_in}
-use Rattle.fb_library.specs.View.{Sources, tree_at, tree_of, mentions_at, mentions_in}
-use Rattle.fb_library.specs.Rests.{Rests, itself, through}
-use Rattle.fb_library.specs.Local.{AgreeFar}
-use Rattle.fb_text.proofs.Members.{contains_nothing, contains_here, contains_later, contains_flat_map, contains_map}
+use Rattle.fb_net_parts.specs.Text.Order.{name_cmp}
+use Rattle.fb_net_parts.proofs.Text.OrderLemmas.{in_order-members}
+use Rattle.fb_net_parts.specs.Tree.Tree.{ApplicationTree, DeclTree, InstanceTree, block_type, adapter_type, subapplication_type, system_configuration}
+use Rattle.fb_net_parts.specs.Tree.Mentions.{mentioned_in, types_in}
+use Rattle.fb_net_parts.specs.Library.View.{Sources, tree_at, tree_of, mentions_at, mentions_in}
+use Rattle.fb_net_parts.specs.Library.Rests.{Rests, itself, through}
+use Rattle.fb_net_parts.specs.Library.Local.{AgreeFar}
+use Rattle.fb_net_parts.proofs.Text.Members.{contains_nothing, contains_here, contains_later, contains_flat_map, contains_map}
 use Rattle.fb_mapping.specs.Firsts.{first_at}
 use Rattle.fb_mapping.specs.Standing.{PlainStanding, application_called, inner_instances, is_placed, leads_nowhere, standing_among, standing_at, standing_beyond, standing_from, standing_inside}
 use Rattle.fb_mapping.specs.Systems.{applications_in}

@@ -1,7 +1,7 @@
 -- Links between blocks with different homes.
 use Rattle.std.specs.Prelude.{ℕ, Bool, true, false, not, List, filter, Option, Some, None}
 use Rattle.std.specs.Str.{bytes_eq}
-use Rattle.fb_network.specs.declared.flat.Link.{Link}
+use Rattle.fb_net_parts.specs.Network.declared.flat.Link.{Link}
 use Rattle.fb_mapping.specs.declared.homes.Home.{Home}
 use Rattle.fb_mapping.specs.Firsts.{first_at}
 use Rattle.fb_mapping.specs.Fronts.{nearest}

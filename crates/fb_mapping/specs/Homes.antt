@@ -1,10 +1,10 @@
 -- The homes of the blocks of a system, and what is misplaced (IEC 61499-1, clause 7: system configurations).
 use Rattle.std.specs.Prelude.{ℕ, List, [], ◌∷◌, ◌++◌, map, filter, Option, is_none, option_map}
 use Rattle.std.specs.List.{filter_map}
-use Rattle.fb_text.specs.Order.{names_in_order}
-use Rattle.fb_library.specs.Tree.Tree.{ApplicationTree, DeclTree, MappingTree}
-use Rattle.fb_library.specs.View.{Sources, tree_at}
-use Rattle.fb_network.specs.declared.flat.FlatBlock.{FlatBlock}
+use Rattle.fb_net_parts.specs.Text.Order.{names_in_order}
+use Rattle.fb_net_parts.specs.Tree.Tree.{ApplicationTree, DeclTree, MappingTree}
+use Rattle.fb_net_parts.specs.Library.View.{Sources, tree_at}
+use Rattle.fb_net_parts.specs.Network.declared.flat.FlatBlock.{FlatBlock}
 use Rattle.fb_mapping.specs.declared.homes.Home.{Home}
 use Rattle.fb_mapping.specs.declared.homes.Homes.{Homes}
 use Rattle.fb_mapping.specs.declared.homes.Homes.TheVariants as homes

@@ -1,6 +1,6 @@
 -- Laws of homes.
 use Rattle.std.specs.Prelude.{ℕ, List}
-use Rattle.fb_library.specs.Tree.Tree.{MappingTree}
+use Rattle.fb_net_parts.specs.Tree.Tree.{MappingTree}
 use Rattle.fb_mapping.specs.Fronts.{IsNearest}
 use Rattle.fb_mapping.specs.Mappings.{home_of, resource_at}
 

@@ -1,9 +1,9 @@
 -- Mappings, and the resources that paths are mapped to (IEC 61499-1, clause 7: system configurations).
 use Rattle.std.specs.Prelude.{ℕ, List, map, Option}
-use Rattle.fb_text.specs.declared.name.NameUse.{NameUse}
-use Rattle.fb_library.specs.Tree.Tree.{MappingTree}
-use Rattle.fb_network.specs.Places.{dotted}
-use Rattle.fb_network.specs.Printed.{printed}
+use Rattle.fb_net_parts.specs.Text.declared.name.NameUse.{NameUse}
+use Rattle.fb_net_parts.specs.Tree.Tree.{MappingTree}
+use Rattle.fb_net_parts.specs.Network.Places.{dotted}
+use Rattle.fb_net_parts.specs.Network.Printed.{printed}
 use Rattle.fb_mapping.specs.Firsts.{first_at}
 use Rattle.fb_mapping.specs.Fronts.{nearest}
 

@@ -1,10 +1,10 @@
 -- What stands at a path of a system: an application, a block or a subapplication instance.
 use Rattle.std.specs.Prelude.{ℕ, ◌==◌, Bool, true, false, not, if◌then◌else◌, List, [], ◌∷◌, Option, Some, None, is_none, option_and_then}
 use Rattle.std.specs.Option.{option_map_or}
-use Rattle.fb_library.specs.Tree.Tree.{ApplicationTree, DeclTree, InstanceTree, block_type, adapter_type, subapplication_type, system_configuration, instance_tree}
-use Rattle.fb_library.specs.Tree.declared.network.Role.{Role}
-use Rattle.fb_library.specs.Tree.declared.network.Role.TheVariants as roles
-use Rattle.fb_library.specs.View.{Sources, tree_at}
+use Rattle.fb_net_parts.specs.Tree.Tree.{ApplicationTree, DeclTree, InstanceTree, block_type, adapter_type, subapplication_type, system_configuration, instance_tree}
+use Rattle.fb_net_parts.specs.Tree.declared.network.Role.{Role}
+use Rattle.fb_net_parts.specs.Tree.declared.network.Role.TheVariants as roles
+use Rattle.fb_net_parts.specs.Library.View.{Sources, tree_at}
 use Rattle.fb_mapping.specs.declared.standing.Standing.{Standing}
 use Rattle.fb_mapping.specs.Firsts.{first_at}
 

@@ -1,6 +1,6 @@
 -- What a system declares; types declare nothing of it.
 use Rattle.std.specs.Prelude.{List, [], Option, Some, None}
-use Rattle.fb_library.specs.Tree.Tree.{ApplicationTree, DeclTree, DeviceTree, MappingTree, block_type, adapter_type, subapplication_type, system_configuration}
+use Rattle.fb_net_parts.specs.Tree.Tree.{ApplicationTree, DeclTree, DeviceTree, MappingTree, block_type, adapter_type, subapplication_type, system_configuration}
 
 abbrev pub applications_in : Option DeclTree → List ApplicationTree
 applications_in None = []

@@ -5,7 +5,7 @@ ghost use Rattle.fb_mapping.specs.Cuts.{cuts_of, home_at, is_cut, same_home};
 
 use crate::fronts::{PathTable, add_first, nearest};
 use crate::homes::Home;
-use fb_network::{Link, Path};
+use fb_net_parts::network::{Link, Path};
 use std::alloc::{AllocError, Global};
 use std::collections::BTreeMap;
 

@@ -5,7 +5,7 @@ ghost use Rattle.std.specs.Option.{option_or};
 ghost use Rattle.std.specs.Str.{bytes_eq};
 ghost use Rattle.fb_mapping.specs.Fronts.{nearest};
 
-use fb_network::Path;
+use fb_net_parts::network::Path;
 use std::alloc::AllocError;
 use std::collections::BTreeMap;
 

@@ -1,8 +1,8 @@
 //! The homes of the blocks of a system.
 ghost use Rattle.std.specs.Prelude.{◌≡◌, [], ◌∷◌, ◌++◌, map, IfOk, OnOk};
 ghost use Rattle.std.specs.BTreeMap.{get_by_text};
-ghost use Rattle.fb_library.specs.Tree.Tree.{mapping_tree};
-ghost use Rattle.fb_library.specs.View.{tree_at};
+ghost use Rattle.fb_net_parts.specs.Tree.Tree.{mapping_tree};
+ghost use Rattle.fb_net_parts.specs.Library.View.{tree_at};
 ghost use Rattle.fb_mapping.specs.Homes.{astray, block_home, block_homes, homeless, homes_of, misplaced, plain_homes};
 ghost use Rattle.fb_mapping.specs.Mappings.{names_used, resource_at};
 ghost use Rattle.fb_mapping.specs.Systems.{applications_in, mappings_in};
@@ -12,10 +12,10 @@ use crate::fronts::{PathTable, nearest};
 use crate::mappings::{mapping_table, path_of_names};
 use crate::sorted::sorted_paths;
 use crate::standing::leads_nowhere;
-use fb_library::tree::{Decl, Mapping};
-use fb_library::{View, tree_by_name};
-use fb_network::{FlatBlock, Path};
-use fb_text::{Name, NameUse};
+use fb_net_parts::library::{View, tree_by_name};
+use fb_net_parts::network::{FlatBlock, Path};
+use fb_net_parts::text::{Name, NameUse};
+use fb_net_parts::tree::{Decl, Mapping};
 use std::alloc::{AllocError, Global};
 
 /// The path of a block, and the resource on which it stands, as `DEVICE.RESOURCE`.

@@ -1,14 +1,14 @@
 //! Mappings by their paths.
 ghost use Rattle.std.specs.Prelude.{◌≡◌, ◌∷◌, map, IfOk, string_bytes};
 ghost use Rattle.std.specs.BTreeMap.{get_by_text};
-ghost use Rattle.fb_library.specs.Tree.Tree.{mapping_tree};
-ghost use Rattle.fb_network.specs.Printed.{printed};
+ghost use Rattle.fb_net_parts.specs.Tree.Tree.{mapping_tree};
+ghost use Rattle.fb_net_parts.specs.Network.Printed.{printed};
 ghost use Rattle.fb_mapping.specs.Mappings.{mapping_home, mapping_path, names_used, resource_at};
 
 use crate::fronts::{PathTable, add_first};
-use fb_library::tree::Mapping;
-use fb_network::Path;
-use fb_text::NameUse;
+use fb_net_parts::network::Path;
+use fb_net_parts::text::NameUse;
+use fb_net_parts::tree::Mapping;
 use std::alloc::{AllocError, Global};
 use std::collections::BTreeMap;
 

@@ -1,9 +1,9 @@
 //! Paths in order.
 ghost use Rattle.std.specs.Prelude.{◌≡◌, IfOk};
-ghost use Rattle.fb_text.specs.Order.{names_in_order};
+ghost use Rattle.fb_net_parts.specs.Text.Order.{names_in_order};
 
-use fb_compose::sort_once;
-use fb_network::Path;
+use fb_net_parts::compose::sort_once;
+use fb_net_parts::network::Path;
 use std::alloc::AllocError;
 
 /// The paths by their bytes, each once.

@@ -1,13 +1,13 @@
 //! What stands at the paths of a system.
 ghost use Rattle.std.specs.Prelude.{◌≡◌, ℕ, List, map, IfOk, Option, Some, option_map, option_and_then};
-ghost use Rattle.fb_library.specs.Tree.Tree.{application_tree, decl_tree, instance_tree};
-ghost use Rattle.fb_library.specs.View.{tree_at};
+ghost use Rattle.fb_net_parts.specs.Tree.Tree.{application_tree, decl_tree, instance_tree};
+ghost use Rattle.fb_net_parts.specs.Library.View.{tree_at};
 ghost use Rattle.fb_mapping.specs.Standing.{application_called, inner_instances, leads_nowhere, is_placed, path_names, plain_standing, standing_among, standing_at, standing_beyond, standing_from, standing_inside};
 ghost use Rattle.fb_mapping.specs.Systems.{applications_in};
 
-use fb_library::tree::{Application, Decl, Instance, Role};
-use fb_library::{View, tree_by_name};
-use fb_text::Name;
+use fb_net_parts::library::{View, tree_by_name};
+use fb_net_parts::text::Name;
+use fb_net_parts::tree::{Application, Decl, Instance, Role};
 use std::alloc::{AllocError, Global};
 
 /// An instance, and the unit whose text declares it.

@@ -2,17 +2,17 @@
 use Rattle.std.proofs.Common.{ℕ, ◌≡◌, ◌<◌, ◌≤◌, ◌+◌, true, false, List, [], ◌∷◌, ◌++◌, Option, Some, None, Result, Ok, Err, refl, sym, ◌∙◌, ap, subst, arith, length, is_some, take, get_or, add-one}
 use Rattle.std.specs.Prelude.{Contains, IfOk, option_map}
 use Rattle.std.proofs.Math.Seq.{take-suc}
-use Rattle.fb_wiring.specs.Tree.Tree.{DeclTree, block_type, adapter_type, subapplication_type, system_configuration}
-use Rattle.fb_wiring.specs.Library.View.{Sources, tree_at}
-use Rattle.fb_wiring.specs.Network.declared.count.TheConstants.{INSTANCE_LIMIT}
-use Rattle.fb_wiring.specs.Network.declared.network.Instance.{Instance}
-use Rattle.fb_wiring.specs.Network.Network.{View}
-use Rattle.fb_compose.specs.declared.application.FlatApplication.{FlatApplication}
-use Rattle.fb_text.proofs.Members.{contains_nothing, contains_flat_map}
-use Rattle.fb_wiring.specs.Applications.{applications_of}
-use Rattle.fb_wiring.specs.Networks.{network_of}
-use Rattle.fb_wiring.specs.ByName.{applications_at}
-use Rattle.fb_wiring.specs.declared.systems.Application.{Application}
+use Rattle.fb_order.specs.Tree.Tree.{DeclTree, block_type, adapter_type, subapplication_type, system_configuration}
+use Rattle.fb_order.specs.Library.View.{Sources, tree_at}
+use Rattle.fb_order.specs.Network.declared.count.TheConstants.{INSTANCE_LIMIT}
+use Rattle.fb_order.specs.Network.declared.network.Instance.{Instance}
+use Rattle.fb_order.specs.Network.Network.{View}
+use Rattle.fb_order.specs.Compose.declared.application.FlatApplication.{FlatApplication}
+use Rattle.fb_order.proofs.Text.Members.{contains_nothing, contains_flat_map}
+use Rattle.fb_order.specs.Wiring.Applications.{applications_of}
+use Rattle.fb_order.specs.Wiring.Networks.{network_of}
+use Rattle.fb_order.specs.Wiring.ByName.{applications_at}
+use Rattle.fb_order.specs.Wiring.declared.systems.Application.{Application}
 use Rattle.fb_net_parts.specs.Tables.{IsUnitCount, is_system_tree}
 use Rattle.fb_net_parts.specs.Units.{AreFlatApplications, NoApplication, ThenApplication, IsFlatApplication, IsTooLarge, IsWithinLimit, instances_in, own_instances}
 

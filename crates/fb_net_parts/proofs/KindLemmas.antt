@@ -1,11 +1,11 @@
 -- Subapplications and systems have nets.
 use Rattle.std.proofs.Common.{ℕ, ◌≡◌, Bool, true, false, List, Option, Some, None, inl, inr, refl, ap}
 use Rattle.std.specs.Prelude.{◌↔◌, option_map}
-use Rattle.fb_wiring.specs.Tree.Mentions.{unit_kind_of}
-use Rattle.fb_wiring.specs.Tree.Tree.{DeclTree, block_type, adapter_type, subapplication_type, system_configuration}
-use Rattle.fb_wiring.specs.Tree.declared.kinds.UnitKind.TheVariants as kinds
-use Rattle.fb_wiring.specs.Library.View.{Sources, tree_at}
-use Rattle.fb_wiring.specs.ByName.{kind_at}
+use Rattle.fb_order.specs.Tree.Mentions.{unit_kind_of}
+use Rattle.fb_order.specs.Tree.Tree.{DeclTree, block_type, adapter_type, subapplication_type, system_configuration}
+use Rattle.fb_order.specs.Tree.declared.kinds.UnitKind.TheVariants as kinds
+use Rattle.fb_order.specs.Library.View.{Sources, tree_at}
+use Rattle.fb_order.specs.Wiring.ByName.{kind_at}
 use Rattle.fb_net_parts.specs.Tables.{is_subapplication_in}
 use Rattle.fb_net_parts.specs.Units.{HasNet, has_net_tree}
 

@@ -1,7 +1,7 @@
 -- What is left is looked up, and nothing else.
 use Rattle.std.proofs.Common.{ℕ, ◌≡◌, cond, List, Option, None, sym, ap}
 use Rattle.std.specs.FinMap.{get, get-retain_keys, slice_cmp-IsAntisymmetric, nat_cmp-IsAntisymmetric}
-use Rattle.fb_wiring.specs.Library.View.{Sources}
+use Rattle.fb_order.specs.Library.View.{Sources}
 use Rattle.fb_net_parts.specs.Hints.{is_left, left_of}
 use Rattle.fb_net_parts.specs.Net.{PlainNet}
 

@@ -4,14 +4,14 @@ use Rattle.std.specs.Prelude.{Contains}
 use Rattle.std.specs.BTreeMap.{is_at}
 use Rattle.std.proofs.lemmas.List.Elements.{Contains-push_cases}
 use Rattle.std.proofs.Math.Seq.{take-suc}
-use Rattle.fb_text.specs.Order.{name_cmp}
-use Rattle.fb_wiring.specs.Library.View.{Sources}
-use Rattle.fb_wiring.specs.Network.declared.network.Port.{Port}
-use Rattle.fb_wiring.specs.Network.Plain.{PlainNetwork}
-use Rattle.fb_wiring.specs.Network.Network.{View}
-use Rattle.fb_compose.proofs.Equals.{same_bytes}
-use Rattle.fb_text.proofs.Members.{contains_nothing}
-use Rattle.fb_wiring.specs.ByName.{declared}
+use Rattle.fb_order.specs.Text.Order.{name_cmp}
+use Rattle.fb_order.specs.Library.View.{Sources}
+use Rattle.fb_order.specs.Network.declared.network.Port.{Port}
+use Rattle.fb_order.specs.Network.Plain.{PlainNetwork}
+use Rattle.fb_order.specs.Network.Network.{View}
+use Rattle.fb_order.proofs.Compose.Equals.{same_bytes}
+use Rattle.fb_order.proofs.Text.Members.{contains_nothing}
+use Rattle.fb_order.specs.Wiring.ByName.{declared}
 use Rattle.fb_net_parts.specs.Tables.{Grows, Has, HasAdapter, HasAdapters, HasType, IsTable, IsTrue}
 
 pub nothing_true : (sources : Sources) (table : View) → ((name : List ℕ) → table name ≡ None) → IsTrue sources table

@@ -2,10 +2,10 @@
 use Rattle.std.specs.Prelude.{ℕ, ◌+◌, Bool, true, false, ◌||◌, is_none, List, Option, Some, None}
 use Rattle.std.specs.BTreeMap.{is_at}
 use Rattle.std.specs.FinMap.{retain_keys}
-use Rattle.fb_text.specs.Order.{name_cmp}
-use Rattle.fb_wiring.specs.Library.View.{Sources}
-use Rattle.fb_wiring.specs.Network.declared.count.TheConstants.{INSTANCE_LIMIT}
-use Rattle.fb_wiring.specs.Network.PlainFlat.{PlainFlat}
+use Rattle.fb_order.specs.Text.Order.{name_cmp}
+use Rattle.fb_order.specs.Library.View.{Sources}
+use Rattle.fb_order.specs.Network.declared.count.TheConstants.{INSTANCE_LIMIT}
+use Rattle.fb_order.specs.Network.PlainFlat.{PlainFlat}
 use Rattle.fb_net_parts.specs.Net.{PlainNet, blocked, recursive, too_large, flat_net}
 
 -- the flat network of a net that has one

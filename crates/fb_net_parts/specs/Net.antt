@@ -1,6 +1,6 @@
 -- Nets in plain.
 use Rattle.std.specs.Prelude.{ℕ, List}
-use Rattle.fb_wiring.specs.Network.PlainFlat.{PlainFlat}
+use Rattle.fb_order.specs.Network.PlainFlat.{PlainFlat}
 use Rattle.fb_net_parts.specs.declared.nets.Net.{Net}
 use Rattle.fb_net_parts.specs.declared.nets.Net.TheVariants.{Blocked, Recursive, TooLarge, Flat}
 

@@ -2,25 +2,25 @@
 use Rattle.std.specs.Prelude.{ℕ, ◌≡◌, ◌≢◌, ◌≤◌, ◌+◌, Bool, true, false, not, ◌&&◌, is_none, List, Option, Some, None, Contains, length, min}
 use Rattle.std.specs.Option.{option_or}
 use Rattle.std.specs.BTreeMap.{is_at}
-use Rattle.fb_text.specs.Order.{name_cmp}
-use Rattle.fb_wiring.specs.Tree.Tree.{DeclTree, block_type, adapter_type, subapplication_type, system_configuration}
-use Rattle.fb_wiring.specs.Tree.declared.kinds.UnitKind.TheVariants as kinds
-use Rattle.fb_wiring.specs.Library.View.{Sources, tree_at}
-use Rattle.fb_wiring.specs.Network.declared.count.TheConstants.{INSTANCE_LIMIT}
-use Rattle.fb_wiring.specs.Network.declared.network.Port.{Port}
-use Rattle.fb_wiring.specs.Network.Plain.{PlainNetwork}
-use Rattle.fb_wiring.specs.Network.PlainFlat.{PlainFlat}
-use Rattle.fb_wiring.specs.Network.Network.{View}
-use Rattle.fb_wiring.specs.Network.Instances.{Held, AreInstances}
-use Rattle.fb_wiring.specs.Network.Clean.{IsCleanThroughout}
-use Rattle.fb_wiring.specs.Network.Count.{IsCount}
-use Rattle.fb_compose.specs.Counts.{IsCounted, AreCounted}
-use Rattle.fb_compose.specs.Part.{IsFlatInWhole, SameAdapters}
-use Rattle.fb_compose.specs.Ready.{Nets, IsFinished, AreFinished}
-use Rattle.fb_compose.specs.SystemFlat.{IsSystemFlat}
-use Rattle.fb_compose.specs.declared.application.FlatApplication.{FlatApplication}
-use Rattle.fb_wiring.specs.ByName.{declared, kind_at}
-use Rattle.fb_wiring.specs.declared.systems.Application.{Application}
+use Rattle.fb_order.specs.Text.Order.{name_cmp}
+use Rattle.fb_order.specs.Tree.Tree.{DeclTree, block_type, adapter_type, subapplication_type, system_configuration}
+use Rattle.fb_order.specs.Tree.declared.kinds.UnitKind.TheVariants as kinds
+use Rattle.fb_order.specs.Library.View.{Sources, tree_at}
+use Rattle.fb_order.specs.Network.declared.count.TheConstants.{INSTANCE_LIMIT}
+use Rattle.fb_order.specs.Network.declared.network.Port.{Port}
+use Rattle.fb_order.specs.Network.Plain.{PlainNetwork}
+use Rattle.fb_order.specs.Network.PlainFlat.{PlainFlat}
+use Rattle.fb_order.specs.Network.Network.{View}
+use Rattle.fb_order.specs.Network.Instances.{Held, AreInstances}
+use Rattle.fb_order.specs.Network.Clean.{IsCleanThroughout}
+use Rattle.fb_order.specs.Network.Count.{IsCount}
+use Rattle.fb_order.specs.Compose.Counts.{IsCounted, AreCounted}
+use Rattle.fb_order.specs.Compose.Part.{IsFlatInWhole, SameAdapters}
+use Rattle.fb_order.specs.Compose.Ready.{Nets, IsFinished, AreFinished}
+use Rattle.fb_order.specs.Compose.SystemFlat.{IsSystemFlat}
+use Rattle.fb_order.specs.Compose.declared.application.FlatApplication.{FlatApplication}
+use Rattle.fb_order.specs.Wiring.ByName.{declared, kind_at}
+use Rattle.fb_order.specs.Wiring.declared.systems.Application.{Application}
 use Rattle.fb_net_parts.specs.Hints.{count_of_hint, flat_of_hint}
 use Rattle.fb_net_parts.specs.Net.{PlainNet}
 use Rattle.fb_net_parts.specs.Units.{AreFlatApplications, Holds, IsFlatApplication, IsWithinLimit}

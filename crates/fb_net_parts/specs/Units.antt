@@ -1,21 +1,21 @@
 -- The instances of a unit, and its flat network (IEC 61499-1, 5.4: subapplication types; 7: systems).
 use Rattle.std.specs.Prelude.{ℕ, ◌≡◌, ◌≤◌, ◌<◌, ◌⊎◌, Bool, true, false, List, [], ◌∷◌, Some, flat_map, length}
-use Rattle.fb_wiring.specs.Tree.Tree.{DeclTree, block_type, adapter_type, subapplication_type, system_configuration}
-use Rattle.fb_wiring.specs.Tree.declared.kinds.UnitKind.TheVariants.{Subapplication, System}
-use Rattle.fb_wiring.specs.Library.View.{Sources, tree_at}
-use Rattle.fb_wiring.specs.Network.declared.count.TheConstants.{INSTANCE_LIMIT}
-use Rattle.fb_wiring.specs.Network.declared.network.Instance.{Instance}
-use Rattle.fb_wiring.specs.Network.Plain.{PlainNetwork}
-use Rattle.fb_wiring.specs.Network.PlainFlat.{PlainFlat}
-use Rattle.fb_wiring.specs.Network.Network.{View}
-use Rattle.fb_wiring.specs.Network.Instances.{Held, AreInstances}
-use Rattle.fb_wiring.specs.Network.FlatNet.{IsFlat}
-use Rattle.fb_compose.specs.SystemFlat.{IsSystemFlat}
-use Rattle.fb_compose.specs.declared.application.FlatApplication.{FlatApplication}
-use Rattle.fb_wiring.specs.Applications.{applications_of}
-use Rattle.fb_wiring.specs.ByName.{applications_at, declared, kind_at}
-use Rattle.fb_wiring.specs.Networks.{network_of}
-use Rattle.fb_wiring.specs.declared.systems.Application.{Application}
+use Rattle.fb_order.specs.Tree.Tree.{DeclTree, block_type, adapter_type, subapplication_type, system_configuration}
+use Rattle.fb_order.specs.Tree.declared.kinds.UnitKind.TheVariants.{Subapplication, System}
+use Rattle.fb_order.specs.Library.View.{Sources, tree_at}
+use Rattle.fb_order.specs.Network.declared.count.TheConstants.{INSTANCE_LIMIT}
+use Rattle.fb_order.specs.Network.declared.network.Instance.{Instance}
+use Rattle.fb_order.specs.Network.Plain.{PlainNetwork}
+use Rattle.fb_order.specs.Network.PlainFlat.{PlainFlat}
+use Rattle.fb_order.specs.Network.Network.{View}
+use Rattle.fb_order.specs.Network.Instances.{Held, AreInstances}
+use Rattle.fb_order.specs.Network.FlatNet.{IsFlat}
+use Rattle.fb_order.specs.Compose.SystemFlat.{IsSystemFlat}
+use Rattle.fb_order.specs.Compose.declared.application.FlatApplication.{FlatApplication}
+use Rattle.fb_order.specs.Wiring.Applications.{applications_of}
+use Rattle.fb_order.specs.Wiring.ByName.{applications_at, declared, kind_at}
+use Rattle.fb_order.specs.Wiring.Networks.{network_of}
+use Rattle.fb_order.specs.Wiring.declared.systems.Application.{Application}
 
 -- subapplications and systems have flat networks
 abbrev pub HasNet : Sources → List ℕ → Type 0

@@ -1,17 +1,17 @@
 //! The instances that units declare, and the flat networks of applications.
 ghost use Rattle.std.specs.Prelude.{◌≡◌, IfOk};
 ghost use Rattle.std.specs.BTreeMap.{get};
-ghost use Rattle.fb_text.specs.Order.{name_cmp};
-ghost use Rattle.fb_wiring.specs.Tree.Tree.{decl_tree};
+ghost use Rattle.fb_order.specs.Text.Order.{name_cmp};
+ghost use Rattle.fb_order.specs.Tree.Tree.{decl_tree};
 ghost use Rattle.fb_net_parts.specs.Tables.{AreComposedApplications, AreComposedTogether, IsComposedApplication};
 ghost use Rattle.fb_net_parts.specs.Units.{instances_in, own_instances};
 
 use crate::kinds::is_of_system;
 use crate::tables::Table;
-use fb_compose::{FlatApplication, Nets, compose_by_part, join};
-use fb_wiring::plain::{Flat, Instance, Network};
-use fb_wiring::tree::Decl;
-use fb_wiring::{Application, applications, network};
+use fb_order::compose::{FlatApplication, Nets, compose_by_part, join};
+use fb_order::network::{Flat, Instance, Network};
+use fb_order::tree::Decl;
+use fb_order::wiring::{Application, applications, network};
 use std::alloc::{AllocError, Global};
 
 /// The instances of all applications.

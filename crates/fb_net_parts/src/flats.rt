@@ -1,16 +1,16 @@
 //! The flat networks of types, composed by a table and by those of inner types.
 ghost use Rattle.std.specs.Prelude.{◌≡◌, true, is_some, IfOk, OnOk};
 ghost use Rattle.std.specs.BTreeMap.{get};
-ghost use Rattle.fb_text.specs.Order.{name_cmp};
+ghost use Rattle.fb_order.specs.Text.Order.{name_cmp};
 ghost use Rattle.fb_net_parts.specs.Tables.{IsAdded, IsComposed, SameOthers, is_missing, known_flats};
 
 use crate::hints::{Hints, KnownFlats, kept_count};
 use crate::kinds::is_subapplication;
 use crate::tables::Table;
-use fb_compose::{Nets, compose_by_part};
-use fb_text::{Name, same_name};
-use fb_wiring::library::View;
-use fb_wiring::plain::Flat;
+use fb_order::compose::{Nets, compose_by_part};
+use fb_order::library::View;
+use fb_order::network::Flat;
+use fb_order::text::{Name, same_name};
 use std::alloc::{AllocError, Global};
 use std::collections::BTreeMap;
 

@@ -1,16 +1,16 @@
 //! Nets that are kept.
 ghost use Rattle.std.specs.Prelude.{◌≡◌, ℕ, List, Option, None, option_map, option_copied};
 ghost use Rattle.std.specs.BTreeMap.{get};
-ghost use Rattle.fb_text.specs.Order.{name_cmp};
-ghost use Rattle.fb_compose.specs.Ready as ready;
+ghost use Rattle.fb_order.specs.Text.Order.{name_cmp};
+ghost use Rattle.fb_order.specs.Compose.Ready as ready;
 ghost use Rattle.fb_net_parts.specs.Hints.{count_of_hint, flat_of_hint, is_whole_hint};
 ghost use Rattle.fb_net_parts.specs.Net.{PlainNet, plain_net};
 ghost use Rattle.fb_net_parts.specs.Tables.{known_flats};
 
 use crate::nets::Net;
-use fb_compose::Nets;
-use fb_text::Name;
-use fb_wiring::plain::{Flat, INSTANCE_LIMIT};
+use fb_order::compose::Nets;
+use fb_order::network::{Flat, INSTANCE_LIMIT};
+use fb_order::text::Name;
 use std::collections::BTreeMap;
 
 /// Kept nets by the names of their units.

@@ -1,13 +1,13 @@
 //! Which units have nets.
 ghost use Rattle.std.specs.Prelude.{◌≡◌, ◌↔◌, IsTrue};
-ghost use Rattle.fb_wiring.specs.Library.View.{tree_at};
-ghost use Rattle.fb_wiring.specs.Tree.Tree.{decl_tree};
+ghost use Rattle.fb_order.specs.Library.View.{tree_at};
+ghost use Rattle.fb_order.specs.Tree.Tree.{decl_tree};
 ghost use Rattle.fb_net_parts.specs.Tables.{is_subapplication_in, is_subapplication_tree, is_system_tree};
 ghost use Rattle.fb_net_parts.specs.Units.{HasNet, has_net_tree};
 
-use fb_text::Name;
-use fb_wiring::library::{View, tree_by_name};
-use fb_wiring::tree::Decl;
+use fb_order::library::{View, tree_by_name};
+use fb_order::text::Name;
+use fb_order::tree::Decl;
 
 fn is_of_net(decl: &Decl) -> bool
     ensures { result ≡ has_net_tree (decl_tree decl.now) }

@@ -1,6 +1,6 @@
 //! Nets.
-use fb_text::Name;
-use fb_wiring::plain::Flat;
+use fb_order::network::Flat;
+use fb_order::text::Name;
 
 /// The flat network of a unit, or why it has none.
 #[derive(Drop)]

@@ -5,9 +5,9 @@ ghost use Rattle.std.specs.FinMap as map;
 ghost use Rattle.fb_net_parts.specs.Hints.{is_left, left_of};
 
 use crate::hints::{Hints, kept_count};
-use fb_text::{Name, same_name};
-use fb_wiring::library::View;
-use fb_wiring::parse::Source;
+use fb_order::library::View;
+use fb_order::parse::Source;
+use fb_order::text::{Name, same_name};
 
 /// The sources that have to be looked at for the net of a unit: none of other units whose kept nets tell how many instances they hold. Such a
 /// net also tells that all that its unit rests on is present, without faults and does not reach itself.

@@ -1,16 +1,16 @@
 //! Networks and counts of types.
 ghost use Rattle.std.specs.Prelude.{◌≡◌, true, is_some, IfOk, OnOk};
 ghost use Rattle.std.specs.BTreeMap.{get};
-ghost use Rattle.fb_text.specs.Order.{name_cmp};
+ghost use Rattle.fb_order.specs.Text.Order.{name_cmp};
 ghost use Rattle.fb_net_parts.specs.Hints.{count_of_hint};
 ghost use Rattle.fb_net_parts.specs.Tables.{Grows, Has, HasAdapter, HasAdapters, HasType, IsCountByTable, IsCountedWhereKnown, IsTable, IsTrue, IsTypeCount, SameOthers};
 
 use crate::hints::{Hints, kept_count};
-use fb_compose::count_instances;
-use fb_text::Name;
-use fb_wiring::library::{View, tree_by_name};
-use fb_wiring::network;
-use fb_wiring::plain::{Network, Port};
+use fb_order::compose::count_instances;
+use fb_order::library::{View, tree_by_name};
+use fb_order::network::{Network, Port};
+use fb_order::text::Name;
+use fb_order::wiring::network;
 use std::alloc::{AllocError, Global};
 use std::collections::BTreeMap;
 

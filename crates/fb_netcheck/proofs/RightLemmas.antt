@@ -6,8 +6,8 @@ use Rattle.std.specs.Option.{option_and_then}
 use Rattle.std.proofs.lemmas.Bool.{or_right}
 use Rattle.std.proofs.lemmas.Grind.{flat_map-append}
 use Rattle.std.proofs.lemmas.List.Elements.{All-cons, All-map, All-nil}
-use Rattle.fb_text.proofs.OrderLemmas.{same_name}
-use Rattle.fb_text.specs.declared.name.NameUse.{NameUse}
+use Rattle.fb_iface.proofs.Text.OrderLemmas.{same_name}
+use Rattle.fb_iface.specs.Text.declared.name.NameUse.{NameUse}
 use Rattle.fb_iface.specs.Tree.Mentions.{unit_kind_of}
 use Rattle.fb_iface.specs.Tree.Tree.{ApplicationTree, DeclTree, InstanceTree, NetworkTree, block_type, adapter_type, subapplication_type, system_configuration}
 use Rattle.fb_iface.specs.Tree.declared.kinds.UnitKind.{UnitKind}

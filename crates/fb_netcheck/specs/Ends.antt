@@ -1,8 +1,8 @@
 -- What the ends of connections name (IEC 61499-1, 5.3: composite types; 5.4: subapplication types; 5.5: adapters).
 use Rattle.std.specs.Prelude.{ℕ, Bool, false, List, Option, Some, None, option_map}
 use Rattle.std.specs.Option.{option_and_then}
-use Rattle.fb_text.specs.declared.token.Span.{Span}
-use Rattle.fb_text.specs.declared.name.NameUse.{NameUse}
+use Rattle.fb_iface.specs.Text.declared.token.Span.{Span}
+use Rattle.fb_iface.specs.Text.declared.name.NameUse.{NameUse}
 use Rattle.fb_iface.specs.Tree.declared.interface.Section.{Section}
 use Rattle.fb_iface.specs.Tree.declared.interface.Section.TheVariants as sections
 use Rattle.fb_iface.specs.Tree.declared.interface.Side.{Side}

@@ -20,3 +20,5 @@ pub use Rattle.fb_iface.specs.Sections as Sections
 pub use Rattle.fb_iface.specs.Parse as Parse
 pub use Rattle.fb_iface.specs.Library as Library
 pub use Rattle.fb_iface.specs as Iface
+pub use Rattle.fb_iface.specs.Text as Text
+pub use Rattle.fb_iface.specs.Table as Table

@@ -1,7 +1,7 @@
 -- Ends of connections that are ends of an earlier one.
 use Rattle.std.specs.Prelude.{List, [], ◌∷◌, map, Option, Some, None}
 use Rattle.std.specs.List.{flat_map}
-use Rattle.fb_text.specs.declared.name.NameUse.{NameUse}
+use Rattle.fb_iface.specs.Text.declared.name.NameUse.{NameUse}
 use Rattle.fb_iface.specs.Tree.declared.network.Connection.{Connection}
 use Rattle.fb_iface.specs.Tree.declared.network.End.{End}
 use Rattle.fb_iface.specs.Tree.declared.network.Sort.{Sort}

@@ -1,6 +1,6 @@
 -- The faults of the ends of connections.
 use Rattle.std.specs.Prelude.{Bool, true, false, ◌&&◌, List, [], ◌∷◌, if◌then◌else◌}
-use Rattle.fb_text.specs.declared.token.Span.{Span}
+use Rattle.fb_iface.specs.Text.declared.token.Span.{Span}
 use Rattle.fb_iface.specs.Tree.declared.kinds.UnitKind.{UnitKind}
 use Rattle.fb_iface.specs.Tree.declared.kinds.UnitKind.TheVariants as kinds
 use Rattle.fb_iface.specs.Tree.declared.network.Connection.{Connection}

@@ -4,9 +4,9 @@ use Rattle.std.specs.Cmp.Lexicographic.{pointwise}
 use Rattle.std.specs.List.{flat_map}
 use Rattle.std.specs.FinMap.{get}
 use Rattle.std.specs.Str.{str_to_ascii_uppercase}
-use Rattle.fb_text.specs.Tokens.{tokens_of}
-use Rattle.fb_text.specs.declared.token.Span.{Span}
-use Rattle.fb_text.specs.declared.token.Token.{Token}
+use Rattle.fb_iface.specs.Text.Tokens.{tokens_of}
+use Rattle.fb_iface.specs.Text.declared.token.Span.{Span}
+use Rattle.fb_iface.specs.Text.declared.token.Token.{Token}
 use Rattle.fb_iface.specs.Tree.declared.interface.TypeForm.{TypeForm}
 use Rattle.fb_iface.specs.Tree.declared.interface.TypeForm.TheVariants.{Plain, Sized, Array}
 use Rattle.fb_iface.specs.Tree.declared.interface.TypeUse.{TypeUse}

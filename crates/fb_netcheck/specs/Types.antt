@@ -1,7 +1,7 @@
 -- The types of what connections join.
 use Rattle.std.specs.Prelude.{ℕ, Bool, true, ◌&&◌, ◌||◌, not, List, [], ◌∷◌, Option, Some, None, if◌then◌else◌}
 use Rattle.std.specs.Option.{option_map_or}
-use Rattle.fb_text.specs.declared.name.NameUse.{NameUse}
+use Rattle.fb_iface.specs.Text.declared.name.NameUse.{NameUse}
 use Rattle.fb_iface.specs.Tree.declared.interface.TypeUse.{TypeUse}
 use Rattle.fb_iface.specs.Tree.declared.network.Connection.{Connection}
 use Rattle.fb_iface.specs.Tree.declared.network.End.{End}

@@ -23,7 +23,9 @@ pub use spellings::{part_of, text_by_name};
 /// Of `fb_iface`, for the crates above.
 pub mod iface {
     pub use fb_iface::{
-        Code, Fault, Ports, Scope, first_declared, interface, ports_of, sorted_faults,
+        Class, Code, DeclaredInstance, DeclaredVariable, Fault, Ports, Scope, class_by_form,
+        class_by_name, class_of, first_declared, interface, is_beside, is_same_side, is_suited,
+        ports_of, report_constant, sorted_faults,
     };
 }
 
@@ -46,4 +48,14 @@ pub mod tree {
         Application, Connection, Constant, Decl, Device, End, Instance, Mapping, Network,
         Parameter, Resource, Role, Side, Simple, Sort, System, TypeDeclaration, TypeUse, UnitKind,
     };
+}
+
+/// Of `fb_iface::text`, for the crates above.
+pub mod text {
+    pub use fb_iface::text::{Name, NameUse, Span, Token, TokenFault, same_name, tokens};
+}
+
+/// Of `fb_iface::table`, for the crates above.
+pub mod table {
+    pub use fb_iface::table::{names_of, open_new};
 }

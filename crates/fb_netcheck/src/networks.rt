@@ -12,9 +12,9 @@ use crate::repeats::{report_second_adapters, report_second_sources};
 use crate::setting::Setting;
 use crate::types::report_types;
 use fb_iface::library::{View, tree_by_name};
+use fb_iface::text::Name;
 use fb_iface::tree::{Application, Decl, Network, System, TypeDeclaration, UnitKind};
 use fb_iface::{Fault, Scope, sorted_faults};
-use fb_text::Name;
 use std::alloc::{AllocError, Global};
 
 /// The faults of the networks of a unit, in order, each once.

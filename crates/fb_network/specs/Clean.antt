@@ -1,7 +1,7 @@
 -- What a network without faults keeps (IEC 61499-1, 5.4: subapplication types; 5.5: adapters).
 use Rattle.std.specs.Prelude.{ℕ, ◌≡◌, List, [], ◌∷◌, Option, Some, None, Contains, ◌&&◌, find, option_map, option_and_then}
 use Rattle.std.specs.BTreeMap.{is_at}
-use Rattle.fb_text.specs.Order.{name_cmp}
+use Rattle.fb_tree.specs.Text.Order.{name_cmp}
 use Rattle.fb_tree.specs.declared.network.Sort.{Sort}
 use Rattle.fb_tree.specs.declared.network.Sort.TheVariants.{Adapter}
 use Rattle.fb_tree.specs.declared.interface.Side.{Side}

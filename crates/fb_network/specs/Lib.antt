@@ -14,3 +14,4 @@ pub mod FlatNet
 pub mod Count
 -- Passed on to the crates above, which do not list these libraries.
 pub use Rattle.fb_tree.specs as Tree
+pub use Rattle.fb_tree.specs.Text as Text

@@ -3,7 +3,7 @@ use Rattle.std.specs.declared.cmp.Ordering.{Ordering}
 use Rattle.std.specs.Ordering.{nat_cmp, on, then_cmp}
 use Rattle.std.specs.Cmp.{IsTotalOrder, then_total, on_total, nat_cmp_total}
 use Rattle.std.specs.Cmp.Lexicographic.{nat_list_cmp_total}
-use Rattle.fb_text.specs.Order.{name_cmp}
+use Rattle.fb_tree.specs.Text.Order.{name_cmp}
 use Rattle.fb_network.specs.Sorts.{number_of}
 use Rattle.fb_network.specs.declared.flat.Link.{Link}
 use Rattle.fb_network.specs.declared.flat.Border.{Border}

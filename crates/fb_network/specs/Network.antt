@@ -1,7 +1,7 @@
 -- Places, chains and links of a network (IEC 61499-1, 5.4: subapplication types).
 use Rattle.std.specs.Prelude.{ℕ, ◌≡◌, List, [], ◌∷◌, Option, Some, Contains, ◌⊎◌, find}
 use Rattle.std.specs.BTreeMap.{is_at}
-use Rattle.fb_text.specs.Order.{name_cmp}
+use Rattle.fb_tree.specs.Text.Order.{name_cmp}
 use Rattle.fb_tree.specs.declared.network.Sort.{Sort}
 use Rattle.fb_network.specs.declared.network.InstanceKind.TheVariants.{Block, Subapplication}
 use Rattle.fb_network.specs.declared.network.Instance.{Instance}

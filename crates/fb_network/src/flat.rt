@@ -6,8 +6,8 @@ ghost use Rattle.fb_network.specs.LinkOrder.{link_cmp, link_cmp_total, border_cm
 
 use crate::network::sort_number;
 use crate::path::Path;
-use fb_text::Name;
 use fb_tree::Sort;
+use fb_tree::text::Name;
 use std::cmp::Ordering;
 use std::marker::Model;
 

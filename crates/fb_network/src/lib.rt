@@ -20,3 +20,8 @@ pub use path::Path;
 pub mod tree {
     pub use fb_tree::{Side, Sort};
 }
+
+/// Of `fb_tree::text`, for the crates above.
+pub mod text {
+    pub use fb_tree::text::{Name, same_name};
+}

@@ -2,7 +2,7 @@
 ghost use Rattle.std.specs.Prelude.{◌≡◌};
 ghost use Rattle.fb_network.specs.Sorts.{number_of, same_sort};
 
-use fb_text::Name;
+use fb_tree::text::Name;
 use fb_tree::{Side, Sort};
 use std::marker::Model;
 

@@ -3,8 +3,8 @@ use Rattle.std.proofs.Common.{◌≡◌, ◌≢◌, ℕ, Bool, true, false, cond
 use Rattle.std.specs.Cmp.Lexicographic.{bytes_decides, same_text}
 use Rattle.std.specs.List.{Contains}
 use Rattle.std.proofs.lemmas.List.Elements.{Contains-append_right}
-use Rattle.fb_text.proofs.Tests.{not_true}
-use Rattle.fb_text.specs.declared.token.Span.{Span}
+use Rattle.fb_netcheck.proofs.Text.Tests.{not_true}
+use Rattle.fb_netcheck.specs.Text.declared.token.Span.{Span}
 use Rattle.fb_netcheck.specs.Tree.Tree.{NetworkTree}
 use Rattle.fb_netcheck.specs.Tree.declared.interface.TypeForm.{TypeForm}
 use Rattle.fb_netcheck.specs.Tree.declared.interface.TypeForm.TheVariants as forms
@@ -21,7 +21,7 @@ use Rattle.fb_netcheck.specs.Iface.declared.classes.Class.TheVariants.{B, I, W, 
 use Rattle.fb_netcheck.specs.Iface.declared.code.Code.{Code}
 use Rattle.fb_netcheck.specs.Iface.declared.code.Code.TheVariants.{DataType, PassThrough}
 use Rattle.fb_netcheck.specs.Iface.declared.fault.Fault.{Fault}
-use Rattle.fb_text.proofs.Members.{contains_flat_map, contains_here, contains_nothing, origin_in_flat_map}
+use Rattle.fb_netcheck.proofs.Text.Members.{contains_flat_map, contains_here, contains_nothing, origin_in_flat_map}
 use Rattle.fb_netcheck.proofs.Iface.NameLemmas.{same_exact, same_itself}
 use Rattle.fb_netcheck.specs.declared.ends.Flow.{Flow}
 use Rattle.fb_netcheck.specs.declared.ends.Flow.TheVariants as flows

@@ -2,7 +2,7 @@
 use Rattle.std.proofs.Common.{◌≡◌, ◌≢◌, ℕ, Bool, true, false, ◌&&◌, List, Option, Some, None, refl, sym, ap, ◌∙◌, subst, true≢false}
 use Rattle.std.specs.Prelude.{option_map}
 use Rattle.std.specs.Option.{option_and_then, option_map_or}
-use Rattle.fb_text.specs.declared.name.NameUse.{NameUse}
+use Rattle.fb_netcheck.specs.Text.declared.name.NameUse.{NameUse}
 use Rattle.fb_netcheck.specs.Tree.Tree.{NetworkTree}
 use Rattle.fb_netcheck.specs.Tree.declared.interface.Section.{Section}
 use Rattle.fb_netcheck.specs.Tree.declared.interface.Section.TheVariants as sections

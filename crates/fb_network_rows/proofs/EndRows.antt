@@ -10,7 +10,7 @@ use Rattle.fb_netcheck.specs.Iface.Ports.{same_side}
 use Rattle.fb_netcheck.specs.Iface.declared.code.Code.{Code}
 use Rattle.fb_netcheck.specs.Iface.declared.code.Code.TheVariants.{PassThrough, PortSide, PortUnknown}
 use Rattle.fb_netcheck.specs.Iface.declared.fault.Fault.{Fault}
-use Rattle.fb_text.proofs.Members.{contains_flat_map, contains_here, contains_nothing, contains_single, in_unless, origin_in_flat_map, unless}
+use Rattle.fb_netcheck.proofs.Text.Members.{contains_flat_map, contains_here, contains_nothing, contains_single, in_unless, origin_in_flat_map, unless}
 use Rattle.fb_netcheck.specs.declared.ends.Holder.{Holder}
 use Rattle.fb_netcheck.specs.declared.ends.Port.{Port}
 use Rattle.fb_netcheck.specs.declared.ends.Position.{Position}

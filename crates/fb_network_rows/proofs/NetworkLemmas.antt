@@ -21,7 +21,7 @@ use Rattle.fb_netcheck.specs.Iface.declared.code.Code.{Code}
 use Rattle.fb_netcheck.specs.Iface.declared.code.Code.TheVariants.{DataType, Literal, ParameterUnknown, PassThrough, PortSide, PortUnknown, SecondAdapter, SecondSource}
 use Rattle.fb_netcheck.specs.Iface.declared.fault.Fault.{Fault}
 use Rattle.fb_netcheck.specs.Iface.declared.ports.DeclaredVariable.{DeclaredVariable}
-use Rattle.fb_text.proofs.Members.{contains_flat_map, contains_nothing, contains_single, in_unless, origin_in_flat_map, origin_in_map}
+use Rattle.fb_netcheck.proofs.Text.Members.{contains_flat_map, contains_nothing, contains_single, in_unless, origin_in_flat_map, origin_in_map}
 use Rattle.fb_netcheck.specs.declared.ends.Position.{Position}
 use Rattle.fb_netcheck.specs.declared.ends.Position.TheVariants.{Source, Destination}
 use Rattle.fb_netcheck.specs.declared.ends.Target.{Target}

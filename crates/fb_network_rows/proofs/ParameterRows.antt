@@ -1,7 +1,7 @@
 -- Parameters that stand for no data input, and values that don't fit, by what the list of faults has.
 use Rattle.std.proofs.Common.{◌≡◌, ◌≢◌, Bool, true, false, [], Option, Some, None, refl, sym, ap, ◌∙◌, subst, true≢false}
 use Rattle.std.specs.List.{Contains}
-use Rattle.fb_text.specs.declared.token.Span.{Span}
+use Rattle.fb_netcheck.specs.Text.declared.token.Span.{Span}
 use Rattle.fb_netcheck.specs.Tree.Tree.{InstanceTree, NetworkTree, ParameterTree}
 use Rattle.fb_netcheck.specs.Tree.declared.interface.Section.{Section}
 use Rattle.fb_netcheck.specs.Tree.declared.interface.Section.TheVariants as sections
@@ -17,7 +17,7 @@ use Rattle.fb_netcheck.specs.Iface.declared.code.Code.{Code}
 use Rattle.fb_netcheck.specs.Iface.declared.code.Code.TheVariants.{Literal, ParameterUnknown}
 use Rattle.fb_netcheck.specs.Iface.declared.fault.Fault.{Fault}
 use Rattle.fb_netcheck.specs.Iface.declared.ports.DeclaredVariable.{DeclaredVariable}
-use Rattle.fb_text.proofs.Members.{contains_here, contains_single}
+use Rattle.fb_netcheck.proofs.Text.Members.{contains_here, contains_single}
 use Rattle.fb_netcheck.specs.Networks.{tree_faults}
 use Rattle.fb_netcheck.specs.Parameters.{parameter_faults, value_faults}
 use Rattle.fb_netcheck.specs.Settings.{NetworkPlace}

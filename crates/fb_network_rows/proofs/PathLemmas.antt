@@ -8,7 +8,7 @@ use Rattle.std.proofs.Math.Seq.{take-append_seam}
 use Rattle.std.proofs.lemmas.Cmp.{lists_total, nat_list_cmp_total, tied_itself}
 use Rattle.std.proofs.lemmas.Map.Views.{tells_apart}
 use Rattle.fb_netcheck.proofs.Iface.EarlierLemmas.{at_place, in_places}
-use Rattle.fb_text.proofs.Members.{contains_cases, contains_filter, contains_here, contains_later, contains_map, contains_nothing, origin_in_map, passes_in_filter}
+use Rattle.fb_netcheck.proofs.Text.Members.{contains_cases, contains_filter, contains_here, contains_later, contains_map, contains_nothing, origin_in_map, passes_in_filter}
 use Rattle.fb_netcheck.specs.Paths.{Path, PathUse, has_path, is_repeated, repeated, same_path}
 use Rattle.fb_network_rows.proofs.SplitLemmas.{at_split, split_at}
 

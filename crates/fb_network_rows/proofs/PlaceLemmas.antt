@@ -1,6 +1,6 @@
 -- Where ends stand.
 use Rattle.std.proofs.Common.{◌≡◌, Option, Some, None, refl}
-use Rattle.fb_text.specs.declared.name.NameUse.{NameUse}
+use Rattle.fb_netcheck.specs.Text.declared.name.NameUse.{NameUse}
 use Rattle.fb_netcheck.specs.Tree.declared.network.End.{End}
 use Rattle.fb_netcheck.specs.Iface.declared.code.Code.{Code}
 use Rattle.fb_netcheck.specs.Iface.declared.fault.Fault.{Fault}

@@ -2,7 +2,7 @@
 use Rattle.std.proofs.Common.{◌≡◌, true, List, [], ◌∷◌, ◌++◌, map, Option, Some, None, option_map, ◌⊎◌, inl, inr, refl, sym, ap, ◌∙◌, subst}
 use Rattle.std.specs.List.{Contains, flat_map}
 use Rattle.std.proofs.lemmas.List.Elements.{Contains-append_left, Contains-append_right, Contains-append_cases}
-use Rattle.fb_text.specs.declared.name.NameUse.{NameUse}
+use Rattle.fb_netcheck.specs.Text.declared.name.NameUse.{NameUse}
 use Rattle.fb_netcheck.specs.Tree.Tree.{NetworkTree}
 use Rattle.fb_netcheck.specs.Tree.declared.network.Connection.{Connection}
 use Rattle.fb_netcheck.specs.Tree.declared.network.End.{End}
@@ -12,7 +12,7 @@ use Rattle.fb_netcheck.specs.Library.View.{tree_at}
 use Rattle.fb_netcheck.specs.Iface.declared.code.Code.{Code}
 use Rattle.fb_netcheck.specs.Iface.declared.code.Code.TheVariants.{SecondAdapter, SecondSource}
 use Rattle.fb_netcheck.specs.Iface.declared.fault.Fault.{Fault}
-use Rattle.fb_text.proofs.Members.{ComesFrom, ComesThrough, contains_cases, contains_flat_map, contains_here, contains_later, contains_map, contains_nothing, contains_single, origin_in_flat_map, origin_in_map}
+use Rattle.fb_netcheck.proofs.Text.Members.{ComesFrom, ComesThrough, contains_cases, contains_flat_map, contains_here, contains_later, contains_map, contains_nothing, contains_single, origin_in_flat_map, origin_in_map}
 use Rattle.fb_netcheck.specs.declared.ends.Position.{Position}
 use Rattle.fb_netcheck.specs.declared.ends.Position.TheVariants.{Source, Destination}
 use Rattle.fb_netcheck.specs.Networks.{tree_faults}

@@ -10,7 +10,7 @@ use Rattle.fb_netcheck.specs.Iface.Ports.{Meanings, instances_in, meanings_in_ty
 use Rattle.fb_netcheck.specs.Iface.Scope.{type_ports_of, usable}
 use Rattle.fb_netcheck.specs.Iface.declared.ports.DeclaredInstance.{DeclaredInstance}
 use Rattle.fb_netcheck.proofs.Locality.{Each, instance_stands}
-use Rattle.fb_text.proofs.Members.{contains_here, contains_later, contains_map}
+use Rattle.fb_netcheck.proofs.Text.Members.{contains_here, contains_later, contains_map}
 use Rattle.fb_netcheck.proofs.Iface.NameLemmas.{named}
 use Rattle.fb_network_rows.specs.Ends.{IsUsable, as_plug, as_socket, as_block, as_subapplication}
 

@@ -1,7 +1,7 @@
 -- The networks of a unit, and what the ends of their connections name.
 use Rattle.std.specs.Prelude.{◌≡◌, ◌≢◌, ℕ, List, [], Option, Some, None, option_map, Contains}
-use Rattle.fb_text.specs.declared.name.NameUse.{NameUse}
-use Rattle.fb_text.specs.declared.token.Span.{Span}
+use Rattle.fb_netcheck.specs.Text.declared.name.NameUse.{NameUse}
+use Rattle.fb_netcheck.specs.Text.declared.token.Span.{Span}
 use Rattle.fb_netcheck.specs.Tree.Tree.{ApplicationTree, NetworkTree, SystemTree, TypeTree, adapter_type, block_type, subapplication_type, system_configuration}
 use Rattle.fb_netcheck.specs.Tree.declared.interface.Section.TheVariants as sections
 use Rattle.fb_netcheck.specs.Tree.declared.interface.Side.{Side}

@@ -1,7 +1,7 @@
 -- Each code of networks in words of its own: where the list of faults has it.
 use Rattle.std.specs.Prelude.{◌≡◌, ◌≢◌, ℕ, List, ◌∷◌, ◌++◌, Some, Contains, ◌↔◌}
-use Rattle.fb_text.specs.declared.name.NameUse.{NameUse}
-use Rattle.fb_text.specs.declared.token.Span.{Span}
+use Rattle.fb_netcheck.specs.Text.declared.name.NameUse.{NameUse}
+use Rattle.fb_netcheck.specs.Text.declared.token.Span.{Span}
 use Rattle.fb_netcheck.specs.Tree.Tree.{InstanceTree, NetworkTree, ParameterTree}
 use Rattle.fb_netcheck.specs.Tree.declared.interface.Section.TheVariants as sections
 use Rattle.fb_netcheck.specs.Tree.declared.interface.TypeForm.TheVariants as forms

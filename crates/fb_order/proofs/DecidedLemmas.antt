@@ -2,10 +2,10 @@
 use Rattle.std.proofs.Common.{◌≡◌, ℕ, Bool, true, false, cond, ◌||◌, List, [], ◌∷◌, ◌++◌, refl, sym, ap, subst, ◌∙◌}
 use Rattle.std.proofs.lemmas.Bool.{false≢true, or_left, or_right}
 use Rattle.std.specs.List.{Contains}
-use Rattle.fb_text.proofs.Tests.{by_bool, or_cases, no_both}
-use Rattle.fb_table.proofs.SeenLemmas.{same, same_is}
-use Rattle.fb_library.specs.Seen.{has_name}
-use Rattle.fb_library.proofs.WalkLemmas.{Contains-has, has-Contains, has-push}
+use Rattle.fb_wiring.proofs.Text.Tests.{by_bool, or_cases, no_both}
+use Rattle.fb_wiring.proofs.Table.SeenLemmas.{same, same_is}
+use Rattle.fb_wiring.specs.Table.Seen.{has_name}
+use Rattle.fb_wiring.proofs.Library.WalkLemmas.{Contains-has, has-Contains, has-push}
 use Rattle.fb_order.specs.Graph.{Follows, IsDecided, AreDecided}
 use Rattle.fb_order.proofs.NameLemmas.{or_none, or_none_left}
 use Rattle.fb_order.proofs.GraphLemmas.{follow_both, no_follow}

@@ -8,12 +8,12 @@ use Rattle.std.specs.Map.{lookup}
 use Rattle.std.specs.Cmp.Lexicographic.{slice_cmp}
 use Rattle.std.specs.declared.vec.Vec.{Vec}
 use Rattle.std.specs.declared.alloc.Global.{Global}
-use Rattle.fb_text.proofs.Tests.{by_bool, or_cases, or_assoc, or_false, no_both}
-use Rattle.fb_text.specs.Order.{name_cmp}
-use Rattle.fb_table.proofs.SeenLemmas.{same, same_is, same_self}
-use Rattle.fb_library.specs.View.{Sources, mentions_at}
-use Rattle.fb_library.specs.Seen.{has_name}
-use Rattle.fb_library.proofs.WalkLemmas.{Contains-has, has-Contains, has-push, all_mentions, mentioned_somewhere}
+use Rattle.fb_wiring.proofs.Text.Tests.{by_bool, or_cases, or_assoc, or_false, no_both}
+use Rattle.fb_wiring.specs.Text.Order.{name_cmp}
+use Rattle.fb_wiring.proofs.Table.SeenLemmas.{same, same_is, same_self}
+use Rattle.fb_wiring.specs.Library.View.{Sources, mentions_at}
+use Rattle.fb_wiring.specs.Table.Seen.{has_name}
+use Rattle.fb_wiring.proofs.Library.WalkLemmas.{Contains-has, has-Contains, has-push, all_mentions, mentioned_somewhere}
 use Rattle.fb_order.specs.Graph.{Edges, edges_at, IsReverse, IsGraph}
 use Rattle.fb_order.specs.Steps.{enters}
 use Rattle.fb_order.specs.declared.search.Step.{Step}

@@ -3,9 +3,9 @@ use Rattle.std.proofs.Common.{◌≡◌, ℕ, Bool, true, false, cond, List, [],
 use Rattle.std.proofs.lemmas.Bool.{false≢true, or_left, or_right}
 use Rattle.std.proofs.lemmas.List.{append-nil}
 use Rattle.std.proofs.lemmas.List.Elements.{filter-append}
-use Rattle.fb_text.proofs.Tests.{by_bool, or_cases}
-use Rattle.fb_table.proofs.SeenLemmas.{same, same_is}
-use Rattle.fb_library.specs.Seen.{has_name}
+use Rattle.fb_wiring.proofs.Text.Tests.{by_bool, or_cases}
+use Rattle.fb_wiring.proofs.Table.SeenLemmas.{same, same_is}
+use Rattle.fb_wiring.specs.Table.Seen.{has_name}
 
 module _ (p : List ℕ → Bool) where
   pub in_filter : (xs : List (List ℕ)) (q : List ℕ) → p q ≡ true → has_name xs q ≡ true → has_name (filter p xs) q ≡ true

@@ -7,9 +7,9 @@ use Rattle.std.specs.BTreeMap.{get}
 use Rattle.std.specs.BTreeSet.{BTreeSet}
 use Rattle.std.specs.declared.vec.Vec.{Vec}
 use Rattle.std.specs.declared.alloc.Global.{Global}
-use Rattle.fb_text.specs.Order.{name_cmp}
-use Rattle.fb_library.specs.Seen.{has_name}
-use Rattle.fb_library.proofs.WalkLemmas.{Contains-has, has-Contains}
+use Rattle.fb_wiring.specs.Text.Order.{name_cmp}
+use Rattle.fb_wiring.specs.Table.Seen.{has_name}
+use Rattle.fb_wiring.proofs.Library.WalkLemmas.{Contains-has, has-Contains}
 use Rattle.fb_order.specs.Graph.{Edges, edges_at, edges_within, Follows, one, more, IsReverse}
 use Rattle.fb_order.proofs.FilterLemmas.{in_filter, of_filter}
 

@@ -10,3 +10,7 @@ pub mod ReachLemmas
 pub mod SearchLemmas
 pub mod StackLemmas
 pub mod SearchOfUnit
+-- Passed on to the crates above, which do not list these libraries.
+pub use Rattle.fb_wiring.proofs as Wiring
+pub use Rattle.fb_wiring.proofs.Compose as Compose
+pub use Rattle.fb_wiring.proofs.Text as Text

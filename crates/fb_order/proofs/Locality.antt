@@ -3,10 +3,10 @@ use Rattle.std.proofs.Common.{◌≡◌, ℕ, List, sym, ap, subst}
 use Rattle.std.specs.List.{Contains}
 use Rattle.std.specs.Option.{option_and_then}
 use Rattle.std.specs.FinMap.{get}
-use Rattle.fb_library.specs.View.{Sources, tree_of, mentions_at, mentions_in}
-use Rattle.fb_library.specs.Local.{AgreeFar}
-use Rattle.fb_library.specs.Rests.{Rests, itself, through}
-use Rattle.fb_library.proofs.Locality.{far_local}
+use Rattle.fb_wiring.specs.Library.View.{Sources, tree_of, mentions_at, mentions_in}
+use Rattle.fb_wiring.specs.Library.Local.{AgreeFar}
+use Rattle.fb_wiring.specs.Library.Rests.{Rests, itself, through}
+use Rattle.fb_wiring.proofs.Library.Locality.{far_local}
 use Rattle.fb_order.specs.Local.{RecursionIsLocal}
 use Rattle.fb_order.specs.Reaches.{Reaches, directly, onward}
 

@@ -3,8 +3,8 @@ use Rattle.std.proofs.Common.{◌≡◌, ℕ, Bool, true, false, ◌||◌, List,
 use Rattle.std.specs.Bool.{OnFalse}
 use Rattle.std.specs.Cmp.{eq_by_cmp_equiv}
 use Rattle.std.specs.Cmp.Lexicographic.{nat_list_cmp_total}
-use Rattle.fb_text.proofs.Tests.{no_both}
-use Rattle.fb_table.proofs.SeenLemmas.{same}
+use Rattle.fb_wiring.proofs.Text.Tests.{no_both}
+use Rattle.fb_wiring.proofs.Table.SeenLemmas.{same}
 
 pub on_false : {P : Type 0} (b : Bool) → b ≡ false → OnFalse b P → P
 on_false true f h = no_both true refl f

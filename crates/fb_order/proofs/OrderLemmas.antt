@@ -2,11 +2,11 @@
 use Rattle.std.proofs.Common.{◌≡◌, ℕ, ◌+◌, ◌<◌, ◌≤◌, true, false, List, [], ◌∷◌, ◌++◌, length, take, get_or, refl, sym, subst, ◌∙◌, arith, below_more, length-append}
 use Rattle.std.proofs.lemmas.List.{take-append-le, take_at, get_or_append_left, get_or_at, get_or_default, get_or-take, length-take-le}
 use Rattle.std.specs.List.{Contains}
-use Rattle.fb_text.proofs.Tests.{no_both}
-use Rattle.fb_library.specs.View.{Sources, mentions_at}
-use Rattle.fb_library.specs.Rests.{Rests, itself, through}
-use Rattle.fb_library.specs.Seen.{has_name}
-use Rattle.fb_library.proofs.WalkLemmas.{has-Contains, Contains-has}
+use Rattle.fb_wiring.proofs.Text.Tests.{no_both}
+use Rattle.fb_wiring.specs.Library.View.{Sources, mentions_at}
+use Rattle.fb_wiring.specs.Library.Rests.{Rests, itself, through}
+use Rattle.fb_wiring.specs.Table.Seen.{has_name}
+use Rattle.fb_wiring.proofs.Library.WalkLemmas.{has-Contains, Contains-has}
 use Rattle.fb_order.specs.Reaches.{Reaches, directly, onward}
 use Rattle.fb_order.specs.Order.{IsOrdered}
 use Rattle.fb_order.specs.Local.{OrderedIsNotRecursive}

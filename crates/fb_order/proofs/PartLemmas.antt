@@ -4,13 +4,13 @@ use Rattle.std.proofs.lemmas.Bool.{false≢true, or_left, or_right}
 use Rattle.std.proofs.lemmas.List.Kept.{IsStrictlySortedBy-filter}
 use Rattle.std.specs.List.{Contains, filter}
 use Rattle.std.specs.List.Sorted.{IsStrictlySortedBy}
-use Rattle.fb_text.proofs.Tests.{by_bool, or_cases, no_both}
-use Rattle.fb_text.specs.Order.{name_cmp}
-use Rattle.fb_table.proofs.SeenLemmas.{same, same_is, same_self}
-use Rattle.fb_library.specs.View.{Sources, mentions_at}
-use Rattle.fb_library.specs.Rests.{itself}
-use Rattle.fb_library.specs.Seen.{has_name}
-use Rattle.fb_library.proofs.WalkLemmas.{Contains-has, has-Contains}
+use Rattle.fb_wiring.proofs.Text.Tests.{by_bool, or_cases, no_both}
+use Rattle.fb_wiring.specs.Text.Order.{name_cmp}
+use Rattle.fb_wiring.proofs.Table.SeenLemmas.{same, same_is, same_self}
+use Rattle.fb_wiring.specs.Library.View.{Sources, mentions_at}
+use Rattle.fb_wiring.specs.Library.Rests.{itself}
+use Rattle.fb_wiring.specs.Table.Seen.{has_name}
+use Rattle.fb_wiring.proofs.Library.WalkLemmas.{Contains-has, has-Contains}
 use Rattle.fb_order.specs.Reaches.{Reaches, directly, onward, IsRecursive, RecursivePart, none, keeps, skips, SomeRestsOnRecursive}
 use Rattle.fb_order.specs.Graph.{Edges, edges_at, Follows, one, more, IsGraph}
 use Rattle.fb_order.proofs.GraphLemmas.{follow_first}

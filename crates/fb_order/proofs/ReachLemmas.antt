@@ -2,10 +2,10 @@
 use Rattle.std.proofs.Common.{◌≡◌, ℕ, ◌+◌, ◌<◌, true, false, ◌||◌, List, [], ◌∷◌, ◌++◌, length, refl, sym, ap, subst, ◌∙◌, arith}
 use Rattle.std.proofs.lemmas.Bool.{false≢true, or_left, or_right}
 use Rattle.std.specs.List.{Contains}
-use Rattle.fb_text.proofs.Tests.{by_bool, or_cases, or_false, no_both}
-use Rattle.fb_table.proofs.SeenLemmas.{same, same_is, same_self}
-use Rattle.fb_library.specs.Seen.{has_name, unseen, Opens}
-use Rattle.fb_library.proofs.WalkLemmas.{Contains-has, has-Contains, has-push, longer}
+use Rattle.fb_wiring.proofs.Text.Tests.{by_bool, or_cases, or_false, no_both}
+use Rattle.fb_wiring.proofs.Table.SeenLemmas.{same, same_is, same_self}
+use Rattle.fb_wiring.specs.Table.Seen.{has_name, unseen, Opens}
+use Rattle.fb_wiring.proofs.Library.WalkLemmas.{Contains-has, has-Contains, has-push, longer}
 use Rattle.fb_order.specs.Graph.{Follows, one, more}
 
 -- seen names are reached; the edges of those that are not pending lead to seen ones, and so do those of the first name

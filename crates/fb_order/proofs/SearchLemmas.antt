@@ -5,12 +5,12 @@ use Rattle.std.proofs.lemmas.List.{map_push, length-map}
 use Rattle.std.proofs.Common.{append_assoc}
 use Rattle.std.specs.List.{Contains}
 use Rattle.std.proofs.lemmas.List.Elements.{Contains-append_left, Contains-append_right}
-use Rattle.fb_text.proofs.Tests.{by_bool, or_cases, or_assoc, or_false, no_both}
-use Rattle.fb_table.proofs.SeenLemmas.{same, same_is, same_self}
-use Rattle.fb_library.specs.View.{Sources, mentions_at}
-use Rattle.fb_library.specs.Rests.{Rests, itself, through}
-use Rattle.fb_library.specs.Seen.{has_name}
-use Rattle.fb_library.proofs.WalkLemmas.{Contains-has, has-Contains, has-push, all_mentions, mentioned_somewhere}
+use Rattle.fb_wiring.proofs.Text.Tests.{by_bool, or_cases, or_assoc, or_false, no_both}
+use Rattle.fb_wiring.proofs.Table.SeenLemmas.{same, same_is, same_self}
+use Rattle.fb_wiring.specs.Library.View.{Sources, mentions_at}
+use Rattle.fb_wiring.specs.Library.Rests.{Rests, itself, through}
+use Rattle.fb_wiring.specs.Table.Seen.{has_name}
+use Rattle.fb_wiring.proofs.Library.WalkLemmas.{Contains-has, has-Contains, has-push, all_mentions, mentioned_somewhere}
 use Rattle.fb_order.specs.Order.{IsOrdered}
 use Rattle.fb_order.specs.Reaches.{SomeRests, SomeRestsOnRecursive}
 use Rattle.fb_order.specs.Steps.{enters}

@@ -2,12 +2,12 @@
 use Rattle.std.proofs.Common.{ℕ, List, [], ◌∷◌, Option, Some, None, IfSome, sym, subst, ◌∙◌}
 use Rattle.std.proofs.lemmas.Bool.{or_left}
 use Rattle.std.specs.List.{Contains}
-use Rattle.fb_text.proofs.Tests.{or_false}
-use Rattle.fb_table.proofs.SeenLemmas.{same, same_is, same_self}
-use Rattle.fb_library.specs.View.{Sources}
-use Rattle.fb_library.specs.Rests.{Rests}
-use Rattle.fb_library.specs.Seen.{has_name}
-use Rattle.fb_library.proofs.WalkLemmas.{Contains-has, has-Contains}
+use Rattle.fb_wiring.proofs.Text.Tests.{or_false}
+use Rattle.fb_wiring.proofs.Table.SeenLemmas.{same, same_is, same_self}
+use Rattle.fb_wiring.specs.Library.View.{Sources}
+use Rattle.fb_wiring.specs.Library.Rests.{Rests}
+use Rattle.fb_wiring.specs.Table.Seen.{has_name}
+use Rattle.fb_wiring.proofs.Library.WalkLemmas.{Contains-has, has-Contains}
 use Rattle.fb_order.specs.Reaches.{RestsOnRecursive, SomeRests, SomeRestsOnRecursive}
 
 pub some_weaker : {X : Type 0} (o : Option X) (P Q : X → Type 0) → ((x : X) → P x → Q x) → IfSome o P → IfSome o Q

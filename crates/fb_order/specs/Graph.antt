@@ -5,9 +5,9 @@ use Rattle.std.specs.BTreeMap.{BTreeMap, get}
 use Rattle.std.specs.BTreeSet.{BTreeSet}
 use Rattle.std.specs.declared.vec.Vec.{Vec}
 use Rattle.std.specs.declared.alloc.Global.{Global}
-use Rattle.fb_text.specs.Order.{name_cmp}
-use Rattle.fb_library.specs.Seen.{has_name}
-use Rattle.fb_library.specs.View.{Sources, mentions_at}
+use Rattle.fb_wiring.specs.Text.Order.{name_cmp}
+use Rattle.fb_wiring.specs.Table.Seen.{has_name}
+use Rattle.fb_wiring.specs.Library.View.{Sources, mentions_at}
 
 abbrev pub Edges : Type 0
 Edges = BTreeMap (List ℕ) (Vec (List ℕ) Global)

@@ -1,8 +1,8 @@
 -- What recursion depends on, and what an order rules out.
 use Rattle.std.specs.Prelude.{ℕ, List, Contains, ◌↔◌}
-use Rattle.fb_library.specs.View.{Sources}
-use Rattle.fb_library.specs.Rests.{Rests}
-use Rattle.fb_library.specs.Local.{AgreeFar}
+use Rattle.fb_wiring.specs.Library.View.{Sources}
+use Rattle.fb_wiring.specs.Library.Rests.{Rests}
+use Rattle.fb_wiring.specs.Library.Local.{AgreeFar}
 use Rattle.fb_order.specs.Reaches.{IsRecursive}
 use Rattle.fb_order.specs.Order.{IsOrdered}
 

@@ -1,6 +1,6 @@
 -- Lists in which inner types come first.
 use Rattle.std.specs.Prelude.{ℕ, ◌<◌, List, [], length, take, slice_index_or, Contains}
-use Rattle.fb_library.specs.View.{Sources, mentions_at}
+use Rattle.fb_wiring.specs.Library.View.{Sources, mentions_at}
 
 -- each name comes after all that it mentions, and no name comes twice
 pub record IsOrdered (sources : Sources) (order : List (List ℕ)) : Type 0 where

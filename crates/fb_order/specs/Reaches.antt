@@ -1,7 +1,7 @@
 -- What a type reaches by one or more mentions.
 use Rattle.std.specs.Prelude.{ℕ, List, [], ◌∷◌, Contains}
-use Rattle.fb_library.specs.View.{Sources, mentions_at}
-use Rattle.fb_library.specs.Rests.{Rests}
+use Rattle.fb_wiring.specs.Library.View.{Sources, mentions_at}
+use Rattle.fb_wiring.specs.Library.Rests.{Rests}
 
 -- u mentions v, or some mention of u reaches v
 pub data Reaches (sources : Sources) : List ℕ → List ℕ → Type 0 where

@@ -1,13 +1,13 @@
 //! The names of a graph that reach themselves.
 ghost use Rattle.std.specs.Prelude.{◌≡◌, ℕ, List, [], true, false, ◌||◌, if◌then◌else◌, filter, Contains, ◌↔◌, IfOk, OnOk};
 ghost use Rattle.std.specs.Ordering.{eq_by_cmp};
-ghost use Rattle.fb_text.specs.Order.{name_cmp};
-ghost use Rattle.fb_library.specs.Seen.{has_name, Opens};
+ghost use Rattle.fb_wiring.specs.Text.Order.{name_cmp};
+ghost use Rattle.fb_wiring.specs.Table.Seen.{has_name, Opens};
 ghost use Rattle.fb_order.specs.Graph.{Follows, IsReverse, IsDecided, AreDecided, edges_at, edges_within};
 
 use crate::graph::{Edges, Graph};
-use fb_table::names_of;
-use fb_text::Name;
+use fb_wiring::table::names_of;
+use fb_wiring::text::Name;
 use std::alloc::{AllocError, Global};
 use std::collections::BTreeSet;
 

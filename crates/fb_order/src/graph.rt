@@ -1,13 +1,13 @@
 //! What names mention, as a graph.
 ghost use Rattle.std.specs.Prelude.{◌≡◌, ℕ, List, [], ◌∷◌, ◌++◌, ◌||◌, ◌&&◌, if◌then◌else◌, IfOk, OnOk};
 ghost use Rattle.std.specs.Ordering.{eq_by_cmp};
-ghost use Rattle.fb_text.specs.Order.{name_cmp};
-ghost use Rattle.fb_library.specs.Seen.{has_name};
+ghost use Rattle.fb_wiring.specs.Text.Order.{name_cmp};
+ghost use Rattle.fb_wiring.specs.Table.Seen.{has_name};
 ghost use Rattle.fb_order.specs.Graph.{IsGraph, edges_at};
 
 use crate::search::{Step, enter_all};
-use fb_library::{View, mentions_by_name};
-use fb_text::Name;
+use fb_wiring::library::{View, mentions_by_name};
+use fb_wiring::text::Name;
 use std::alloc::{AllocError, Global};
 use std::collections::{BTreeMap, BTreeSet};
 

@@ -1,15 +1,15 @@
 //! The types that reach themselves.
 ghost use Rattle.std.specs.Prelude.{◌≡◌, ℕ, List, filter, Contains, ◌↔◌, IfOk};
 ghost use Rattle.std.specs.List.Sorted.{IsStrictlySortedBy};
-ghost use Rattle.fb_text.specs.Order.{name_cmp};
-ghost use Rattle.fb_library.specs.Seen.{has_name};
+ghost use Rattle.fb_wiring.specs.Text.Order.{name_cmp};
+ghost use Rattle.fb_wiring.specs.Table.Seen.{has_name};
 ghost use Rattle.fb_order.specs.Reaches.{IsRecursive, RecursivePart};
 
 use crate::cycles::cycles;
 use crate::graph::explore;
 use crate::search::search;
-use fb_library::View;
-use fb_text::Name;
+use fb_wiring::library::View;
+use fb_wiring::text::Name;
 use std::alloc::{AllocError, Global};
 use std::collections::BTreeSet;
 

@@ -1,12 +1,12 @@
 //! The search that lists inner types first.
 ghost use Rattle.std.specs.Prelude.{◌≡◌, ℕ, List, [], ◌∷◌, ◌++◌, Contains, ◌↔◌, IsNone, IfSome, IfOk, OnOk};
-ghost use Rattle.fb_library.specs.Rests.{Rests};
+ghost use Rattle.fb_wiring.specs.Library.Rests.{Rests};
 ghost use Rattle.fb_order.specs.Order.{IsOrdered};
 ghost use Rattle.fb_order.specs.Reaches.{RestsOnRecursive, SomeRests, SomeRestsOnRecursive};
 ghost use Rattle.fb_order.specs.Steps.{enters};
 
-use fb_library::{View, mentions_by_name};
-use fb_text::Name;
+use fb_wiring::library::{View, mentions_by_name};
+use fb_wiring::text::Name;
 use std::alloc::{AllocError, Global};
 use std::collections::BTreeSet;
 

@@ -1,7 +1,7 @@
 -- Joining what sections hold, one section after the other.
 use Rattle.std.proofs.Common.{◌≡◌, Bool, true, false, ◌||◌, List, [], ◌∷◌, ◌++◌, map, refl, ap, ◌∙◌, append_assoc}
 use Rattle.std.proofs.lemmas.List.{append-nil, map_push}
-use Rattle.fb_text.proofs.Tests.{or_assoc}
+use Rattle.fb_tree.proofs.Text.Tests.{or_assoc}
 use Rattle.fb_tree.specs.Tree.{InterfaceTree, NetworkTree, ChartTree}
 use Rattle.fb_parse.specs.declared.contents.Contents.{Contents}
 use Rattle.fb_parse.specs.Contents.{ContentsTree, contents_tree, no_interface, no_network, no_chart, nothing, interfaces_merged, networks_merged, charts_merged, merged, joined}

@@ -1,5 +1,5 @@
 -- The sections that may stand in a frame.
-use Rattle.fb_sections.specs.Forms.Form.{Form}
+use Rattle.fb_structured_text.specs.Forms.Form.{Form}
 use Rattle.fb_parse.specs.declared.frame.Frame.{Frame}
 use Rattle.fb_parse.specs.declared.frame.Frame.TheVariants.{Block, Adapter, Subapplication, Application}
 use Rattle.fb_parse.specs.Contents.{ContentsTree}

@@ -8,7 +8,9 @@ pub mod Body
 pub mod Source
 pub mod Read
 -- Passed on to the crates above, which do not list these libraries.
-pub use Rattle.fb_sections.specs.Lexemes as Lexemes
+pub use Rattle.fb_structured_text.specs.Lexemes as Lexemes
 pub use Rattle.fb_tree.specs as Tree
-pub use Rattle.fb_sections.specs.Forms as Forms
-pub use Rattle.fb_sections.specs as Sections
+pub use Rattle.fb_structured_text.specs.Forms as Forms
+pub use Rattle.fb_structured_text.specs.Sections as Sections
+pub use Rattle.fb_tree.specs.Text as Text
+pub use Rattle.fb_structured_text.specs as StructuredText

@@ -1,17 +1,17 @@
 //! The body of a text.
 
-ghost use Rattle.fb_sections.specs.Forms.Form.{Spells};
-ghost use Rattle.fb_sections.specs.Lexemes.declared.lexeme.Lexeme.{Lexeme};
+ghost use Rattle.fb_structured_text.specs.Forms.Form.{Spells};
+ghost use Rattle.fb_structured_text.specs.Lexemes.declared.lexeme.Lexeme.{Lexeme};
 ghost use Rattle.fb_parse.specs.Body.{BodyTree, IsBody, body_of};
 ghost use Rattle.fb_parse.specs.Grammar.{unit};
 ghost use Rattle.fb_tree.specs.Tree.{DeclTree};
 ghost use Rattle.std.specs.Prelude.{◌≡◌, ℕ, IfOk, List};
 
 use crate::units::unit;
-use fb_sections::forms::Stop;
-use fb_sections::lexemes::{Lexeme, lexemes};
-use fb_text::{Span, TokenFault};
+use fb_structured_text::forms::Stop;
+use fb_structured_text::lexemes::{Lexeme, lexemes};
 use fb_tree::Decl;
+use fb_tree::text::{Span, TokenFault};
 use std::alloc::{AllocError, Global};
 
 /// The declaration that a text spells, or the place from which it can no longer spell one.
@@ -22,7 +22,7 @@ pub enum Body {
 }
 
 impl Body {
-    ghost use Rattle.fb_sections.specs.Forms.Reading.{read};
+    ghost use Rattle.fb_structured_text.specs.Forms.Reading.{read};
     ghost use Rattle.fb_parse.specs.Body.{body_read, body_tree, place, whole_or_broken};
     ghost use Rattle.fb_tree.specs.Tree.{decl_tree};
 

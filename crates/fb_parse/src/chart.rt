@@ -1,18 +1,18 @@
 //! Transitions and algorithms (IEC 61499-1, 5.2.1 and 5.2.2).
 
-ghost use Rattle.fb_sections.specs.Forms.Gives.{Gives, GivesEach};
-ghost use Rattle.fb_sections.specs.Forms.Reading.{read};
+ghost use Rattle.fb_structured_text.specs.Forms.Gives.{Gives, GivesEach};
+ghost use Rattle.fb_structured_text.specs.Forms.Reading.{read};
 ghost use Rattle.fb_parse.specs.Chart.{algorithm, algorithm_body, algorithm_body_tree, bracketed, condition, event_condition, joined_test, optional_colon, optional_test, other_language, structured_text, transition, transitions};
 ghost use Rattle.fb_tree.specs.Expression.{expression_tree};
 ghost use Rattle.fb_tree.specs.Statement.{statement_tree};
 ghost use Rattle.fb_tree.specs.Tree.{TransitionTree, algorithm_tree, condition_tree, transition_tree};
 ghost use Rattle.std.specs.Prelude.{◌≡◌, Ok, map, option_map};
 
-use fb_sections::forms::{Reader, Stop, is_next, key, name, one_of};
-use fb_sections::lexemes::{Kind, Lexeme};
-use fb_sections::{end, section, skip};
+use fb_structured_text::forms::{Reader, Stop, is_next, key, name, one_of};
+use fb_structured_text::lexemes::{Kind, Lexeme};
+use fb_structured_text::sections::{end, section, skip};
 use fb_structured_text::{expression, statements};
-use fb_text::NameUse;
+use fb_tree::text::NameUse;
 use fb_tree::{Algorithm, Condition, Expr, Stmt, Transition};
 use std::alloc::Global;
 

@@ -1,8 +1,8 @@
 //! Sections between a name and the word that ends a declaration.
 
-ghost use Rattle.fb_sections.specs.Forms.Form.{as_value, many};
-ghost use Rattle.fb_sections.specs.Forms.Gives.{Gives};
-ghost use Rattle.fb_sections.specs.Forms.Reading.{first, read};
+ghost use Rattle.fb_structured_text.specs.Forms.Form.{as_value, many};
+ghost use Rattle.fb_structured_text.specs.Forms.Gives.{Gives};
+ghost use Rattle.fb_structured_text.specs.Forms.Reading.{first, read};
 ghost use Rattle.fb_parse.specs.Contents.{ContentsTree, contents_tree, joined};
 ghost use Rattle.fb_parse.specs.Frames.{section_of};
 ghost use Rattle.fb_parse.specs.Grammar.{framed};
@@ -12,9 +12,9 @@ use crate::contents::{Contents, joined};
 use crate::sections::{
     adapter_section, application_section, block_section, subapplication_section,
 };
-use fb_sections::forms::{Reader, Stop, key, name, several};
-use fb_sections::lexemes::{Kind, Lexeme};
-use fb_text::NameUse;
+use fb_structured_text::forms::{Reader, Stop, key, name, several};
+use fb_structured_text::lexemes::{Kind, Lexeme};
+use fb_tree::text::NameUse;
 use std::alloc::Global;
 
 /// What sections stand in.

@@ -23,3 +23,34 @@ pub mod tree {
         TypeDeclaration, TypeForm, TypeUse, UnitKind, Variables, kind, mentions,
     };
 }
+
+/// Of `fb_tree::text`, for the crates above.
+pub mod text {
+    pub use fb_tree::text::{
+        Name, NameFault, NameUse, Span, Token, TokenFault, TypeClass, same_name, sorted_names,
+        sorted_once, tokens, type_class,
+    };
+}
+
+/// Of `fb_structured_text::lexemes`, for the crates above.
+pub mod lexemes {
+    pub use fb_structured_text::lexemes::{Kind, Lexeme, lexemes};
+}
+
+/// Of `fb_structured_text`, for the crates above.
+pub mod structured_text {
+    pub use fb_structured_text::{expression, statements};
+}
+
+/// Of `fb_structured_text::forms`, for the crates above.
+pub mod forms {
+    pub use fb_structured_text::forms::{NAMES, NameReader, Stop, names, separated, several};
+}
+
+/// Of `fb_structured_text::sections`, for the crates above.
+pub mod section_readers {
+    pub use fb_structured_text::sections::{
+        blocks, connections, data_variables, device, events, internal_variables, mappings, plugs,
+        service, sockets, states, subapplications,
+    };
+}

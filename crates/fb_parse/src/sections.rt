@@ -1,19 +1,19 @@
 //! The sections of declarations, each as what it holds.
 
-ghost use Rattle.fb_sections.specs.Forms.Form.{as_value};
-ghost use Rattle.fb_sections.specs.Forms.Gives.{Gives};
-ghost use Rattle.fb_sections.specs.Forms.Reading.{read};
+ghost use Rattle.fb_structured_text.specs.Forms.Form.{as_value};
+ghost use Rattle.fb_structured_text.specs.Forms.Gives.{Gives};
+ghost use Rattle.fb_structured_text.specs.Forms.Reading.{read};
 ghost use Rattle.fb_parse.specs.Contents.{contents_tree, of_instances, of_variables};
 ghost use Rattle.fb_parse.specs.Grammar.{adapter_section, application_section, block_section, chart_section, data_section, interface_section, network_section, service_section, subapplication_section};
-ghost use Rattle.fb_sections.specs.Interface.{internal_variables};
-ghost use Rattle.fb_sections.specs.Network.{subapplications};
+ghost use Rattle.fb_structured_text.specs.Sections.Interface.{internal_variables};
+ghost use Rattle.fb_structured_text.specs.Sections.Network.{subapplications};
 ghost use Rattle.std.specs.Prelude.{◌≡◌};
 
 use crate::chart::{algorithm, transitions};
 use crate::contents::Contents;
-use fb_sections::forms::{Stop, is_next};
-use fb_sections::lexemes::{Kind, Lexeme};
-use fb_sections::{
+use fb_structured_text::forms::{Stop, is_next};
+use fb_structured_text::lexemes::{Kind, Lexeme};
+use fb_structured_text::sections::{
     blocks, connections, data_variables, events, internal_variables, plugs, service, sockets,
     states, subapplications,
 };
@@ -38,7 +38,7 @@ const NETWORK: [Kind; 4] = [
 ];
 
 /// Events or data.
-#[tactic(auto, unfolding(crate::specs::Grammar::data_section, fb_sections::specs::Interface::events))]
+#[tactic(auto, unfolding(crate::specs::Grammar::data_section, crate::specs::Grammar::events))]
 fn data_section(alloc: Global, tokens: &[Lexeme]) -> Result<(Contents, &[Lexeme]), Stop<'_>>
     ensures { Gives contents_tree result (read data_section tokens.now) }
 {
@@ -61,7 +61,7 @@ fn service_section(alloc: Global, tokens: &[Lexeme]) -> Result<(Contents, &[Lexe
 }
 
 /// Events, data, plugs or sockets.
-#[tactic(auto, unfolding(crate::specs::Grammar::interface_section, crate::specs::Grammar::data_section, fb_sections::specs::Interface::events, fb_sections::specs::Interface::data_variables, fb_sections::specs::Network::plugs))]
+#[tactic(auto, unfolding(crate::specs::Grammar::interface_section, crate::specs::Grammar::data_section, crate::specs::Grammar::events, crate::specs::Grammar::data_variables, crate::specs::Grammar::plugs))]
 fn interface_section(alloc: Global, tokens: &[Lexeme]) -> Result<(Contents, &[Lexeme]), Stop<'_>>
     ensures { Gives contents_tree result (read interface_section tokens.now) }
 {
@@ -85,7 +85,7 @@ fn interface_section(alloc: Global, tokens: &[Lexeme]) -> Result<(Contents, &[Le
 }
 
 /// Block instances or connections.
-#[tactic(auto, unfolding(crate::specs::Grammar::network_section, fb_sections::specs::Network::blocks))]
+#[tactic(auto, unfolding(crate::specs::Grammar::network_section, crate::specs::Grammar::blocks))]
 fn network_section(alloc: Global, tokens: &[Lexeme]) -> Result<(Contents, &[Lexeme]), Stop<'_>>
     ensures { Gives contents_tree result (read network_section tokens.now) }
 {
@@ -99,7 +99,7 @@ fn network_section(alloc: Global, tokens: &[Lexeme]) -> Result<(Contents, &[Lexe
 }
 
 /// States, transitions or an algorithm.
-#[tactic(auto, unfolding(crate::specs::Grammar::chart_section, fb_sections::specs::Chart::states, crate::specs::Chart::transitions))]
+#[tactic(auto, unfolding(crate::specs::Grammar::chart_section, crate::specs::Grammar::states, crate::specs::Chart::transitions))]
 fn chart_section(alloc: Global, tokens: &[Lexeme]) -> Result<(Contents, &[Lexeme]), Stop<'_>>
     ensures { Gives contents_tree result (read chart_section tokens.now) }
 {
@@ -125,7 +125,7 @@ fn internal_section(alloc: Global, tokens: &[Lexeme]) -> Result<(Contents, &[Lex
 }
 
 /// A section of a block type.
-#[tactic(auto, unfolding(crate::specs::Grammar::block_section, crate::specs::Grammar::interface_section, crate::specs::Grammar::data_section, crate::specs::Grammar::network_section, crate::specs::Grammar::chart_section, fb_sections::specs::Interface::events, fb_sections::specs::Interface::data_variables, fb_sections::specs::Interface::internal_variables, fb_sections::specs::Network::plugs, fb_sections::specs::Network::sockets, fb_sections::specs::Network::blocks, fb_sections::specs::Network::connections, fb_sections::specs::Chart::states, crate::specs::Chart::transitions, crate::specs::Chart::algorithm))]
+#[tactic(auto, unfolding(crate::specs::Grammar::block_section, crate::specs::Grammar::interface_section, crate::specs::Grammar::data_section, crate::specs::Grammar::network_section, crate::specs::Grammar::chart_section, crate::specs::Grammar::events, crate::specs::Grammar::data_variables, crate::specs::Grammar::internal_variables, crate::specs::Grammar::plugs, crate::specs::Grammar::sockets, crate::specs::Grammar::blocks, crate::specs::Grammar::connections, crate::specs::Grammar::states, crate::specs::Chart::transitions, crate::specs::Chart::algorithm))]
 pub fn block_section(alloc: Global, tokens: &[Lexeme]) -> Result<(Contents, &[Lexeme]), Stop<'_>>
     ensures { Gives contents_tree result (read block_section tokens.now) }
 {
@@ -146,7 +146,7 @@ pub fn block_section(alloc: Global, tokens: &[Lexeme]) -> Result<(Contents, &[Le
 }
 
 /// A section of an adapter type.
-#[tactic(auto, unfolding(crate::specs::Grammar::adapter_section, crate::specs::Grammar::data_section, fb_sections::specs::Interface::events, fb_sections::specs::Interface::data_variables))]
+#[tactic(auto, unfolding(crate::specs::Grammar::adapter_section, crate::specs::Grammar::data_section, crate::specs::Grammar::events, crate::specs::Grammar::data_variables))]
 pub fn adapter_section(alloc: Global, tokens: &[Lexeme]) -> Result<(Contents, &[Lexeme]), Stop<'_>>
     ensures { Gives contents_tree result (read adapter_section tokens.now) }
 {
@@ -177,7 +177,7 @@ fn subapplication_instances(
 }
 
 /// A section of an application.
-#[tactic(auto, unfolding(crate::specs::Grammar::application_section, crate::specs::Grammar::network_section, fb_sections::specs::Network::blocks, fb_sections::specs::Network::connections))]
+#[tactic(auto, unfolding(crate::specs::Grammar::application_section, crate::specs::Grammar::network_section, crate::specs::Grammar::blocks, crate::specs::Grammar::connections))]
 pub fn application_section(
     alloc: Global,
     tokens: &[Lexeme],
@@ -192,7 +192,7 @@ pub fn application_section(
 }
 
 /// A section of a subapplication type.
-#[tactic(auto, unfolding(crate::specs::Grammar::subapplication_section, crate::specs::Grammar::application_section, crate::specs::Grammar::interface_section, crate::specs::Grammar::data_section, fb_sections::specs::Interface::events, fb_sections::specs::Interface::data_variables, fb_sections::specs::Network::plugs, fb_sections::specs::Network::sockets, crate::specs::Grammar::network_section, fb_sections::specs::Network::blocks, fb_sections::specs::Network::connections, fb_sections::specs::Network::subapplications))]
+#[tactic(auto, unfolding(crate::specs::Grammar::subapplication_section, crate::specs::Grammar::application_section, crate::specs::Grammar::interface_section, crate::specs::Grammar::data_section, crate::specs::Grammar::events, crate::specs::Grammar::data_variables, crate::specs::Grammar::plugs, crate::specs::Grammar::sockets, crate::specs::Grammar::network_section, crate::specs::Grammar::blocks, crate::specs::Grammar::connections, crate::specs::Grammar::subapplications))]
 pub fn subapplication_section(
     alloc: Global,
     tokens: &[Lexeme],

@@ -1,17 +1,17 @@
 //! System configurations.
 
-ghost use Rattle.fb_sections.specs.Forms.Form.{as_value, many};
-ghost use Rattle.fb_sections.specs.Forms.Gives.{Gives};
-ghost use Rattle.fb_sections.specs.Forms.Reading.{read};
+ghost use Rattle.fb_structured_text.specs.Forms.Form.{as_value, many};
+ghost use Rattle.fb_structured_text.specs.Forms.Gives.{Gives};
+ghost use Rattle.fb_structured_text.specs.Forms.Reading.{read};
 ghost use Rattle.fb_parse.specs.Grammar.{system, system_section};
 ghost use Rattle.fb_parse.specs.SystemContents.{SystemContentsTree, of_application, of_device, of_mappings, system_contents_tree, system_joined, systems_merged};
 ghost use Rattle.fb_tree.specs.Tree.{application_tree, device_tree, mapping_tree, system_tree};
 ghost use Rattle.std.specs.Prelude.{◌≡◌, IfOk, map};
 
 use crate::units::application;
-use fb_sections::forms::{Reader, Stop, is_next, key, name, several};
-use fb_sections::lexemes::{Kind, Lexeme};
-use fb_sections::{device, mappings};
+use fb_structured_text::forms::{Reader, Stop, is_next, key, name, several};
+use fb_structured_text::lexemes::{Kind, Lexeme};
+use fb_structured_text::sections::{device, mappings};
 use fb_tree::{Application, Device, Mapping, System};
 use std::alloc::{AllocError, Global};
 
@@ -85,7 +85,7 @@ fn joined(alloc: Global, sections: Vec<SystemContents>) -> Result<SystemContents
 }
 
 /// An application, a device or mappings.
-#[tactic(auto, unfolding(crate::specs::Grammar::system_section, crate::specs::Grammar::application, fb_sections::specs::SystemParts::device))]
+#[tactic(auto, unfolding(crate::specs::Grammar::system_section, crate::specs::Grammar::application, crate::specs::Grammar::device))]
 fn system_section(alloc: Global, tokens: &[Lexeme]) -> Result<(SystemContents, &[Lexeme]), Stop<'_>>
     ensures { Gives system_contents_tree result (read system_section tokens.now) }
 {
@@ -124,7 +124,7 @@ impl Reader for SystemReader {
 }
 
 /// Sections of a system, as long as they come.
-#[tactic(auto, unfolding(crate::specs::Grammar::system_section, crate::specs::Grammar::application, fb_sections::specs::SystemParts::device, fb_sections::specs::SystemParts::mappings))]
+#[tactic(auto, unfolding(crate::specs::Grammar::system_section, crate::specs::Grammar::application, crate::specs::Grammar::device, crate::specs::Grammar::mappings))]
 fn sections(alloc: Global, tokens: &[Lexeme]) -> Result<(SystemContents, &[Lexeme]), Stop<'_>>
     ensures { Gives system_contents_tree result
         (read (as_value system_joined (many system_section)) tokens.now) }

@@ -1,7 +1,7 @@
 //! The declarations of units.
 
-ghost use Rattle.fb_sections.specs.Forms.Gives.{Gives};
-ghost use Rattle.fb_sections.specs.Forms.Reading.{read};
+ghost use Rattle.fb_structured_text.specs.Forms.Gives.{Gives};
+ghost use Rattle.fb_structured_text.specs.Forms.Reading.{read};
 ghost use Rattle.fb_parse.specs.Contents.{contents_tree};
 ghost use Rattle.fb_parse.specs.Grammar.{adapter, application, block, subapplication, type_of, unit};
 ghost use Rattle.fb_tree.specs.Tree.{application_tree, decl_tree, type_tree};
@@ -9,8 +9,8 @@ ghost use Rattle.std.specs.Prelude.{◌≡◌};
 
 use crate::frame::{Frame, Named, framed};
 use crate::system::system;
-use fb_sections::forms::{Stop, is_next};
-use fb_sections::lexemes::{Kind, Lexeme};
+use fb_structured_text::forms::{Stop, is_next};
+use fb_structured_text::lexemes::{Kind, Lexeme};
 use fb_tree::{Application, Decl, TypeDeclaration};
 use std::alloc::Global;
 

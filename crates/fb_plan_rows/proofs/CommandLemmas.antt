@@ -5,7 +5,7 @@ use Rattle.std.specs.List.{cons_option, filter_map}
 use Rattle.std.specs.Str.{bytes_eq}
 use Rattle.std.proofs.lemmas.List.{map-append}
 use Rattle.std.proofs.lemmas.List.Elements.{filter-append}
-use Rattle.fb_text.proofs.Members.{contains_cases, contains_here, contains_later, contains_nothing}
+use Rattle.fb_deploy.proofs.Text.Members.{contains_cases, contains_here, contains_later, contains_nothing}
 use Rattle.fb_deploy.specs.Network.declared.flat.Link.{Link}
 use Rattle.fb_deploy.specs.Mapping.Cuts.{same_home}
 use Rattle.fb_deploy.specs.Mapping.Fronts.{nearest}

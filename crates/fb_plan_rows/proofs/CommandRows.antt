@@ -5,8 +5,8 @@ use Rattle.std.specs.List.{filter_map, flat_map}
 use Rattle.std.specs.Str.{bytes_eq}
 use Rattle.std.proofs.lemmas.List.Elements.{Contains-append_cases}
 use Rattle.std.proofs.lemmas.List.Kept.{IsStrictlySortedBy-filter}
-use Rattle.fb_text.proofs.OrderLemmas.{in_order-members, in_order-sorted}
-use Rattle.fb_text.proofs.Members.{contains_cases, contains_filter, contains_flat_map, contains_here, contains_later, contains_map, contains_nothing, origin_in_flat_map, origin_in_map, passes_in_filter}
+use Rattle.fb_deploy.proofs.Text.OrderLemmas.{in_order-members, in_order-sorted}
+use Rattle.fb_deploy.proofs.Text.Members.{contains_cases, contains_filter, contains_flat_map, contains_here, contains_later, contains_map, contains_nothing, origin_in_flat_map, origin_in_map, passes_in_filter}
 use Rattle.fb_deploy.proofs.LineLemmas.{line_cmp-IsAntisymmetric}
 use Rattle.fb_deploy.specs.Tree.Tree.{ApplicationTree, DeclTree, ParameterTree}
 use Rattle.fb_deploy.specs.Library.View.{Sources, tree_at}

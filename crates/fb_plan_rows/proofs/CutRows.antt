@@ -5,7 +5,7 @@ use Rattle.std.specs.List.Sorted.{IsStrictlySortedBy}
 use Rattle.std.specs.Str.{bytes_eq}
 use Rattle.std.proofs.lemmas.Bool.{false≢true}
 use Rattle.std.proofs.lemmas.List.Kept.{IsStrictlySortedBy-filter}
-use Rattle.fb_text.proofs.Members.{contains_filter, passes_in_filter}
+use Rattle.fb_deploy.proofs.Text.Members.{contains_filter, passes_in_filter}
 use Rattle.fb_deploy.specs.Library.View.{Sources}
 use Rattle.fb_deploy.specs.Network.LinkOrder.{link_cmp}
 use Rattle.fb_deploy.specs.Network.declared.flat.Link.{Link}

@@ -3,10 +3,10 @@ use Rattle.std.proofs.Common.{ℕ, ◌≡◌, List, [], ◌∷◌, ◌++◌, Som
 use Rattle.std.specs.Prelude.{Contains}
 use Rattle.std.specs.BTreeMap.{is_at}
 use Rattle.std.proofs.lemmas.List.Elements.{Contains-append_left, Contains-append_right}
-use Rattle.fb_text.specs.Order.{name_cmp}
-use Rattle.fb_text.proofs.Members.{contains_cases, contains_flat_map, contains_here, contains_later, contains_map, contains_nothing, passes_in_find}
+use Rattle.fb_deploy.specs.Text.Order.{name_cmp}
+use Rattle.fb_deploy.proofs.Text.Members.{contains_cases, contains_flat_map, contains_here, contains_later, contains_map, contains_nothing, passes_in_find}
 use Rattle.fb_deploy.proofs.Compose.Equals.{same_bytes}
-use Rattle.fb_mapping.proofs.NameLemmas.{printed-push}
+use Rattle.fb_deploy.proofs.Mapping.NameLemmas.{printed-push}
 use Rattle.fb_deploy.specs.Library.View.{Sources}
 use Rattle.fb_deploy.specs.Tree.declared.network.Sort.{Sort}
 use Rattle.fb_deploy.specs.Network.declared.flat.FlatBlock.{FlatBlock}
@@ -25,9 +25,9 @@ use Rattle.fb_deploy.specs.Network.Printed.{printed}
 use Rattle.fb_deploy.specs.Flatten.Net.{HasFlat}
 use Rattle.fb_deploy.specs.Flatten.Units.{AreFlatApplications, IsUnitFlat, NoApplication, OfSubapplication, OfSystem, ThenApplication}
 use Rattle.fb_deploy.specs.Flatten.Wiring.declared.systems.Application.{Application}
-use Rattle.fb_compose.specs.Composed.{block_within}
-use Rattle.fb_compose.specs.SystemFlat.{IsSystemFlat, application_blocks}
-use Rattle.fb_compose.specs.declared.application.FlatApplication.{FlatApplication}
+use Rattle.fb_deploy.specs.Compose.Composed.{block_within}
+use Rattle.fb_deploy.specs.Compose.SystemFlat.{IsSystemFlat, application_blocks}
+use Rattle.fb_deploy.specs.Compose.declared.application.FlatApplication.{FlatApplication}
 use Rattle.fb_deploy.specs.Mapping.Fronts.{IsFront}
 
 -- ---- blocks at ports

@@ -5,8 +5,8 @@ use Rattle.std.specs.Option.{option_map_or}
 use Rattle.std.specs.List.{flat_map}
 use Rattle.std.specs.Str.{bytes_eq}
 use Rattle.std.proofs.lemmas.List.Elements.{Contains-append_left, Contains-append_right}
-use Rattle.fb_text.specs.declared.name.NameUse.{NameUse}
-use Rattle.fb_text.proofs.Members.{contains_flat_map, contains_here, contains_map, contains_nothing, origin_in_map, passes_in_find}
+use Rattle.fb_deploy.specs.Text.declared.name.NameUse.{NameUse}
+use Rattle.fb_deploy.proofs.Text.Members.{contains_flat_map, contains_here, contains_map, contains_nothing, origin_in_map, passes_in_find}
 use Rattle.fb_deploy.proofs.Iface.EarlierLemmas.{named_among}
 use Rattle.fb_deploy.proofs.Iface.NameLemmas.{same_exact}
 use Rattle.fb_deploy.proofs.Faults.OrderLemmas.{those_reported}

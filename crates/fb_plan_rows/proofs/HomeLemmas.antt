@@ -7,8 +7,8 @@ use Rattle.std.proofs.Math.Seq.{take-append_seam}
 use Rattle.std.proofs.lemmas.List.{take_all}
 use Rattle.std.proofs.lemmas.Slice.Eq.{bytes_eq-Decides}
 use native.Mathlib.Decide.{dec_lt}
-use Rattle.fb_text.proofs.Members.{contains_cases, contains_here, contains_later, contains_nothing}
-use Rattle.fb_mapping.proofs.NearestLemmas.{is_nearest}
+use Rattle.fb_deploy.proofs.Text.Members.{contains_cases, contains_here, contains_later, contains_nothing}
+use Rattle.fb_deploy.proofs.Mapping.NearestLemmas.{is_nearest}
 use Rattle.fb_deploy.specs.Network.declared.flat.FlatBlock.{FlatBlock}
 use Rattle.fb_deploy.specs.Mapping.Cuts.{home_at}
 use Rattle.fb_deploy.specs.Mapping.Firsts.{first_at}

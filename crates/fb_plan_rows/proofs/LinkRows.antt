@@ -3,7 +3,7 @@ use Rattle.std.proofs.Common.{ℕ, ◌≡◌, Bool, true, false, not, List, Opti
 use Rattle.std.specs.Prelude.{Contains}
 use Rattle.std.specs.Str.{bytes_eq}
 use Rattle.std.proofs.lemmas.Bool.{false≢true}
-use Rattle.fb_text.proofs.Members.{contains_filter, passes_in_filter}
+use Rattle.fb_deploy.proofs.Text.Members.{contains_filter, passes_in_filter}
 use Rattle.fb_deploy.specs.Library.View.{Sources}
 use Rattle.fb_deploy.specs.Network.declared.flat.Link.{Link}
 use Rattle.fb_deploy.specs.Network.PlainFlat.{PlainFlat}

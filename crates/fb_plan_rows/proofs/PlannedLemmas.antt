@@ -5,9 +5,9 @@ use Rattle.std.specs.List.Sorted.{IsStrictlySortedBy}
 use Rattle.std.specs.Cmp.Lexicographic.{nat_list_cmp_total}
 use Rattle.std.specs.FinMap.{nat_cmp-IsAntisymmetric, slice_cmp-IsAntisymmetric}
 use Rattle.std.proofs.lemmas.List.Elements.{Contains-append_left}
-use Rattle.fb_text.specs.Order.{name_cmp, names_in_order}
-use Rattle.fb_text.proofs.OrderLemmas.{in_order-members}
-use Rattle.fb_text.proofs.Members.{contains_filter, contains_map, contains_nothing}
+use Rattle.fb_deploy.specs.Text.Order.{name_cmp, names_in_order}
+use Rattle.fb_deploy.proofs.Text.OrderLemmas.{in_order-members}
+use Rattle.fb_deploy.proofs.Text.Members.{contains_filter, contains_map, contains_nothing}
 use Rattle.fb_deploy.proofs.Flatten.OneNet.{one_net_only}
 use Rattle.fb_deploy.proofs.ComputedPlans.{plan_at_is}
 use Rattle.fb_deploy.specs.Library.View.{Sources, tree_at}

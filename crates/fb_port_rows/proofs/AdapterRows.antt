@@ -1,6 +1,6 @@
 -- The plugs and sockets of a type, and its instances in other roles.
 use Rattle.std.proofs.Common.{◌≡◌, ◌↔◌, ℕ, ◌<◌, Bool, true, List, Some, refl, sym, ap, ◌∙◌, true≢false}
-use Rattle.fb_text.specs.declared.name.NameUse.{NameUse}
+use Rattle.fb_iface.specs.Text.declared.name.NameUse.{NameUse}
 use Rattle.fb_iface.specs.Tree.Tree.{InstanceTree, NetworkTree}
 use Rattle.fb_iface.specs.Tree.declared.network.Role.{Role}
 use Rattle.fb_iface.specs.Tree.declared.network.Role.TheVariants.{Plug, Socket, Block, Subapplication}

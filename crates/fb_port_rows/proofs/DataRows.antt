@@ -1,7 +1,7 @@
 -- The data inputs and outputs of a type.
 use Rattle.std.proofs.Common.{◌≡◌, ◌≢◌, ◌↔◌, ℕ, ◌<◌, Bool, true, List, Some, refl, sym, ap, ◌∙◌, subst, true≢false}
 use Rattle.std.specs.List.{slice_get}
-use Rattle.fb_text.specs.declared.name.NameUse.{NameUse}
+use Rattle.fb_iface.specs.Text.declared.name.NameUse.{NameUse}
 use Rattle.fb_iface.specs.Tree.Tree.{InterfaceTree, VariablesTree}
 use Rattle.fb_iface.specs.Tree.declared.interface.Section.{Section}
 use Rattle.fb_iface.specs.Tree.declared.interface.Section.TheVariants as sections
@@ -15,7 +15,7 @@ use Rattle.fb_iface.specs.Sides.{is_data_on}
 use Rattle.fb_port_rows.specs.Declared.{Cell, IsBefore, IsDataOn, IsFirstVariable, IsVariableIn, StandsAt, data_input, data_output, of_adapter, of_block, of_subapplication}
 use Rattle.fb_port_rows.specs.Rows.{AreExactly, ComeAsDeclared, DataAreDeclared, HaveOwnNames}
 use Rattle.fb_port_rows.proofs.FirstLemmas.{IsFirst, IsPort, NoneBefore, among_ports, first_stands, in_turn, is_port, once, ports, stands_first}
-use Rattle.fb_text.proofs.Members.{got_in_map, map_gets}
+use Rattle.fb_iface.proofs.Text.Members.{got_in_map, map_gets}
 use Rattle.fb_port_rows.proofs.RowLemmas.{IsAt, at_number, before_by_numbers, in_rows, number_of, numbers_in_turn}
 
 abbrev meaning_of : VariablesTree → DeclaredVariable

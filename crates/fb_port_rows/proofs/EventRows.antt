@@ -1,6 +1,6 @@
 -- The event inputs and outputs of a type.
 use Rattle.std.proofs.Common.{◌≡◌, ◌↔◌, ℕ, ◌<◌, Bool, true, List, Option, Some, refl, sym, ap, ◌∙◌, true≢false}
-use Rattle.fb_text.specs.declared.name.NameUse.{NameUse}
+use Rattle.fb_iface.specs.Text.declared.name.NameUse.{NameUse}
 use Rattle.fb_iface.specs.Tree.Tree.{EventTree, InterfaceTree}
 use Rattle.fb_iface.specs.Tree.declared.interface.Side.{Side}
 use Rattle.fb_iface.specs.Tree.declared.interface.Side.TheVariants as sides

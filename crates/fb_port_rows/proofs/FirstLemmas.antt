@@ -9,7 +9,7 @@ use Rattle.std.proofs.lemmas.Option.{slice_get_read}
 use Rattle.fb_iface.specs.Names.{first_ones, is_same, stands_for}
 use Rattle.fb_iface.proofs.NameLemmas.{same_exact, same_itself}
 use Rattle.fb_iface.proofs.EarlierLemmas.{at_place}
-use Rattle.fb_text.proofs.Members.{contains_filter, contains_map}
+use Rattle.fb_iface.proofs.Text.Members.{contains_filter, contains_map}
 use Rattle.fb_port_rows.proofs.PickLemmas.{IsPicked, picked, picked_in_turn}
 
 pub at_contained : {X : Type 0} (xs : List X) (x : X) (c : Contains xs x) → slice_get xs c.0 ≡ Some x

@@ -1,7 +1,7 @@
 -- Declarations of items in a row, each of one name.
 use Rattle.std.proofs.Common.{◌≡◌, ◌≢◌, ℕ, ◌<◌, List, [], ◌∷◌, map, Some, refl, ap, ◌∙◌}
 use Rattle.std.specs.List.{slice_get}
-use Rattle.fb_text.proofs.Members.{got_in_map, map_gets}
+use Rattle.fb_iface.proofs.Text.Members.{got_in_map, map_gets}
 use Rattle.fb_port_rows.proofs.FirstLemmas.{NoneBefore}
 
 module _ {X D : Type 0} (key : X → List ℕ) (meaning : X → D) where

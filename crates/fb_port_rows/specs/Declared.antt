@@ -1,6 +1,6 @@
 -- What a type declares first of its name, and at which place.
 use Rattle.std.specs.Prelude.{◌≡◌, ◌≢◌, ℕ, ◌<◌, List, Option, Some, slice_get}
-use Rattle.fb_text.specs.declared.name.NameUse.{NameUse}
+use Rattle.fb_iface.specs.Text.declared.name.NameUse.{NameUse}
 use Rattle.fb_iface.specs.Tree.Tree.{DeclTree, EventTree, InstanceTree, InterfaceTree, NetworkTree, TypeTree, VariablesTree, adapter_type, block_type, subapplication_type}
 use Rattle.fb_iface.specs.Tree.declared.interface.Section.{Section}
 use Rattle.fb_iface.specs.Tree.declared.interface.Section.TheVariants as sections

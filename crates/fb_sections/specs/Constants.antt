@@ -1,6 +1,6 @@
 -- The forms of types and constants.
 use Rattle.std.specs.Prelude.{List, [], ◌∷◌, Option, Some, None}
-use Rattle.fb_text.specs.declared.name.NameUse.{NameUse}
+use Rattle.fb_forms.specs.Text.declared.name.NameUse.{NameUse}
 use Rattle.fb_forms.specs.Lexemes.declared.kind.Kind.{Kind}
 use Rattle.fb_forms.specs.Lexemes.declared.kind.Kind.TheVariants.{Array, Of, Range, OpenBracket, CloseBracket, Plus, Minus, TypedTruth, TypedInteger, TypedBits, TypedFree, TypedOther, Text, True, False}
 use Rattle.fb_forms.specs.Lexemes.declared.lexeme.Lexeme.{Lexeme}

@@ -1,6 +1,6 @@
 -- The forms of events and variables.
 use Rattle.std.specs.Prelude.{List, Option}
-use Rattle.fb_text.specs.declared.name.NameUse.{NameUse}
+use Rattle.fb_forms.specs.Text.declared.name.NameUse.{NameUse}
 use Rattle.fb_forms.specs.Lexemes.declared.kind.Kind.TheVariants.{EventInput, EventOutput, EndEvent, VarInput, VarOutput, Var, EndVar, With, Colon, Semicolon, Assign}
 use Rattle.fb_forms.specs.Form.{Form, both, either, option, as_value}
 use Rattle.fb_forms.specs.Words.{key, before, behind, optional_list, name, names}

@@ -1,6 +1,6 @@
 -- What sections have in common.
 use Rattle.std.specs.Prelude.{List, [], ◌∷◌, length, Option}
-use Rattle.fb_text.specs.declared.name.NameUse.{NameUse}
+use Rattle.fb_forms.specs.Text.declared.name.NameUse.{NameUse}
 use Rattle.fb_forms.specs.Lexemes.Kind.{name_kinds}
 use Rattle.fb_forms.specs.Lexemes.declared.kind.Kind.{Kind}
 use Rattle.fb_forms.specs.Lexemes.declared.lexeme.Lexeme.{Lexeme}

@@ -1,6 +1,6 @@
 -- The forms of mappings, resources and devices.
 use Rattle.std.specs.Prelude.{List, map}
-use Rattle.fb_text.specs.declared.name.NameUse.{NameUse}
+use Rattle.fb_forms.specs.Text.declared.name.NameUse.{NameUse}
 use Rattle.fb_forms.specs.Lexemes.declared.kind.Kind.TheVariants.{Mappings, EndMappings, Resource, EndResource, Device, EndDevice, NameOn, Colon, Semicolon, Point}
 use Rattle.fb_forms.specs.Lexemes.Lexemes.{name_use}
 use Rattle.fb_forms.specs.Form.{Form, both, option, many, as_value}

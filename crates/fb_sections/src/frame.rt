@@ -7,8 +7,8 @@ ghost use Rattle.fb_sections.specs.Sections.{optional_name, read_section};
 ghost use Rattle.std.specs.Prelude.{◌≡◌, map, option_map};
 
 use fb_forms::lexemes::{Kind, Lexeme};
+use fb_forms::text::NameUse;
 use fb_forms::{NAMES, Reader, Stop, is_next, key, name, several};
-use fb_text::NameUse;
 use std::alloc::Global;
 
 /// A token of this kind and a name, where the token is there.

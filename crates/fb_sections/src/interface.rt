@@ -9,9 +9,9 @@ ghost use Rattle.std.specs.Prelude.{◌≡◌, map, option_map};
 use crate::constants::{constant, type_use};
 use crate::frame::{name_in, optional_name, section};
 use fb_forms::lexemes::{Kind, Lexeme};
+use fb_forms::text::NameUse;
 use fb_forms::tree::{Constant, Event, Section, Side, Variables};
 use fb_forms::{Reader, Stop, is_next, key, name, names};
-use fb_text::NameUse;
 use std::alloc::Global;
 
 /// The names behind WITH, where it is written.

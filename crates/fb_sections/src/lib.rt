@@ -25,7 +25,8 @@ pub use system_parts::{device, mappings};
 /// Of `fb_forms`, for the crates above.
 pub mod forms {
     pub use fb_forms::{
-        NAMES, NameReader, Reader, Stop, is_next, key, name, names, one_of, separated, several,
+        NAMES, NUMBERS, NameReader, Reader, Stop, across, is_next, key, literal_use, name, names,
+        one_of, separated, several,
     };
 }
 

@@ -10,9 +10,9 @@ ghost use Rattle.std.specs.Prelude.{◌≡◌, Ok, map};
 use crate::frame::section;
 use crate::instances::optional_parameters;
 use fb_forms::lexemes::{Kind, Lexeme};
+use fb_forms::text::NameUse;
 use fb_forms::tree::{Device, Mapping, Parameter, Resource};
 use fb_forms::{NameReader, Reader, Stop, key, name, separated, several};
-use fb_text::NameUse;
 use std::alloc::Global;
 
 /// Names with points between them.

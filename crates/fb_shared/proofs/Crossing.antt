@@ -43,7 +43,7 @@ use Rattle.fb_locked.specs.Bench.History.contracts.record.Record as Record
 use Rattle.fb_locked.specs.contracts.seat.Receipt as Receipt
 use Rattle.fb_locked.specs.contracts.seat.Seat as Seat
 use Rattle.fb_locked.specs.Bench.Library.contracts.library.Library as Library
-use Rattle.fb_index.specs.contracts.index.Index as Index
+use Rattle.fb_locked.specs.Index.contracts.index.Index as Index
 use Rattle.fb_locked.specs.Bench.contracts.bench.Bench as Bench
 use Rattle.fb_locked.specs.contracts.locked.Locked as Locked
 use Rattle.fb_shared.specs.contracts.shared.Shared as Shared

@@ -3,8 +3,8 @@ use Rattle.std.proofs.Common.{◌≡◌, ℕ, ◌+◌, ◌-◌, ◌≤◌, List,
 use Rattle.std.specs.Prelude.{slice_range}
 use Rattle.std.proofs.lemmas.List.{drop-drop, drop-take, take-take}
 use Rattle.std.proofs.lemmas.List.Elements.{All-weaker}
-use Rattle.fb_text.specs.Tokens.{tokens_of}
-use Rattle.fb_text.specs.declared.token.Token.{Token}
+use Rattle.fb_parse.specs.Text.Tokens.{tokens_of}
+use Rattle.fb_parse.specs.Text.declared.token.Token.{Token}
 use Rattle.fb_parse.specs.Lexemes.Lexemes.{kind_of, lexeme_of, lexemes_in, lexemes_of, spelled_name}
 use Rattle.fb_parse.specs.Lexemes.declared.lexeme.Lexeme.{Lexeme}
 use Rattle.fb_spans.specs.Parts.{Part, tree_parts}

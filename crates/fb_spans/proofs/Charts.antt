@@ -1,7 +1,7 @@
 -- The parts of transitions and algorithms.
 use Rattle.std.proofs.Common.{arith, ◌≡◌, true, List, [], ◌∷◌, ◌++◌, Option, Some, None}
 use Rattle.std.specs.List.{flat_map}
-use Rattle.fb_text.specs.declared.name.NameUse.{NameUse}
+use Rattle.fb_parse.specs.Text.declared.name.NameUse.{NameUse}
 use Rattle.fb_parse.specs.Forms.Words.{name}
 use Rattle.fb_parse.specs.Chart.{bracketed, joined_test, optional_test, on_event_with, event_condition, condition, transition, transitions, structured_text, other_language, algorithm_body, algorithm}
 use Rattle.fb_parse.specs.Lexemes.Kind.{is_among, name_kinds}
@@ -11,8 +11,8 @@ use Rattle.fb_parse.specs.Sections.Network.{end}
 use Rattle.fb_parse.specs.Tree.Expression.{Expression}
 use Rattle.fb_parse.specs.Tree.Statement.{Statement}
 use Rattle.fb_parse.specs.Tree.declared.network.End.{End}
-use Rattle.fb_structured_text.specs.Expression.{levels}
-use Rattle.fb_structured_text.specs.Statement.{statement}
+use Rattle.fb_parse.specs.StructuredText.Expression.{levels}
+use Rattle.fb_parse.specs.StructuredText.Statement.{statement}
 use Rattle.fb_spans.specs.Parts.{Part, name_part, name_parts, option_parts, end_parts, expression_parts, statement_parts, condition_parts, transition_parts, algorithm_parts}
 use Rattle.fb_spans.proofs.Tokens.{Each, each_front}
 use Rattle.fb_spans.proofs.Sound.{Sound, sound_nothing, sound_both, sound_as, sound_either, sound_option, sound_many, sound_behind, sound_before, sound_section, sound_mark, among_more, among_right, sound_name, sound_name_of, sound_same}

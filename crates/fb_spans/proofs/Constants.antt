@@ -9,7 +9,7 @@ use Rattle.fb_parse.specs.Lexemes.declared.kind.Kind.{Kind}
 use Rattle.fb_parse.specs.Lexemes.declared.lexeme.Lexeme.{Lexeme}
 use Rattle.fb_parse.specs.Sections.Constants.{number_with, number, other_literal_kinds, simple, in_brackets, constant_list, constant}
 use Rattle.fb_parse.specs.Tree.declared.constant.Literal.{Literal}
-use Rattle.fb_text.specs.declared.name.NameUse.{NameUse}
+use Rattle.fb_parse.specs.Text.declared.name.NameUse.{NameUse}
 use Rattle.fb_spans.specs.Parts.{constant_part, tree_parts}
 use Rattle.fb_spans.specs.Written.{constant_span}
 use Rattle.fb_spans.specs.Alone.{nearer, nearer_span, nearer_simple, nearer_constant, ReadsAlone}

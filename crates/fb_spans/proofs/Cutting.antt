@@ -4,17 +4,17 @@ use Rattle.std.specs.Prelude.{slice_range}
 use Rattle.std.proofs.Math.Seq.{drop-append-add}
 use Rattle.std.specs.Str.{continuation_len}
 use Rattle.std.proofs.lemmas.List.{drop-append-le, drop-drop, nil_from_length, take-append-le}
-use Rattle.fb_text.specs.Bytes.{is_blank, first}
-use Rattle.fb_text.specs.Forms.{form_of, is_number, is_typed, is_string, is_symbol}
-use Rattle.fb_text.specs.Bytes.{is_word_start}
-use Rattle.fb_text.specs.Words.{is_word}
-use Rattle.fb_text.specs.Reads.{AtBlank, AtComment, AtEnd, AtLineComment, AtOpenComment, AtOther, AtToken, BeginsToken, EndsLine, HasNoForm, IsFirstClose, Reads, token_of}
-use Rattle.fb_text.specs.Tokens.{IsLongest, char_len, tokens_of, with_token}
-use Rattle.fb_text.proofs.Relation.{reads-one, reads-tokens}
-use Rattle.fb_text.specs.declared.token.Span.{Span}
-use Rattle.fb_text.specs.declared.token.Token.{Token}
-use Rattle.fb_text.specs.declared.token.TokenKind.{TokenKind}
-use Rattle.fb_text.specs.declared.token.TokenKind.TheVariants.{Other}
+use Rattle.fb_parse.specs.Text.Bytes.{is_blank, first}
+use Rattle.fb_parse.specs.Text.Forms.{form_of, is_number, is_typed, is_string, is_symbol}
+use Rattle.fb_parse.specs.Text.Bytes.{is_word_start}
+use Rattle.fb_parse.specs.Text.Words.{is_word}
+use Rattle.fb_parse.specs.Text.Reads.{AtBlank, AtComment, AtEnd, AtLineComment, AtOpenComment, AtOther, AtToken, BeginsToken, EndsLine, HasNoForm, IsFirstClose, Reads, token_of}
+use Rattle.fb_parse.specs.Text.Tokens.{IsLongest, char_len, tokens_of, with_token}
+use Rattle.fb_parse.proofs.Text.Relation.{reads-one, reads-tokens}
+use Rattle.fb_parse.specs.Text.declared.token.Span.{Span}
+use Rattle.fb_parse.specs.Text.declared.token.Token.{Token}
+use Rattle.fb_parse.specs.Text.declared.token.TokenKind.{TokenKind}
+use Rattle.fb_parse.specs.Text.declared.token.TokenKind.TheVariants.{Other}
 
 -- Tokens one behind the other
 

@@ -2,8 +2,8 @@
 use Rattle.std.proofs.Common.{◌≡◌, ℕ, ◌≤◌, arith, zero, suc, true, inl, inr, List, [], ◌∷◌, ◌++◌, Option, Some, None, refl, sym, ap, ◌∙◌, subst, append_assoc}
 use Rattle.std.specs.List.{flat_map}
 use Rattle.std.proofs.lemmas.List.{append-nil}
-use Rattle.fb_text.specs.declared.name.NameUse.{NameUse}
-use Rattle.fb_text.specs.declared.token.Span.{Span}
+use Rattle.fb_parse.specs.Text.declared.name.NameUse.{NameUse}
+use Rattle.fb_parse.specs.Text.declared.token.Span.{Span}
 use Rattle.fb_parse.specs.Forms.Form.{Form, both, either, many, as_value, Spells, SpellsOption, SpellsEach}
 use Rattle.fb_parse.specs.Forms.Literals.{across, literal_kinds}
 use Rattle.fb_parse.specs.Forms.Words.{key, name}
@@ -13,8 +13,8 @@ use Rattle.fb_parse.specs.Lexemes.declared.lexeme.Lexeme.{Lexeme}
 use Rattle.fb_parse.specs.Tree.Expression.{ReferenceTree, Expression, reference_expression, unary_expression, Expressions, expressions_of, operands_of}
 use Rattle.fb_parse.specs.Tree.declared.expression.BinaryUse.{BinaryUse}
 use Rattle.fb_parse.specs.Tree.declared.expression.UnaryUse.{UnaryUse}
-use Rattle.fb_structured_text.specs.Operators.{signs, strengths, unary_use, binary_use}
-use Rattle.fb_structured_text.specs.Expression.{levels, expression, variable_of, member_name, variable, expressions, subscripts, plain, subscripted, flat_reference, deep_reference, reference_value, literal, in_parentheses, parenthesized, flat_primary, deep_primary, with_sign, unary, row_of, operand, row, rows, reference}
+use Rattle.fb_parse.specs.StructuredText.Operators.{signs, strengths, unary_use, binary_use}
+use Rattle.fb_parse.specs.StructuredText.Expression.{levels, expression, variable_of, member_name, variable, expressions, subscripts, plain, subscripted, flat_reference, deep_reference, reference_value, literal, in_parentheses, parenthesized, flat_primary, deep_primary, with_sign, unary, row_of, operand, row, rows, reference}
 use Rattle.fb_spans.specs.Parts.{Part, expression_part, sign_part, operator_part, name_parts, option_parts, reference_parts, expression_parts, expressions_parts, operands_parts}
 use Rattle.fb_spans.specs.Written.{expression_span, span_through, SpellsPart, EndsAt, IsWritten, sign, operator}
 use Rattle.fb_spans.proofs.Tokens.{Fills, begins_more, ends_more, written_whole, Each, each_append, each_front, each_rest, each_left, each_right}

@@ -1,7 +1,7 @@
 -- Values that keep where the tokens stand that spell them.
 use Rattle.std.proofs.Common.{◌≡◌, inl, inr, List, [], ◌∷◌, ◌++◌, Option, Some, None, refl, sym, subst, ◌∙◌}
 use Rattle.std.proofs.lemmas.List.{append-nil}
-use Rattle.fb_text.specs.declared.token.Span.{Span}
+use Rattle.fb_parse.specs.Text.declared.token.Span.{Span}
 use Rattle.fb_parse.specs.Forms.Form.{Form, one, both, either, option, as_value, Spells, SpellsOption}
 use Rattle.fb_parse.specs.Forms.Literals.{across}
 use Rattle.fb_parse.specs.Forms.Words.{behind, name}

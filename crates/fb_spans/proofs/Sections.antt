@@ -1,7 +1,7 @@
 -- The parts of constants, types, interfaces, networks, states and parts of systems.
 use Rattle.std.proofs.Common.{inl, inr, refl, List, ◌∷◌, ◌++◌, map, Option, Some, None}
 use Rattle.std.specs.List.{flat_map}
-use Rattle.fb_text.specs.declared.name.NameUse.{NameUse}
+use Rattle.fb_parse.specs.Text.declared.name.NameUse.{NameUse}
 use Rattle.fb_parse.specs.Forms.Form.{one}
 use Rattle.fb_parse.specs.Forms.Words.{key, behind, list, name, names}
 use Rattle.fb_parse.specs.Lexemes.declared.kind.Kind.TheVariants.{OpenBracket, CloseBracket, Of}

@@ -3,7 +3,7 @@ use Rattle.std.proofs.Common.{refl, ◌≡◌, inl, inr, List, [], ◌∷◌, �
 use Rattle.std.specs.Prelude.{Bool, true, false, ◌||◌}
 use Rattle.std.specs.List.{flat_map}
 use Rattle.std.proofs.lemmas.Bool.{or_right}
-use Rattle.fb_text.specs.declared.name.NameUse.{NameUse}
+use Rattle.fb_parse.specs.Text.declared.name.NameUse.{NameUse}
 use Rattle.fb_parse.specs.Forms.Form.{Form, one, both, either, option, many, as_value, Spells, SpellsOption, SpellsEach}
 use Rattle.fb_parse.specs.Forms.Words.{key, before, behind, or_none, optional_list, cons, separated, name, names}
 use Rattle.fb_parse.specs.Lexemes.Kind.{is_among, name_kinds, same_kind}

@@ -4,19 +4,19 @@ use Rattle.std.specs.Prelude.{All, Contains, IsOk, nat_lt, slice_index_or, slice
 use Rattle.std.specs.Str.{IsCharBoundary, str_to_ascii_uppercase}
 use Rattle.std.proofs.lemmas.List.{map-append}
 use Rattle.std.proofs.lemmas.List.Elements.{Contains-append_left, All-contains, All-from_recursion, All-map, All-weaker, Contains-append_right}
-use Rattle.fb_text.specs.Name.{name_of}
-use Rattle.fb_text.specs.Tokens.{tokens_of, spans_of, IsSpelled, LiesIn, SpansRise}
-use Rattle.fb_text.specs.Forms.{HasForm}
-use Rattle.fb_text.specs.Words.{is_word, word_len}
-use Rattle.fb_text.specs.declared.name.NameFault.{NameFault}
-use Rattle.fb_text.specs.declared.name.NameFault.TheVariants.{Empty, BadByte, TooLong}
-use Rattle.fb_text.specs.declared.name.NameUse.{NameUse}
-use Rattle.fb_text.specs.declared.token.Span.{Span}
-use Rattle.fb_text.specs.declared.token.Token.{Token}
-use Rattle.fb_text.specs.declared.token.TokenKind.{TokenKind}
-use Rattle.fb_text.specs.declared.token.TokenKind.TheVariants.{Word}
-use Rattle.fb_text.proofs.NameLemmas.{name_of-ok}
-use Rattle.fb_lexemes.proofs.NameWords.{names as names_are_words}
+use Rattle.fb_parse.specs.Text.Name.{name_of}
+use Rattle.fb_parse.specs.Text.Tokens.{tokens_of, spans_of, IsSpelled, LiesIn, SpansRise}
+use Rattle.fb_parse.specs.Text.Forms.{HasForm}
+use Rattle.fb_parse.specs.Text.Words.{is_word, word_len}
+use Rattle.fb_parse.specs.Text.declared.name.NameFault.{NameFault}
+use Rattle.fb_parse.specs.Text.declared.name.NameFault.TheVariants.{Empty, BadByte, TooLong}
+use Rattle.fb_parse.specs.Text.declared.name.NameUse.{NameUse}
+use Rattle.fb_parse.specs.Text.declared.token.Span.{Span}
+use Rattle.fb_parse.specs.Text.declared.token.Token.{Token}
+use Rattle.fb_parse.specs.Text.declared.token.TokenKind.{TokenKind}
+use Rattle.fb_parse.specs.Text.declared.token.TokenKind.TheVariants.{Word}
+use Rattle.fb_parse.proofs.Text.NameLemmas.{name_of-ok}
+use Rattle.fb_parse.proofs.Lexemes.NameWords.{names as names_are_words}
 use Rattle.fb_parse.specs.Body.{IsBody, IsBodyIn, body_of, Whole}
 use Rattle.fb_parse.specs.Forms.Words.{name as name_form}
 use Rattle.fb_parse.specs.Forms.Form.{Spells}

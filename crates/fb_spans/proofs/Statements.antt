@@ -7,8 +7,8 @@ use Rattle.fb_parse.specs.Lexemes.declared.kind.Kind.{Kind}
 use Rattle.fb_parse.specs.Lexemes.declared.kind.Kind.TheVariants.{Assign}
 use Rattle.fb_parse.specs.Tree.Expression.{Expression, reference_expression}
 use Rattle.fb_parse.specs.Tree.Statement.{Statement, statements_of, arms_of}
-use Rattle.fb_structured_text.specs.Expression.{levels, expression, reference}
-use Rattle.fb_structured_text.specs.Statement.{statement, simple_statement, assignment_statement, enclosed, announced, otherwise, arm, arms, if_statement, case, cases, case_statement, for_statement, while_statement, repeat_statement, nested_statement}
+use Rattle.fb_parse.specs.StructuredText.Expression.{levels, expression, reference}
+use Rattle.fb_parse.specs.StructuredText.Statement.{statement, simple_statement, assignment_statement, enclosed, announced, otherwise, arm, arms, if_statement, case, cases, case_statement, for_statement, while_statement, repeat_statement, nested_statement}
 use Rattle.fb_spans.specs.Parts.{Part, mark_part, name_parts, option_parts, expression_parts, statement_parts, statements_parts, arms_parts, mark_part}
 use Rattle.fb_spans.proofs.Tokens.{Each, each_append, each_front, each_rest}
 use Rattle.fb_spans.proofs.Sound.{Sound, sound_nothing, sound_both, sound_as, sound_either, sound_option, sound_many, sound_behind, sound_before, sound_optional_list, sound_section, sound_mark, sound_name, sound_same, each_items}

@@ -2,7 +2,7 @@
 use Rattle.std.proofs.Common.{ℕ, List, [], ◌∷◌, ◌++◌, sym, ap, ◌∙◌, append_assoc}
 use Rattle.std.specs.List.{AllByRecursion}
 use Rattle.std.proofs.lemmas.List.{append-nil}
-use Rattle.fb_text.specs.declared.token.Span.{Span}
+use Rattle.fb_parse.specs.Text.declared.token.Span.{Span}
 use Rattle.fb_parse.specs.Lexemes.declared.lexeme.Lexeme.{Lexeme}
 use Rattle.fb_spans.specs.Parts.{Part}
 use Rattle.fb_spans.specs.Written.{part_span, BeginsAt, EndsAt, SpellsPart, IsWritten}

@@ -1,7 +1,7 @@
 -- The parts of sections that are joined, and of units.
 use Rattle.std.proofs.Common.{List, [], ◌∷◌, ◌++◌}
 use Rattle.std.specs.List.{flat_map}
-use Rattle.fb_text.specs.declared.name.NameUse.{NameUse}
+use Rattle.fb_parse.specs.Text.declared.name.NameUse.{NameUse}
 use Rattle.fb_parse.specs.Contents.{ContentsTree, of_events, of_variables, of_adapters, of_instances, of_connections, of_states, of_transitions, of_algorithm, interfaces_merged, networks_merged, charts_merged, merged, joined}
 use Rattle.fb_parse.specs.Forms.Form.{Form, many}
 use Rattle.fb_parse.specs.Forms.Words.{name}

@@ -1,6 +1,6 @@
 -- Parts of a tree that are cut out of the text.
 use Rattle.std.specs.Prelude.{◌≡◌, ℕ, ◌-◌, List, map, slice_range, Ok}
-use Rattle.fb_text.specs.declared.token.Span.{Span}
+use Rattle.fb_parse.specs.Text.declared.token.Span.{Span}
 use Rattle.fb_parse.specs.Forms.Form.{Spells}
 use Rattle.fb_parse.specs.Lexemes.Lexemes.{lexemes_of}
 use Rattle.fb_parse.specs.Lexemes.declared.lexeme.Lexeme.{Lexeme}

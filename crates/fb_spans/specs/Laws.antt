@@ -1,8 +1,8 @@
 -- The laws of the parts of trees that keep where they stand.
 use Rattle.std.specs.Prelude.{◌≡◌, ℕ, ◌<◌, List, All, Contains, Ok, IsUtf8}
-use Rattle.fb_text.specs.Tokens.{tokens_of, spans_of, LiesIn}
-use Rattle.fb_text.specs.declared.name.NameUse.{NameUse}
-use Rattle.fb_text.specs.declared.token.Token.{Token}
+use Rattle.fb_parse.specs.Text.Tokens.{tokens_of, spans_of, LiesIn}
+use Rattle.fb_parse.specs.Text.declared.name.NameUse.{NameUse}
+use Rattle.fb_parse.specs.Text.declared.token.Token.{Token}
 use Rattle.fb_parse.specs.Body.{body_of, Whole}
 use Rattle.fb_parse.specs.Lexemes.Lexemes.{lexemes_of}
 use Rattle.fb_parse.specs.Lexemes.declared.lexeme.Lexeme.{Lexeme}

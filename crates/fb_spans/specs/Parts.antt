@@ -1,8 +1,8 @@
 -- The parts of a tree that keep where they stand in the text.
 use Rattle.std.specs.Prelude.{List, [], ◌∷◌, ◌++◌, map, Option, Some, None}
 use Rattle.std.specs.List.{flat_map}
-use Rattle.fb_text.specs.declared.name.NameUse.{NameUse}
-use Rattle.fb_text.specs.declared.token.Span.{Span}
+use Rattle.fb_parse.specs.Text.declared.name.NameUse.{NameUse}
+use Rattle.fb_parse.specs.Text.declared.token.Span.{Span}
 use Rattle.fb_parse.specs.Lexemes.declared.kind.Kind.{Kind}
 use Rattle.fb_parse.specs.Lexemes.declared.kind.Kind.TheVariants.{Assign, One}
 use Rattle.fb_parse.specs.Tree.Expression.{ReferenceTree, Expression, literal_expression, reference_expression, unary_expression, row_expression, parentheses, Expressions, no_expressions, expression_then, Operands, no_operands, operand_then}

@@ -1,7 +1,7 @@
 -- What the tokens within the span of a part spell.
 use Rattle.std.specs.Prelude.{◌≡◌, ℕ, ◌≤◌, List, [], ◌∷◌, ◌++◌}
 use Rattle.std.specs.List.{flat_map}
-use Rattle.fb_text.specs.declared.token.Span.{Span}
+use Rattle.fb_parse.specs.Text.declared.token.Span.{Span}
 use Rattle.fb_parse.specs.Forms.Form.{Form, one, as_value, Spells}
 use Rattle.fb_parse.specs.Forms.Literals.{across}
 use Rattle.fb_parse.specs.Forms.Words.{key, name}
@@ -14,8 +14,8 @@ use Rattle.fb_parse.specs.Tree.declared.constant.Simple.{Simple}
 use Rattle.fb_parse.specs.Tree.declared.constant.Simple.TheVariants as simple
 use Rattle.fb_parse.specs.Tree.declared.expression.BinaryUse.{BinaryUse}
 use Rattle.fb_parse.specs.Tree.declared.expression.UnaryUse.{UnaryUse}
-use Rattle.fb_structured_text.specs.Expression.{levels, expression}
-use Rattle.fb_structured_text.specs.Operators.{signs, strengths, unary_use, binary_use}
+use Rattle.fb_parse.specs.StructuredText.Expression.{levels, expression}
+use Rattle.fb_parse.specs.StructuredText.Operators.{signs, strengths, unary_use, binary_use}
 use Rattle.fb_spans.specs.Parts.{Part, name_part, constant_part, type_part, expression_part, sign_part, operator_part, mark_part}
 
 -- Where a part stands

@@ -1,8 +1,8 @@
 //! Reading expressions.
-ghost use Rattle.fb_forms.specs.Form.{as_value, many};
-ghost use Rattle.fb_forms.specs.Gives.{Gives, GivesEach};
-ghost use Rattle.fb_forms.specs.Reading.{read};
-ghost use Rattle.fb_forms.specs.Words.{further};
+ghost use Rattle.fb_sections.specs.Forms.Form.{as_value, many};
+ghost use Rattle.fb_sections.specs.Forms.Gives.{Gives, GivesEach};
+ghost use Rattle.fb_sections.specs.Forms.Reading.{read};
+ghost use Rattle.fb_sections.specs.Forms.Words.{further};
 ghost use Rattle.fb_structured_text.specs.Expression.{
   deep_primary,
   deep_reference,
@@ -25,8 +25,8 @@ ghost use Rattle.std.specs.Prelude.{◌≡◌, ◌≤◌, ◌<◌, map};
 
 use crate::operators::{SIGNS, is_literal, literal, next_strength, operator, operators, sign};
 use crate::references::{flat_reference, member_name, variable};
-use fb_forms::lexemes::{Kind, Lexeme};
-use fb_forms::{NAMES, Stop, across, is_next, key};
+use fb_sections::forms::{NAMES, Stop, across, is_next, key};
+use fb_sections::lexemes::{Kind, Lexeme};
 use fb_tree::{BinaryUse, Expr, Reference};
 use std::alloc::Global;
 

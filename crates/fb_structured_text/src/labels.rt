@@ -1,12 +1,12 @@
 //! Labels of `CASE`, which are read and not kept.
-ghost use Rattle.fb_forms.specs.Gives.{Passes};
-ghost use Rattle.fb_forms.specs.Reading.{first, is_next, read};
-ghost use Rattle.fb_forms.specs.Words.{further};
+ghost use Rattle.fb_sections.specs.Forms.Gives.{Passes};
+ghost use Rattle.fb_sections.specs.Forms.Reading.{first, is_next, read};
+ghost use Rattle.fb_sections.specs.Forms.Words.{further};
 ghost use Rattle.fb_structured_text.specs.Statement.{int, label, labels};
 ghost use Rattle.std.specs.Prelude.{◌≡◌};
 
-use fb_forms::lexemes::{Kind, Lexeme};
-use fb_forms::{NUMBERS, Stop, is_next, key, one_of};
+use fb_sections::forms::{NUMBERS, Stop, is_next, key, one_of};
+use fb_sections::lexemes::{Kind, Lexeme};
 
 const PLUS_OR_MINUS: [Kind; 2] = [Kind::Plus, Kind::Minus];
 

@@ -9,3 +9,5 @@ pub mod Searches
 pub mod SeenLemmas
 pub mod Tables
 pub mod OnShelves
+-- Passed on to the crates above, which do not list these libraries.
+pub use Rattle.fb_text.proofs as Text

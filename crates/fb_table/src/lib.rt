@@ -8,3 +8,8 @@ mod walk;
 
 pub use table::Table;
 pub use walk::{names_of, open_new};
+
+/// Of `fb_text`, for the crates above.
+pub mod text {
+    pub use fb_text::{Name, same_name, sorted_names};
+}

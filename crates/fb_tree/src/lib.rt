@@ -27,3 +27,11 @@ pub use network::{Connection, End, Instance, Network, Parameter, Role, Sort};
 pub use reference::{Reference, ReferenceNames};
 pub use statement::{Counting, Stmt};
 pub use system::{Application, Device, Mapping, Resource, System};
+
+/// Of `fb_text`, for the crates above.
+pub mod text {
+    pub use fb_text::{
+        Name, NameFault, NameUse, Span, Token, TokenFault, TokenKind, TypeClass, same_name,
+        same_word, sorted_names, sorted_once, tokens, type_class,
+    };
+}

@@ -2,8 +2,8 @@
 use Rattle.std.proofs.Common.{◌≡◌, ℕ, Bool, ◌&&◌, List, ◌++◌, filter, not, Option, Some, None, ◌⊎◌, inl, inr, refl, sym, subst}
 use Rattle.std.specs.List.{Contains, flat_map}
 use Rattle.std.proofs.lemmas.List.Elements.{Contains-append_cases}
-use Rattle.fb_text.specs.declared.name.NameUse.{NameUse}
-use Rattle.fb_text.specs.declared.token.Span.{Span}
+use Rattle.fb_faults.specs.Text.declared.name.NameUse.{NameUse}
+use Rattle.fb_faults.specs.Text.declared.token.Span.{Span}
 use Rattle.fb_faults.specs.Tree.Tree.{ChartTree, DeclTree, InstanceTree, InterfaceTree, StateTree, SystemTree, TransitionTree, TypeTree, block_type, adapter_type, subapplication_type, system_configuration}
 use Rattle.fb_faults.specs.Tree.declared.interface.Side.{Side}
 use Rattle.fb_faults.specs.Tree.declared.interface.Side.TheVariants.{Input, Output}
@@ -31,8 +31,8 @@ use Rattle.fb_faults.specs.Ecc.declared.events.EventTarget.{EventTarget}
 use Rattle.fb_faults.specs.Ecc.declared.events.EventTarget.TheVariants as targets
 use Rattle.fb_faults.specs.Ecc.States.{transition_faults, state_fault, state_faults, state_names}
 use Rattle.fb_faults.specs.Mappings.{declared_mapping_faults}
-use Rattle.fb_text.proofs.Members.{contains_nothing, contains_single, in_unless, in_written, origin_in_flat_map, origin_in_map}
-use Rattle.fb_expr.proofs.DemandLemmas.{faults_unmet}
+use Rattle.fb_faults.proofs.Text.Members.{contains_nothing, contains_single, in_unless, in_written, origin_in_flat_map, origin_in_map}
+use Rattle.fb_faults.proofs.Expr.DemandLemmas.{faults_unmet}
 use Rattle.fb_network_rows.specs.Rows.{IsCodeOfNetworks, of_unknown_ports, of_wrong_sides, of_other_types, of_second_sources, of_second_adapters, of_passages, of_unknown_parameters, of_misfits}
 use Rattle.fb_faults.proofs.Iface.RowLemmas.{misfit_origin}
 use Rattle.fb_network_rows.proofs.NetworkLemmas.{in_where, no_other}

@@ -9,7 +9,7 @@ use Rattle.fb_faults.specs.Iface.declared.code.Code.TheVariants.{MappedTwice, No
 use Rattle.fb_faults.specs.Iface.declared.fault.Fault.{Fault}
 use Rattle.fb_faults.specs.Mappings.{declared_mapping_faults, has_resource, home_faults, home_span, resource_faults, second_mappings, system_mapping_faults}
 use Rattle.fb_faults.specs.Netcheck.Paths.{PathUse, fault_at_path, path_of_names, repeated}
-use Rattle.fb_text.proofs.Members.{contains_nothing, contains_single, origin_in_flat_map, origin_in_map}
+use Rattle.fb_faults.proofs.Text.Members.{contains_nothing, contains_single, origin_in_flat_map, origin_in_map}
 use Rattle.fb_unit_rows.specs.Rows.{IsSystemAt}
 
 -- the system whose mappings have a fault

@@ -4,7 +4,7 @@ use Rattle.std.specs.List.{Contains}
 use Rattle.std.specs.FinMap.{get}
 use Rattle.std.specs.Option.{option_and_then}
 use Rattle.std.proofs.lemmas.List.Elements.{Contains-append_left, Contains-append_right, Contains-append_cases}
-use Rattle.fb_text.specs.declared.token.Span.{Span}
+use Rattle.fb_faults.specs.Text.declared.token.Span.{Span}
 use Rattle.fb_faults.specs.Parse.Body.{BodyTree, BrokenAt, Whole, body_of}
 use Rattle.fb_faults.specs.Library.View.{Sources, tree_at, tree_in, tree_of}
 use Rattle.fb_faults.specs.Iface.Declarations.{iface_faults_of}
@@ -16,7 +16,7 @@ use Rattle.fb_faults.specs.Ecc.Charts.{ecc_faults_of}
 use Rattle.fb_faults.specs.Netcheck.Networks.{net_faults_of}
 use Rattle.fb_faults.specs.Mappings.{mapping_faults_of}
 use Rattle.fb_faults.specs.Faults.{body_faults, faults_of, reported_of, syntax_faults_of, text_faults}
-use Rattle.fb_text.proofs.Members.{contains_nothing, contains_single, in_written}
+use Rattle.fb_faults.proofs.Text.Members.{contains_nothing, contains_single, in_written}
 use Rattle.fb_faults.proofs.OrderLemmas.{those_reported}
 use Rattle.fb_unit_rows.specs.Parts.{CodesAreOfTheirParts, ConstantsAreOfTwoParts, HasPart, IsCodeOf, IsOfConstants, IsOfPart, Part, Declarations, Expressions, Charts, Networks, Mappings, PartsHaveAllOtherCodes, PartsShareOneCode, WholeUnitsHaveFaultsOfParts, faults_by, of_constant, other_name, duplicate, mixed_kind, unknown_type, wrong_kind, unknown_with, initial_value, unknown_variable, class, unknown_state, unknown_event, unknown_algorithm, unknown_port, wrong_side, other_type, second_source, second_adapter, passage, unknown_parameter, parameter_value, second_mapping, lost_mapping}
 use Rattle.fb_unit_rows.specs.Texts.{broken_at}

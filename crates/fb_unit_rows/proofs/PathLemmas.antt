@@ -2,7 +2,7 @@
 use Rattle.std.proofs.Common.{◌≡◌, ℕ, ◌-◌, length, List, [], ◌∷◌, Some, refl, ap, ◌∙◌, arith}
 use Rattle.std.specs.List.{slice_get}
 use Rattle.std.specs.Option.{option_map_or}
-use Rattle.fb_text.specs.declared.name.NameUse.{NameUse}
+use Rattle.fb_faults.specs.Text.declared.name.NameUse.{NameUse}
 use Rattle.fb_faults.specs.Netcheck.Paths.{path_of_names}
 use Rattle.fb_unit_rows.specs.Rows.{last_of, place_of_path}
 

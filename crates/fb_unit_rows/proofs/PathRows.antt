@@ -2,14 +2,14 @@
 use Rattle.std.proofs.Common.{◌≡◌, ℕ, true, List, ◌∷◌, ◌++◌, map, sym, ap, ◌∙◌, subst}
 use Rattle.std.specs.List.{Contains, flat_map}
 use Rattle.std.proofs.lemmas.List.Elements.{Contains-append_left}
-use Rattle.fb_text.specs.declared.token.Span.{Span}
+use Rattle.fb_faults.specs.Text.declared.token.Span.{Span}
 use Rattle.fb_faults.specs.Tree.Tree.{MappingTree, SystemTree}
 use Rattle.fb_faults.specs.Library.View.{Sources, tree_at}
 use Rattle.fb_faults.specs.Iface.declared.code.Code.TheVariants.{MappedTwice}
 use Rattle.fb_faults.specs.Iface.declared.fault.Fault.{Fault}
 use Rattle.fb_faults.specs.Mappings.{declared_mapping_faults, resource_faults, second_mappings}
 use Rattle.fb_faults.specs.Netcheck.Paths.{PathUse, fault_at_path, has_path, repeated}
-use Rattle.fb_text.proofs.Members.{contains_map, origin_in_map}
+use Rattle.fb_faults.proofs.Text.Members.{contains_map, origin_in_map}
 use Rattle.fb_network_rows.proofs.SplitLemmas.{SplitImages, images_split, split_images}
 use Rattle.fb_unit_rows.specs.Rows.{HasSecondMapping, HaveSamePaths, IsSystemAt, MappingsHaveOwnPaths}
 use Rattle.fb_network_rows.proofs.PathLemmas.{IsAgain, again_is, among_paths, is_again, path_among}

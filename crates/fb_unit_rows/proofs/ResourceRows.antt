@@ -3,14 +3,14 @@ use Rattle.std.proofs.Common.{◌≡◌, ◌≢◌, ℕ, Bool, true, false, cond
 use Rattle.std.specs.List.{Contains, flat_map}
 use Rattle.std.specs.Option.{option_map_or}
 use Rattle.std.proofs.lemmas.List.Elements.{Contains-append_right}
-use Rattle.fb_text.specs.declared.name.NameUse.{NameUse}
+use Rattle.fb_faults.specs.Text.declared.name.NameUse.{NameUse}
 use Rattle.fb_faults.specs.Tree.Tree.{DeviceTree, MappingTree, ResourceTree, SystemTree}
 use Rattle.fb_faults.specs.Library.View.{tree_at}
 use Rattle.fb_faults.specs.Iface.Names.{has_name, is_same, stands_for}
 use Rattle.fb_faults.specs.Iface.declared.code.Code.TheVariants.{NoSuchResource}
 use Rattle.fb_faults.specs.Iface.declared.fault.Fault.{Fault}
 use Rattle.fb_faults.specs.Mappings.{declared_mapping_faults, has_resource, home_faults, resource_faults, resources_in, second_mappings}
-use Rattle.fb_text.proofs.Members.{contains_cases, contains_flat_map, contains_here, contains_later, contains_map, contains_nothing, origin_in_map}
+use Rattle.fb_faults.proofs.Text.Members.{contains_cases, contains_flat_map, contains_here, contains_later, contains_map, contains_nothing, origin_in_map}
 use Rattle.fb_faults.proofs.Iface.NameLemmas.{none_named, not_named, same_exact, same_itself}
 use Rattle.fb_unit_rows.specs.Rows.{HasLostMapping, IsFirstDevice, IsLost, IsSystemAt, no_device, no_resource, MappingsHaveHomes}
 use Rattle.fb_unit_rows.proofs.MappingLemmas.{IsMappingPart, LostOrigin, codes_differ, lost_at, lost_origin, mapping_origin, mapping_part, mapping_reported, of_lost, of_second}

@@ -8,7 +8,7 @@ use Rattle.fb_faults.specs.Iface.Fault.{faults_in_order}
 use Rattle.fb_faults.specs.Iface.declared.code.Code.TheVariants.{Syntax}
 use Rattle.fb_faults.specs.Iface.declared.fault.Fault.{Fault}
 use Rattle.fb_faults.specs.Faults.{all_reported, faults_of, text_faults}
-use Rattle.fb_text.proofs.Members.{contains_here}
+use Rattle.fb_faults.proofs.Text.Members.{contains_here}
 use Rattle.fb_faults.proofs.OrderLemmas.{broken_alone}
 use Rattle.fb_faults.proofs.Parse.Bodies.{one, told}
 use Rattle.fb_unit_rows.specs.Parts.{IsOfPart}

@@ -1,6 +1,6 @@
 -- The parts of the check of a unit, the codes that each has, and which faults of the unit are whose.
 use Rattle.std.specs.Prelude.{◌≡◌, ◌≢◌, ℕ, List, Some, Contains, ◌↔◌, ◌⊎◌}
-use Rattle.fb_text.specs.declared.token.Span.{Span}
+use Rattle.fb_faults.specs.Text.declared.token.Span.{Span}
 use Rattle.fb_faults.specs.Tree.Tree.{DeclTree}
 use Rattle.fb_faults.specs.Library.View.{Sources, tree_at}
 use Rattle.fb_faults.specs.Iface.Declarations.{iface_faults_of}

@@ -1,7 +1,7 @@
 -- Each code of mappings in words of its own: where the list of faults has it.
 use Rattle.std.specs.Prelude.{◌≡◌, ◌≢◌, ℕ, List, [], ◌∷◌, ◌++◌, map, Some, Contains, ◌↔◌}
-use Rattle.fb_text.specs.declared.name.NameUse.{NameUse}
-use Rattle.fb_text.specs.declared.token.Span.{Span}
+use Rattle.fb_faults.specs.Text.declared.name.NameUse.{NameUse}
+use Rattle.fb_faults.specs.Text.declared.token.Span.{Span}
 use Rattle.fb_faults.specs.Tree.Tree.{DeviceTree, MappingTree, ResourceTree, SystemTree, system_configuration}
 use Rattle.fb_faults.specs.Library.View.{Sources, tree_at}
 use Rattle.fb_faults.specs.Iface.declared.code.Code.{Code}

@@ -1,7 +1,7 @@
 -- Units whose text is broken, whole or absent.
 use Rattle.std.specs.Prelude.{◌≡◌, ◌≢◌, ℕ, List, [], ◌∷◌, Some, None, Contains, ◌↔◌}
 use Rattle.std.specs.FinMap.{get}
-use Rattle.fb_text.specs.declared.token.Span.{Span}
+use Rattle.fb_faults.specs.Text.declared.token.Span.{Span}
 use Rattle.fb_faults.specs.Tree.Tree.{DeclTree}
 use Rattle.fb_faults.specs.Parse.Body.{BrokenAt, IsBody}
 use Rattle.fb_faults.specs.Library.View.{Sources, tree_at}

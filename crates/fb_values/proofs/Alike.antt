@@ -7,7 +7,7 @@ use Rattle.std.specs.Cmp.{IsTotalOrder}
 use Rattle.std.specs.BTreeMap.{is_at}
 use Rattle.std.proofs.lemmas.Cmp.{tied_itself}
 use Rattle.std.proofs.lemmas.List.{drop_all, map-id}
-use Rattle.fb_text.specs.Order.{name_cmp}
+use Rattle.fb_deploy.specs.Text.Order.{name_cmp}
 use Rattle.fb_deploy.proofs.Library.Names.{name_total, exact_name}
 use Rattle.fb_deploy.specs.Iface.declared.fault.Fault.{Fault}
 use Rattle.fb_deploy.specs.Iface.Fault.{fault_cmp, fault_cmp_total}
@@ -18,7 +18,7 @@ use Rattle.fb_deploy.specs.Network.LinkOrder.{border_cmp, border_cmp_total, link
 use Rattle.fb_deploy.proofs.Compose.Equals.{exact_border, exact_link}
 use Rattle.fb_values.specs.declared.key.Key.{Key}
 use Rattle.fb_values.specs.KeyOrder.{key_cmp_total, same_key}
-use Rattle.fb_text.proofs.OrderLemmas.{is_equal}
+use Rattle.fb_deploy.proofs.Text.OrderLemmas.{is_equal}
 use Rattle.fb_values.proofs.KeyLemmas.{exact_key}
 
 -- what is told by an order in which only equal items are equal

@@ -3,7 +3,7 @@ use Rattle.std.proofs.Common.{◌≡◌, refl, true, arith}
 use Rattle.std.specs.declared.cmp.Ordering.TheVariants.{Equal}
 use Rattle.std.specs.Ordering.{nat_cmp}
 use Rattle.std.specs.FinMap.{nat_cmp-IsAntisymmetric}
-use Rattle.fb_text.proofs.OrderLemmas.{is_equal, both_equal}
+use Rattle.fb_deploy.proofs.Text.OrderLemmas.{is_equal, both_equal}
 use Rattle.fb_deploy.proofs.Library.Names.{exact_name}
 use Rattle.fb_values.specs.declared.key.Kind.{Kind}
 use Rattle.fb_values.specs.declared.key.Kind.TheVariants.{Faults, Net, Deploy}

@@ -10,8 +10,8 @@ use Rattle.std.specs.declared.cmp.Ordering.{Ordering}
 use Rattle.std.specs.declared.cmp.Ordering.TheVariants.{Less, Equal, Greater}
 use Rattle.std.proofs.lemmas.Cmp.{tied_itself}
 use Rattle.std.proofs.lemmas.List.Folds.{list_any-append}
-use Rattle.fb_text.proofs.Tests.{and_false}
-use Rattle.fb_text.specs.Order.{name_cmp}
+use Rattle.fb_deploy.proofs.Text.Tests.{and_false}
+use Rattle.fb_deploy.specs.Text.Order.{name_cmp}
 use Rattle.fb_deploy.specs.Library.View.{Sources, near_of}
 use Rattle.fb_deploy.specs.Flatten.Far.{far_of}
 use Rattle.fb_values.specs.declared.key.Kind.{Kind}
@@ -21,7 +21,7 @@ use Rattle.fb_values.specs.KeyOrder.{kind_number, kind_cmp, key_cmp, same_key}
 use Rattle.fb_values.specs.Keys.{has_kind_at, needs_of}
 use Rattle.fb_values.specs.Kinds.{all_kinds, all_keys, keys_near_and_far, keys_of_kind, names_for, needs_all}
 use Rattle.fb_values.specs.Reads.{is_among}
-use Rattle.fb_text.proofs.OrderLemmas.{is_equal}
+use Rattle.fb_deploy.proofs.Text.OrderLemmas.{is_equal}
 use Rattle.fb_values.proofs.KeyLemmas.{exact_kind}
 
 -- ---- each kind

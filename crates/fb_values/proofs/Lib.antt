@@ -10,3 +10,6 @@ pub use Rattle.fb_deploy.proofs.Library as Library
 pub use Rattle.fb_deploy.proofs.Iface as Iface
 pub use Rattle.fb_deploy.proofs.Compose as Compose
 pub use Rattle.fb_deploy.proofs.Flatten.FarNames as FarNames
+pub use Rattle.fb_deploy.proofs.Text as Text
+pub use Rattle.fb_deploy.proofs.Table as Table
+pub use Rattle.fb_deploy.proofs.Flatten as Flatten

@@ -4,7 +4,7 @@ use Rattle.std.specs.Ordering.{is_eq}
 use Rattle.std.proofs.lemmas.Cmp.{tied_itself}
 use Rattle.std.specs.Cmp.{IsTotalOrder}
 use Rattle.std.specs.declared.cmp.Ordering.TheVariants.{Equal}
-use Rattle.fb_text.proofs.OrderLemmas.{is_equal}
+use Rattle.fb_deploy.proofs.Text.OrderLemmas.{is_equal}
 use Rattle.fb_values.specs.declared.key.Key.{Key}
 use Rattle.fb_values.specs.KeyOrder.{key_cmp, same_key}
 use Rattle.fb_values.specs.KeyOrder.{key_cmp_total}

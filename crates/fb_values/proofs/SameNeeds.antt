@@ -5,8 +5,8 @@ use Rattle.std.specs.BTreeMap.{is_at}
 use Rattle.std.specs.FinMap.{get}
 use Rattle.std.specs.Ordering.{is_eq}
 use Rattle.std.proofs.lemmas.Cmp.{tied_itself}
-use Rattle.fb_text.specs.Order.{name_cmp}
-use Rattle.fb_text.proofs.OrderLemmas.{in_order-sorted, is_equal}
+use Rattle.fb_deploy.specs.Text.Order.{name_cmp}
+use Rattle.fb_deploy.proofs.Text.OrderLemmas.{in_order-sorted, is_equal}
 use Rattle.fb_deploy.specs.Library.Texts.{Texts, sources_of}
 use Rattle.fb_deploy.specs.Library.View.{Sources, near_of, mentions_at}
 use Rattle.fb_deploy.specs.Library.Local as local

@@ -4,7 +4,7 @@ use Rattle.std.specs.declared.cmp.Ordering.{Ordering}
 use Rattle.std.specs.Ordering.{nat_cmp, on, then_cmp, is_eq}
 use Rattle.std.specs.Cmp.{IsTotalOrder, then_total, on_total, nat_cmp_total}
 use Rattle.std.specs.Cmp.Lexicographic.{nat_list_cmp_total}
-use Rattle.fb_text.specs.Order.{name_cmp}
+use Rattle.fb_deploy.specs.Text.Order.{name_cmp}
 use Rattle.fb_values.specs.declared.key.Kind.{Kind}
 use Rattle.fb_values.specs.declared.key.Kind.TheVariants.{Faults, Net, Deploy}
 use Rattle.fb_values.specs.declared.key.Key.{Key}

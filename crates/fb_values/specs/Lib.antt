@@ -15,3 +15,5 @@ pub use Rattle.fb_deploy.specs.Network as Network
 pub use Rattle.fb_deploy.specs.Flatten as Flatten
 pub use Rattle.fb_deploy.specs.Mapping as Mapping
 pub use Rattle.fb_deploy.specs as Deploy
+pub use Rattle.fb_deploy.specs.Text as Text
+pub use Rattle.fb_deploy.specs.Commands as Commands

@@ -5,7 +5,7 @@ ghost use Rattle.std.specs.Cmp.{eq_by_cmp_equiv, partial_equiv_from_equiv, parti
 ghost use Rattle.fb_values.specs.KeyOrder.{kind_number, key_cmp, key_cmp_total};
 ghost use Rattle.fb_values.specs.Kinds.{needs_all};
 
-use fb_text::Name;
+use fb_deploy::text::Name;
 use std::cmp::Ordering;
 
 /// What an entry says of its unit.

@@ -3,7 +3,7 @@ ghost use Rattle.std.specs.Prelude.{◌≡◌, ◌++◌, IfOk, OnOk};
 ghost use Rattle.fb_values.specs.Kinds.{all_kinds, all_keys, keys_near_and_far, keys_of_kind};
 
 use crate::key::{Key, Kind};
-use fb_text::Name;
+use fb_deploy::text::Name;
 use std::alloc::{AllocError, Global};
 
 const KINDS: [Kind; 3] = [Kind::Faults, Kind::Net, Kind::Deploy];

@@ -59,3 +59,8 @@ pub mod parse {
 pub mod tree {
     pub use fb_deploy::tree::Sort;
 }
+
+/// Of `fb_deploy::text`, for the crates above.
+pub mod text {
+    pub use fb_deploy::text::{Name, same_name};
+}

@@ -7,7 +7,7 @@ use fb_deploy::flatten::is_of_net;
 use fb_deploy::is_of_plan;
 use fb_deploy::library::Library;
 use fb_deploy::parse::Source;
-use fb_text::Name;
+use fb_deploy::text::Name;
 use std::alloc::{AllocError, Global};
 use std::sync::Arc;
 

@@ -8,8 +8,8 @@ use crate::value::Value;
 use fb_deploy::flatten::Net;
 use fb_deploy::mapping::Misplaced;
 use fb_deploy::network::{Flat, FlatBlock};
+use fb_deploy::text::{Name, same_name};
 use fb_deploy::{Deploy, ResourcePlan};
-use fb_text::{Name, same_name};
 
 fn is_one_name(a: &Name, b: &Name) -> bool
     ensures { IsTrue result ↔ (a.now ≡ b.now) }

@@ -1,11 +1,11 @@
 //! The index of units by what they mention.
 ghost use Rattle.std.specs.Prelude.{◌≡◌, false, [], ◌∷◌, OnOk};
 ghost use Rattle.std.specs.BTreeMap.{is_at};
-ghost use Rattle.fb_text.specs.Order.{name_cmp};
+ghost use Rattle.fb_index.specs.Text.Order.{name_cmp};
 ghost use Rattle.fb_index.specs.Near.{IsIndexedAs};
 
 use fb_index::Index;
-use fb_text::{Name, same_name};
+use fb_index::text::{Name, same_name};
 use std::alloc::{AllocError, Global};
 use std::process::Abort;
 use std::test::Fail;

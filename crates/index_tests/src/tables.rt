@@ -1,6 +1,6 @@
 //! Tables of values by name.
-use fb_table::{Table, names_of, open_new};
-use fb_text::Name;
+use fb_index::table::{Table, names_of, open_new};
+use fb_index::text::Name;
 use std::alloc::Global;
 use std::collections::BTreeSet;
 use std::fmt::Debug;

@@ -1,7 +1,7 @@
 -- The net that is kept of one unit, and none of others.
 use Rattle.std.specs.Prelude.{ℕ, List, Option, Some, None, if◌then◌else◌}
 use Rattle.std.specs.BTreeMap.{is_at}
-use Rattle.fb_text.specs.Order.{name_cmp}
+use Rattle.fb_deploy.specs.Text.Order.{name_cmp}
 use Rattle.fb_deploy.specs.Flatten.Net.{PlainNet}
 
 abbrev pub hint_of : List ℕ → PlainNet → List ℕ → Option PlainNet

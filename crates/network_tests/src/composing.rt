@@ -1,19 +1,19 @@
 //! Flat networks, composed of those of inner types.
 ghost use Rattle.std.specs.Prelude.{◌≡◌, Some};
 ghost use Rattle.std.specs.BTreeMap.{get};
-ghost use Rattle.fb_text.specs.Order.{name_cmp};
+ghost use Rattle.fb_deploy.specs.Text.Order.{name_cmp};
 ghost use Rattle.network_tests.specs.Border.{inner};
 
 use crate::told::{flat_told, same};
-use fb_compose::{
+use fb_deploy::compose::{
     FlatApplication, chains_are_composed, compose, compose_in_order, count_instances, flat_is_one,
     join, system_is_one,
 };
-use fb_network::tree::{Side, Sort};
-use fb_network::{
+use fb_deploy::network::{
     Border, Connection, End, Flat, FlatBlock, Instance, InstanceKind, Link, Network, Path, Port,
 };
-use fb_text::Name;
+use fb_deploy::text::Name;
+use fb_deploy::tree::{Side, Sort};
 use std::alloc::Global;
 use std::collections::BTreeMap;
 use std::process::Abort;

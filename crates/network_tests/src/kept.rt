@@ -10,7 +10,7 @@ use crate::nets::{ADAPTERS, B, CYCLE, FAULTY, TWO_APPLICATIONS, TWO_TARGETS, cha
 use crate::told::{library_of, net_told, same, unit_net_told};
 use fb_deploy::flatten::{Hints, Net, is_of_net, net_of_unit, net_of_unit_with};
 use fb_deploy::library::Library;
-use fb_text::{Name, same_name};
+use fb_deploy::text::{Name, same_name};
 use std::alloc::{AllocError, Global};
 use std::process::Abort;
 use std::test::Fail;

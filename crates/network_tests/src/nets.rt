@@ -5,7 +5,7 @@ use fb_deploy::flatten::{
     net_at_is_local, net_at_is_net, net_is_local, net_of_unit, one_net,
 };
 use fb_deploy::library::{Change, Library};
-use fb_text::Name;
+use fb_deploy::text::Name;
 use std::alloc::Global;
 use std::process::Abort;
 use std::test::Fail;

@@ -1,8 +1,8 @@
 //! An order with inner types first, and types that reach themselves.
 use crate::told::{equal, library_of, names_in, names_told, order_told, put, same};
 use fb_deploy::library::{Change, Library, far};
-use fb_order::{inner_first, ordered_is_not_recursive, recursion_is_local, recursive};
-use fb_text::Name;
+use fb_deploy::order::{inner_first, ordered_is_not_recursive, recursion_is_local, recursive};
+use fb_deploy::text::Name;
 use std::alloc::Global;
 use std::process::Abort;
 use std::test::Fail;

@@ -1,9 +1,11 @@
 //! Sorts, paths, links and borders, and the lists of networks and of flat networks.
 use crate::told::{equal, same, say_borders, say_links, say_network};
 use fb_deploy::mapping::path_names;
-use fb_network::tree::{Side, Sort};
-use fb_network::{Border, Flat, FlatBlock, Link, Network, Path, Port, is_same_sort, sort_number};
-use fb_text::Name;
+use fb_deploy::network::{
+    Border, Flat, FlatBlock, Link, Network, Path, Port, is_same_sort, sort_number,
+};
+use fb_deploy::text::Name;
+use fb_deploy::tree::{Side, Sort};
 use std::alloc::{AllocError, Global};
 use std::test::Fail;
 

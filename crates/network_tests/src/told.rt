@@ -2,12 +2,12 @@
 use fb_deploy::flatten::{Net, has_net, net};
 use fb_deploy::library::{Change, Library, tree_by_name};
 use fb_deploy::mapping::{Home, Misplaced, Placed, is_system, place};
+use fb_deploy::network::{Border, End, Flat, FlatBlock, Link, Network};
+use fb_deploy::order::inner_first;
 use fb_deploy::parse::Source;
+use fb_deploy::text::Name;
 use fb_deploy::wiring::{applications, network};
 use fb_deploy::{Deploy, ResourcePlan, plan};
-use fb_network::{Border, End, Flat, FlatBlock, Link, Network};
-use fb_order::inner_first;
-use fb_text::Name;
 use std::alloc::{AllocError, Global};
 use std::fmt::Debug;
 use std::process::Abort;

@@ -1,7 +1,7 @@
 //! Texts that are broken, and the places where they are. These were worked out by another reader, one that follows all spellings at once.
 use crate::told::{equal, same};
+use fb_parse::text::Name;
 use fb_parse::{Body, ReadFault, Source};
-use fb_text::Name;
 use std::alloc::Global;
 use std::process::Abort;
 use std::test::Fail;

@@ -1,10 +1,10 @@
 //! The parts of declarations.
 use crate::readers::{Part, read};
 use crate::told::{equal, same, words};
+use fb_parse::lexemes::lexemes;
+use fb_parse::structured_text::expression;
+use fb_parse::text::Span;
 use fb_parse::tree::{Expr, LiteralForm};
-use fb_sections::lexemes::lexemes;
-use fb_structured_text::expression;
-use fb_text::Span;
 use std::alloc::{AllocError, Global};
 use std::process::Abort;
 use std::test::Fail;

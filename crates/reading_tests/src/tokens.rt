@@ -1,7 +1,7 @@
 //! Names and tokens.
 use crate::told::{equal, names_told, same, words};
-use fb_sections::lexemes::{Kind, lexemes};
-use fb_text::{Name, NameFault, TypeClass, same_name, sorted_names, tokens, type_class};
+use fb_parse::lexemes::{Kind, lexemes};
+use fb_parse::text::{Name, NameFault, TypeClass, same_name, sorted_names, tokens, type_class};
 use std::alloc::{AllocError, Global};
 use std::test::Fail;
 

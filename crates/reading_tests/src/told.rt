@@ -1,11 +1,11 @@
 //! What is read, told in words: of a list one part after the other, and a place as `3..5`, from the first byte up to the one behind.
+use fb_parse::text::{Name, NameUse, Span, Token, TokenFault};
 use fb_parse::tree::{
     Algorithm, Application, Chart, Condition, Connection, Constant, Counting, Decl, Device, End,
     Event, Expr, Instance, Mapping, Network, Parameter, Reference, Simple, State, Stmt, System,
     Transition, TypeDeclaration, Variables,
 };
 use fb_parse::{Body, Source};
-use fb_text::{Name, NameUse, Span, Token, TokenFault};
 use std::alloc::{AllocError, Global};
 use std::fmt::Debug;
 use std::process::Abort;

@@ -1,8 +1,8 @@
 //! The texts of units that are whole.
 use crate::told::{names_told, same, words};
+use fb_parse::text::Name;
 use fb_parse::tree::{Decl, mentions};
 use fb_parse::{Body, Source};
-use fb_text::Name;
 use std::alloc::{AllocError, Global};
 use std::process::Abort;
 use std::test::Fail;

@@ -3,8 +3,8 @@ use fb_shared::bench::Limits;
 use fb_shared::bench::jobs::{Key, Kind};
 use fb_shared::bench::library::Change;
 use fb_shared::bench::parse::Source;
+use fb_shared::text::Name;
 use fb_shared::{Locked, Seat, Shared};
-use fb_text::Name;
 use std::alloc::Global;
 
 const PLAIN: &str = "FUNCTION_BLOCK A END_FUNCTION_BLOCK";

@@ -1,5 +1,5 @@
 -- Two strictly sorted lists with the same members are one.
-use Rattle.fb_text.proofs.OrderLemmas.{in_order-members, in_order-sorted}
+use Rattle.fb_mapping.proofs.Text.OrderLemmas.{in_order-members, in_order-sorted}
 use Rattle.fb_mapping.proofs.Compose.SameSorted.{same_sorted}
 use Rattle.fb_commands.specs.Lines.{line_cmp, line_cmp_total}
 use Rattle.fb_commands.proofs.LineLemmas.{exact_line, line_cmp-IsAntisymmetric}

@@ -1,7 +1,7 @@
 -- The instances passed so far are counted.
 use Rattle.std.proofs.Common.{take}
 use Rattle.std.specs.BTreeMap.{get}
-use Rattle.fb_text.specs.Order.{name_cmp}
+use Rattle.fb_network.specs.Text.Order.{name_cmp}
 use Rattle.fb_network.specs.Network.{View}
 use Rattle.fb_network.specs.Count.{IsCount}
 use Rattle.fb_compose.specs.Counts.{AreCounted}

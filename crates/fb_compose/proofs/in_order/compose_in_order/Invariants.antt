@@ -1,7 +1,7 @@
 -- The names passed so far, and no others, have their flat networks.
 use Rattle.std.proofs.Common.{take}
 use Rattle.std.specs.BTreeMap.{get}
-use Rattle.fb_text.specs.Order.{name_cmp}
+use Rattle.fb_network.specs.Text.Order.{name_cmp}
 use Rattle.fb_compose.specs.Ordered.{AreFlat}
 use Rattle.fb_compose.proofs.in_order.compose_in_order.Given as goal
 

@@ -2,7 +2,7 @@
 use Rattle.std.proofs.Common.{ap, sym, ◌∙◌, subst}
 use Rattle.std.specs.Option.{option_copied}
 use Rattle.std.specs.BTreeMap.{get}
-use Rattle.fb_text.specs.Order.{name_cmp}
+use Rattle.fb_network.specs.Text.Order.{name_cmp}
 use Rattle.fb_network.specs.Plain.{PlainNetwork}
 use Rattle.fb_network.specs.Clean.{IsCleanThroughout}
 use Rattle.fb_compose.specs.Ready.{AreFinished}

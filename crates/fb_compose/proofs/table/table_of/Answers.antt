@@ -2,7 +2,7 @@
 use Rattle.std.proofs.Common.{◌≡◌, ◌<◌, List, true, false, is_some, length, take, sym, ap, ◌∙◌}
 use Rattle.std.proofs.lemmas.List.{take_all}
 use Rattle.std.specs.BTreeMap.{get}
-use Rattle.fb_text.specs.Order.{name_cmp}
+use Rattle.fb_network.specs.Text.Order.{name_cmp}
 use Rattle.fb_network.specs.declared.network.Instance.{Instance}
 use Rattle.fb_network.specs.Network.{instance_named}
 use Rattle.fb_compose.proofs.EmptyMaps.{nothing_at}

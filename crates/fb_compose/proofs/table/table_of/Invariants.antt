@@ -1,7 +1,7 @@
 -- The table has the instances passed so far.
 use Rattle.std.proofs.Common.{ℕ, ◌≡◌, List, take}
 use Rattle.std.specs.BTreeMap.{get}
-use Rattle.fb_text.specs.Order.{name_cmp}
+use Rattle.fb_network.specs.Text.Order.{name_cmp}
 use Rattle.fb_network.specs.Network.{instance_named}
 use Rattle.fb_compose.proofs.table.table_of.Given as goal
 

@@ -2,8 +2,8 @@ use Rattle.std.proofs.Common.{◌≡◌, ◌++◌, ◌∙◌, ap, sym, arith}
 use Rattle.std.proofs.lemmas.Grind.{common_steps}
 use Rattle.std.proofs.lemmas.List.Folds.{flat_map-map}
 use Rattle.std.specs.List.{flat_map}
-use Rattle.fb_iface.specs.Tree.Tree.{instance_tree}
-use Rattle.fb_iface.specs.Types.{instance_faults}
+use Rattle.fb_ecc.specs.Tree.Tree.{instance_tree}
+use Rattle.fb_ecc.specs.Iface.Types.{instance_faults}
 use Rattle.fb_declarations.proofs.instances.report_in_network.Goals as goal
 
 pub returns : goal.returns

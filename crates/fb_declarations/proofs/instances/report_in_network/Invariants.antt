@@ -1,7 +1,7 @@
 use Rattle.std.proofs.Common.{◌≡◌, ◌++◌, take}
 use Rattle.std.specs.List.{flat_map}
-use Rattle.fb_iface.specs.Tree.Tree.{instance_tree}
-use Rattle.fb_iface.specs.Types.{instance_faults}
+use Rattle.fb_ecc.specs.Tree.Tree.{instance_tree}
+use Rattle.fb_ecc.specs.Iface.Types.{instance_faults}
 use Rattle.fb_declarations.proofs.instances.report_in_network.Given as goal
 
 abbrev pub invariant-loop-instance : goal.invariant-loop-instance

@@ -1,9 +1,9 @@
 use Rattle.std.proofs.Common.{◌++◌, ◌∙◌, ap, sym}
 use Rattle.std.proofs.lemmas.Result.{on_ok_weaker}
 use Rattle.std.specs.List.{flat_map}
-use Rattle.fb_iface.specs.Tree.Tree.{decl_tree, network_tree}
-use Rattle.fb_iface.specs.Types.{instance_faults, type_faults}
-use Rattle.fb_iface.proofs.TreeLemmas.{applications_joined}
+use Rattle.fb_ecc.specs.Tree.Tree.{decl_tree, network_tree}
+use Rattle.fb_ecc.specs.Iface.Types.{instance_faults, type_faults}
+use Rattle.fb_ecc.proofs.Iface.TreeLemmas.{applications_joined}
 use Rattle.fb_declarations.proofs.instances.report_types.Goals as goal
 
 pub returns-in-System : goal.returns-in-System

@@ -1,4 +1,4 @@
-use Rattle.fb_iface.proofs.RowLemmas.{misfits_reported}
+use Rattle.fb_ecc.proofs.Iface.RowLemmas.{misfits_reported}
 use Rattle.fb_declarations.proofs.laws.misfits_are_reported.Goals as goal
 
 pub returns : goal.returns

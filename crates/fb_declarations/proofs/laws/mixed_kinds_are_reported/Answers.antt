@@ -1,4 +1,4 @@
-use Rattle.fb_iface.proofs.RowLemmas.{mixed_kinds}
+use Rattle.fb_ecc.proofs.Iface.RowLemmas.{mixed_kinds}
 use Rattle.fb_declarations.proofs.laws.mixed_kinds_are_reported.Goals as goal
 
 pub returns : goal.returns

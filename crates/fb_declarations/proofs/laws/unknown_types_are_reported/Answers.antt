@@ -1,4 +1,4 @@
-use Rattle.fb_iface.proofs.RowLemmas.{unknown_types}
+use Rattle.fb_ecc.proofs.Iface.RowLemmas.{unknown_types}
 use Rattle.fb_declarations.proofs.laws.unknown_types_are_reported.Goals as goal
 
 pub returns : goal.returns

@@ -2,8 +2,8 @@ use Rattle.std.proofs.Common.{◌≡◌, ◌++◌, ◌∙◌, ap, sym, arith}
 use Rattle.std.proofs.lemmas.Grind.{common_steps}
 use Rattle.std.proofs.lemmas.List.Folds.{flat_map-map}
 use Rattle.std.specs.List.{flat_map}
-use Rattle.fb_iface.specs.Tree.Tree.{variables_tree}
-use Rattle.fb_iface.specs.Literals.{initial_faults}
+use Rattle.fb_ecc.specs.Tree.Tree.{variables_tree}
+use Rattle.fb_ecc.specs.Iface.Literals.{initial_faults}
 use Rattle.fb_declarations.proofs.literals.report_in_interface.Goals as goal
 
 pub returns : goal.returns

@@ -1,7 +1,7 @@
 use Rattle.std.proofs.Common.{◌≡◌, ◌++◌, take}
 use Rattle.std.specs.List.{flat_map}
-use Rattle.fb_iface.specs.Tree.Tree.{variables_tree}
-use Rattle.fb_iface.specs.Literals.{initial_faults}
+use Rattle.fb_ecc.specs.Tree.Tree.{variables_tree}
+use Rattle.fb_ecc.specs.Iface.Literals.{initial_faults}
 use Rattle.fb_declarations.proofs.literals.report_in_interface.Given as goal
 
 abbrev pub invariant-loop-group : goal.invariant-loop-group

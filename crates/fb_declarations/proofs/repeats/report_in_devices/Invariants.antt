@@ -1,6 +1,6 @@
 use Rattle.std.proofs.Common.{◌≡◌, ◌++◌, map, take}
 use Rattle.std.specs.List.{flat_map}
-use Rattle.fb_iface.specs.Declarations.{space_duplicates}
+use Rattle.fb_ecc.specs.Iface.Declarations.{space_duplicates}
 use Rattle.fb_declarations.proofs.repeats.report_in_devices.Given as goal
 
 abbrev pub invariant-loop-device : goal.invariant-loop-device

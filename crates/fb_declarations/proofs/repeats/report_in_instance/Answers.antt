@@ -1,9 +1,9 @@
 use Rattle.std.proofs.Common.{◌++◌, ◌∙◌, [], ap, map, sym, if◌then◌else◌}
 use Rattle.std.proofs.lemmas.Result.{on_ok_weaker}
-use Rattle.fb_iface.specs.Tree.Tree.{parameter_tree}
-use Rattle.fb_iface.specs.Declarations.{space_duplicates}
-use Rattle.fb_iface.specs.Spaces.{is_block}
-use Rattle.fb_iface.proofs.TreeLemmas.{parameters_named}
+use Rattle.fb_ecc.specs.Tree.Tree.{parameter_tree}
+use Rattle.fb_ecc.specs.Iface.Declarations.{space_duplicates}
+use Rattle.fb_ecc.specs.Iface.Spaces.{is_block}
+use Rattle.fb_ecc.proofs.Iface.TreeLemmas.{parameters_named}
 use Rattle.fb_declarations.proofs.repeats.report_in_instance.Goals as goal
 
 pub returns-in-Block : goal.returns-in-Block

@@ -1,8 +1,8 @@
 use Rattle.std.proofs.Common.{◌≡◌, ◌++◌, ◌∙◌, ap, map}
 use Rattle.std.specs.List.{flat_map}
 use Rattle.std.proofs.lemmas.Result.{on_ok_weaker}
-use Rattle.fb_iface.specs.Declarations.{space_duplicates}
-use Rattle.fb_iface.proofs.TreeLemmas.{interface_joined}
+use Rattle.fb_ecc.specs.Iface.Declarations.{space_duplicates}
+use Rattle.fb_ecc.proofs.Iface.TreeLemmas.{interface_joined}
 use Rattle.fb_declarations.proofs.repeats.report_in_interface.Goals as goal
 
 pub returns : goal.returns

@@ -1,10 +1,10 @@
 use Rattle.std.proofs.Common.{◌≡◌, ◌++◌, ◌∙◌, ap, map, arith}
 use Rattle.std.proofs.lemmas.Grind.{common_steps}
 use Rattle.std.specs.List.{flat_map}
-use Rattle.fb_iface.specs.Tree.Tree.{instance_tree}
-use Rattle.fb_iface.specs.Declarations.{space_duplicates}
-use Rattle.fb_iface.specs.Spaces.{parameter_names}
-use Rattle.fb_iface.proofs.TreeLemmas.{network_joined}
+use Rattle.fb_ecc.specs.Tree.Tree.{instance_tree}
+use Rattle.fb_ecc.specs.Iface.Declarations.{space_duplicates}
+use Rattle.fb_ecc.specs.Iface.Spaces.{parameter_names}
+use Rattle.fb_ecc.proofs.Iface.TreeLemmas.{network_joined}
 use Rattle.fb_declarations.proofs.repeats.report_in_network.Goals as goal
 
 pub returns : goal.returns

@@ -1,10 +1,10 @@
 use Rattle.std.proofs.Common.{◌≡◌, ◌++◌, ◌∙◌, ap, map}
 use Rattle.std.proofs.lemmas.Result.{on_ok_weaker}
 use Rattle.std.specs.List.{flat_map}
-use Rattle.fb_iface.specs.Tree.Tree.{network_tree}
-use Rattle.fb_iface.specs.Declarations.{space_duplicates}
-use Rattle.fb_iface.specs.Spaces.{network_spaces}
-use Rattle.fb_iface.proofs.TreeLemmas.{system_joined}
+use Rattle.fb_ecc.specs.Tree.Tree.{network_tree}
+use Rattle.fb_ecc.specs.Iface.Declarations.{space_duplicates}
+use Rattle.fb_ecc.specs.Iface.Spaces.{network_spaces}
+use Rattle.fb_ecc.proofs.Iface.TreeLemmas.{system_joined}
 use Rattle.fb_declarations.proofs.repeats.report_in_system.Goals as goal
 
 pub returns : goal.returns

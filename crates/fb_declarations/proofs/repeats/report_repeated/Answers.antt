@@ -1,10 +1,10 @@
 use Rattle.std.proofs.Common.{◌≡◌, ◌+◌, ◌<◌, not, true, false, ap, sym, ◌∙◌, arith, get_or, length, map, take, ◌∷◌, [], ◌++◌}
 use Rattle.std.proofs.lemmas.Grind.{common_steps}
 use Rattle.std.proofs.lemmas.List.{get_or-map, length-map, take_more}
-use Rattle.fb_iface.specs.Fault.{faults_at}
-use Rattle.fb_iface.specs.Names.{has_name}
-use Rattle.fb_iface.specs.declared.code.Code.TheVariants.{Duplicate}
-use Rattle.fb_iface.proofs.RepeatLemmas.{noted-push, repeated_all, repeated_among, reported-again, reported-first}
+use Rattle.fb_ecc.specs.Iface.Fault.{faults_at}
+use Rattle.fb_ecc.specs.Iface.Names.{has_name}
+use Rattle.fb_ecc.specs.Iface.declared.code.Code.TheVariants.{Duplicate}
+use Rattle.fb_ecc.proofs.Iface.RepeatLemmas.{noted-push, repeated_all, repeated_among, reported-again, reported-first}
 use Rattle.fb_declarations.proofs.repeats.report_repeated.Goals as goal
 use Rattle.fb_declarations.proofs.repeats.report_repeated.Goals.{then-not-branch+in_ok-push, else-not-branch}
 

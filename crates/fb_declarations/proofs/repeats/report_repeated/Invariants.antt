@@ -1,10 +1,10 @@
 use Rattle.std.proofs.Common.{◌≡◌, ℕ, List, ◌++◌, map, take}
 use Rattle.std.specs.BTreeSet.{contains}
-use Rattle.fb_text.specs.Order.{name_cmp}
-use Rattle.fb_iface.specs.Fault.{faults_at}
-use Rattle.fb_iface.specs.Names.{has_name}
-use Rattle.fb_iface.specs.declared.code.Code.TheVariants.{Duplicate}
-use Rattle.fb_iface.proofs.RepeatLemmas.{repeated_among}
+use Rattle.fb_ecc.specs.Text.Order.{name_cmp}
+use Rattle.fb_ecc.specs.Iface.Fault.{faults_at}
+use Rattle.fb_ecc.specs.Iface.Names.{has_name}
+use Rattle.fb_ecc.specs.Iface.declared.code.Code.TheVariants.{Duplicate}
+use Rattle.fb_ecc.proofs.Iface.RepeatLemmas.{repeated_among}
 use Rattle.fb_declarations.proofs.repeats.report_repeated.Given as goal
 
 abbrev pub invariant-loop-declaration : goal.invariant-loop-declaration

@@ -1,9 +1,9 @@
 use Rattle.std.proofs.Common.{◌≡◌, ◌++◌, not, take}
 use Rattle.std.specs.List.{filter}
-use Rattle.fb_iface.specs.Fault.{faults_at}
-use Rattle.fb_iface.specs.Names.{stands_for}
-use Rattle.fb_iface.specs.Withs.{carries}
-use Rattle.fb_iface.specs.declared.code.Code.TheVariants.{WithUnknown}
+use Rattle.fb_ecc.specs.Iface.Fault.{faults_at}
+use Rattle.fb_ecc.specs.Iface.Names.{stands_for}
+use Rattle.fb_ecc.specs.Iface.Withs.{carries}
+use Rattle.fb_ecc.specs.Iface.declared.code.Code.TheVariants.{WithUnknown}
 use Rattle.fb_declarations.proofs.withs.report_event.Given as goal
 
 abbrev pub invariant-loop-name : goal.invariant-loop-name

@@ -1,8 +1,8 @@
 use Rattle.std.proofs.Common.{◌≡◌, ◌++◌, take}
 use Rattle.std.specs.List.{flat_map}
-use Rattle.fb_iface.specs.Tree.Tree.{event_tree}
-use Rattle.fb_iface.specs.Names.{stands_for}
-use Rattle.fb_iface.specs.Withs.{event_withs}
+use Rattle.fb_ecc.specs.Tree.Tree.{event_tree}
+use Rattle.fb_ecc.specs.Iface.Names.{stands_for}
+use Rattle.fb_ecc.specs.Iface.Withs.{event_withs}
 use Rattle.fb_declarations.proofs.withs.report_events.Given as goal
 
 abbrev pub invariant-loop-event : goal.invariant-loop-event

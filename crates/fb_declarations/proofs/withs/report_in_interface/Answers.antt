@@ -2,11 +2,11 @@ use Rattle.std.proofs.Common.{◌≡◌, ◌++◌, ◌∙◌, ℕ, List, ap, sym
 use Rattle.std.proofs.lemmas.List.Folds.{flat_map-map}
 use Rattle.std.proofs.lemmas.Result.{on_ok_weaker}
 use Rattle.std.specs.List.{flat_map}
-use Rattle.fb_iface.specs.Tree.Tree.{event_tree, interface_tree}
-use Rattle.fb_iface.specs.Names.{stands_for}
-use Rattle.fb_iface.specs.Ports.{variables_in}
-use Rattle.fb_iface.specs.Withs.{event_withs}
-use Rattle.fb_iface.proofs.TableLemmas.{stands_for-first_ones}
+use Rattle.fb_ecc.specs.Tree.Tree.{event_tree, interface_tree}
+use Rattle.fb_ecc.specs.Iface.Names.{stands_for}
+use Rattle.fb_ecc.specs.Iface.Ports.{variables_in}
+use Rattle.fb_ecc.specs.Iface.Withs.{event_withs}
+use Rattle.fb_ecc.proofs.Iface.TableLemmas.{stands_for-first_ones}
 use Rattle.fb_declarations.proofs.withs.report_in_interface.Goals as goal
 
 pub returns : goal.returns

@@ -4,7 +4,7 @@ use Rattle.fb_clean.specs.Tree.Tree.{decl_tree}
 use Rattle.fb_clean.specs.Library.View.{tree_at}
 use Rattle.fb_flatten.proofs.CountLemmas.{unit_counted}
 use Rattle.fb_flatten.proofs.SoundLemmas.{sound_tree}
-use Rattle.fb_net_parts.proofs.FoundUnits.{present_of, some_of_map}
+use Rattle.fb_clean.proofs.NetParts.FoundUnits.{present_of, some_of_map}
 use Rattle.fb_flatten.proofs.units.count_of_unit.Goals as goal
 
 pub unwrap-decl-requires : goal.unwrap-decl-requires

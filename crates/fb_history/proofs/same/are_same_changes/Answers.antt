@@ -1,6 +1,6 @@
 use Rattle.std.proofs.Common.{refl}
 use Rattle.fb_history.specs.Records.{text_edit}
-use Rattle.fb_values.proofs.Alike.{same_to_end}
+use Rattle.fb_jobs.proofs.Alike.{same_to_end}
 use Rattle.fb_history.proofs.same.are_same_changes.Goals as goal
 
 pub returns : goal.returns

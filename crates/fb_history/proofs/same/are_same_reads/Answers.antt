@@ -1,6 +1,6 @@
 use Rattle.std.proofs.Common.{refl}
-use Rattle.fb_values.specs.Values.{text_seen}
-use Rattle.fb_values.proofs.Alike.{same_to_end}
+use Rattle.fb_jobs.specs.Values.{text_seen}
+use Rattle.fb_jobs.proofs.Alike.{same_to_end}
 use Rattle.fb_history.proofs.same.are_same_reads.Goals as goal
 
 pub returns : goal.returns

@@ -1,4 +1,4 @@
-use Rattle.fb_values.proofs.Alike.{one_name}
+use Rattle.fb_jobs.proofs.Alike.{one_name}
 use Rattle.fb_history.proofs.same.is_one_name.Goals as goal
 
 pub returns : goal.returns

@@ -1,7 +1,7 @@
 use Rattle.std.proofs.Common.{sym, ap, subst, ◌∙◌, take, length, map}
 use Rattle.std.specs.Prelude.{All}
 use Rattle.std.proofs.lemmas.List.Elements.{All-take}
-use Rattle.fb_text.specs.Tokens.{LiesIn, SpansRise, spans_of}
+use Rattle.fb_tree.specs.Text.Tokens.{LiesIn, SpansRise, spans_of}
 use Rattle.std.proofs.lemmas.List.{take_all}
 use Rattle.fb_lexemes.specs.Lexemes.{lexeme_of}
 use Rattle.fb_lexemes.proofs.Lexing.{lexemes-rise, lexemes-within}

@@ -1,6 +1,6 @@
 use Rattle.std.proofs.Common.{◌≡◌, take, map}
-use Rattle.fb_library.specs.Tree.Tree.{mapping_tree}
-use Rattle.fb_library.specs.View.{tree_at}
+use Rattle.fb_net_parts.specs.Tree.Tree.{mapping_tree}
+use Rattle.fb_net_parts.specs.Library.View.{tree_at}
 use Rattle.fb_mapping.specs.Homes.{astray}
 use Rattle.fb_mapping.specs.Systems.{applications_in}
 use Rattle.fb_mapping.proofs.homes.astray.Given as goal

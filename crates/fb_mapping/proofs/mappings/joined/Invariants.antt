@@ -1,5 +1,5 @@
 use Rattle.std.proofs.Common.{◌≡◌, take, string_bytes}
-use Rattle.fb_network.specs.Printed.{printed}
+use Rattle.fb_net_parts.specs.Network.Printed.{printed}
 use Rattle.fb_mapping.specs.Mappings.{names_used}
 use Rattle.fb_mapping.proofs.mappings.joined.Given as goal
 

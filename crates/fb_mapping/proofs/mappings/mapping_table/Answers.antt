@@ -4,8 +4,8 @@ use Rattle.std.specs.BTreeMap.{get_by_text}
 use Rattle.std.specs.Option.{option_or}
 use Rattle.std.specs.Str.{bytes_eq}
 use Rattle.std.proofs.lemmas.List.{take_all}
-use Rattle.fb_library.specs.Tree.Tree.{mapping_tree}
-use Rattle.fb_library.specs.Tree.declared.system.Mapping.{Mapping}
+use Rattle.fb_net_parts.specs.Tree.Tree.{mapping_tree}
+use Rattle.fb_net_parts.specs.Tree.declared.system.Mapping.{Mapping}
 use Rattle.fb_mapping.specs.Firsts.{first_at}
 use Rattle.fb_mapping.specs.Mappings.{mapping_home, mapping_path}
 use Rattle.fb_mapping.proofs.FirstLemmas.{first_at-map, table_step}

@@ -1,7 +1,7 @@
 -- The table has the mappings passed so far.
 use Rattle.std.proofs.Common.{◌≡◌, ℕ, List, take}
 use Rattle.std.specs.BTreeMap.{get_by_text}
-use Rattle.fb_library.specs.Tree.Tree.{mapping_tree}
+use Rattle.fb_net_parts.specs.Tree.Tree.{mapping_tree}
 use Rattle.fb_mapping.specs.Firsts.{first_at}
 use Rattle.fb_mapping.specs.Mappings.{mapping_home, mapping_path}
 use Rattle.fb_mapping.proofs.mappings.mapping_table.Given as goal

@@ -1,5 +1,5 @@
 use Rattle.std.proofs.Common.{◌∙◌, ap}
-use Rattle.fb_network.specs.Places.{dotted}
+use Rattle.fb_net_parts.specs.Network.Places.{dotted}
 use Rattle.fb_mapping.proofs.NameLemmas.{path_next}
 use Rattle.fb_mapping.proofs.mappings.path_of_names.Goals as goal
 

@@ -1,5 +1,5 @@
 use Rattle.std.proofs.Common.{◌≡◌, ◌∷◌, take}
-use Rattle.fb_network.specs.Printed.{printed}
+use Rattle.fb_net_parts.specs.Network.Printed.{printed}
 use Rattle.fb_mapping.specs.Mappings.{names_used}
 use Rattle.fb_mapping.proofs.mappings.path_of_names.Given as goal
 

@@ -1,9 +1,9 @@
 -- Two strictly sorted lists with the same members are one.
 use Rattle.std.specs.Cmp.Lexicographic.{nat_list_cmp_total}
 use Rattle.std.specs.FinMap.{slice_cmp-IsAntisymmetric, nat_cmp-IsAntisymmetric}
-use Rattle.fb_text.specs.Order.{name_cmp}
-use Rattle.fb_text.proofs.OrderLemmas.{in_order-members, in_order-sorted}
-use Rattle.fb_compose.proofs.SameSorted.{same_sorted}
+use Rattle.fb_net_parts.specs.Text.Order.{name_cmp}
+use Rattle.fb_net_parts.proofs.Text.OrderLemmas.{in_order-members, in_order-sorted}
+use Rattle.fb_net_parts.proofs.Compose.SameSorted.{same_sorted}
 use Rattle.fb_mapping.proofs.sorted.sorted_paths.Goals as goal
 
 pub returns : goal.returns

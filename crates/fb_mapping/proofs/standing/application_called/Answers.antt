@@ -2,8 +2,8 @@
 use Rattle.std.proofs.Common.{◌≡◌, ℕ, List, true, false, map, ap, sym, ◌∙◌}
 use Rattle.std.specs.Str.{bytes_eq}
 use Rattle.std.proofs.lemmas.List.{take_all}
-use Rattle.fb_library.specs.Tree.Tree.{ApplicationTree, application_tree}
-use Rattle.fb_library.specs.Tree.declared.system.Application.{Application}
+use Rattle.fb_net_parts.specs.Tree.Tree.{ApplicationTree, application_tree}
+use Rattle.fb_net_parts.specs.Tree.declared.system.Application.{Application}
 use Rattle.fb_mapping.specs.Firsts.{first_at}
 use Rattle.fb_mapping.proofs.FirstLemmas.{first_at-map, first_found, first_passed}
 use Rattle.fb_mapping.proofs.standing.application_called.Goals as goal

@@ -1,6 +1,6 @@
 -- No application so far has the name.
 use Rattle.std.proofs.Common.{◌≡◌, None, take}
-use Rattle.fb_library.specs.Tree.Tree.{application_tree}
+use Rattle.fb_net_parts.specs.Tree.Tree.{application_tree}
 use Rattle.fb_mapping.specs.Firsts.{first_at}
 use Rattle.fb_mapping.proofs.standing.application_called.Given as goal
 

@@ -2,8 +2,8 @@
 use Rattle.std.proofs.Common.{◌≡◌, ℕ, List, true, false, map, ap, sym, ◌∙◌}
 use Rattle.std.specs.Str.{bytes_eq}
 use Rattle.std.proofs.lemmas.List.{take_all}
-use Rattle.fb_library.specs.Tree.Tree.{InstanceTree, instance_tree}
-use Rattle.fb_library.specs.Tree.declared.network.Instance.{Instance}
+use Rattle.fb_net_parts.specs.Tree.Tree.{InstanceTree, instance_tree}
+use Rattle.fb_net_parts.specs.Tree.declared.network.Instance.{Instance}
 use Rattle.fb_mapping.specs.Firsts.{first_at}
 use Rattle.fb_mapping.specs.Standing.{PlainStanding, standing_among}
 use Rattle.fb_mapping.proofs.FirstLemmas.{first_at-map, first_found, first_passed}

@@ -1,6 +1,6 @@
 use Rattle.std.proofs.Common.{ℕ, List, Option, map, sym, ◌∙◌, ap}
 use Rattle.std.specs.Borrow.{Bor}
-use Rattle.fb_library.specs.Tree.Tree.{instance_tree}
+use Rattle.fb_net_parts.specs.Tree.Tree.{instance_tree}
 use Rattle.fb_mapping.specs.Standing.{PlainStanding, standing_beyond, standing_from}
 use Rattle.fb_mapping.proofs.StandingLemmas.{beyond_nothing}
 use Rattle.fb_mapping.proofs.standing.standing_from.Goals as goal

@@ -1,8 +1,8 @@
 -- What is composed of the applications, joined.
 use Rattle.std.proofs.Common.{List, subst}
 use Rattle.std.proofs.lemmas.Result.{IfOk-weaker}
-use Rattle.fb_compose.specs.SystemFlat.{IsSystemFlat}
-use Rattle.fb_compose.specs.declared.application.FlatApplication.{FlatApplication}
+use Rattle.fb_order.specs.Compose.SystemFlat.{IsSystemFlat}
+use Rattle.fb_order.specs.Compose.declared.application.FlatApplication.{FlatApplication}
 use Rattle.fb_net_parts.proofs.applications.flat_of_applications.Goals as goal
 
 pub returns : goal.returns

@@ -1,8 +1,8 @@
 -- One application further.
 use Rattle.std.proofs.Common.{List, [], ◌∷◌, ◌++◌, sym, subst, take}
 use Rattle.std.proofs.lemmas.List.{take_all}
-use Rattle.fb_compose.specs.declared.application.FlatApplication.{FlatApplication}
-use Rattle.fb_wiring.specs.declared.systems.Application.{Application}
+use Rattle.fb_order.specs.Compose.declared.application.FlatApplication.{FlatApplication}
+use Rattle.fb_order.specs.Wiring.declared.systems.Application.{Application}
 use Rattle.fb_net_parts.specs.Units.{AreFlatApplications, NoApplication}
 use Rattle.fb_net_parts.proofs.FoundUnits.{applications_further, flats-push}
 use Rattle.fb_net_parts.proofs.applications.flats_of_applications.Goals as goal

@@ -1,8 +1,8 @@
 -- The applications passed so far have what is composed of them.
 use Rattle.std.proofs.Common.{take}
 use Rattle.std.specs.BTreeMap.{get}
-use Rattle.fb_text.specs.Order.{name_cmp}
-use Rattle.fb_wiring.specs.Network.Network.{View}
+use Rattle.fb_order.specs.Text.Order.{name_cmp}
+use Rattle.fb_order.specs.Network.Network.{View}
 use Rattle.fb_net_parts.specs.Tables.{AreComposable}
 use Rattle.fb_net_parts.specs.Units.{AreFlatApplications}
 use Rattle.fb_net_parts.proofs.applications.flats_of_applications.Given as goal

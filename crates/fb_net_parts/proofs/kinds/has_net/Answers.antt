@@ -1,6 +1,6 @@
 -- By the kind of the tree.
 use Rattle.std.proofs.Common.{sym}
-use Rattle.fb_wiring.specs.Tree.Tree.{decl_tree}
+use Rattle.fb_order.specs.Tree.Tree.{decl_tree}
 use Rattle.fb_net_parts.proofs.KindLemmas.{net_kind, no_net_kind}
 use Rattle.fb_net_parts.proofs.kinds.has_net.Goals as goal
 

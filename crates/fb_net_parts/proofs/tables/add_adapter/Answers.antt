@@ -2,10 +2,10 @@
 use Rattle.std.proofs.Common.{◌≡◌, Some, None, sym, ap, ◌∙◌}
 use Rattle.std.specs.Prelude.{option_map}
 use Rattle.std.specs.BTreeMap.{get}
-use Rattle.fb_text.specs.Order.{name_cmp}
-use Rattle.fb_wiring.specs.Network.Plain.{PlainNetwork}
-use Rattle.fb_wiring.specs.ByName.{declared}
-use Rattle.fb_wiring.specs.Networks.{network_of}
+use Rattle.fb_order.specs.Text.Order.{name_cmp}
+use Rattle.fb_order.specs.Network.Plain.{PlainNetwork}
+use Rattle.fb_order.specs.Wiring.ByName.{declared}
+use Rattle.fb_order.specs.Wiring.Networks.{network_of}
 use Rattle.fb_net_parts.proofs.TableLemmas.{grows_none, has_none, has_there, put_grows, put_has}
 use Rattle.fb_net_parts.proofs.tables.add_adapter.Goals as goal
 

@@ -1,7 +1,7 @@
 -- The adapter is added where there is one.
 use Rattle.std.proofs.lemmas.Result.{on_ok_weaker}
 use Rattle.std.specs.BTreeMap.{get}
-use Rattle.fb_text.specs.Order.{name_cmp}
+use Rattle.fb_order.specs.Text.Order.{name_cmp}
 use Rattle.fb_net_parts.proofs.TableLemmas.{adapter_is, adapter_none, grows_none}
 use Rattle.fb_net_parts.proofs.tables.add_adapter_of.Goals as goal
 

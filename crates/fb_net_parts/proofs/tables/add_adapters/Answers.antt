@@ -2,8 +2,8 @@
 use Rattle.std.proofs.Common.{List, subst, take}
 use Rattle.std.proofs.lemmas.List.{take_all}
 use Rattle.std.specs.BTreeMap.{get}
-use Rattle.fb_text.specs.Order.{name_cmp}
-use Rattle.fb_wiring.specs.Network.declared.network.Port.{Port}
+use Rattle.fb_order.specs.Text.Order.{name_cmp}
+use Rattle.fb_order.specs.Network.declared.network.Port.{Port}
 use Rattle.fb_net_parts.specs.Tables.{HasAdapters}
 use Rattle.fb_net_parts.proofs.TableLemmas.{adapters_kept, adapters_more, adapters_nothing, further, grows_both, grows_none}
 use Rattle.fb_net_parts.proofs.tables.add_adapters.Goals as goal

@@ -1,7 +1,7 @@
 -- The adapters of the ports passed so far are there, and nothing is lost.
 use Rattle.std.proofs.Common.{take}
 use Rattle.std.specs.BTreeMap.{get}
-use Rattle.fb_text.specs.Order.{name_cmp}
+use Rattle.fb_order.specs.Text.Order.{name_cmp}
 use Rattle.fb_net_parts.specs.Tables.{Grows, HasAdapters}
 use Rattle.fb_net_parts.proofs.tables.add_adapters.Given as goal
 

@@ -1,5 +1,5 @@
 -- The count stands under the name, and nothing else is changed.
-use Rattle.fb_compose.proofs.Equals.{not_at}
+use Rattle.fb_order.proofs.Compose.Equals.{not_at}
 use Rattle.fb_net_parts.proofs.tables.add_count.Goals as goal
 
 pub returns-clause-others : goal.returns-clause-others

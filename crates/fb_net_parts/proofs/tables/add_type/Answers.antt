@@ -2,11 +2,11 @@
 use Rattle.std.proofs.Common.{◌≡◌, List, Some, None, sym, ap, subst, ◌∙◌}
 use Rattle.std.specs.Prelude.{option_map}
 use Rattle.std.specs.BTreeMap.{get}
-use Rattle.fb_text.specs.Order.{name_cmp}
-use Rattle.fb_wiring.specs.Network.declared.network.Port.{Port}
-use Rattle.fb_wiring.specs.Network.Plain.{PlainNetwork}
-use Rattle.fb_wiring.specs.ByName.{declared}
-use Rattle.fb_wiring.specs.Networks.{network_of}
+use Rattle.fb_order.specs.Text.Order.{name_cmp}
+use Rattle.fb_order.specs.Network.declared.network.Port.{Port}
+use Rattle.fb_order.specs.Network.Plain.{PlainNetwork}
+use Rattle.fb_order.specs.Wiring.ByName.{declared}
+use Rattle.fb_order.specs.Wiring.Networks.{network_of}
 use Rattle.fb_net_parts.specs.Tables.{HasAdapters}
 use Rattle.fb_net_parts.proofs.TableLemmas.{adapters_kept, grows_both, grows_none, put_grows, put_has, type_is, type_none}
 use Rattle.fb_net_parts.proofs.tables.add_type.Goals as goal

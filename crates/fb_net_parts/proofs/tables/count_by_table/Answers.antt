@@ -2,10 +2,10 @@
 use Rattle.std.proofs.Common.{◌≡◌, Some, sym, ap, ◌∙◌, subst}
 use Rattle.std.specs.Option.{option_copied}
 use Rattle.std.specs.BTreeMap.{get}
-use Rattle.fb_text.specs.Order.{name_cmp}
-use Rattle.fb_wiring.specs.Network.Plain.{PlainNetwork}
-use Rattle.fb_wiring.specs.Network.Count.{IsCount}
-use Rattle.fb_compose.specs.Counts.{AreCounted}
+use Rattle.fb_order.specs.Text.Order.{name_cmp}
+use Rattle.fb_order.specs.Network.Plain.{PlainNetwork}
+use Rattle.fb_order.specs.Network.Count.{IsCount}
+use Rattle.fb_order.specs.Compose.Counts.{AreCounted}
 use Rattle.fb_net_parts.proofs.tables.count_by_table.Goals as goal
 
 pub returns : goal.returns

@@ -1,8 +1,8 @@
 -- Nothing is there at first, and each type that is passed is added.
 use Rattle.std.proofs.Common.{List, ℕ, subst, take}
 use Rattle.std.specs.BTreeMap.{get}
-use Rattle.fb_text.specs.Order.{name_cmp}
-use Rattle.fb_compose.proofs.EmptyMaps.{nothing_at}
+use Rattle.fb_order.specs.Text.Order.{name_cmp}
+use Rattle.fb_order.proofs.Compose.EmptyMaps.{nothing_at}
 use Rattle.fb_net_parts.specs.Tables.{IsTable}
 use Rattle.fb_net_parts.proofs.TableLemmas.{further, nothing_true, table_more, table_nothing}
 use Rattle.fb_net_parts.proofs.tables.networks_of.Goals as goal

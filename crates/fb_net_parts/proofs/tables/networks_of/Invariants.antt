@@ -1,7 +1,7 @@
 -- The types passed so far have their networks.
 use Rattle.std.proofs.Common.{take}
 use Rattle.std.specs.BTreeMap.{get}
-use Rattle.fb_text.specs.Order.{name_cmp}
+use Rattle.fb_order.specs.Text.Order.{name_cmp}
 use Rattle.fb_net_parts.specs.Tables.{IsTable}
 use Rattle.fb_net_parts.proofs.tables.networks_of.Given as goal
 

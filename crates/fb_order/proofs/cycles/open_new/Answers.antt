@@ -1,7 +1,7 @@
 use Rattle.std.proofs.Common.{◌≡◌, ◌+◌, ◌∷◌, [], ◌++◌, true, false, arith, take, filter, sym, ap, ◌∙◌}
 use Rattle.std.proofs.lemmas.Grind.{common_steps}
-use Rattle.fb_library.specs.Seen.{has_name}
-use Rattle.fb_library.proofs.WalkLemmas.{Opens-none, Opens-new, Opens-old, has-updates, not_true, not_false}
+use Rattle.fb_wiring.specs.Table.Seen.{has_name}
+use Rattle.fb_wiring.proofs.Library.WalkLemmas.{Opens-none, Opens-new, Opens-old, has-updates, not_true, not_false}
 use Rattle.fb_order.proofs.FilterLemmas.{filter_more, filter_less}
 use Rattle.fb_order.proofs.cycles.open_new.Goals as goal
 use Rattle.fb_order.proofs.cycles.open_new.Goals.{then-contains+in_ok-insert+then-branch+in_ok-push, else-contains, else-contains-via-then-contains+in_ok-insert+else-branch, else-contains-via-else-contains}

@@ -1,9 +1,9 @@
 use Rattle.std.proofs.Common.{◌≡◌, ◌+◌, ◌||◌, cond, ℕ, List, ◌∷◌, [], ◌++◌, false, arith, take, sym, ap, ◌∙◌}
 use Rattle.std.proofs.lemmas.Grind.{common_steps}
-use Rattle.fb_text.proofs.Tests.{or_assoc, or_false}
-use Rattle.fb_table.proofs.SeenLemmas.{same}
-use Rattle.fb_library.specs.Seen.{has_name}
-use Rattle.fb_library.proofs.WalkLemmas.{has-push, has-updates}
+use Rattle.fb_wiring.proofs.Text.Tests.{or_assoc, or_false}
+use Rattle.fb_wiring.proofs.Table.SeenLemmas.{same}
+use Rattle.fb_wiring.specs.Table.Seen.{has_name}
+use Rattle.fb_wiring.proofs.Library.WalkLemmas.{has-push, has-updates}
 use Rattle.fb_order.proofs.NameLemmas.{same_swap}
 use Rattle.fb_order.proofs.DecidedLemmas.{gone_twice}
 use Rattle.fb_order.proofs.cycles.settle.Goals as goal

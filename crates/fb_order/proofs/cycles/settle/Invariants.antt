@@ -1,7 +1,7 @@
 use Rattle.std.proofs.Common.{◌≡◌, ℕ, List, false, ◌||◌, if◌then◌else◌, take}
 use Rattle.std.specs.Ordering.{eq_by_cmp}
-use Rattle.fb_text.specs.Order.{name_cmp}
-use Rattle.fb_library.specs.Seen.{has_name}
+use Rattle.fb_wiring.specs.Text.Order.{name_cmp}
+use Rattle.fb_wiring.specs.Table.Seen.{has_name}
 use Rattle.fb_order.proofs.cycles.settle.Given as goal
 
 abbrev pub invariant-loop-other : goal.invariant-loop-other

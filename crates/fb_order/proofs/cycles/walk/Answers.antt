@@ -1,6 +1,6 @@
 use Rattle.std.proofs.Common.{◌≡◌, List, ℕ, ◌∷◌, [], ◌++◌, sym, subst, arith}
-use Rattle.fb_library.specs.Seen.{Opens, has_name}
-use Rattle.fb_library.proofs.WalkLemmas.{one_pushed, no_items}
+use Rattle.fb_wiring.specs.Table.Seen.{Opens, has_name}
+use Rattle.fb_wiring.proofs.Library.WalkLemmas.{one_pushed, no_items}
 use Rattle.fb_order.specs.Graph.{edges_within}
 use Rattle.fb_order.proofs.FilterLemmas.{of_filter}
 use Rattle.fb_order.proofs.GraphLemmas.{edges-none, edges-some}

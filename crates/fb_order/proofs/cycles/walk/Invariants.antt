@@ -1,5 +1,5 @@
 use Rattle.std.proofs.Common.{◌+◌, length}
-use Rattle.fb_library.specs.Seen.{unseen}
+use Rattle.fb_wiring.specs.Table.Seen.{unseen}
 use Rattle.fb_order.specs.Graph.{edges_within}
 use Rattle.fb_order.proofs.ReachLemmas.{IsWalk}
 use Rattle.fb_order.proofs.cycles.walk.Given as goal

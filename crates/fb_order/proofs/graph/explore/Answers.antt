@@ -1,7 +1,7 @@
 use Rattle.std.proofs.Common.{◌≡◌, List, ℕ, ◌<◌, ◌||◌, ◌&&◌, ◌++◌, sym, ap, subst, ◌∙◌}
-use Rattle.fb_table.proofs.SeenLemmas.{same}
-use Rattle.fb_library.proofs.WalkLemmas.{has-updates, not_true, not_false}
-use Rattle.fb_library.specs.Seen.{has_name}
+use Rattle.fb_wiring.proofs.Table.SeenLemmas.{same}
+use Rattle.fb_wiring.proofs.Library.WalkLemmas.{has-updates, not_true, not_false}
+use Rattle.fb_wiring.specs.Table.Seen.{has_name}
 use Rattle.fb_order.specs.Graph.{edges_at}
 use Rattle.fb_order.specs.Steps.{enters}
 use Rattle.fb_order.proofs.NameLemmas.{on_false}

@@ -1,6 +1,6 @@
 use Rattle.std.proofs.Common.{◌≡◌, ◌+◌, ◌∷◌, [], ◌++◌, arith, take, filter, sym, ap, ◌∙◌}
 use Rattle.std.proofs.lemmas.Grind.{common_steps}
-use Rattle.fb_library.specs.Seen.{has_name}
+use Rattle.fb_wiring.specs.Table.Seen.{has_name}
 use Rattle.fb_order.proofs.FilterLemmas.{filter_more, filter_less}
 use Rattle.fb_order.proofs.loops.those_in.Goals as goal
 use Rattle.fb_order.proofs.loops.those_in.Goals.{then-contains+in_ok-push, else-contains}

@@ -1,5 +1,5 @@
 use Rattle.std.proofs.Common.{◌≡◌, take, filter}
-use Rattle.fb_library.specs.Seen.{has_name}
+use Rattle.fb_wiring.specs.Table.Seen.{has_name}
 use Rattle.fb_order.proofs.loops.those_in.Given as goal
 
 abbrev pub invariant-loop-name : goal.invariant-loop-name

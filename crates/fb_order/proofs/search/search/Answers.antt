@@ -1,6 +1,6 @@
 use Rattle.std.proofs.Common.{◌≡◌, ℕ, List, [], refl, sym, subst, ◌∙◌, arith}
 use Rattle.std.proofs.lemmas.Bool.{false≢true}
-use Rattle.fb_library.proofs.WalkLemmas.{has-updates, not_true, not_false}
+use Rattle.fb_wiring.proofs.Library.WalkLemmas.{has-updates, not_true, not_false}
 use Rattle.fb_order.specs.declared.search.Step.{Step}
 use Rattle.fb_order.proofs.SearchLemmas.{IsSearch, IsSearch-begin, fuel_pop, skipped, left_last, found_loop, entered_next, entered_falls, whole_at_end, none_at_end, no_steps}
 use Rattle.fb_order.proofs.search.search.Goals as goal

@@ -1,5 +1,5 @@
 use Rattle.fb_parse.specs.Grammar.{unit}
-use Rattle.fb_sections.proofs.Forms.Forms.{one_spelled}
+use Rattle.fb_structured_text.proofs.Forms.Forms.{one_spelled}
 use Rattle.fb_parse.proofs.Predictive.{predictive_unit}
 use Rattle.fb_parse.proofs.body.one_tree.Goals as goal
 

@@ -1,5 +1,5 @@
 use Rattle.std.proofs.Common.{◌≡◌, take}
-use Rattle.fb_values.specs.Library.Changes.{edits_of}
+use Rattle.fb_jobs.specs.Library.Changes.{edits_of}
 use Rattle.fb_history.specs.Records.{text_edits}
 use Rattle.fb_history.proofs.record.TextChange.of_changes.Given as goal
 

@@ -2,7 +2,7 @@
 use Rattle.std.proofs.Common.{◌≡◌, rules, IfOk, IfErr, List, ap, subst, sym, ◌∙◌}
 use Rattle.std.specs.List.Sorted.{IsStrictlySortedBy}
 use Rattle.std.proofs.lemmas.List.Sorted.{answers_always}
-use Rattle.fb_text.specs.Order.{name_cmp}
+use Rattle.fb_values.specs.Text.Order.{name_cmp}
 use Rattle.fb_values.specs.Library.Place.{IsAt, IsGapFor}
 use Rattle.fb_values.specs.Reads.{PlainJob, read_names}
 use Rattle.fb_values.specs.Values.{all_seen}

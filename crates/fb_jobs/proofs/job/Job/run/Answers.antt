@@ -2,7 +2,7 @@
 use Rattle.std.proofs.Common.{◌≡◌, true, ap, sym, subst, ◌∙◌, All}
 use Rattle.std.specs.BTreeMap as tree
 use Rattle.std.specs.FinMap.{get}
-use Rattle.fb_text.specs.Order.{name_cmp}
+use Rattle.fb_values.specs.Text.Order.{name_cmp}
 use Rattle.fb_values.specs.Flatten.Hints.{AreRightHints}
 use Rattle.fb_jobs.specs.Hints.{hint_in}
 use Rattle.fb_jobs.proofs.HintLemmas.{hints_right}

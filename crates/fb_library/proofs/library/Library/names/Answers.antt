@@ -1,7 +1,7 @@
 -- The texts have the names of the units.
 use Rattle.std.proofs.Common.{◌≡◌, IfOk, List, ℕ, subst, sym, ap, ◌∙◌}
 use Rattle.std.specs.List.Sorted.{IsStrictlySortedBy}
-use Rattle.fb_text.specs.Order.{name_cmp}
+use Rattle.fb_parse.specs.Text.Order.{name_cmp}
 use Rattle.fb_library.specs.Texts.{names_of}
 use Rattle.fb_library.proofs.Units.{units_named}
 use Rattle.fb_library.proofs.library.Library.names.Goals as goal

@@ -1,7 +1,7 @@
 -- A unit that is put stands under its source's unit, and is put in the texts too.
 use Rattle.std.proofs.Common.{rules, ◌≡◌, ap, ◌∙◌}
 use Rattle.std.specs.BTreeMap.{insert_entry}
-use Rattle.fb_text.specs.Order.{name_cmp}
+use Rattle.fb_parse.specs.Text.Order.{name_cmp}
 use Rattle.fb_library.specs.Filed.{held_of, texts_of, AreOwn}
 use Rattle.fb_library.proofs.Units.{kept, shown, own_put, texts_put}
 use Rattle.fb_library.proofs.library.Library.put.Goals as goal
