@@ -1,7 +1,7 @@
 //! The program `bench61499`: a workbench for IEC 61499 units that answers requests, one on each line.
 #![tactic(auto)]
 
-use fb_program::streams::{FromRead, IntoWrite};
+use fb_program::wire::{FromRead, IntoWrite};
 use fb_program::{Outcome, refuse_words};
 use fb_serve::{Numbers, serve};
 use std::alloc::{AllocError, Global};

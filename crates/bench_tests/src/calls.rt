@@ -1,8 +1,8 @@
 //! What a workbench shows after the calls of its callers: its records, keys, revisions and what is known of a key.
 use crate::talk::{all_right, new_bench, talk};
-use fb_wire::bench::jobs::{Key, Kind};
+use fb_text::Name;
 use fb_wire::bench::{Asked, Bench, Call, Limits, Reply, Shown};
-use fb_wire::text::Name;
+use fb_wire::jobs::{Key, Kind};
 use std::alloc::Global;
 use std::process::Abort;
 use std::test::Fail;

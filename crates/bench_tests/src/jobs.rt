@@ -1,10 +1,10 @@
 //! Jobs with what they read, results that come from another workbench, and calls that are made as requests.
 use crate::talk::{new_bench, talk};
-use fb_wire::bench::jobs::{Finished, Job, Key, Kind};
-use fb_wire::bench::library::Change;
-use fb_wire::bench::parse::Source;
+use fb_library::Change;
+use fb_library::parse::Source;
+use fb_text::Name;
 use fb_wire::bench::{Answered, Bench, Call, Delivered, Request, Shown, Taken, TextChange};
-use fb_wire::text::Name;
+use fb_wire::jobs::{Finished, Job, Key, Kind};
 use std::alloc::Global;
 use std::process::Abort;
 use std::test::Fail;

@@ -1,8 +1,8 @@
 //! Each checker alone, on a text that has faults of all, and on one that has none.
 use crate::checkers::{Checker, find, found_by};
-use crate::plant::{all_told, library, plant_with, same};
-use fb_faults::library::Library;
-use fb_faults::text::Name;
+use crate::plant::{all_told, library, plant_with};
+use fb_library::Library;
+use fb_tree::text::Name;
 use std::alloc::Global;
 use std::process::Abort;
 use std::test::Fail;
@@ -38,7 +38,7 @@ fn compare_found(
     let unit = Name::read("U")?;
     for (checker, expected) in rows {
         let told = found_told(alloc, library, &unit, *checker)?;
-        same(rt, told.as_str(), expected, "a checker alone");
+        assert_eq!(rt; told.as_str(), *expected, "a checker alone");
     }
     Ok(())
 }

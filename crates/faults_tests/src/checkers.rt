@@ -1,12 +1,11 @@
 //! The checkers of declarations, expressions, charts and networks, each called alone, and what they find together.
-use fb_faults::declarations::iface_faults;
-use fb_faults::ecc::ecc_faults;
-use fb_faults::expr::expr_faults;
+use fb_ecc::ecc_faults;
+use fb_expr::expr_faults;
 use fb_faults::faults;
-use fb_faults::iface::{Code, Fault, sorted_faults};
-use fb_faults::library::Library;
-use fb_faults::netcheck::net_faults;
-use fb_faults::text::Name;
+use fb_iface::{Code, Fault, iface_faults, sorted_faults};
+use fb_library::Library;
+use fb_netcheck::net_faults;
+use fb_tree::text::Name;
 use std::alloc::{AllocError, Global};
 
 /// A checker that can be called alone.

@@ -1,10 +1,9 @@
 //! The ports that `interface` gives, told as six lists: event inputs, event outputs, data inputs, data outputs, plugs and sockets. Behind each
 //! name stands its type, where it has one.
-use crate::plant::same;
-use fb_faults::iface::{Ports, interface};
-use fb_faults::parse::Source;
-use fb_faults::text::{Name, NameUse};
-use fb_faults::tree::TypeUse;
+use fb_iface::{Ports, interface};
+use fb_library::parse::Source;
+use fb_tree::TypeUse;
+use fb_tree::text::{Name, NameUse};
 use std::alloc::{AllocError, Global};
 use std::process::Abort;
 use std::test::Fail;
@@ -120,7 +119,7 @@ fn told_of_text(alloc: Global, text: &str) -> Result<String, Fail> {
 fn compare_interfaces(rt: &impl Abort, alloc: Global, rows: &[(&str, &str)]) -> Result<(), Fail> {
     for (text, expected) in rows {
         let told = told_of_text(alloc, text)?;
-        same(rt, told.as_str(), expected, text);
+        assert_eq!(rt; told.as_str(), *expected, "{text}");
     }
     Ok(())
 }

@@ -16,8 +16,6 @@ mod expressions;
 #[cfg(test)]
 mod interfaces;
 #[cfg(test)]
-mod laws;
-#[cfg(test)]
 mod libraries;
 #[cfg(test)]
 mod mappings;

@@ -1,10 +1,10 @@
 //! Libraries of units, and the parts of faults and interfaces.
-use crate::plant::{equal, library, put, same};
+use crate::plant::{library, put};
 use fb_faults::faults;
-use fb_faults::iface::{Code, Fault, first_declared, interface, sorted_faults};
-use fb_faults::library::{Change, Library, View, declaration_by_name, far, near, tree_by_name};
-use fb_faults::parse::{Body, Source};
-use fb_faults::text::{Name, Span};
+use fb_iface::{Code, Fault, first_declared, interface, sorted_faults};
+use fb_library::parse::{Body, Source};
+use fb_library::{Change, Library, View, declaration_by_name, far, near, tree_by_name};
+use fb_tree::text::{Name, Span};
 use std::alloc::{AllocError, Global};
 use std::process::Abort;
 use std::test::Fail;
@@ -47,8 +47,8 @@ fn far_told(alloc: Global, library: &Library, name: Name) -> Result<String, Fail
 /// Compares what is near and far of S.
 fn compare_near(rt: &impl Abort, alloc: Global, library: &Library) -> Result<(), Fail> {
     let s = Name::read("s")?;
-    same(rt, near_told(alloc, library, s)?.as_str(), "A S ", "near");
-    same(rt, far_told(alloc, library, s)?.as_str(), "A B S ", "far");
+    assert_eq!(rt; near_told(alloc, library, s)?.as_str(), "A S ", "near");
+    assert_eq!(rt; far_told(alloc, library, s)?.as_str(), "A B S ", "far");
     assert!(rt; is_declared(library, &s));
     Ok(())
 }
@@ -93,7 +93,7 @@ fn first_unit(changes: &[Change]) -> Option<Name> {
 
 /// Makes these changes, of which the first is for B.
 fn change(rt: &impl Abort, library: &mut Library, changes: &[Change]) -> Result<(), Fail> {
-    equal(rt, &first_unit(changes), &Some(Name::read("B")?), "B");
+    assert_eq!(rt; first_unit(changes), Some(Name::read("B")?), "B");
     Ok(library.apply(2, changes)?)
 }
 
@@ -110,23 +110,23 @@ fn compare_units(
     library: &Library,
     expected: &str,
 ) -> Result<(), Fail> {
-    same(rt, units(alloc, library)?.as_str(), expected, "units");
+    assert_eq!(rt; units(alloc, library)?.as_str(), expected, "units");
     Ok(())
 }
 
 /// Compares the places of names in a library of three units.
 fn compare_places(rt: &impl Abort, library: &Library) -> Result<(), Fail> {
     let found = [library.name_at(1), library.name_at(3)];
-    equal(rt, &found, &[Some(Name::read("B")?), None], "names");
+    assert_eq!(rt; found, [Some(Name::read("B")?), None], "names");
     Ok(())
 }
 
 /// Compares the texts of a library from which S was removed.
 fn compare_texts(rt: &impl Abort, library: &Library) -> Result<(), Fail> {
     let [b, s] = [Name::read("B")?, Name::read("S")?];
-    equal(rt, &library.revision(&s), &0, "S");
-    same(rt, text_of(library, &b), SHORT, "B");
-    same(rt, text_of(library, &s), "", "S");
+    assert_eq!(rt; library.revision(&s), 0, "S");
+    assert_eq!(rt; text_of(library, &b), SHORT, "B");
+    assert_eq!(rt; text_of(library, &s), "", "S");
     Ok(())
 }
 
@@ -187,7 +187,7 @@ fn is_without_interface(alloc: Global, text: &str) -> Result<bool, Fail> {
 #[test]
 fn what_is_absent_or_broken(rt: HostRuntime) -> Result<(), Fail> {
     let counts = [count_in_none(rt.alloc())?, count_of_absent(rt.alloc())?];
-    equal(&rt, &counts, &[0, 0], "faults");
+    assert_eq!(rt; counts, [0, 0], "faults");
     assert!(rt; is_without_interface(rt.alloc(), "X")?);
     Ok(())
 }
@@ -214,7 +214,7 @@ fn faults_go_by_place_and_then_by_number(rt: HostRuntime) -> Result<(), Fail> {
 fn codes_have_words_and_numbers(rt: HostRuntime) -> Result<(), Fail> {
     let code = Code::NoSuchResource;
     let word = format!(in rt.alloc(); "{code} {}", code.number())?;
-    same(&rt, word.as_str(), "NO_SUCH_RESOURCE 22", "a code");
+    assert_eq!(rt; word.as_str(), "NO_SUCH_RESOURCE 22", "a code");
     Ok(())
 }
 
@@ -228,6 +228,6 @@ fn first_numbers(alloc: Global, x: Name, y: Name) -> Result<([Option<i32>; 2], u
 #[test]
 fn a_name_stands_for_its_first_declaration(rt: HostRuntime) -> Result<(), Fail> {
     let found = first_numbers(rt.alloc(), Name::read("x")?, Name::read("y")?)?;
-    equal(&rt, &found, &([Some(1), Some(2)], 2), "numbers");
+    assert_eq!(rt; found, ([Some(1), Some(2)], 2), "numbers");
     Ok(())
 }

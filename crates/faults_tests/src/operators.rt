@@ -2,9 +2,9 @@
 //!
 //! The class of an expression shows in the statements where it may stand: B and Any as a truth value, I, Num and Any as a subscript, W, Num
 //! and Any as a string of bits, and what is not judged before `MOD TRUE` too.
-use crate::plant::{faults_of, library, same};
-use fb_faults::iface::Code;
-use fb_faults::library::Library;
+use crate::plant::{faults_of, library};
+use fb_iface::Code;
+use fb_library::Library;
 use std::alloc::Global;
 use std::process::Abort;
 use std::test::Fail;
@@ -135,7 +135,7 @@ fn singles(alloc: Global, none: &Library, operator: &str) -> Result<String, Fail
 fn compare_pairs(rt: &impl Abort, alloc: Global, none: &Library) -> Result<(), Fail> {
     for (operator, expected) in &PAIRS {
         let found = pairs(alloc, none, operator)?;
-        same(rt, found.as_str(), expected, operator);
+        assert_eq!(rt; found.as_str(), *expected, "{operator}");
     }
     Ok(())
 }
@@ -143,7 +143,7 @@ fn compare_pairs(rt: &impl Abort, alloc: Global, none: &Library) -> Result<(), F
 fn compare_singles(rt: &impl Abort, alloc: Global, none: &Library) -> Result<(), Fail> {
     for (operator, expected) in &SINGLES {
         let found = singles(alloc, none, operator)?;
-        same(rt, found.as_str(), expected, operator);
+        assert_eq!(rt; found.as_str(), *expected, "{operator}");
     }
     Ok(())
 }

@@ -4,12 +4,11 @@
 //! in the text, `#2` follows, and so on. The faults of each text of a table are compared with those that the checkers find together, too.
 use crate::checkers::are_found_together;
 use fb_faults::faults;
-use fb_faults::iface::Fault;
-use fb_faults::library::{Change, Library};
-use fb_faults::parse::Source;
-use fb_faults::text::{Name, Span};
+use fb_iface::Fault;
+use fb_library::parse::Source;
+use fb_library::{Change, Library};
+use fb_tree::text::{Name, Span};
 use std::alloc::{AllocError, Global};
-use std::fmt::Debug;
 use std::process::Abort;
 use std::test::Fail;
 
@@ -62,16 +61,6 @@ static UNITS: [(&str, &str); 14] = [
     ),
     ("Y", "SYSTEM Y END_SYSTEM"),
 ];
-
-/// Compares what is told with what is expected.
-pub fn same(rt: &impl Abort, told: &str, expected: &str, about: &str) {
-    assert_eq!(rt; told, expected, "{about}");
-}
-
-/// Compares what is found with what is expected.
-pub fn equal<T: PartialEq + Debug>(rt: &impl Abort, found: &T, expected: &T, about: &str) {
-    assert_eq!(rt; found, expected, "{about}");
-}
 
 /// The change that puts a text under a name.
 pub fn put(alloc: Global, unit: &str, base: u64, text: &str) -> Result<Change, Fail> {
@@ -195,8 +184,8 @@ fn compare_told(
     (known, expected): (&str, &str),
 ) -> Result<(), Fail> {
     let (in_head, behind) = told(alloc, plant, text, end)?;
-    same(rt, in_head.as_str(), known, text);
-    same(rt, behind.as_str(), expected, text);
+    assert_eq!(rt; in_head.as_str(), known, "{text}");
+    assert_eq!(rt; behind.as_str(), expected, "{text}");
     Ok(())
 }
 
@@ -209,8 +198,7 @@ fn compare_text(
     told: (&str, &str),
 ) -> Result<(), Fail> {
     compare_told(rt, alloc, plant, at, told)?;
-    let are_found = are_found_in(alloc, plant, at.0)?;
-    equal(rt, &are_found, &true, at.0);
+    assert!(rt; are_found_in(alloc, plant, at.0)?, "{}", at.0);
     Ok(())
 }
 

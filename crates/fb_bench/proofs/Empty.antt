@@ -7,15 +7,15 @@ use Rattle.std.specs.BTreeMap.{is_at}
 use Rattle.std.specs.List.{list_any}
 use Rattle.fb_entries.specs.Library.Texts.{Texts}
 use Rattle.fb_entries.specs.Jobs.declared.key.Key.{Key}
-use Rattle.fb_entries.specs.KeysAndValues.Keys.{has_key}
-use Rattle.fb_entries.specs.KeysAndValues.KeyOrder.{key_cmp}
+use Rattle.fb_entries.specs.Jobs.Keys.{has_key}
+use Rattle.fb_entries.specs.Jobs.KeyOrder.{key_cmp}
 use Rattle.fb_entries.specs.declared.entry.Entry.{Entry}
-use Rattle.fb_entries.specs.History.Story.{Log, opened, start, replay, replies}
+use Rattle.fb_history.specs.Story.{Log, opened, start, replay, replies}
 use Rattle.fb_bench.specs.Kept.{Agrees, IsKept, EntryFits}
 use Rattle.fb_entries.specs.Index.Near.{Users}
 use Rattle.fb_entries.proofs.Indexing.{indexed_none}
-use Rattle.fb_entries.proofs.KeysAndValues.KindLemmas.{no_kind}
-use Rattle.fb_entries.proofs.History.AfterCalls.{begins_empty}
+use Rattle.fb_entries.proofs.Jobs.KindLemmas.{no_kind}
+use Rattle.fb_history.proofs.AfterCalls.{begins_empty}
 
 no_key : (key : Key) → has_key [] key ≡ false
 unfolding has_key

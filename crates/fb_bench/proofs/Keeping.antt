@@ -5,12 +5,12 @@ use Rattle.std.specs.BTreeSet as set
 use Rattle.fb_entries.specs.Library.Texts.{Texts}
 use Rattle.fb_entries.specs.Jobs.declared.key.Key.{Key}
 use Rattle.fb_entries.specs.declared.entry.Entry.{Entry}
-use Rattle.fb_entries.specs.History.Machine.{keys_of, Call, Reply, after, reply}
-use Rattle.fb_entries.specs.History.Story.{Log, Story, IsOrigin, state_of, logged, IsReplay}
+use Rattle.fb_history.specs.Machine.{keys_of, Call, Reply, after, reply}
+use Rattle.fb_history.specs.Story.{Log, Story, IsOrigin, state_of, logged, IsReplay}
 use Rattle.fb_bench.specs.Kept.{Agrees, IsKept}
 use Rattle.fb_entries.specs.Index.Near.{Users}
 use Rattle.fb_entries.specs.Indexed.{IsIndexOf}
-use Rattle.fb_entries.proofs.History.Steps.{state_recorded, replayed_recorded}
+use Rattle.fb_history.proofs.Steps.{state_recorded, replayed_recorded}
 
 -- what is kept after one more recorded call
 pub kept_recorded : (units : Texts) (commits : ℕ) (keys : List Key) (entries : tree.BTreeMap Key Entry) (ready waiting : set.BTreeSet Key) (index : Users) (story : Story) (caller : ℕ) (call : Call) (answer : Reply) → IsOrigin story.origin → answer ≡ reply (state_of story) call → Agrees units commits entries ready waiting (after (state_of story) call) → IsReplay story → keys ≡ keys_of units → IsIndexOf units index → commits ≤ length story.log.records + 1 → IsKept units commits keys entries ready waiting index (record { origin = story.origin; log = logged story.log caller call answer })

@@ -8,25 +8,25 @@ use Rattle.std.specs.List.Sorted.{IsStrictlySortedBy}
 use Rattle.std.specs.Ordering.{match_ordering}
 use Rattle.std.proofs.lemmas.List.Kept.{IsStrictlySortedBy-filter}
 use Rattle.std.proofs.lemmas.List.Sums.{length-filter}
-use Rattle.fb_entries.specs.Text.Order.{in_order}
-use Rattle.fb_entries.proofs.Text.OrderLemmas.{in_order-same}
+use Rattle.fb_text.specs.Order.{in_order}
+use Rattle.fb_text.proofs.OrderLemmas.{in_order-same}
 use Rattle.fb_entries.specs.Library.Texts.{Texts, Edit, unit_of, all_edited, names_of}
 use Rattle.fb_entries.specs.Jobs.declared.key.Key.{Key}
-use Rattle.fb_entries.specs.KeysAndValues.Keys.{has_key}
-use Rattle.fb_entries.specs.KeysAndValues.KeyOrder.{key_cmp, same_key}
+use Rattle.fb_entries.specs.Jobs.Keys.{has_key}
+use Rattle.fb_entries.specs.Jobs.KeyOrder.{key_cmp, same_key}
 use Rattle.fb_entries.specs.declared.entry.Entry.{Entry}
 use Rattle.fb_entries.specs.declared.renewal.Renewal.{Renewal}
-use Rattle.fb_entries.specs.KeysAndValues.Kinds.{all_keys}
-use Rattle.fb_entries.specs.History.Machine.{State, keys_of}
-use Rattle.fb_entries.specs.History.Story.{Story, IsOrigin, state_of}
+use Rattle.fb_entries.specs.Jobs.Kinds.{all_keys}
+use Rattle.fb_history.specs.Machine.{State, keys_of}
+use Rattle.fb_history.specs.Story.{Story, IsOrigin, state_of}
 use Rattle.fb_bench.specs.Kept.{EntryFits, Agrees}
 use Rattle.fb_entries.specs.Marking.{is_of}
 use Rattle.fb_entries.specs.Renew.{is_own, have_entries, AreKeys, items_or, IsRenewal}
-use Rattle.fb_entries.proofs.KeysAndValues.Order.{key_total, keys_equal, same_keys}
-use Rattle.fb_entries.proofs.History.Least.{key_named}
+use Rattle.fb_entries.proofs.Jobs.Order.{key_total, keys_equal, same_keys}
+use Rattle.fb_history.proofs.Least.{key_named}
 use Rattle.fb_entries.proofs.Members.{of_filtered}
 use Rattle.fb_bench.proofs.Renewals.{has_apart}
-use Rattle.fb_entries.proofs.History.Sorted.{keys_rise, keys_rise_done}
+use Rattle.fb_history.proofs.Sorted.{keys_rise, keys_rise_done}
 
 -- ---- two rising lists with the same keys are the same
 

@@ -10,18 +10,18 @@ use Rattle.std.specs.declared.alloc.Global.{Global}
 use Rattle.fb_entries.specs.Library.Texts.{Texts}
 use Rattle.fb_entries.specs.Jobs.declared.key.Key.{Key}
 use Rattle.fb_entries.specs.Jobs.declared.value.Value.{Value}
-use Rattle.fb_entries.specs.KeysAndValues.Values.{finding_of}
+use Rattle.fb_entries.specs.Jobs.Values.{finding_of}
 use Rattle.fb_entries.specs.Jobs.Hints.{AreKept}
-use Rattle.fb_entries.specs.KeysAndValues.Keys.{Finding, has_key, scratch}
-use Rattle.fb_entries.specs.KeysAndValues.KeyOrder.{key_cmp, same_key}
+use Rattle.fb_entries.specs.Jobs.Keys.{Finding, has_key, scratch}
+use Rattle.fb_entries.specs.Jobs.KeyOrder.{key_cmp, same_key}
 use Rattle.fb_entries.specs.declared.entry.Entry.{Entry}
-use Rattle.fb_entries.specs.KeysAndValues.Reads.{PlainJob, stale}
-use Rattle.fb_entries.specs.History.Machine.{State, is_ready, after_take, after_deliver, removed, unless_stale, deliver_answer}
-use Rattle.fb_entries.specs.History.declared.answers.Delivered.{Delivered}
-use Rattle.fb_entries.specs.History.declared.answers.Delivered.TheVariants.{Accepted, NoSuchKey, NotPending, Stale}
+use Rattle.fb_entries.specs.Jobs.Reads.{PlainJob, stale}
+use Rattle.fb_history.specs.Machine.{State, is_ready, after_take, after_deliver, removed, unless_stale, deliver_answer}
+use Rattle.fb_history.specs.declared.answers.Delivered.{Delivered}
+use Rattle.fb_history.specs.declared.answers.Delivered.TheVariants.{Accepted, NoSuchKey, NotPending, Stale}
 use Rattle.fb_bench.specs.Kept.{Agrees, EntryFits, IsScratch}
 use Rattle.fb_entries.specs.Found.{kept_in}
-use Rattle.fb_entries.proofs.KeysAndValues.Order.{keys_equal}
+use Rattle.fb_entries.proofs.Jobs.Order.{keys_equal}
 
 pub ready_has : (s : State) (k : Key) (o : Option Entry) → EntryFits s k o → is_ready s k ≡ true → has_key s.units k ≡ true
 ready_has s k None fits ready = let no : is_ready s k ≡ false = ap (λ b. b && not (s.out k)) fits.1 in cc

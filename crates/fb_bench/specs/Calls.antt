@@ -1,8 +1,8 @@
 -- What a call on a desk says of the desk before and after.
 use Rattle.std.specs.Prelude.{◌≡◌, Result, Ok, Err}
-use Rattle.fb_entries.specs.History.Machine.{Call, Reply, OfTake, OfAsk}
+use Rattle.fb_history.specs.Machine.{Call, Reply, OfTake, OfAsk}
 use Rattle.fb_bench.specs.Records.{job_in, shown_in}
-use Rattle.fb_entries.specs.History.declared.answers.Asked.{Asked}
+use Rattle.fb_history.specs.declared.answers.Asked.{Asked}
 use Rattle.fb_bench.specs.declared.answers.Taken.{Taken}
 use Rattle.fb_bench.specs.declared.desk.DeskRefused.{DeskRefused}
 use Rattle.fb_bench.specs.declared.desk.DeskRefused.TheVariants.{HistoryFull, Behind, Memory}

@@ -7,11 +7,11 @@ use Rattle.std.specs.declared.alloc.Global.{Global}
 use Rattle.fb_entries.specs.Library.Texts.{Texts}
 use Rattle.fb_entries.specs.Jobs.declared.key.Key.{Key}
 use Rattle.fb_entries.specs.Jobs.declared.value.Value.{Value}
-use Rattle.fb_entries.specs.KeysAndValues.Keys.{has_key, scratch}
-use Rattle.fb_entries.specs.KeysAndValues.KeyOrder.{key_cmp}
-use Rattle.fb_entries.specs.KeysAndValues.Values.{finding_of}
-use Rattle.fb_entries.specs.History.Machine.{State, is_ready, keys_of}
-use Rattle.fb_entries.specs.History.Story.{Story, IsOrigin, state_of, IsReplay}
+use Rattle.fb_entries.specs.Jobs.Keys.{has_key, scratch}
+use Rattle.fb_entries.specs.Jobs.KeyOrder.{key_cmp}
+use Rattle.fb_entries.specs.Jobs.Values.{finding_of}
+use Rattle.fb_history.specs.Machine.{State, is_ready, keys_of}
+use Rattle.fb_history.specs.Story.{Story, IsOrigin, state_of, IsReplay}
 use Rattle.fb_entries.specs.declared.entries.Entries.{Entries}
 use Rattle.fb_entries.specs.declared.entry.Entry.{Entry}
 use Rattle.fb_entries.specs.Index.Near.{Users}

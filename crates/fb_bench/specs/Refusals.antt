@@ -1,8 +1,8 @@
 -- Why a workbench does not record a call.
 use Rattle.std.specs.Prelude.{◌≡◌, ◌↔◌, Result, Ok, Err}
-use Rattle.fb_entries.specs.History.Story.{Log, IsFull}
-use Rattle.fb_entries.specs.History.declared.answers.Refused.{Refused}
-use Rattle.fb_entries.specs.History.declared.answers.Refused.TheVariants as bench
+use Rattle.fb_history.specs.Story.{Log, IsFull}
+use Rattle.fb_history.specs.declared.answers.Refused.{Refused}
+use Rattle.fb_history.specs.declared.answers.Refused.TheVariants as bench
 use Rattle.fb_bench.specs.declared.desk.DeskRefused.{DeskRefused}
 use Rattle.fb_bench.specs.declared.desk.DeskRefused.TheVariants.{HistoryFull, Memory}
 

@@ -1,7 +1,7 @@
 -- A request as a call.
 use Rattle.std.specs.Prelude.{Option, None}
-use Rattle.fb_entries.specs.KeysAndValues.Reads.{PlainJob}
-use Rattle.fb_entries.specs.History.Machine.{Call, ToCommit, ToTake, ToDeliver, ToGiveBack, ToAsk, Reply, OfCommit, OfTake, OfDeliver, OfGiveBack, OfAsk}
+use Rattle.fb_entries.specs.Jobs.Reads.{PlainJob}
+use Rattle.fb_history.specs.Machine.{Call, ToCommit, ToTake, ToDeliver, ToGiveBack, ToAsk, Reply, OfCommit, OfTake, OfDeliver, OfGiveBack, OfAsk}
 use Rattle.fb_bench.specs.Records.{listed, job_in, shown_in}
 use Rattle.fb_bench.specs.declared.answers.Answered.{Answered}
 use Rattle.fb_bench.specs.declared.answers.Answered.TheVariants as answer

@@ -1,7 +1,7 @@
 -- A workbench as one caller's desk.
 use Rattle.std.specs.Prelude.{◌≡◌, ℕ, ◌≤◌, ◌<◌, length}
-use Rattle.fb_entries.specs.History.Machine.{Call, reply}
-use Rattle.fb_entries.specs.History.Story.{Story, state_of, recorded}
+use Rattle.fb_history.specs.Machine.{Call, reply}
+use Rattle.fb_history.specs.Story.{Story, state_of, recorded}
 use Rattle.fb_bench.specs.Calls.{Answer, Replied, FullHistory, BehindHistory}
 use Rattle.fb_bench.specs.declared.desk.Solo.{Solo}
 

@@ -1,7 +1,7 @@
 //! What the five recorded calls answer.
 
-use fb_entries::history::{Asked, Committed, Delivered, GivenBack};
 use fb_entries::jobs::Job;
+use fb_history::{Asked, Committed, Delivered, GivenBack};
 
 /// A job that is then handed out, or nothing to do.
 #[derive(Drop)]

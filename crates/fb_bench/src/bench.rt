@@ -1,23 +1,22 @@
 //! The workbench: its texts, its entries and its history, and the calls that change them.
 ghost use Rattle.std.specs.Prelude.{◌≡◌};
-ghost use Rattle.fb_entries.specs.KeysAndValues.Reads.{stale, is_current};
-ghost use Rattle.fb_entries.specs.KeysAndValues.Values.{all_seen, seen_of};
+ghost use Rattle.fb_entries.specs.Jobs.Reads.{stale, is_current};
+ghost use Rattle.fb_entries.specs.Jobs.Values.{all_seen, seen_of};
 ghost use Rattle.fb_bench.specs.Records.{job_in};
 
 use crate::answers::{Answered, Taken};
 use crate::commit::{Outcome, first_changes, outcome_of, record_with_room};
 use crate::peek::Shown;
 use crate::request::{Request, call_of_result, reply_of_job};
-use fb_entries::history::{
+use fb_entries::index::Index;
+use fb_entries::jobs::{Finished, Job, Key, Read, current_reads, locality};
+use fb_entries::library::{Change, Library};
+use fb_entries::{Entries, join, keep, leave, mark_out};
+use fb_history::{
     Asked, Call, Committed, Delivered, GivenBack, History, Limits, Record, Refused, Reply,
     TextChange,
 };
-use fb_entries::index::Index;
-use fb_entries::jobs::{Finished, Job, current_reads, locality};
-use fb_entries::library::{Change, Library};
-use fb_entries::text::Name;
-use fb_entries::values::{Key, Read};
-use fb_entries::{Entries, join, keep, leave, mark_out};
+use fb_text::Name;
 use std::alloc::{AllocError, Global};
 use std::marker::Model;
 use std::sync::Arc;
@@ -35,7 +34,7 @@ pub struct Bench {
 }
 
 impl Model for Bench {
-    ghost use Rattle.fb_entries.specs.History.Story.{Story, start, story_of};
+    ghost use Rattle.fb_history.specs.Story.{Story, start, story_of};
 
     ghost Value = { Story };
 
@@ -50,19 +49,19 @@ impl Bench {
     ghost use Rattle.std.specs.Prelude.{◌≡◌, ◌<◌, ◌↔◌, true, false, Some, IfOk, OnOk, OnErr, IsTrue, is_some, length, slice_get, count_by};
     ghost use Rattle.std.specs.Option.{option_map};
     ghost use Rattle.std.specs.List.Sorted.{IsStrictlySortedBy};
-    ghost use Rattle.fb_entries.specs.KeysAndValues.KeyOrder.{key_cmp};
-    ghost use Rattle.fb_entries.specs.History.Machine.{ToTake, ToDeliver, ToGiveBack, ToAsk, OfCommit, OfTake, OfDeliver, OfGiveBack, OfAsk, shown, next, deliver_answer, keys_of};
-    ghost use Rattle.fb_entries.specs.KeysAndValues.Keys.{scratch};
-    ghost use Rattle.fb_entries.specs.KeysAndValues.Reads.{read_texts};
-    ghost use Rattle.fb_entries.specs.KeysAndValues.Values.{all_seen};
-    ghost use Rattle.fb_entries.specs.History.declared.answers.Delivered.TheVariants.{Accepted};
-    ghost use Rattle.fb_entries.specs.History.Story.{IsOrigin, IsFull, new_story, state_of, reply_at, recorded, record_of, record_at, calls_of, IsReplay, AreTurns};
+    ghost use Rattle.fb_entries.specs.Jobs.KeyOrder.{key_cmp};
+    ghost use Rattle.fb_history.specs.Machine.{ToTake, ToDeliver, ToGiveBack, ToAsk, OfCommit, OfTake, OfDeliver, OfGiveBack, OfAsk, shown, next, deliver_answer, keys_of};
+    ghost use Rattle.fb_entries.specs.Jobs.Keys.{scratch};
+    ghost use Rattle.fb_entries.specs.Jobs.Reads.{read_texts};
+    ghost use Rattle.fb_entries.specs.Jobs.Values.{all_seen};
+    ghost use Rattle.fb_history.specs.declared.answers.Delivered.TheVariants.{Accepted};
+    ghost use Rattle.fb_history.specs.Story.{IsOrigin, IsFull, new_story, state_of, reply_at, recorded, record_of, record_at, calls_of, IsReplay, AreTurns};
     ghost use Rattle.fb_bench.specs.Records.{call_of, reply_of, shown_in, job_in, commit_of};
     ghost use Rattle.fb_bench.specs.Refusals.{IsFullRefusal};
     ghost use Rattle.fb_bench.specs.Requests.{call_for, reply_in};
     ghost use Rattle.fb_bench.specs.Peeks.{shown_by, is_pending};
-    ghost use Rattle.fb_entries.specs.History.Due.{is_due};
-    ghost use Rattle.fb_entries.specs.History.Laws.{entry_after};
+    ghost use Rattle.fb_history.specs.Due.{is_due};
+    ghost use Rattle.fb_history.specs.Laws.{entry_after};
     ghost use Rattle.fb_entries.specs.Library.Texts.{held, revision_of};
 
     /// An empty workbench. It keeps the allocator for all its calls.

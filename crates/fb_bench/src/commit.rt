@@ -2,19 +2,19 @@
 ghost use Rattle.std.specs.Prelude.{◌≡◌, ◌+◌, ◌<◌, length, map, take, IfOk, OnOk, OnErr};
 ghost use Rattle.fb_entries.specs.Library.Texts.{unit_of};
 ghost use Rattle.fb_entries.specs.Library.Changes.{edit_of, edits_of};
-ghost use Rattle.fb_entries.specs.KeysAndValues.Reads.{is_among};
-ghost use Rattle.fb_entries.specs.History.Machine.{most_changes, first_repeated, misfit, first_misfit, refusal};
+ghost use Rattle.fb_entries.specs.Jobs.Reads.{is_among};
+ghost use Rattle.fb_history.specs.Machine.{most_changes, first_repeated, misfit, first_misfit, refusal};
 ghost use Rattle.fb_entries.specs.Indexed.{IsIndexOf};
 ghost use Rattle.fb_bench.specs.Outcomes.{IsOutcome};
 ghost use Rattle.fb_entries.specs.Found.{MakesRoom, LosesRoom};
 ghost use Rattle.fb_bench.specs.Records.{call_of, reply_of};
-ghost use Rattle.fb_entries.specs.History.Story.{logged, record_after};
+ghost use Rattle.fb_history.specs.Story.{logged, record_after};
 
-use fb_entries::history::{Call, Committed, History, Record, Reply};
 use fb_entries::index::Index;
 use fb_entries::library::{Change, Library};
-use fb_entries::text::{Name, same_name};
 use fb_entries::{Entries, Found, Renewal};
+use fb_history::{Call, Committed, History, Record, Reply};
+use fb_text::{Name, same_name};
 use std::alloc::{AllocError, Global};
 use std::sync::Arc;
 

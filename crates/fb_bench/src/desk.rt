@@ -4,10 +4,9 @@ ghost use Rattle.fb_bench.specs.Refusals.{as_desk};
 
 use crate::answers::Taken;
 use crate::bench::Bench;
-use fb_entries::history::{Asked, Committed, Delivered, GivenBack, Refused};
-use fb_entries::jobs::Finished;
+use fb_entries::jobs::{Finished, Key};
 use fb_entries::library::Change;
-use fb_entries::values::Key;
+use fb_history::{Asked, Committed, Delivered, GivenBack, Refused};
 
 /// Why a desk does not record a call.
 #[derive(Clone, Copy, PartialEq, Eq, Debug)]
@@ -22,7 +21,7 @@ pub enum DeskRefused {
 
 /// The five recorded calls, as one session makes them.
 pub trait Desk {
-    ghost use Rattle.fb_entries.specs.History.Machine.{Call, ToCommit, ToTake, ToDeliver, ToGiveBack, ToAsk, OfCommit, OfDeliver, OfGiveBack};
+    ghost use Rattle.fb_history.specs.Machine.{Call, ToCommit, ToTake, ToDeliver, ToGiveBack, ToAsk, OfCommit, OfDeliver, OfGiveBack};
     ghost use Rattle.fb_bench.specs.Records.{listed};
     ghost use Rattle.fb_bench.specs.Calls.{Answer, Serves, take_reply, ask_reply};
 

@@ -1,12 +1,11 @@
 //! Calls to be made, and what is recorded of jobs and results.
 ghost use Rattle.std.specs.Prelude.{◌≡◌, IfOk, Some};
-ghost use Rattle.fb_entries.specs.History.Machine.{ToDeliver, OfTake};
-ghost use Rattle.fb_entries.specs.History.Records.{call_of, reply_of};
+ghost use Rattle.fb_history.specs.Machine.{ToDeliver, OfTake};
+ghost use Rattle.fb_history.specs.Records.{call_of, reply_of};
 
-use fb_entries::history::{Call, Reply, Wanted};
-use fb_entries::jobs::{Finished, Job};
+use fb_entries::jobs::{Finished, Job, Key};
 use fb_entries::library::Change;
-use fb_entries::values::Key;
+use fb_history::{Call, Reply, Wanted};
 use std::alloc::{AllocError, Global};
 
 /// A call to be made.

@@ -1,26 +1,26 @@
 -- A system has one plan only, and it depends on the texts alone that the system rests on.
 use Rattle.std.proofs.Common.{ℕ, ◌≡◌, ◌++◌, List, Option, refl, sym, ◌∙◌, ap, map}
-use Rattle.fb_flatten.specs.Tree.Tree.{DeclTree}
-use Rattle.fb_flatten.specs.Library.View.{Sources, tree_at}
-use Rattle.fb_flatten.specs.Library.Rests.{itself}
-use Rattle.fb_flatten.specs.Library.Local.{AgreeFar}
-use Rattle.fb_flatten.specs.Network.PlainFlat.{PlainFlat}
-use Rattle.fb_flatten.specs.Net.{PlainNet, blocked, recursive, too_large, flat_net}
-use Rattle.fb_flatten.proofs.NetLocality.{net_local}
-use Rattle.fb_flatten.proofs.OneNet.{one_net_only}
-use Rattle.fb_flatten.specs.Mapping.Cuts.{cuts_of, home_at}
-use Rattle.fb_flatten.specs.Mapping.Homes.{PlainHomes, faulty_homes, all_homes, homes_of}
-use Rattle.fb_flatten.specs.Mapping.Systems.{devices_in}
-use Rattle.fb_flatten.specs.Mapping.declared.homes.Home.{Home}
-use Rattle.fb_flatten.proofs.Mapping.HomesLocal.{homes_same}
-use Rattle.fb_flatten.proofs.Mapping.StandingLocal.{tree_same}
-use Rattle.fb_flatten.proofs.Commands.LinesLocal.{write_lines_same}
+use Rattle.fb_mapping.specs.Tree.Tree.{DeclTree}
+use Rattle.fb_mapping.specs.Library.View.{Sources, tree_at}
+use Rattle.fb_mapping.specs.Library.Rests.{itself}
+use Rattle.fb_mapping.specs.Library.Local.{AgreeFar}
+use Rattle.fb_mapping.specs.Network.PlainFlat.{PlainFlat}
+use Rattle.fb_mapping.specs.Flatten.Net.{PlainNet, blocked, recursive, too_large, flat_net}
+use Rattle.fb_mapping.proofs.Flatten.NetLocality.{net_local}
+use Rattle.fb_mapping.proofs.Flatten.OneNet.{one_net_only}
+use Rattle.fb_mapping.specs.Placing.Cuts.{cuts_of, home_at}
+use Rattle.fb_mapping.specs.Placing.Homes.{PlainHomes, faulty_homes, all_homes, homes_of}
+use Rattle.fb_mapping.specs.Placing.Systems.{devices_in}
+use Rattle.fb_mapping.specs.Placing.declared.homes.Home.{Home}
+use Rattle.fb_mapping.proofs.Placing.HomesLocal.{homes_same}
+use Rattle.fb_mapping.proofs.Placing.StandingLocal.{tree_same}
+use Rattle.fb_mapping.proofs.Placing.LinesLocal.{write_lines_same}
 use Rattle.fb_deploy.specs.Deploy.{planned, planned_by, tree_plan, with_homes}
 use Rattle.fb_deploy.specs.Laws.{OnePlan, PlanIsLocal}
-use Rattle.fb_flatten.specs.Commands.Orders.{connection_orders, line_order, start_order}
-use Rattle.fb_flatten.specs.Commands.Lines.{create_lines}
-use Rattle.fb_flatten.specs.Commands.Resources.{resource_plans, resources_of}
-use Rattle.fb_flatten.specs.Commands.declared.lines.Line.{Line}
+use Rattle.fb_mapping.specs.Placing.Orders.{connection_orders, line_order, start_order}
+use Rattle.fb_mapping.specs.Placing.Lines.{create_lines}
+use Rattle.fb_mapping.specs.Placing.Resources.{resource_plans, resources_of}
+use Rattle.fb_mapping.specs.Placing.declared.lines.Line.{Line}
 
 pub one_plan_only : OnePlan
 one_plan_only sources system a b p q =

@@ -1,11 +1,11 @@
 -- The plan of a unit, computed from the texts.
 use Rattle.std.specs.Prelude.{◌≡◌, ◌↔◌, ℕ, Bool, true, false, if◌then◌else◌, IsTrue, List, Option, Some, None, is_some, option_map}
-use Rattle.fb_flatten.specs.Tree.Tree.{DeclTree}
-use Rattle.fb_flatten.specs.Library.View.{Sources, tree_at}
-use Rattle.fb_flatten.specs.Library.Local.{AgreeFar}
-use Rattle.fb_flatten.specs.Nets.{net_at}
-use Rattle.fb_flatten.specs.Tables.{is_system_tree}
-use Rattle.fb_deploy.specs.Placed.{IsSystem}
+use Rattle.fb_mapping.specs.Tree.Tree.{DeclTree}
+use Rattle.fb_mapping.specs.Library.View.{Sources, tree_at}
+use Rattle.fb_mapping.specs.Library.Local.{AgreeFar}
+use Rattle.fb_mapping.specs.Flatten.Nets.{net_at}
+use Rattle.fb_mapping.specs.Flatten.Tables.{is_system_tree}
+use Rattle.fb_mapping.specs.Placed.{IsSystem}
 use Rattle.fb_deploy.specs.Deploy.{PlainDeploy, IsPlan, planned_by}
 
 -- whether a unit with this tree, or with none, has a plan

@@ -1,15 +1,15 @@
 //! The plan of a unit, by the function of the specs.
 ghost use Rattle.std.specs.Prelude.{◌≡◌, true, Some, IfOk};
-ghost use Rattle.fb_flatten.specs.Hints.{AreRightHints};
-ghost use Rattle.fb_flatten.specs.Library.View.{tree_at};
+ghost use Rattle.fb_mapping.specs.Flatten.Hints.{AreRightHints};
+ghost use Rattle.fb_mapping.specs.Library.View.{tree_at};
 ghost use Rattle.fb_deploy.specs.Deploy.{plain_deploy};
 ghost use Rattle.fb_deploy.specs.Plans.{has_plan_in, plan_at};
 
 use crate::planning::{Deploy, plan_with};
-use crate::systems::is_system;
-use fb_flatten::Hints;
-use fb_flatten::library::View;
-use fb_flatten::text::Name;
+use fb_mapping::flatten::Hints;
+use fb_mapping::is_system;
+use fb_mapping::library::View;
+use fb_mapping::text::Name;
 use std::alloc::{AllocError, Global};
 
 /// Whether the unit is a system, and so has a plan.

@@ -1,16 +1,6 @@
-//! Laws of placements and of plans.
-ghost use Rattle.fb_deploy.specs.Laws.{OnePlace, OnePlan, PlaceIsLocal, PlanIsLocal};
+//! Laws of plans.
+ghost use Rattle.fb_deploy.specs.Laws.{OnePlan, PlanIsLocal};
 ghost use Rattle.fb_deploy.specs.Plans.{HasPlanByText, PlanAtIsLocal, PlanAtIsPlan, PlanAtOfSystems};
-
-/// A system has one placement only.
-pub fn one_place()
-    ensures { OnePlace }
-{}
-
-/// The placement of a system depends on the texts alone that the system rests on.
-pub fn place_is_local()
-    ensures { PlaceIsLocal }
-{}
 
 /// A system has one plan only.
 pub fn one_plan()

@@ -1,16 +1,15 @@
 //! The plans of systems.
 ghost use Rattle.std.specs.Prelude.{◌≡◌, IfOk};
-ghost use Rattle.fb_flatten.specs.Hints.{AreRightHints};
-ghost use Rattle.fb_flatten.specs.Library.View.{tree_at};
-ghost use Rattle.fb_deploy.specs.Placed.{IsSystem};
+ghost use Rattle.fb_mapping.specs.Flatten.Hints.{AreRightHints};
+ghost use Rattle.fb_mapping.specs.Library.View.{tree_at};
+ghost use Rattle.fb_mapping.specs.Placed.{IsSystem};
 ghost use Rattle.fb_deploy.specs.Deploy.{IsPlan, flat_plan, plain_deploy, tree_plan};
 
-use fb_flatten::commands::{Commands, ResourcePlan, commands_of};
-use fb_flatten::library::View;
-use fb_flatten::mapping::{Home, Homes, Misplaced, homes_of};
-use fb_flatten::network::{Flat, Link};
-use fb_flatten::text::Name;
-use fb_flatten::{Hints, Net, NoHints, net_with};
+use fb_mapping::flatten::{Hints, Net, NoHints, net_with};
+use fb_mapping::library::View;
+use fb_mapping::placing::{Commands, Home, Homes, Misplaced, ResourcePlan, commands_of, homes_of};
+use fb_mapping::plain::{Flat, Link};
+use fb_mapping::text::Name;
 use std::alloc::{AllocError, Global};
 
 /// What is to be done on each resource of a system.

@@ -3,11 +3,11 @@ use Rattle.std.proofs.Common.{◌≡◌, ℕ, List, Option, Some, None, refl, ap
 use Rattle.std.specs.FinMap.{get}
 use Rattle.std.specs.List.{Contains}
 use Rattle.std.specs.Option.{option_and_then}
-use Rattle.fb_expr.specs.Tree.Mentions.{types_in}
-use Rattle.fb_expr.specs.Tree.Tree.{DeclTree, block_type, adapter_type, subapplication_type, system_configuration}
-use Rattle.fb_expr.specs.Library.View.{Sources, mentions_in, tree_at, tree_of}
-use Rattle.fb_expr.proofs.Library.Locality.{near_unit}
-use Rattle.fb_expr.proofs.Iface.ScopeLocal.{in_order_has, near_mention, scope_local}
+use Rattle.fb_tree.specs.Mentions.{types_in}
+use Rattle.fb_tree.specs.Tree.{DeclTree, block_type, adapter_type, subapplication_type, system_configuration}
+use Rattle.fb_iface.specs.Library.View.{Sources, mentions_in, tree_at, tree_of}
+use Rattle.fb_iface.proofs.Library.Locality.{near_unit}
+use Rattle.fb_iface.proofs.ScopeLocal.{in_order_has, near_mention, scope_local}
 use Rattle.fb_ecc.specs.Charts.{chart_faults, chart_faults_in}
 use Rattle.fb_ecc.specs.Local.{EccIsLocal}
 

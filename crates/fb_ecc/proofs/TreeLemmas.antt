@@ -2,11 +2,11 @@
 use Rattle.std.proofs.Common.{◌≡◌, ℕ, Bool, List, ◌++◌, ◌∙◌, map, sym, ap}
 use Rattle.std.specs.List.{flat_map}
 use Rattle.std.proofs.lemmas.List.Folds.{flat_map-map}
-use Rattle.fb_expr.specs.Tree.Tree.{algorithm_tree, chart_tree, state_tree, transition_tree}
-use Rattle.fb_expr.specs.Tree.declared.chart.Chart.{Chart}
-use Rattle.fb_expr.specs.Iface.Names.{has_name}
-use Rattle.fb_expr.specs.Iface.Scope.{Scope}
-use Rattle.fb_expr.proofs.Iface.TreeLemmas.{same_items}
+use Rattle.fb_tree.specs.Tree.{algorithm_tree, chart_tree, state_tree, transition_tree}
+use Rattle.fb_tree.specs.declared.chart.Chart.{Chart}
+use Rattle.fb_iface.specs.Names.{has_name}
+use Rattle.fb_iface.specs.Scope.{Scope}
+use Rattle.fb_iface.proofs.TreeLemmas.{same_items}
 use Rattle.fb_ecc.specs.Algorithms.{algorithm_faults, run_faults}
 use Rattle.fb_ecc.specs.Events.{event_faults, sent_faults, trigger_faults}
 use Rattle.fb_ecc.specs.States.{transition_faults, state_faults}

@@ -1,9 +1,9 @@
 -- The faults of execution control charts.
 use Rattle.std.specs.Prelude.{ℕ, List, [], ◌++◌, Option, Some, None}
-use Rattle.fb_expr.specs.Tree.Tree.{ChartTree, DeclTree, block_type, adapter_type, subapplication_type, system_configuration}
-use Rattle.fb_expr.specs.Library.View.{Sources, tree_at}
-use Rattle.fb_expr.specs.Iface.declared.fault.Fault.{Fault}
-use Rattle.fb_expr.specs.Iface.Scope.{Scope, scope_of_type}
+use Rattle.fb_tree.specs.Tree.{ChartTree, DeclTree, block_type, adapter_type, subapplication_type, system_configuration}
+use Rattle.fb_iface.specs.Library.View.{Sources, tree_at}
+use Rattle.fb_iface.specs.declared.fault.Fault.{Fault}
+use Rattle.fb_iface.specs.Scope.{Scope, scope_of_type}
 use Rattle.fb_ecc.specs.Algorithms.{algorithm_faults}
 use Rattle.fb_ecc.specs.Events.{event_faults}
 use Rattle.fb_ecc.specs.States.{state_faults}

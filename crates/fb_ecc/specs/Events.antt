@@ -2,22 +2,22 @@
 use Rattle.std.specs.Prelude.{ℕ, List, [], ◌∷◌, ◌++◌, Option, Some, None, if◌then◌else◌}
 use Rattle.std.specs.List.{flat_map}
 use Rattle.std.specs.Option.{option_map_or}
-use Rattle.fb_expr.specs.Text.declared.token.Span.{Span}
-use Rattle.fb_expr.specs.Text.declared.name.NameUse.{NameUse}
-use Rattle.fb_expr.specs.Tree.Tree.{ChartTree, ConditionTree, TransitionTree, always, on_event, guarded, guard}
-use Rattle.fb_expr.specs.Tree.declared.chart.Action.{Action}
-use Rattle.fb_expr.specs.Tree.declared.interface.Side.{Side}
-use Rattle.fb_expr.specs.Tree.declared.interface.Side.TheVariants as sides
-use Rattle.fb_expr.specs.Tree.declared.network.End.{End}
-use Rattle.fb_expr.specs.Tree.declared.network.Role.{Role}
-use Rattle.fb_expr.specs.Tree.declared.network.Role.TheVariants as roles
-use Rattle.fb_expr.specs.Iface.declared.code.Code.TheVariants.{EventUnknown}
-use Rattle.fb_expr.specs.Iface.declared.fault.Fault.{Fault}
-use Rattle.fb_expr.specs.Iface.declared.ports.DeclaredEvent.{DeclaredEvent}
-use Rattle.fb_expr.specs.Iface.declared.ports.DeclaredInstance.{DeclaredInstance}
-use Rattle.fb_expr.specs.Iface.Names.{stands_for}
-use Rattle.fb_expr.specs.Iface.Ports.{Meanings, same_side}
-use Rattle.fb_expr.specs.Iface.Scope.{Scope, instance_ports}
+use Rattle.fb_tree.specs.Text.declared.token.Span.{Span}
+use Rattle.fb_tree.specs.Text.declared.name.NameUse.{NameUse}
+use Rattle.fb_tree.specs.Tree.{ChartTree, ConditionTree, TransitionTree, always, on_event, guarded, guard}
+use Rattle.fb_tree.specs.declared.chart.Action.{Action}
+use Rattle.fb_tree.specs.declared.interface.Side.{Side}
+use Rattle.fb_tree.specs.declared.interface.Side.TheVariants as sides
+use Rattle.fb_tree.specs.declared.network.End.{End}
+use Rattle.fb_tree.specs.declared.network.Role.{Role}
+use Rattle.fb_tree.specs.declared.network.Role.TheVariants as roles
+use Rattle.fb_iface.specs.declared.code.Code.TheVariants.{EventUnknown}
+use Rattle.fb_iface.specs.declared.fault.Fault.{Fault}
+use Rattle.fb_iface.specs.declared.ports.DeclaredEvent.{DeclaredEvent}
+use Rattle.fb_iface.specs.declared.ports.DeclaredInstance.{DeclaredInstance}
+use Rattle.fb_iface.specs.Names.{stands_for}
+use Rattle.fb_iface.specs.Ports.{Meanings, same_side}
+use Rattle.fb_iface.specs.Scope.{Scope, instance_ports}
 use Rattle.fb_ecc.specs.declared.events.EventTarget.{EventTarget}
 use Rattle.fb_ecc.specs.declared.events.EventTarget.TheVariants.{Found, Unknown, NotJudged}
 

@@ -1,7 +1,7 @@
 -- What the faults of a chart depend on.
 use Rattle.std.specs.Prelude.{◌≡◌, ℕ, List}
-use Rattle.fb_expr.specs.Library.Local.{Agree}
-use Rattle.fb_expr.specs.Library.View.{Sources, near_of}
+use Rattle.fb_iface.specs.Library.Local.{Agree}
+use Rattle.fb_iface.specs.Library.View.{Sources, near_of}
 use Rattle.fb_ecc.specs.Charts.{ecc_faults_of}
 
 -- the faults of a unit's chart depend on the texts of the unit and of its mentions alone

@@ -1,18 +1,18 @@
 //! The check of execution control charts (IEC 61499-1, 5.2.1).
 ghost use Rattle.std.specs.Prelude.{◌≡◌, ◌++◌, IfOk, OnOk};
-ghost use Rattle.fb_expr.specs.Tree.Tree.{chart_tree, type_tree};
-ghost use Rattle.fb_expr.specs.Iface.Fault.{faults_in_order};
-ghost use Rattle.fb_expr.specs.Iface.Kept.{scope_in};
-ghost use Rattle.fb_expr.specs.Iface.Scope.{scope_of_type};
+ghost use Rattle.fb_tree.specs.Tree.{chart_tree, type_tree};
+ghost use Rattle.fb_iface.specs.Fault.{faults_in_order};
+ghost use Rattle.fb_iface.specs.Kept.{scope_in};
+ghost use Rattle.fb_iface.specs.Scope.{scope_of_type};
 ghost use Rattle.fb_ecc.specs.Charts.{chart_faults, ecc_faults_of};
 
 use crate::algorithms::report_algorithms;
 use crate::events::report_events;
 use crate::states::report_states;
-use fb_expr::iface::{Fault, Scope, sorted_faults};
-use fb_expr::library::{View, tree_by_name};
-use fb_expr::text::Name;
-use fb_expr::tree::{Chart, Decl, TypeDeclaration};
+use fb_iface::library::{View, tree_by_name};
+use fb_iface::{Fault, Scope, sorted_faults};
+use fb_tree::text::Name;
+use fb_tree::{Chart, Decl, TypeDeclaration};
 use std::alloc::{AllocError, Global};
 
 /// The faults of a unit's execution control chart, in order, each once.

@@ -2,14 +2,14 @@
 ghost use Rattle.std.specs.Prelude.{◌≡◌, ◌++◌, OnOk};
 ghost use Rattle.std.specs.List.{flat_map};
 ghost use Rattle.std.specs.Option.{option_copied, option_map};
-ghost use Rattle.fb_expr.specs.Tree.Tree.{chart_tree, condition_tree, state_tree, transition_tree};
-ghost use Rattle.fb_expr.specs.Tree.declared.interface.Side.TheVariants as sides;
-ghost use Rattle.fb_expr.specs.Iface.Kept.{scope_in};
+ghost use Rattle.fb_tree.specs.Tree.{chart_tree, condition_tree, state_tree, transition_tree};
+ghost use Rattle.fb_tree.specs.declared.interface.Side.TheVariants as sides;
+ghost use Rattle.fb_iface.specs.Kept.{scope_in};
 ghost use Rattle.fb_ecc.specs.Events.{event_among, event_behind, event_faults, event_in, event_named, event_of_adapter, event_on, opposite, sent_faults, side_through, span_from, trigger_faults, written_fault};
 
-use fb_expr::iface::{Code, DeclaredInstance, Fault, Ports, Scope, is_same_side};
-use fb_expr::text::{Name, NameUse, Span};
-use fb_expr::tree::{Action, Chart, Condition, End, Role, Side, State, Transition};
+use fb_iface::{Code, DeclaredInstance, Fault, Ports, Scope, is_same_side};
+use fb_tree::text::{Name, NameUse, Span};
+use fb_tree::{Action, Chart, Condition, End, Role, Side, State, Transition};
 use std::alloc::AllocError;
 
 /// What an event that is written names.

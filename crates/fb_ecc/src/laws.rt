@@ -1,23 +1,7 @@
 //! Laws of the faults of charts.
 ghost use Rattle.fb_ecc.specs.Local.{EccIsLocal};
-ghost use Rattle.fb_ecc.specs.Rows.{AlgorithmsAreDeclared, EventsAreKnown, StatesAreListed};
 
 /// The faults of a unit's chart depend on its text and the texts of the types that it mentions alone.
 pub fn ecc_is_local()
     ensures { EccIsLocal }
-{}
-
-/// A state of a transition is a fault where no state of that name is listed.
-pub fn states_are_listed()
-    ensures { StatesAreListed }
-{}
-
-/// The event of a transition is a fault where it is known not to come in, and that of an action where it is known not to go out.
-pub fn events_are_known()
-    ensures { EventsAreKnown }
-{}
-
-/// The algorithm of an action is a fault where none of that name is declared.
-pub fn algorithms_are_declared()
-    ensures { AlgorithmsAreDeclared }
 {}

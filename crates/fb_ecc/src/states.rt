@@ -2,14 +2,14 @@
 ghost use Rattle.std.specs.Prelude.{◌≡◌, ◌++◌, ℕ, List, map, IfOk, OnOk};
 ghost use Rattle.std.specs.List.{flat_map};
 ghost use Rattle.std.specs.BTreeSet.{contains};
-ghost use Rattle.fb_expr.specs.Text.Order.{name_cmp};
-ghost use Rattle.fb_expr.specs.Tree.Tree.{chart_tree, transition_tree};
-ghost use Rattle.fb_expr.specs.Iface.Names.{has_name};
+ghost use Rattle.fb_tree.specs.Text.Order.{name_cmp};
+ghost use Rattle.fb_tree.specs.Tree.{chart_tree, transition_tree};
+ghost use Rattle.fb_iface.specs.Names.{has_name};
 ghost use Rattle.fb_ecc.specs.States.{transition_faults, state_fault, state_faults};
 
-use fb_expr::iface::{Code, Fault};
-use fb_expr::text::{Name, NameUse};
-use fb_expr::tree::{Chart, State, Transition};
+use fb_iface::{Code, Fault};
+use fb_tree::text::{Name, NameUse};
+use fb_tree::{Chart, State, Transition};
 use std::alloc::{AllocError, Global};
 use std::collections::BTreeSet;
 

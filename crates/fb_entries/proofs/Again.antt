@@ -3,8 +3,8 @@ use Rattle.std.proofs.Common.{◌≡◌, ℕ, ◌+◌, Bool, true, false, List, 
 use Rattle.std.specs.List.{enumerate_from}
 use Rattle.std.specs.Option.{option_map}
 use Rattle.std.proofs.Math.Seq.{take-append_seam}
-use Rattle.fb_history.specs.KeysAndValues.Reads.{is_among}
-use Rattle.fb_history.specs.KeysAndValues.Reach.{comes_again, first_repeated}
+use Rattle.fb_jobs.specs.Reads.{is_among}
+use Rattle.fb_jobs.specs.Reach.{comes_again, first_repeated}
 
 -- the first unit that comes again, where some came before the list
 abbrev pub repeated_after : List (List ℕ) → List (List ℕ) → Option (List ℕ)

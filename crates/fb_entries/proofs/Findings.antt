@@ -2,15 +2,15 @@
 use Rattle.std.proofs.Common.{◌≡◌, ◌↔◌, ℕ, Bool, true, false, ◌||◌, ◌&&◌, not, List, filter, refl, sym, ap, ◌∙◌, Option, Some, None, cond, is_none}
 use Rattle.std.specs.BTreeMap as tree
 use Rattle.std.specs.BTreeSet as set
-use Rattle.fb_history.proofs.Text.Tests.{and_false}
-use Rattle.fb_history.specs.Library.Texts.{Texts}
-use Rattle.fb_history.specs.KeysAndValues.declared.key.Key.{Key}
-use Rattle.fb_history.specs.KeysAndValues.Keys.{has_key}
-use Rattle.fb_history.specs.KeysAndValues.KeyOrder.{key_cmp}
+use Rattle.fb_text.proofs.Tests.{and_false}
+use Rattle.fb_index.specs.Library.Texts.{Texts}
+use Rattle.fb_jobs.specs.declared.key.Key.{Key}
+use Rattle.fb_jobs.specs.Keys.{has_key}
+use Rattle.fb_jobs.specs.KeyOrder.{key_cmp}
 use Rattle.fb_entries.specs.declared.entry.Entry.{Entry}
 use Rattle.fb_entries.specs.declared.renewal.Renewal.{Renewal}
-use Rattle.fb_history.specs.KeysAndValues.Kinds.{all_keys}
-use Rattle.fb_history.specs.KeysAndValues.Reach.{reaches}
+use Rattle.fb_jobs.specs.Kinds.{all_keys}
+use Rattle.fb_jobs.specs.Reach.{reaches}
 use Rattle.fb_entries.specs.Marking.{is_of}
 use Rattle.fb_entries.specs.Renew.{is_own, is_renewed, IsRenewal, HasRoom, IsTakenBack}
 use Rattle.fb_index.specs.Near.{Users}

@@ -3,19 +3,19 @@ use Rattle.std.proofs.Common.{◌≡◌, ℕ, Bool, true, false, ◌||◌, List,
 use Rattle.std.proofs.lemmas.Bool.{false≢true, true≢false}
 use Rattle.std.specs.BTreeMap.{is_at}
 use Rattle.std.specs.Option.{option_and_then}
-use Rattle.fb_history.proofs.Text.Tests.{by_bool, or_cases, or_false, no_both}
-use Rattle.fb_index.specs.Text.Order.{name_cmp}
-use Rattle.fb_history.proofs.Text.OrderLemmas.{has-in_order}
+use Rattle.fb_text.proofs.Tests.{by_bool, or_cases, or_false, no_both}
+use Rattle.fb_text.specs.Order.{name_cmp}
+use Rattle.fb_text.proofs.OrderLemmas.{has-in_order}
 use Rattle.fb_index.specs.Near.{Users, is_near, IsIndexedAs, IsReplaced}
 use Rattle.fb_index.proofs.Lookups.{flips}
-use Rattle.fb_index.proofs.Table.Names.{name_total}
-use Rattle.fb_index.proofs.Table.SeenLemmas.{or_left, or_right, same_is, same_self, has-push}
-use Rattle.fb_history.specs.Library.Texts.{Texts, sources_of, text_at}
-use Rattle.fb_history.specs.Library.View.{Sources, tree_of, mentions_in, mentions_at, near_of}
-use Rattle.fb_history.proofs.Library.Sources.{get_source}
-use Rattle.fb_history.specs.KeysAndValues.Reads.{is_among}
+use Rattle.fb_index.proofs.Library.Names.{name_total}
+use Rattle.fb_index.proofs.Library.SeenLemmas.{or_left, or_right, same_is, same_self, has-push}
+use Rattle.fb_index.specs.Library.Texts.{Texts, sources_of, text_at}
+use Rattle.fb_index.specs.Library.View.{Sources, tree_of, mentions_in, mentions_at, near_of}
+use Rattle.fb_index.proofs.Library.Sources.{get_source}
+use Rattle.fb_jobs.specs.Reads.{is_among}
 use Rattle.fb_entries.specs.Indexed.{IsIndexOf}
-use Rattle.fb_history.specs.KeysAndValues.Reach.{AgreeApartFrom}
+use Rattle.fb_jobs.specs.Reach.{AgreeApartFrom}
 use Rattle.fb_entries.proofs.Again.{repeated_after}
 
 -- ---- near names

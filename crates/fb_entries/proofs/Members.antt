@@ -1,13 +1,13 @@
 -- Keys among keys.
 use Rattle.std.proofs.Common.{◌≡◌, Bool, true, false, ◌||◌, ◌&&◌, List, [], ◌∷◌, ◌++◌, filter, refl, sym, ap, ◌∙◌, cond}
 use Rattle.std.specs.List.{list_any}
-use Rattle.fb_history.proofs.Text.Tests.{or_false, and_false}
+use Rattle.fb_text.proofs.Tests.{or_false, and_false}
 use Rattle.std.proofs.lemmas.List.Folds.{list_any-append}
 use Rattle.std.proofs.lemmas.Cmp.{eq_by_cmp_equiv}
-use Rattle.fb_history.specs.KeysAndValues.declared.key.Key.{Key}
-use Rattle.fb_history.specs.KeysAndValues.KeyOrder.{same_key}
+use Rattle.fb_jobs.specs.declared.key.Key.{Key}
+use Rattle.fb_jobs.specs.KeyOrder.{same_key}
 use Rattle.fb_entries.specs.Marking.{is_of}
-use Rattle.fb_history.proofs.KeysAndValues.Order.{key_total, keys_equal}
+use Rattle.fb_jobs.proofs.Order.{key_total, keys_equal}
 
 same_flips : (a b : Key) → same_key a b ≡ same_key b a
 same_flips a b = (eq_by_cmp_equiv key_total).symm a b

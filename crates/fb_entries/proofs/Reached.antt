@@ -3,26 +3,26 @@ use Rattle.std.proofs.Common.{◌≡◌, ◌↔◌, ℕ, Bool, true, false, List
 use Rattle.std.proofs.lemmas.Bool.{false≢true}
 use Rattle.std.specs.List.{Contains, list_any}
 use Rattle.std.specs.BTreeMap.{is_at}
-use Rattle.fb_history.proofs.Text.Tests.{by_bool, or_cases}
-use Rattle.fb_index.specs.Text.Order.{name_cmp}
+use Rattle.fb_text.proofs.Tests.{by_bool, or_cases}
+use Rattle.fb_text.specs.Order.{name_cmp}
 use Rattle.fb_index.specs.Near.{Users, is_near, Reaches, near, through, ReachesSome}
 use Rattle.fb_index.proofs.Lookups.{flips}
-use Rattle.fb_index.proofs.Table.SeenLemmas.{or_left, or_right, same_is, same_self, Contains-has, has-Contains}
-use Rattle.fb_history.proofs.Flatten.FarNames.{far_is_all}
-use Rattle.fb_history.specs.Flatten.Far.{far_of}
-use Rattle.fb_history.specs.Library.Texts.{Texts, sources_of, text_at}
-use Rattle.fb_history.specs.Library.View.{Sources, mentions_at, near_of}
-use Rattle.fb_history.specs.Library.Rests.{Rests, itself, through as on}
-use Rattle.fb_history.specs.KeysAndValues.declared.key.Kind.{Kind}
-use Rattle.fb_history.specs.KeysAndValues.Kinds.{keys_near_and_far, needs_all}
-use Rattle.fb_history.specs.KeysAndValues.declared.key.Key.{Key}
-use Rattle.fb_history.specs.KeysAndValues.Keys.{has_key, has_kind_at, needs}
-use Rattle.fb_history.specs.KeysAndValues.Reads.{is_among}
-use Rattle.fb_history.specs.KeysAndValues.Reach.{reaches}
+use Rattle.fb_index.proofs.Library.SeenLemmas.{or_left, or_right, same_is, same_self, Contains-has, has-Contains}
+use Rattle.fb_jobs.proofs.Flatten.FarNames.{far_is_all}
+use Rattle.fb_jobs.specs.Flatten.Far.{far_of}
+use Rattle.fb_index.specs.Library.Texts.{Texts, sources_of, text_at}
+use Rattle.fb_index.specs.Library.View.{Sources, mentions_at, near_of}
+use Rattle.fb_index.specs.Library.Rests.{Rests, itself, through as on}
+use Rattle.fb_jobs.specs.declared.key.Kind.{Kind}
+use Rattle.fb_jobs.specs.Kinds.{keys_near_and_far, needs_all}
+use Rattle.fb_jobs.specs.declared.key.Key.{Key}
+use Rattle.fb_jobs.specs.Keys.{has_key, has_kind_at, needs}
+use Rattle.fb_jobs.specs.Reads.{is_among}
+use Rattle.fb_jobs.specs.Reach.{reaches}
 use Rattle.fb_entries.specs.Indexed.{IsIndexOf, IsReached, IsReachedFrom}
 use Rattle.fb_entries.specs.Marking.{is_of}
 use Rattle.fb_entries.proofs.Indexing.{near_names, near_apart}
-use Rattle.fb_history.proofs.KeysAndValues.KindLemmas.{in_near_and_far, needs_by, no_kind}
+use Rattle.fb_jobs.proofs.KindLemmas.{in_near_and_far, needs_by, no_kind}
 
 -- ---- a unit of the texts
 

@@ -2,10 +2,10 @@
 use Rattle.std.proofs.Common.{◌≡◌, Bool, true, false, sym, ap, ◌∙◌, Some, None, cond}
 use Rattle.std.specs.Option.{option_map}
 use Rattle.std.specs.BTreeMap as tree
-use Rattle.fb_history.specs.KeysAndValues.declared.key.Key.{Key}
-use Rattle.fb_history.specs.KeysAndValues.KeyOrder.{key_cmp, same_key}
+use Rattle.fb_jobs.specs.declared.key.Key.{Key}
+use Rattle.fb_jobs.specs.KeyOrder.{key_cmp, same_key}
 use Rattle.fb_entries.specs.declared.entry.Entry.{Entry}
-use Rattle.fb_history.proofs.KeysAndValues.Order.{keys_equal}
+use Rattle.fb_jobs.proofs.Order.{keys_equal}
 
 module _ (m n : tree.BTreeMap Key Entry) (k other : Key) (f : Entry → Entry) where
   pub written : (e w : Entry) (b : Bool) → same_key k other ≡ b → Some e ≡ tree.get key_cmp m k → f e ≡ w → tree.get key_cmp n other ≡ cond b (Some w) (tree.get key_cmp m other) → tree.get key_cmp n other ≡ cond b (option_map f (tree.get key_cmp m other)) (tree.get key_cmp m other)

@@ -3,12 +3,12 @@ use Rattle.std.specs.Prelude.{ℕ, List, map, Option, Some, None}
 use Rattle.std.specs.Option.{option_map}
 use Rattle.std.specs.declared.vec.Vec.{Vec}
 use Rattle.std.specs.declared.alloc.Global.{Global}
-use Rattle.fb_history.specs.Library.Texts.{Texts, unit_of}
-use Rattle.fb_history.specs.Library.declared.change.Change.{Change}
-use Rattle.fb_history.specs.Library.Changes.{edits_of}
-use Rattle.fb_history.specs.KeysAndValues.declared.key.Key.{Key}
-use Rattle.fb_history.specs.KeysAndValues.Keys.{Finding}
-use Rattle.fb_history.specs.KeysAndValues.Values.{finding_of}
+use Rattle.fb_index.specs.Library.Texts.{Texts, unit_of}
+use Rattle.fb_index.specs.Library.declared.change.Change.{Change}
+use Rattle.fb_index.specs.Library.Changes.{edits_of}
+use Rattle.fb_jobs.specs.declared.key.Key.{Key}
+use Rattle.fb_jobs.specs.Keys.{Finding}
+use Rattle.fb_jobs.specs.Values.{finding_of}
 use Rattle.fb_entries.specs.declared.entries.Entries.{Entries}
 use Rattle.fb_entries.specs.declared.entry.Entry.{Entry}
 use Rattle.fb_entries.specs.declared.renewal.Renewal.{Renewal}

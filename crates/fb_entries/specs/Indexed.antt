@@ -2,10 +2,10 @@
 use Rattle.std.specs.Prelude.{◌≡◌, ℕ, Bool, true, false, List, is_some}
 use Rattle.std.specs.List.{list_any}
 use Rattle.fb_index.specs.Near.{Users, is_near, IsIndexedAs, ReachesSome}
-use Rattle.fb_history.specs.Library.Texts.{Texts, text_at, sources_of}
-use Rattle.fb_history.specs.Library.View.{mentions_at}
-use Rattle.fb_history.specs.KeysAndValues.declared.key.Kind.{Kind}
-use Rattle.fb_history.specs.KeysAndValues.Kinds.{needs_all}
+use Rattle.fb_index.specs.Library.Texts.{Texts, text_at, sources_of}
+use Rattle.fb_index.specs.Library.View.{mentions_at}
+use Rattle.fb_jobs.specs.declared.key.Kind.{Kind}
+use Rattle.fb_jobs.specs.Kinds.{needs_all}
 
 -- what is indexed for a unit is what it mentions in these texts, and each of their units is indexed
 pub record IsIndexOf (texts : Texts) (index : Users) : Type 0 where

@@ -5,12 +5,12 @@ use Rattle.std.specs.BTreeMap as tree
 use Rattle.std.specs.BTreeSet as set
 use Rattle.std.specs.declared.vec.Vec.{Vec}
 use Rattle.std.specs.declared.alloc.Global.{Global}
-use Rattle.fb_history.specs.KeysAndValues.declared.key.Key.{Key}
-use Rattle.fb_history.specs.KeysAndValues.Keys.{has_key}
-use Rattle.fb_history.specs.KeysAndValues.KeyOrder.{key_cmp}
-use Rattle.fb_history.specs.Library.Texts.{Texts}
-use Rattle.fb_history.specs.KeysAndValues.Kinds.{all_keys}
-use Rattle.fb_history.specs.KeysAndValues.Reach.{keys_of, reaches}
+use Rattle.fb_jobs.specs.declared.key.Key.{Key}
+use Rattle.fb_jobs.specs.Keys.{has_key}
+use Rattle.fb_jobs.specs.KeyOrder.{key_cmp}
+use Rattle.fb_index.specs.Library.Texts.{Texts}
+use Rattle.fb_jobs.specs.Kinds.{all_keys}
+use Rattle.fb_jobs.specs.Reach.{keys_of, reaches}
 use Rattle.fb_entries.specs.Marking.{is_of, waiting_if, KeepsOtherEntries, HasEntries, LosesEntries, LosesKeys}
 use Rattle.fb_entries.specs.declared.entry.Entry.{Entry}
 use Rattle.fb_entries.specs.declared.renewal.Renewal.{Renewal}

@@ -1,10 +1,9 @@
 //! What a workbench knows of its keys.
 ghost use Rattle.std.specs.Prelude.{◌≡◌, [], None, IfOk, OnOk, OnErr};
 ghost use Rattle.std.specs.BTreeMap as tree;
-ghost use Rattle.fb_history.specs.KeysAndValues.KeyOrder.{key_cmp};
+ghost use Rattle.fb_jobs.specs.KeyOrder.{key_cmp};
 ghost use Rattle.fb_entries.specs.Indexed.{IsIndexOf};
-ghost use Rattle.fb_history.specs.KeysAndValues.Reach.{AgreeApartFrom};
-ghost use Rattle.fb_history.specs.KeysAndValues.Reach.{first_repeated};
+ghost use Rattle.fb_jobs.specs.Reach.{AgreeApartFrom, first_repeated};
 ghost use Rattle.fb_entries.specs.Marking.{LosesEntries, LosesKeys};
 ghost use Rattle.fb_entries.specs.Found.{units_of, Alters, AreKeysAfter, MakesRoom, LosesRoom};
 ghost use Rattle.fb_entries.specs.Renew.{IsCarriedOut, items_or};
@@ -16,10 +15,10 @@ use crate::renewal::{
     Renewal, absent, changed_units, join_all, leave_all, not_in, put_blank, renew_all, replace,
     take_out, without_entry,
 };
-use fb_history::library::{Change, Library};
-use fb_history::values::{Kept, Key, Value, keys_by_name};
 use fb_index::Index;
-use fb_index::text::Name;
+use fb_index::library::{Change, Library};
+use fb_jobs::{Kept, Key, Value, keys_by_name};
+use fb_text::Name;
 use std::alloc::{AllocError, Global};
 use std::collections::{BTreeMap, BTreeSet};
 use std::sync::Arc;

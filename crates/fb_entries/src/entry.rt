@@ -2,7 +2,7 @@
 ghost use Rattle.std.specs.Prelude.{true, false, OnOk, OnErr};
 ghost use Rattle.fb_entries.specs.Marking.{with_out, with_value, ChangesEntry, RenewsEntry, MarksKey, SameKeys};
 
-use fb_history::values::{Key, Value};
+use fb_jobs::{Key, Value};
 use std::alloc::AllocError;
 use std::collections::{BTreeMap, BTreeSet};
 use std::sync::Arc;

@@ -1,11 +1,11 @@
 //! The keys of a library, in order.
 ghost use Rattle.std.specs.Prelude.{◌≡◌, filter, IfOk};
-ghost use Rattle.fb_history.specs.KeysAndValues.Keys.{has_key};
-ghost use Rattle.fb_history.specs.KeysAndValues.Reach.{keys_of};
+ghost use Rattle.fb_jobs.specs.Keys.{has_key};
+ghost use Rattle.fb_jobs.specs.Reach.{keys_of};
 
-use fb_history::library::Library;
-use fb_history::values::{Key, has_key, keys_by_name};
-use fb_index::text::Name;
+use fb_index::library::Library;
+use fb_jobs::{Key, has_key, keys_by_name};
+use fb_text::Name;
 use std::alloc::{AllocError, Global};
 
 /// Those that the library has.

@@ -1,15 +1,14 @@
 //! What changed units reach, by the index of what each unit mentions.
 ghost use Rattle.std.specs.Prelude.{◌≡◌, ◌↔◌, true, None, IfOk};
-ghost use Rattle.fb_history.specs.KeysAndValues.declared.key.Key.{Key};
-ghost use Rattle.fb_history.specs.KeysAndValues.Reach.{first_repeated};
+ghost use Rattle.fb_jobs.specs.declared.key.Key.{Key};
+ghost use Rattle.fb_jobs.specs.Reach.{first_repeated, AgreeApartFrom};
 ghost use Rattle.fb_entries.specs.Indexed.{IsIndexOf, IsReached};
-ghost use Rattle.fb_history.specs.KeysAndValues.Reach.{AgreeApartFrom};
 ghost use Rattle.fb_entries.specs.Marking.{is_of};
 
-use fb_history::library::{Library, near};
-use fb_history::values::{Key, keys_near_and_far};
 use fb_index::Index;
-use fb_index::text::Name;
+use fb_index::library::{Library, near};
+use fb_jobs::{Key, keys_near_and_far};
+use fb_text::Name;
 use std::alloc::{AllocError, Global};
 
 /// The index of the library after, which has other texts than the one before under these names alone.

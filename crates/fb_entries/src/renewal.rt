@@ -2,18 +2,18 @@
 ghost use Rattle.std.specs.Prelude.{◌≡◌, not, is_none, map, filter, IfOk, OnOk};
 ghost use Rattle.std.specs.BTreeMap as tree;
 ghost use Rattle.std.specs.BTreeSet as set;
-ghost use Rattle.fb_history.specs.Library.Texts.{unit_of};
-ghost use Rattle.fb_history.specs.Library.Changes.{edits_of};
-ghost use Rattle.fb_history.specs.KeysAndValues.Keys.{has_key};
-ghost use Rattle.fb_history.specs.KeysAndValues.KeyOrder.{key_cmp};
+ghost use Rattle.fb_index.specs.Library.Texts.{unit_of};
+ghost use Rattle.fb_index.specs.Library.Changes.{edits_of};
+ghost use Rattle.fb_jobs.specs.Keys.{has_key};
+ghost use Rattle.fb_jobs.specs.KeyOrder.{key_cmp};
 ghost use Rattle.fb_entries.specs.Marking.{KeepsOtherEntries, HasEntries, LosesEntries, RenewsEntries, KeepsOtherKeys, HasKeys, LosesKeys};
 ghost use Rattle.fb_entries.specs.Renew.{AreKeys, have_entries, items_or};
 
 use crate::entry::{Entry, join, leave, renew};
 use crate::keys::present_keys;
-use fb_history::library::{Change, Library};
-use fb_history::values::{Key, has_key};
-use fb_index::text::Name;
+use fb_index::library::{Change, Library};
+use fb_jobs::{Key, has_key};
+use fb_text::Name;
 use std::alloc::{AllocError, Global};
 use std::collections::{BTreeMap, BTreeSet};
 

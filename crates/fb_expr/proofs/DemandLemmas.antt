@@ -4,15 +4,15 @@ use Rattle.std.specs.List.{Contains, flat_map}
 use Rattle.std.specs.Option.{option_map_or}
 use Rattle.std.proofs.lemmas.Grind.{flat_map-append}
 use Rattle.std.proofs.lemmas.List.Elements.{Contains-append_cases, Contains-append_left, Contains-append_right, Contains-push_cases}
-use Rattle.fb_netcheck.specs.Text.declared.name.NameUse.{NameUse}
-use Rattle.fb_netcheck.specs.Text.declared.token.Span.{Span}
+use Rattle.fb_tree.specs.Text.declared.name.NameUse.{NameUse}
+use Rattle.fb_tree.specs.Text.declared.token.Span.{Span}
 use Rattle.fb_tree.specs.Expression.{Expression, literal_expression, reference_expression, unary_expression, row_expression, parentheses, Expressions, no_expressions, expression_then, Operands, no_operands, operand_then}
 use Rattle.fb_tree.specs.Statement.{Statement, empty, assignment, exit, return, choice, selection, count, while_loop, repeat_loop, Statements, no_statements, statement_then, Arms, no_arms, arm_then, statements_of}
 use Rattle.fb_tree.specs.Tree.{AlgorithmTree, ChartTree, ConditionTree, always, on_event, guarded, guard, TransitionTree}
-use Rattle.fb_netcheck.specs.Iface.Scope.{Scope, scope_of_type}
-use Rattle.fb_netcheck.specs.Iface.declared.classes.Class.{Class as ValueClass}
-use Rattle.fb_netcheck.specs.Iface.declared.code.Code.TheVariants.{VariableUnknown}
-use Rattle.fb_netcheck.specs.Iface.declared.fault.Fault.{Fault}
+use Rattle.fb_iface.specs.Scope.{Scope, scope_of_type}
+use Rattle.fb_iface.specs.declared.classes.Class.{Class as ValueClass}
+use Rattle.fb_iface.specs.declared.code.Code.TheVariants.{VariableUnknown}
+use Rattle.fb_iface.specs.declared.fault.Fault.{Fault}
 use Rattle.fb_expr.specs.Charts.{algorithm_faults, expression_faults, faults_in_unit, guard_faults, transition_faults}
 use Rattle.fb_expr.specs.Classes.{pair_class}
 use Rattle.fb_expr.specs.Demands.{Demand, suits_operand, suits_operands, suits_place, assigns, is_known, is_met, fault_of, demands_in, row_demands, subscript_demands, demands_at, name_alone, counter_demands, range_demands, assignment_demands, statement_demands, statements_demands, arms_demands, guard_demands, transition_demands, algorithm_demands, chart_demands, IsUnmet, FaultsAreUnmet}

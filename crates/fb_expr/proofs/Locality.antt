@@ -5,9 +5,9 @@ use Rattle.std.specs.List.{Contains}
 use Rattle.std.specs.Option.{option_and_then}
 use Rattle.fb_tree.specs.Mentions.{types_in}
 use Rattle.fb_tree.specs.Tree.{DeclTree, block_type, adapter_type, subapplication_type, system_configuration}
-use Rattle.fb_netcheck.specs.Library.View.{Sources, mentions_in, tree_at, tree_of}
-use Rattle.fb_netcheck.proofs.Library.Locality.{near_unit}
-use Rattle.fb_netcheck.proofs.Iface.ScopeLocal.{in_order_has, near_mention, scope_local}
+use Rattle.fb_iface.specs.Library.View.{Sources, mentions_in, tree_at, tree_of}
+use Rattle.fb_iface.proofs.Library.Locality.{near_unit}
+use Rattle.fb_iface.proofs.ScopeLocal.{in_order_has, near_mention, scope_local}
 use Rattle.fb_expr.specs.Charts.{ExprFaultsAreLocal, expression_faults, faults_in_unit}
 
 declared_local : (a b : Sources) (tree : Option DeclTree) → ((name : List ℕ) → Contains (mentions_in tree) name → get a name ≡ get b name) → faults_in_unit a tree ≡ faults_in_unit b tree

@@ -3,10 +3,10 @@ use Rattle.std.specs.Prelude.{◌≡◌, ℕ, List, [], ◌++◌, Option, Some, 
 use Rattle.std.specs.List.{flat_map}
 use Rattle.fb_tree.specs.Statement.{statements_of}
 use Rattle.fb_tree.specs.Tree.{AlgorithmTree, ChartTree, ConditionTree, always, on_event, guarded, guard, DeclTree, TransitionTree, block_type, adapter_type, subapplication_type, system_configuration}
-use Rattle.fb_netcheck.specs.Library.Local.{Agree}
-use Rattle.fb_netcheck.specs.Library.View.{Sources, near_of, tree_at}
-use Rattle.fb_netcheck.specs.Iface.Scope.{Scope, scope_of_type}
-use Rattle.fb_netcheck.specs.Iface.declared.fault.Fault.{Fault}
+use Rattle.fb_iface.specs.Library.Local.{Agree}
+use Rattle.fb_iface.specs.Library.View.{Sources, near_of, tree_at}
+use Rattle.fb_iface.specs.Scope.{Scope, scope_of_type}
+use Rattle.fb_iface.specs.declared.fault.Fault.{Fault}
 use Rattle.fb_expr.specs.declared.rules.ClassPlace.TheVariants.{Condition}
 use Rattle.fb_expr.specs.Statements.{faults_at_place, statements_faults}
 

@@ -2,19 +2,19 @@
 use Rattle.std.specs.Prelude.{◌≡◌, ℕ, Bool, true, false, List, [], ◌∷◌, ◌++◌, Option, Some, None, is_some, ◌↔◌}
 use Rattle.std.specs.List.{Contains, flat_map}
 use Rattle.std.specs.Option.{option_map_or}
-use Rattle.fb_netcheck.specs.Text.declared.name.NameUse.{NameUse}
-use Rattle.fb_netcheck.specs.Text.declared.token.Span.{Span}
+use Rattle.fb_tree.specs.Text.declared.name.NameUse.{NameUse}
+use Rattle.fb_tree.specs.Text.declared.token.Span.{Span}
 use Rattle.fb_tree.specs.Expression.{ReferenceTree, Expression, literal_expression, reference_expression, unary_expression, row_expression, parentheses, Expressions, no_expressions, expression_then, Operands, no_operands, operand_then}
 use Rattle.fb_tree.specs.Statement.{Statement, empty, assignment, exit, return, choice, selection, count, while_loop, repeat_loop, Statements, no_statements, statement_then, Arms, no_arms, arm_then, statements_of}
 use Rattle.fb_tree.specs.Tree.{AlgorithmTree, ChartTree, ConditionTree, always, on_event, guarded, guard, TransitionTree, TypeTree, block_type}
 use Rattle.fb_tree.specs.declared.expression.BinaryUse.{BinaryUse}
 use Rattle.fb_tree.specs.declared.expression.UnaryUse.{UnaryUse}
-use Rattle.fb_netcheck.specs.Library.View.{Sources, tree_at}
-use Rattle.fb_netcheck.specs.Iface.Scope.{Scope, scope_of_type}
-use Rattle.fb_netcheck.specs.Iface.declared.classes.Class.{Class as ValueClass}
-use Rattle.fb_netcheck.specs.Iface.declared.code.Code.{Code}
-use Rattle.fb_netcheck.specs.Iface.declared.code.Code.TheVariants.{Class, VariableUnknown}
-use Rattle.fb_netcheck.specs.Iface.declared.fault.Fault.{Fault}
+use Rattle.fb_iface.specs.Library.View.{Sources, tree_at}
+use Rattle.fb_iface.specs.Scope.{Scope, scope_of_type}
+use Rattle.fb_iface.specs.declared.classes.Class.{Class as ValueClass}
+use Rattle.fb_iface.specs.declared.code.Code.{Code}
+use Rattle.fb_iface.specs.declared.code.Code.TheVariants.{Class, VariableUnknown}
+use Rattle.fb_iface.specs.declared.fault.Fault.{Fault}
 use Rattle.fb_expr.specs.Charts.{expr_faults_of}
 use Rattle.fb_expr.specs.Classes.{change, combined, join, pair_class}
 use Rattle.fb_expr.specs.Expressions.{class_in}

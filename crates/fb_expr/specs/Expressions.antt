@@ -1,10 +1,10 @@
 -- The class of each expression, and the faults in it.
 use Rattle.std.specs.Prelude.{List, [], ◌++◌, is_some}
 use Rattle.fb_tree.specs.Expression.{Expression, literal_expression, reference_expression, unary_expression, row_expression, parentheses, Expressions, no_expressions, expression_then, Operands, no_operands, operand_then}
-use Rattle.fb_netcheck.specs.Iface.Class.{class_of_literal}
-use Rattle.fb_netcheck.specs.Iface.Scope.{Scope}
-use Rattle.fb_netcheck.specs.Iface.declared.classes.Class.{Class}
-use Rattle.fb_netcheck.specs.Iface.declared.fault.Fault.{Fault}
+use Rattle.fb_iface.specs.Class.{class_of_literal}
+use Rattle.fb_iface.specs.Scope.{Scope}
+use Rattle.fb_iface.specs.declared.classes.Class.{Class}
+use Rattle.fb_iface.specs.declared.fault.Fault.{Fault}
 use Rattle.fb_expr.specs.Classes.{change, combined, pair_class, unary_class}
 use Rattle.fb_expr.specs.Spans.{names_span, span_of}
 use Rattle.fb_expr.specs.References.{class_of_referent, referent_of, unknown_faults}

@@ -1,7 +1,7 @@
 -- What references stand for (IEC 61499-1, 5.2.2: algorithms; 5.5: adapters).
 use Rattle.std.specs.Prelude.{ℕ, Bool, true, false, List, [], ◌∷◌, Option, Some, None, if◌then◌else◌}
 use Rattle.std.specs.Option.{option_map_or}
-use Rattle.fb_netcheck.specs.Text.declared.token.Span.{Span}
+use Rattle.fb_tree.specs.Text.declared.token.Span.{Span}
 use Rattle.fb_tree.specs.declared.interface.Section.{Section}
 use Rattle.fb_tree.specs.declared.interface.Section.TheVariants as sections
 use Rattle.fb_tree.specs.declared.interface.TypeForm.{TypeForm}
@@ -10,16 +10,16 @@ use Rattle.fb_tree.specs.declared.interface.TypeUse.{TypeUse}
 use Rattle.fb_tree.specs.declared.network.Role.{Role}
 use Rattle.fb_tree.specs.declared.network.Role.TheVariants as roles
 use Rattle.fb_tree.specs.Expression.{ReferenceTree, Expressions, no_expressions, expression_then}
-use Rattle.fb_netcheck.specs.Iface.Class.{class_of_name, class_of_type}
-use Rattle.fb_netcheck.specs.Iface.Names.{stands_for}
-use Rattle.fb_netcheck.specs.Iface.Ports.{Meanings}
-use Rattle.fb_netcheck.specs.Iface.Scope.{Scope, ports_of}
-use Rattle.fb_netcheck.specs.Iface.declared.classes.Class.{Class}
-use Rattle.fb_netcheck.specs.Iface.declared.classes.Class.TheVariants.{O, Free}
-use Rattle.fb_netcheck.specs.Iface.declared.code.Code.TheVariants.{VariableUnknown}
-use Rattle.fb_netcheck.specs.Iface.declared.fault.Fault.{Fault}
-use Rattle.fb_netcheck.specs.Iface.declared.ports.DeclaredInstance.{DeclaredInstance}
-use Rattle.fb_netcheck.specs.Iface.declared.ports.DeclaredVariable.{DeclaredVariable}
+use Rattle.fb_iface.specs.Class.{class_of_name, class_of_type}
+use Rattle.fb_iface.specs.Names.{stands_for}
+use Rattle.fb_iface.specs.Ports.{Meanings}
+use Rattle.fb_iface.specs.Scope.{Scope, ports_of}
+use Rattle.fb_iface.specs.declared.classes.Class.{Class}
+use Rattle.fb_iface.specs.declared.classes.Class.TheVariants.{O, Free}
+use Rattle.fb_iface.specs.declared.code.Code.TheVariants.{VariableUnknown}
+use Rattle.fb_iface.specs.declared.fault.Fault.{Fault}
+use Rattle.fb_iface.specs.declared.ports.DeclaredInstance.{DeclaredInstance}
+use Rattle.fb_iface.specs.declared.ports.DeclaredVariable.{DeclaredVariable}
 use Rattle.fb_expr.specs.declared.references.Referent.{Referent}
 use Rattle.fb_expr.specs.declared.references.Referent.TheVariants.{Variable, Unjudged, Unknown}
 

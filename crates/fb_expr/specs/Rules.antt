@@ -1,10 +1,10 @@
 -- The classes that each place of an algorithm asks for; one that is not judged meets every rule.
 use Rattle.std.specs.Prelude.{Bool, true, false, List, [], ◌∷◌, if◌then◌else◌}
-use Rattle.fb_netcheck.specs.Text.declared.token.Span.{Span}
-use Rattle.fb_netcheck.specs.Iface.declared.classes.Class.{Class as ValueClass}
-use Rattle.fb_netcheck.specs.Iface.declared.classes.Class.TheVariants.{B, I, Free, Num, Any}
-use Rattle.fb_netcheck.specs.Iface.declared.code.Code.TheVariants.{Class}
-use Rattle.fb_netcheck.specs.Iface.declared.fault.Fault.{Fault}
+use Rattle.fb_tree.specs.Text.declared.token.Span.{Span}
+use Rattle.fb_iface.specs.declared.classes.Class.{Class as ValueClass}
+use Rattle.fb_iface.specs.declared.classes.Class.TheVariants.{B, I, Free, Num, Any}
+use Rattle.fb_iface.specs.declared.code.Code.TheVariants.{Class}
+use Rattle.fb_iface.specs.declared.fault.Fault.{Fault}
 use Rattle.fb_expr.specs.declared.rules.ClassPlace.{ClassPlace}
 use Rattle.fb_expr.specs.declared.rules.ClassPlace.TheVariants.{Condition, Count, Counter, Selector}
 

@@ -1,5 +1,5 @@
 -- Where references and expressions stand.
-use Rattle.fb_netcheck.specs.Text.declared.token.Span.{Span}
+use Rattle.fb_tree.specs.Text.declared.token.Span.{Span}
 use Rattle.std.specs.Option.{option_map_or}
 use Rattle.fb_tree.specs.Expression.{ReferenceTree, Expression, literal_expression, reference_expression, unary_expression, row_expression, parentheses, Operands, no_operands, operand_then}
 

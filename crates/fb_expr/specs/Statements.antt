@@ -1,12 +1,12 @@
 -- The faults of statements.
 use Rattle.std.specs.Prelude.{List, [], ◌++◌, Option, is_some}
 use Rattle.std.specs.Option.{option_map_or}
-use Rattle.fb_netcheck.specs.Text.declared.name.NameUse.{NameUse}
-use Rattle.fb_netcheck.specs.Text.declared.token.Span.{Span}
+use Rattle.fb_tree.specs.Text.declared.name.NameUse.{NameUse}
+use Rattle.fb_tree.specs.Text.declared.token.Span.{Span}
 use Rattle.fb_tree.specs.Expression.{Expression, no_expressions, reference_expression}
 use Rattle.fb_tree.specs.Statement.{Statement, empty, assignment, exit, return, choice, selection, count, while_loop, repeat_loop, Statements, no_statements, statement_then, Arms, no_arms, arm_then}
-use Rattle.fb_netcheck.specs.Iface.Scope.{Scope}
-use Rattle.fb_netcheck.specs.Iface.declared.fault.Fault.{Fault}
+use Rattle.fb_iface.specs.Scope.{Scope}
+use Rattle.fb_iface.specs.declared.fault.Fault.{Fault}
 use Rattle.fb_expr.specs.Classes.{join}
 use Rattle.fb_expr.specs.Expressions.{class_in, faults_in}
 use Rattle.fb_expr.specs.Spans.{span_of}

@@ -2,16 +2,16 @@
 ghost use Rattle.std.specs.Prelude.{◌≡◌, ◌++◌, IfOk, OnOk};
 ghost use Rattle.std.specs.List.{flat_map};
 ghost use Rattle.fb_tree.specs.Tree.{algorithm_tree, chart_tree, condition_tree, decl_tree, transition_tree};
-ghost use Rattle.fb_netcheck.specs.Library.View.{tree_at};
-ghost use Rattle.fb_netcheck.specs.Iface.Fault.{faults_in_order};
-ghost use Rattle.fb_netcheck.specs.Iface.Kept.{scope_in};
+ghost use Rattle.fb_iface.specs.Library.View.{tree_at};
+ghost use Rattle.fb_iface.specs.Fault.{faults_in_order};
+ghost use Rattle.fb_iface.specs.Kept.{scope_in};
 ghost use Rattle.fb_expr.specs.Charts.{algorithm_faults, expr_faults_of, expression_faults, guard_faults, transition_faults};
 
 use crate::expressions::judge_at;
 use crate::rules::ClassPlace;
 use crate::statements::report_statements;
-use fb_netcheck::iface::{Fault, Scope, sorted_faults};
-use fb_netcheck::library::{View, tree_by_name};
+use fb_iface::library::{View, tree_by_name};
+use fb_iface::{Fault, Scope, sorted_faults};
 use fb_tree::text::Name;
 use fb_tree::{Algorithm, Chart, Condition, Decl, Transition};
 use std::alloc::{AllocError, Global};

@@ -2,7 +2,7 @@
 ghost use Rattle.std.specs.Prelude.{◌≡◌};
 ghost use Rattle.fb_expr.specs.Classes.{arithmetical, change, class_of_broken, combined, join, logical, operation, whole};
 
-use fb_netcheck::iface::Class;
+use fb_iface::Class;
 use fb_tree::{BinaryOperator, UnaryOperator};
 
 /// The join of two classes, where they have one.

@@ -1,7 +1,7 @@
 //! The classes of expressions.
 ghost use Rattle.std.specs.Prelude.{◌≡◌, ◌++◌, IfOk, OnOk, is_some, map};
 ghost use Rattle.fb_tree.specs.Expression.{expression_tree, expressions_of, operands_of, reference_expression, reference_tree};
-ghost use Rattle.fb_netcheck.specs.Iface.Kept.{scope_in};
+ghost use Rattle.fb_iface.specs.Kept.{scope_in};
 ghost use Rattle.fb_expr.specs.Classes.{change, combined, pair_class, unary_class};
 ghost use Rattle.fb_expr.specs.Expressions.{class_in, faults_in, row_class, row_faults, subscript_faults};
 ghost use Rattle.fb_expr.specs.Rules.{class_faults};
@@ -11,7 +11,7 @@ use crate::classes::{broken, changed, operated};
 use crate::references::{referred, report_unknown};
 use crate::rules::{ClassPlace, report_class};
 use crate::spans::{span_of, span_of_names};
-use fb_netcheck::iface::{Class, Fault, Scope, class_by_form};
+use fb_iface::{Class, Fault, Scope, class_by_form};
 use fb_tree::{BinaryUse, Expr, Reference, UnaryUse};
 use std::alloc::AllocError;
 

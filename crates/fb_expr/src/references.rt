@@ -2,8 +2,8 @@
 ghost use Rattle.std.specs.Prelude.{◌≡◌, ◌++◌, OnOk, map};
 ghost use Rattle.std.specs.Option.{option_copied, option_map};
 ghost use Rattle.fb_tree.specs.Expression.{expressions_of, expression_tree, reference_tree};
-ghost use Rattle.fb_netcheck.specs.Iface.Names.{stands_for};
-ghost use Rattle.fb_netcheck.specs.Iface.Kept.{scope_in};
+ghost use Rattle.fb_iface.specs.Names.{stands_for};
+ghost use Rattle.fb_iface.specs.Kept.{scope_in};
 ghost use Rattle.fb_expr.specs.References.{
   class_of_element,
   class_of_referent,
@@ -20,9 +20,7 @@ ghost use Rattle.fb_expr.specs.References.{
   variable_named,
 };
 
-use fb_netcheck::iface::{
-    Class, Code, DeclaredVariable, Fault, Ports, Scope, class_by_name, class_of,
-};
+use fb_iface::{Class, Code, DeclaredVariable, Fault, Ports, Scope, class_by_name, class_of};
 use fb_tree::text::{Name, Span};
 use fb_tree::{Expr, Reference, Role, Section, TypeForm, TypeUse};
 use std::alloc::AllocError;

@@ -2,7 +2,7 @@
 ghost use Rattle.std.specs.Prelude.{◌≡◌, ◌++◌, OnOk};
 ghost use Rattle.fb_expr.specs.Rules.{allows, class_faults};
 
-use fb_netcheck::iface::{Class, Code, Fault};
+use fb_iface::{Class, Code, Fault};
 use fb_tree::text::Span;
 use std::alloc::AllocError;
 

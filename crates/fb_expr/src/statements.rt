@@ -2,14 +2,14 @@
 ghost use Rattle.std.specs.Prelude.{◌≡◌, ◌++◌, OnOk, map, option_map};
 ghost use Rattle.fb_tree.specs.Expression.{expression_tree, expressions_of, reference_expression, reference_tree};
 ghost use Rattle.fb_tree.specs.Statement.{statement_tree, statements_of};
-ghost use Rattle.fb_netcheck.specs.Iface.Kept.{scope_in};
+ghost use Rattle.fb_iface.specs.Kept.{scope_in};
 ghost use Rattle.fb_expr.specs.Statements.{assignment_faults, counter_faults, range_faults, statement_faults, statements_faults};
 
 use crate::classes::joined;
 use crate::expressions::{judge, judge_at, judge_reference};
 use crate::references::{referred_variable, report_unknown};
 use crate::rules::{ClassPlace, report_class};
-use fb_netcheck::iface::{Fault, Scope};
+use fb_iface::{Fault, Scope};
 use fb_tree::text::{NameUse, Span};
 use fb_tree::{Counting, Expr, Reference, Stmt};
 use std::alloc::AllocError;

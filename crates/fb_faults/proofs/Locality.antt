@@ -5,19 +5,19 @@ use Rattle.std.specs.List.{Contains, flat_map}
 use Rattle.std.specs.Option.{option_and_then}
 use Rattle.std.proofs.lemmas.List.{map-append}
 use Rattle.std.proofs.lemmas.List.Elements.{Contains-append_right}
-use Rattle.fb_declarations.specs.Tree.Mentions.{mentioned_in, types_in}
-use Rattle.fb_declarations.specs.Tree.Tree.{ApplicationTree, DeclTree, InstanceTree, block_type, adapter_type, subapplication_type, system_configuration}
-use Rattle.fb_declarations.specs.Library.View.{Sources, mentions_in, near_of, tree_at, tree_of}
-use Rattle.fb_declarations.proofs.Library.Locality.{near_unit}
-use Rattle.fb_declarations.proofs.Iface.ScopeLocal.{in_order_has, near_mention}
-use Rattle.fb_declarations.specs.Iface.Declarations.{iface_faults_of, declaration_faults, duplicate_faults, literal_faults_of, mixed_faults, name_faults, with_faults_of}
-use Rattle.fb_declarations.specs.Iface.Fault.{faults_in_order}
-use Rattle.fb_declarations.specs.Iface.Types.{instance_faults, instances_of, type_fault, type_faults}
-use Rattle.fb_declarations.proofs.Expr.Locality.{expr_faults_local}
-use Rattle.fb_declarations.proofs.Ecc.Locality.{ecc_local}
-use Rattle.fb_declarations.proofs.Netcheck.Locality.{net_faults_local}
+use Rattle.fb_tree.specs.Mentions.{mentioned_in, types_in}
+use Rattle.fb_tree.specs.Tree.{ApplicationTree, DeclTree, InstanceTree, block_type, adapter_type, subapplication_type, system_configuration}
+use Rattle.fb_netcheck.specs.Library.View.{Sources, mentions_in, near_of, tree_at, tree_of}
+use Rattle.fb_netcheck.proofs.Library.Locality.{near_unit}
+use Rattle.fb_netcheck.proofs.Iface.ScopeLocal.{in_order_has, near_mention}
+use Rattle.fb_netcheck.specs.Iface.Declarations.{iface_faults_of, declaration_faults, duplicate_faults, literal_faults_of, mixed_faults, name_faults, with_faults_of}
+use Rattle.fb_netcheck.specs.Iface.Fault.{faults_in_order}
+use Rattle.fb_netcheck.specs.Iface.Types.{instance_faults, instances_of, type_fault, type_faults}
+use Rattle.fb_expr.proofs.Locality.{expr_faults_local}
+use Rattle.fb_ecc.proofs.Locality.{ecc_local}
+use Rattle.fb_netcheck.proofs.Locality.{net_faults_local}
 use Rattle.fb_faults.specs.Mappings.{declared_mapping_faults}
-use Rattle.fb_declarations.specs.Library.Local.{Agree}
+use Rattle.fb_netcheck.specs.Library.Local.{Agree}
 use Rattle.fb_faults.specs.Faults.{FaultsAreLocal, text_faults}
 
 first_contained : {A : Type 0} (x : A) (xs : List A) → Contains (x ∷ xs) x

@@ -2,14 +2,14 @@
 use Rattle.std.specs.Prelude.{ℕ, Bool, true, false, List, [], ◌∷◌, ◌++◌, map, Option, Some, None}
 use Rattle.std.specs.List.{flat_map}
 use Rattle.std.specs.Option.{option_map_or}
-use Rattle.fb_declarations.specs.Text.declared.name.NameUse.{NameUse}
-use Rattle.fb_declarations.specs.Text.declared.token.Span.{Span}
-use Rattle.fb_declarations.specs.Tree.Tree.{DeclTree, DeviceTree, MappingTree, SystemTree, block_type, adapter_type, subapplication_type, system_configuration}
-use Rattle.fb_declarations.specs.Library.View.{Sources, tree_at}
-use Rattle.fb_declarations.specs.Iface.Names.{has_name, stands_for}
-use Rattle.fb_declarations.specs.Iface.declared.code.Code.TheVariants.{MappedTwice, NoSuchResource}
-use Rattle.fb_declarations.specs.Iface.declared.fault.Fault.{Fault}
-use Rattle.fb_declarations.specs.Netcheck.Paths.{path_of_names, repeated_faults}
+use Rattle.fb_tree.specs.Text.declared.name.NameUse.{NameUse}
+use Rattle.fb_tree.specs.Text.declared.token.Span.{Span}
+use Rattle.fb_tree.specs.Tree.{DeclTree, DeviceTree, MappingTree, SystemTree, block_type, adapter_type, subapplication_type, system_configuration}
+use Rattle.fb_netcheck.specs.Library.View.{Sources, tree_at}
+use Rattle.fb_netcheck.specs.Iface.Names.{has_name, stands_for}
+use Rattle.fb_netcheck.specs.Iface.declared.code.Code.TheVariants.{MappedTwice, NoSuchResource}
+use Rattle.fb_netcheck.specs.Iface.declared.fault.Fault.{Fault}
+use Rattle.fb_netcheck.specs.Paths.{path_of_names, repeated_faults}
 
 -- the names of the resources of each device
 abbrev pub resources_in : List DeviceTree → List (List ℕ × List NameUse)

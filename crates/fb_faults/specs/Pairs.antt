@@ -2,7 +2,7 @@
 use Rattle.std.specs.Prelude.{ℕ, List}
 use Rattle.std.specs.Ordering.{ordering_then}
 use Rattle.std.specs.declared.cmp.Ordering.{Ordering}
-use Rattle.fb_declarations.specs.Text.Order.{name_cmp}
+use Rattle.fb_tree.specs.Text.Order.{name_cmp}
 
 -- by the first names, then by the second
 abbrev pub pair_cmp : List ℕ × List ℕ → List ℕ × List ℕ → Ordering

@@ -1,23 +1,22 @@
 //! All faults of a unit.
 ghost use Rattle.std.specs.Prelude.{◌≡◌, ◌++◌, IfOk, OnOk};
-ghost use Rattle.fb_declarations.specs.Tree.Tree.{decl_tree, type_tree};
-ghost use Rattle.fb_declarations.specs.Tree.declared.kinds.UnitKind.TheVariants as kinds;
-ghost use Rattle.fb_declarations.specs.Parse.Body.{Whole, body_tree};
-ghost use Rattle.fb_declarations.specs.Iface.Ports.{meanings_in_type};
-ghost use Rattle.fb_declarations.specs.Netcheck.Networks.{type_network, type_place};
-ghost use Rattle.fb_declarations.specs.Netcheck.Settings.{place_in};
+ghost use Rattle.fb_tree.specs.Tree.{decl_tree, type_tree};
+ghost use Rattle.fb_tree.specs.declared.kinds.UnitKind.TheVariants as kinds;
+ghost use Rattle.fb_netcheck.specs.Parse.Body.{Whole, body_tree};
+ghost use Rattle.fb_netcheck.specs.Iface.Ports.{meanings_in_type};
+ghost use Rattle.fb_netcheck.specs.Networks.{type_network, type_place};
+ghost use Rattle.fb_netcheck.specs.Settings.{place_in};
 ghost use Rattle.fb_faults.specs.Faults.{block_faults, faults_here, faults_of, reported_in, reported_of};
 
 use crate::mappings::report_mappings;
-use fb_declarations::ecc::report_charts;
-use fb_declarations::expr::report_expressions;
-use fb_declarations::iface::{Code, Fault, Ports, Scope, ports_of, sorted_faults};
-use fb_declarations::library::View;
-use fb_declarations::netcheck::{Setting, report_network, report_networks};
-use fb_declarations::parse::Body;
-use fb_declarations::report_declarations;
-use fb_declarations::text::Name;
-use fb_declarations::tree::{Decl, TypeDeclaration, UnitKind};
+use fb_ecc::report_charts;
+use fb_expr::report_expressions;
+use fb_netcheck::iface::{Code, Fault, Ports, Scope, ports_of, report_declarations, sorted_faults};
+use fb_netcheck::library::View;
+use fb_netcheck::parse::Body;
+use fb_netcheck::{Setting, report_network, report_networks};
+use fb_tree::text::Name;
+use fb_tree::{Decl, TypeDeclaration, UnitKind};
 use std::alloc::{AllocError, Global};
 
 /// All faults of a unit, in the order of their places and then of their codes, each once.

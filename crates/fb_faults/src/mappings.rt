@@ -2,15 +2,15 @@
 ghost use Rattle.std.specs.Prelude.{◌≡◌, ◌++◌, ◌&&◌, ◌||◌, IfOk, OnOk, List, map, ℕ};
 ghost use Rattle.std.specs.BTreeSet.{contains};
 ghost use Rattle.std.specs.List.{flat_map};
-ghost use Rattle.fb_declarations.specs.Tree.Tree.{device_tree, mapping_tree, system_tree};
-ghost use Rattle.fb_declarations.specs.Iface.Names.{has_name, is_same};
+ghost use Rattle.fb_tree.specs.Tree.{device_tree, mapping_tree, system_tree};
+ghost use Rattle.fb_netcheck.specs.Iface.Names.{has_name, is_same};
 ghost use Rattle.fb_faults.specs.Mappings.{has_resource, home_faults, home_span, system_mapping_faults};
 ghost use Rattle.fb_faults.specs.Pairs.{pair_cmp};
 
-use fb_declarations::iface::{Code, Fault};
-use fb_declarations::netcheck::report_repeated;
-use fb_declarations::text::{Name, Span};
-use fb_declarations::tree::{Device, Mapping, Resource, System};
+use fb_netcheck::iface::{Code, Fault};
+use fb_netcheck::report_repeated;
+use fb_tree::text::{Name, Span};
+use fb_tree::{Device, Mapping, Resource, System};
 use std::alloc::{AllocError, Global};
 use std::collections::BTreeSet;
 

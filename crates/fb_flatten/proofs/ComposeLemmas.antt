@@ -3,23 +3,23 @@ use Rattle.std.proofs.Common.{ℕ, ◌≡◌, List, Option, Some, None, refl, sy
 use Rattle.std.specs.Prelude.{Contains, ◌&&◌}
 use Rattle.std.specs.Option.{option_and_then}
 use Rattle.std.specs.BTreeMap.{is_at}
-use Rattle.fb_clean.specs.Text.Order.{name_cmp}
-use Rattle.fb_clean.specs.Tree.Tree.{DeclTree}
-use Rattle.fb_clean.specs.Tree.declared.network.Sort.TheVariants.{Adapter}
-use Rattle.fb_clean.specs.Library.View.{Sources, mentions_at, tree_at}
-use Rattle.fb_clean.specs.Network.Sorts.{same_sort}
-use Rattle.fb_clean.specs.Network.declared.network.Port.{Port}
-use Rattle.fb_clean.specs.Network.declared.network.Instance.{Instance}
-use Rattle.fb_clean.specs.Network.declared.network.End.TheVariants.{Own, Of}
-use Rattle.fb_clean.specs.Network.Plain.{PlainNetwork}
-use Rattle.fb_clean.specs.Network.Network.{View, instance_named}
-use Rattle.fb_clean.specs.Network.Clean.{port_named}
-use Rattle.fb_clean.specs.Wiring.ByName.{declared}
-use Rattle.fb_clean.specs.Wiring.Applications.{applications_of}
-use Rattle.fb_clean.specs.Wiring.declared.systems.Application.{Application}
-use Rattle.fb_clean.proofs.CleanUnits.{applications_clean}
-use Rattle.fb_clean.specs.Compose.Part.{SameAdapters}
-use Rattle.fb_clean.specs.Compose.Ready.{Nets, AreFinished}
+use Rattle.fb_wiring.specs.Text.Order.{name_cmp}
+use Rattle.fb_wiring.specs.Tree.Tree.{DeclTree}
+use Rattle.fb_wiring.specs.Tree.declared.network.Sort.TheVariants.{Adapter}
+use Rattle.fb_wiring.specs.Library.View.{Sources, mentions_at, tree_at}
+use Rattle.fb_wiring.specs.Network.Sorts.{same_sort}
+use Rattle.fb_wiring.specs.Network.declared.network.Port.{Port}
+use Rattle.fb_wiring.specs.Network.declared.network.Instance.{Instance}
+use Rattle.fb_wiring.specs.Network.declared.network.End.TheVariants.{Own, Of}
+use Rattle.fb_wiring.specs.Network.Plain.{PlainNetwork}
+use Rattle.fb_wiring.specs.Network.Network.{View, instance_named}
+use Rattle.fb_wiring.specs.Network.Clean.{port_named}
+use Rattle.fb_wiring.specs.ByName.{declared}
+use Rattle.fb_wiring.specs.Applications.{applications_of}
+use Rattle.fb_wiring.specs.declared.systems.Application.{Application}
+use Rattle.fb_flatten.proofs.CleanUnits.{applications_clean}
+use Rattle.fb_wiring.specs.Network.Part.{SameAdapters}
+use Rattle.fb_wiring.specs.Network.Ready.{Nets, AreFinished}
 use Rattle.fb_flatten.specs.Far.{far_of}
 use Rattle.fb_flatten.specs.Net.{PlainNet}
 use Rattle.fb_flatten.specs.Tables.{IsComposable, IsSoundOrder, IsTable}
@@ -28,7 +28,7 @@ use Rattle.fb_flatten.proofs.ComputedNets.{done_mention, unit_faultless}
 use Rattle.fb_flatten.proofs.FlatLocality.{found}
 use Rattle.fb_flatten.proofs.MentionLemmas.{applications_within, declared_within}
 use Rattle.fb_flatten.proofs.SoundLemmas.{clean_network, sound_mention, sound_network}
-use Rattle.fb_clean.proofs.NetParts.FoundUnits.{system_applications}
+use Rattle.fb_wiring.proofs.FoundUnits.{system_applications}
 
 module _ (table view : View) where
   -- both have the same adapters of these ports

@@ -7,37 +7,37 @@ use Rattle.std.specs.List.{flat_map}
 use Rattle.std.specs.Option.{option_and_then}
 use Rattle.std.specs.FinMap.{get}
 use Rattle.std.proofs.lemmas.List.Kept.{IsStrictlySortedBy-filter}
-use Rattle.fb_clean.specs.Text.Order.{name_cmp, in_order}
-use Rattle.fb_clean.proofs.Text.OrderLemmas.{in_order-sorted}
-use Rattle.fb_clean.specs.Tree.Tree.{DeclTree, SystemTree, TypeTree, block_type, adapter_type, subapplication_type, system_configuration}
-use Rattle.fb_clean.specs.Tree.Mentions.{unit_kind_of}
-use Rattle.fb_clean.specs.Tree.declared.kinds.UnitKind.TheVariants as kinds
-use Rattle.fb_clean.specs.Library.View.{Sources, mentions_at, tree_at, tree_of}
-use Rattle.fb_clean.specs.Library.Rests.{Rests, itself, through}
-use Rattle.fb_clean.specs.Library.Local.{AgreeFar}
-use Rattle.fb_clean.proofs.Library.Locality.{far_local}
-use Rattle.fb_clean.proofs.Text.Members.{contains_nothing, contains_filter, passes_in_filter, contains_here, contains_later}
-use Rattle.fb_clean.specs.Iface.declared.fault.Fault.{Fault}
-use Rattle.fb_clean.specs.Faults.Faults.{faults_of}
-use Rattle.fb_clean.specs.Order.Reaches.{IsRecursive}
-use Rattle.fb_clean.specs.Network.declared.count.TheConstants.{INSTANCE_LIMIT}
-use Rattle.fb_clean.specs.Network.PlainFlat.{PlainFlat}
-use Rattle.fb_clean.specs.Network.LinkOrder.{link_cmp, link_cmp_total}
-use Rattle.fb_clean.specs.Network.Network.{View}
-use Rattle.fb_clean.specs.Network.FlatNet.{IsFlat}
-use Rattle.fb_clean.specs.Network.Instances.{Held}
-use Rattle.fb_clean.specs.Compose.SystemFlat.{IsSystemFlat, application_links}
-use Rattle.fb_clean.specs.Compose.declared.application.FlatApplication.{FlatApplication}
-use Rattle.fb_clean.proofs.Compose.SystemLemmas.{system_links_are}
-use Rattle.fb_clean.specs.Wiring.Applications.{applications_of}
-use Rattle.fb_clean.specs.Wiring.ByName.{applications_at, declared}
-use Rattle.fb_clean.specs.Wiring.Networks.{network_of}
-use Rattle.fb_clean.specs.Wiring.declared.systems.Application.{Application}
-use Rattle.fb_clean.proofs.CleanUnits.{applications_clean, networks_clean}
+use Rattle.fb_wiring.specs.Text.Order.{name_cmp, in_order}
+use Rattle.fb_wiring.proofs.Text.OrderLemmas.{in_order-sorted}
+use Rattle.fb_wiring.specs.Tree.Tree.{DeclTree, SystemTree, TypeTree, block_type, adapter_type, subapplication_type, system_configuration}
+use Rattle.fb_wiring.specs.Tree.Mentions.{unit_kind_of}
+use Rattle.fb_wiring.specs.Tree.declared.kinds.UnitKind.TheVariants as kinds
+use Rattle.fb_wiring.specs.Library.View.{Sources, mentions_at, tree_at, tree_of}
+use Rattle.fb_wiring.specs.Library.Rests.{Rests, itself, through}
+use Rattle.fb_wiring.specs.Library.Local.{AgreeFar}
+use Rattle.fb_wiring.proofs.Library.Locality.{far_local}
+use Rattle.fb_wiring.proofs.Text.Members.{contains_nothing, contains_filter, passes_in_filter, contains_here, contains_later}
+use Rattle.fb_wiring.specs.Iface.declared.fault.Fault.{Fault}
+use Rattle.fb_faults.specs.Faults.{faults_of}
+use Rattle.fb_wiring.specs.Reaches.{IsRecursive}
+use Rattle.fb_wiring.specs.Network.declared.count.TheConstants.{INSTANCE_LIMIT}
+use Rattle.fb_wiring.specs.Network.PlainFlat.{PlainFlat}
+use Rattle.fb_wiring.specs.Network.LinkOrder.{link_cmp, link_cmp_total}
+use Rattle.fb_wiring.specs.Network.Network.{View}
+use Rattle.fb_wiring.specs.Network.FlatNet.{IsFlat}
+use Rattle.fb_wiring.specs.Network.Instances.{Held}
+use Rattle.fb_wiring.specs.Network.SystemFlat.{IsSystemFlat, application_links}
+use Rattle.fb_wiring.specs.Network.declared.application.FlatApplication.{FlatApplication}
+use Rattle.fb_wiring.proofs.Network.SystemLemmas.{system_links_are}
+use Rattle.fb_wiring.specs.Applications.{applications_of}
+use Rattle.fb_wiring.specs.ByName.{applications_at, declared}
+use Rattle.fb_wiring.specs.Networks.{network_of}
+use Rattle.fb_wiring.specs.declared.systems.Application.{Application}
+use Rattle.fb_flatten.proofs.CleanUnits.{applications_clean, networks_clean}
 use Rattle.fb_flatten.specs.Blocking.{AreThose, IsBlocking, is_blocking}
 use Rattle.fb_flatten.specs.Net.{PlainNet, too_large, flat_net, IsNet, IsSound}
-use Rattle.fb_clean.specs.NetParts.Units.{HasNet, has_net_tree, own_instances, AreFlatApplications, NoApplication, ThenApplication, Holds, IsUnitFlat, OfSubapplication, OfSystem}
-use Rattle.fb_clean.proofs.NetParts.KindLemmas.{net_kind, no_net_kind}
+use Rattle.fb_wiring.specs.Units.{HasNet, has_net_tree, own_instances, AreFlatApplications, NoApplication, ThenApplication, Holds, IsUnitFlat, OfSubapplication, OfSystem}
+use Rattle.fb_wiring.proofs.KindLemmas.{net_kind, no_net_kind}
 use Rattle.fb_flatten.proofs.MentionLemmas.{applications_within, declared_within, own_within}
 use Rattle.fb_flatten.proofs.NetLemmas.{blocking_those, recursive_those}
 use Rattle.fb_flatten.proofs.NetLocality.{net_local}

@@ -5,33 +5,33 @@ use Rattle.std.proofs.lemmas.List.{length-map}
 use Rattle.std.proofs.lemmas.List.Elements.{Contains-push_cases}
 use Rattle.std.specs.Prelude.{Contains, map, option_map}
 use Rattle.std.specs.BTreeMap.{is_at}
-use Rattle.fb_clean.specs.Text.Order.{name_cmp}
-use Rattle.fb_clean.specs.Tree.Tree.{DeclTree, block_type, adapter_type, subapplication_type, system_configuration}
-use Rattle.fb_clean.specs.Tree.declared.kinds.UnitKind.TheVariants as kinds
-use Rattle.fb_clean.specs.Library.View.{Sources, tree_at}
-use Rattle.fb_clean.specs.Network.declared.count.TheConstants.{INSTANCE_LIMIT}
-use Rattle.fb_clean.specs.Network.declared.network.InstanceKind.TheVariants.{Subapplication}
-use Rattle.fb_clean.specs.Network.declared.network.Instance.{Instance}
-use Rattle.fb_clean.specs.Network.Plain.{PlainNetwork}
-use Rattle.fb_clean.specs.Network.Network.{View}
-use Rattle.fb_clean.specs.Network.Instances.{Held, held_within, AreInstances, NoInstance, ThenBlock, ThenSubapplication}
-use Rattle.fb_clean.specs.Network.Count.{IsCount}
-use Rattle.fb_clean.specs.Wiring.ByName.{declared, kind_at}
-use Rattle.fb_clean.specs.Clean.{wanted_kind}
-use Rattle.fb_clean.specs.Wiring.Networks.{network_of}
-use Rattle.fb_clean.specs.Wiring.Applications.{applications_of}
-use Rattle.fb_clean.specs.Wiring.declared.systems.Application.{Application}
-use Rattle.fb_clean.proofs.Text.Members.{contains_cases, contains_nothing, origin_in_flat_map}
-use Rattle.fb_clean.proofs.CleanUnits.{applications_clean, networks_clean}
-use Rattle.fb_clean.proofs.Compose.Equals.{same_bytes, at_not}
-use Rattle.fb_clean.specs.Compose.Counts.{IsCounted, AreCounted}
+use Rattle.fb_wiring.specs.Text.Order.{name_cmp}
+use Rattle.fb_wiring.specs.Tree.Tree.{DeclTree, block_type, adapter_type, subapplication_type, system_configuration}
+use Rattle.fb_wiring.specs.Tree.declared.kinds.UnitKind.TheVariants as kinds
+use Rattle.fb_wiring.specs.Library.View.{Sources, tree_at}
+use Rattle.fb_wiring.specs.Network.declared.count.TheConstants.{INSTANCE_LIMIT}
+use Rattle.fb_wiring.specs.Network.declared.network.InstanceKind.TheVariants.{Subapplication}
+use Rattle.fb_wiring.specs.Network.declared.network.Instance.{Instance}
+use Rattle.fb_wiring.specs.Network.Plain.{PlainNetwork}
+use Rattle.fb_wiring.specs.Network.Network.{View}
+use Rattle.fb_wiring.specs.Network.Instances.{Held, held_within, AreInstances, NoInstance, ThenBlock, ThenSubapplication}
+use Rattle.fb_wiring.specs.Network.Count.{IsCount}
+use Rattle.fb_wiring.specs.ByName.{declared, kind_at}
+use Rattle.fb_flatten.specs.Clean.{wanted_kind}
+use Rattle.fb_wiring.specs.Networks.{network_of}
+use Rattle.fb_wiring.specs.Applications.{applications_of}
+use Rattle.fb_wiring.specs.declared.systems.Application.{Application}
+use Rattle.fb_wiring.proofs.Text.Members.{contains_cases, contains_nothing, origin_in_flat_map}
+use Rattle.fb_flatten.proofs.CleanUnits.{applications_clean, networks_clean}
+use Rattle.fb_wiring.proofs.Network.Equals.{same_bytes, at_not}
+use Rattle.fb_wiring.specs.Network.Counts.{IsCounted, AreCounted}
 use Rattle.fb_flatten.specs.Hints.{AreRightHints, count_of_hint}
 use Rattle.fb_flatten.specs.Net.{PlainNet, IsSound}
 use Rattle.fb_flatten.specs.Tables.{AllCounted, IsCountable, IsSmallType, IsSoundOrder, IsTable, IsUnitCount, IsUnitOrder, SameOthers, is_subapplication_in}
-use Rattle.fb_clean.specs.NetParts.Units.{own_instances}
+use Rattle.fb_wiring.specs.Units.{own_instances}
 use Rattle.fb_flatten.proofs.ComputedNets.{unit_faultless}
 use Rattle.fb_flatten.proofs.HintLemmas.{kept_counted}
-use Rattle.fb_clean.proofs.NetParts.KindLemmas.{subapplication_told}
+use Rattle.fb_wiring.proofs.KindLemmas.{subapplication_told}
 use Rattle.fb_flatten.proofs.MentionLemmas.{declared_within, own_within}
 use Rattle.fb_flatten.proofs.SoundLemmas.{sound_network}
 

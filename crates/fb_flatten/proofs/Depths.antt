@@ -6,15 +6,15 @@ use Rattle.std.specs.Prelude.{Contains, ◌↔◌}
 use Rattle.std.specs.List.{list_any}
 use Rattle.std.specs.Ordering.{eq_by_cmp}
 use Rattle.std.specs.FinMap.{slice_cmp-IsAntisymmetric, nat_cmp-IsAntisymmetric}
-use Rattle.fb_clean.proofs.Text.Tests.{by_bool, or_cases}
-use Rattle.fb_clean.specs.Text.Order.{name_cmp}
-use Rattle.fb_clean.specs.Library.View.{Sources, mentions_at}
-use Rattle.fb_clean.specs.Library.Rests.{Rests, itself, through}
-use Rattle.fb_clean.specs.Library.Seen.{has_name, unseen}
-use Rattle.fb_clean.proofs.Library.WalkLemmas.{Contains-has, has-Contains}
-use Rattle.fb_clean.specs.Order.Reaches.{Reaches, directly, onward, IsRecursive}
-use Rattle.fb_clean.proofs.Order.StackLemmas.{reaches_more}
-use Rattle.fb_clean.proofs.Text.Members.{contains_here}
+use Rattle.fb_wiring.proofs.Text.Tests.{by_bool, or_cases}
+use Rattle.fb_wiring.specs.Text.Order.{name_cmp}
+use Rattle.fb_wiring.specs.Library.View.{Sources, mentions_at}
+use Rattle.fb_wiring.specs.Library.Rests.{Rests, itself, through}
+use Rattle.fb_wiring.specs.Library.Seen.{has_name, unseen}
+use Rattle.fb_wiring.proofs.Library.WalkLemmas.{Contains-has, has-Contains}
+use Rattle.fb_wiring.specs.Reaches.{Reaches, directly, onward, IsRecursive}
+use Rattle.fb_wiring.proofs.StackLemmas.{reaches_more}
+use Rattle.fb_wiring.proofs.Text.Members.{contains_here}
 use Rattle.fb_flatten.specs.Far.{far_of}
 use Rattle.fb_flatten.specs.Nets.{is_recursive}
 use Rattle.fb_flatten.proofs.FarNames.{far_is_all, one_fewer, some_unseen, all_unseen}

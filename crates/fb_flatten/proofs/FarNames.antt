@@ -9,16 +9,16 @@ use Rattle.std.specs.Ordering.{eq_by_cmp}
 use Rattle.std.specs.Cmp.Lexicographic.{nat_list_cmp_total}
 use Rattle.std.specs.FinMap.{entries, get-entries, find, slice_cmp-IsAntisymmetric, nat_cmp-IsAntisymmetric}
 use Rattle.std.proofs.lemmas.Map.Views.{tells_apart}
-use Rattle.fb_clean.proofs.Text.Tests.{by_bool}
-use Rattle.fb_clean.specs.Text.Order.{name_cmp}
-use Rattle.fb_clean.proofs.Text.OrderLemmas.{in_order-members, in_order-sorted}
-use Rattle.fb_clean.specs.Library.View.{Sources, tree_of, mentions_at, mentions_in}
-use Rattle.fb_clean.specs.Library.Rests.{Rests, itself, through}
-use Rattle.fb_clean.proofs.Library.FarLemmas.{one_list}
-use Rattle.fb_clean.proofs.Library.Locality.{far_local}
-use Rattle.fb_clean.specs.Library.Seen.{has_name, unseen}
-use Rattle.fb_clean.proofs.Library.WalkLemmas.{Contains-has, has-Contains}
-use Rattle.fb_clean.proofs.Text.Members.{contains_flat_map, origin_in_flat_map, contains_here, contains_single}
+use Rattle.fb_wiring.proofs.Text.Tests.{by_bool}
+use Rattle.fb_wiring.specs.Text.Order.{name_cmp}
+use Rattle.fb_wiring.proofs.Text.OrderLemmas.{in_order-members, in_order-sorted}
+use Rattle.fb_wiring.specs.Library.View.{Sources, tree_of, mentions_at, mentions_in}
+use Rattle.fb_wiring.specs.Library.Rests.{Rests, itself, through}
+use Rattle.fb_wiring.proofs.Library.FarLemmas.{one_list}
+use Rattle.fb_wiring.proofs.Library.Locality.{far_local}
+use Rattle.fb_wiring.specs.Library.Seen.{has_name, unseen}
+use Rattle.fb_wiring.proofs.Library.WalkLemmas.{Contains-has, has-Contains}
+use Rattle.fb_wiring.proofs.Text.Members.{contains_flat_map, origin_in_flat_map, contains_here, contains_single}
 use Rattle.fb_flatten.specs.Far.{mentioned_in, all_mentioned, opened, opened_times, far_of, FarIsAll, FarOfIsLocal}
 
 -- ---- counting what was not seen

@@ -3,26 +3,26 @@ use Rattle.std.proofs.Common.{ℕ, ◌≡◌, ◌+◌, Bool, true, false, arith,
 use Rattle.std.proofs.lemmas.Bool.{false≢true}
 use Rattle.std.specs.Prelude.{option_map, is_none}
 use Rattle.std.specs.Option.{option_or}
-use Rattle.fb_clean.specs.Tree.Mentions.{unit_kind_of}
-use Rattle.fb_clean.specs.Tree.Tree.{DeclTree, block_type, adapter_type, subapplication_type, system_configuration}
-use Rattle.fb_clean.specs.Tree.declared.kinds.UnitKind.TheVariants as kinds
-use Rattle.fb_clean.specs.Library.View.{Sources, tree_at}
-use Rattle.fb_clean.specs.Library.Rests.{itself}
-use Rattle.fb_clean.specs.Network.declared.count.TheConstants.{INSTANCE_LIMIT}
-use Rattle.fb_clean.specs.Network.Plain.{PlainNetwork}
-use Rattle.fb_clean.specs.Network.PlainFlat.{PlainFlat}
-use Rattle.fb_clean.specs.Network.Instances.{Held, AreInstances}
-use Rattle.fb_clean.specs.Network.Count.{IsCount}
-use Rattle.fb_clean.proofs.Text.Members.{contains_nothing}
-use Rattle.fb_clean.specs.Wiring.ByName.{declared, kind_at}
-use Rattle.fb_clean.specs.Wiring.Networks.{network_of}
-use Rattle.fb_clean.specs.Compose.Ready.{Nets, IsFinished}
-use Rattle.fb_clean.proofs.Compose.BlockLemmas.{same_instances}
+use Rattle.fb_wiring.specs.Tree.Mentions.{unit_kind_of}
+use Rattle.fb_wiring.specs.Tree.Tree.{DeclTree, block_type, adapter_type, subapplication_type, system_configuration}
+use Rattle.fb_wiring.specs.Tree.declared.kinds.UnitKind.TheVariants as kinds
+use Rattle.fb_wiring.specs.Library.View.{Sources, tree_at}
+use Rattle.fb_wiring.specs.Library.Rests.{itself}
+use Rattle.fb_wiring.specs.Network.declared.count.TheConstants.{INSTANCE_LIMIT}
+use Rattle.fb_wiring.specs.Network.Plain.{PlainNetwork}
+use Rattle.fb_wiring.specs.Network.PlainFlat.{PlainFlat}
+use Rattle.fb_wiring.specs.Network.Instances.{Held, AreInstances}
+use Rattle.fb_wiring.specs.Network.Count.{IsCount}
+use Rattle.fb_wiring.proofs.Text.Members.{contains_nothing}
+use Rattle.fb_wiring.specs.ByName.{declared, kind_at}
+use Rattle.fb_wiring.specs.Networks.{network_of}
+use Rattle.fb_wiring.specs.Network.Ready.{Nets, IsFinished}
+use Rattle.fb_wiring.proofs.Network.BlockLemmas.{same_instances}
 use Rattle.fb_flatten.specs.Blocking.{is_blocking}
 use Rattle.fb_flatten.specs.Hints.{AreRightHints, count_of_hint, count_of_net, flat_of_hint, is_whole_hint, is_whole_net}
 use Rattle.fb_flatten.specs.Net.{PlainNet, blocked, recursive, too_large, flat_net, IsNet, IsWhole}
 use Rattle.fb_flatten.specs.Tables.{IsSmallType, known_flats}
-use Rattle.fb_clean.specs.NetParts.Units.{IsTooLarge, IsUnitFlat, OfSubapplication, OfSystem, own_instances}
+use Rattle.fb_wiring.specs.Units.{IsTooLarge, IsUnitFlat, OfSubapplication, OfSystem, own_instances}
 use Rattle.fb_flatten.proofs.ComputedNets.{net_at_is}
 use Rattle.fb_flatten.proofs.NetLemmas.{blocking_is}
 

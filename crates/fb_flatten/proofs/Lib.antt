@@ -1,4 +1,12 @@
 -- Lemmas of the proofs.
+pub mod Finding
+pub mod FirstOnes
+pub mod InnerInstances
+pub mod NameLemmas
+pub mod NetworkLemmas
+pub mod NothingLemmas
+pub mod PortLemmas
+pub mod CleanUnits
 pub mod FlatLocality
 pub mod MentionLemmas
 pub mod OrderLemmas
@@ -16,13 +24,8 @@ pub mod CountLemmas
 pub mod ComposeLemmas
 pub mod FlatsLemmas
 pub mod SuspectLemmas
--- Passed on to the crates above, which do not list these libraries.
-pub use Rattle.fb_clean.proofs.Tree as Tree
-pub use Rattle.fb_clean.proofs.Library as Library
-pub use Rattle.fb_clean.proofs.Iface as Iface
-pub use Rattle.fb_clean.proofs.Faults as Faults
-pub use Rattle.fb_clean.proofs.Compose as Compose
-pub use Rattle.fb_clean.proofs.Commands as Commands
-pub use Rattle.fb_clean.proofs.Mapping as Mapping
-pub use Rattle.fb_clean.proofs.Text as Text
-pub use Rattle.fb_clean.proofs.Table as Table
+-- Of the crates below, for the crates above.
+pub use Rattle.fb_wiring.proofs.Parse as Parse
+pub use Rattle.fb_wiring.proofs.Library as Library
+pub use Rattle.fb_wiring.proofs.Iface as Iface
+pub use Rattle.fb_faults.proofs as Faults

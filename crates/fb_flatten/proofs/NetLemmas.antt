@@ -4,13 +4,13 @@ use Rattle.std.specs.Prelude.{Contains, ◌≢◌, ◌↔◌, ◌||◌, is_none,
 use Rattle.std.specs.FinMap.{get}
 use Rattle.std.specs.List.Sorted.{IsStrictlySortedBy}
 use Rattle.std.proofs.lemmas.List.Kept.{IsStrictlySortedBy-filter}
-use Rattle.fb_clean.specs.Text.Order.{name_cmp}
-use Rattle.fb_clean.specs.Library.View.{Sources}
-use Rattle.fb_clean.specs.Library.Rests.{Rests}
-use Rattle.fb_clean.specs.Iface.declared.fault.Fault.{Fault}
-use Rattle.fb_clean.proofs.Text.Members.{contains_nothing, contains_filter, passes_in_filter}
-use Rattle.fb_clean.specs.Faults.Faults.{faults_of}
-use Rattle.fb_clean.specs.Order.Reaches.{IsRecursive, RestsOnRecursive}
+use Rattle.fb_wiring.specs.Text.Order.{name_cmp}
+use Rattle.fb_wiring.specs.Library.View.{Sources}
+use Rattle.fb_wiring.specs.Library.Rests.{Rests}
+use Rattle.fb_wiring.specs.Iface.declared.fault.Fault.{Fault}
+use Rattle.fb_wiring.proofs.Text.Members.{contains_nothing, contains_filter, passes_in_filter}
+use Rattle.fb_faults.specs.Faults.{faults_of}
+use Rattle.fb_wiring.specs.Reaches.{IsRecursive, RestsOnRecursive}
 use Rattle.fb_flatten.specs.Blocking.{AreThose, IsBlocking, is_blocking, is_some_fault, is_some_name}
 
 pub blocking_is : (sources : Sources) (v : List ℕ) → is_blocking sources v ≡ true → IsBlocking sources v

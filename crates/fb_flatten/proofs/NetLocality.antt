@@ -5,28 +5,28 @@ use Rattle.std.specs.Option.{option_and_then}
 use Rattle.std.specs.FinMap.{slice_cmp-IsAntisymmetric, nat_cmp-IsAntisymmetric}
 use Rattle.std.specs.Cmp.Lexicographic.{nat_list_cmp_total}
 use Rattle.std.proofs.lemmas.List.Elements.{Contains-append_cases}
-use Rattle.fb_clean.specs.Text.Order.{name_cmp}
-use Rattle.fb_clean.proofs.Text.OrderLemmas.{in_order-members}
-use Rattle.fb_clean.specs.Library.View.{Sources, tree_at, tree_of, mentions_at, near_of}
-use Rattle.fb_clean.specs.Library.Rests.{Rests, itself}
-use Rattle.fb_clean.specs.Library.Local.{AgreeFar}
-use Rattle.fb_clean.proofs.Library.Locality.{far_local}
-use Rattle.fb_clean.specs.Faults.Faults.{faults_of}
-use Rattle.fb_clean.proofs.Faults.Locality.{faults_local}
-use Rattle.fb_clean.specs.Order.Reaches.{IsRecursive}
-use Rattle.fb_clean.proofs.Order.Locality.{recursion_local}
-use Rattle.fb_clean.specs.Network.PlainFlat.{PlainFlat}
-use Rattle.fb_clean.specs.Network.Instances.{Held}
-use Rattle.fb_clean.proofs.Text.Members.{contains_nothing, contains_here, contains_later, contains_cases}
-use Rattle.fb_clean.specs.Compose.declared.application.FlatApplication.{FlatApplication}
-use Rattle.fb_clean.specs.Wiring.ByName.{declared}
-use Rattle.fb_clean.specs.Wiring.declared.systems.Application.{Application}
-use Rattle.fb_clean.proofs.Wiring.Locality.{networks_local}
+use Rattle.fb_wiring.specs.Text.Order.{name_cmp}
+use Rattle.fb_wiring.proofs.Text.OrderLemmas.{in_order-members}
+use Rattle.fb_wiring.specs.Library.View.{Sources, tree_at, tree_of, mentions_at, near_of}
+use Rattle.fb_wiring.specs.Library.Rests.{Rests, itself}
+use Rattle.fb_wiring.specs.Library.Local.{AgreeFar}
+use Rattle.fb_wiring.proofs.Library.Locality.{far_local}
+use Rattle.fb_faults.specs.Faults.{faults_of}
+use Rattle.fb_faults.proofs.Locality.{faults_local}
+use Rattle.fb_wiring.specs.Reaches.{IsRecursive}
+use Rattle.fb_wiring.proofs.OrderLocality.{recursion_local}
+use Rattle.fb_wiring.specs.Network.PlainFlat.{PlainFlat}
+use Rattle.fb_wiring.specs.Network.Instances.{Held}
+use Rattle.fb_wiring.proofs.Text.Members.{contains_nothing, contains_here, contains_later, contains_cases}
+use Rattle.fb_wiring.specs.Network.declared.application.FlatApplication.{FlatApplication}
+use Rattle.fb_wiring.specs.ByName.{declared}
+use Rattle.fb_wiring.specs.declared.systems.Application.{Application}
+use Rattle.fb_wiring.proofs.Locality.{networks_local}
 use Rattle.fb_flatten.specs.Blocking.{AreThose, IsBlocking}
 use Rattle.fb_flatten.specs.Laws.{NetIsLocal}
 use Rattle.fb_flatten.specs.Locality.{Within, IsClosed, SameNetworks}
 use Rattle.fb_flatten.specs.Net.{PlainNet, blocked, recursive, too_large, flat_net, IsNet, IsSound}
-use Rattle.fb_clean.specs.NetParts.Units.{AreFlatApplications, NoApplication, ThenApplication, Holds, IsTooLarge, IsWithinLimit, IsUnitFlat, OfSubapplication, OfSystem}
+use Rattle.fb_wiring.specs.Units.{AreFlatApplications, NoApplication, ThenApplication, Holds, IsTooLarge, IsWithinLimit, IsUnitFlat, OfSubapplication, OfSystem}
 use Rattle.fb_flatten.proofs.FlatLocality.{instances_there, same_flats}
 use Rattle.fb_flatten.proofs.MentionLemmas.{applications_within, declared_within, own_within}
 use Rattle.fb_flatten.proofs.OrderLemmas.{rests_on}

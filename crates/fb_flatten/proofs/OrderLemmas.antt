@@ -3,15 +3,15 @@ use Rattle.std.proofs.Common.{ℕ, ◌≡◌, List, [], ◌∷◌, Option, Some,
 use Rattle.std.specs.Prelude.{Contains, ◌≢◌}
 use Rattle.std.specs.Option.{option_and_then}
 use Rattle.std.specs.FinMap.{get}
-use Rattle.fb_clean.specs.Tree.Tree.{DeclTree}
-use Rattle.fb_clean.specs.Parse.Body.{BodyTree, Whole, BrokenAt, body_of}
-use Rattle.fb_clean.specs.Library.View.{Sources, tree_at, tree_in, tree_of, mentions_at}
-use Rattle.fb_clean.specs.Library.Rests.{Rests, itself, through}
-use Rattle.fb_clean.specs.Iface.declared.code.Code.TheVariants.{Syntax}
-use Rattle.fb_clean.specs.Iface.declared.fault.Fault.{Fault}
-use Rattle.fb_clean.specs.Faults.Faults.{faults_of, syntax_faults_of, text_faults, body_faults}
-use Rattle.fb_clean.specs.Order.Reaches.{Reaches, directly, onward}
-use Rattle.fb_clean.proofs.NothingLemmas.{nothing_reported}
+use Rattle.fb_wiring.specs.Tree.Tree.{DeclTree}
+use Rattle.fb_wiring.specs.Parse.Body.{BodyTree, Whole, BrokenAt, body_of}
+use Rattle.fb_wiring.specs.Library.View.{Sources, tree_at, tree_in, tree_of, mentions_at}
+use Rattle.fb_wiring.specs.Library.Rests.{Rests, itself, through}
+use Rattle.fb_wiring.specs.Iface.declared.code.Code.TheVariants.{Syntax}
+use Rattle.fb_wiring.specs.Iface.declared.fault.Fault.{Fault}
+use Rattle.fb_faults.specs.Faults.{faults_of, syntax_faults_of, text_faults, body_faults}
+use Rattle.fb_wiring.specs.Reaches.{Reaches, directly, onward}
+use Rattle.fb_flatten.proofs.NothingLemmas.{nothing_reported}
 
 -- the unit has a tree
 pub record HasTree (sources : Sources) (name : List ℕ) : Type 0 where

@@ -6,16 +6,16 @@ use Rattle.std.specs.Prelude.{Contains, ◌↔◌, is_none}
 use Rattle.std.specs.BTreeMap.{is_at}
 use Rattle.std.specs.Option.{option_and_then}
 use Rattle.std.specs.FinMap.{get}
-use Rattle.fb_clean.proofs.Text.Tests.{by_bool}
-use Rattle.fb_clean.specs.Text.Order.{name_cmp}
-use Rattle.fb_clean.specs.Library.View.{Sources, tree_of, mentions_at, mentions_in}
-use Rattle.fb_clean.specs.Library.Rests.{Rests, itself, through}
-use Rattle.fb_clean.proofs.Text.Members.{contains_nothing}
-use Rattle.fb_clean.specs.Order.Order.{IsOrdered}
-use Rattle.fb_clean.specs.Order.Reaches.{Reaches, directly, onward, IsRecursive, RestsOnRecursive}
-use Rattle.fb_clean.proofs.Order.OrderLemmas.{ordered_not_recursive}
-use Rattle.fb_clean.proofs.Compose.Equals.{bytes_same}
-use Rattle.fb_clean.proofs.NetParts.LeftLemmas.{get_left}
+use Rattle.fb_wiring.proofs.Text.Tests.{by_bool}
+use Rattle.fb_wiring.specs.Text.Order.{name_cmp}
+use Rattle.fb_wiring.specs.Library.View.{Sources, tree_of, mentions_at, mentions_in}
+use Rattle.fb_wiring.specs.Library.Rests.{Rests, itself, through}
+use Rattle.fb_wiring.proofs.Text.Members.{contains_nothing}
+use Rattle.fb_wiring.specs.Order.{IsOrdered}
+use Rattle.fb_wiring.specs.Reaches.{Reaches, directly, onward, IsRecursive, RestsOnRecursive}
+use Rattle.fb_wiring.proofs.OrderLemmas.{ordered_not_recursive}
+use Rattle.fb_wiring.proofs.Network.Equals.{bytes_same}
+use Rattle.fb_wiring.proofs.LeftLemmas.{get_left}
 use Rattle.fb_flatten.specs.Hints.{AreRightHints, count_of_hint, count_of_net, is_left, left_of}
 use Rattle.fb_flatten.specs.Net.{PlainNet, blocked, recursive, too_large, flat_net, IsNet, IsSound, IsWhole}
 use Rattle.fb_flatten.specs.Tables.{IsUnitOrder}

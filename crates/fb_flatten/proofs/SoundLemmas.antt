@@ -2,14 +2,14 @@
 use Rattle.std.proofs.Common.{ℕ, ◌≡◌, List, [], Some, subst}
 use Rattle.std.specs.Prelude.{Contains}
 use Rattle.std.specs.List.Sorted.{IsStrictlySortedBy}
-use Rattle.fb_clean.specs.Text.Order.{name_cmp}
-use Rattle.fb_clean.specs.Library.View.{Sources, mentions_at}
-use Rattle.fb_clean.specs.Library.Rests.{Rests, itself, through}
-use Rattle.fb_clean.proofs.Text.Members.{contains_nothing}
-use Rattle.fb_clean.specs.Order.Reaches.{IsRecursive}
-use Rattle.fb_clean.specs.Network.Plain.{PlainNetwork}
-use Rattle.fb_clean.specs.Network.Clean.{IsCleanThroughout}
-use Rattle.fb_clean.specs.Wiring.ByName.{declared}
+use Rattle.fb_wiring.specs.Text.Order.{name_cmp}
+use Rattle.fb_wiring.specs.Library.View.{Sources, mentions_at}
+use Rattle.fb_wiring.specs.Library.Rests.{Rests, itself, through}
+use Rattle.fb_wiring.proofs.Text.Members.{contains_nothing}
+use Rattle.fb_wiring.specs.Reaches.{IsRecursive}
+use Rattle.fb_wiring.specs.Network.Plain.{PlainNetwork}
+use Rattle.fb_wiring.specs.Network.Clean.{IsCleanThroughout}
+use Rattle.fb_wiring.specs.ByName.{declared}
 use Rattle.fb_flatten.specs.Blocking.{AreThose}
 use Rattle.fb_flatten.specs.Net.{IsSound, IsWhole}
 use Rattle.fb_flatten.proofs.ComputedNets.{done, faultless}

@@ -2,13 +2,13 @@
 use Rattle.std.proofs.Common.{◌≡◌, ℕ, ◌+◌, ◌<◌, Bool, true, false, if◌then◌else◌, ◌||◌, List, [], ◌∷◌, ◌++◌, length, Option, refl, sym, ap, ◌∙◌, arith}
 use Rattle.std.proofs.lemmas.Bool.{or_left, or_right}
 use Rattle.std.specs.Ordering.{eq_by_cmp}
-use Rattle.fb_clean.proofs.Text.Tests.{no_both, by_bool, or_cases}
-use Rattle.fb_clean.specs.Text.Order.{name_cmp}
-use Rattle.fb_clean.specs.Library.View.{Sources, mentions_at}
-use Rattle.fb_clean.specs.Library.Rests.{Rests, itself, through}
-use Rattle.fb_clean.specs.Library.Seen.{Opens, has_name, unseen}
-use Rattle.fb_clean.proofs.Text.Members.{contains_nothing}
-use Rattle.fb_clean.proofs.Library.WalkLemmas.{Contains-has, IsWalk-begin, all_mentions, has-Contains, has-push, longer, mentioned_somewhere}
+use Rattle.fb_wiring.proofs.Text.Tests.{no_both, by_bool, or_cases}
+use Rattle.fb_wiring.specs.Text.Order.{name_cmp}
+use Rattle.fb_wiring.specs.Library.View.{Sources, mentions_at}
+use Rattle.fb_wiring.specs.Library.Rests.{Rests, itself, through}
+use Rattle.fb_wiring.specs.Library.Seen.{Opens, has_name, unseen}
+use Rattle.fb_wiring.proofs.Text.Members.{contains_nothing}
+use Rattle.fb_wiring.proofs.Library.WalkLemmas.{Contains-has, IsWalk-begin, all_mentions, has-Contains, has-push, longer, mentioned_somewhere}
 use Rattle.fb_flatten.specs.Blocking.{IsBlocking}
 use Rattle.fb_flatten.specs.Hints.{AreRightHints, is_whole_hint}
 use Rattle.fb_flatten.specs.Net.{PlainNet}

@@ -2,11 +2,11 @@
 use Rattle.std.specs.Prelude.{ℕ, ◌≡◌, ◌≢◌, ◌↔◌, ◌⊎◌, Bool, true, false, ◌||◌, List, [], ◌∷◌, None, is_none, Contains}
 use Rattle.std.specs.FinMap.{get}
 use Rattle.std.specs.List.Sorted.{IsStrictlySortedBy}
-use Rattle.fb_clean.specs.Text.Order.{name_cmp}
-use Rattle.fb_clean.specs.Library.View.{Sources}
-use Rattle.fb_clean.specs.Library.Rests.{Rests}
-use Rattle.fb_clean.specs.Iface.declared.fault.Fault.{Fault}
-use Rattle.fb_clean.specs.Faults.Faults.{faults_of}
+use Rattle.fb_wiring.specs.Text.Order.{name_cmp}
+use Rattle.fb_wiring.specs.Library.View.{Sources}
+use Rattle.fb_wiring.specs.Library.Rests.{Rests}
+use Rattle.fb_wiring.specs.Iface.declared.fault.Fault.{Fault}
+use Rattle.fb_faults.specs.Faults.{faults_of}
 
 -- the name is that of no unit, or of one with faults
 abbrev pub IsBlocking : Sources → List ℕ → Type 0

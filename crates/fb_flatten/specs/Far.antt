@@ -2,9 +2,9 @@
 use Rattle.std.specs.Prelude.{◌≡◌, ℕ, zero, suc, List, [], ◌∷◌, ◌++◌, length}
 use Rattle.std.specs.List.{flat_map}
 use Rattle.std.specs.FinMap.{entries}
-use Rattle.fb_clean.specs.Text.Order.{names_in_order}
-use Rattle.fb_clean.specs.Library.View.{Sources, tree_of, mentions_at, mentions_in}
-use Rattle.fb_clean.specs.Library.Local.{AgreeFar, IsFar}
+use Rattle.fb_wiring.specs.Text.Order.{names_in_order}
+use Rattle.fb_wiring.specs.Library.View.{Sources, tree_of, mentions_at, mentions_in}
+use Rattle.fb_wiring.specs.Library.Local.{AgreeFar, IsFar}
 
 abbrev pub mentioned_in : List ℕ × List ℕ → List (List ℕ)
 mentioned_in unit = mentions_in (tree_of unit.1)

@@ -1,13 +1,13 @@
 -- What the flat network of a network depends on.
 use Rattle.std.specs.Prelude.{ℕ, ◌≡◌, ◌↔◌, List, Some, Contains}
-use Rattle.fb_clean.specs.Network.declared.network.Port.{Port}
-use Rattle.fb_clean.specs.Network.declared.network.Instance.{Instance}
-use Rattle.fb_clean.specs.Network.Plain.{PlainNetwork}
-use Rattle.fb_clean.specs.Network.PlainFlat.{PlainFlat}
-use Rattle.fb_clean.specs.Network.Network.{View}
-use Rattle.fb_clean.specs.Network.Instances.{Held, AreInstances}
-use Rattle.fb_clean.specs.Network.Count.{IsCount}
-use Rattle.fb_clean.specs.Network.FlatNet.{IsFlat}
+use Rattle.fb_wiring.specs.Network.declared.network.Port.{Port}
+use Rattle.fb_wiring.specs.Network.declared.network.Instance.{Instance}
+use Rattle.fb_wiring.specs.Network.Plain.{PlainNetwork}
+use Rattle.fb_wiring.specs.Network.PlainFlat.{PlainFlat}
+use Rattle.fb_wiring.specs.Network.Network.{View}
+use Rattle.fb_wiring.specs.Network.Instances.{Held, AreInstances}
+use Rattle.fb_wiring.specs.Network.Count.{IsCount}
+use Rattle.fb_wiring.specs.Network.FlatNet.{IsFlat}
 
 -- each instance has its type, and each plug or socket its adapter, among those names
 pub record Within (known : List ℕ → Type 0) (network : PlainNetwork) : Type 0 where

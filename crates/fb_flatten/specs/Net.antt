@@ -1,11 +1,11 @@
 -- The net of a unit: its flat network, or why it has none.
 use Rattle.std.specs.Prelude.{ℕ, ◌≢◌, List, []}
-use Rattle.fb_clean.specs.Library.View.{Sources}
-use Rattle.fb_clean.specs.Order.Reaches.{IsRecursive}
-use Rattle.fb_clean.specs.Network.PlainFlat.{PlainFlat}
-pub use Rattle.fb_clean.specs.NetParts.Net.{PlainNet, blocked, recursive, too_large, flat_net, plain_net}
+use Rattle.fb_wiring.specs.Library.View.{Sources}
+use Rattle.fb_wiring.specs.Reaches.{IsRecursive}
+use Rattle.fb_wiring.specs.Network.PlainFlat.{PlainFlat}
+pub use Rattle.fb_wiring.specs.Net.{PlainNet, blocked, recursive, too_large, flat_net, plain_net}
 use Rattle.fb_flatten.specs.Blocking.{IsBlocking, AreThose}
-use Rattle.fb_clean.specs.NetParts.Units.{IsTooLarge, IsWithinLimit, IsUnitFlat}
+use Rattle.fb_wiring.specs.Units.{IsTooLarge, IsWithinLimit, IsUnitFlat}
 
 -- all that the unit rests on is present and without faults
 abbrev pub IsWhole : Sources → List ℕ → Type 0

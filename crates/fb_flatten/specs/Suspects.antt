@@ -1,9 +1,9 @@
 -- Names among which those that block a unit are looked for.
 use Rattle.std.specs.Prelude.{ℕ, if◌then◌else◌, List, [], Option, Contains}
 use Rattle.std.specs.List.Sorted.{IsStrictlySortedBy}
-use Rattle.fb_clean.specs.Text.Order.{name_cmp}
-use Rattle.fb_clean.specs.Library.View.{Sources, mentions_at}
-use Rattle.fb_clean.specs.Library.Rests.{Rests}
+use Rattle.fb_wiring.specs.Text.Order.{name_cmp}
+use Rattle.fb_wiring.specs.Library.View.{Sources, mentions_at}
+use Rattle.fb_wiring.specs.Library.Rests.{Rests}
 use Rattle.fb_flatten.specs.Blocking.{IsBlocking}
 use Rattle.fb_flatten.specs.Hints.{is_whole_hint}
 use Rattle.fb_flatten.specs.Net.{PlainNet}

@@ -1,8 +1,8 @@
 -- Orders of names, and what is found by tables.
 use Rattle.std.specs.Prelude.{◌≡◌, ℕ, ◌<◌, List, Option, None, Contains, length, take, slice_index_or}
-use Rattle.fb_clean.specs.Library.View.{Sources, mentions_at}
-use Rattle.fb_clean.specs.Library.Rests.{Rests}
-pub use Rattle.fb_clean.specs.NetParts.Tables.{IsTrue, Has, HasAdapter, HasAdapters, Grows, HasType, IsTable, AllCounted, IsCountable, IsCountByTable, IsTypeCount, IsCountedWhereKnown, SameOthers, IsUnitCount, IsSmallType, IsSmall, known_flats, IsComposed, IsAdded, AllFinished, is_subapplication_tree, is_subapplication_in, is_missing, IsComposable, AreComposable, IsComposedApplication, AreComposedApplications, IsFlatTogether, AreComposedTogether, is_system_tree}
+use Rattle.fb_wiring.specs.Library.View.{Sources, mentions_at}
+use Rattle.fb_wiring.specs.Library.Rests.{Rests}
+pub use Rattle.fb_wiring.specs.Tables.{IsTrue, Has, HasAdapter, HasAdapters, Grows, HasType, IsTable, AllCounted, IsCountable, IsCountByTable, IsTypeCount, IsCountedWhereKnown, SameOthers, IsUnitCount, IsSmallType, IsSmall, known_flats, IsComposed, IsAdded, AllFinished, is_subapplication_tree, is_subapplication_in, is_missing, IsComposable, AreComposable, IsComposedApplication, AreComposedApplications, IsFlatTogether, AreComposedTogether, is_system_tree}
 use Rattle.fb_flatten.specs.Hints.{count_of_hint}
 use Rattle.fb_flatten.specs.Net.{PlainNet, IsSound}
 

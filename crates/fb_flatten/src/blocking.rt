@@ -3,10 +3,10 @@ ghost use Rattle.std.specs.Prelude.{◌≡◌, IfOk, filter};
 ghost use Rattle.fb_flatten.specs.Blocking.{is_blocking, is_some_name};
 ghost use Rattle.fb_flatten.specs.Hints.{AreRightHints};
 
-use fb_clean::faults::faults;
-use fb_clean::library::View;
-use fb_clean::net_parts::{Hints, is_known_whole};
-use fb_clean::text::Name;
+use fb_faults::faults;
+use fb_wiring::library::View;
+use fb_wiring::text::Name;
+use fb_wiring::{Hints, is_known_whole};
 use std::alloc::{AllocError, Global};
 
 /// Whether the name is that of no unit, or of one with faults.

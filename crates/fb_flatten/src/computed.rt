@@ -1,6 +1,6 @@
 //! What a unit rests on, and its net, by the functions of the specs.
 ghost use Rattle.std.specs.Prelude.{◌≡◌, true, Some, IfOk};
-ghost use Rattle.fb_clean.specs.Library.View.{tree_at};
+ghost use Rattle.fb_wiring.specs.Library.View.{tree_at};
 ghost use Rattle.fb_flatten.specs.Net.{plain_net};
 ghost use Rattle.fb_flatten.specs.Far.{far_of};
 ghost use Rattle.fb_flatten.specs.Hints.{AreRightHints};
@@ -8,9 +8,9 @@ ghost use Rattle.fb_flatten.specs.Nets.{has_net_in, net_at};
 
 use crate::scratch::net;
 use crate::unit_net::net_with;
-use fb_clean::library::{View, far};
-use fb_clean::net_parts::{Hints, Net, has_net};
-use fb_clean::text::Name;
+use fb_wiring::library::{View, far};
+use fb_wiring::text::Name;
+use fb_wiring::{Hints, Net, has_net};
 use std::alloc::{AllocError, Global};
 
 /// All names that the unit rests on, itself and absent ones included, in order, each once.

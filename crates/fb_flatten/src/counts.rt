@@ -1,13 +1,13 @@
 //! Counts of types whose inner types come first in an order.
 ghost use Rattle.std.specs.Prelude.{IfOk};
 ghost use Rattle.std.specs.BTreeMap.{get};
-ghost use Rattle.fb_clean.specs.Text.Order.{name_cmp};
+ghost use Rattle.fb_wiring.specs.Text.Order.{name_cmp};
 ghost use Rattle.fb_flatten.specs.Hints.{AreRightHints};
 ghost use Rattle.fb_flatten.specs.Tables.{AllCounted, IsSoundOrder, IsTable};
 
-use fb_clean::library::View;
-use fb_clean::net_parts::{Counts, Hints, Table, add_count, is_subapplication};
-use fb_clean::text::Name;
+use fb_wiring::library::View;
+use fb_wiring::text::Name;
+use fb_wiring::{Counts, Hints, Table, add_count, is_subapplication};
 use std::alloc::{AllocError, Global};
 use std::collections::BTreeMap;
 

@@ -1,14 +1,14 @@
 //! The flat networks of types whose inner types come first in an order.
 ghost use Rattle.std.specs.Prelude.{IfOk};
 ghost use Rattle.std.specs.BTreeMap.{get};
-ghost use Rattle.fb_clean.specs.Text.Order.{name_cmp};
+ghost use Rattle.fb_wiring.specs.Text.Order.{name_cmp};
 ghost use Rattle.fb_flatten.specs.Hints.{AreRightHints};
 ghost use Rattle.fb_flatten.specs.Tables.{AllFinished, IsTable, IsUnitOrder, known_flats};
 
-use fb_clean::library::View;
-use fb_clean::net_parts::{Hints, Table, add_flat, is_missing};
-use fb_clean::plain::Flat;
-use fb_clean::text::Name;
+use fb_wiring::library::View;
+use fb_wiring::plain::Flat;
+use fb_wiring::text::Name;
+use fb_wiring::{Hints, Table, add_flat, is_missing};
 use std::alloc::{AllocError, Global};
 use std::collections::BTreeMap;
 

@@ -1,12 +1,12 @@
 //! The nets of units from scratch.
 ghost use Rattle.std.specs.Prelude.{IfOk};
 ghost use Rattle.fb_flatten.specs.Net.{IsNet, plain_net};
-ghost use Rattle.fb_clean.specs.NetParts.Units.{HasNet};
+ghost use Rattle.fb_wiring.specs.Units.{HasNet};
 
 use crate::unit_net::net_with;
-use fb_clean::library::View;
-use fb_clean::net_parts::{Net, NoHints};
-use fb_clean::text::Name;
+use fb_wiring::library::View;
+use fb_wiring::text::Name;
+use fb_wiring::{Net, NoHints};
 use std::alloc::{AllocError, Global};
 
 /// The flat network of a subapplication or a system, or the first reason why it has none: that it rests on units that are absent or have

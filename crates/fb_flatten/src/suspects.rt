@@ -1,13 +1,12 @@
 //! The names among which those that block a unit are looked for.
 ghost use Rattle.std.specs.Prelude.{◌≡◌, IfOk, OnOk};
-ghost use Rattle.fb_clean.specs.Library.Seen.{Opens};
+ghost use Rattle.fb_wiring.specs.Library.Seen.{Opens};
 ghost use Rattle.fb_flatten.specs.Hints.{AreRightHints};
 ghost use Rattle.fb_flatten.specs.Suspects.{AreSuspects, mentions_beyond};
 
-use fb_clean::library::{View, mentions_by_name};
-use fb_clean::net_parts::{Hints, is_known_whole};
-use fb_clean::table::{names_of, open_new};
-use fb_clean::text::Name;
+use fb_wiring::library::{View, mentions_by_name, names_of, open_new};
+use fb_wiring::text::Name;
+use fb_wiring::{Hints, is_known_whole};
 use std::alloc::{AllocError, Global};
 use std::collections::BTreeSet;
 

@@ -3,16 +3,15 @@ ghost use Rattle.std.specs.Prelude.{IfOk};
 ghost use Rattle.fb_flatten.specs.Hints.{AreRightHints};
 ghost use Rattle.fb_flatten.specs.Net.{IsNet, plain_net};
 ghost use Rattle.fb_flatten.specs.Tables.{IsUnitOrder};
-ghost use Rattle.fb_clean.specs.NetParts.Units.{HasNet};
+ghost use Rattle.fb_wiring.specs.Units.{HasNet};
 
 use crate::blocking::{blocking, has_some};
 use crate::suspects::suspects;
 use crate::units::{count_of_unit, flat_of_unit};
-use fb_clean::library::{View, far};
-use fb_clean::net_parts::{Hints, Net, Rest, networks_of};
-use fb_clean::order::{inner_first, recursive};
-use fb_clean::plain::INSTANCE_LIMIT;
-use fb_clean::text::Name;
+use fb_wiring::library::{View, far};
+use fb_wiring::plain::INSTANCE_LIMIT;
+use fb_wiring::text::Name;
+use fb_wiring::{Hints, Net, Rest, inner_first, networks_of, recursive};
 use std::alloc::{AllocError, Global};
 
 /// The flat network of a subapplication or a system, or the first reason why it has none, where the nets of some units are kept. Below a unit

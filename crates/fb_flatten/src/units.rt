@@ -1,21 +1,20 @@
 //! The instances and the flat networks of units whose inner types come first in an order.
 ghost use Rattle.std.specs.Prelude.{IfOk};
 ghost use Rattle.std.specs.BTreeMap.{get};
-ghost use Rattle.fb_clean.specs.Text.Order.{name_cmp};
+ghost use Rattle.fb_wiring.specs.Text.Order.{name_cmp};
 ghost use Rattle.fb_flatten.specs.Hints.{AreRightHints};
 ghost use Rattle.fb_flatten.specs.Tables.{IsSmall, IsTable, IsUnitCount, IsUnitOrder};
-ghost use Rattle.fb_clean.specs.NetParts.Units.{HasNet, IsUnitFlat};
+ghost use Rattle.fb_wiring.specs.Units.{HasNet, IsUnitFlat};
 
 use crate::counts::counts_in_order;
 use crate::flats::missing_flats;
-use fb_clean::compose::count_instances;
-use fb_clean::library::{View, tree_by_name};
-use fb_clean::net_parts::{
-    Hints, KnownFlats, Table, flat_of_applications, flat_of_type, is_of_system, own_network,
+use fb_wiring::library::{View, tree_by_name};
+use fb_wiring::plain::{Flat, count_instances};
+use fb_wiring::text::Name;
+use fb_wiring::{
+    Hints, KnownFlats, Table, applications, flat_of_applications, flat_of_type, is_of_system,
+    own_network,
 };
-use fb_clean::plain::Flat;
-use fb_clean::text::Name;
-use fb_clean::wiring::applications;
 use std::alloc::{AllocError, Global};
 
 /// How many instances a unit holds at all depths, up to one past the limit.

@@ -2,7 +2,7 @@
 use Rattle.std.proofs.Common.{◌≡◌, ℕ, Bool, true, false, ◌||◌, ◌&&◌, not, List, [], ◌∷◌, refl, sym, ap, ◌∙◌, subst, cond}
 use Rattle.std.specs.List.{list_any}
 use Rattle.fb_jobs.specs.Library.Texts.{Texts, Edit}
-use Rattle.fb_jobs.specs.KeysAndValues.declared.key.Key.{Key}
+use Rattle.fb_jobs.specs.declared.key.Key.{Key}
 use Rattle.fb_jobs.specs.Keys.{has_key, scratch, needs, Finding}
 use Rattle.fb_jobs.specs.Reads.{is_among, Agree}
 use Rattle.fb_jobs.proofs.SameNeeds.{needs_local}
@@ -17,9 +17,9 @@ use Rattle.fb_history.specs.Story.{Origin, IsOrigin, opened, replay, start}
 use Rattle.fb_history.specs.Due.{due_from}
 use Rattle.fb_history.specs.Laws.{is_refusal, refuses_commit, refuses_result, refuses_return, entry_after, AgreeApartFrom}
 use Rattle.fb_history.proofs.Dues.{waits_after, waits_at_origin}
-use Rattle.fb_jobs.specs.Text.Order.{name_cmp}
-use Rattle.fb_jobs.proofs.Text.OrderLemmas.{is_equal}
-use Rattle.fb_jobs.proofs.Table.Names.{exact_name}
+use Rattle.fb_text.specs.Order.{name_cmp}
+use Rattle.fb_text.proofs.OrderLemmas.{is_equal}
+use Rattle.fb_jobs.proofs.Library.Names.{exact_name}
 use Rattle.std.specs.BTreeMap.{is_at}
 use Rattle.std.specs.List.Sorted.{IsStrictlySortedBy}
 

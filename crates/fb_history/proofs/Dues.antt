@@ -1,7 +1,7 @@
 -- The machine's pending keys are those that are due.
 use Rattle.std.proofs.Common.{◌≡◌, ℕ, Bool, true, false, ◌||◌, ◌&&◌, not, List, [], ◌∷◌, map, refl, sym, ap, ◌∙◌, subst, Option, Some, None, cond, is_none}
 use Rattle.fb_jobs.specs.Library.Texts.{Edit, unit_of, all_edited}
-use Rattle.fb_jobs.specs.KeysAndValues.declared.key.Key.{Key}
+use Rattle.fb_jobs.specs.declared.key.Key.{Key}
 use Rattle.fb_jobs.specs.Keys.{has_key}
 use Rattle.fb_jobs.specs.KeyOrder.{same_key}
 use Rattle.fb_jobs.specs.Reads.{stale}

@@ -8,9 +8,9 @@ use Rattle.std.specs.declared.cmp.Ordering.TheVariants.{Less, Equal, Greater}
 use Rattle.std.specs.Option.{option_map}
 use Rattle.std.proofs.lemmas.Bool.{or_left, or_right}
 use Rattle.fb_jobs.specs.Library.Texts.{Texts, held, names_of, text_in}
-use Rattle.fb_jobs.specs.Text.Order.{name_cmp}
+use Rattle.fb_text.specs.Order.{name_cmp}
 use Rattle.fb_jobs.specs.Reads.{is_among}
-use Rattle.fb_jobs.specs.KeysAndValues.declared.key.Key.{Key}
+use Rattle.fb_jobs.specs.declared.key.Key.{Key}
 use Rattle.fb_jobs.specs.Keys.{has_key, has_kind_at}
 use Rattle.fb_jobs.specs.KeyOrder.{key_cmp, same_key}
 use Rattle.fb_jobs.specs.Kinds.{all_keys}

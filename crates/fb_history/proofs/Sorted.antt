@@ -7,10 +7,10 @@ use Rattle.std.specs.BTreeMap.{is_at, insert_entry}
 use Rattle.std.specs.Ordering.{match_ordering, ordering_reverse}
 use Rattle.std.specs.declared.cmp.Ordering.TheVariants.{Less, Equal, Greater}
 use Rattle.std.proofs.lemmas.List.Kept.{IsStrictlySortedBy-filter}
-use Rattle.fb_jobs.proofs.Table.Names.{name_total}
+use Rattle.fb_jobs.proofs.Library.Names.{name_total}
 use Rattle.fb_jobs.specs.Library.Texts.{Texts, Held, Edit, Puts, Removes, edited, all_edited, names_of}
-use Rattle.fb_jobs.specs.Text.Order.{name_cmp}
-use Rattle.fb_jobs.specs.KeysAndValues.declared.key.Key.{Key}
+use Rattle.fb_text.specs.Order.{name_cmp}
+use Rattle.fb_jobs.specs.declared.key.Key.{Key}
 use Rattle.fb_jobs.specs.Keys.{has_key}
 use Rattle.fb_jobs.specs.KeyOrder.{key_cmp}
 use Rattle.fb_history.specs.declared.answers.Committed.{Committed}

@@ -1,7 +1,7 @@
 -- When a key waits, said by places in the list of calls.
 use Rattle.std.specs.Prelude.{Bool, false, ◌&&◌, ◌||◌, not, List, [], ◌∷◌, map, is_none}
 use Rattle.fb_jobs.specs.Library.Texts.{Edit, unit_of, all_edited}
-use Rattle.fb_jobs.specs.KeysAndValues.declared.key.Key.{Key}
+use Rattle.fb_jobs.specs.declared.key.Key.{Key}
 use Rattle.fb_jobs.specs.Keys.{has_key}
 use Rattle.fb_jobs.specs.KeyOrder.{same_key}
 use Rattle.fb_jobs.specs.Reads.{stale}

@@ -2,11 +2,11 @@
 use Rattle.std.specs.Prelude.{ℕ, ◌+◌, Bool, ◌&&◌, ◌||◌, not, List, [], ◌∷◌, map, filter, length, Option, Some, None, if◌then◌else◌, nat_lt, ◌==◌}
 use Rattle.std.specs.Ordering.{is_lt}
 use Rattle.fb_jobs.specs.Library.Texts.{Texts, Held, held, Edit, Puts, Removes, unit_of, all_edited}
-use Rattle.fb_jobs.specs.KeysAndValues.declared.key.Key.{Key}
+use Rattle.fb_jobs.specs.declared.key.Key.{Key}
 use Rattle.fb_jobs.specs.Keys.{has_key, scratch, Finding}
 use Rattle.fb_jobs.specs.KeyOrder.{key_cmp, same_key}
 use Rattle.fb_jobs.specs.Reads.{PlainJob, reads_for, stale}
-pub use Rattle.fb_jobs.specs.KeysAndValues.Reach.{keys_of, reaches, comes_again, first_repeated}
+pub use Rattle.fb_jobs.specs.Reach.{keys_of, reaches, comes_again, first_repeated}
 use Rattle.fb_history.specs.declared.answers.Committed.{Committed}
 use Rattle.fb_history.specs.declared.answers.Committed.TheVariants.{Done, NoChange, TooManyChanges, SameUnitTwice, StaleBase, NoSuchUnit, TooManyUnits}
 use Rattle.fb_history.specs.declared.answers.Delivered.{Delivered}

@@ -1,10 +1,10 @@
 -- A history of calls, and what it leads to.
 use Rattle.std.specs.Prelude.{◌≡◌, ℕ, ◌+◌, ◌≤◌, false, List, [], ◌∷◌, ◌++◌, map, ◌==◌, count_by, take, length, slice_get, Option, Some, None, zero, suc}
 use Rattle.std.specs.List.Sorted.{IsStrictlySortedBy}
-use Rattle.fb_jobs.specs.Text.Order.{name_cmp}
+use Rattle.fb_text.specs.Order.{name_cmp}
 use Rattle.std.specs.List.{list_any}
 use Rattle.fb_jobs.specs.Library.Texts.{Texts, names_of}
-use Rattle.fb_jobs.specs.KeysAndValues.declared.key.Key.{Key}
+use Rattle.fb_jobs.specs.declared.key.Key.{Key}
 use Rattle.fb_jobs.specs.Keys.{has_key}
 use Rattle.fb_jobs.specs.KeyOrder.{same_key}
 use Rattle.fb_history.specs.Machine.{State, Call, Reply, after, reply}

@@ -3,7 +3,7 @@ ghost use Rattle.std.specs.Prelude.{◌≡◌};
 ghost use Rattle.fb_history.specs.declared.answers.Refused.TheVariants.{Memory};
 
 use fb_jobs::Value;
-use fb_jobs::text::Name;
+use fb_text::Name;
 use std::alloc::AllocError;
 use std::sync::Arc;
 

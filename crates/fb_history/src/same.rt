@@ -5,8 +5,8 @@ ghost use Rattle.fb_history.specs.Records.{wanted_job, wanted_job_in, text_edit,
 
 use crate::answers::{Asked, Committed, Delivered, GivenBack};
 use crate::record::{Call, Reply, TextChange, Wanted};
-use fb_jobs::text::{Name, same_name};
 use fb_jobs::{Key, TextRead, is_same_value};
+use fb_text::{Name, same_name};
 use std::sync::Arc;
 
 /// The same call.

@@ -3,9 +3,9 @@ use Rattle.std.proofs.Common.{◌≡◌, zero, suc, ℕ, ◌+◌, ◌<◌, Bool,
 use Rattle.std.specs.List.{Contains, enumerate_from, slice_get}
 use Rattle.std.proofs.lemmas.List.{get_or-take, length-take}
 use Rattle.std.proofs.lemmas.Option.{get_or_from_slice_get, slice_get_read, slice_get_within}
-use Rattle.fb_library.specs.Text.declared.name.NameUse.{NameUse}
+use Rattle.fb_tree.specs.Text.declared.name.NameUse.{NameUse}
 use Rattle.fb_iface.specs.Names.{has_name, is_same}
-use Rattle.fb_library.proofs.Text.Members.{contains_cases, contains_here, contains_later, contains_nothing}
+use Rattle.fb_tree.proofs.Text.Members.{contains_cases, contains_here, contains_later, contains_nothing}
 use Rattle.fb_iface.proofs.NameLemmas.{named, same_exact}
 
 -- items at their places

@@ -1,6 +1,6 @@
 -- Faults that compare equal are one.
 use Rattle.std.specs.FinMap.{IsAntisymmetric, nat_cmp-IsAntisymmetric}
-use Rattle.fb_library.proofs.Text.OrderLemmas.{both_equal}
+use Rattle.fb_tree.proofs.Text.OrderLemmas.{both_equal}
 use Rattle.fb_iface.specs.Code.{code_number}
 use Rattle.fb_iface.specs.Fault.{fault_cmp}
 use Rattle.fb_iface.proofs.CodeLemmas.{code_number-exact}

@@ -4,8 +4,8 @@ use Rattle.std.specs.BTreeMap.{is_at}
 use Rattle.std.specs.BTreeSet.{BTreeSet, contains, Updates}
 use Rattle.std.proofs.Math.Bool.{or-false, or_assoc}
 use Rattle.std.proofs.lemmas.List.{map-append}
-use Rattle.fb_library.specs.Text.Order.{name_cmp}
-use Rattle.fb_library.specs.Text.declared.name.NameUse.{NameUse}
+use Rattle.fb_tree.specs.Text.Order.{name_cmp}
+use Rattle.fb_tree.specs.Text.declared.name.NameUse.{NameUse}
 use Rattle.fb_iface.specs.declared.code.Code.{Code}
 use Rattle.fb_iface.specs.Fault.{fault_at, faults_at}
 use Rattle.fb_iface.proofs.PlaceLemmas.{passing, passing-all, passing-more}

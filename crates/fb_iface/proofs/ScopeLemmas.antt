@@ -3,11 +3,11 @@ use Rattle.std.proofs.Common.{◌≡◌, ℕ, Bool, true, false, cond, ◌||◌,
 use Rattle.std.proofs.lemmas.List.Folds.{list_any-append}
 use Rattle.std.specs.Option.{option_or}
 use Rattle.std.specs.Cmp.Lexicographic.{pointwise}
-use Rattle.fb_library.proofs.Text.OrderLemmas.{same_name}
-use Rattle.fb_library.specs.Text.declared.name.NameUse.{NameUse}
-use Rattle.fb_library.specs.Tree.Tree.{DeclTree, instance_tree}
-use Rattle.fb_library.specs.Tree.declared.network.Instance.{Instance}
-use Rattle.fb_library.specs.Tree.declared.network.Role.{Role}
+use Rattle.fb_tree.proofs.Text.OrderLemmas.{same_name}
+use Rattle.fb_tree.specs.Text.declared.name.NameUse.{NameUse}
+use Rattle.fb_tree.specs.Tree.{DeclTree, instance_tree}
+use Rattle.fb_tree.specs.declared.network.Instance.{Instance}
+use Rattle.fb_tree.specs.declared.network.Role.{Role}
 use Rattle.fb_iface.proofs.TableLemmas.{is_it, none}
 use Rattle.fb_iface.specs.Kept.{kept_of, kept_ports, with_type}
 use Rattle.fb_iface.specs.Names.{has_name, is_same}

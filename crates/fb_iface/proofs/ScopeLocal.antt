@@ -6,11 +6,11 @@ use Rattle.std.specs.List.{Contains}
 use Rattle.std.specs.Option.{option_and_then}
 use Rattle.std.proofs.lemmas.List.Elements.{Contains-append_left, Contains-append_right}
 use Rattle.std.proofs.lemmas.Simd.{map-map}
-use Rattle.fb_library.specs.Text.Order.{name_cmp, names_in_order}
-use Rattle.fb_library.specs.Text.declared.name.NameUse.{NameUse}
-use Rattle.fb_library.proofs.Text.OrderLemmas.{in_order-members}
-use Rattle.fb_library.specs.Tree.Mentions.{types_in}
-use Rattle.fb_library.specs.Tree.Tree.{InstanceTree, NetworkTree, TypeTree}
+use Rattle.fb_tree.specs.Text.Order.{name_cmp, names_in_order}
+use Rattle.fb_tree.specs.Text.declared.name.NameUse.{NameUse}
+use Rattle.fb_tree.proofs.Text.OrderLemmas.{in_order-members}
+use Rattle.fb_tree.specs.Mentions.{types_in}
+use Rattle.fb_tree.specs.Tree.{InstanceTree, NetworkTree, TypeTree}
 use Rattle.fb_library.specs.View.{Sources, mentions_at, near_of, tree_at, tree_of}
 use Rattle.fb_iface.proofs.TableLemmas.{is_it}
 use Rattle.fb_iface.specs.Names.{has_name, is_same}

@@ -3,8 +3,9 @@ use Rattle.std.proofs.Common.{◌≡◌, zero, suc, ℕ, Bool, true, false, cond
 use Rattle.std.proofs.Math.Seq.{take-suc}
 use Rattle.std.proofs.lemmas.List.{get_or_default, take_all}
 use Rattle.std.specs.Option.{option_or}
-use Rattle.std.specs.Cmp.Lexicographic.{pointwise, same_text}
-use Rattle.fb_library.proofs.Text.OrderLemmas.{same_name}
+use Rattle.std.specs.Cmp.Lexicographic.{pointwise, nat_list_eq_equiv, same_text}
+use Rattle.std.specs.Map.{lookup}
+use Rattle.fb_tree.proofs.Text.OrderLemmas.{same_name}
 use Rattle.fb_iface.proofs.PlaceLemmas.{passing, passing-all, passing-more}
 use Rattle.fb_iface.specs.Names.{first_ones, is_same, stands_for}
 
@@ -102,3 +103,13 @@ module _ {D : Type 0} where
       ap (λ l. stands_for l q) (sym (first_all all))
       ∙ stands_among all (length all) q (omega arith)
       ∙ ap (λ l. stands_for l q) (take_all (length all) all (omega arith))
+
+  -- a table of first declarations finds what a name stands for
+  pub found_by_name : (entries : List (List ℕ × D)) (name : List ℕ) → lookup (pointwise nat_eq name) entries ≡ stands_for entries name
+  found_by_name entries name =
+      let tests = λ (q : List ℕ). nat_list_eq_equiv.symm name q ∙ same_name q name in
+      λ i. lookup (λ q. tests q i) entries
+
+  -- also among the first n alone
+  pub found_among : (entries all : List (List ℕ × D)) (n : ℕ) (name : List ℕ) → entries ≡ first_among n all → n ≤ length all → lookup (pointwise nat_eq name) entries ≡ stands_for (take n all) name
+  found_among entries all n name firsts within = found_by_name entries name ∙ ap (λ l. stands_for l name) firsts ∙ stands_among all n name within

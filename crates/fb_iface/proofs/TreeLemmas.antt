@@ -3,15 +3,15 @@ use Rattle.std.proofs.Common.{◌≡◌, List, [], ◌∷◌, ◌++◌, map, ref
 use Rattle.std.specs.List.{flat_map}
 use Rattle.std.proofs.lemmas.Grind.{flat_map-append}
 use Rattle.std.proofs.lemmas.List.Folds.{flat_map-map}
-use Rattle.fb_library.specs.Text.declared.name.NameUse.{NameUse}
-use Rattle.fb_library.specs.Tree.Tree.{InstanceTree, algorithm_tree, application_tree, chart_tree, device_tree, event_tree, instance_tree, interface_tree, network_tree, parameter_tree, resource_tree, state_tree, system_tree, variables_tree}
-use Rattle.fb_library.specs.Tree.declared.chart.Chart.{Chart}
-use Rattle.fb_library.specs.Tree.declared.interface.Interface.{Interface}
-use Rattle.fb_library.specs.Tree.declared.network.Network.{Network}
-use Rattle.fb_library.specs.Tree.declared.network.Parameter.{Parameter}
-use Rattle.fb_library.specs.Tree.declared.system.Application.{Application}
-use Rattle.fb_library.specs.Tree.declared.system.Device.{Device}
-use Rattle.fb_library.specs.Tree.declared.system.System.{System}
+use Rattle.fb_tree.specs.Text.declared.name.NameUse.{NameUse}
+use Rattle.fb_tree.specs.Tree.{InstanceTree, algorithm_tree, application_tree, chart_tree, device_tree, event_tree, instance_tree, interface_tree, network_tree, parameter_tree, resource_tree, state_tree, system_tree, variables_tree}
+use Rattle.fb_tree.specs.declared.chart.Chart.{Chart}
+use Rattle.fb_tree.specs.declared.interface.Interface.{Interface}
+use Rattle.fb_tree.specs.declared.network.Network.{Network}
+use Rattle.fb_tree.specs.declared.network.Parameter.{Parameter}
+use Rattle.fb_tree.specs.declared.system.Application.{Application}
+use Rattle.fb_tree.specs.declared.system.Device.{Device}
+use Rattle.fb_tree.specs.declared.system.System.{System}
 use Rattle.fb_iface.specs.declared.fault.Fault.{Fault}
 use Rattle.fb_iface.specs.Declarations.{space_duplicates}
 use Rattle.fb_iface.specs.Spaces.{chart_spaces, interface_spaces, network_spaces, parameter_names, resource_names, system_spaces}

@@ -1,8 +1,8 @@
 -- The faults of what a unit declares.
 use Rattle.std.specs.Prelude.{ℕ, ◌&&◌, List, [], ◌∷◌, ◌++◌, Option, Some, None, if◌then◌else◌}
 use Rattle.std.specs.List.{flat_map}
-use Rattle.fb_library.specs.Text.declared.name.NameUse.{NameUse}
-use Rattle.fb_library.specs.Tree.Tree.{DeclTree, block_type, adapter_type, subapplication_type, system_configuration}
+use Rattle.fb_tree.specs.Text.declared.name.NameUse.{NameUse}
+use Rattle.fb_tree.specs.Tree.{DeclTree, block_type, adapter_type, subapplication_type, system_configuration}
 use Rattle.fb_library.specs.View.{Sources, tree_at}
 use Rattle.fb_iface.specs.declared.code.Code.TheVariants.{NameDiffers, Duplicate, MixedKind}
 use Rattle.fb_iface.specs.declared.fault.Fault.{Fault}

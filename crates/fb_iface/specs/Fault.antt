@@ -3,8 +3,8 @@ use Rattle.std.specs.Prelude.{List, map}
 use Rattle.std.specs.declared.cmp.Ordering.{Ordering}
 use Rattle.std.specs.Ordering.{nat_cmp, on, then_cmp}
 use Rattle.std.specs.Cmp.{IsTotalOrder, then_total, on_total, nat_cmp_total}
-use Rattle.fb_library.specs.Text.Order.{in_order}
-use Rattle.fb_library.specs.Text.declared.name.NameUse.{NameUse}
+use Rattle.fb_tree.specs.Text.Order.{in_order}
+use Rattle.fb_tree.specs.Text.declared.name.NameUse.{NameUse}
 use Rattle.fb_iface.specs.declared.code.Code.{Code}
 use Rattle.fb_iface.specs.declared.fault.Fault.{Fault}
 use Rattle.fb_iface.specs.Code.{code_number}

@@ -2,9 +2,9 @@
 use Rattle.std.specs.Prelude.{ℕ, List, Option, Some, None, cond, nat_eq, option_map}
 use Rattle.std.specs.Option.{option_or}
 use Rattle.std.specs.Cmp.Lexicographic.{pointwise}
-use Rattle.fb_library.specs.Tree.Tree.{DeclTree}
-use Rattle.fb_library.specs.Tree.Mentions.{unit_kind_of}
-use Rattle.fb_library.specs.Tree.declared.network.Role.{Role}
+use Rattle.fb_tree.specs.Tree.{DeclTree}
+use Rattle.fb_tree.specs.Mentions.{unit_kind_of}
+use Rattle.fb_tree.specs.declared.network.Role.{Role}
 use Rattle.fb_iface.specs.Ports.{Meanings, meanings_in}
 use Rattle.std.specs.HashMap.{get}
 use Rattle.fb_iface.specs.Scope.{Scope, ports_where}

@@ -12,13 +12,8 @@ pub mod Types
 pub mod Scope
 pub mod Kept
 pub mod Declarations
-pub mod Rows
--- Passed on to the crates above, which do not list these libraries.
-pub use Rattle.fb_library.specs.Lexemes as Lexemes
-pub use Rattle.fb_library.specs.Tree as Tree
+-- Of the crates below, for the crates above.
 pub use Rattle.fb_library.specs.Forms as Forms
 pub use Rattle.fb_library.specs.Sections as Sections
 pub use Rattle.fb_library.specs.Parse as Parse
 pub use Rattle.fb_library.specs as Library
-pub use Rattle.fb_library.specs.Text as Text
-pub use Rattle.fb_library.specs.Table as Table

@@ -2,13 +2,13 @@
 use Rattle.std.specs.Prelude.{Bool, List, [], ◌∷◌, not, map, filter, if◌then◌else◌}
 use Rattle.std.specs.List.{flat_map}
 use Rattle.std.specs.Option.{option_map_or}
-use Rattle.fb_library.specs.Text.declared.token.Span.{Span}
-use Rattle.fb_library.specs.Tree.Tree.{ConstantTree, one_value, value_list, VariablesTree, InterfaceTree}
-use Rattle.fb_library.specs.Tree.declared.constant.Simple.{Simple}
-use Rattle.fb_library.specs.Tree.declared.constant.Simple.TheVariants as constants
-use Rattle.fb_library.specs.Tree.declared.interface.TypeForm.{TypeForm}
-use Rattle.fb_library.specs.Tree.declared.interface.TypeForm.TheVariants as forms
-use Rattle.fb_library.specs.Tree.declared.interface.TypeUse.{TypeUse}
+use Rattle.fb_tree.specs.Text.declared.token.Span.{Span}
+use Rattle.fb_tree.specs.Tree.{ConstantTree, one_value, value_list, VariablesTree, InterfaceTree}
+use Rattle.fb_tree.specs.declared.constant.Simple.{Simple}
+use Rattle.fb_tree.specs.declared.constant.Simple.TheVariants as constants
+use Rattle.fb_tree.specs.declared.interface.TypeForm.{TypeForm}
+use Rattle.fb_tree.specs.declared.interface.TypeForm.TheVariants as forms
+use Rattle.fb_tree.specs.declared.interface.TypeUse.{TypeUse}
 use Rattle.fb_iface.specs.declared.classes.Class.{Class}
 use Rattle.fb_iface.specs.declared.code.Code.TheVariants.{Literal}
 use Rattle.fb_iface.specs.declared.fault.Fault.{Fault}

@@ -3,8 +3,8 @@ use Rattle.std.specs.Prelude.{ℕ, Bool, List, take, map, filter, Option, is_non
 use Rattle.std.specs.List.{list_any, enumerate_from}
 use Rattle.std.specs.Map.{lookup}
 use Rattle.std.specs.BTreeMap.{is_at}
-use Rattle.fb_library.specs.Text.Order.{name_cmp}
-use Rattle.fb_library.specs.Text.declared.name.NameUse.{NameUse}
+use Rattle.fb_tree.specs.Text.Order.{name_cmp}
+use Rattle.fb_tree.specs.Text.declared.name.NameUse.{NameUse}
 
 -- whether two names are the same
 abbrev pub is_same : List ℕ → List ℕ → Bool

@@ -1,13 +1,13 @@
 -- What the names of a unit stand for.
 use Rattle.std.specs.Prelude.{ℕ, Bool, true, false, List, [], map, filter, Option, option_map}
 use Rattle.std.specs.List.{flat_map}
-use Rattle.fb_library.specs.Text.declared.name.NameUse.{NameUse}
-use Rattle.fb_library.specs.Tree.Tree.{DeclTree, InterfaceTree, NetworkTree, TypeTree, VariablesTree, block_type, adapter_type, subapplication_type, system_configuration}
-use Rattle.fb_library.specs.Tree.declared.interface.Side.{Side}
-use Rattle.fb_library.specs.Tree.declared.interface.Side.TheVariants as sides
-use Rattle.fb_library.specs.Tree.declared.interface.TypeUse.{TypeUse}
-use Rattle.fb_library.specs.Tree.declared.network.Role.{Role}
-use Rattle.fb_library.specs.Tree.declared.network.Role.TheVariants as roles
+use Rattle.fb_tree.specs.Text.declared.name.NameUse.{NameUse}
+use Rattle.fb_tree.specs.Tree.{DeclTree, InterfaceTree, NetworkTree, TypeTree, VariablesTree, block_type, adapter_type, subapplication_type, system_configuration}
+use Rattle.fb_tree.specs.declared.interface.Side.{Side}
+use Rattle.fb_tree.specs.declared.interface.Side.TheVariants as sides
+use Rattle.fb_tree.specs.declared.interface.TypeUse.{TypeUse}
+use Rattle.fb_tree.specs.declared.network.Role.{Role}
+use Rattle.fb_tree.specs.declared.network.Role.TheVariants as roles
 use Rattle.fb_library.specs.View.{tree_of}
 use Rattle.fb_iface.specs.declared.ports.DeclaredEvent.{DeclaredEvent}
 use Rattle.fb_iface.specs.declared.ports.DeclaredInstance.{DeclaredInstance}

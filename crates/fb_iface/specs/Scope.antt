@@ -1,10 +1,10 @@
 -- What names stand for in a network: the unit's own names, and the ports of the types of its instances.
 use Rattle.std.specs.Prelude.{ℕ, List, map, Option, Some, None, if◌then◌else◌}
 use Rattle.std.specs.Option.{option_and_then}
-use Rattle.fb_library.specs.Tree.Tree.{DeclTree, InstanceTree, NetworkTree, TypeTree}
-use Rattle.fb_library.specs.Tree.Mentions.{unit_kind_of}
-use Rattle.fb_library.specs.Tree.declared.kinds.UnitKind.{UnitKind}
-use Rattle.fb_library.specs.Tree.declared.network.Role.{Role}
+use Rattle.fb_tree.specs.Tree.{DeclTree, InstanceTree, NetworkTree, TypeTree}
+use Rattle.fb_tree.specs.Mentions.{unit_kind_of}
+use Rattle.fb_tree.specs.declared.kinds.UnitKind.{UnitKind}
+use Rattle.fb_tree.specs.declared.network.Role.{Role}
 use Rattle.fb_library.specs.View.{Sources, tree_at}
 use Rattle.fb_iface.specs.Names.{has_name, stands_for}
 use Rattle.fb_iface.specs.Ports.{Meanings, meanings_in, meanings_in_network, meanings_in_type}

@@ -1,9 +1,9 @@
 -- Which variables are data of a side, and which data go with which events.
 use Rattle.std.specs.Prelude.{Bool, true, false}
-use Rattle.fb_library.specs.Tree.declared.interface.Side.{Side}
-use Rattle.fb_library.specs.Tree.declared.interface.Side.TheVariants as sides
-use Rattle.fb_library.specs.Tree.declared.interface.Section.{Section}
-use Rattle.fb_library.specs.Tree.declared.interface.Section.TheVariants as sections
+use Rattle.fb_tree.specs.declared.interface.Side.{Side}
+use Rattle.fb_tree.specs.declared.interface.Side.TheVariants as sides
+use Rattle.fb_tree.specs.declared.interface.Section.{Section}
+use Rattle.fb_tree.specs.declared.interface.Section.TheVariants as sections
 
 -- whether the variables of a section are data of a side: data inputs, or data outputs; internal variables are of none
 abbrev pub is_data_on : Side → Section → Bool

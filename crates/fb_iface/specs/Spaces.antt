@@ -1,10 +1,10 @@
 -- The name spaces of a unit: the names that each declares, in the order of the text.
 use Rattle.std.specs.Prelude.{Bool, true, false, List, [], ◌∷◌, ◌++◌, map, if◌then◌else◌}
 use Rattle.std.specs.List.{flat_map}
-use Rattle.fb_library.specs.Text.declared.name.NameUse.{NameUse}
-use Rattle.fb_library.specs.Tree.declared.network.Role.{Role}
-use Rattle.fb_library.specs.Tree.declared.network.Role.TheVariants.{Plug, Socket, Block, Subapplication}
-use Rattle.fb_library.specs.Tree.Tree.{InterfaceTree, InstanceTree, NetworkTree, ChartTree, DeviceTree, TypeTree, SystemTree, DeclTree, block_type, adapter_type, subapplication_type, system_configuration}
+use Rattle.fb_tree.specs.Text.declared.name.NameUse.{NameUse}
+use Rattle.fb_tree.specs.declared.network.Role.{Role}
+use Rattle.fb_tree.specs.declared.network.Role.TheVariants.{Plug, Socket, Block, Subapplication}
+use Rattle.fb_tree.specs.Tree.{InterfaceTree, InstanceTree, NetworkTree, ChartTree, DeviceTree, TypeTree, SystemTree, DeclTree, block_type, adapter_type, subapplication_type, system_configuration}
 
 abbrev pub is_block : Role → Bool
 is_block Plug = false

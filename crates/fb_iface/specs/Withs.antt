@@ -1,8 +1,8 @@
 -- Names behind WITH.
 use Rattle.std.specs.Prelude.{ℕ, Bool, false, not, List, filter, Option, Some, None}
 use Rattle.std.specs.List.{flat_map}
-use Rattle.fb_library.specs.Tree.Tree.{EventTree, InterfaceTree}
-use Rattle.fb_library.specs.Tree.declared.interface.Side.{Side}
+use Rattle.fb_tree.specs.Tree.{EventTree, InterfaceTree}
+use Rattle.fb_tree.specs.declared.interface.Side.{Side}
 use Rattle.fb_iface.specs.declared.code.Code.TheVariants.{WithUnknown}
 use Rattle.fb_iface.specs.declared.ports.DeclaredVariable.{DeclaredVariable}
 use Rattle.fb_iface.specs.declared.fault.Fault.{Fault}

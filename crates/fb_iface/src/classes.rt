@@ -2,8 +2,8 @@
 ghost use Rattle.std.specs.Prelude.{◌≡◌};
 ghost use Rattle.fb_iface.specs.Class.{class_of_literal, class_of_name, class_of_simple, class_of_type, is_free, named_class, takes};
 
-use fb_library::text::{Name, TypeClass, type_class};
-use fb_library::tree::{LiteralForm, Simple, TypeForm, TypeUse};
+use fb_tree::text::{Name, TypeClass, type_class};
+use fb_tree::{LiteralForm, Simple, TypeForm, TypeUse};
 
 /// What a value may be combined with.
 #[derive(Clone, Copy, Debug, PartialEq, Eq)]

@@ -5,7 +5,7 @@ ghost use Rattle.std.specs.Cmp.{eq_by_cmp_equiv, partial_equiv_from_equiv, parti
 ghost use Rattle.fb_iface.specs.Fault.{fault_at, fault_cmp, fault_cmp_total, faults_in_order};
 
 use crate::code::Code;
-use fb_library::text::{NameUse, Span, sorted_once};
+use fb_tree::text::{NameUse, Span, sorted_once};
 use std::alloc::{AllocError, Global};
 use std::cmp::Ordering;
 

@@ -2,7 +2,7 @@
 ghost use Rattle.std.specs.Prelude.{◌≡◌};
 ghost use Rattle.fb_iface.specs.Types.{suits};
 
-use fb_library::tree::{Role, UnitKind};
+use fb_tree::{Role, UnitKind};
 
 /// Whether a unit of this kind may be the type of an instance in this role.
 pub fn is_suited(role: Role, kind: UnitKind) -> bool

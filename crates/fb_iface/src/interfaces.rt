@@ -1,11 +1,11 @@
 //! The interface of a unit.
 ghost use Rattle.std.specs.Prelude.{◌≡◌, IfOk};
-ghost use Rattle.fb_library.specs.Tree.Tree.{decl_tree};
+ghost use Rattle.fb_tree.specs.Tree.{decl_tree};
 ghost use Rattle.fb_iface.specs.Ports.{meanings_in, meanings_of};
 
 use crate::ports::Ports;
 use fb_library::parse::{Body, Source};
-use fb_library::tree::Decl;
+use fb_tree::Decl;
 use std::alloc::{AllocError, Global};
 
 /// The ports of a unit. A broken text has none, and those of a system are empty.

@@ -1,13 +1,13 @@
 //! Constants that do not fit their type.
 ghost use Rattle.std.specs.Prelude.{◌≡◌, ◌++◌, OnOk};
-ghost use Rattle.fb_library.specs.Tree.Tree.{one_value, constant_tree};
+ghost use Rattle.fb_tree.specs.Tree.{one_value, constant_tree};
 ghost use Rattle.fb_iface.specs.Literals.{constant_faults, fits_alone, list_faults, literal_fault, misfits, simple_span};
 
 use crate::classes::{Class, class_by_name, class_of, class_of_constant, is_taken};
 use crate::code::Code;
 use crate::fault::Fault;
-use fb_library::text::Span;
-use fb_library::tree::{Constant, Simple, TypeForm, TypeUse};
+use fb_tree::text::Span;
+use fb_tree::{Constant, Simple, TypeForm, TypeUse};
 use std::alloc::AllocError;
 
 /// Reports a constant that does not fit the type, or the elements of a list that do not.

@@ -1,14 +1,15 @@
 //! The ports of a unit (IEC 61499-1, 5.2: interfaces of function block types; 5.5: adapters).
 ghost use Rattle.std.specs.Prelude.{◌≡◌, ◌++◌, IfOk, OnOk};
-ghost use Rattle.fb_library.specs.Tree.Tree.{interface_tree, network_tree, variables_tree};
+ghost use Rattle.fb_tree.specs.Tree.{interface_tree, network_tree, variables_tree};
 ghost use Rattle.fb_iface.specs.Ports.{events_in, instances_in, same_role, same_side, variables_in, variables_together};
 ghost use Rattle.fb_iface.specs.Sides.{is_data_on};
 
-use crate::names::{FirstOnes, first_declared};
-use fb_library::text::{Name, NameUse};
-use fb_library::tree::{
+use crate::names::first_declared;
+use fb_tree::text::{Name, NameUse};
+use fb_tree::{
     Event, Instance, Interface, Network, Role, Section, Side, TypeDeclaration, TypeUse, Variables,
 };
+use indexmap::IndexMap;
 use std::alloc::{AllocError, Global};
 use std::marker::Model;
 
@@ -37,9 +38,9 @@ pub struct DeclaredInstance {
 /// stands for its first declaration: an internal variable or an instance may hide a port of that name.
 #[derive(Drop)]
 pub struct Ports {
-    events: FirstOnes<DeclaredEvent>,
-    variables: FirstOnes<DeclaredVariable>,
-    instances: FirstOnes<DeclaredInstance>,
+    events: IndexMap<Name, DeclaredEvent>,
+    variables: IndexMap<Name, DeclaredVariable>,
+    instances: IndexMap<Name, DeclaredInstance>,
 }
 
 impl Model for Ports {
@@ -47,15 +48,15 @@ impl Model for Ports {
 
     ghost Value = { Meanings };
 
-    ghost view = { λ p. record { events = p.events; variables = p.variables; instances = p.instances } };
+    ghost view = { λ p. record { events = p.events.entries; variables = p.variables.entries; instances = p.instances.entries } };
 }
 
 impl Ports {
     ghost use Rattle.std.specs.Prelude.{[]};
     ghost use Rattle.std.specs.Option.{option_copied};
-    ghost use Rattle.fb_library.specs.Tree.Tree.{type_tree};
-    ghost use Rattle.fb_library.specs.Tree.declared.interface.Side.TheVariants as sides;
-    ghost use Rattle.fb_library.specs.Tree.declared.network.Role.TheVariants as roles;
+    ghost use Rattle.fb_tree.specs.Tree.{type_tree};
+    ghost use Rattle.fb_tree.specs.declared.interface.Side.TheVariants as sides;
+    ghost use Rattle.fb_tree.specs.declared.network.Role.TheVariants as roles;
     ghost use Rattle.fb_iface.specs.Names.{stands_for};
     ghost use Rattle.fb_iface.specs.Ports.{data_on, events_on, instances_as, meanings_in_network, meanings_in_type};
 
@@ -64,9 +65,9 @@ impl Ports {
         ensures { result ≡ record { events = []; variables = []; instances = [] } }
     {
         Ports {
-            events: FirstOnes::new(alloc),
-            variables: FirstOnes::new(alloc),
-            instances: FirstOnes::new(alloc),
+            events: IndexMap::new(alloc),
+            variables: IndexMap::new(alloc),
+            instances: IndexMap::new(alloc),
         }
     }
 
@@ -90,13 +91,14 @@ impl Ports {
     {
         let instances = declared_instances(alloc, network)?;
         Ok(Ports {
-            events: FirstOnes::new(alloc),
-            variables: FirstOnes::new(alloc),
+            events: IndexMap::new(alloc),
+            variables: IndexMap::new(alloc),
             instances: first_declared(alloc, instances.as_slice())?,
         })
     }
 
     /// The event that the name stands for.
+    #[tactic(auto, using(crate::proofs::TableLemmas::found_by_name))]
     pub fn event(&self, name: &Name) -> Option<&DeclaredEvent>
         ensures { option_copied result ≡ stands_for self.now.events name.now }
     {
@@ -104,6 +106,7 @@ impl Ports {
     }
 
     /// The variable that the name stands for, an internal one too.
+    #[tactic(auto, using(crate::proofs::TableLemmas::found_by_name))]
     pub fn variable(&self, name: &Name) -> Option<&DeclaredVariable>
         ensures { option_copied result ≡ stands_for self.now.variables name.now }
     {
@@ -111,6 +114,7 @@ impl Ports {
     }
 
     /// The instance, plug or socket that the name stands for.
+    #[tactic(auto, using(crate::proofs::TableLemmas::found_by_name))]
     pub fn instance(&self, name: &Name) -> Option<&DeclaredInstance>
         ensures { option_copied result ≡ stands_for self.now.instances name.now }
     {
@@ -167,7 +171,7 @@ impl Ports {
         ensures { IfOk result (λ ports. ports.items ≡ events_on side self.now) }
     {
         let mut ports = Vec::new(alloc);
-        for (name, event) in self.events.as_slice() {
+        for (name, event) in self.events.iter() {
             if is_same_side(event.side, side) {
                 ports.push((*name, event.type_name))?;
             }
@@ -179,7 +183,7 @@ impl Ports {
         ensures { IfOk result (λ ports. ports.items ≡ data_on side self.now) }
     {
         let mut ports = Vec::new(alloc);
-        for (name, variable) in self.variables.as_slice() {
+        for (name, variable) in self.variables.iter() {
             if is_beside(side, variable.section) {
                 ports.push((*name, variable.type_use))?;
             }
@@ -191,7 +195,7 @@ impl Ports {
         ensures { IfOk result (λ ports. ports.items ≡ instances_as role self.now) }
     {
         let mut ports = Vec::new(alloc);
-        for (name, instance) in self.instances.as_slice() {
+        for (name, instance) in self.instances.iter() {
             if is_same_role(instance.role, role) {
                 ports.push((*name, instance.type_name))?;
             }

@@ -2,7 +2,7 @@
 ghost use Rattle.std.specs.Prelude.{◌≡◌, IfOk, List, map, ℕ, nat_eq, OnOk};
 ghost use Rattle.std.specs.Cmp.Lexicographic.{pointwise};
 ghost use Rattle.std.specs.Option.{option_map};
-ghost use Rattle.fb_library.specs.Tree.Tree.{instance_tree, network_tree, type_tree};
+ghost use Rattle.fb_tree.specs.Tree.{instance_tree, network_tree, type_tree};
 ghost use Rattle.fb_library.specs.View.{tree_at};
 ghost use Rattle.fb_iface.specs.Scope.{instance_ports, mentioned_type, ports_of, scope_of_network, scope_of_type, type_ports_of};
 ghost use Rattle.fb_iface.specs.Kept.{kept_of, scope_in, with_type};
@@ -11,9 +11,9 @@ ghost use Rattle.std.specs.HashMap.{get};
 use crate::instances::is_suited;
 use crate::interfaces;
 use crate::ports::{DeclaredInstance, Ports};
-use fb_library::text::Name;
-use fb_library::tree::{Instance, Network, Role, TypeDeclaration, UnitKind, kind};
 use fb_library::{View, tree_by_name};
+use fb_tree::text::Name;
+use fb_tree::{Instance, Network, Role, TypeDeclaration, UnitKind, kind};
 use std::alloc::{AllocError, Global};
 use std::collections::HashMap;
 

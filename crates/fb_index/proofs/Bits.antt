@@ -1,5 +1,5 @@
 -- What is known of truth values.
-use Rattle.fb_table.proofs.Text.Tests.{no_both}
+use Rattle.fb_text.proofs.Tests.{no_both}
 use Rattle.std.proofs.Common.{◌≡◌, Bool, true, false, ◌||◌, ◌&&◌, not, refl, sym, ap, ◌∙◌}
 
 -- one more name: `s` is whether it is this one, and `f` whether it is one before it

@@ -13,13 +13,12 @@ use Rattle.std.specs.Cmp.{eq_by_cmp_equiv}
 use Rattle.std.specs.declared.vec.Vec.{Vec}
 use Rattle.std.specs.declared.alloc.Global.{Global}
 use Rattle.std.specs.declared.cmp.Ordering.TheVariants.{Less, Equal, Greater}
-use Rattle.fb_table.proofs.Text.Tests.{and_false, and_true, or_false}
-use Rattle.fb_table.proofs.Text.Tests.{no_both}
-use Rattle.fb_table.specs.Text.Order.{name_cmp}
-use Rattle.fb_table.specs.Seen.{has_name}
-use Rattle.fb_table.proofs.Names.{name_total, exact_name}
-use Rattle.fb_table.proofs.Places.{sorted_put, sorted_removed}
-use Rattle.fb_table.proofs.SeenLemmas.{same_is, same_self, has-push}
+use Rattle.fb_text.proofs.Tests.{and_false, and_true, or_false, no_both}
+use Rattle.fb_text.specs.Order.{name_cmp}
+use Rattle.fb_library.specs.Seen.{has_name}
+use Rattle.fb_library.proofs.Names.{name_total, exact_name}
+use Rattle.fb_library.proofs.Places.{sorted_put, sorted_removed}
+use Rattle.fb_library.proofs.SeenLemmas.{same_is, same_self, has-push}
 use Rattle.fb_index.specs.Near.{Users, users_of, is_near, IsIndexedAs, IsReplaced}
 use Rattle.fb_index.proofs.Bits.{own_bits, other_bits}
 

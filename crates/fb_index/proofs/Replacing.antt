@@ -1,8 +1,8 @@
 -- What is indexed for the units after one of them was replaced.
 use Rattle.std.proofs.Common.{◌≡◌, ℕ, ◌||◌, false, List, [], refl, ap, ◌∙◌}
 use Rattle.std.specs.BTreeMap.{is_at}
-use Rattle.fb_table.specs.Text.Order.{name_cmp}
-use Rattle.fb_table.specs.Seen.{has_name}
+use Rattle.fb_text.specs.Order.{name_cmp}
+use Rattle.fb_library.specs.Seen.{has_name}
 use Rattle.fb_index.specs.Near.{Users, IsIndexedAs, IsReplaced}
 
 pub indexed_none : (unit : List ℕ) → IsIndexedAs [] unit []

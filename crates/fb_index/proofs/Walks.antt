@@ -4,11 +4,11 @@ use Rattle.std.proofs.lemmas.Bool.{false≢true}
 use Rattle.std.specs.List.{list_any, flat_map}
 use Rattle.std.specs.Map.{lookup}
 use Rattle.std.specs.BTreeMap.{is_at}
-use Rattle.fb_table.proofs.Text.Tests.{by_bool, or_cases, no_both}
-use Rattle.fb_table.specs.Text.Order.{name_cmp}
-use Rattle.fb_table.proofs.Text.OrderLemmas.{has-append}
-use Rattle.fb_table.specs.Seen.{has_name, unseen, Opens}
-use Rattle.fb_table.proofs.SeenLemmas.{or_left, or_right, same_is, same_self, has-push, longer}
+use Rattle.fb_text.proofs.Tests.{by_bool, or_cases, no_both}
+use Rattle.fb_text.specs.Order.{name_cmp}
+use Rattle.fb_text.proofs.OrderLemmas.{has-append}
+use Rattle.fb_library.specs.Seen.{has_name, unseen, Opens}
+use Rattle.fb_library.proofs.SeenLemmas.{or_left, or_right, same_is, same_self, has-push, longer}
 use Rattle.fb_index.specs.Near.{Users, users_of, is_near, Reaches, near, through, ReachesSome}
 
 -- ---- some of the names

@@ -3,8 +3,8 @@ use Rattle.std.specs.Prelude.{◌≡◌, ℕ, Bool, ◌&&◌, ◌||◌, not, Lis
 use Rattle.std.specs.BTreeMap.{is_at}
 use Rattle.std.specs.BTreeSet as set
 use Rattle.std.specs.BTreeSet.{BTreeSet}
-use Rattle.fb_table.specs.Text.Order.{name_cmp}
-use Rattle.fb_table.specs.Seen.{has_name}
+use Rattle.fb_text.specs.Order.{name_cmp}
+use Rattle.fb_library.specs.Seen.{has_name}
 use Rattle.fb_index.specs.Near.{Users, users_of, is_near}
 
 -- whether a name is one of these and none of the set

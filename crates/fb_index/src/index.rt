@@ -4,13 +4,13 @@ ghost use Rattle.std.specs.List.{list_any};
 ghost use Rattle.std.specs.List.Sorted.{IsStrictlySortedBy};
 ghost use Rattle.std.specs.BTreeMap.{is_at};
 ghost use Rattle.std.specs.BTreeSet as set;
-ghost use Rattle.fb_table.specs.Text.Order.{name_cmp};
-ghost use Rattle.fb_table.specs.Seen.{has_name, Opens};
+ghost use Rattle.fb_text.specs.Order.{name_cmp};
+ghost use Rattle.fb_library.specs.Seen.{has_name, Opens};
 ghost use Rattle.fb_index.specs.Near.{users_of, is_near, IsIndexedAs, IsReplaced, ReachesSome};
 ghost use Rattle.fb_index.specs.Steps.{is_only_in, AreWithout, HasJoined, HasLeft, IsPutUnder};
 
-use fb_table::text::{Name, same_name, sorted_names};
-use fb_table::{Table, names_of, open_new};
+use fb_library::{Table, names_of, open_new};
+use fb_text::{Name, same_name, sorted_names};
 use std::alloc::{AllocError, Global};
 use std::collections::BTreeSet;
 use std::marker::Model;
@@ -26,7 +26,7 @@ pub struct Index {
 impl Model for Index {
     ghost use Rattle.std.specs.Prelude.{map};
     ghost use Rattle.std.specs.List.Sorted.{IsStrictlySortedBy};
-    ghost use Rattle.fb_table.specs.Text.Order.{name_cmp};
+    ghost use Rattle.fb_text.specs.Order.{name_cmp};
     ghost use Rattle.fb_index.specs.Near.{Users};
 
     ghost Value = { Users };

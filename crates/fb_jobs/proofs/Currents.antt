@@ -7,16 +7,16 @@ use Rattle.std.specs.Ordering.{is_gt}
 use Rattle.std.specs.declared.cmp.Ordering.TheVariants.{Less}
 use Rattle.std.proofs.lemmas.Cmp.{tied_itself}
 use Rattle.std.proofs.lemmas.List.Elements.{All-nil, All-cons}
-use Rattle.fb_values.proofs.Library.Names.{name_total}
+use Rattle.fb_deploy.proofs.Library.Names.{name_total}
 use Rattle.std.specs.Cmp.Lexicographic.{pointwise}
 use Rattle.std.specs.BTreeMap.{is_at}
 use Rattle.std.specs.Option.{option_map}
-use Rattle.fb_values.specs.Text.Order.{name_cmp}
-use Rattle.fb_values.specs.Library.Texts.{Texts, Held, held, text_in}
-use Rattle.fb_values.specs.declared.key.Key.{Key}
-use Rattle.fb_values.specs.Keys.{needs, has_key, scratch}
-use Rattle.fb_values.specs.Reads.{Seen, PlainJob, IsRight, is_among, Agree, read_names, read_texts, put_found, reads_under, reads_for, same_found, same_held, is_current, stale, IsLeastStale}
-use Rattle.fb_values.proofs.SameNeeds.{same_at, needs_local, has_key_local, scratch_local, needs_rise}
+use Rattle.fb_text.specs.Order.{name_cmp}
+use Rattle.fb_deploy.specs.Library.Texts.{Texts, Held, held, text_in}
+use Rattle.fb_jobs.specs.declared.key.Key.{Key}
+use Rattle.fb_jobs.specs.Keys.{needs, has_key, scratch}
+use Rattle.fb_jobs.specs.Reads.{Seen, PlainJob, IsRight, is_among, Agree, read_names, read_texts, put_found, reads_under, reads_for, same_found, same_held, is_current, stale, IsLeastStale}
+use Rattle.fb_jobs.proofs.SameNeeds.{same_at, needs_local, has_key_local, scratch_local, needs_rise}
 
 -- each read is what the texts have
 abbrev pub AllCurrent : Texts → List Seen → Type 0

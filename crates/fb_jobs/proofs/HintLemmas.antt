@@ -6,29 +6,29 @@ use Rattle.std.specs.Ordering.{is_eq}
 use Rattle.std.specs.BTreeMap as tree
 use Rattle.std.specs.declared.sync.Arc.{Arc}
 use Rattle.std.specs.declared.alloc.Global.{Global}
-use Rattle.fb_values.specs.Text.Order.{name_cmp}
-use Rattle.fb_values.specs.Library.Texts.{Texts, sources_of}
-use Rattle.fb_values.specs.Library.View.{Sources}
-use Rattle.fb_values.specs.Library.Rests.{Rests, itself, through}
-use Rattle.fb_values.proofs.Library.WalkLemmas.{has-Contains, Contains-has}
-use Rattle.fb_values.specs.Flatten.Far.{far_of}
-use Rattle.fb_values.specs.Flatten.Net.{PlainNet, plain_net}
-use Rattle.fb_values.specs.Flatten.Nets.{net_at}
-use Rattle.fb_values.specs.Flatten.Hints.{AreRightHints}
-use Rattle.fb_values.proofs.FarNames.{far_is_all}
-use Rattle.fb_values.specs.declared.key.Kind.{Kind}
-use Rattle.fb_values.specs.declared.key.Kind.TheVariants as kind
-use Rattle.fb_values.specs.declared.key.Key.{Key}
-use Rattle.fb_values.specs.declared.value.Value.{Value}
-use Rattle.fb_values.specs.declared.value.Value.TheVariants.{Faults, Net, Deploy}
-use Rattle.fb_values.specs.Keys.{Finding, NetFound, needs, needs_of, scratch, net_finding}
-use Rattle.fb_values.specs.Kept.{AreKept}
-use Rattle.fb_values.specs.Kinds.{needs_all}
-use Rattle.fb_values.specs.Reads.{Seen, is_among, read_names, read_texts, reads_for}
-use Rattle.fb_values.specs.Values.{finding_of, all_seen}
+use Rattle.fb_text.specs.Order.{name_cmp}
+use Rattle.fb_deploy.specs.Library.Texts.{Texts, sources_of}
+use Rattle.fb_deploy.specs.Library.View.{Sources}
+use Rattle.fb_deploy.specs.Library.Rests.{Rests, itself, through}
+use Rattle.fb_deploy.proofs.Library.WalkLemmas.{has-Contains, Contains-has}
+use Rattle.fb_deploy.specs.Flatten.Far.{far_of}
+use Rattle.fb_deploy.specs.Flatten.Net.{PlainNet, plain_net}
+use Rattle.fb_deploy.specs.Flatten.Nets.{net_at}
+use Rattle.fb_deploy.specs.Flatten.Hints.{AreRightHints}
+use Rattle.fb_deploy.proofs.Flatten.FarNames.{far_is_all}
+use Rattle.fb_jobs.specs.declared.key.Kind.{Kind}
+use Rattle.fb_jobs.specs.declared.key.Kind.TheVariants as kind
+use Rattle.fb_jobs.specs.declared.key.Key.{Key}
+use Rattle.fb_jobs.specs.declared.value.Value.{Value}
+use Rattle.fb_jobs.specs.declared.value.Value.TheVariants.{Faults, Net, Deploy}
+use Rattle.fb_jobs.specs.Keys.{Finding, NetFound, needs, needs_of, scratch, net_finding}
+use Rattle.fb_jobs.specs.Kept.{AreKept}
+use Rattle.fb_jobs.specs.Kinds.{needs_all}
+use Rattle.fb_jobs.specs.Reads.{Seen, is_among, read_names, read_texts, reads_for}
+use Rattle.fb_jobs.specs.Values.{finding_of, all_seen}
 use Rattle.fb_jobs.specs.Hints.{Nets, AreHints, AreChosen, AreOfReads, AddsHint, net_key, net_in, hint_in}
-use Rattle.fb_values.specs.declared.read.Read.{Read}
-use Rattle.fb_values.proofs.SameNeeds.{scratch_local, same_at, at_itself}
+use Rattle.fb_jobs.specs.declared.read.Read.{Read}
+use Rattle.fb_jobs.proofs.SameNeeds.{scratch_local, same_at, at_itself}
 use Rattle.fb_jobs.proofs.Currents.{agree_for, names_under}
 
 rests_on : {sources : Sources} {a b c : List ℕ} → Rests sources a b → Rests sources b c → Rests sources a c

@@ -5,17 +5,17 @@ use Rattle.std.specs.List.Sorted.{IsStrictlySortedBy, IsSearchInRange, IsBinaryS
 use Rattle.std.specs.Ordering.{is_eq}
 use Rattle.std.specs.declared.cmp.Ordering.TheVariants.{Less}
 use Rattle.std.proofs.lemmas.Map.Keys.{Less-from_sorted}
-use Rattle.fb_values.specs.Text.Order.{name_cmp}
+use Rattle.fb_text.specs.Order.{name_cmp}
 use Rattle.std.specs.Option.{option_map}
 use Rattle.std.proofs.lemmas.List.{get_or-map}
-use Rattle.fb_values.specs.Library.Texts.{Held, held, text_in, text_at}
-use Rattle.fb_values.specs.Library.Place.{IsAt, IsGapFor}
-use Rattle.fb_values.proofs.Library.Places.{greater}
-use Rattle.fb_values.proofs.Library.Searches.{Searched, searched as search_of}
-use Rattle.fb_values.specs.Reads.{Seen, read_names, read_texts, put_found}
-use Rattle.fb_values.specs.Values.{all_seen, seen_of, found_in}
-use Rattle.fb_values.specs.declared.read.Read.{Read}
-use Rattle.fb_values.proofs.SameNeeds.{at_itself}
+use Rattle.fb_deploy.specs.Library.Texts.{Held, held, text_in, text_at}
+use Rattle.fb_deploy.specs.Library.Place.{IsAt, IsGapFor}
+use Rattle.fb_deploy.proofs.Library.Places.{greater}
+use Rattle.fb_deploy.proofs.Library.Searches.{Searched, searched as search_of}
+use Rattle.fb_jobs.specs.Reads.{Seen, read_names, read_texts, put_found}
+use Rattle.fb_jobs.specs.Values.{all_seen, seen_of, found_in}
+use Rattle.fb_jobs.specs.declared.read.Read.{Read}
+use Rattle.fb_jobs.proofs.SameNeeds.{at_itself}
 
 abbrev names : List Read → List (List ℕ)
 names reads = read_names (all_seen reads)

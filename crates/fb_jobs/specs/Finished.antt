@@ -2,14 +2,14 @@
 use Rattle.std.specs.Prelude.{◌≡◌, List, All}
 use Rattle.std.specs.declared.sync.Arc.{Arc}
 use Rattle.std.specs.declared.alloc.Global.{Global}
-use Rattle.fb_values.specs.Keys.{scratch}
-use Rattle.fb_values.specs.Reads.{PlainJob, IsRight, read_texts}
-use Rattle.fb_values.specs.Values.{finding_of, all_seen, texts_seen, IsOwn}
+use Rattle.fb_jobs.specs.Keys.{scratch}
+use Rattle.fb_jobs.specs.Reads.{PlainJob, IsRight, read_texts}
+use Rattle.fb_jobs.specs.Values.{finding_of, all_seen, texts_seen, IsOwn}
 use Rattle.fb_jobs.specs.Hints.{Nets, AreHints}
-use Rattle.fb_values.specs.declared.key.Key.{Key}
-use Rattle.fb_values.specs.declared.read.Read.{Read}
-use Rattle.fb_values.specs.declared.read.TextRead.{TextRead}
-use Rattle.fb_values.specs.declared.value.Value.{Value}
+use Rattle.fb_jobs.specs.declared.key.Key.{Key}
+use Rattle.fb_jobs.specs.declared.read.Read.{Read}
+use Rattle.fb_jobs.specs.declared.read.TextRead.{TextRead}
+use Rattle.fb_jobs.specs.declared.value.Value.{Value}
 
 abbrev pub plain_job : Key → List Read → PlainJob
 plain_job key reads = record { key = key; reads = all_seen reads }

@@ -3,19 +3,19 @@ use Rattle.std.specs.Prelude.{◌≡◌, ◌⊎◌, ℕ, true, List, Option, Som
 use Rattle.std.specs.BTreeMap as tree
 use Rattle.std.specs.declared.sync.Arc.{Arc}
 use Rattle.std.specs.declared.alloc.Global.{Global}
-use Rattle.fb_values.specs.Text.Order.{name_cmp}
-use Rattle.fb_values.specs.Library.Texts.{Texts}
-use Rattle.fb_values.specs.Flatten.Net.{PlainNet, plain_net}
-use Rattle.fb_values.specs.declared.key.Kind.{Kind}
-use Rattle.fb_values.specs.declared.key.Kind.TheVariants as kind
-use Rattle.fb_values.specs.declared.key.Key.{Key}
-use Rattle.fb_values.specs.declared.value.Value.{Value}
-use Rattle.fb_values.specs.declared.value.Value.TheVariants.{Faults, Net, Deploy}
-use Rattle.fb_values.specs.Keys.{Finding, scratch}
-pub use Rattle.fb_values.specs.Kept.{AreKept}
-use Rattle.fb_values.specs.Kinds.{needs_all}
-use Rattle.fb_values.specs.Reads.{Seen, read_names, is_among}
-use Rattle.fb_values.specs.Values.{finding_of}
+use Rattle.fb_text.specs.Order.{name_cmp}
+use Rattle.fb_deploy.specs.Library.Texts.{Texts}
+use Rattle.fb_deploy.specs.Flatten.Net.{PlainNet, plain_net}
+use Rattle.fb_jobs.specs.declared.key.Kind.{Kind}
+use Rattle.fb_jobs.specs.declared.key.Kind.TheVariants as kind
+use Rattle.fb_jobs.specs.declared.key.Key.{Key}
+use Rattle.fb_jobs.specs.declared.value.Value.{Value}
+use Rattle.fb_jobs.specs.declared.value.Value.TheVariants.{Faults, Net, Deploy}
+use Rattle.fb_jobs.specs.Keys.{Finding, scratch}
+pub use Rattle.fb_jobs.specs.Kept.{AreKept}
+use Rattle.fb_jobs.specs.Kinds.{needs_all}
+use Rattle.fb_jobs.specs.Reads.{Seen, read_names, is_among}
+use Rattle.fb_jobs.specs.Values.{finding_of}
 
 -- the key of a unit's net
 abbrev pub net_key : List ℕ → Key

@@ -1,15 +1,16 @@
 //! The values that jobs compute.
 ghost use Rattle.std.specs.Prelude.{◌≡◌, true, IfOk};
 ghost use Rattle.std.specs.FinMap as map;
-ghost use Rattle.fb_values.specs.Flatten.Hints.{AreRightHints};
-ghost use Rattle.fb_values.specs.Keys.{has_kind_at, scratch_of};
-ghost use Rattle.fb_values.specs.Values.{finding_of};
+ghost use Rattle.fb_deploy.specs.Flatten.Hints.{AreRightHints};
+ghost use Rattle.fb_jobs.specs.Keys.{has_kind_at, scratch_of};
+ghost use Rattle.fb_jobs.specs.Values.{finding_of};
 
-use fb_values::deploy::plan_of_unit_with;
-use fb_values::faults::faults;
-use fb_values::flatten::{Hints, net_of_unit_with};
-use fb_values::library::View;
-use fb_values::{Key, Kind, Value};
+use crate::key::{Key, Kind};
+use crate::value::Value;
+use fb_deploy::faults::faults;
+use fb_deploy::flatten::{Hints, net_of_unit_with};
+use fb_deploy::library::View;
+use fb_deploy::plan_of_unit_with;
 use std::alloc::{AllocError, Global};
 
 /// The key's value, computed afresh, but for the nets that are given along.

@@ -3,23 +3,26 @@ ghost use Rattle.std.specs.Prelude.{◌≡◌, true, IfOk, IfErr, All};
 ghost use Rattle.std.specs.Option.{option_map};
 ghost use Rattle.std.specs.FinMap as map;
 ghost use Rattle.std.specs.List.Sorted.{IsStrictlySortedBy};
-ghost use Rattle.fb_values.specs.Text.Order.{name_cmp};
-ghost use Rattle.fb_values.specs.Library.Texts.{text_at, sources_of};
-ghost use Rattle.fb_values.specs.Library.Place.{IsAt, IsGapFor};
+ghost use Rattle.fb_text.specs.Order.{name_cmp};
+ghost use Rattle.fb_deploy.specs.Library.Texts.{text_at, sources_of};
+ghost use Rattle.fb_deploy.specs.Library.Place.{IsAt, IsGapFor};
 ghost use Rattle.fb_jobs.specs.Hints.{AreHints};
-ghost use Rattle.fb_values.specs.Kept.{AreKept};
-ghost use Rattle.fb_values.specs.Keys.{has_key};
-ghost use Rattle.fb_values.specs.Reads.{IsRight, read_names, read_texts, reads_for};
-ghost use Rattle.fb_values.specs.Values.{all_seen, texts_seen, IsOwn};
+ghost use Rattle.fb_jobs.specs.Kept.{AreKept};
+ghost use Rattle.fb_jobs.specs.Keys.{has_key};
+ghost use Rattle.fb_jobs.specs.Reads.{IsRight, read_names, read_texts, reads_for};
+ghost use Rattle.fb_jobs.specs.Values.{all_seen, texts_seen, IsOwn};
 
 use crate::computed::value_of;
-use crate::kept::{KeptNets, hints_of};
+use crate::hints::{KeptNets, hints_of};
+use crate::kept::Kept;
+use crate::key::Key;
+use crate::read::{Read, TextRead};
 use crate::reads::reads_of;
 use crate::result::Finished;
-use fb_values::library::{Library, View};
-use fb_values::parse::Source;
-use fb_values::text::Name;
-use fb_values::{Kept, Key, Read, TextRead, Value};
+use crate::value::Value;
+use fb_deploy::library::{Library, View};
+use fb_deploy::parse::Source;
+use fb_text::Name;
 use std::alloc::{AllocError, Global};
 use std::collections::BTreeMap;
 use std::marker::Model;
@@ -37,7 +40,7 @@ pub struct Job {
 }
 
 impl Model for Job {
-    ghost use Rattle.fb_values.specs.Reads.{PlainJob};
+    ghost use Rattle.fb_jobs.specs.Reads.{PlainJob};
 
     ghost Value = { PlainJob };
 
@@ -137,12 +140,12 @@ impl Job {
 }
 
 impl View for Job {
-    ghost use Rattle.fb_values.specs.Library.Texts.{sources_of};
-    ghost use Rattle.fb_values.specs.Reads.{read_texts};
+    ghost use Rattle.fb_deploy.specs.Library.Texts.{sources_of};
+    ghost use Rattle.fb_jobs.specs.Reads.{read_texts};
 
     ghost sources = { λ job. sources_of (read_texts job.reads) };
 
-    #[tactic(auto, using(fb_values::proofs::Sources::get_source))]
+    #[tactic(auto, using(crate::proofs::Sources::get_source))]
     fn get(&self, name: &Name) -> Option<&Source> {
         self.find(name)
     }

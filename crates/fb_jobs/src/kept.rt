@@ -1,88 +1,19 @@
-//! The nets among kept values that a job is given along.
-ghost use Rattle.std.specs.Prelude.{◌≡◌, option_map, option_copied, IfOk, OnOk};
-ghost use Rattle.std.specs.BTreeMap as tree;
-ghost use Rattle.fb_values.specs.Text.Order.{name_cmp};
-ghost use Rattle.fb_values.specs.Flatten.Net.{plain_net};
-ghost use Rattle.fb_jobs.specs.Hints.{AddsHint, AreChosen, AreOfReads, hint_in, net_in, net_key};
-ghost use Rattle.fb_values.specs.Values.{all_seen};
+//! Values that are kept.
+ghost use Rattle.std.specs.Prelude.{◌≡◌, Option, option_map, option_copied};
+ghost use Rattle.fb_jobs.specs.declared.key.Key.{Key};
+ghost use Rattle.fb_jobs.specs.Keys.{Finding};
+ghost use Rattle.fb_jobs.specs.Values.{finding_of};
 
-use fb_values::flatten::{Hints, Net};
-use fb_values::text::Name;
-use fb_values::{Kept, Key, Kind, Read, Value};
-use std::alloc::{AllocError, Global};
-use std::collections::BTreeMap;
+use crate::key::Key;
+use crate::value::Value;
 use std::sync::Arc;
 
-/// Nets by the names of their units.
-#[derive(Clone, Copy)]
-pub(crate) struct KeptNets<'a> {
-    pub(crate) nets: &'a BTreeMap<Name, Arc<Value>>,
-}
+/// Values that are kept from before, by their keys.
+pub trait Kept {
+    ghost kept: { Self → (Key → Option Finding) };
 
-impl Hints for KeptNets<'_> {
-    ghost hints = { λ it name. hint_in (tree.get name_cmp it.nets.now name) };
-
-    fn net_of(&self, name: &Name) -> Option<&Net> {
-        match self.nets.get(name) {
-            Some(value) => net_in(value),
-            None => None,
-        }
-    }
-}
-
-fn net_in(value: &Value) -> Option<&Net>
-    ensures { option_map plain_net (option_copied result) ≡ net_in value.now }
-{
-    match value {
-        Value::Net(net) => Some(net),
-        Value::Faults(_) | Value::Deploy(_) => None,
-    }
-}
-
-/// Adds the net that is kept of a unit, if there is one.
-fn add_hint<K: Kept>(
-    kept: &K,
-    nets: &mut BTreeMap<Name, Arc<Value>>,
-    name: &Name,
-) -> Result<(), AllocError>
-    ensures { OnOk result (AddsHint (K.kept kept.now) name.now nets.old nets.new) }
-{
-    let key = Key {
-        kind: Kind::Net,
-        unit: *name,
-    };
-    if let Some(value) = kept.value(&key) {
-        nets.insert(*name, value.clone()?)?;
-    }
-    Ok(())
-}
-
-/// The nets that are kept of the units that are read.
-fn nets_of<K: Kept>(
-    alloc: Global,
-    kept: &K,
-    reads: &[Read],
-) -> Result<BTreeMap<Name, Arc<Value>>, AllocError>
-    ensures { IfOk result (λ nets. AreOfReads (K.kept kept.now) (all_seen reads.now) nets) }
-{
-    let mut nets = BTreeMap::new(alloc);
-    for read in reads {
-        add_hint(kept, &mut nets, &read.name)?;
-    }
-    Ok(nets)
-}
-
-/// The same for a key that needs all that its unit rests on. For other keys there are none.
-pub(crate) fn hints_of<K: Kept>(
-    alloc: Global,
-    kept: &K,
-    kind: Kind,
-    reads: &[Read],
-) -> Result<BTreeMap<Name, Arc<Value>>, AllocError>
-    ensures { IfOk result (λ nets. AreChosen kind (K.kept kept.now) (all_seen reads.now) nets) }
-{
-    match kind {
-        Kind::Faults => Ok(BTreeMap::new(alloc)),
-        Kind::Net | Kind::Deploy => nets_of(alloc, kept, reads),
-    }
+    /// The value that is kept of a key.
+    fn value(&self, key: &Key) -> Option<&Arc<Value>>
+        ensures { option_map (λ it. finding_of it.value) (option_copied result)
+            ≡ kept self.now key.now };
 }

@@ -2,14 +2,14 @@
 ghost use Rattle.std.specs.Prelude.{◌≡◌, ℕ, List, None, Some};
 ghost use Rattle.std.specs.List.{Contains};
 ghost use Rattle.std.specs.List.Sorted.{IsStrictlySortedBy};
-ghost use Rattle.fb_values.specs.Text.Order.{name_cmp};
-ghost use Rattle.fb_values.specs.Library.Texts.{Texts};
-ghost use Rattle.fb_values.specs.declared.key.Key.{Key};
-ghost use Rattle.fb_values.specs.declared.key.Kind.{Kind};
-ghost use Rattle.fb_values.specs.KeyOrder.{kind_cmp};
-ghost use Rattle.fb_values.specs.Kinds.{all_kinds};
-ghost use Rattle.fb_values.specs.Keys.{has_key, needs, scratch};
-ghost use Rattle.fb_values.specs.Reads.{Agree, PlainJob, IsLeastStale, IsRight, read_names, read_texts, stale};
+ghost use Rattle.fb_text.specs.Order.{name_cmp};
+ghost use Rattle.fb_deploy.specs.Library.Texts.{Texts};
+ghost use Rattle.fb_jobs.specs.declared.key.Key.{Key};
+ghost use Rattle.fb_jobs.specs.declared.key.Kind.{Kind};
+ghost use Rattle.fb_jobs.specs.KeyOrder.{kind_cmp};
+ghost use Rattle.fb_jobs.specs.Kinds.{all_kinds};
+ghost use Rattle.fb_jobs.specs.Keys.{has_key, needs, scratch};
+ghost use Rattle.fb_jobs.specs.Reads.{Agree, PlainJob, IsLeastStale, IsRight, read_names, read_texts, stale};
 
 /// Each kind is one of all kinds, and these stand in order, each once.
 pub fn kinds_in_order()

@@ -1,73 +1,56 @@
-//! Jobs that work on shared sources, and their results.
+//! Keys and values of entries, what is read for a key, and jobs that work on shared sources, with their results.
 #![tactic(auto)]
 
 mod computed;
+mod hints;
 mod job;
 mod kept;
+mod key;
+mod kinds;
 mod laws;
+mod read;
 mod reads;
 mod result;
+mod same;
+mod value;
 
-pub use fb_values::{
-    Kept, Key, Kind, Read, TextRead, Value, all_kinds, has_key, is_same_value, keys_by_name,
-    keys_near_and_far,
-};
 pub use job::Job;
+pub use kept::Kept;
+pub use key::{Key, Kind};
+pub use kinds::{all_kinds, keys_by_name, keys_near_and_far};
 pub use laws::{current_reads, kinds_in_order, least_stale, locality, needs_in_order};
+pub use read::{Read, TextRead, has_key};
 pub use reads::needed;
 pub use result::Finished;
+pub use same::is_same_value;
+pub use value::Value;
 
-/// Of `fb_values::deploy`, for the crates above.
-pub mod deploy {
-    pub use fb_values::deploy::{Command, Deploy, ResourcePlan};
-}
-
-/// Of `fb_values::flatten`, for the crates above.
-pub mod flatten {
-    pub use fb_values::flatten::Net;
-}
-
-/// Of `fb_values::iface`, for the crates above.
-pub mod iface {
-    pub use fb_values::iface::Fault;
-}
-
-/// Of `fb_values`, for the crates above.
-pub mod key {
-    pub use fb_values::{Key, Kind};
-}
-
-/// Of `fb_values::library`, for the crates above.
-pub mod library {
-    pub use fb_values::library::{Change, Library, near};
-}
-
-/// Of `fb_values::mapping`, for the crates above.
-pub mod mapping {
-    pub use fb_values::mapping::Misplaced;
-}
-
-/// Of `fb_values::network`, for the crates above.
-pub mod network {
-    pub use fb_values::network::{Border, Flat, FlatBlock, Link};
-}
-
-/// Of `fb_values::parse`, for the crates above.
+/// Of `fb_parse`, for the crates above.
 pub mod parse {
-    pub use fb_values::parse::{ReadFault, Source};
+    pub use fb_deploy::parse::Source;
 }
 
-/// Of `fb_values::tree`, for the crates above.
-pub mod tree {
-    pub use fb_values::tree::Sort;
+/// Of `fb_library`, for the crates above.
+pub mod library {
+    pub use fb_deploy::library::Change;
 }
 
-/// Of `fb_values`, for the crates above.
-pub mod value {
-    pub use fb_values::Value;
+/// Of `fb_iface`, for the crates above.
+pub mod iface {
+    pub use fb_deploy::iface::Fault;
 }
 
-/// Of `fb_values::text`, for the crates above.
-pub mod text {
-    pub use fb_values::text::{Name, same_name};
+/// Of `fb_placing`, for the crates above.
+pub mod placing {
+    pub use fb_deploy::placing::Misplaced;
+}
+
+/// Of `fb_flatten`, for the crates above.
+pub mod flatten {
+    pub use fb_deploy::flatten::Net;
+}
+
+/// Of `fb_deploy`, for the crates above.
+pub mod deploy {
+    pub use fb_deploy::{Command, Deploy, ResourcePlan};
 }

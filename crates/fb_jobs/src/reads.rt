@@ -1,18 +1,19 @@
 //! The reads of a library for a key.
 ghost use Rattle.std.specs.Prelude.{◌≡◌, IfOk, All};
-ghost use Rattle.fb_values.specs.Library.Texts.{held};
-ghost use Rattle.fb_values.specs.Keys.{needs};
-ghost use Rattle.fb_values.specs.Reads.{reads_for};
-ghost use Rattle.fb_values.specs.Values.{all_seen, seen_of, IsOwn};
+ghost use Rattle.fb_deploy.specs.Library.Texts.{held};
+ghost use Rattle.fb_jobs.specs.Keys.{needs};
+ghost use Rattle.fb_jobs.specs.Reads.{reads_for};
+ghost use Rattle.fb_jobs.specs.Values.{all_seen, seen_of, IsOwn};
 
-use fb_values::flatten::all_far;
-use fb_values::library::{Library, near};
-use fb_values::text::Name;
-use fb_values::{Key, Kind, Read};
+use crate::key::{Key, Kind};
+use crate::read::Read;
+use fb_deploy::flatten::all_far;
+use fb_deploy::library::{Library, near};
+use fb_text::Name;
 use std::alloc::{AllocError, Global};
 
 /// The names whose texts decide the key's value, in order.
-#[tactic(auto, unfolding(fb_values::specs::Keys::needs))]
+#[tactic(auto, unfolding(crate::specs::Keys::needs))]
 pub fn needed(alloc: Global, library: &Library, key: Key) -> Result<Vec<Name>, AllocError>
     ensures { IfOk result (λ names. names.items ≡ needs library.now key) }
 {

@@ -1,11 +1,13 @@
 //! Results of jobs.
 ghost use Rattle.std.specs.Prelude.{◌≡◌, All};
 ghost use Rattle.fb_jobs.specs.Finished.{IsFinished, plain_job};
-ghost use Rattle.fb_values.specs.Keys.{scratch};
-ghost use Rattle.fb_values.specs.Reads.{IsRight, read_texts};
-ghost use Rattle.fb_values.specs.Values.{all_seen, finding_of, texts_seen, IsOwn};
+ghost use Rattle.fb_jobs.specs.Keys.{scratch};
+ghost use Rattle.fb_jobs.specs.Reads.{IsRight, read_texts};
+ghost use Rattle.fb_jobs.specs.Values.{all_seen, finding_of, texts_seen, IsOwn};
 
-use fb_values::{Key, Read, TextRead, Value};
+use crate::key::Key;
+use crate::read::{Read, TextRead};
+use crate::value::Value;
 use std::marker::Model;
 use std::sync::Arc;
 
@@ -19,7 +21,7 @@ pub struct Finished {
 }
 
 impl Model for Finished {
-    ghost use Rattle.fb_values.specs.Reads.{PlainJob};
+    ghost use Rattle.fb_jobs.specs.Reads.{PlainJob};
 
     ghost Value = { PlainJob };
 

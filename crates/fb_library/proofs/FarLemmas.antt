@@ -8,7 +8,7 @@ use Rattle.std.specs.List.{Contains}
 use Rattle.fb_parse.specs.Text.Order.{name_cmp}
 use Rattle.fb_parse.proofs.Text.OrderLemmas.{has, in_order-same}
 use Rattle.fb_library.specs.Local.{FarIsOneList}
-use Rattle.fb_table.proofs.Places.{already_in_order}
+use Rattle.fb_library.proofs.Places.{already_in_order}
 
 same_truth : (a b : Bool) → (a ≡ true → b ≡ true) → (b ≡ true → a ≡ true) → a ≡ b
 same_truth true b f g = sym (f refl)

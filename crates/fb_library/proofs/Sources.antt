@@ -5,7 +5,7 @@ use Rattle.std.specs.Ordering.{eq_by_cmp}
 use Rattle.std.specs.FinMap.{find, get, get-from_entries}
 use Rattle.fb_parse.specs.Text.Order.{name_cmp}
 use Rattle.fb_library.specs.Texts.{Texts, Held, held, text_at, sources_of, text_in}
-use Rattle.fb_table.proofs.Names.{name_total}
+use Rattle.fb_library.proofs.Names.{name_total}
 
 found_text : (b : Bool) (it : Held) (o : Option Held) → cond b (Some it.text) (option_map text_in o) ≡ option_map text_in (cond b (Some it) o)
 found_text true it o = refl

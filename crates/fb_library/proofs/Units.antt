@@ -11,7 +11,7 @@ use Rattle.fb_parse.specs.Text.Order.{name_cmp}
 use Rattle.fb_library.specs.Texts.{held, names_of}
 use Rattle.fb_library.specs.Filed.{held_of, texts_of, AreOwn}
 use Rattle.fb_library.specs.declared.library.Filed.{Filed}
-use Rattle.fb_table.proofs.Names.{exact_name}
+use Rattle.fb_library.proofs.Names.{exact_name}
 
 abbrev Units : Type 0
 Units = List (List ℕ × Filed)

@@ -8,9 +8,9 @@ use Rattle.std.specs.FinMap.{entries, get-entries, find}
 use Rattle.fb_parse.proofs.Text.Tests.{by_bool, or_cases, or_assoc, or_false, no_both}
 use Rattle.fb_library.specs.View.{Sources, tree_of, mentions_at, mentions_in}
 use Rattle.fb_library.specs.Rests.{Rests, itself, through}
-use Rattle.fb_table.specs.Seen.{has_name, unseen, Opens}
-use Rattle.fb_table.proofs.SeenLemmas.{or_left, or_right, same, same_is, same_self}
-pub use Rattle.fb_table.proofs.SeenLemmas.{Contains-has, has-Contains, has-push, last_named, Opens-none, Opens-new, Opens-old, has-updates, not_true, not_false, begun, one_pushed, no_items, longer}
+use Rattle.fb_library.specs.Seen.{has_name, unseen, Opens}
+use Rattle.fb_library.proofs.SeenLemmas.{or_left, or_right, same, same_is, same_self}
+pub use Rattle.fb_library.proofs.SeenLemmas.{Contains-has, has-Contains, has-push, last_named, Opens-none, Opens-new, Opens-old, has-updates, not_true, not_false, begun, one_pushed, no_items, longer}
 
 -- ---- the whole walk
 rests_more : {sources : Sources} {u v w : List ℕ} → Rests sources u v → Contains (mentions_at sources v) w → Rests sources u w

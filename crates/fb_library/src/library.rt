@@ -11,9 +11,9 @@ ghost use Rattle.fb_library.specs.Filed.{held_of};
 
 use crate::change::Change;
 use crate::look_up::View;
+use crate::table::Table;
 use fb_parse::Source;
 use fb_parse::text::Name;
-use fb_table::Table;
 use std::alloc::{AllocError, Global};
 use std::marker::Model;
 use std::sync::Arc;

@@ -6,8 +6,8 @@ ghost use Rattle.fb_library.specs.Rests.{Rests};
 
 use crate::look_up::View;
 use crate::mentions::mentions_by_name;
+use crate::seen::{names_of, open_new};
 use fb_parse::text::Name;
-use fb_table::{names_of, open_new};
 use std::alloc::{AllocError, Global};
 use std::collections::BTreeSet;
 

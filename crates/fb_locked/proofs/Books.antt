@@ -4,7 +4,7 @@ use borrow.Author.Tests.{eqb-true}
 use Rattle.std.proofs.lemmas.Bool.Decides.{nat_tests}
 use Rattle.std.proofs.lemmas.List.Sums.{sum_by_push}
 use Rattle.std.specs.Bool.{OnTrue}
-use Rattle.fb_bench.specs.Story.{Record, turns_of}
+use Rattle.fb_bench.specs.History.Story.{Record, turns_of}
 use Rattle.fb_locked.specs.Book.{page_of}
 
 pub turns_of-push : (q : ℕ) (es : List Record) (e : Record) → turns_of q (es ++ e ∷ []) ≡ turns_of q es + cond (e.caller == q) 1 0

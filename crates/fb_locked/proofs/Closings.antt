@@ -15,8 +15,8 @@ use Rattle.std.proofs.lemmas.Map.Lookups.{exact_unsigned}
 use Rattle.std.proofs.lemmas.Map.Views.{btree_map_contains_key_iff}
 use Rattle.std.specs.Cmp.{nat_cmp_total}
 use Rattle.std.specs.BTreeMap.{BTreeMap, get, keys, IsOrdered}
-use Rattle.fb_bench.proofs.Text.Tests.{not_false, not_true}
-use Rattle.fb_bench.specs.Story.{Record, turns_of, record_at}
+use Rattle.fb_text.proofs.Tests.{not_false, not_true}
+use Rattle.fb_bench.specs.History.Story.{Record, turns_of, record_at}
 use Rattle.fb_locked.specs.Book.{IsBookOf, is_caller}
 use Rattle.fb_locked.specs.Seats.{Hall, SeatState, Claim}
 use Rattle.fb_locked.specs.declared.close.CloseFault.{CloseFault}

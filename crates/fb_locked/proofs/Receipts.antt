@@ -1,7 +1,7 @@
 -- The receipt of the next record is one of the seat that fits.
 use Rattle.std.proofs.Common.{◌≡◌, ◌+◌, ◌≤◌, length, refl, ap, sym, subst, arith}
-use Rattle.fb_bench.specs.Machine.{State, Call, ToCommit, ToTake, ToDeliver, ToGiveBack, ToAsk, reply}
-use Rattle.fb_bench.specs.Story.{turns_of, state_of}
+use Rattle.fb_bench.specs.History.Machine.{State, Call, ToCommit, ToTake, ToDeliver, ToGiveBack, ToAsk, reply}
+use Rattle.fb_bench.specs.History.Story.{turns_of, state_of}
 use Rattle.fb_locked.specs.Seats.{Hall, SeatState, Claim, Fits, next_claim, IsReceiptOf}
 
 -- the machine's reply is of the call's kind

@@ -2,7 +2,7 @@
 use Rattle.std.specs.Prelude.{◌≡◌, ℕ, ◌≤◌, ◌&&◌, ◌||◌, ◌==◌, List, Bool, Option, Some, None, length, nat_lt, nat_le, if◌then◌else◌}
 use Rattle.std.specs.Ordering.{nat_cmp}
 use Rattle.std.specs.BTreeMap.{BTreeMap, get}
-use Rattle.fb_bench.specs.Story.{Record, turns_of}
+use Rattle.fb_bench.specs.History.Story.{Record, turns_of}
 use Rattle.fb_locked.specs.Seats.{Hall, SeatState}
 
 -- the callers: the first ones, for whom seats were made, and each other one that has a record

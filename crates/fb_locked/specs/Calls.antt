@@ -1,6 +1,6 @@
 -- What a call with a seat says: of what lies under the lock, and of its seat and its receipt alone.
 use Rattle.std.specs.Prelude.{◌≡◌, Result, Ok, Err, None}
-use Rattle.fb_bench.specs.Machine.{Call}
+use Rattle.fb_bench.specs.History.Machine.{Call}
 use Rattle.fb_locked.specs.declared.locked.SharedRefused.{SharedRefused}
 use Rattle.fb_locked.specs.Seats.{Hall, SeatState, Claim, hall_after, next_claim, seat_after, IsReceiptOf}
 use Rattle.fb_locked.specs.Refusals.{refusal_of, RefusedAs, IsRefusalOf}

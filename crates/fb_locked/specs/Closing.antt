@@ -2,7 +2,7 @@
 use Rattle.std.specs.Prelude.{◌≡◌, ◌==◌, ◌&&◌, ℕ, ◌<◌, ◌≤◌, List, Bool, true, false, not, take, min, Option, None, Some, Result, Ok, Err, slice_get, count_by, All}
 use Rattle.std.specs.List.{list_any, Contains}
 use Rattle.std.specs.BTreeMap.{BTreeMap}
-use Rattle.fb_bench.specs.Story.{Record, Story, turns_of, record_at}
+use Rattle.fb_bench.specs.History.Story.{Record, Story, turns_of, record_at}
 use Rattle.fb_locked.specs.Seats.{Hall, SeatState, Claim}
 use Rattle.fb_locked.specs.Book.{is_caller, IsBookOf}
 use Rattle.fb_locked.specs.declared.close.CloseFault.{CloseFault}

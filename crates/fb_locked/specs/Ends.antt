@@ -1,9 +1,9 @@
 -- How a worker ends.
 use Rattle.std.specs.Prelude.{◌≡◌, ◌≢◌, ◌<◌, Option, Some, None, if◌then◌else◌}
 use Rattle.std.specs.Option.{option_map}
-use Rattle.fb_bench.specs.Machine.{ToTake, next, reply}
+use Rattle.fb_bench.specs.History.Machine.{ToTake, next, reply}
 use Rattle.fb_bench.specs.Requests.{job_of}
-use Rattle.fb_bench.specs.Story.{state_of}
+use Rattle.fb_bench.specs.History.Story.{state_of}
 use Rattle.fb_locked.specs.declared.locked.SharedRefused.{SharedRefused}
 use Rattle.fb_locked.specs.declared.locked.SharedRefused.TheVariants as refused
 use Rattle.fb_locked.specs.declared.look.WorkEnd.{WorkEnd}

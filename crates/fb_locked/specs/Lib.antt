@@ -6,6 +6,12 @@ pub mod Ends
 pub mod Runs
 pub mod Looks
 pub mod Closing
--- Passed on to the crates above, which do not list this library.
-pub use Rattle.fb_bench.specs as Bench
+-- Of the crates below, for the crates above.
+pub use Rattle.fb_bench.specs.Parse as Parse
+pub use Rattle.fb_bench.specs.Library as Library
 pub use Rattle.fb_bench.specs.Index as Index
+pub use Rattle.fb_bench.specs.Placing as Placing
+pub use Rattle.fb_bench.specs.Deploy as Deploy
+pub use Rattle.fb_bench.specs.Jobs as Jobs
+pub use Rattle.fb_bench.specs.History as History
+pub use Rattle.fb_bench.specs as Bench

@@ -2,7 +2,7 @@
 use Rattle.std.specs.Prelude.{◌≡◌, ◌≢◌, ◌==◌, ◌<◌, Option, Some, None, length, nat_lt, nat_le, if◌then◌else◌}
 use Rattle.fb_locked.specs.declared.locked.SharedRefused.{SharedRefused}
 use Rattle.fb_locked.specs.declared.locked.SharedRefused.TheVariants.{SeatDiffers, Behind, HistoryFull, Memory}
-use Rattle.fb_bench.specs.Story.{turns_of}
+use Rattle.fb_bench.specs.History.Story.{turns_of}
 use Rattle.fb_locked.specs.Seats.{Hall, SeatState}
 
 -- the first cause, want of memory apart

@@ -1,7 +1,7 @@
 -- Calls with one seat, one after another, and those that a worker makes.
 use Rattle.std.specs.Prelude.{◌≡◌, ℕ, ◌≤◌, ◌<◌, ◌++◌, [], ◌∷◌, List, Option, Some, None, length}
 use Rattle.fb_bench.specs.Jobs.Reads.{PlainJob}
-use Rattle.fb_bench.specs.Machine.{Call, ToCommit, ToTake, ToDeliver, ToGiveBack, ToAsk, Reply}
+use Rattle.fb_bench.specs.History.Machine.{Call, ToCommit, ToTake, ToDeliver, ToGiveBack, ToAsk, Reply}
 use Rattle.fb_bench.specs.Requests.{job_of}
 use Rattle.fb_locked.specs.declared.look.Look.{Look}
 use Rattle.fb_locked.specs.declared.look.Look.TheVariants.{Ended, Nothing, Taken}

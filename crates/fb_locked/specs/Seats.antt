@@ -1,7 +1,7 @@
 -- What contracts see of a seat, of a receipt and of what lies under the lock.
 use Rattle.std.specs.Prelude.{◌≡◌, ℕ, ◌+◌, ◌<◌, List, Bool, Some, length, slice_get}
-use Rattle.fb_bench.specs.Machine.{Call, ToCommit, ToTake, ToDeliver, ToGiveBack, ToAsk, Reply, OfCommit, OfTake, OfDeliver, OfGiveBack, OfAsk}
-use Rattle.fb_bench.specs.Story.{Record, Story, recorded, record_of}
+use Rattle.fb_bench.specs.History.Machine.{Call, ToCommit, ToTake, ToDeliver, ToGiveBack, ToAsk, Reply, OfCommit, OfTake, OfDeliver, OfGiveBack, OfAsk}
+use Rattle.fb_bench.specs.History.Story.{Record, Story, recorded, record_of}
 
 -- a seat: whose it is, how many calls were recorded with it, and the greatest number of a record that it has seen
 pub record SeatState : Type 0 where

@@ -12,15 +12,24 @@ pub use locked::{Locked, SharedRefused};
 pub use look::{Look, WorkEnd};
 pub use seat::{Receipt, Seat};
 
+/// Of `fb_parse`, for the crates above.
+pub mod parse {
+    pub use fb_bench::parse::Source;
+}
+
+/// Of `fb_library`, for the crates above.
+pub mod library {
+    pub use fb_bench::library::Change;
+}
+
+/// Of `fb_jobs`, for the crates above.
+pub mod jobs {
+    pub use fb_bench::jobs::{Finished, Job, Key};
+}
+
 /// Of `fb_bench`, for the crates above.
 pub mod bench {
     pub use fb_bench::{
-        Asked, Committed, Delivered, Desk, DeskRefused, GivenBack, Limits, Reply, Taken, jobs,
-        library, parse,
+        Asked, Committed, Delivered, Desk, DeskRefused, GivenBack, Limits, Reply, Taken,
     };
-}
-
-/// Of `fb_bench::text`, for the crates above.
-pub mod text {
-    pub use fb_bench::text::Name;
 }

@@ -1,9 +1,9 @@
 //! What lies under the lock, and the calls on it.
 ghost use Rattle.std.specs.Prelude.{◌≡◌, [], true, false, IfOk, IfErr, IfSome, OnOk, OnErr, None, Some};
-ghost use Rattle.fb_bench.specs.Machine.{ToCommit, ToTake, ToDeliver, ToGiveBack, ToAsk, OfAsk};
+ghost use Rattle.fb_bench.specs.History.Machine.{ToCommit, ToTake, ToDeliver, ToGiveBack, ToAsk, OfAsk};
 ghost use Rattle.fb_bench.specs.Records.{listed, shown_in};
 ghost use Rattle.fb_bench.specs.Requests.{call_for, reply_in, job_of};
-ghost use Rattle.fb_bench.specs.Story.{new_story, turns_of};
+ghost use Rattle.fb_bench.specs.History.Story.{new_story, turns_of};
 ghost use Rattle.fb_locked.specs.Book.{IsBookOf, SeatFits};
 ghost use Rattle.fb_locked.specs.Calls.{Answers, Performs};
 ghost use Rattle.fb_locked.specs.Ends.{end_before_take, LookNames, Looks, NamesSeat};

@@ -1,17 +1,11 @@
 -- Lemmas of the proofs.
-pub mod TableLemmas
-pub mod FirstLemmas
-pub mod FrontLemmas
-pub mod NearestLemmas
-pub mod NameLemmas
-pub mod ListLemmas
-pub mod PathNameLemmas
-pub mod StandingLemmas
-pub mod StandingLocal
-pub mod HomesLocal
--- Passed on to the crates above, which do not list these libraries.
-pub use Rattle.fb_net_parts.proofs.Compose as Compose
-pub use Rattle.fb_net_parts.proofs.Wiring as Wiring
-pub use Rattle.fb_net_parts.proofs.Text as Text
-pub use Rattle.fb_net_parts.proofs as NetParts
-pub use Rattle.fb_net_parts.proofs.Order as Order
+pub mod KindLemmas
+pub mod OnePlacement
+pub mod PlaceLocal
+-- Of the crates below, for the crates above.
+pub use Rattle.fb_flatten.proofs.Parse as Parse
+pub use Rattle.fb_flatten.proofs.Library as Library
+pub use Rattle.fb_flatten.proofs.Iface as Iface
+pub use Rattle.fb_flatten.proofs.Faults as Faults
+pub use Rattle.fb_placing.proofs as Placing
+pub use Rattle.fb_flatten.proofs as Flatten

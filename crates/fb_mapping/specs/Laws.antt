@@ -1,10 +1,15 @@
--- Laws of homes.
-use Rattle.std.specs.Prelude.{ℕ, List}
-use Rattle.fb_net_parts.specs.Tree.Tree.{MappingTree}
-use Rattle.fb_mapping.specs.Fronts.{IsNearest}
-use Rattle.fb_mapping.specs.Mappings.{home_of, resource_at}
+-- Laws of placements.
+use Rattle.std.specs.Prelude.{ℕ, ◌≡◌, List}
+use Rattle.fb_flatten.specs.Library.View.{Sources}
+use Rattle.fb_flatten.specs.Library.Local.{AgreeFar}
+use Rattle.fb_mapping.specs.Placed.{PlainPlaced, IsPlaced}
 
--- the home of a path is the resource of the mapping with the longest path that is this path or stands in front of it
-abbrev pub HomesAreNearest : Type 0
-HomesAreNearest =
-    (mappings : List MappingTree) (path : List ℕ) → IsNearest (resource_at mappings) path (home_of mappings path)
+-- a system has one placement only
+abbrev pub OnePlace : Type 0
+OnePlace = (sources : Sources) (system : List ℕ) (a b : PlainPlaced) → IsPlaced sources system a → IsPlaced sources system b → a ≡ b
+
+-- the placement of a system depends on the texts alone that the system rests on
+abbrev pub PlaceIsLocal : Type 0
+PlaceIsLocal =
+    (a b : Sources) (system : List ℕ) → AgreeFar system a b
+    → (placed : PlainPlaced) → IsPlaced a system placed → IsPlaced b system placed

@@ -2,13 +2,13 @@
 use Rattle.std.specs.Prelude.{ℕ, List, map, codes}
 use Rattle.serde_json.specs.Data.{Data, string, array, object, Items, no_items, item, no_members, member}
 use Rattle.serde_json.specs.View.{items_of}
-use Rattle.fb_bench.specs.Tree.declared.network.Sort.{Sort}
-use Rattle.fb_bench.specs.Tree.declared.network.Sort.TheVariants.{Event, Data as DataSort, Adapter}
-use Rattle.fb_bench.specs.Network.declared.flat.FlatBlock.{FlatBlock}
-use Rattle.fb_bench.specs.Network.declared.flat.Link.{Link}
-use Rattle.fb_bench.specs.Network.declared.flat.Border.{Border}
-use Rattle.fb_bench.specs.Network.PlainFlat.{PlainFlat}
-use Rattle.fb_bench.specs.Flatten.Net.{PlainNet, blocked, recursive, too_large, flat_net}
+use Rattle.fb_tree.specs.declared.network.Sort.{Sort}
+use Rattle.fb_tree.specs.declared.network.Sort.TheVariants.{Event, Data as DataSort, Adapter}
+use Rattle.fb_network.specs.declared.flat.FlatBlock.{FlatBlock}
+use Rattle.fb_network.specs.declared.flat.Link.{Link}
+use Rattle.fb_network.specs.declared.flat.Border.{Border}
+use Rattle.fb_network.specs.PlainFlat.{PlainFlat}
+use Rattle.fb_jobs.specs.Flatten.Net.{PlainNet, blocked, recursive, too_large, flat_net}
 
 abbrev pub sort_text : Sort → List ℕ
 sort_text Event = codes "event"

@@ -1,7 +1,7 @@
 -- A reply of the code, as JSON.
 use Rattle.std.specs.Prelude.{ℕ, List, codes}
 use Rattle.serde_json.specs.Data.{Data}
-use Rattle.fb_bench.specs.KeysAndValues.Values.{finding_of}
+use Rattle.fb_jobs.specs.Values.{finding_of}
 use Rattle.fb_messages.specs.Replies.{refused, refused_unit, refused_base, committed, value_said, work_done, work_refused, job_given, no_job, pending_said, delivered, returned}
 use Rattle.fb_messages.specs.declared.reply.Reply.{Reply}
 use Rattle.fb_messages.specs.declared.reply.Reply.TheVariants.{Committed, StaleBase, Pending, Found, Worked, WorkRefused, Job, NoJob, Delivered, GivenBack, Refused, RefusedUnit}

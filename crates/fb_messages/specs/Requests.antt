@@ -1,8 +1,8 @@
 -- The request that a line is.
 use Rattle.std.specs.Prelude.{ℕ, List, [], ◌∷◌, codes, ◌&&◌, bytes_eq, nat_le, Option, Some, None, option_map, option_and_then, if◌then◌else◌}
 use Rattle.std.specs.Str.{is_utf8}
-use Rattle.fb_bench.specs.KeysAndValues.declared.key.Kind.{Kind}
-use Rattle.fb_bench.specs.KeysAndValues.declared.key.Kind.TheVariants.{Faults, Net, Deploy}
+use Rattle.fb_jobs.specs.declared.key.Kind.{Kind}
+use Rattle.fb_jobs.specs.declared.key.Kind.TheVariants.{Faults, Net, Deploy}
 use Rattle.serde_json.specs.Data.{Data, Items, no_items, item}
 use Rattle.serde_json.specs.Read.{read}
 use Rattle.serde_json.specs.Find.{get, as_array, as_str, as_number, as_u64}

@@ -1,13 +1,13 @@
 //! The replies that show plans.
 ghost use Rattle.serde_json.specs.Data.{string};
-ghost use Rattle.fb_bench.specs.Deploy.Deploy.{plain_deploy};
+ghost use Rattle.fb_jobs.specs.Deploy.Deploy.{plain_deploy};
 ghost use Rattle.fb_messages.specs.DeployReplies.{deploy_said, misplaced_item, plan_said, resource_item};
 ghost use Rattle.fb_messages.specs.Tokens.{IsSaid};
 
 use crate::to_json::{ToJson, write_list, write_list_member, write_one, write_one_list, write_two};
-use fb_bench::deploy::{Command, Deploy, ResourcePlan};
-use fb_bench::mapping::Misplaced;
-use fb_bench::network::Link;
+use fb_jobs::deploy::{Command, Deploy, ResourcePlan};
+use fb_jobs::placing::Misplaced;
+use fb_network::Link;
 use json::Writer;
 use std::alloc::AllocError;
 

@@ -1,13 +1,13 @@
 //! The replies that show nets.
 ghost use Rattle.std.specs.Prelude.{◌≡◌};
-ghost use Rattle.fb_bench.specs.Flatten.Net.{plain_net};
+ghost use Rattle.fb_jobs.specs.Flatten.Net.{plain_net};
 ghost use Rattle.fb_messages.specs.NetReplies.{block_item, border_item, flat_said, link_item, net_said, sort_text};
 ghost use Rattle.fb_messages.specs.Tokens.{IsSaid};
 
 use crate::to_json::{ToJson, write_list_member, write_one_list, write_three, write_two};
-use fb_bench::flatten::Net;
-use fb_bench::network::{Border, Flat, FlatBlock, Link};
-use fb_bench::tree::Sort;
+use fb_jobs::flatten::Net;
+use fb_network::{Border, Flat, FlatBlock, Link};
+use fb_tree::Sort;
 use json::Writer;
 use std::alloc::AllocError;
 

@@ -1,6 +1,6 @@
 //! The replies, and their lines.
 ghost use Rattle.std.specs.Prelude.{◌≡◌, IfOk};
-ghost use Rattle.fb_bench.specs.KeysAndValues.Values.{finding_of};
+ghost use Rattle.fb_jobs.specs.Values.{finding_of};
 ghost use Rattle.fb_messages.specs.Replies.{fault_item, job_given, kind_text, refused_base, refused_unit, reply_line, value_said, work_refused};
 ghost use Rattle.fb_messages.specs.ReplyView.{refusal_text, data_of};
 ghost use Rattle.fb_messages.specs.Tokens.{IsSaid};
@@ -8,9 +8,9 @@ ghost use Rattle.fb_messages.specs.Tokens.{IsSaid};
 use crate::to_json::{
     ToJson, write_member, write_one, write_one_list, write_one_text, write_text_member,
 };
-use fb_bench::iface::Fault;
-use fb_bench::jobs::{Key, Kind, Value};
-use fb_bench::text::Name;
+use fb_jobs::iface::Fault;
+use fb_jobs::{Key, Kind, Value};
+use fb_text::Name;
 use json::Writer;
 use std::alloc::AllocError;
 use std::sync::Arc;

@@ -4,7 +4,7 @@ ghost use Rattle.serde_json.specs.View.{view, items_view};
 ghost use Rattle.fb_messages.specs.Requests.{member_text, number_at, kind_called, kind_at, put_in, remove_in, change_in, changes_of, request_in, request_by, commit_in, ask_in, give_back_in, work_of, deliver};
 ghost use Rattle.fb_messages.specs.RequestView.{change_view, request_view};
 
-use fb_bench::jobs::Kind;
+use fb_jobs::Kind;
 use serde_json::Value;
 use std::alloc::{AllocError, Global};
 

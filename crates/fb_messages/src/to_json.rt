@@ -7,7 +7,7 @@ ghost use Rattle.fb_messages.specs.NetReplies.{three};
 ghost use Rattle.fb_messages.specs.Replies.{count, one_member};
 ghost use Rattle.fb_messages.specs.Tokens.{IsMember, IsSaid};
 
-use fb_bench::text::Name;
+use fb_text::Name;
 use json::Writer;
 use std::alloc::AllocError;
 

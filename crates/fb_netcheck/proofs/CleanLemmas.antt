@@ -2,11 +2,11 @@
 use Rattle.std.proofs.Common.{◌≡◌, ℕ, Bool, true, false, cond, ◌&&◌, not, List, [], ◌∷◌, ◌++◌, Option, Some, None, map, refl}
 use Rattle.std.specs.List.{All, flat_map}
 use Rattle.std.proofs.lemmas.List.Elements.{All-cons, All-map, All-nil}
-use Rattle.fb_iface.specs.Tree.Tree.{DeclTree, NetworkTree, block_type, adapter_type, subapplication_type, system_configuration}
-use Rattle.fb_iface.specs.Tree.declared.kinds.UnitKind.{UnitKind}
-use Rattle.fb_iface.specs.Tree.declared.kinds.UnitKind.TheVariants.{Block, Adapter, Subapplication, System}
-use Rattle.fb_iface.specs.Tree.declared.network.Connection.{Connection}
-use Rattle.fb_iface.specs.Tree.declared.network.End.{End}
+use Rattle.fb_tree.specs.Tree.{DeclTree, NetworkTree, block_type, adapter_type, subapplication_type, system_configuration}
+use Rattle.fb_tree.specs.declared.kinds.UnitKind.{UnitKind}
+use Rattle.fb_tree.specs.declared.kinds.UnitKind.TheVariants.{Block, Adapter, Subapplication, System}
+use Rattle.fb_tree.specs.declared.network.Connection.{Connection}
+use Rattle.fb_tree.specs.declared.network.End.{End}
 use Rattle.fb_iface.specs.Library.View.{Sources, tree_at}
 use Rattle.fb_iface.specs.Ports.{same_side}
 use Rattle.fb_iface.specs.declared.fault.Fault.{Fault}

@@ -4,8 +4,8 @@ use Rattle.std.specs.BTreeMap.{is_at}
 use Rattle.std.specs.FinMap.{nat_cmp-IsAntisymmetric, slice_cmp-IsAntisymmetric}
 use Rattle.std.specs.Ordering.{nat_cmp, ordering_then}
 use Rattle.std.specs.declared.alloc.Global.{Global}
-use Rattle.fb_iface.proofs.Text.OrderLemmas.{is_equal, both_equal}
-use Rattle.fb_iface.specs.Text.Order.{name_cmp}
+use Rattle.fb_tree.proofs.Text.OrderLemmas.{is_equal, both_equal}
+use Rattle.fb_tree.specs.Text.Order.{name_cmp}
 use Rattle.fb_iface.specs.Library.View.{Sources}
 use Rattle.fb_netcheck.specs.Known.{AreSpellings, PartKey, part_cmp}
 use Rattle.fb_netcheck.specs.Spellings.{words_at}

@@ -5,13 +5,13 @@ use Rattle.std.specs.FinMap.{get}
 use Rattle.std.specs.List.{Contains, enumerate_from, flat_map}
 use Rattle.std.specs.Option.{option_and_then, option_map_or}
 use Rattle.std.proofs.lemmas.List.Elements.{Contains-append_left, Contains-append_right}
-use Rattle.fb_iface.specs.Text.declared.name.NameUse.{NameUse}
-use Rattle.fb_iface.specs.Tree.Mentions.{mentioned_in, types_in}
-use Rattle.fb_iface.specs.Tree.Tree.{ApplicationTree, DeclTree, InstanceTree, NetworkTree, TypeTree, block_type, adapter_type, subapplication_type, system_configuration}
-use Rattle.fb_iface.specs.Tree.declared.kinds.UnitKind.{UnitKind}
-use Rattle.fb_iface.specs.Tree.declared.kinds.UnitKind.TheVariants.{Block, Subapplication, System}
-use Rattle.fb_iface.specs.Tree.declared.network.Connection.{Connection}
-use Rattle.fb_iface.specs.Tree.declared.network.End.{End}
+use Rattle.fb_tree.specs.Text.declared.name.NameUse.{NameUse}
+use Rattle.fb_tree.specs.Mentions.{mentioned_in, types_in}
+use Rattle.fb_tree.specs.Tree.{ApplicationTree, DeclTree, InstanceTree, NetworkTree, TypeTree, block_type, adapter_type, subapplication_type, system_configuration}
+use Rattle.fb_tree.specs.declared.kinds.UnitKind.{UnitKind}
+use Rattle.fb_tree.specs.declared.kinds.UnitKind.TheVariants.{Block, Subapplication, System}
+use Rattle.fb_tree.specs.declared.network.Connection.{Connection}
+use Rattle.fb_tree.specs.declared.network.End.{End}
 use Rattle.fb_iface.specs.Library.View.{Sources, mentions_in, tree_at, tree_of}
 use Rattle.fb_iface.proofs.Library.Locality.{near_unit}
 use Rattle.fb_iface.proofs.ScopeLocal.{in_order_has, near_mention, network_scope_local, scope_local}

@@ -7,7 +7,7 @@ use Rattle.std.specs.declared.alloc.Global.{Global}
 use Rattle.std.specs.declared.cmp.Ordering.{Ordering}
 use Rattle.std.proofs.Math.Bool.{or-false, or_assoc}
 use Rattle.std.proofs.lemmas.List.{map-append}
-use Rattle.fb_iface.specs.Text.Order.{name_cmp}
+use Rattle.fb_tree.specs.Text.Order.{name_cmp}
 use Rattle.fb_iface.specs.declared.code.Code.{Code}
 use Rattle.fb_iface.proofs.RepeatLemmas.{true_or}
 use Rattle.fb_iface.proofs.PlaceLemmas.{passing, passing-all, passing-more}

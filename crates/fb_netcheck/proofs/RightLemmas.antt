@@ -6,14 +6,14 @@ use Rattle.std.specs.Option.{option_and_then}
 use Rattle.std.proofs.lemmas.Bool.{or_right}
 use Rattle.std.proofs.lemmas.Grind.{flat_map-append}
 use Rattle.std.proofs.lemmas.List.Elements.{All-cons, All-map, All-nil}
-use Rattle.fb_iface.proofs.Text.OrderLemmas.{same_name}
-use Rattle.fb_iface.specs.Text.declared.name.NameUse.{NameUse}
-use Rattle.fb_iface.specs.Tree.Mentions.{unit_kind_of}
-use Rattle.fb_iface.specs.Tree.Tree.{ApplicationTree, DeclTree, InstanceTree, NetworkTree, block_type, adapter_type, subapplication_type, system_configuration}
-use Rattle.fb_iface.specs.Tree.declared.kinds.UnitKind.{UnitKind}
-use Rattle.fb_iface.specs.Tree.declared.kinds.UnitKind.TheVariants.{Block, Subapplication}
-use Rattle.fb_iface.specs.Tree.declared.network.Role.{Role}
-use Rattle.fb_iface.specs.Tree.declared.network.Sort.{Sort}
+use Rattle.fb_tree.proofs.Text.OrderLemmas.{same_name}
+use Rattle.fb_tree.specs.Text.declared.name.NameUse.{NameUse}
+use Rattle.fb_tree.specs.Mentions.{unit_kind_of}
+use Rattle.fb_tree.specs.Tree.{ApplicationTree, DeclTree, InstanceTree, NetworkTree, block_type, adapter_type, subapplication_type, system_configuration}
+use Rattle.fb_tree.specs.declared.kinds.UnitKind.{UnitKind}
+use Rattle.fb_tree.specs.declared.kinds.UnitKind.TheVariants.{Block, Subapplication}
+use Rattle.fb_tree.specs.declared.network.Role.{Role}
+use Rattle.fb_tree.specs.declared.network.Sort.{Sort}
 use Rattle.fb_iface.specs.Library.View.{Sources, tree_at}
 use Rattle.fb_iface.specs.Declarations.{declaration_faults, duplicate_faults, literal_faults_of, mixed_faults, name_faults, with_faults_of}
 use Rattle.fb_iface.specs.Names.{first_ones, has_name, is_same, stands_for}

@@ -1,11 +1,11 @@
 -- What networks without faults are like.
 use Rattle.std.specs.Prelude.{◌≡◌, ℕ, Bool, true, false, ◌&&◌, List, [], map}
 use Rattle.std.specs.List.{All}
-use Rattle.fb_iface.specs.Tree.Tree.{NetworkTree}
-use Rattle.fb_iface.specs.Tree.declared.interface.TypeUse.{TypeUse}
-use Rattle.fb_iface.specs.Tree.declared.kinds.UnitKind.{UnitKind}
-use Rattle.fb_iface.specs.Tree.declared.kinds.UnitKind.TheVariants.{Subapplication}
-use Rattle.fb_iface.specs.Tree.declared.network.Connection.{Connection}
+use Rattle.fb_tree.specs.Tree.{NetworkTree}
+use Rattle.fb_tree.specs.declared.interface.TypeUse.{TypeUse}
+use Rattle.fb_tree.specs.declared.kinds.UnitKind.{UnitKind}
+use Rattle.fb_tree.specs.declared.kinds.UnitKind.TheVariants.{Subapplication}
+use Rattle.fb_tree.specs.declared.network.Connection.{Connection}
 use Rattle.fb_iface.specs.Library.View.{Sources, tree_at}
 use Rattle.fb_iface.specs.Declarations.{iface_faults_of}
 use Rattle.fb_iface.specs.Ports.{same_side}

@@ -1,7 +1,7 @@
 -- The faults of connections.
 use Rattle.std.specs.Prelude.{List, ◌++◌}
-use Rattle.fb_iface.specs.Tree.declared.kinds.UnitKind.{UnitKind}
-use Rattle.fb_iface.specs.Tree.declared.network.Connection.{Connection}
+use Rattle.fb_tree.specs.declared.kinds.UnitKind.{UnitKind}
+use Rattle.fb_tree.specs.declared.network.Connection.{Connection}
 use Rattle.fb_iface.specs.declared.fault.Fault.{Fault}
 use Rattle.fb_netcheck.specs.declared.ends.Position.TheVariants.{Source, Destination}
 use Rattle.fb_netcheck.specs.declared.ends.Target.{Target}

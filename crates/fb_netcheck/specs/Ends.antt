@@ -1,20 +1,20 @@
 -- What the ends of connections name (IEC 61499-1, 5.3: composite types; 5.4: subapplication types; 5.5: adapters).
 use Rattle.std.specs.Prelude.{ℕ, Bool, false, List, Option, Some, None, option_map}
 use Rattle.std.specs.Option.{option_and_then}
-use Rattle.fb_iface.specs.Text.declared.token.Span.{Span}
-use Rattle.fb_iface.specs.Text.declared.name.NameUse.{NameUse}
-use Rattle.fb_iface.specs.Tree.declared.interface.Section.{Section}
-use Rattle.fb_iface.specs.Tree.declared.interface.Section.TheVariants as sections
-use Rattle.fb_iface.specs.Tree.declared.interface.Side.{Side}
-use Rattle.fb_iface.specs.Tree.declared.interface.Side.TheVariants.{Input, Output}
-use Rattle.fb_iface.specs.Tree.declared.interface.TypeUse.{TypeUse}
-use Rattle.fb_iface.specs.Tree.declared.kinds.UnitKind.{UnitKind}
-use Rattle.fb_iface.specs.Tree.declared.kinds.UnitKind.TheVariants as kinds
-use Rattle.fb_iface.specs.Tree.declared.network.End.{End}
-use Rattle.fb_iface.specs.Tree.declared.network.Role.{Role}
-use Rattle.fb_iface.specs.Tree.declared.network.Role.TheVariants as roles
-use Rattle.fb_iface.specs.Tree.declared.network.Sort.{Sort}
-use Rattle.fb_iface.specs.Tree.declared.network.Sort.TheVariants as sorts
+use Rattle.fb_tree.specs.Text.declared.token.Span.{Span}
+use Rattle.fb_tree.specs.Text.declared.name.NameUse.{NameUse}
+use Rattle.fb_tree.specs.declared.interface.Section.{Section}
+use Rattle.fb_tree.specs.declared.interface.Section.TheVariants as sections
+use Rattle.fb_tree.specs.declared.interface.Side.{Side}
+use Rattle.fb_tree.specs.declared.interface.Side.TheVariants.{Input, Output}
+use Rattle.fb_tree.specs.declared.interface.TypeUse.{TypeUse}
+use Rattle.fb_tree.specs.declared.kinds.UnitKind.{UnitKind}
+use Rattle.fb_tree.specs.declared.kinds.UnitKind.TheVariants as kinds
+use Rattle.fb_tree.specs.declared.network.End.{End}
+use Rattle.fb_tree.specs.declared.network.Role.{Role}
+use Rattle.fb_tree.specs.declared.network.Role.TheVariants as roles
+use Rattle.fb_tree.specs.declared.network.Sort.{Sort}
+use Rattle.fb_tree.specs.declared.network.Sort.TheVariants as sorts
 use Rattle.fb_iface.specs.declared.ports.DeclaredEvent.{DeclaredEvent}
 use Rattle.fb_iface.specs.declared.ports.DeclaredInstance.{DeclaredInstance}
 use Rattle.fb_iface.specs.declared.ports.DeclaredVariable.{DeclaredVariable}

@@ -1,9 +1,9 @@
 -- The faults of networks.
 use Rattle.std.specs.Prelude.{ℕ, List, [], ◌∷◌, ◌++◌, map, Option, Some, None}
 use Rattle.std.specs.List.{flat_map}
-use Rattle.fb_iface.specs.Tree.Tree.{ApplicationTree, DeclTree, NetworkTree, TypeTree, block_type, adapter_type, subapplication_type, system_configuration}
-use Rattle.fb_iface.specs.Tree.declared.kinds.UnitKind.{UnitKind}
-use Rattle.fb_iface.specs.Tree.declared.kinds.UnitKind.TheVariants.{Block, Subapplication, System}
+use Rattle.fb_tree.specs.Tree.{ApplicationTree, DeclTree, NetworkTree, TypeTree, block_type, adapter_type, subapplication_type, system_configuration}
+use Rattle.fb_tree.specs.declared.kinds.UnitKind.{UnitKind}
+use Rattle.fb_tree.specs.declared.kinds.UnitKind.TheVariants.{Block, Subapplication, System}
 use Rattle.fb_iface.specs.Library.View.{Sources, tree_at}
 use Rattle.fb_iface.specs.declared.fault.Fault.{Fault}
 use Rattle.fb_iface.specs.Scope.{scope_of_network, scope_of_type}

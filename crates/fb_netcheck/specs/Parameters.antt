@@ -1,12 +1,12 @@
 -- Parameters of block instances.
 use Rattle.std.specs.Prelude.{List, [], ◌∷◌, Option, Some, None}
 use Rattle.std.specs.List.{flat_map}
-use Rattle.fb_iface.specs.Tree.Tree.{InstanceTree, ParameterTree}
-use Rattle.fb_iface.specs.Tree.declared.interface.Section.{Section}
-use Rattle.fb_iface.specs.Tree.declared.interface.Section.TheVariants.{Input, Output, Internal}
-use Rattle.fb_iface.specs.Tree.declared.interface.TypeUse.{TypeUse}
-use Rattle.fb_iface.specs.Tree.declared.network.Role.{Role}
-use Rattle.fb_iface.specs.Tree.declared.network.Role.TheVariants as roles
+use Rattle.fb_tree.specs.Tree.{InstanceTree, ParameterTree}
+use Rattle.fb_tree.specs.declared.interface.Section.{Section}
+use Rattle.fb_tree.specs.declared.interface.Section.TheVariants.{Input, Output, Internal}
+use Rattle.fb_tree.specs.declared.interface.TypeUse.{TypeUse}
+use Rattle.fb_tree.specs.declared.network.Role.{Role}
+use Rattle.fb_tree.specs.declared.network.Role.TheVariants as roles
 use Rattle.fb_iface.specs.declared.code.Code.TheVariants.{ParameterUnknown}
 use Rattle.fb_iface.specs.declared.fault.Fault.{Fault}
 use Rattle.fb_iface.specs.declared.ports.DeclaredVariable.{DeclaredVariable}

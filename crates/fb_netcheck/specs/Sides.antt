@@ -1,10 +1,10 @@
 -- The faults of the ends of connections.
 use Rattle.std.specs.Prelude.{Bool, true, false, ◌&&◌, List, [], ◌∷◌, if◌then◌else◌}
-use Rattle.fb_iface.specs.Text.declared.token.Span.{Span}
-use Rattle.fb_iface.specs.Tree.declared.kinds.UnitKind.{UnitKind}
-use Rattle.fb_iface.specs.Tree.declared.kinds.UnitKind.TheVariants as kinds
-use Rattle.fb_iface.specs.Tree.declared.network.Connection.{Connection}
-use Rattle.fb_iface.specs.Tree.declared.network.End.{End}
+use Rattle.fb_tree.specs.Text.declared.token.Span.{Span}
+use Rattle.fb_tree.specs.declared.kinds.UnitKind.{UnitKind}
+use Rattle.fb_tree.specs.declared.kinds.UnitKind.TheVariants as kinds
+use Rattle.fb_tree.specs.declared.network.Connection.{Connection}
+use Rattle.fb_tree.specs.declared.network.End.{End}
 use Rattle.fb_iface.specs.Ports.{same_side}
 use Rattle.fb_iface.specs.declared.code.Code.{Code}
 use Rattle.fb_iface.specs.declared.code.Code.TheVariants.{PortUnknown, PortSide, PassThrough}

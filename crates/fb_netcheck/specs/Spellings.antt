@@ -4,12 +4,12 @@ use Rattle.std.specs.Cmp.Lexicographic.{pointwise}
 use Rattle.std.specs.List.{flat_map}
 use Rattle.std.specs.FinMap.{get}
 use Rattle.std.specs.Str.{str_to_ascii_uppercase}
-use Rattle.fb_iface.specs.Text.Tokens.{tokens_of}
-use Rattle.fb_iface.specs.Text.declared.token.Span.{Span}
-use Rattle.fb_iface.specs.Text.declared.token.Token.{Token}
-use Rattle.fb_iface.specs.Tree.declared.interface.TypeForm.{TypeForm}
-use Rattle.fb_iface.specs.Tree.declared.interface.TypeForm.TheVariants.{Plain, Sized, Array}
-use Rattle.fb_iface.specs.Tree.declared.interface.TypeUse.{TypeUse}
+use Rattle.fb_tree.specs.Text.Tokens.{tokens_of}
+use Rattle.fb_tree.specs.Text.declared.token.Span.{Span}
+use Rattle.fb_tree.specs.Text.declared.token.Token.{Token}
+use Rattle.fb_tree.specs.declared.interface.TypeForm.{TypeForm}
+use Rattle.fb_tree.specs.declared.interface.TypeForm.TheVariants.{Plain, Sized, Array}
+use Rattle.fb_tree.specs.declared.interface.TypeUse.{TypeUse}
 use Rattle.fb_iface.specs.Library.View.{Sources}
 use Rattle.fb_iface.specs.Names.{is_same}
 

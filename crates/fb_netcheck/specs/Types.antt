@@ -1,10 +1,10 @@
 -- The types of what connections join.
 use Rattle.std.specs.Prelude.{ℕ, Bool, true, ◌&&◌, ◌||◌, not, List, [], ◌∷◌, Option, Some, None, if◌then◌else◌}
 use Rattle.std.specs.Option.{option_map_or}
-use Rattle.fb_iface.specs.Text.declared.name.NameUse.{NameUse}
-use Rattle.fb_iface.specs.Tree.declared.interface.TypeUse.{TypeUse}
-use Rattle.fb_iface.specs.Tree.declared.network.Connection.{Connection}
-use Rattle.fb_iface.specs.Tree.declared.network.End.{End}
+use Rattle.fb_tree.specs.Text.declared.name.NameUse.{NameUse}
+use Rattle.fb_tree.specs.declared.interface.TypeUse.{TypeUse}
+use Rattle.fb_tree.specs.declared.network.Connection.{Connection}
+use Rattle.fb_tree.specs.declared.network.End.{End}
 use Rattle.fb_iface.specs.Library.View.{Sources}
 use Rattle.fb_iface.specs.Class.{class_of_type, is_free}
 use Rattle.fb_iface.specs.Names.{is_same, stands_for}

@@ -8,7 +8,7 @@ use crate::ends::{Position, Target, target_at};
 use crate::setting::Setting;
 use crate::sides::{report_end, report_pass_through};
 use fb_iface::Fault;
-use fb_iface::tree::{Connection, UnitKind};
+use fb_tree::{Connection, UnitKind};
 use std::alloc::AllocError;
 
 /// Reports ends that are no ports or of the wrong side, and own ports that are joined.

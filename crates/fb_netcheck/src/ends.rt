@@ -6,9 +6,9 @@ ghost use Rattle.fb_netcheck.specs.Settings.{place_in};
 ghost use Rattle.fb_netcheck.specs.Ends.{adapter_port, data_port, end_span, event_port, holder_of, is_right, last_name, port_in, right_side, target, target_in, target_of, target_of_instance};
 
 use crate::setting::Setting;
-use fb_iface::text::{Name, NameUse, Span};
-use fb_iface::tree::{End, Role, Section, Side, Sort, TypeUse, UnitKind};
 use fb_iface::{DeclaredEvent, DeclaredInstance, DeclaredVariable, Ports, is_same_side};
+use fb_tree::text::{Name, NameUse, Span};
+use fb_tree::{End, Role, Section, Side, Sort, TypeUse, UnitKind};
 
 /// Where an end stands in its connection.
 #[derive(Clone, Copy, Debug, PartialEq, Eq)]

@@ -3,8 +3,8 @@ ghost use Rattle.std.specs.Prelude.{◌≡◌, ◌-◌, IfOk, length, map, slice
 ghost use Rattle.std.specs.Option.{option_map_or};
 
 use crate::paths::Placed;
-use fb_iface::text::{Name, NameUse, Span};
-use fb_iface::tree::Mapping;
+use fb_tree::Mapping;
+use fb_tree::text::{Name, NameUse, Span};
 use std::alloc::{AllocError, Global};
 
 impl Placed for Mapping {

@@ -1,7 +1,7 @@
 //! The check of networks.
 ghost use Rattle.std.specs.Prelude.{◌≡◌, ◌++◌, IfOk, OnOk};
 ghost use Rattle.std.specs.List.{flat_map};
-ghost use Rattle.fb_iface.specs.Tree.Tree.{application_tree, decl_tree, network_tree, type_tree};
+ghost use Rattle.fb_tree.specs.Tree.{application_tree, decl_tree, network_tree, type_tree};
 ghost use Rattle.fb_iface.specs.Fault.{faults_in_order};
 ghost use Rattle.fb_netcheck.specs.Settings.{place_in};
 ghost use Rattle.fb_netcheck.specs.Networks.{application_network, declared_faults, net_faults_of, network_faults, type_network};
@@ -12,9 +12,9 @@ use crate::repeats::{report_second_adapters, report_second_sources};
 use crate::setting::Setting;
 use crate::types::report_types;
 use fb_iface::library::{View, tree_by_name};
-use fb_iface::text::Name;
-use fb_iface::tree::{Application, Decl, Network, System, TypeDeclaration, UnitKind};
 use fb_iface::{Fault, Scope, sorted_faults};
+use fb_tree::text::Name;
+use fb_tree::{Application, Decl, Network, System, TypeDeclaration, UnitKind};
 use std::alloc::{AllocError, Global};
 
 /// The faults of the networks of a unit, in order, each once.

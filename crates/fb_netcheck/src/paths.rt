@@ -2,8 +2,8 @@
 ghost use Rattle.std.specs.Prelude.{◌≡◌, ◌++◌, IfOk, OnOk, map};
 ghost use Rattle.fb_netcheck.specs.Paths.{PathUse, repeated_faults};
 
-use fb_iface::text::{Name, Span};
 use fb_iface::{Code, Fault};
+use fb_tree::text::{Name, Span};
 use std::alloc::{AllocError, Global};
 use std::collections::BTreeSet;
 

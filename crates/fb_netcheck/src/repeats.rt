@@ -4,9 +4,9 @@ ghost use Rattle.fb_netcheck.specs.Repeats.{all_adapter_ends, data_destinations,
 
 use crate::ends::span_of;
 use crate::paths::{Placed, report_repeated};
-use fb_iface::text::{Name, NameUse, Span};
-use fb_iface::tree::{Connection, End, Sort};
 use fb_iface::{Code, Fault};
+use fb_tree::text::{Name, NameUse, Span};
+use fb_tree::{Connection, End, Sort};
 use std::alloc::{AllocError, Global};
 
 impl Placed for End {

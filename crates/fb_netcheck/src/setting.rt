@@ -1,8 +1,8 @@
 //! Where a network stands.
 
 use fb_iface::Scope;
-use fb_iface::text::Name;
-use fb_iface::tree::UnitKind;
+use fb_tree::UnitKind;
+use fb_tree::text::Name;
 
 /// Where a network stands: the unit, what it is, and what names stand for in the network.
 #[derive(Drop)]

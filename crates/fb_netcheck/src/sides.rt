@@ -3,9 +3,9 @@ ghost use Rattle.std.specs.Prelude.{◌≡◌, ◌++◌, OnOk};
 ghost use Rattle.fb_netcheck.specs.Sides.{connection_span, end_faults, fault_of, is_own, is_own_port, pass_through_faults};
 
 use crate::ends::{Holder, Position, Target, is_right_target, span_of};
-use fb_iface::text::Span;
-use fb_iface::tree::{Connection, End, UnitKind};
 use fb_iface::{Code, Fault};
+use fb_tree::text::Span;
+use fb_tree::{Connection, End, UnitKind};
 use std::alloc::AllocError;
 
 /// Reports an end that names no port, or one of the wrong side.

@@ -2,14 +2,14 @@
 ghost use Rattle.std.specs.Prelude.{◌≡◌, [], ◌∷◌, ◌++◌, All, IfOk, OnOk};
 ghost use Rattle.std.specs.List.{flat_map};
 ghost use Rattle.std.specs.Str.{str_to_ascii_uppercase};
-ghost use Rattle.fb_iface.specs.Text.Tokens.{LiesIn};
+ghost use Rattle.fb_tree.specs.Text.Tokens.{LiesIn};
 ghost use Rattle.std.specs.BTreeMap.{get};
 ghost use Rattle.fb_netcheck.specs.Known.{AreSpellings, part_cmp};
 ghost use Rattle.fb_netcheck.specs.Spellings.{is_boundary, part, same_type, same_words, text_or_empty, word, words, words_at};
 
 use fb_iface::library::View;
-use fb_iface::text::{Name, Span, Token, TokenFault, same_name, tokens};
-use fb_iface::tree::{TypeForm, TypeUse};
+use fb_tree::text::{Name, Span, Token, TokenFault, same_name, tokens};
+use fb_tree::{TypeForm, TypeUse};
 use std::alloc::{AllocError, Global};
 use std::collections::BTreeMap;
 

@@ -12,9 +12,9 @@ use crate::setting::Setting;
 use crate::sides::fault_at;
 use crate::spellings::{Spellings, is_same_type};
 use fb_iface::library::View;
-use fb_iface::text::{Name, same_name};
-use fb_iface::tree::{Connection, End};
 use fb_iface::{Code, Fault, class_of};
+use fb_tree::text::{Name, same_name};
+use fb_tree::{Connection, End};
 use std::alloc::{AllocError, Global};
 use std::collections::BTreeMap;
 

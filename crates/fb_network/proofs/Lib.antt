@@ -1,3 +1,16 @@
 -- Lemmas of the proofs.
--- Passed on to the crates above, which do not list these libraries.
-pub use Rattle.fb_tree.proofs.Text as Text
+pub mod Equals
+pub mod Chains
+pub mod LinkLemmas
+pub mod AdapterLemmas
+pub mod Composing
+pub mod BlockLemmas
+pub mod InOrder
+pub mod Counting
+pub mod SameSorted
+pub mod OneFlat
+pub mod Tables
+pub mod FlatLemmas
+pub mod EmptyMaps
+pub mod SystemLemmas
+pub mod NothingLemmas

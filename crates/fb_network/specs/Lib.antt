@@ -12,6 +12,10 @@ pub mod Flat
 pub mod Instances
 pub mod FlatNet
 pub mod Count
--- Passed on to the crates above, which do not list these libraries.
-pub use Rattle.fb_tree.specs as Tree
-pub use Rattle.fb_tree.specs.Text as Text
+pub mod Composition
+pub mod Composed
+pub mod Ready
+pub mod Ordered
+pub mod Part
+pub mod Counts
+pub mod SystemFlat

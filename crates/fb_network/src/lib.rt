@@ -1,27 +1,38 @@
 //! Networks in plain, and flat networks: blocks, links and borders (IEC 61499-1, 5.4: subapplication types; 5.5: adapters; 7: systems).
 //!
-//! What a network's flat network is stands in `specs/`: chains of connections, the links and borders that they are, the instances of all
-//! depths, and what a network without faults keeps.
+//! A flat network is composed of the flat networks of the inner types, and a system's of those of its applications.
 #![tactic(auto)]
 
+mod adapters;
+mod application;
+mod behind;
+mod blocks;
+mod borders;
 mod count;
 mod flat;
+mod flat_network;
+mod in_order;
+mod instances;
+mod laws;
+mod links;
+mod look_up;
 mod network;
 mod path;
+mod sorted;
+mod system;
+mod table;
 
+pub use application::FlatApplication;
 pub use count::INSTANCE_LIMIT;
 pub use flat::{Border, Flat, FlatBlock, Link};
+pub use flat_network::{compose, compose_by_part};
+pub use in_order::compose_in_order;
+pub use instances::count_instances;
+pub use laws::{chains_are_composed, flat_is_one, system_is_one};
+pub use look_up::{Nets, Networks};
 pub use network::{
     Connection, End, Instance, InstanceKind, Network, Port, is_same_sort, sort_number,
 };
 pub use path::Path;
-
-/// Of `fb_tree`, for the crates above.
-pub mod tree {
-    pub use fb_tree::{Side, Sort};
-}
-
-/// Of `fb_tree::text`, for the crates above.
-pub mod text {
-    pub use fb_tree::text::{Name, same_name};
-}
+pub use sorted::sort_once;
+pub use system::join;

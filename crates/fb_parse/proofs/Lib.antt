@@ -1,6 +1,5 @@
 pub mod Joining
 pub mod Predictive
 pub mod Bodies
--- Passed on to the crates above, which do not list these libraries.
+-- Of the crates below, for the crates above.
 pub use Rattle.fb_tree.proofs.Text as Text
-pub use Rattle.fb_structured_text.proofs.Lexemes as Lexemes

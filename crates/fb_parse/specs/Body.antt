@@ -2,13 +2,13 @@
 use Rattle.std.specs.Prelude.{◌≡◌, ℕ, List, [], ◌∷◌, length, Result, Ok, Err}
 use Rattle.fb_tree.specs.Text.declared.token.Span.{Span}
 use Rattle.fb_tree.specs.Tree.{DeclTree, decl_tree}
-use Rattle.fb_structured_text.specs.Lexemes.declared.lexeme.Lexeme.{Lexeme}
+use Rattle.fb_structured_text.specs.Forms.declared.lexeme.Lexeme.{Lexeme}
 use Rattle.fb_parse.specs.declared.body.Body.{Body}
 use Rattle.fb_parse.specs.declared.body.Body.TheVariants.{Tree as IsTree, Broken}
 use Rattle.fb_structured_text.specs.Forms.Form.{Spells}
 use Rattle.fb_structured_text.specs.Forms.Fault.{IsFault}
 use Rattle.fb_parse.specs.Grammar.{unit}
-use Rattle.fb_structured_text.specs.Lexemes.Lexemes.{lexemes_of}
+use Rattle.fb_structured_text.specs.Forms.Lexemes.{lexemes_of}
 use Rattle.fb_structured_text.specs.Forms.Reading.{Outcome, read}
 
 -- a body without where it lies in memory

@@ -1,14 +1,14 @@
 -- The grammar of the texts of units.
 use Rattle.fb_tree.specs.Text.declared.name.NameUse.{NameUse}
-use Rattle.fb_structured_text.specs.Lexemes.declared.kind.Kind.{Kind}
-use Rattle.fb_structured_text.specs.Lexemes.declared.kind.Kind.TheVariants.{FunctionBlock, EndFunctionBlock, Adapter, EndAdapter, Subapplication, EndSubapplication, Application, EndApplication, System, EndSystem}
+use Rattle.fb_structured_text.specs.Forms.declared.kind.Kind.{Kind}
+use Rattle.fb_structured_text.specs.Forms.declared.kind.Kind.TheVariants.{FunctionBlock, EndFunctionBlock, Adapter, EndAdapter, Subapplication, EndSubapplication, Application, EndApplication, System, EndSystem}
 use Rattle.fb_structured_text.specs.Forms.Form.{Form, both, either, many, as_value}
 use Rattle.fb_structured_text.specs.Forms.Words.{key, before, behind, name}
-unfoldable pub use Rattle.fb_structured_text.specs.Sections.Chart.{states}
-unfoldable pub use Rattle.fb_structured_text.specs.Sections.Interface.{events, data_variables, internal_variables}
-unfoldable pub use Rattle.fb_structured_text.specs.Sections.Network.{plugs, sockets, blocks, subapplications, connections}
-use Rattle.fb_structured_text.specs.Sections.Skipped.{service}
-unfoldable pub use Rattle.fb_structured_text.specs.Sections.SystemParts.{device, mappings}
+unfoldable pub use Rattle.fb_sections.specs.Chart.{states}
+unfoldable pub use Rattle.fb_sections.specs.Interface.{events, data_variables, internal_variables}
+unfoldable pub use Rattle.fb_sections.specs.Network.{plugs, sockets, blocks, subapplications, connections}
+use Rattle.fb_sections.specs.Skipped.{service}
+unfoldable pub use Rattle.fb_sections.specs.SystemParts.{device, mappings}
 use Rattle.fb_tree.specs.Tree.{TypeTree, ApplicationTree, SystemTree, DeclTree, block_type, adapter_type, subapplication_type, system_configuration}
 use Rattle.fb_parse.specs.Chart.{transitions, algorithm}
 use Rattle.fb_parse.specs.Contents.{ContentsTree, nothing, of_events, of_variables, of_adapters, of_instances, of_connections, of_states, of_transitions, of_algorithm, joined}

@@ -7,10 +7,8 @@ pub mod Frames
 pub mod Body
 pub mod Source
 pub mod Read
--- Passed on to the crates above, which do not list these libraries.
-pub use Rattle.fb_structured_text.specs.Lexemes as Lexemes
+-- Of the crates below, for the crates above.
+pub use Rattle.fb_tree.specs.Text as Text
 pub use Rattle.fb_tree.specs as Tree
 pub use Rattle.fb_structured_text.specs.Forms as Forms
-pub use Rattle.fb_structured_text.specs.Sections as Sections
-pub use Rattle.fb_tree.specs.Text as Text
-pub use Rattle.fb_structured_text.specs as StructuredText
+pub use Rattle.fb_sections.specs as Sections

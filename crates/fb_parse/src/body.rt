@@ -1,15 +1,14 @@
 //! The body of a text.
 
 ghost use Rattle.fb_structured_text.specs.Forms.Form.{Spells};
-ghost use Rattle.fb_structured_text.specs.Lexemes.declared.lexeme.Lexeme.{Lexeme};
+ghost use Rattle.fb_structured_text.specs.Forms.declared.lexeme.Lexeme.{Lexeme};
 ghost use Rattle.fb_parse.specs.Body.{BodyTree, IsBody, body_of};
 ghost use Rattle.fb_parse.specs.Grammar.{unit};
 ghost use Rattle.fb_tree.specs.Tree.{DeclTree};
 ghost use Rattle.std.specs.Prelude.{◌≡◌, ℕ, IfOk, List};
 
 use crate::units::unit;
-use fb_structured_text::forms::Stop;
-use fb_structured_text::lexemes::{Lexeme, lexemes};
+use fb_structured_text::grammar::{Lexeme, Stop, lexemes};
 use fb_tree::Decl;
 use fb_tree::text::{Span, TokenFault};
 use std::alloc::{AllocError, Global};

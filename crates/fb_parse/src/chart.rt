@@ -8,9 +8,8 @@ ghost use Rattle.fb_tree.specs.Statement.{statement_tree};
 ghost use Rattle.fb_tree.specs.Tree.{TransitionTree, algorithm_tree, condition_tree, transition_tree};
 ghost use Rattle.std.specs.Prelude.{◌≡◌, Ok, map, option_map};
 
-use fb_structured_text::forms::{Reader, Stop, is_next, key, name, one_of};
-use fb_structured_text::lexemes::{Kind, Lexeme};
-use fb_structured_text::sections::{end, section, skip};
+use fb_sections::{end, section, skip};
+use fb_structured_text::grammar::{Kind, Lexeme, Reader, Stop, is_next, key, name, one_of};
 use fb_structured_text::{expression, statements};
 use fb_tree::text::NameUse;
 use fb_tree::{Algorithm, Condition, Expr, Stmt, Transition};

@@ -12,8 +12,7 @@ use crate::contents::{Contents, joined};
 use crate::sections::{
     adapter_section, application_section, block_section, subapplication_section,
 };
-use fb_structured_text::forms::{Reader, Stop, key, name, several};
-use fb_structured_text::lexemes::{Kind, Lexeme};
+use fb_structured_text::grammar::{Kind, Lexeme, Reader, Stop, key, name, several};
 use fb_tree::text::NameUse;
 use std::alloc::Global;
 

@@ -5,18 +5,17 @@ ghost use Rattle.fb_structured_text.specs.Forms.Gives.{Gives};
 ghost use Rattle.fb_structured_text.specs.Forms.Reading.{read};
 ghost use Rattle.fb_parse.specs.Contents.{contents_tree, of_instances, of_variables};
 ghost use Rattle.fb_parse.specs.Grammar.{adapter_section, application_section, block_section, chart_section, data_section, interface_section, network_section, service_section, subapplication_section};
-ghost use Rattle.fb_structured_text.specs.Sections.Interface.{internal_variables};
-ghost use Rattle.fb_structured_text.specs.Sections.Network.{subapplications};
+ghost use Rattle.fb_sections.specs.Interface.{internal_variables};
+ghost use Rattle.fb_sections.specs.Network.{subapplications};
 ghost use Rattle.std.specs.Prelude.{◌≡◌};
 
 use crate::chart::{algorithm, transitions};
 use crate::contents::Contents;
-use fb_structured_text::forms::{Stop, is_next};
-use fb_structured_text::lexemes::{Kind, Lexeme};
-use fb_structured_text::sections::{
+use fb_sections::{
     blocks, connections, data_variables, events, internal_variables, plugs, service, sockets,
     states, subapplications,
 };
+use fb_structured_text::grammar::{Kind, Lexeme, Stop, is_next};
 use std::alloc::Global;
 
 /// What begins a section of an interface.

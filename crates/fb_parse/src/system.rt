@@ -9,9 +9,8 @@ ghost use Rattle.fb_tree.specs.Tree.{application_tree, device_tree, mapping_tree
 ghost use Rattle.std.specs.Prelude.{◌≡◌, IfOk, map};
 
 use crate::units::application;
-use fb_structured_text::forms::{Reader, Stop, is_next, key, name, several};
-use fb_structured_text::lexemes::{Kind, Lexeme};
-use fb_structured_text::sections::{device, mappings};
+use fb_sections::{device, mappings};
+use fb_structured_text::grammar::{Kind, Lexeme, Reader, Stop, is_next, key, name, several};
 use fb_tree::{Application, Device, Mapping, System};
 use std::alloc::{AllocError, Global};
 

@@ -9,8 +9,7 @@ ghost use Rattle.std.specs.Prelude.{◌≡◌};
 
 use crate::frame::{Frame, Named, framed};
 use crate::system::system;
-use fb_structured_text::forms::{Stop, is_next};
-use fb_structured_text::lexemes::{Kind, Lexeme};
+use fb_structured_text::grammar::{Kind, Lexeme, Stop, is_next};
 use fb_tree::{Application, Decl, TypeDeclaration};
 use std::alloc::Global;
 

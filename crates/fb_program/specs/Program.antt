@@ -1,11 +1,11 @@
 -- What a run of the program has said.
 use Rattle.std.specs.Prelude.{◌≡◌, ◌≤◌, ◌⊎◌, ℕ, List, []}
-use Rattle.fb_wire.specs.Bench.Story.{new_story}
+use Rattle.fb_wire.specs.History.Story.{new_story}
 use Rattle.fb_wire.specs.Script.{IsFrontOf, script}
 use Rattle.fb_wire.specs.declared.end.RunEnd.{RunEnd}
 use Rattle.fb_wire.specs.declared.end.RunEnd.TheVariants.{End}
-use Rattle.fb_arguments.specs.Words.{Asks}
-use Rattle.fb_arguments.specs.declared.asked.Settings.TheVariants.{Script, Serve}
+use Rattle.fb_program.specs.Words.{Asks}
+use Rattle.fb_program.specs.declared.asked.Settings.TheVariants.{Script, Serve}
 use Rattle.fb_program.specs.declared.program.Outcome.{Outcome}
 use Rattle.fb_program.specs.declared.program.Outcome.TheVariants.{Ended, Serves}
 

@@ -1,12 +1,20 @@
-//! What the program does, over the streams that it is given.
+//! The words of the program, as what they ask for, and what the program does over the streams that it is given.
 #![tactic(auto)]
 
+mod arguments;
+mod asked;
 mod program;
 
-pub use fb_arguments::{Settings, settings};
+pub use arguments::settings;
+pub use asked::Settings;
 pub use program::{Outcome, refuse_words, run};
 
-/// Of `fb_wire`, for the program and its tests.
-pub mod streams {
+/// Of `fb_bench`, for the crates above.
+pub mod bench {
+    pub use fb_wire::bench::Limits;
+}
+
+/// Of `fb_wire`, for the crates above.
+pub mod wire {
     pub use fb_wire::{FromRead, IntoWrite, MemoryFeed, MemorySink};
 }

@@ -4,8 +4,10 @@ ghost use Rattle.std.specs.Io.KnownBytes.{IsAtEnd};
 ghost use Rattle.std.specs.declared.io.ErrorKind.TheVariants.{InvalidData};
 ghost use Rattle.fb_program.specs.Program.{BenchSays, HasDone, SaysUntil};
 
-use fb_arguments::words::{Error, ErrorKind};
-use fb_arguments::{Settings, settings};
+use crate::arguments::settings;
+use crate::asked::Settings;
+use clap::Error;
+use clap::error::ErrorKind;
 use fb_wire::bench::{Bench, Limits};
 use fb_wire::{Feed, RunEnd, Sink, fault_of, run_script};
 use std::alloc::Global;

@@ -1,9 +1,9 @@
 -- One token tells how to go on in each section.
 use Rattle.std.proofs.Common.{[], ◌∷◌, refl}
-use Rattle.fb_forms.specs.Lexemes.Kind.{name_kinds}
-use Rattle.fb_forms.specs.Lexemes.declared.kind.Kind.TheVariants.{EventInput, EventOutput, VarInput, VarOutput, Var, Plugs, Sockets, Fbs, Subapps, EventConnections, DataConnections, AdapterConnections, EcStates, Service, Resource, Device, Mappings, Point}
-use Rattle.fb_forms.specs.Words.{name, names}
-use Rattle.fb_forms.proofs.Shapes.{Closed, Shape}
+use Rattle.fb_grammar.specs.Kind.{name_kinds}
+use Rattle.fb_grammar.specs.declared.kind.Kind.TheVariants.{EventInput, EventOutput, VarInput, VarOutput, Var, Plugs, Sockets, Fbs, Subapps, EventConnections, DataConnections, AdapterConnections, EcStates, Service, Resource, Device, Mappings, Point}
+use Rattle.fb_grammar.specs.Words.{name, names}
+use Rattle.fb_grammar.proofs.Shapes.{Closed, Shape}
 use Rattle.fb_sections.specs.Constants.{number, range, ranges, length_of_string, plain_type, array_type, type_use, simple, constant_list, constant}
 use Rattle.fb_sections.specs.Sections.{optional_name}
 use Rattle.fb_sections.specs.Interface.{with_names, event, events, initial, variables, data_variables, internal_variables}

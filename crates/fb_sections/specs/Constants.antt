@@ -1,20 +1,20 @@
 -- The forms of types and constants.
 use Rattle.std.specs.Prelude.{List, [], ◌∷◌, Option, Some, None}
-use Rattle.fb_forms.specs.Text.declared.name.NameUse.{NameUse}
-use Rattle.fb_forms.specs.Lexemes.declared.kind.Kind.{Kind}
-use Rattle.fb_forms.specs.Lexemes.declared.kind.Kind.TheVariants.{Array, Of, Range, OpenBracket, CloseBracket, Plus, Minus, TypedTruth, TypedInteger, TypedBits, TypedFree, TypedOther, Text, True, False}
-use Rattle.fb_forms.specs.Lexemes.declared.lexeme.Lexeme.{Lexeme}
-use Rattle.fb_forms.specs.Form.{Form, one, both, either, option, as_value}
-use Rattle.fb_forms.specs.Words.{key, behind, passed, list, name}
-use Rattle.fb_forms.specs.Tree.Tree.{ConstantTree, one_value, value_list}
-use Rattle.fb_forms.specs.Tree.declared.constant.Literal.{Literal}
-use Rattle.fb_forms.specs.Tree.declared.constant.LiteralForm.{LiteralForm}
-use Rattle.fb_forms.specs.Tree.declared.constant.LiteralForm.TheVariants.{Bit, Whole}
-use Rattle.fb_forms.specs.Tree.declared.constant.Simple.{Simple}
-use Rattle.fb_forms.specs.Tree.declared.constant.Simple.TheVariants as simple_value
-use Rattle.fb_forms.specs.Tree.declared.interface.TypeForm.TheVariants.{Plain, Sized, Array as ArrayForm}
-use Rattle.fb_forms.specs.Tree.declared.interface.TypeUse.{TypeUse}
-use Rattle.fb_forms.specs.Literals.{number_kinds, literal_form, literal_use, across}
+use Rattle.fb_tree.specs.Text.declared.name.NameUse.{NameUse}
+use Rattle.fb_grammar.specs.declared.kind.Kind.{Kind}
+use Rattle.fb_grammar.specs.declared.kind.Kind.TheVariants.{Array, Of, Range, OpenBracket, CloseBracket, Plus, Minus, TypedTruth, TypedInteger, TypedBits, TypedFree, TypedOther, Text, True, False}
+use Rattle.fb_grammar.specs.declared.lexeme.Lexeme.{Lexeme}
+use Rattle.fb_grammar.specs.Form.{Form, one, both, either, option, as_value}
+use Rattle.fb_grammar.specs.Words.{key, behind, passed, list, name}
+use Rattle.fb_tree.specs.Tree.{ConstantTree, one_value, value_list}
+use Rattle.fb_tree.specs.declared.constant.Literal.{Literal}
+use Rattle.fb_tree.specs.declared.constant.LiteralForm.{LiteralForm}
+use Rattle.fb_tree.specs.declared.constant.LiteralForm.TheVariants.{Bit, Whole}
+use Rattle.fb_tree.specs.declared.constant.Simple.{Simple}
+use Rattle.fb_tree.specs.declared.constant.Simple.TheVariants as simple_value
+use Rattle.fb_tree.specs.declared.interface.TypeForm.TheVariants.{Plain, Sized, Array as ArrayForm}
+use Rattle.fb_tree.specs.declared.interface.TypeUse.{TypeUse}
+use Rattle.fb_grammar.specs.Literals.{number_kinds, literal_form, literal_use, across}
 
 -- with a sign `0` and `1` are numbers as others are
 abbrev pub signed_form : LiteralForm → LiteralForm

@@ -1,13 +1,13 @@
 -- What sections have in common.
 use Rattle.std.specs.Prelude.{List, [], ◌∷◌, length, Option}
-use Rattle.fb_forms.specs.Text.declared.name.NameUse.{NameUse}
-use Rattle.fb_forms.specs.Lexemes.Kind.{name_kinds}
-use Rattle.fb_forms.specs.Lexemes.declared.kind.Kind.{Kind}
-use Rattle.fb_forms.specs.Lexemes.declared.lexeme.Lexeme.{Lexeme}
-use Rattle.fb_forms.specs.Form.{Form, option, many}
-use Rattle.fb_forms.specs.Reading.{Outcome, read_one, read_each}
-use Rattle.fb_forms.specs.Repetition.{read_both, read_as}
-use Rattle.fb_forms.specs.Words.{key, before, behind, name}
+use Rattle.fb_tree.specs.Text.declared.name.NameUse.{NameUse}
+use Rattle.fb_grammar.specs.Kind.{name_kinds}
+use Rattle.fb_grammar.specs.declared.kind.Kind.{Kind}
+use Rattle.fb_grammar.specs.declared.lexeme.Lexeme.{Lexeme}
+use Rattle.fb_grammar.specs.Form.{Form, option, many}
+use Rattle.fb_grammar.specs.Reading.{Outcome, read_one, read_each}
+use Rattle.fb_grammar.specs.Repetition.{read_both, read_as}
+use Rattle.fb_grammar.specs.Words.{key, before, behind, name}
 
 -- [KIND name]
 unfoldable pub optional_name : Kind → Form (Option NameUse)

@@ -1,11 +1,11 @@
 -- The forms of mappings, resources and devices.
 use Rattle.std.specs.Prelude.{List, map}
-use Rattle.fb_forms.specs.Text.declared.name.NameUse.{NameUse}
-use Rattle.fb_forms.specs.Lexemes.declared.kind.Kind.TheVariants.{Mappings, EndMappings, Resource, EndResource, Device, EndDevice, NameOn, Colon, Semicolon, Point}
-use Rattle.fb_forms.specs.Lexemes.Lexemes.{name_use}
-use Rattle.fb_forms.specs.Form.{Form, both, option, many, as_value}
-use Rattle.fb_forms.specs.Words.{key, before, behind, passed, separated, name}
-use Rattle.fb_forms.specs.Tree.Tree.{ParameterTree, parameter_tree, MappingTree, ResourceTree, DeviceTree}
+use Rattle.fb_tree.specs.Text.declared.name.NameUse.{NameUse}
+use Rattle.fb_grammar.specs.declared.kind.Kind.TheVariants.{Mappings, EndMappings, Resource, EndResource, Device, EndDevice, NameOn, Colon, Semicolon, Point}
+use Rattle.fb_grammar.specs.Lexemes.{name_use}
+use Rattle.fb_grammar.specs.Form.{Form, both, option, many, as_value}
+use Rattle.fb_grammar.specs.Words.{key, before, behind, passed, separated, name}
+use Rattle.fb_tree.specs.Tree.{ParameterTree, parameter_tree, MappingTree, ResourceTree, DeviceTree}
 use Rattle.fb_sections.specs.declared.system_parts.HeaderParts.{HeaderParts}
 use Rattle.fb_sections.specs.Network.{optional_parameters}
 use Rattle.fb_sections.specs.Sections.{section}

@@ -1,18 +1,17 @@
 //! States and their actions.
 
-ghost use Rattle.fb_forms.specs.Gives.{Gives, GivesEach};
-ghost use Rattle.fb_forms.specs.Reading.{read};
+ghost use Rattle.fb_grammar.specs.Gives.{Gives, GivesEach};
+ghost use Rattle.fb_grammar.specs.Reading.{read};
 ghost use Rattle.fb_sections.specs.Chart.{action, actions, sent_event, state, states};
 ghost use Rattle.fb_sections.specs.Network.{end_in};
-ghost use Rattle.fb_forms.specs.Tree.Tree.{StateTree, state_tree};
-ghost use Rattle.fb_forms.specs.Tree.declared.chart.Action.{Action};
+ghost use Rattle.fb_tree.specs.Tree.{StateTree, state_tree};
+ghost use Rattle.fb_tree.specs.declared.chart.Action.{Action};
 ghost use Rattle.std.specs.Prelude.{◌≡◌, map};
 
 use crate::connecting::{EndTokens, end};
 use crate::frame::section;
-use fb_forms::lexemes::{Kind, Lexeme};
-use fb_forms::tree::{Action, State};
-use fb_forms::{NAMES, Reader, Stop, is_next, key, listed, name};
+use fb_grammar::{Kind, Lexeme, NAMES, Reader, Stop, is_next, key, listed, name};
+use fb_tree::{Action, State};
 use std::alloc::Global;
 
 /// An arrow and the event that is sent.
@@ -24,7 +23,7 @@ fn sent_event(tokens: &[Lexeme]) -> Result<(EndTokens<'_>, &[Lexeme]), Stop<'_>>
     end(rest)
 }
 
-#[tactic(auto, unfolding(crate::specs::Chart::action, crate::specs::Chart::sent_event, fb_forms::specs::Words::name))]
+#[tactic(auto, unfolding(crate::specs::Chart::action, crate::specs::Chart::sent_event, fb_grammar::specs::Words::name))]
 fn action(tokens: &[Lexeme]) -> Result<(Action, &[Lexeme]), Stop<'_>>
     ensures { Gives (λ action. action) result (read action tokens.now) }
 {
@@ -69,7 +68,7 @@ impl Reader for ActionReader {
 }
 
 /// The actions of a state, where they are written.
-#[tactic(auto, unfolding(crate::specs::Chart::actions), using(fb_forms::proofs::Repeating::as_they_are))]
+#[tactic(auto, unfolding(crate::specs::Chart::actions), using(fb_grammar::proofs::Repeating::as_they_are))]
 fn actions(alloc: Global, tokens: &[Lexeme]) -> Result<(Vec<Action>, &[Lexeme]), Stop<'_>>
     ensures { Gives (λ actions. actions.items) result (read actions tokens.now) }
 {
@@ -111,7 +110,7 @@ impl Reader for StateReader {
 }
 
 /// A section of states.
-#[tactic(auto, unfolding(crate::specs::Chart::states, crate::specs::Chart::state, fb_forms::specs::Words::name))]
+#[tactic(auto, unfolding(crate::specs::Chart::states, crate::specs::Chart::state, fb_grammar::specs::Words::name))]
 pub fn states(alloc: Global, tokens: &[Lexeme]) -> Result<(Vec<State>, &[Lexeme]), Stop<'_>>
     ensures { GivesEach state_tree result (read states tokens.now) }
 {

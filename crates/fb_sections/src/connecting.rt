@@ -1,15 +1,14 @@
 //! Connections and their ends.
 
-ghost use Rattle.fb_forms.specs.Gives.{Gives};
-ghost use Rattle.fb_forms.specs.Reading.{read};
+ghost use Rattle.fb_grammar.specs.Gives.{Gives};
+ghost use Rattle.fb_grammar.specs.Reading.{read};
 ghost use Rattle.fb_sections.specs.Network.{connection, connections, end, end_in};
-ghost use Rattle.fb_forms.specs.Tree.declared.network.Connection.{Connection};
+ghost use Rattle.fb_tree.specs.declared.network.Connection.{Connection};
 ghost use Rattle.std.specs.Prelude.{◌≡◌};
 
 use crate::frame::{name_in, optional_name, section};
-use fb_forms::lexemes::{Kind, Lexeme};
-use fb_forms::tree::{Connection, End, Sort};
-use fb_forms::{Reader, Stop, is_next, key, name};
+use fb_grammar::{Kind, Lexeme, Reader, Stop, is_next, key, name};
+use fb_tree::{Connection, End, Sort};
 use std::alloc::Global;
 
 /// The tokens of an end. An end itself, with its copied names, is nothing that `?` takes beside a
@@ -77,7 +76,7 @@ impl Reader for ConnectionReader {
 }
 
 /// A section of connections.
-#[tactic(auto, unfolding(crate::specs::Network::connections, crate::specs::Network::connection, crate::specs::Network::end, fb_forms::specs::Words::name), using(fb_forms::proofs::Repeating::as_they_are))]
+#[tactic(auto, unfolding(crate::specs::Network::connections, crate::specs::Network::connection, crate::specs::Network::end, fb_grammar::specs::Words::name), using(fb_grammar::proofs::Repeating::as_they_are))]
 pub fn connections(
     alloc: Global,
     tokens: &[Lexeme],

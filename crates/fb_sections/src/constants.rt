@@ -1,18 +1,17 @@
 //! Types and constants.
 
-ghost use Rattle.fb_forms.specs.Gives.{Gives, Passes};
-ghost use Rattle.fb_forms.specs.Reading.{read};
+ghost use Rattle.fb_grammar.specs.Gives.{Gives, Passes};
+ghost use Rattle.fb_grammar.specs.Reading.{read};
 ghost use Rattle.fb_sections.specs.Constants.{array_type, constant, constant_list, length_of_string, number, plain_type, range, ranges, signed_form, simple, type_use};
-ghost use Rattle.fb_forms.specs.Tree.Tree.{constant_tree};
-ghost use Rattle.fb_forms.specs.Tree.declared.constant.Simple.{Simple};
+ghost use Rattle.fb_tree.specs.Tree.{constant_tree};
+ghost use Rattle.fb_tree.specs.declared.constant.Simple.{Simple};
 ghost use Rattle.std.specs.Prelude.{◌≡◌};
 
-use fb_forms::lexemes::{Kind, Lexeme};
-use fb_forms::tree::{Constant, Literal, LiteralForm, Simple, TypeForm, TypeUse};
-use fb_forms::{
-    NAMES, NUMBERS, Reader, Stop, across, is_next, key, listed, literal_form, literal_use, name,
-    one_of,
+use fb_grammar::{
+    Kind, Lexeme, NAMES, NUMBERS, Reader, Stop, across, is_next, key, listed, literal_form,
+    literal_use, name, one_of,
 };
+use fb_tree::{Constant, Literal, LiteralForm, Simple, TypeForm, TypeUse};
 use std::alloc::Global;
 
 const SIGNS: [Kind; 2] = [Kind::Plus, Kind::Minus];
@@ -142,7 +141,7 @@ fn array_type(alloc: Global, tokens: &[Lexeme]) -> Result<(TypeUse, &[Lexeme]), 
 }
 
 /// A type where it is used.
-#[tactic(auto, unfolding(crate::specs::Constants::type_use, crate::specs::Constants::plain_type, fb_forms::specs::Words::name))]
+#[tactic(auto, unfolding(crate::specs::Constants::type_use, crate::specs::Constants::plain_type, fb_grammar::specs::Words::name))]
 pub fn type_use(alloc: Global, tokens: &[Lexeme]) -> Result<(TypeUse, &[Lexeme]), Stop<'_>>
     ensures { Gives (λ type. type) result (read type_use tokens.now) }
 {
@@ -153,7 +152,7 @@ pub fn type_use(alloc: Global, tokens: &[Lexeme]) -> Result<(TypeUse, &[Lexeme])
     }
 }
 
-#[tactic(auto, unfolding(crate::specs::Constants::simple, fb_forms::specs::Words::name))]
+#[tactic(auto, unfolding(crate::specs::Constants::simple, fb_grammar::specs::Words::name))]
 fn simple(tokens: &[Lexeme]) -> Result<(Simple, &[Lexeme]), Stop<'_>>
     ensures { Gives (λ constant. constant) result (read simple tokens.now) }
 {
@@ -192,7 +191,7 @@ impl Reader for SimpleReader {
 }
 
 /// Simple constants in brackets.
-#[tactic(auto, unfolding(crate::specs::Constants::constant_list), using(fb_forms::proofs::Repeating::as_they_are))]
+#[tactic(auto, unfolding(crate::specs::Constants::constant_list), using(fb_grammar::proofs::Repeating::as_they_are))]
 fn constant_list(alloc: Global, tokens: &[Lexeme]) -> Result<(Constant, &[Lexeme]), Stop<'_>>
     ensures { Gives constant_tree result (read constant_list tokens.now) }
 {

@@ -1,14 +1,13 @@
 //! What sections have in common.
 
-ghost use Rattle.fb_forms.specs.Gives.{Gives, GivesEach};
-ghost use Rattle.fb_forms.specs.Reading.{read};
-ghost use Rattle.fb_forms.specs.Lexemes.Lexemes.{name_use};
+ghost use Rattle.fb_grammar.specs.Gives.{Gives, GivesEach};
+ghost use Rattle.fb_grammar.specs.Reading.{read};
+ghost use Rattle.fb_grammar.specs.Lexemes.{name_use};
 ghost use Rattle.fb_sections.specs.Sections.{optional_name, read_section};
 ghost use Rattle.std.specs.Prelude.{◌≡◌, map, option_map};
 
-use fb_forms::lexemes::{Kind, Lexeme};
-use fb_forms::text::NameUse;
-use fb_forms::{NAMES, Reader, Stop, is_next, key, name, several};
+use fb_grammar::{Kind, Lexeme, NAMES, Reader, Stop, is_next, key, name, several};
+use fb_tree::text::NameUse;
 use std::alloc::Global;
 
 /// A token of this kind and a name, where the token is there.

@@ -1,16 +1,15 @@
 //! Instances with their parameters.
 
-ghost use Rattle.fb_forms.specs.Gives.{GivesEach};
-ghost use Rattle.fb_forms.specs.Reading.{read};
+ghost use Rattle.fb_grammar.specs.Gives.{GivesEach};
+ghost use Rattle.fb_grammar.specs.Reading.{read};
 ghost use Rattle.fb_sections.specs.Network.{blocks, instance, listed_parameters, optional_parameters, parameter, parameters, plugs, sockets, inner_subapplication, subapplications};
-ghost use Rattle.fb_forms.specs.Tree.Tree.{InstanceTree, ParameterTree, instance_tree, parameter_tree};
+ghost use Rattle.fb_tree.specs.Tree.{InstanceTree, ParameterTree, instance_tree, parameter_tree};
 ghost use Rattle.std.specs.Prelude.{◌≡◌, map};
 
 use crate::constants::constant;
 use crate::frame::section;
-use fb_forms::lexemes::{Kind, Lexeme};
-use fb_forms::tree::{Instance, Parameter, Role};
-use fb_forms::{NAMES, Reader, Stop, is_next, key, listed, name};
+use fb_grammar::{Kind, Lexeme, NAMES, Reader, Stop, is_next, key, listed, name};
+use fb_tree::{Instance, Parameter, Role};
 use std::alloc::Global;
 
 /// Reads parameters.
@@ -44,7 +43,7 @@ impl Reader for ParameterReader {
 }
 
 /// Parameters with commas between them, or none.
-#[tactic(auto, unfolding(crate::specs::Network::listed_parameters, crate::specs::Network::parameter, fb_forms::specs::Words::name))]
+#[tactic(auto, unfolding(crate::specs::Network::listed_parameters, crate::specs::Network::parameter, fb_grammar::specs::Words::name))]
 fn listed_parameters(
     alloc: Global,
     tokens: &[Lexeme],
@@ -112,7 +111,7 @@ impl Reader for InstanceReader {
 }
 
 /// A section of plugs.
-#[tactic(auto, unfolding(crate::specs::Network::plugs, crate::specs::Network::instance, fb_forms::specs::Words::name))]
+#[tactic(auto, unfolding(crate::specs::Network::plugs, crate::specs::Network::instance, fb_grammar::specs::Words::name))]
 pub fn plugs(alloc: Global, tokens: &[Lexeme]) -> Result<(Vec<Instance>, &[Lexeme]), Stop<'_>>
     ensures { GivesEach instance_tree result (read plugs tokens.now) }
 {
@@ -126,7 +125,7 @@ pub fn plugs(alloc: Global, tokens: &[Lexeme]) -> Result<(Vec<Instance>, &[Lexem
 }
 
 /// A section of sockets.
-#[tactic(auto, unfolding(crate::specs::Network::sockets, crate::specs::Network::instance, fb_forms::specs::Words::name))]
+#[tactic(auto, unfolding(crate::specs::Network::sockets, crate::specs::Network::instance, fb_grammar::specs::Words::name))]
 pub fn sockets(alloc: Global, tokens: &[Lexeme]) -> Result<(Vec<Instance>, &[Lexeme]), Stop<'_>>
     ensures { GivesEach instance_tree result (read sockets tokens.now) }
 {
@@ -140,7 +139,7 @@ pub fn sockets(alloc: Global, tokens: &[Lexeme]) -> Result<(Vec<Instance>, &[Lex
 }
 
 /// A section of block instances.
-#[tactic(auto, unfolding(crate::specs::Network::blocks, crate::specs::Network::instance, fb_forms::specs::Words::name))]
+#[tactic(auto, unfolding(crate::specs::Network::blocks, crate::specs::Network::instance, fb_grammar::specs::Words::name))]
 pub fn blocks(alloc: Global, tokens: &[Lexeme]) -> Result<(Vec<Instance>, &[Lexeme]), Stop<'_>>
     ensures { GivesEach instance_tree result (read blocks tokens.now) }
 {
@@ -187,7 +186,7 @@ impl Reader for SubapplicationReader {
 }
 
 /// A section of subapplication instances.
-#[tactic(auto, unfolding(crate::specs::Network::subapplications, crate::specs::Network::inner_subapplication, fb_forms::specs::Words::name))]
+#[tactic(auto, unfolding(crate::specs::Network::subapplications, crate::specs::Network::inner_subapplication, fb_grammar::specs::Words::name))]
 pub fn subapplications(
     alloc: Global,
     tokens: &[Lexeme],

@@ -1,17 +1,16 @@
 //! Events and variables.
 
-ghost use Rattle.fb_forms.specs.Gives.{Gives, GivesEach};
-ghost use Rattle.fb_forms.specs.Reading.{read};
+ghost use Rattle.fb_grammar.specs.Gives.{Gives, GivesEach};
+ghost use Rattle.fb_grammar.specs.Reading.{read};
 ghost use Rattle.fb_sections.specs.Interface.{data_variables, event, events, initial, internal_variables, variables, with_names};
-ghost use Rattle.fb_forms.specs.Tree.Tree.{EventTree, VariablesTree, constant_tree, event_tree, variables_tree};
+ghost use Rattle.fb_tree.specs.Tree.{EventTree, VariablesTree, constant_tree, event_tree, variables_tree};
 ghost use Rattle.std.specs.Prelude.{◌≡◌, map, option_map};
 
 use crate::constants::{constant, type_use};
 use crate::frame::{name_in, optional_name, section};
-use fb_forms::lexemes::{Kind, Lexeme};
-use fb_forms::text::NameUse;
-use fb_forms::tree::{Constant, Event, Section, Side, Variables};
-use fb_forms::{Reader, Stop, is_next, key, name, names};
+use fb_grammar::{Kind, Lexeme, Reader, Stop, is_next, key, name, names};
+use fb_tree::text::NameUse;
+use fb_tree::{Constant, Event, Section, Side, Variables};
 use std::alloc::Global;
 
 /// The names behind WITH, where it is written.
@@ -62,7 +61,7 @@ impl Reader for EventReader {
 }
 
 /// A section of events.
-#[tactic(auto, unfolding(crate::specs::Interface::events, crate::specs::Interface::event, fb_forms::specs::Words::name))]
+#[tactic(auto, unfolding(crate::specs::Interface::events, crate::specs::Interface::event, fb_grammar::specs::Words::name))]
 pub fn events(alloc: Global, tokens: &[Lexeme]) -> Result<(Vec<Event>, &[Lexeme]), Stop<'_>>
     ensures { GivesEach event_tree result (read events tokens.now) }
 {
@@ -138,7 +137,7 @@ impl Reader for VariablesReader {
 }
 
 /// A section of data inputs or outputs.
-#[tactic(auto, unfolding(crate::specs::Interface::data_variables, crate::specs::Interface::variables, fb_forms::specs::Words::names, fb_forms::specs::Words::name))]
+#[tactic(auto, unfolding(crate::specs::Interface::data_variables, crate::specs::Interface::variables, fb_grammar::specs::Words::names, fb_grammar::specs::Words::name))]
 pub fn data_variables(
     alloc: Global,
     tokens: &[Lexeme],
@@ -169,7 +168,7 @@ pub fn data_variables(
 }
 
 /// A section of internal variables.
-#[tactic(auto, unfolding(crate::specs::Interface::internal_variables, crate::specs::Interface::variables, fb_forms::specs::Words::names, fb_forms::specs::Words::name))]
+#[tactic(auto, unfolding(crate::specs::Interface::internal_variables, crate::specs::Interface::variables, fb_grammar::specs::Words::names, fb_grammar::specs::Words::name))]
 pub fn internal_variables(
     alloc: Global,
     tokens: &[Lexeme],

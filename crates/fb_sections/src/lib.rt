@@ -21,16 +21,3 @@ pub use instances::{blocks, plugs, sockets, subapplications};
 pub use interface::{data_variables, events, internal_variables};
 pub use skipped::{service, skip};
 pub use system_parts::{device, mappings};
-
-/// Of `fb_forms`, for the crates above.
-pub mod forms {
-    pub use fb_forms::{
-        NAMES, NUMBERS, NameReader, Reader, Stop, across, is_next, key, literal_use, name, names,
-        one_of, separated, several,
-    };
-}
-
-/// Of `fb_forms::lexemes`, for the crates above.
-pub mod lexemes {
-    pub use fb_forms::lexemes::{Kind, Lexeme, lexemes};
-}

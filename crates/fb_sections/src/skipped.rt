@@ -1,12 +1,11 @@
 //! What is skipped token by token.
 
-ghost use Rattle.fb_forms.specs.Gives.{Passes};
-ghost use Rattle.fb_forms.specs.Reading.{read};
+ghost use Rattle.fb_grammar.specs.Gives.{Passes};
+ghost use Rattle.fb_grammar.specs.Reading.{read};
 ghost use Rattle.fb_sections.specs.Skipped.{service, skipped};
 ghost use Rattle.std.specs.Prelude.{◌≡◌, Ok};
 
-use fb_forms::lexemes::{Kind, Lexeme};
-use fb_forms::{Stop, key};
+use fb_grammar::{Kind, Lexeme, Stop, key};
 
 /// The tokens from the first of this kind on.
 #[tactic(auto, using(crate::proofs::Skipping::skip_more, crate::proofs::Skipping::skip_done, crate::proofs::Skipping::skip_none))]

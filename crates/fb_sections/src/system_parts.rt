@@ -1,22 +1,21 @@
 //! Mappings, resources and devices.
 
-ghost use Rattle.fb_forms.specs.Gives.{Gives, GivesEach};
-ghost use Rattle.fb_forms.specs.Reading.{read};
-ghost use Rattle.fb_forms.specs.Lexemes.Lexemes.{name_use};
+ghost use Rattle.fb_grammar.specs.Gives.{Gives, GivesEach};
+ghost use Rattle.fb_grammar.specs.Reading.{read};
+ghost use Rattle.fb_grammar.specs.Lexemes.{name_use};
 ghost use Rattle.fb_sections.specs.SystemParts.{device, header, header_tree, mapping, mappings, optional_semicolon, path, resource};
-ghost use Rattle.fb_forms.specs.Tree.Tree.{MappingTree, ResourceTree, device_tree, mapping_tree, parameter_tree, resource_tree};
+ghost use Rattle.fb_tree.specs.Tree.{MappingTree, ResourceTree, device_tree, mapping_tree, parameter_tree, resource_tree};
 ghost use Rattle.std.specs.Prelude.{◌≡◌, Ok, map};
 
 use crate::frame::section;
 use crate::instances::optional_parameters;
-use fb_forms::lexemes::{Kind, Lexeme};
-use fb_forms::text::NameUse;
-use fb_forms::tree::{Device, Mapping, Parameter, Resource};
-use fb_forms::{NameReader, Reader, Stop, key, name, separated, several};
+use fb_grammar::{Kind, Lexeme, NameReader, Reader, Stop, key, name, separated, several};
+use fb_tree::text::NameUse;
+use fb_tree::{Device, Mapping, Parameter, Resource};
 use std::alloc::Global;
 
 /// Names with points between them.
-#[tactic(auto, unfolding(crate::specs::SystemParts::path), using(fb_forms::proofs::Repeating::as_they_are))]
+#[tactic(auto, unfolding(crate::specs::SystemParts::path), using(fb_grammar::proofs::Repeating::as_they_are))]
 fn path(alloc: Global, tokens: &[Lexeme]) -> Result<(Vec<NameUse>, &[Lexeme]), Stop<'_>>
     ensures { Gives (λ names. names.items) result (read path tokens.now) }
 {
@@ -58,7 +57,7 @@ impl Reader for MappingReader {
 }
 
 /// A section of mappings.
-#[tactic(auto, unfolding(crate::specs::SystemParts::mappings, crate::specs::SystemParts::mapping, crate::specs::SystemParts::path, fb_forms::specs::Words::name))]
+#[tactic(auto, unfolding(crate::specs::SystemParts::mappings, crate::specs::SystemParts::mapping, crate::specs::SystemParts::path, fb_grammar::specs::Words::name))]
 pub fn mappings(alloc: Global, tokens: &[Lexeme]) -> Result<(Vec<Mapping>, &[Lexeme]), Stop<'_>>
     ensures { GivesEach mapping_tree result (read mappings tokens.now) }
 {

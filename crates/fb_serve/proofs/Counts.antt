@@ -5,12 +5,12 @@ use Rattle.std.proofs.lemmas.Bool.Decides.{nat_tests}
 use Rattle.std.proofs.lemmas.List.Elements.{All-weaker, All-push, recursion_from_All}
 use Rattle.std.proofs.lemmas.List.Sums.{sum_by-append, sum_by-cons}
 use Rattle.std.specs.List.{list_any, AllByRecursion}
-use Rattle.fb_wire.specs.Bench.Story.{turns_of}
-use Rattle.fb_shared.specs.Book.{is_caller}
-use Rattle.fb_shared.specs.Closing.{AgreesWith, receipts_of}
-use Rattle.fb_shared.specs.Runs.{IsRun, Works, Empty}
+use Rattle.fb_wire.specs.History.Story.{turns_of}
+use Rattle.fb_shared.specs.Locked.Book.{is_caller}
+use Rattle.fb_shared.specs.Locked.Closing.{AgreesWith, receipts_of}
+use Rattle.fb_shared.specs.Locked.Runs.{IsRun, Works, Empty}
 use Rattle.fb_shared.specs.Locked.declared.look.WorkEnd.{WorkEnd}
-use Rattle.fb_shared.specs.Seats.{Hall, SeatState, Claim, seat_after}
+use Rattle.fb_shared.specs.Locked.Seats.{Hall, SeatState, Claim, seat_after}
 use Rattle.fb_serve.specs.Shown.{IsNew, IsShown, AreShown, ShowsAll}
 
 -- 1 for a receipt of this caller

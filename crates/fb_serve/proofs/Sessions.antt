@@ -1,10 +1,10 @@
 -- What the steps of a desk with a seat leave in its receipts.
 use Rattle.std.proofs.Common.{◌≡◌, List, [], ◌∷◌, ◌++◌, map, refl, sym, ap, ◌∙◌, subst, append_assoc, append-nil}
-use Rattle.fb_wire.specs.Bench.Machine.{Call, Reply}
+use Rattle.fb_wire.specs.History.Machine.{Call, Reply}
 use Rattle.fb_wire.specs.Bench.Calls.{Answer, Replied, FullHistory, BehindHistory}
 use Rattle.fb_wire.specs.Talk.{Pair, Runs}
-use Rattle.fb_shared.specs.Runs.{IsRun}
-use Rattle.fb_shared.specs.Seats.{SeatState, Claim, IsReceiptOf, seat_after}
+use Rattle.fb_shared.specs.Locked.Runs.{IsRun}
+use Rattle.fb_shared.specs.Locked.Seats.{SeatState, Claim, IsReceiptOf, seat_after}
 use Rattle.fb_shared.specs.Sitting.{Sitter, SitterStep}
 use Rattle.fb_serve.specs.Sessions.{answered_before, answered_in, call_shown}
 

@@ -1,9 +1,9 @@
 -- What the receipts of a session say of its calls.
 use Rattle.std.specs.Prelude.{List, [], ◌∷◌}
-use Rattle.fb_wire.specs.Bench.Machine.{Call, Reply}
+use Rattle.fb_wire.specs.History.Machine.{Call, Reply}
 use Rattle.fb_wire.specs.Bench.Calls.{Answer, Replied, FullHistory, BehindHistory}
 use Rattle.fb_wire.specs.Talk.{Pair}
-use Rattle.fb_shared.specs.Seats.{Claim}
+use Rattle.fb_shared.specs.Locked.Seats.{Claim}
 
 -- a call with its reply stands in front; one that was refused does not
 abbrev pub answered_before : Call → Answer → List (Call × Reply) → List (Call × Reply)

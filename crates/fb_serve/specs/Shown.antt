@@ -1,8 +1,8 @@
 -- Receipts that show all calls of their callers.
 use Rattle.std.specs.Prelude.{◌≡◌, ◌≤◌, ℕ, List, All}
-use Rattle.fb_wire.specs.Bench.Story.{Record, turns_of}
-use Rattle.fb_shared.specs.Closing.{AreReceiptsRight, receipts_of}
-use Rattle.fb_shared.specs.Seats.{SeatState, Claim}
+use Rattle.fb_wire.specs.History.Story.{Record, turns_of}
+use Rattle.fb_shared.specs.Locked.Closing.{AreReceiptsRight, receipts_of}
+use Rattle.fb_shared.specs.Locked.Seats.{SeatState, Claim}
 
 -- no call was made with the seat
 abbrev pub IsNew : SeatState → Type 0

@@ -8,9 +8,3 @@ mod session;
 
 pub use server::{Numbers, Served, serve, serve_on, serve_sessions};
 pub use session::{Session, run_session};
-
-/// Of `fb_wire`, for the crates above.
-pub mod wire {
-    pub use fb_wire::bench::Limits;
-    pub use fb_wire::{MemorySink, Sink};
-}

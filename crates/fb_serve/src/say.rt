@@ -1,6 +1,6 @@
 //! The line that the server prints first.
 ghost use Rattle.std.specs.Prelude.{◌≡◌, ◌<◌, ◌^◌, ℕ, IfOk, false};
-ghost use Rattle.fb_wire.specs.Streams.Streams.{WritesAll};
+ghost use Rattle.fb_streams.specs.Streams.{WritesAll};
 ghost use Rattle.fb_serve.specs.Lines.{greeting};
 
 use fb_wire::{Failed, Sink, write_all};

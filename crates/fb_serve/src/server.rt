@@ -1,14 +1,14 @@
 //! The server, on the listener that it is given.
 ghost use Rattle.std.specs.Prelude.{◌≡◌, ◌≤◌, ℕ, All, IfOk, true, false};
-ghost use Rattle.fb_shared.specs.Book.{IsBookOf};
+ghost use Rattle.fb_shared.specs.Locked.Book.{IsBookOf};
 ghost use Rattle.fb_serve.specs.Lines.{SaysLines};
 ghost use Rattle.fb_serve.specs.Shown.{IsNew, ShowsAll};
 
 use crate::callers::{Gathered, NewSeat, SessionFault, run_callers};
 use crate::say::greet;
 use crossbeam_channel::{Receiver, bounded};
-use fb_shared::bench::Limits;
 use fb_shared::{Closed, Receipt, Seat, Shared};
+use fb_wire::bench::Limits;
 use fb_wire::{Sink, write_all};
 use std::alloc::{AllocError, Global};
 use std::io::Write;

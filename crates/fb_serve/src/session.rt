@@ -1,10 +1,10 @@
 //! One session.
 ghost use Rattle.std.specs.Prelude.{◌≡◌, ◌↔◌, ◌≤◌, ◌+◌, ◌++◌, ℕ, List, map, IsTrue, false};
 ghost use Rattle.std.specs.Io.KnownBytes.{Consumes, IsAtEnd};
-ghost use Rattle.fb_wire.specs.Streams.Streams.{StaysFlushed};
+ghost use Rattle.fb_streams.specs.Streams.{StaysFlushed};
 ghost use Rattle.fb_wire.specs.Ends.{Stands};
 ghost use Rattle.fb_wire.specs.Talk.{Pair};
-ghost use Rattle.fb_shared.specs.Runs.{IsRun};
+ghost use Rattle.fb_shared.specs.Locked.Runs.{IsRun};
 ghost use Rattle.fb_serve.specs.Sessions.{answered_in, call_shown};
 
 use fb_shared::{Receipt, Seat, Seated, Shared};

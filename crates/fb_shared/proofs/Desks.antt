@@ -1,7 +1,7 @@
 -- Answers of a desk, from the replies in receipts.
 use Rattle.std.proofs.Common.{◌≡◌, Option, ap, sym}
-use Rattle.fb_locked.specs.Bench.Jobs.Reads.{PlainJob}
-use Rattle.fb_locked.specs.Bench.Machine.{Reply, OfCommit, OfTake, OfDeliver, OfGiveBack, OfAsk}
+use Rattle.fb_locked.specs.Jobs.Reads.{PlainJob}
+use Rattle.fb_locked.specs.History.Machine.{Reply, OfCommit, OfTake, OfDeliver, OfGiveBack, OfAsk}
 use Rattle.fb_locked.specs.Bench.Requests.{job_of}
 use Rattle.fb_locked.specs.Seats.{IsTaken}
 

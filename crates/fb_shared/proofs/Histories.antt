@@ -8,7 +8,7 @@ use Rattle.std.proofs.lemmas.List.{take-take}
 use Rattle.std.proofs.lemmas.List.Elements.{recursion_from_All, Contains-append_right}
 use Rattle.std.proofs.lemmas.List.Sums.{sum_by-cons, sum_by-take-le}
 use Rattle.std.specs.List.{sum_by, AllByRecursion, Contains}
-use Rattle.fb_locked.specs.Bench.Story.{Record, record_at, turns_of, AreTurns}
+use Rattle.fb_locked.specs.History.Story.{Record, record_at, turns_of, AreTurns}
 use Rattle.fb_locked.specs.Seats.{Claim}
 use Rattle.fb_locked.specs.Closing.{IsReceiptRight, AreReceiptsRight, times, receipts_of}
 use Rattle.fb_locked.proofs.Closings.{placed}

@@ -1,6 +1,6 @@
 -- A shared workbench as the desk of one seat. Nothing is known of the workbench but what the seat and its receipts tell.
 use Rattle.std.specs.Prelude.{◌≡◌, ◌++◌, ◌∷◌, [], List}
-use Rattle.fb_locked.specs.Bench.Machine.{Call}
+use Rattle.fb_locked.specs.History.Machine.{Call}
 use Rattle.fb_locked.specs.Bench.Calls.{Answer, Replied, FullHistory, BehindHistory}
 use Rattle.fb_locked.specs.Bench.declared.desk.DeskRefused.{DeskRefused}
 use Rattle.fb_locked.specs.Bench.declared.desk.DeskRefused.TheVariants as desk

@@ -1,6 +1,6 @@
 //! Laws of histories and of the receipts of their calls.
 ghost use Rattle.std.specs.Prelude.{List};
-ghost use Rattle.fb_locked.specs.Bench.Story.{Record, AreTurns};
+ghost use Rattle.fb_locked.specs.History.Story.{Record, AreTurns};
 ghost use Rattle.fb_locked.specs.Closing.{AreReceiptsRight, NumbersRise, EnoughShowAll};
 ghost use Rattle.fb_locked.specs.Seats.{Claim};
 

@@ -1,14 +1,14 @@
 //! A shared workbench as the desk of one seat.
 ghost use Rattle.std.specs.Prelude.{◌≡◌};
-ghost use Rattle.fb_locked.specs.Bench.Machine.{OfCommit, OfDeliver, OfGiveBack};
+ghost use Rattle.fb_locked.specs.History.Machine.{OfCommit, OfDeliver, OfGiveBack};
 ghost use Rattle.fb_locked.specs.Bench.Records.{job_in};
 ghost use Rattle.fb_locked.specs.Seats.{IsCommitted, IsDelivered, IsReturned};
 ghost use Rattle.fb_shared.specs.Sitting.{desk_refused};
 
 use crate::shared::Shared;
-use fb_locked::bench::jobs::{Finished, Job, Key};
-use fb_locked::bench::library::Change;
 use fb_locked::bench::{Asked, Committed, Delivered, Desk, DeskRefused, GivenBack, Reply, Taken};
+use fb_locked::jobs::{Finished, Job, Key};
+use fb_locked::library::Change;
 use fb_locked::{Receipt, Seat, SharedRefused};
 use std::marker::Model;
 use std::sync::Wait;

@@ -1,15 +1,15 @@
 //! The workbench that threads share, behind its lock.
 ghost use Rattle.std.specs.Prelude.{◌≡◌, IfOk, IfErr};
-ghost use Rattle.fb_locked.specs.Bench.Machine.{ToCommit, ToTake, ToDeliver, ToGiveBack, ToAsk, OfAsk};
+ghost use Rattle.fb_locked.specs.History.Machine.{ToCommit, ToTake, ToDeliver, ToGiveBack, ToAsk, OfAsk};
 ghost use Rattle.fb_locked.specs.Bench.Records.{listed, shown_in};
 ghost use Rattle.fb_locked.specs.Bench.Requests.{job_of};
 ghost use Rattle.fb_locked.specs.Calls.{Answers};
 ghost use Rattle.fb_locked.specs.Closing.{IsCloseOf};
 ghost use Rattle.fb_locked.specs.Seats.{AreFirstSeats};
 
-use fb_locked::bench::jobs::{Finished, Job, Key};
-use fb_locked::bench::library::Change;
 use fb_locked::bench::{Asked, Limits};
+use fb_locked::jobs::{Finished, Job, Key};
+use fb_locked::library::Change;
 use fb_locked::{Closed, Locked, NotClosed, Receipt, Seat, SharedRefused};
 use std::alloc::{AllocError, Global};
 use std::sync::{Condvar, Mutex, Wait};

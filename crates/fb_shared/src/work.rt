@@ -6,7 +6,7 @@ ghost use Rattle.fb_locked.specs.Looks.{LookAdds};
 ghost use Rattle.fb_locked.specs.declared.look.WorkEnd.TheVariants.{TurnsOver, Memory};
 
 use crate::shared::Shared;
-use fb_locked::bench::jobs::{Finished, Job};
+use fb_locked::jobs::{Finished, Job};
 use fb_locked::{Look, Receipt, Seat, SharedRefused, WorkEnd};
 use std::alloc::{AllocError, Global};
 use std::sync::Wait;

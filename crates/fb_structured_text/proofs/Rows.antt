@@ -2,18 +2,18 @@
 use Rattle.std.proofs.Common.{◌≡◌, ℕ, zero, suc, ◌+◌, ◌-◌, ◌<◌, ◌≤◌, Bool, true, false, nat_eq, List, [], ◌∷◌, length, drop, Ok, Err, refl, sym, ap, subst, ◌∙◌, add-one, arith, eq-eqb}
 use Rattle.std.proofs.Math.Seq.{drop-cons}
 use borrow.Author.Tests.{eqb-true}
-use Rattle.fb_sections.specs.Lexemes.declared.kind.Kind.{Kind}
-use Rattle.fb_sections.specs.Lexemes.declared.kind.Kind.TheVariants.{Or}
-use Rattle.fb_sections.specs.Lexemes.declared.lexeme.Lexeme.{Lexeme}
-use Rattle.fb_sections.specs.Forms.declared.stop.Stop.{Stop}
-use Rattle.fb_sections.specs.Forms.declared.stop.Stop.TheVariants.{Memory, Broken}
-use Rattle.fb_sections.specs.Forms.Form.{Form, many, as_value}
-use Rattle.fb_sections.specs.Forms.Gives.{Fails}
+use Rattle.fb_grammar.specs.declared.kind.Kind.{Kind}
+use Rattle.fb_grammar.specs.declared.kind.Kind.TheVariants.{Or}
+use Rattle.fb_grammar.specs.declared.lexeme.Lexeme.{Lexeme}
+use Rattle.fb_grammar.specs.declared.stop.Stop.{Stop}
+use Rattle.fb_grammar.specs.declared.stop.Stop.TheVariants.{Memory, Broken}
+use Rattle.fb_grammar.specs.Form.{Form, many, as_value}
+use Rattle.fb_grammar.specs.Gives.{Fails}
 use Rattle.std.proofs.lemmas.Bool.Decides.{nat_tests}
-use Rattle.fb_sections.specs.Lexemes.Kind.{is_among, name_kinds}
-use Rattle.fb_sections.specs.Forms.Words.{name}
-use Rattle.fb_sections.specs.Forms.Reading.{Outcome, ◌>>=◌, is_next, first, read_each, read}
-use Rattle.fb_sections.proofs.Forms.Loops.{many_none, Begins}
+use Rattle.fb_grammar.specs.Kind.{is_among, name_kinds}
+use Rattle.fb_grammar.specs.Words.{name}
+use Rattle.fb_grammar.specs.Reading.{Outcome, ◌>>=◌, is_next, first, read_each, read}
+use Rattle.fb_grammar.proofs.Loops.{many_none, Begins}
 use Rattle.fb_tree.specs.declared.expression.BinaryUse.{BinaryUse}
 use Rattle.fb_tree.specs.Expression.{Expression, row_expression, operands_of}
 use Rattle.fb_structured_text.specs.Operators.{next_strength, operators, strength_of, strengths}

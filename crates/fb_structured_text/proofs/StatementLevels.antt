@@ -1,12 +1,12 @@
 -- One token tells how to go on in a statement, at each level.
 use Rattle.std.proofs.Common.{◌≡◌, ℕ, zero, suc, true, List, [], ◌∷◌, ◌++◌, refl}
-use Rattle.fb_sections.specs.Lexemes.declared.kind.Kind.{Kind}
-use Rattle.fb_sections.specs.Lexemes.declared.kind.Kind.TheVariants.{Assign, Semicolon, Then, Of, To, By, Do, EndRepeat, If, Case, For, While, Repeat}
-use Rattle.fb_sections.specs.Lexemes.Kind.{name_kinds}
-use Rattle.fb_sections.specs.Forms.Form.{Form, many}
-use Rattle.fb_sections.specs.Forms.Reading.{is_predictive, after}
-use Rattle.fb_sections.specs.Forms.Words.{name}
-use Rattle.fb_sections.proofs.Forms.Shapes.{Shape, Closed, apart_within, closed_either}
+use Rattle.fb_grammar.specs.declared.kind.Kind.{Kind}
+use Rattle.fb_grammar.specs.declared.kind.Kind.TheVariants.{Assign, Semicolon, Then, Of, To, By, Do, EndRepeat, If, Case, For, While, Repeat}
+use Rattle.fb_grammar.specs.Kind.{name_kinds}
+use Rattle.fb_grammar.specs.Form.{Form, many}
+use Rattle.fb_grammar.specs.Reading.{is_predictive, after}
+use Rattle.fb_grammar.specs.Words.{name}
+use Rattle.fb_grammar.proofs.Shapes.{Shape, Closed, apart_within, closed_either}
 use Rattle.fb_tree.specs.Expression.{Expression}
 use Rattle.fb_tree.specs.Statement.{Statement}
 use Rattle.fb_structured_text.specs.Expression.{expression, reference}

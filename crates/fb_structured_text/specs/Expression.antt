@@ -3,12 +3,12 @@ use Rattle.std.specs.Prelude.{ℕ, zero, suc, ◌+◌, List, [], ◌∷◌, Vec,
 use Rattle.std.specs.declared.alloc.Global.{Global}
 use Rattle.std.specs.declared.boxed.Box.{Box}
 use Rattle.fb_tree.specs.Text.declared.name.NameUse.{NameUse}
-use Rattle.fb_sections.specs.Lexemes.declared.kind.Kind.{Kind}
-use Rattle.fb_sections.specs.Lexemes.declared.kind.Kind.TheVariants.{Point, OpenBracket, CloseBracket, OpenParenthesis, CloseParenthesis}
-use Rattle.fb_sections.specs.Lexemes.declared.lexeme.Lexeme.{Lexeme}
-use Rattle.fb_sections.specs.Forms.Form.{Form, one, both, either, option, many, as_value}
-use Rattle.fb_sections.specs.Forms.Literals.{across, literal_kinds, literal_use}
-use Rattle.fb_sections.specs.Forms.Words.{key, behind, list, name}
+use Rattle.fb_grammar.specs.declared.kind.Kind.{Kind}
+use Rattle.fb_grammar.specs.declared.kind.Kind.TheVariants.{Point, OpenBracket, CloseBracket, OpenParenthesis, CloseParenthesis}
+use Rattle.fb_grammar.specs.declared.lexeme.Lexeme.{Lexeme}
+use Rattle.fb_grammar.specs.Form.{Form, one, both, either, option, many, as_value}
+use Rattle.fb_grammar.specs.Literals.{across, literal_kinds, literal_use}
+use Rattle.fb_grammar.specs.Words.{key, behind, list, name}
 use Rattle.fb_tree.specs.declared.expression.BinaryUse.{BinaryUse}
 use Rattle.fb_tree.specs.declared.expression.Expr.{Expr}
 use Rattle.fb_tree.specs.declared.reference.Reference.{Reference}

@@ -2,7 +2,5 @@
 pub mod Operators
 pub mod Expression
 pub mod Statement
--- Passed on to the crates above, which do not list these libraries.
-pub use Rattle.fb_sections.specs.Lexemes as Lexemes
-pub use Rattle.fb_sections.specs.Forms as Forms
-pub use Rattle.fb_sections.specs as Sections
+-- Of the crates below, for the crates above.
+pub use Rattle.fb_grammar.specs as Forms

@@ -1,8 +1,8 @@
 -- Operators, by the kinds of their tokens.
 use Rattle.std.specs.Prelude.{ℕ, List, [], ◌∷◌, slice_index_or}
-use Rattle.fb_sections.specs.Lexemes.declared.kind.Kind.{Kind}
-use Rattle.fb_sections.specs.Lexemes.declared.kind.Kind.TheVariants.{Or, Xor, Ampersand, And, Equal, NotEqual, Less, Greater, LessEqual, GreaterEqual, Plus, Minus, Times, Divide, Mod, Power, Not}
-use Rattle.fb_sections.specs.Lexemes.declared.lexeme.Lexeme.{Lexeme}
+use Rattle.fb_grammar.specs.declared.kind.Kind.{Kind}
+use Rattle.fb_grammar.specs.declared.kind.Kind.TheVariants.{Or, Xor, Ampersand, And, Equal, NotEqual, Less, Greater, LessEqual, GreaterEqual, Plus, Minus, Times, Divide, Mod, Power, Not}
+use Rattle.fb_grammar.specs.declared.lexeme.Lexeme.{Lexeme}
 use Rattle.fb_tree.specs.declared.expression.BinaryOperator.{BinaryOperator}
 use Rattle.fb_tree.specs.declared.expression.BinaryOperator.TheVariants as between
 use Rattle.fb_tree.specs.declared.expression.BinaryUse.{BinaryUse}

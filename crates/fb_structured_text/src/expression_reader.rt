@@ -1,8 +1,8 @@
 //! Reading expressions.
-ghost use Rattle.fb_sections.specs.Forms.Form.{as_value, many};
-ghost use Rattle.fb_sections.specs.Forms.Gives.{Gives, GivesEach};
-ghost use Rattle.fb_sections.specs.Forms.Reading.{read};
-ghost use Rattle.fb_sections.specs.Forms.Words.{further};
+ghost use Rattle.fb_grammar.specs.Form.{as_value, many};
+ghost use Rattle.fb_grammar.specs.Gives.{Gives, GivesEach};
+ghost use Rattle.fb_grammar.specs.Reading.{read};
+ghost use Rattle.fb_grammar.specs.Words.{further};
 ghost use Rattle.fb_structured_text.specs.Expression.{
   deep_primary,
   deep_reference,
@@ -25,8 +25,7 @@ ghost use Rattle.std.specs.Prelude.{◌≡◌, ◌≤◌, ◌<◌, map};
 
 use crate::operators::{SIGNS, is_literal, literal, next_strength, operator, operators, sign};
 use crate::references::{flat_reference, member_name, variable};
-use fb_sections::forms::{NAMES, Stop, across, is_next, key};
-use fb_sections::lexemes::{Kind, Lexeme};
+use fb_grammar::{Kind, Lexeme, NAMES, Stop, across, is_next, key};
 use fb_tree::{BinaryUse, Expr, Reference};
 use std::alloc::Global;
 

@@ -1,12 +1,11 @@
 //! Labels of `CASE`, which are read and not kept.
-ghost use Rattle.fb_sections.specs.Forms.Gives.{Passes};
-ghost use Rattle.fb_sections.specs.Forms.Reading.{first, is_next, read};
-ghost use Rattle.fb_sections.specs.Forms.Words.{further};
+ghost use Rattle.fb_grammar.specs.Gives.{Passes};
+ghost use Rattle.fb_grammar.specs.Reading.{first, is_next, read};
+ghost use Rattle.fb_grammar.specs.Words.{further};
 ghost use Rattle.fb_structured_text.specs.Statement.{int, label, labels};
 ghost use Rattle.std.specs.Prelude.{◌≡◌};
 
-use fb_sections::forms::{NUMBERS, Stop, is_next, key, one_of};
-use fb_sections::lexemes::{Kind, Lexeme};
+use fb_grammar::{Kind, Lexeme, NUMBERS, Stop, is_next, key, one_of};
 
 const PLUS_OR_MINUS: [Kind; 2] = [Kind::Plus, Kind::Minus];
 

@@ -1,6 +1,6 @@
 //! Each text spells one expression, one statement and one list of statements at most.
-ghost use Rattle.fb_sections.specs.Forms.Form.{Spells, many};
-ghost use Rattle.fb_sections.specs.Lexemes.declared.lexeme.Lexeme.{Lexeme};
+ghost use Rattle.fb_grammar.specs.Form.{Spells, many};
+ghost use Rattle.fb_grammar.specs.declared.lexeme.Lexeme.{Lexeme};
 ghost use Rattle.fb_structured_text.specs.Expression.{expression};
 ghost use Rattle.fb_structured_text.specs.Statement.{statement};
 ghost use Rattle.fb_tree.specs.Expression.{Expression};

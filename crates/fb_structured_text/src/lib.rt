@@ -12,22 +12,9 @@ pub use expression_reader::expression;
 pub use laws::{one_expression, one_statement};
 pub use statement_reader::statements;
 
-/// Of `fb_sections::forms`, for the crates above.
-pub mod forms {
-    pub use fb_sections::forms::{
-        NAMES, NameReader, Reader, Stop, is_next, key, name, names, one_of, separated, several,
-    };
-}
-
-/// Of `fb_sections::lexemes`, for the crates above.
-pub mod lexemes {
-    pub use fb_sections::lexemes::{Kind, Lexeme, lexemes};
-}
-
-/// Of `fb_sections`, for the crates above.
-pub mod sections {
-    pub use fb_sections::{
-        blocks, connections, data_variables, device, end, events, internal_variables, mappings,
-        plugs, section, service, skip, sockets, states, subapplications,
+/// Of `fb_grammar`, for the crates above.
+pub mod grammar {
+    pub use fb_grammar::{
+        Kind, Lexeme, Reader, Stop, is_next, key, lexemes, name, one_of, several,
     };
 }

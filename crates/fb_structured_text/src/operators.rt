@@ -1,15 +1,14 @@
 //! Operators and literals, by their tokens.
-ghost use Rattle.fb_sections.specs.Forms.Form.{as_value, one};
-ghost use Rattle.fb_sections.specs.Forms.Gives.{Gives};
-ghost use Rattle.fb_sections.specs.Lexemes.Kind.{is_among};
-ghost use Rattle.fb_sections.specs.Forms.Reading.{first, is_next, read};
+ghost use Rattle.fb_grammar.specs.Form.{as_value, one};
+ghost use Rattle.fb_grammar.specs.Gives.{Gives};
+ghost use Rattle.fb_grammar.specs.Kind.{is_among};
+ghost use Rattle.fb_grammar.specs.Reading.{first, is_next, read};
 ghost use Rattle.fb_structured_text.specs.Expression.{literal};
 ghost use Rattle.fb_structured_text.specs.Operators.{binary_operator, binary_use, next_strength, operators, signs, strength_of, unary_operator, unary_use};
 ghost use Rattle.fb_tree.specs.Expression.{expression_tree};
 ghost use Rattle.std.specs.Prelude.{◌≡◌, ◌<◌, true};
 
-use fb_sections::forms::{Stop, is_next, literal_use, one_of};
-use fb_sections::lexemes::{Kind, Lexeme};
+use fb_grammar::{Kind, Lexeme, Stop, is_next, literal_use, one_of};
 use fb_tree::{BinaryOperator, BinaryUse, Expr, UnaryOperator, UnaryUse};
 
 /// The operators before an operand.

@@ -1,13 +1,12 @@
 //! Variables without subscripts.
-ghost use Rattle.fb_sections.specs.Forms.Gives.{Gives};
-ghost use Rattle.fb_sections.specs.Forms.Reading.{read};
-ghost use Rattle.fb_sections.specs.Lexemes.Lexemes.{name_use};
+ghost use Rattle.fb_grammar.specs.Gives.{Gives};
+ghost use Rattle.fb_grammar.specs.Reading.{read};
+ghost use Rattle.fb_grammar.specs.Lexemes.{name_use};
 ghost use Rattle.fb_structured_text.specs.Expression.{flat_reference, member_name, variable_of, variable_tree};
 ghost use Rattle.fb_tree.specs.Expression.{reference_tree};
 ghost use Rattle.std.specs.Prelude.{◌≡◌, IfOk, option_map};
 
-use fb_sections::forms::{Stop, is_next, key, name};
-use fb_sections::lexemes::{Kind, Lexeme};
+use fb_grammar::{Kind, Lexeme, Stop, is_next, key, name};
 use fb_tree::{Expr, Reference};
 use std::alloc::{AllocError, Global};
 

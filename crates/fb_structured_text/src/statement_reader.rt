@@ -1,7 +1,7 @@
 //! Reading statements.
-ghost use Rattle.fb_sections.specs.Forms.Form.{many, option};
-ghost use Rattle.fb_sections.specs.Forms.Gives.{Gives, GivesEach};
-ghost use Rattle.fb_sections.specs.Forms.Reading.{first, is_next, read};
+ghost use Rattle.fb_grammar.specs.Form.{many, option};
+ghost use Rattle.fb_grammar.specs.Gives.{Gives, GivesEach};
+ghost use Rattle.fb_grammar.specs.Reading.{first, is_next, read};
 ghost use Rattle.fb_structured_text.specs.Expression.{expression, levels, reference};
 ghost use Rattle.fb_structured_text.specs.Statement.{
   simple_firsts,
@@ -24,15 +24,14 @@ ghost use Rattle.fb_structured_text.specs.Statement.{
   statement,
   while_statement,
 };
-ghost use Rattle.fb_sections.specs.Lexemes.declared.kind.Kind.TheVariants.{By};
+ghost use Rattle.fb_grammar.specs.declared.kind.Kind.TheVariants.{By};
 ghost use Rattle.fb_tree.specs.Expression.{expression_tree};
 ghost use Rattle.fb_tree.specs.Statement.{arm_tree, statement_tree};
 ghost use Rattle.std.specs.Prelude.{◌≡◌, ◌<◌, option_map};
 
 use crate::expression_reader::{LEVELS, expression_at, reference};
 use crate::labels::{begins_label, labels};
-use fb_sections::forms::{Stop, is_next, key, name};
-use fb_sections::lexemes::{Kind, Lexeme};
+use fb_grammar::{Kind, Lexeme, Stop, is_next, key, name};
 use fb_tree::{Counting, Expr, Stmt};
 use std::alloc::Global;
 

@@ -1,3 +1,3 @@
 pub mod MentionLemmas
--- Passed on to the crates above, which do not list these libraries.
+-- Of the crates below, for the crates above.
 pub use Rattle.fb_text.proofs as Text

@@ -4,5 +4,5 @@ pub mod Expression
 pub mod Statement
 pub mod Tree
 pub mod Mentions
--- Passed on to the crates above, which do not list these libraries.
+-- Of the crates below, for the crates above.
 pub use Rattle.fb_text.specs as Text

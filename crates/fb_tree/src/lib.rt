@@ -31,7 +31,7 @@ pub use system::{Application, Device, Mapping, Resource, System};
 /// Of `fb_text`, for the crates above.
 pub mod text {
     pub use fb_text::{
-        Name, NameFault, NameUse, Span, Token, TokenFault, TokenKind, TypeClass, same_name,
-        same_word, sorted_names, sorted_once, tokens, type_class,
+        Name, NameUse, Span, Token, TokenFault, TokenKind, TypeClass, same_name, same_word,
+        sorted_names, sorted_once, tokens, type_class,
     };
 }

@@ -1,7 +1,7 @@
 -- The changes of a commit, with their names and texts read, one after another.
 use Rattle.std.proofs.Common.{◌≡◌, ◌<◌, ◌+◌, ℕ, List, [], ◌∷◌, ◌++◌, map, take, drop, length, Result, Ok, Err, get_or, refl, sym, ap, ◌∙◌}
 use Rattle.std.proofs.lemmas.List.{take_more, take-append-drop, map-append}
-use Rattle.fb_messages.specs.Library.Texts.{Edit}
+use Rattle.fb_library.specs.Texts.{Edit}
 use Rattle.fb_messages.specs.Requests.{Change}
 use Rattle.fb_wire.specs.Talk.{edit_in, edits_in, edits_from}
 

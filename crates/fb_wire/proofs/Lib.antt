@@ -1,7 +1,7 @@
 pub mod Changes
 pub mod Cuts
 pub mod Ends
-pub mod Jobs
+pub mod HeldJobs
 pub mod OneTalk
 pub mod Pieces
 pub mod Replied

@@ -1,10 +1,10 @@
 -- A conversation is decided by its bytes and by what decides its answers.
 use Rattle.std.proofs.Common.{◌≡◌, ℕ, List, [], ◌∷◌, ◌++◌, Bool, true, false, MatchBool, refl, sym, ap, ap₂, ◌∙◌, subst, arith}
 use Rattle.serde_json.specs.Data.{Data}
-use Rattle.fb_messages.specs.History.Machine.{Call}
-use Rattle.fb_messages.specs.Bench.Calls.{Answer, Replied, FullHistory, BehindHistory}
-use Rattle.fb_messages.specs.Bench.Solo.{IsStep}
-use Rattle.fb_messages.specs.History.Story.{Story}
+use Rattle.fb_bench.specs.History.Machine.{Call}
+use Rattle.fb_bench.specs.Calls.{Answer, Replied, FullHistory, BehindHistory}
+use Rattle.fb_bench.specs.Solo.{IsStep}
+use Rattle.fb_bench.specs.History.Story.{Story}
 use Rattle.fb_wire.specs.Lines.{Fits, IsTooLong, is_blank, lines_of}
 use Rattle.fb_messages.specs.Requests.{request_of}
 use Rattle.fb_messages.specs.Replies.{reply_line}

@@ -3,10 +3,10 @@ use Rattle.std.proofs.Common.{◌≡◌, ◌<◌, ◌≤◌, ℕ, List, [], ◌�
 use Rattle.std.proofs.lemmas.Bool.Decides.{nat_tests}
 use Rattle.std.proofs.lemmas.List.{take-append-drop}
 use Rattle.serde_json.specs.Data.{Data}
-use Rattle.fb_messages.specs.History.Machine.{Call, reply}
-use Rattle.fb_messages.specs.Bench.Calls.{Answer, Replied, FullHistory, BehindHistory}
-use Rattle.fb_messages.specs.Bench.Solo.{IsStep}
-use Rattle.fb_messages.specs.History.Story.{Story}
+use Rattle.fb_bench.specs.History.Machine.{Call, reply}
+use Rattle.fb_bench.specs.Calls.{Answer, Replied, FullHistory, BehindHistory}
+use Rattle.fb_bench.specs.Solo.{IsStep}
+use Rattle.fb_bench.specs.History.Story.{Story}
 use Rattle.fb_wire.specs.Ends.{IsFrontOfReply, IsNothing, Stands}
 use Rattle.fb_wire.specs.Lines.{is_blank, lines_of}
 use Rattle.fb_messages.specs.Replies.{reply_line}

@@ -3,8 +3,8 @@ use Rattle.std.proofs.Math.Seq.{take-add}
 use Rattle.std.proofs.lemmas.List.{take_rest, take-append-drop}
 use Rattle.std.specs.Prelude.{⊤}
 use Rattle.std.proofs.Common.{Bool, true, false, MatchBool, take, drop, ◌-◌, ◌≡◌, ◌+◌, ℕ, List, [], ◌∷◌, ◌++◌, length, Result, Ok, Err, refl, sym, ap, ◌∙◌, subst, append_assoc, append-nil, arith}
-use Rattle.fb_messages.specs.History.Machine.{Call}
-use Rattle.fb_messages.specs.Bench.Calls.{Answer}
+use Rattle.fb_bench.specs.History.Machine.{Call}
+use Rattle.fb_bench.specs.Calls.{Answer}
 use Rattle.fb_wire.specs.Lines.{Fits, lines_of, is_blank, IsLine}
 use Rattle.fb_messages.specs.Requests.{request_of}
 use Rattle.fb_wire.specs.Ends.{Stands, AnsweredEnded, IsNothing}

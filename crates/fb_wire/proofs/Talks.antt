@@ -1,17 +1,17 @@
 -- Plans, runs and talks, one after another.
 use Rattle.std.proofs.Common.{ap₂, suc, ◌-◌, arith, nat_le, length, ◌+◌, ◌<◌, ◌≡◌, ℕ, List, [], ◌∷◌, ◌++◌, Some, None, Result, Ok, Err, true, false, option_map, refl, sym, ap, ◌∙◌, subst, append-nil}
 use Rattle.std.specs.declared.alloc.AllocError.{AllocError}
-use Rattle.fb_messages.specs.History.Machine.{Call, ToTake, ToDeliver, OfTake, OfDeliver, Reply as MachineReply}
-use Rattle.fb_messages.specs.Bench.Solo.{IsStep, SoloStep}
-use Rattle.fb_messages.specs.Bench.declared.desk.Solo.{Solo}
-use Rattle.fb_messages.specs.Bench.Calls.{Answer, Replied, FullHistory, BehindHistory, Serves, take_reply}
-use Rattle.fb_messages.specs.KeysAndValues.Reads.{PlainJob}
+use Rattle.fb_bench.specs.History.Machine.{Call, ToTake, ToDeliver, OfTake, OfDeliver, Reply as MachineReply}
+use Rattle.fb_bench.specs.Solo.{IsStep, SoloStep}
+use Rattle.fb_bench.specs.declared.desk.Solo.{Solo}
+use Rattle.fb_bench.specs.Calls.{Answer, Replied, FullHistory, BehindHistory, Serves, take_reply}
+use Rattle.fb_messages.specs.Jobs.Reads.{PlainJob}
 use Rattle.std.specs.Result.{result_ok}
-use Rattle.fb_messages.specs.Bench.declared.answers.Taken.{Taken}
-use Rattle.fb_messages.specs.History.declared.answers.Delivered.{Delivered}
+use Rattle.fb_bench.specs.declared.answers.Taken.{Taken}
+use Rattle.fb_bench.specs.History.declared.answers.Delivered.{Delivered}
 use Rattle.fb_wire.specs.declared.answer.Round.{Round}
-use Rattle.fb_messages.specs.Bench.declared.desk.DeskRefused.{DeskRefused}
-use Rattle.fb_messages.specs.Bench.declared.desk.DeskRefused.TheVariants.{HistoryFull, Behind, Memory}
+use Rattle.fb_bench.specs.declared.desk.DeskRefused.{DeskRefused}
+use Rattle.fb_bench.specs.declared.desk.DeskRefused.TheVariants.{HistoryFull, Behind, Memory}
 use Rattle.serde_json.specs.Data.{Data}
 use Rattle.fb_wire.specs.Lines.{is_blank}
 use Rattle.fb_messages.specs.Replies.{work_done}

@@ -1,15 +1,15 @@
 -- What is said to each answer of the machine.
 use Rattle.std.specs.Prelude.{ℕ, codes, true, false, Option, Some, None}
 use Rattle.serde_json.specs.Data.{Data}
-use Rattle.fb_messages.specs.KeysAndValues.Reads.{PlainJob}
-use Rattle.fb_messages.specs.History.Machine.{Reply, OfCommit, OfTake, OfDeliver, OfGiveBack, OfAsk, Shown, Finds, Waits, Unknown}
-use Rattle.fb_messages.specs.Bench.Calls.{Answer, Replied, FullHistory, BehindHistory}
-use Rattle.fb_messages.specs.History.declared.answers.Committed.{Committed}
-use Rattle.fb_messages.specs.History.declared.answers.Committed.TheVariants.{Done, NoChange, TooManyChanges, SameUnitTwice, StaleBase, NoSuchUnit, TooManyUnits}
-use Rattle.fb_messages.specs.History.declared.answers.Delivered.{Delivered}
-use Rattle.fb_messages.specs.History.declared.answers.Delivered.TheVariants.{Accepted, NoSuchKey, NotPending, Stale}
-use Rattle.fb_messages.specs.History.declared.answers.GivenBack.{GivenBack}
-use Rattle.fb_messages.specs.History.declared.answers.GivenBack.TheVariants.{Returned, NothingOut}
+use Rattle.fb_messages.specs.Jobs.Reads.{PlainJob}
+use Rattle.fb_bench.specs.History.Machine.{Reply, OfCommit, OfTake, OfDeliver, OfGiveBack, OfAsk, Shown, Finds, Waits, Unknown}
+use Rattle.fb_bench.specs.Calls.{Answer, Replied, FullHistory, BehindHistory}
+use Rattle.fb_bench.specs.History.declared.answers.Committed.{Committed}
+use Rattle.fb_bench.specs.History.declared.answers.Committed.TheVariants.{Done, NoChange, TooManyChanges, SameUnitTwice, StaleBase, NoSuchUnit, TooManyUnits}
+use Rattle.fb_bench.specs.History.declared.answers.Delivered.{Delivered}
+use Rattle.fb_bench.specs.History.declared.answers.Delivered.TheVariants.{Accepted, NoSuchKey, NotPending, Stale}
+use Rattle.fb_bench.specs.History.declared.answers.GivenBack.{GivenBack}
+use Rattle.fb_bench.specs.History.declared.answers.GivenBack.TheVariants.{Returned, NothingOut}
 use Rattle.fb_messages.specs.Replies.{refused, refused_unit, committed, refused_base, job_given, no_job, delivered, returned, value_said, pending_said}
 
 abbrev pub commit_said : Committed → Data

@@ -1,9 +1,9 @@
 -- What a workbench says to the bytes of a script: a function of the two.
 use Rattle.std.specs.Prelude.{◌≡◌, ℕ, List, [], ◌∷◌, ◌++◌, length, nat_lt, if◌then◌else◌}
 use Rattle.serde_json.specs.Data.{Data}
-use Rattle.fb_messages.specs.History.Machine.{Call, reply}
-use Rattle.fb_messages.specs.History.Story.{Story, state_of, recorded}
-use Rattle.fb_messages.specs.Bench.Calls.{Answer, Replied, FullHistory}
+use Rattle.fb_bench.specs.History.Machine.{Call, reply}
+use Rattle.fb_bench.specs.History.Story.{Story, state_of, recorded}
+use Rattle.fb_bench.specs.Calls.{Answer, Replied, FullHistory}
 use Rattle.fb_wire.specs.Lines.{is_blank, lines_of}
 use Rattle.fb_messages.specs.Replies.{reply_line}
 use Rattle.fb_messages.specs.Requests.{request_of}

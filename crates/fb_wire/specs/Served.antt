@@ -2,14 +2,14 @@
 use Rattle.std.specs.Prelude.{[], ◌∷◌, ◌++◌, true, false, ⊤, Vec, MatchResult, ◌≡◌, ℕ, ◌+◌, List, length, option_map, Option, Some, None, Result, Ok, Err}
 use Rattle.std.specs.declared.alloc.AllocError.{AllocError}
 use Rattle.serde_json.specs.Data.{Data}
-use Rattle.fb_messages.specs.History.Machine.{Call, ToTake, OfTake, Reply as MachineReply}
-use Rattle.fb_messages.specs.Bench.Calls.{Answer, Replied, FullHistory, BehindHistory}
-use Rattle.fb_messages.specs.Bench.declared.desk.DeskRefused.{DeskRefused}
-use Rattle.fb_messages.specs.Bench.declared.desk.DeskRefused.TheVariants.{HistoryFull, Behind, Memory}
+use Rattle.fb_bench.specs.History.Machine.{Call, ToTake, OfTake, Reply as MachineReply}
+use Rattle.fb_bench.specs.Calls.{Answer, Replied, FullHistory, BehindHistory}
+use Rattle.fb_bench.specs.declared.desk.DeskRefused.{DeskRefused}
+use Rattle.fb_bench.specs.declared.desk.DeskRefused.TheVariants.{HistoryFull, Behind, Memory}
 use Rattle.std.specs.declared.alloc.Global.{Global}
-use Rattle.fb_messages.specs.Library.Texts.{Edit}
-use Rattle.fb_messages.specs.Library.Changes.{edit_of, edits_of}
-use Rattle.fb_messages.specs.Library.declared.change.Change.{Change}
+use Rattle.fb_library.specs.Texts.{Edit}
+use Rattle.fb_library.specs.Changes.{edit_of, edits_of}
+use Rattle.fb_library.specs.declared.change.Change.{Change}
 use Rattle.fb_wire.specs.declared.change.ChangeFault.{ChangeFault}
 use Rattle.fb_wire.specs.declared.change.ChangeFault.TheVariants as fault
 use Rattle.fb_wire.specs.Lines.{Fits, IsTooLong, lines_of, is_blank}

@@ -1,14 +1,14 @@
 -- What is said to each line, and which calls it makes.
 use Rattle.std.specs.Prelude.{◌≡◌, ℕ, zero, suc, ◌+◌, List, [], ◌∷◌, ◌++◌, length, take, map, codes, MatchBool, nat_le, Option, Some, None, Result, Ok, Err, if◌then◌else◌, slice_get}
 use Rattle.serde_json.specs.Data.{Data}
-use Rattle.fb_messages.specs.Text.Name.{name_of}
-use Rattle.fb_messages.specs.Text.declared.name.NameFault.{NameFault}
-use Rattle.fb_messages.specs.Parse.Source.{longest_text}
-use Rattle.fb_messages.specs.Library.Texts.{Edit, Puts, Removes}
-use Rattle.fb_messages.specs.KeysAndValues.Reads.{PlainJob}
-use Rattle.fb_messages.specs.History.Machine.{most_changes, Call, ToCommit, ToTake, ToDeliver, ToGiveBack, ToAsk, OfTake, OfDeliver}
-use Rattle.fb_messages.specs.Bench.Calls.{Answer, Replied, FullHistory, BehindHistory}
-use Rattle.fb_messages.specs.History.declared.answers.Delivered.TheVariants.{Accepted}
+use Rattle.fb_text.specs.Name.{name_of}
+use Rattle.fb_text.specs.declared.name.NameFault.{NameFault}
+use Rattle.fb_library.specs.Parse.Source.{longest_text}
+use Rattle.fb_library.specs.Texts.{Edit, Puts, Removes}
+use Rattle.fb_messages.specs.Jobs.Reads.{PlainJob}
+use Rattle.fb_bench.specs.History.Machine.{most_changes, Call, ToCommit, ToTake, ToDeliver, ToGiveBack, ToAsk, OfTake, OfDeliver}
+use Rattle.fb_bench.specs.Calls.{Answer, Replied, FullHistory, BehindHistory}
+use Rattle.fb_bench.specs.History.declared.answers.Delivered.TheVariants.{Accepted}
 use Rattle.fb_wire.specs.Lines.{Fits, is_blank}
 use Rattle.fb_messages.specs.Replies.{refused, work_done, work_refused, reply_line}
 use Rattle.fb_wire.specs.Said.{said_to}

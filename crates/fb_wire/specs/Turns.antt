@@ -1,7 +1,7 @@
 -- For private clauses: what one read comes to.
 use Rattle.std.specs.Prelude.{⊤, List, ℕ, Result}
-use Rattle.fb_messages.specs.History.Machine.{Call}
-use Rattle.fb_messages.specs.Bench.Calls.{Answer}
+use Rattle.fb_bench.specs.History.Machine.{Call}
+use Rattle.fb_bench.specs.Calls.{Answer}
 use Rattle.fb_wire.specs.Served.{PieceTaken}
 use Rattle.fb_wire.specs.declared.end.RunEnd.{RunEnd}
 use Rattle.fb_wire.specs.declared.end.RunEnd.TheVariants as end

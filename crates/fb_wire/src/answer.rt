@@ -2,22 +2,21 @@
 ghost use Rattle.std.specs.Prelude.{◌≡◌, ℕ, Some, option_map, length, map};
 ghost use Rattle.std.specs.Option.{option_copied};
 ghost use Rattle.std.specs.Result.{result_ok};
-ghost use Rattle.fb_messages.specs.Text.Name.{name_of};
-ghost use Rattle.fb_messages.specs.Bench.Calls.{take_reply, ask_reply};
-ghost use Rattle.fb_messages.specs.History.Machine.{ToCommit, ToDeliver, ToGiveBack, ToAsk, OfCommit, OfDeliver, OfGiveBack};
-ghost use Rattle.fb_messages.specs.Bench.Records.{listed};
+ghost use Rattle.fb_text.specs.Name.{name_of};
+ghost use Rattle.fb_bench.specs.Calls.{take_reply, ask_reply};
+ghost use Rattle.fb_bench.specs.History.Machine.{ToCommit, ToDeliver, ToGiveBack, ToAsk, OfCommit, OfDeliver, OfGiveBack};
+ghost use Rattle.fb_bench.specs.Records.{listed};
 ghost use Rattle.fb_wire.specs.Said.{said_to};
 ghost use Rattle.fb_messages.specs.RequestView.{change_view, request_view};
 ghost use Rattle.fb_wire.specs.Served.{Served, RoundServed, KeepsTaken, Takes, left_after, answer_in, reply_in};
 ghost use Rattle.fb_wire.specs.Talk.{plan_of, with_name, commit_plan, edits_in, Jobs, Plan, after_deliver, call_once, job_at, take_plan, deliver_plan, work_plan};
 
 use crate::change::{ChangeFault, changes_of};
-use fb_messages::bench::jobs::{Finished, Job, Key, Kind};
-use fb_messages::bench::library::Change;
-use fb_messages::bench::{Desk, DeskRefused, Taken};
-use fb_messages::history::{Asked, Committed, Delivered, GivenBack};
-use fb_messages::text::Name;
+use fb_bench::{Asked, Committed, Delivered, Desk, DeskRefused, GivenBack, Taken};
+use fb_library::Change;
+use fb_messages::jobs::{Finished, Job, Key, Kind};
 use fb_messages::{AskedChange, Refusal, Reply, Request};
+use fb_text::Name;
 use std::alloc::{AllocError, Global};
 
 /// How many jobs a run may hold.

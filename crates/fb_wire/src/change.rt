@@ -5,10 +5,10 @@ ghost use Rattle.fb_wire.specs.Served.{ChangeMade, ChangesMade};
 ghost use Rattle.fb_messages.specs.Requests.{puts, removes};
 ghost use Rattle.fb_wire.specs.Talk.{edit_in, edits_in};
 
-use fb_messages::bench::library::Change;
-use fb_messages::bench::parse::{ReadFault, Source};
-use fb_messages::text::Name;
+use fb_library::Change;
+use fb_library::parse::{ReadFault, Source};
 use fb_messages::{AskedChange, Refusal};
+use fb_text::Name;
 use std::alloc::Global;
 
 /// Why a change was not made.

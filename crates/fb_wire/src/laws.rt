@@ -1,7 +1,7 @@
 //! What is decided of a conversation.
 ghost use Rattle.std.specs.Prelude.{◌≡◌, ℕ, List};
-ghost use Rattle.fb_messages.specs.Bench.Solo.{IsStep};
-ghost use Rattle.fb_messages.specs.History.Story.{Story};
+ghost use Rattle.fb_bench.specs.Solo.{IsStep};
+ghost use Rattle.fb_bench.specs.History.Story.{Story};
 ghost use Rattle.fb_wire.specs.Ends.{AnsweredAll, IsBetweenLines, Stands};
 ghost use Rattle.fb_wire.specs.Talk.{Pair, Runs, answers_of};
 ghost use Rattle.fb_wire.specs.declared.end.RunEnd.{RunEnd};

@@ -17,15 +17,14 @@ pub use laws::{one_script, one_talk};
 pub use line::write_all;
 pub use run::{run_lines, run_script};
 
-/// Of `fb_messages::bench` and `fb_messages::history`, for the crates above.
-pub mod bench {
-    pub use fb_messages::bench::{
-        Answered, Bench, Request, Shown, Taken, flatten, iface, jobs, library, parse,
-    };
-    pub use fb_messages::history::{Asked, Call, Committed, Delivered, Limits, Reply, TextChange};
+/// Of `fb_jobs`, for the crates above.
+pub mod jobs {
+    pub use fb_messages::jobs::{Finished, Job, Key, Kind};
 }
 
-/// Of `fb_messages::text`, for the crates above.
-pub mod text {
-    pub use fb_messages::text::Name;
+/// Of `fb_bench`, for the crates above.
+pub mod bench {
+    pub use fb_bench::{
+        Answered, Asked, Bench, Call, Delivered, Limits, Reply, Request, Shown, Taken, TextChange,
+    };
 }

@@ -9,8 +9,8 @@ ghost use Rattle.fb_wire.specs.Talk.{plan_of};
 
 use crate::answer::answer;
 use crate::end::RunEnd;
-use fb_messages::bench::Desk;
-use fb_messages::bench::jobs::Job;
+use fb_bench::Desk;
+use fb_messages::jobs::Job;
 use fb_messages::{Reply, request_in};
 use fb_streams::{Failed, Sink};
 use serde_json::Value;

@@ -7,7 +7,7 @@ ghost use Rattle.fb_wire.specs.Turns.{TakesPiece};
 
 use crate::end::RunEnd;
 use crate::line::{Conversation, say_line};
-use fb_messages::bench::Desk;
+use fb_bench::Desk;
 use fb_streams::Sink;
 use std::alloc::Global;
 

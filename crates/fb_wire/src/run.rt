@@ -1,7 +1,7 @@
 //! The whole conversation.
 ghost use Rattle.std.specs.Prelude.{◌≡◌, ◌↔◌, ◌≤◌, ◌<◌, ◌+◌, ℕ, List, [], ◌++◌, length, IsTrue, IfErr, Ok, Err, false};
 ghost use Rattle.std.specs.Io.KnownBytes.{Consumes, IsAtEnd};
-ghost use Rattle.fb_messages.specs.Bench.Solo.{IsStep};
+ghost use Rattle.fb_bench.specs.Solo.{IsStep};
 ghost use Rattle.fb_streams.specs.Streams.{StaysFlushed};
 ghost use Rattle.fb_wire.specs.Ends.{Stands};
 ghost use Rattle.fb_wire.specs.Script.{SaysBy};
@@ -11,7 +11,7 @@ ghost use Rattle.fb_wire.specs.Talk.{Pair, Runs};
 use crate::end::RunEnd;
 use crate::line::{Conversation, say_line};
 use crate::piece::take_piece;
-use fb_messages::bench::{Bench, Desk, Solo};
+use fb_bench::{Bench, Desk, Solo};
 use fb_streams::{Feed, Sink};
 use std::alloc::Global;
 

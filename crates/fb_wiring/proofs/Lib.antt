@@ -1,7 +1,24 @@
+-- Lemmas of the proofs.
 pub mod Locality
--- Passed on to the crates above, which do not list these libraries.
-pub use Rattle.fb_netcheck.proofs.Library as Library
-pub use Rattle.fb_netcheck.proofs.Iface as Iface
-pub use Rattle.fb_compose.proofs as Compose
-pub use Rattle.fb_netcheck.proofs.Text as Text
-pub use Rattle.fb_netcheck.proofs.Table as Table
+pub mod DecidedLemmas
+pub mod ExploreLemmas
+pub mod FilterLemmas
+pub mod GraphLemmas
+pub mod OrderLocality
+pub mod NameLemmas
+pub mod OrderLemmas
+pub mod PartLemmas
+pub mod ReachLemmas
+pub mod SearchLemmas
+pub mod StackLemmas
+pub mod SearchOfUnit
+pub mod FoundUnits
+pub mod KindLemmas
+pub mod LeftLemmas
+pub mod TableLemmas
+-- Of the crates below, for the crates above.
+pub use Rattle.fb_tree.proofs.Text as Text
+pub use Rattle.fb_iface.proofs.Parse as Parse
+pub use Rattle.fb_iface.proofs.Library as Library
+pub use Rattle.fb_iface.proofs as Iface
+pub use Rattle.fb_network.proofs as Network

@@ -1,8 +1,8 @@
 -- What is said under a name depends on the text under it alone.
 use Rattle.std.proofs.Common.{option_map, ap}
 use Rattle.std.specs.Option.{option_and_then}
-use Rattle.fb_netcheck.specs.Tree.Mentions.{unit_kind_of}
-use Rattle.fb_netcheck.specs.Library.View.{tree_of}
+use Rattle.fb_tree.specs.Mentions.{unit_kind_of}
+use Rattle.fb_iface.specs.Library.View.{tree_of}
 use Rattle.fb_wiring.specs.Applications.{applications_of}
 use Rattle.fb_wiring.specs.Local.{NetworksAreLocal}
 use Rattle.fb_wiring.specs.Networks.{network_of}

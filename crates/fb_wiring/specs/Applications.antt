@@ -1,6 +1,6 @@
 -- The applications of systems in plain.
 use Rattle.std.specs.Prelude.{List, [], map}
-use Rattle.fb_netcheck.specs.Tree.Tree.{ApplicationTree, DeclTree, block_type, adapter_type, subapplication_type, system_configuration}
+use Rattle.fb_tree.specs.Tree.{ApplicationTree, DeclTree, block_type, adapter_type, subapplication_type, system_configuration}
 use Rattle.fb_wiring.specs.Networks.{plain_network}
 use Rattle.fb_wiring.specs.declared.systems.Application.{Application}
 

@@ -1,9 +1,9 @@
 -- Networks, applications and kinds by name.
 use Rattle.std.specs.Prelude.{ℕ, List, Option, option_map}
-use Rattle.fb_netcheck.specs.Tree.Mentions.{unit_kind_of}
-use Rattle.fb_netcheck.specs.Tree.declared.kinds.UnitKind.{UnitKind}
-use Rattle.fb_netcheck.specs.Library.View.{Sources, tree_at}
-use Rattle.fb_compose.specs.Network.Plain.{PlainNetwork}
+use Rattle.fb_tree.specs.Mentions.{unit_kind_of}
+use Rattle.fb_tree.specs.declared.kinds.UnitKind.{UnitKind}
+use Rattle.fb_iface.specs.Library.View.{Sources, tree_at}
+use Rattle.fb_network.specs.Plain.{PlainNetwork}
 use Rattle.fb_wiring.specs.Applications.{applications_of}
 use Rattle.fb_wiring.specs.Networks.{network_of}
 use Rattle.fb_wiring.specs.declared.systems.Application.{Application}

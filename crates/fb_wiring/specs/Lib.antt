@@ -4,13 +4,21 @@ pub mod Networks
 pub mod Applications
 pub mod ByName
 pub mod Local
--- Passed on to the crates above, which do not list these libraries.
-pub use Rattle.fb_netcheck.specs.Tree as Tree
-pub use Rattle.fb_netcheck.specs.Parse as Parse
-pub use Rattle.fb_netcheck.specs.Library as Library
-pub use Rattle.fb_netcheck.specs.Iface as Iface
-pub use Rattle.fb_compose.specs.Network as Network
-pub use Rattle.fb_compose.specs as Compose
-pub use Rattle.fb_netcheck.specs.Table as Table
-pub use Rattle.fb_netcheck.specs.Text as Text
-pub use Rattle.fb_netcheck.specs as Netcheck
+pub mod Reaches
+pub mod Order
+pub mod Steps
+pub mod Graph
+pub mod LocalOrder
+pub mod Units
+pub mod Net
+pub mod Hints
+pub mod Tables
+-- Of the crates below, for the crates above.
+pub use Rattle.fb_tree.specs.Text as Text
+pub use Rattle.fb_tree.specs as Tree
+pub use Rattle.fb_iface.specs.Forms as Forms
+pub use Rattle.fb_iface.specs.Sections as Sections
+pub use Rattle.fb_iface.specs.Parse as Parse
+pub use Rattle.fb_iface.specs.Library as Library
+pub use Rattle.fb_iface.specs as Iface
+pub use Rattle.fb_network.specs as Network

@@ -1,7 +1,7 @@
 -- What networks, applications and kinds depend on.
 use Rattle.std.specs.Prelude.{◌≡◌, ℕ, List}
 use Rattle.std.specs.FinMap.{get}
-use Rattle.fb_netcheck.specs.Library.View.{Sources}
+use Rattle.fb_iface.specs.Library.View.{Sources}
 use Rattle.fb_wiring.specs.ByName.{applications_at, declared, kind_at}
 
 -- what is said under a name is the same in both

@@ -1,67 +1,61 @@
-//! What the trees of units say as networks in plain.
+//! What the trees of units say as networks in plain; which types reach themselves, and an order in which inner types come first; and
+//! what the nets of units are made of: networks and counts of types, kept nets, flat networks of types and applications.
 #![tactic(auto)]
 
+mod composed;
+mod cycles;
+mod flats;
+mod graph;
+mod hints;
+mod kinds;
 mod laws;
+mod loops;
+mod nets;
 mod networks;
+mod order_laws;
 mod ports;
+mod rest;
+mod search;
 mod systems;
+mod tables;
 
+pub use composed::{flat_of_applications, own_network};
+pub use flats::{add_flat, flat_of_type, is_missing};
+pub use hints::{Hints, KnownFlats, NoHints, is_known_whole, kept_count};
+pub use kinds::{has_net, is_of_system, is_subapplication};
 pub use laws::networks_are_local;
+pub use loops::recursive;
+pub use nets::Net;
 pub use networks::network;
+pub use order_laws::{ordered_is_not_recursive, recursion_is_local};
+pub use rest::Rest;
+pub use search::inner_first;
 pub use systems::{Application, applications};
+pub use tables::{Counts, Table, add_count, networks_of};
 
-/// Of `fb_netcheck::iface`, for the crates above.
-pub mod iface {
-    pub use fb_netcheck::iface::Fault;
-}
-
-/// Of `fb_netcheck::library`, for the crates above.
-pub mod library {
-    pub use fb_netcheck::library::{
-        Change, Library, View, far, mentions_by_name, near, tree_by_name,
-    };
-}
-
-/// Of `fb_netcheck::parse`, for the crates above.
-pub mod parse {
-    pub use fb_netcheck::parse::{ReadFault, Source};
-}
-
-/// Of `fb_compose::network`, for the crates above.
-pub mod plain {
-    pub use fb_compose::network::{
-        Border, Connection, End, Flat, FlatBlock, INSTANCE_LIMIT, Instance, InstanceKind, Link,
-        Network, Path, Port, is_same_sort, sort_number,
-    };
-}
-
-/// Of `fb_netcheck::tree`, for the crates above.
-pub mod tree {
-    pub use fb_netcheck::tree::{
-        Application, Constant, Decl, Device, Instance, Mapping, Parameter, Resource, Role, Side,
-        Simple, Sort,
-    };
-}
-
-/// Of `fb_compose`, for the crates above.
-pub mod compose {
-    pub use fb_compose::{
-        FlatApplication, Nets, chains_are_composed, compose, compose_by_part, compose_in_order,
-        count_instances, flat_is_one, join, sort_once, system_is_one,
-    };
-}
-
-/// Of `fb_netcheck::table`, for the crates above.
-pub mod table {
-    pub use fb_netcheck::table::names_of;
-}
-
-/// Of `fb_netcheck::text`, for the crates above.
+/// Of `fb_text`, for the crates above.
 pub mod text {
-    pub use fb_netcheck::text::{Name, NameUse, Span, Token, TokenFault, same_name, tokens};
+    pub use fb_tree::text::Name;
 }
 
-/// Of `fb_netcheck`, for the crates above.
-pub mod netcheck {
-    pub use fb_netcheck::{part_of, text_by_name};
+/// Of `fb_parse`, for the crates above.
+pub mod parse {
+    pub use fb_iface::parse::Source;
+}
+
+/// Of `fb_library`, for the crates above.
+pub mod library {
+    pub use fb_iface::library::{
+        Change, Library, View, far, mentions_by_name, names_of, near, open_new, tree_by_name,
+    };
+}
+
+/// Of `fb_iface`, for the crates above.
+pub mod iface {
+    pub use fb_iface::Fault;
+}
+
+/// Of `fb_network`, for the crates above.
+pub mod plain {
+    pub use fb_network::{Flat, INSTANCE_LIMIT, count_instances};
 }

@@ -1,13 +1,13 @@
 //! The networks of units in plain (IEC 61499-1, 5.4: subapplication types).
 ghost use Rattle.std.specs.Prelude.{◌≡◌, IfOk, map};
 ghost use Rattle.std.specs.List.{filter_map};
-ghost use Rattle.fb_netcheck.specs.Tree.Tree.{decl_tree, instance_tree, network_tree};
+ghost use Rattle.fb_tree.specs.Tree.{decl_tree, instance_tree, network_tree};
 ghost use Rattle.fb_wiring.specs.Networks.{network_of, plain_connection, plain_end, plain_instance, plain_network};
 
 use crate::ports::ports_of_type;
-use fb_compose::network as plain;
-use fb_compose::network::{InstanceKind, Port};
-use fb_netcheck::tree::{Connection, Decl, End, Instance, Network, Role};
+use fb_network as plain;
+use fb_network::{InstanceKind, Port};
+use fb_tree::{Connection, Decl, End, Instance, Network, Role};
 use std::alloc::{AllocError, Global};
 
 /// The network of a unit. A block type or an adapter type has ports alone; a system has no network of its own.

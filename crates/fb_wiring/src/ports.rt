@@ -1,15 +1,15 @@
 //! The ports of a type in plain (IEC 61499-1, 5.2: interfaces of function block types; 5.5: adapters).
 ghost use Rattle.std.specs.Prelude.{◌≡◌, ◌++◌, IfOk, OnOk, map};
-ghost use Rattle.fb_netcheck.specs.Tree.Tree.{type_tree};
-ghost use Rattle.fb_netcheck.specs.Tree.declared.interface.Side.TheVariants as sides;
-ghost use Rattle.fb_netcheck.specs.Tree.declared.network.Role.TheVariants as roles;
-ghost use Rattle.fb_netcheck.specs.Iface.Ports.{data_on, events_on, instances_as, meanings_in_type};
+ghost use Rattle.fb_tree.specs.Tree.{type_tree};
+ghost use Rattle.fb_tree.specs.declared.interface.Side.TheVariants as sides;
+ghost use Rattle.fb_tree.specs.declared.network.Role.TheVariants as roles;
+ghost use Rattle.fb_iface.specs.Ports.{data_on, events_on, instances_as, meanings_in_type};
 ghost use Rattle.fb_wiring.specs.Ports.{plain_adapter, plain_data, plain_event, plain_ports};
 
-use fb_compose::network::Port;
-use fb_netcheck::iface::Ports;
-use fb_netcheck::text::{Name, NameUse};
-use fb_netcheck::tree::{Side, Sort, TypeDeclaration, TypeUse};
+use fb_iface::Ports;
+use fb_network::Port;
+use fb_tree::text::{Name, NameUse};
+use fb_tree::{Side, Sort, TypeDeclaration, TypeUse};
 use std::alloc::{AllocError, Global};
 
 /// The ports of a type: events and data, inputs before outputs, then plugs and sockets.

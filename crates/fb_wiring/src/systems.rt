@@ -1,13 +1,13 @@
 //! The applications of systems in plain (IEC 61499-1, clause 7: system configurations).
 ghost use Rattle.std.specs.Prelude.{◌≡◌, IfOk, map};
-ghost use Rattle.fb_netcheck.specs.Tree.Tree.{application_tree, decl_tree};
+ghost use Rattle.fb_tree.specs.Tree.{application_tree, decl_tree};
 ghost use Rattle.fb_wiring.specs.Applications.{applications_of, plain_application};
 
 use crate::networks::network_with;
-use fb_compose::network::Network;
-use fb_netcheck::text::Name;
-use fb_netcheck::tree as trees;
-use fb_netcheck::tree::Decl;
+use fb_network::Network;
+use fb_tree as trees;
+use fb_tree::Decl;
+use fb_tree::text::Name;
 use std::alloc::{AllocError, Global};
 
 /// An application of a system with its network, which has no ports.

@@ -1,23 +1,23 @@
 -- A network whose event input is joined to that of its block, and the type of the block: both are clean.
 use Rattle.std.proofs.Common.{ℕ, zero, suc, ◌≡◌, ◌<◌, List, [], ◌∷◌, Some, ◌⊎◌, inl, inr, ◌∙◌, ap, subst, arith}
 use Rattle.std.specs.Prelude.{Contains, option_and_then, slice_index_or, take}
-use Rattle.fb_deploy.specs.Tree.declared.network.Sort.{Sort}
-use Rattle.fb_deploy.specs.Tree.declared.network.Sort.TheVariants.{Event}
-use Rattle.fb_deploy.specs.Tree.declared.interface.Side.TheVariants.{Input}
-use Rattle.fb_deploy.specs.Network.declared.network.Port.{Port}
-use Rattle.fb_deploy.specs.Network.declared.network.InstanceKind.TheVariants.{Block, Subapplication}
-use Rattle.fb_deploy.specs.Network.declared.network.Instance.{Instance}
-use Rattle.fb_deploy.specs.Network.declared.network.End.{End}
-use Rattle.fb_deploy.specs.Network.declared.network.End.TheVariants.{Own, Of}
-use Rattle.fb_deploy.specs.Network.declared.network.Connection.{Connection}
-use Rattle.fb_deploy.specs.Network.Plain.{PlainNetwork}
-use Rattle.fb_deploy.specs.Network.Network.{View, instance_named, IsConnected}
-use Rattle.fb_deploy.specs.Network.Clean.{IsClean, IsCleanThroughout, CleanThroughout, IsDeclared, IsSource, IsDestination, type_of, side_at}
+use Rattle.fb_tree.specs.declared.network.Sort.{Sort}
+use Rattle.fb_tree.specs.declared.network.Sort.TheVariants.{Event}
+use Rattle.fb_tree.specs.declared.interface.Side.TheVariants.{Input}
+use Rattle.fb_network.specs.declared.network.Port.{Port}
+use Rattle.fb_network.specs.declared.network.InstanceKind.TheVariants.{Block, Subapplication}
+use Rattle.fb_network.specs.declared.network.Instance.{Instance}
+use Rattle.fb_network.specs.declared.network.End.{End}
+use Rattle.fb_network.specs.declared.network.End.TheVariants.{Own, Of}
+use Rattle.fb_network.specs.declared.network.Connection.{Connection}
+use Rattle.fb_network.specs.Plain.{PlainNetwork}
+use Rattle.fb_network.specs.Network.{View, instance_named, IsConnected}
+use Rattle.fb_network.specs.Clean.{IsClean, IsCleanThroughout, CleanThroughout, IsDeclared, IsSource, IsDestination, type_of, side_at}
 use Rattle.network_tests.specs.Border.{input, inner}
-use Rattle.fb_deploy.specs.Compose.Ordered.{IsNext}
-use Rattle.fb_deploy.proofs.Compose.Equals.{bytes_same}
-use Rattle.fb_deploy.proofs.Text.Members.{contains_nothing, contains_cases}
-use Rattle.fb_deploy.proofs.Compose.Composing.{found_by_name}
+use Rattle.fb_network.specs.Ordered.{IsNext}
+use Rattle.fb_network.proofs.Equals.{bytes_same}
+use Rattle.fb_tree.proofs.Text.Members.{contains_nothing, contains_cases}
+use Rattle.fb_network.proofs.Composing.{found_by_name}
 
 only : {X : Type 0} (x y : X) → Contains (x ∷ []) y → x ≡ y
 only {X = X} x y c = by_case (contains_cases x [] y c)

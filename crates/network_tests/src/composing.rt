@@ -1,19 +1,16 @@
 //! Flat networks, composed of those of inner types.
 ghost use Rattle.std.specs.Prelude.{◌≡◌, Some};
 ghost use Rattle.std.specs.BTreeMap.{get};
-ghost use Rattle.fb_deploy.specs.Text.Order.{name_cmp};
+ghost use Rattle.fb_tree.specs.Text.Order.{name_cmp};
 ghost use Rattle.network_tests.specs.Border.{inner};
 
-use crate::told::{flat_told, same};
-use fb_deploy::compose::{
-    FlatApplication, chains_are_composed, compose, compose_in_order, count_instances, flat_is_one,
-    join, system_is_one,
+use crate::told::flat_told;
+use fb_network::{
+    Border, Connection, End, Flat, FlatApplication, FlatBlock, Instance, InstanceKind, Link,
+    Network, Path, Port, compose, compose_in_order, count_instances, join,
 };
-use fb_deploy::network::{
-    Border, Connection, End, Flat, FlatBlock, Instance, InstanceKind, Link, Network, Path, Port,
-};
-use fb_deploy::text::Name;
-use fb_deploy::tree::{Side, Sort};
+use fb_tree::text::Name;
+use fb_tree::{Side, Sort};
 use std::alloc::Global;
 use std::collections::BTreeMap;
 use std::process::Abort;
@@ -62,7 +59,7 @@ fn add(
 
 /// Compares a flat network with what is expected.
 fn compare(rt: &impl Abort, alloc: Global, flat: &Flat, expected: &str) -> Result<(), Fail> {
-    same(rt, flat_told(alloc, flat)?.as_str(), expected, "a network");
+    assert_eq!(rt; flat_told(alloc, flat)?.as_str(), expected);
     Ok(())
 }
 
@@ -158,11 +155,4 @@ fn a_block_behind_a_border(rt: HostRuntime) -> Result<(), Fail> {
     let mut types = BTreeMap::new(alloc);
     types.insert(type_name, inner)?;
     compare_border(&rt, alloc, &types, type_name, name, event)
-}
-
-#[test]
-fn laws(_rt: HostRuntime) {
-    chains_are_composed();
-    flat_is_one();
-    system_is_one();
 }

@@ -1,16 +1,16 @@
 //! The nets of units where the net of one unit is kept.
 ghost use Rattle.std.specs.Prelude.{◌≡◌, true, Some, IfOk};
-ghost use Rattle.fb_deploy.specs.Library.Texts.{sources_of};
-ghost use Rattle.fb_deploy.specs.Library.View.{tree_at};
-ghost use Rattle.fb_deploy.specs.Flatten.Net.{plain_net};
-ghost use Rattle.fb_deploy.specs.Flatten.Nets.{has_net_in, net_at};
+ghost use Rattle.fb_library.specs.Texts.{sources_of};
+ghost use Rattle.fb_library.specs.View.{tree_at};
+ghost use Rattle.fb_flatten.specs.Net.{plain_net};
+ghost use Rattle.fb_flatten.specs.Nets.{has_net_in, net_at};
 ghost use Rattle.network_tests.specs.Kept.{hint_of};
 
 use crate::nets::{ADAPTERS, B, CYCLE, FAULTY, TWO_APPLICATIONS, TWO_TARGETS, chain};
-use crate::told::{library_of, net_told, same, unit_net_told};
-use fb_deploy::flatten::{Hints, Net, is_of_net, net_of_unit, net_of_unit_with};
-use fb_deploy::library::Library;
-use fb_deploy::text::{Name, same_name};
+use crate::told::{library_of, net_told, unit_net_told};
+use fb_flatten::{Hints, Net, is_of_net, net_of_unit, net_of_unit_with};
+use fb_library::Library;
+use fb_tree::text::{Name, same_name};
 use std::alloc::{AllocError, Global};
 use std::process::Abort;
 use std::test::Fail;
@@ -88,9 +88,13 @@ fn compare_with_kept(
 ) -> Result<(), Fail>
     requires { net_at (sources_of library.now) kept.now.unit ≡ Some (plain_net kept.now.net) }
 {
-    same(rt, unit_net_told(alloc, library, unit)?.as_str(), net, unit);
+    assert_eq!(rt;
+        unit_net_told(alloc, library, unit)?.as_str(),
+        net,
+        "{unit}"
+    );
     let told = net_beside_told(alloc, library, unit, kept)?;
-    same(rt, told.as_str(), net, unit);
+    assert_eq!(rt; told.as_str(), net, "{unit}");
     Ok(())
 }
 
@@ -110,7 +114,7 @@ type Row = (&'static str, &'static str, &'static str, &'static str);
 fn compare(rt: &impl Abort, alloc: Global, library: &Library, row: &Row) -> Result<(), Fail> {
     let (inner, sort, unit, net) = *row;
     let kept = kept_of(alloc, library, inner)?;
-    same(rt, sort_of(&kept.net), sort, inner);
+    assert_eq!(rt; sort_of(&kept.net), sort, "{inner}");
     compare_with_kept(rt, alloc, library, &kept, unit, net)
 }
 

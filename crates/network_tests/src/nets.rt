@@ -1,11 +1,8 @@
 //! The nets of units.
-use crate::told::{library_of, names_told, net_told, put, same, unit_net_told};
-use fb_deploy::flatten::{
-    all_far, far_is_all, far_of_is_local, flat_networks_are_local, has_net_by_text, is_of_net,
-    net_at_is_local, net_at_is_net, net_is_local, net_of_unit, one_net,
-};
-use fb_deploy::library::{Change, Library};
-use fb_deploy::text::Name;
+use crate::told::{library_of, names_told, net_told, put, unit_net_told};
+use fb_flatten::{all_far, is_of_net, net_of_unit};
+use fb_library::{Change, Library};
+use fb_tree::text::Name;
 use std::alloc::Global;
 use std::process::Abort;
 use std::test::Fail;
@@ -108,9 +105,13 @@ fn compare(
     unit: &str,
     (far, net): (&str, &str),
 ) -> Result<(), Fail> {
-    same(rt, unit_net_told(alloc, library, unit)?.as_str(), net, unit);
-    same(rt, far_told(alloc, library, unit)?.as_str(), far, unit);
-    same(rt, own_net_told(alloc, library, unit)?.as_str(), net, unit);
+    assert_eq!(rt;
+        unit_net_told(alloc, library, unit)?.as_str(),
+        net,
+        "{unit}"
+    );
+    assert_eq!(rt; far_told(alloc, library, unit)?.as_str(), far, "{unit}");
+    assert_eq!(rt; own_net_told(alloc, library, unit)?.as_str(), net, "{unit}");
     Ok(())
 }
 
@@ -171,7 +172,11 @@ const CHAINED: &[(&str, &str)] = &[("S2", "X.X:B; X.Y:B; Y.X:B; Y.Y:B"), ("S13",
 /// Compares the nets of the chain.
 fn compare_chain(rt: &impl Abort, alloc: Global, library: &Library) -> Result<(), Fail> {
     for (unit, net) in CHAINED {
-        same(rt, unit_net_told(alloc, library, unit)?.as_str(), net, unit);
+        assert_eq!(rt;
+            unit_net_told(alloc, library, unit)?.as_str(),
+            *net,
+            "{unit}"
+        );
     }
     Ok(())
 }
@@ -180,16 +185,4 @@ fn compare_chain(rt: &impl Abort, alloc: Global, library: &Library) -> Result<()
 fn a_chain_that_doubles(rt: HostRuntime) -> Result<(), Fail> {
     let library = chain(rt.alloc())?;
     compare_chain(&rt, rt.alloc(), &library)
-}
-
-#[test]
-fn laws(_rt: HostRuntime) {
-    flat_networks_are_local();
-    one_net();
-    net_is_local();
-    far_is_all();
-    far_of_is_local();
-    has_net_by_text();
-    net_at_is_net();
-    net_at_is_local();
 }

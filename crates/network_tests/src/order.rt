@@ -1,8 +1,8 @@
 //! An order with inner types first, and types that reach themselves.
-use crate::told::{equal, library_of, names_in, names_told, order_told, put, same};
-use fb_deploy::library::{Change, Library, far};
-use fb_deploy::order::{inner_first, ordered_is_not_recursive, recursion_is_local, recursive};
-use fb_deploy::text::Name;
+use crate::told::{library_of, names_in, names_told, order_told, put};
+use fb_library::{Change, Library, far};
+use fb_tree::text::Name;
+use fb_wiring::{inner_first, recursive};
 use std::alloc::Global;
 use std::process::Abort;
 use std::test::Fail;
@@ -57,8 +57,8 @@ fn compare(
     unit: &str,
     (order, loops): (&str, &str),
 ) -> Result<(), Fail> {
-    same(rt, order_told(alloc, library, unit)?.as_str(), order, unit);
-    same(rt, loops_told(alloc, library, unit)?.as_str(), loops, unit);
+    assert_eq!(rt; order_told(alloc, library, unit)?.as_str(), order, "{unit}");
+    assert_eq!(rt; loops_told(alloc, library, unit)?.as_str(), loops, "{unit}");
     Ok(())
 }
 
@@ -90,7 +90,7 @@ fn inner_types_come_first(rt: HostRuntime) -> Result<(), Fail> {
 fn compare_recursive(rt: &impl Abort, alloc: Global, library: &Library) -> Result<(), Fail> {
     let names = names_in(alloc, "T S B")?;
     let found = recursive_told(alloc, library, names.as_slice())?;
-    same(rt, found.as_str(), "T B", "T S B");
+    assert_eq!(rt; found.as_str(), "T B");
     Ok(())
 }
 
@@ -127,9 +127,9 @@ fn ends_told(alloc: Global, names: &[Name]) -> Result<String, Fail> {
 }
 
 fn compare_ends(rt: &impl Abort, alloc: Global, order: &[Name]) -> Result<(), Fail> {
-    equal(rt, &order.len(), &4096, "units");
+    assert_eq!(rt; order.len(), 4096);
     let ends = ends_told(alloc, order)?;
-    same(rt, ends.as_str(), "U4095 U0", "ends");
+    assert_eq!(rt; ends.as_str(), "U4095 U0");
     Ok(())
 }
 
@@ -137,7 +137,7 @@ fn compare_ends(rt: &impl Abort, alloc: Global, order: &[Name]) -> Result<(), Fa
 fn compare_chain(rt: &impl Abort, alloc: Global, library: &Library) -> Result<(), Fail> {
     let order = inner_first(alloc, library, Name::read("U0")?)?.ok_or("no cycle")?;
     compare_ends(rt, alloc, order.as_slice())?;
-    same(rt, loops_told(alloc, library, "U0")?.as_str(), "", "U0");
+    assert_eq!(rt; loops_told(alloc, library, "U0")?.as_str(), "");
     Ok(())
 }
 
@@ -145,10 +145,4 @@ fn compare_chain(rt: &impl Abort, alloc: Global, library: &Library) -> Result<()
 fn a_chain_of_4096_units(rt: HostRuntime) -> Result<(), Fail> {
     let library = chain(rt.alloc())?;
     compare_chain(&rt, rt.alloc(), &library)
-}
-
-#[test]
-fn laws(_rt: HostRuntime) {
-    recursion_is_local();
-    ordered_is_not_recursive();
 }

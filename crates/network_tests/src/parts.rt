@@ -1,11 +1,9 @@
 //! Sorts, paths, links and borders, and the lists of networks and of flat networks.
-use crate::told::{equal, same, say_borders, say_links, say_network};
-use fb_deploy::mapping::path_names;
-use fb_deploy::network::{
-    Border, Flat, FlatBlock, Link, Network, Path, Port, is_same_sort, sort_number,
-};
-use fb_deploy::text::Name;
-use fb_deploy::tree::{Side, Sort};
+use crate::told::{say_borders, say_links, say_network};
+use fb_network::{Border, Link, Network, Path, Port, is_same_sort, sort_number};
+use fb_placing::path_names;
+use fb_tree::text::Name;
+use fb_tree::{Side, Sort};
 use std::alloc::{AllocError, Global};
 use std::test::Fail;
 
@@ -18,13 +16,13 @@ static SORTS: [(Sort, u8, [bool; 3]); 3] = [
 #[test]
 fn sorts_stand_in_their_order(rt: HostRuntime) {
     for (sort, number, are_same) in &SORTS {
-        equal(&rt, &sort_number(*sort), number, "the number of a sort");
+        assert_eq!(rt; sort_number(*sort), *number);
         let found = [
             is_same_sort(*sort, Sort::Event),
             is_same_sort(*sort, Sort::Data),
             is_same_sort(*sort, Sort::Adapter),
         ];
-        equal(&rt, &found, are_same, "sorts that are the same");
+        assert_eq!(rt; found, *are_same, "{sort:?}");
     }
 }
 
@@ -41,15 +39,10 @@ fn longer(alloc: Global) -> Result<Path, Fail> {
 #[test]
 fn paths_are_names_joined_by_points(rt: HostRuntime) -> Result<(), Fail> {
     let alloc = rt.alloc();
-    same(&rt, joined(alloc)?.as_str(), "A.B.C", "two within one");
-    same(&rt, longer(alloc)?.as_str(), "A.B", "one behind one");
+    assert_eq!(rt; joined(alloc)?.as_str(), "A.B.C", "two within one");
+    assert_eq!(rt; longer(alloc)?.as_str(), "A.B", "one behind one");
     let names = path_names(alloc, "APP.SUB.F")?;
-    equal(
-        &rt,
-        &names.as_slice(),
-        &["APP", "SUB", "F"].as_slice(),
-        "names",
-    );
+    assert_eq!(rt; names.as_slice(), ["APP", "SUB", "F"].as_slice(), "names");
     Ok(())
 }
 
@@ -94,7 +87,7 @@ fn links_stand_in_their_order(rt: HostRuntime) -> Result<(), Fail> {
     let mut links = links(rt.alloc())?;
     let told = links_told(rt.alloc(), &mut links)?;
     let expected = "Event A TO B; Event B TO A; Event B TO C; Data A TO D";
-    same(&rt, told.as_str(), expected, "links");
+    assert_eq!(rt; told.as_str(), expected);
     Ok(())
 }
 
@@ -127,7 +120,7 @@ fn borders_stand_in_their_order(rt: HostRuntime) -> Result<(), Fail> {
     let mut borders = borders(rt.alloc())?;
     let told = borders_told(rt.alloc(), &mut borders)?;
     let expected = "Event A AT B; Event B AT A; Event B AT C; Data A AT D";
-    same(&rt, told.as_str(), expected, "borders");
+    assert_eq!(rt; told.as_str(), expected);
     Ok(())
 }
 
@@ -144,6 +137,6 @@ fn networks_have_their_lists(rt: HostRuntime) -> Result<(), Fail> {
     let network = Network::new(ports, Vec::new(alloc), Vec::new(alloc));
     let mut told = String::new(alloc);
     say_network(&mut told, &network)?;
-    same(&rt, told.as_str(), "Event Input E", "a port");
+    assert_eq!(rt; told.as_str(), "Event Input E");
     Ok(())
 }

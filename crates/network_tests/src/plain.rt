@@ -1,9 +1,5 @@
 //! What units say as networks in plain.
-use crate::told::{library_of, plain_told, same};
-use fb_deploy::wiring::{
-    applications_are_clean, networks_are_clean, networks_are_local,
-    without_faults_nothing_is_reported,
-};
+use crate::told::{library_of, plain_told};
 use std::alloc::Global;
 use std::process::Abort;
 use std::test::Fail;
@@ -39,7 +35,7 @@ fn compare(
 ) -> Result<(), Fail> {
     let library = library_of(alloc, &[text])?;
     let found = plain_told(alloc, &library, unit)?;
-    same(rt, found.as_str(), network, unit);
+    assert_eq!(rt; found.as_str(), network, "{unit}");
     Ok(())
 }
 
@@ -53,12 +49,4 @@ fn compare_rows(rt: &impl Abort, alloc: Global, rows: &[(&str, &str, &str)]) -> 
 #[test]
 fn networks_are_what_the_texts_say(rt: HostRuntime) -> Result<(), Fail> {
     compare_rows(&rt, rt.alloc(), NETWORKS)
-}
-
-#[test]
-fn laws(_rt: HostRuntime) {
-    without_faults_nothing_is_reported();
-    networks_are_clean();
-    applications_are_clean();
-    networks_are_local();
 }

@@ -1,8 +1,6 @@
 //! Placements and plans of systems.
-use crate::told::{library_of, placement_told, plan_told, same};
-use fb_deploy::library::Library;
-use fb_deploy::mapping::{homes_are_nearest, one_place, place_is_local};
-use fb_deploy::{one_plan, plan_is_local};
+use crate::told::{library_of, placement_told, plan_told};
+use fb_library::Library;
 use std::alloc::Global;
 use std::process::Abort;
 use std::test::Fail;
@@ -40,7 +38,7 @@ fn compare(
     (system, expected): (&str, &str),
 ) -> Result<(), Fail> {
     let found = told(alloc, part, library, system)?;
-    same(rt, found.as_str(), expected, system);
+    assert_eq!(rt; found.as_str(), expected, "{system}");
     Ok(())
 }
 
@@ -211,13 +209,4 @@ fn compare_systems(rt: &impl Abort, alloc: Global, part: Part, rows: &[Row]) -> 
 fn systems_have_their_placements_and_plans(rt: HostRuntime) -> Result<(), Fail> {
     compare_systems(&rt, rt.alloc(), Part::Placement, PLACEMENTS)?;
     compare_systems(&rt, rt.alloc(), Part::Plan, PLANS)
-}
-
-#[test]
-fn laws(_rt: HostRuntime) {
-    one_place();
-    place_is_local();
-    homes_are_nearest();
-    one_plan();
-    plan_is_local();
 }

@@ -1,27 +1,14 @@
 //! Texts of units in, and what is made of them out, as phrases with `; ` between.
-use fb_deploy::flatten::{Net, has_net, net};
-use fb_deploy::library::{Change, Library, tree_by_name};
-use fb_deploy::mapping::{Home, Misplaced, Placed, is_system, place};
-use fb_deploy::network::{Border, End, Flat, FlatBlock, Link, Network};
-use fb_deploy::order::inner_first;
 use fb_deploy::parse::Source;
-use fb_deploy::text::Name;
-use fb_deploy::wiring::{applications, network};
 use fb_deploy::{Deploy, ResourcePlan, plan};
+use fb_flatten::{Net, has_net, net};
+use fb_library::{Change, Library, tree_by_name};
+use fb_mapping::{Home, Misplaced, Placed, is_system, place};
+use fb_network::{Border, End, Flat, FlatBlock, Link, Network};
+use fb_tree::text::Name;
+use fb_wiring::{applications, inner_first, network};
 use std::alloc::{AllocError, Global};
-use std::fmt::Debug;
-use std::process::Abort;
 use std::test::Fail;
-
-/// Compares what is told with what is expected.
-pub fn same(rt: &impl Abort, told: &str, expected: &str, about: &str) {
-    assert_eq!(rt; told, expected, "{about}");
-}
-
-/// Compares what is found with what is expected.
-pub fn equal<T: PartialEq + Debug>(rt: &impl Abort, found: &T, expected: &T, about: &str) {
-    assert_eq!(rt; found, expected, "{about}");
-}
 
 /// The name of a unit, which is the second word of its text.
 fn name_in(text: &str) -> Result<Name, Fail> {

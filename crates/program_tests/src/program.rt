@@ -1,5 +1,5 @@
 //! What the program's words ask for, and how its runs end.
-use fb_program::streams::{MemoryFeed, MemorySink};
+use fb_program::wire::{MemoryFeed, MemorySink};
 use fb_program::{Outcome, Settings, refuse_words, run, settings};
 use std::alloc::{AllocError, Global};
 use std::io::ErrorKind;

@@ -1,7 +1,8 @@
 //! Servers in this process, and clients that talk to them over loopback.
 ghost use Rattle.std.specs.Thread.{IsSync};
 
-use fb_serve::wire::{Limits, MemorySink};
+use fb_program::bench::Limits;
+use fb_program::wire::MemorySink;
 use fb_serve::{Numbers, serve_on};
 use std::alloc::{AllocError, Global};
 use std::io;

@@ -1,7 +1,6 @@
 //! Texts that are broken, and the places where they are. These were worked out by another reader, one that follows all spellings at once.
-use crate::told::{equal, same};
-use fb_parse::text::Name;
-use fb_parse::{Body, ReadFault, Source};
+use fb_library::parse::{Body, ReadFault, Source};
+use fb_text::Name;
 use std::alloc::Global;
 use std::process::Abort;
 use std::test::Fail;
@@ -17,7 +16,7 @@ fn place(alloc: Global, text: &str) -> Result<String, Fail> {
 
 /// Compares the place where a text is broken.
 fn compare_place(rt: &impl Abort, alloc: Global, text: &str, expected: &str) -> Result<(), Fail> {
-    same(rt, place(alloc, text)?.as_str(), expected, text);
+    assert_eq!(rt; place(alloc, text)?.as_str(), expected, "{text}");
     Ok(())
 }
 
@@ -71,7 +70,7 @@ fn the_longest_texts(rt: HostRuntime) -> Result<(), Fail> {
     compare_place(&rt, rt.alloc(), text.as_str(), "65536..65536")?;
     text.push(' ')?;
     let fault = fault_of(rt.alloc(), text.as_str());
-    equal(&rt, &fault, &Some(ReadFault::TextTooLong), "a blank more");
+    assert_eq!(rt; fault, Some(ReadFault::TextTooLong), "a blank more");
     Ok(())
 }
 

@@ -1,14 +1,19 @@
-//! Tests of reading: names and tokens, the parts of declarations, and the texts of units.
+//! Tests of reading and of libraries: names and tokens, the parts of declarations, the texts of units, tables by name, and the index of
+//! units by what they mention.
 //!
-//! A row of a table is a text with what is read of it, in words as `told` tells them, or with the place where it is broken.
+//! A row of a table of texts is a text with what is read of it, in words as `told` tells them, or with the place where it is broken.
 #![tactic(auto)]
 
 #[cfg(test)]
 mod broken;
 #[cfg(test)]
+mod index;
+#[cfg(test)]
 mod parts;
 #[cfg(test)]
 mod readers;
+#[cfg(test)]
+mod tables;
 #[cfg(test)]
 mod tokens;
 #[cfg(test)]

@@ -1,10 +1,10 @@
 //! The parts of declarations.
 use crate::readers::{Part, read};
-use crate::told::{equal, same, words};
-use fb_parse::lexemes::lexemes;
-use fb_parse::structured_text::expression;
-use fb_parse::text::Span;
-use fb_parse::tree::{Expr, LiteralForm};
+use crate::told::words;
+use fb_grammar::lexemes;
+use fb_structured_text::expression;
+use fb_text::Span;
+use fb_tree::{Expr, LiteralForm};
 use std::alloc::{AllocError, Global};
 use std::process::Abort;
 use std::test::Fail;
@@ -227,8 +227,8 @@ static STATEMENTS: [(Part, &str, &str, usize); 14] = [
 fn compare(rt: &impl Abort, alloc: Global, rows: &[(Part, &str, &str, usize)]) -> Result<(), Fail> {
     for (part, text, expected, left) in rows {
         let (words, behind) = read(alloc, *part, text)?;
-        same(rt, words.as_str(), expected, text);
-        equal(rt, &behind, left, text);
+        assert_eq!(rt; words.as_str(), *expected, "{text}");
+        assert_eq!(rt; behind, *left, "{text}");
     }
     Ok(())
 }
@@ -280,8 +280,8 @@ fn nested_parts(rt: HostRuntime) -> Result<(), Fail> {
     for (part, before, middle, behind, count, is_read, left) in &NESTED {
         let text = around(rt.alloc(), before, middle, behind, *count)?;
         let (words, rest) = read(rt.alloc(), *part, text.as_str())?;
-        equal(&rt, &(words.as_str() != "stops"), is_read, before);
-        equal(&rt, &rest, left, before);
+        assert_eq!(rt; words.as_str() != "stops", *is_read, "{before}");
+        assert_eq!(rt; rest, *left, "{before}");
     }
     Ok(())
 }
@@ -335,7 +335,7 @@ static VARIABLES: [(&str, &str); 3] = [
 fn variables(rt: HostRuntime) -> Result<(), Fail> {
     for (text, expected) in &VARIABLES {
         let told = variable_told(rt.alloc(), text)?;
-        same(&rt, told.as_str(), expected, text);
+        assert_eq!(rt; told.as_str(), *expected, "{text}");
     }
     Ok(())
 }
@@ -343,7 +343,7 @@ fn variables(rt: HostRuntime) -> Result<(), Fail> {
 #[test]
 fn literals(rt: HostRuntime) -> Result<(), Fail> {
     for (text, form) in &LITERALS {
-        equal(&rt, &form_of(rt.alloc(), text)?, form, text);
+        assert_eq!(rt; form_of(rt.alloc(), text)?, *form, "{text}");
     }
     Ok(())
 }

@@ -1,12 +1,11 @@
 //! The readers of the parts of declarations, each over a text of its own.
 use crate::told::{Tell, words};
-use fb_parse::forms::{NAMES, NameReader, Stop, names, separated, several};
-use fb_parse::lexemes::{Kind, Lexeme, lexemes};
-use fb_parse::section_readers::{
+use fb_grammar::{Kind, Lexeme, NAMES, NameReader, Stop, lexemes, names, separated, several};
+use fb_sections::{
     blocks, connections, data_variables, device, events, internal_variables, mappings, plugs,
     service, sockets, states, subapplications,
 };
-use fb_parse::structured_text::{expression, statements};
+use fb_structured_text::{expression, statements};
 use std::alloc::Global;
 use std::test::Fail;
 

@@ -1,7 +1,7 @@
 //! Names and tokens.
-use crate::told::{equal, names_told, same, words};
-use fb_parse::lexemes::{Kind, lexemes};
-use fb_parse::text::{Name, NameFault, TypeClass, same_name, sorted_names, tokens, type_class};
+use crate::told::{names_told, words};
+use fb_grammar::{Kind, lexemes};
+use fb_text::{Name, NameFault, TypeClass, same_name, sorted_names, tokens, type_class};
 use std::alloc::{AllocError, Global};
 use std::test::Fail;
 
@@ -50,9 +50,9 @@ fn parts(alloc: Global, text: &str) -> Result<String, Fail> {
 fn tokens_of_texts(rt: HostRuntime) -> Result<(), Fail> {
     for (text, expected) in &TOKENS {
         let found = tokens(rt.alloc(), text);
-        same(&rt, words(rt.alloc(), &found)?.as_str(), expected, text);
+        assert_eq!(rt; words(rt.alloc(), &found)?.as_str(), *expected, "{text}");
     }
-    same(&rt, parts(rt.alloc(), "A:=1")?.as_str(), "A := 1 ", "A:=1");
+    assert_eq!(rt; parts(rt.alloc(), "A:=1")?.as_str(), "A := 1 ");
     Ok(())
 }
 
@@ -112,7 +112,7 @@ fn kind_of(alloc: Global, text: &str) -> Result<Kind, Fail> {
 #[test]
 fn kinds_of_tokens(rt: HostRuntime) -> Result<(), Fail> {
     for (text, expected) in &KINDS {
-        equal(&rt, &kind_of(rt.alloc(), text)?, expected, text);
+        assert_eq!(rt; kind_of(rt.alloc(), text)?, *expected, "{text}");
     }
     Ok(())
 }
@@ -127,8 +127,8 @@ fn names_and_places(rt: HostRuntime) -> Result<(), Fail> {
     };
     assert!(rt; name.kind.is_among(&names) && !symbol.kind.is_among(&names));
     let used = words(rt.alloc(), &name.name_use())?;
-    same(&rt, used.as_str(), "A_1 0..3", text);
-    same(&rt, number.name.as_str(), "_", text);
+    assert_eq!(rt; used.as_str(), "A_1 0..3");
+    assert_eq!(rt; number.name.as_str(), "_");
     Ok(())
 }
 
@@ -164,23 +164,23 @@ fn names_are_sorted(rt: HostRuntime) -> Result<(), Fail> {
     let text = "b a_ B ab a";
     let names = names_in(rt.alloc(), text)?;
     let sorted = sorted_told(rt.alloc(), names.as_slice())?;
-    same(&rt, sorted.as_str(), "A AB A_ B ", text);
+    assert_eq!(rt; sorted.as_str(), "A AB A_ B ");
     Ok(())
 }
 
 #[test]
 fn texts_that_are_no_names(rt: HostRuntime) {
-    equal(&rt, &TOO_LONG.len(), &65, TOO_LONG);
+    assert_eq!(rt; TOO_LONG.len(), 65);
     for (text, fault) in &NO_NAMES {
-        equal(&rt, &Name::read(text).err(), &Some(*fault), text);
+        assert_eq!(rt; Name::read(text).err(), Some(*fault), "{text}");
     }
 }
 
 #[test]
 fn names_have_no_case(rt: HostRuntime) -> Result<(), Fail> {
-    same(&rt, Name::read("ab_1")?.as_str(), "AB_1", "ab_1");
+    assert_eq!(rt; Name::read("ab_1")?.as_str(), "AB_1");
     let found = [are_same("b", "B")?, are_same("b", "a_")?];
-    equal(&rt, &found, &[true, false], "names that are the same");
+    assert_eq!(rt; found, [true, false], "names that are the same");
     Ok(())
 }
 
@@ -196,9 +196,9 @@ static SHORT_NAMES: [(&str, bool); 4] = [
 fn short_names(rt: HostRuntime) -> Result<(), Fail> {
     for (text, is_short) in &SHORT_NAMES {
         let short = Name::read(text)?.shortened();
-        equal(&rt, &short.is_some(), is_short, text);
+        assert_eq!(rt; short.is_some(), *is_short, "{text}");
         if let Some(short) = short {
-            same(&rt, short.name().as_str(), text, text);
+            assert_eq!(rt; short.name().as_str(), *text);
         }
     }
     Ok(())
@@ -219,6 +219,6 @@ static CLASSES: [(&str, TypeClass); 9] = [
 #[test]
 fn classes_of_types(rt: HostRuntime) {
     for (word, class) in &CLASSES {
-        equal(&rt, &type_class(word.as_bytes()), class, word);
+        assert_eq!(rt; type_class(word.as_bytes()), *class, "{word}");
     }
 }

@@ -1,24 +1,12 @@
 //! What is read, told in words: of a list one part after the other, and a place as `3..5`, from the first byte up to the one behind.
-use fb_parse::text::{Name, NameUse, Span, Token, TokenFault};
-use fb_parse::tree::{
+use fb_library::parse::{Body, Source};
+use fb_text::{Name, NameUse, Span, Token, TokenFault};
+use fb_tree::{
     Algorithm, Application, Chart, Condition, Connection, Constant, Counting, Decl, Device, End,
     Event, Expr, Instance, Mapping, Network, Parameter, Reference, Simple, State, Stmt, System,
     Transition, TypeDeclaration, Variables,
 };
-use fb_parse::{Body, Source};
 use std::alloc::{AllocError, Global};
-use std::fmt::Debug;
-use std::process::Abort;
-
-/// Compares what is told of a text with what is expected.
-pub fn same(rt: &impl Abort, told: &str, expected: &str, text: &str) {
-    assert_eq!(rt; told, expected, "{text}");
-}
-
-/// Compares what is found in a text with what is expected.
-pub fn equal<T: PartialEq + Debug>(rt: &impl Abort, found: &T, expected: &T, text: &str) {
-    assert_eq!(rt; found, expected, "{text}");
-}
 
 /// What can be told in words.
 pub trait Tell {

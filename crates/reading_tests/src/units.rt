@@ -1,8 +1,8 @@
 //! The texts of units that are whole.
-use crate::told::{names_told, same, words};
-use fb_parse::text::Name;
-use fb_parse::tree::{Decl, mentions};
-use fb_parse::{Body, Source};
+use crate::told::{names_told, words};
+use fb_library::parse::{Body, Source};
+use fb_text::Name;
+use fb_tree::{Decl, mentions};
 use std::alloc::{AllocError, Global};
 use std::process::Abort;
 use std::test::Fail;
@@ -60,8 +60,8 @@ fn compare(
     text: &str,
     expected: &str,
 ) -> Result<(), AllocError> {
-    same(rt, source.text(), text, "the text");
-    same(rt, words(alloc, source)?.as_str(), expected, text);
+    assert_eq!(rt; source.text(), text, "the text");
+    assert_eq!(rt; words(alloc, source)?.as_str(), expected, "{text}");
     Ok(())
 }
 
@@ -108,7 +108,7 @@ fn mentioned(alloc: Global, text: &str) -> Result<String, Fail> {
 #[test]
 fn mentioned_types(rt: HostRuntime) -> Result<(), Fail> {
     for (text, expected) in &MENTIONS {
-        same(&rt, mentioned(rt.alloc(), text)?.as_str(), expected, text);
+        assert_eq!(rt; mentioned(rt.alloc(), text)?.as_str(), *expected, "{text}");
     }
     Ok(())
 }

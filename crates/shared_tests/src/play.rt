@@ -1,7 +1,7 @@
 //! A conversation of two callers, with the lock and without: the first commits A; the second, which is shown that, asks
 //! for its faults, takes the job, runs it, delivers the result, asks again and gives back what is not out.
 use crate::setup::{faults_of, new_locked, new_shared, pair, puts};
-use fb_shared::bench::jobs::{Job, Value};
+use fb_jobs::{Job, Value};
 use fb_shared::bench::{Asked, Committed, Delivered, GivenBack, Reply};
 use fb_shared::{Closed, Locked, NotClosed, Receipt, Seat, Shared, SharedRefused};
 use std::alloc::Global;

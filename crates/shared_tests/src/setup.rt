@@ -1,10 +1,10 @@
 //! Keys, changes, workbenches and seats for the tests.
+use fb_jobs::{Key, Kind};
 use fb_shared::bench::Limits;
-use fb_shared::bench::jobs::{Key, Kind};
-use fb_shared::bench::library::Change;
-use fb_shared::bench::parse::Source;
-use fb_shared::text::Name;
+use fb_shared::library::Change;
+use fb_shared::parse::Source;
 use fb_shared::{Locked, Seat, Shared};
+use fb_text::Name;
 use std::alloc::Global;
 
 const PLAIN: &str = "FUNCTION_BLOCK A END_FUNCTION_BLOCK";

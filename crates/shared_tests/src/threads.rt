@@ -1,8 +1,8 @@
 //! Two threads that ask, and two that work.
 use crate::play::{Counts, closed, is_accepted, is_done, is_taken, keep};
 use crate::setup::{faults_of, new_shared, puts};
+use fb_jobs::{Finished, Job};
 use fb_shared::bench::Limits;
-use fb_shared::bench::jobs::{Finished, Job};
 use fb_shared::{Gate, Plain, Receipt, Seat, Shared, WorkEnd, work_on};
 use std::alloc::{AllocError, Global};
 use std::hint::spin_loop;

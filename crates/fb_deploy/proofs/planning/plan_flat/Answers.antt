@@ -1,7 +1,7 @@
 -- The plan of the homes that were found is the plan.
 use Rattle.std.proofs.Common.{◌≡◌, sym, ◌∙◌, ap, subst, IfOk}
-use Rattle.fb_flatten.specs.Library.View.{tree_at}
-use Rattle.fb_flatten.specs.Mapping.Homes.{homes_of, plain_homes}
+use Rattle.fb_mapping.specs.Library.View.{tree_at}
+use Rattle.fb_mapping.specs.Placing.Homes.{homes_of, plain_homes}
 use Rattle.fb_deploy.specs.Deploy.{PlainDeploy, flat_plan, plain_deploy, tree_plan, with_homes}
 use Rattle.fb_deploy.proofs.planning.plan_flat.Goals as goal
 

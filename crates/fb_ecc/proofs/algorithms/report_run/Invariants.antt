@@ -1,8 +1,8 @@
 use Rattle.std.proofs.Common.{◌≡◌, ◌++◌, take}
 use Rattle.std.specs.BTreeSet.{contains}
 use Rattle.std.specs.List.{flat_map}
-use Rattle.fb_expr.specs.Text.Order.{name_cmp}
-use Rattle.fb_expr.specs.Tree.Tree.{state_tree}
+use Rattle.fb_tree.specs.Text.Order.{name_cmp}
+use Rattle.fb_tree.specs.Tree.{state_tree}
 use Rattle.fb_ecc.specs.Algorithms.{run_faults}
 use Rattle.fb_ecc.proofs.algorithms.report_run.Given as goal
 

@@ -1,7 +1,7 @@
 use Rattle.std.proofs.Common.{◌≡◌, ◌++◌, take}
 use Rattle.std.specs.BTreeSet.{contains}
 use Rattle.std.specs.List.{flat_map}
-use Rattle.fb_expr.specs.Text.Order.{name_cmp}
+use Rattle.fb_tree.specs.Text.Order.{name_cmp}
 use Rattle.fb_ecc.specs.Algorithms.{run_faults}
 use Rattle.fb_ecc.proofs.algorithms.report_run_by.Given as goal
 

@@ -2,9 +2,9 @@ use Rattle.std.proofs.Common.{◌≡◌, ◌++◌, ◌∙◌, ℕ, List, map, ap
 use Rattle.std.specs.BTreeSet.{contains}
 use Rattle.std.specs.List.{flat_map}
 use Rattle.std.proofs.lemmas.Result.{on_ok_weaker}
-use Rattle.fb_expr.specs.Text.Order.{name_cmp}
-use Rattle.fb_expr.specs.Tree.Tree.{transition_tree}
-use Rattle.fb_expr.specs.Iface.Names.{has_name}
+use Rattle.fb_tree.specs.Text.Order.{name_cmp}
+use Rattle.fb_tree.specs.Tree.{transition_tree}
+use Rattle.fb_iface.specs.Names.{has_name}
 use Rattle.fb_ecc.specs.States.{transition_faults}
 use Rattle.fb_ecc.proofs.TreeLemmas.{states_joined}
 use Rattle.fb_ecc.proofs.states.report_states.Goals as goal

@@ -1,6 +1,6 @@
 -- The entry that is written through is the one at the key.
 use Rattle.std.proofs.Common.{rules, refl}
-use Rattle.fb_history.specs.KeysAndValues.KeyOrder.{same_key}
+use Rattle.fb_jobs.specs.KeyOrder.{same_key}
 use Rattle.fb_entries.specs.declared.entry.Entry.{Entry}
 use Rattle.fb_entries.proofs.Writes.{written, unwritten}
 use Rattle.fb_entries.proofs.entry.mark_out.Goals as goal

@@ -1,5 +1,5 @@
 use Rattle.std.proofs.Common.{◌≡◌, take, filter, not}
-use Rattle.fb_history.specs.KeysAndValues.Keys.{has_key}
+use Rattle.fb_jobs.specs.Keys.{has_key}
 use Rattle.fb_entries.proofs.renewal.absent.Given as goal
 
 abbrev pub invariant-loop-key : goal.invariant-loop-key

@@ -1,6 +1,6 @@
 use Rattle.std.proofs.Common.{◌≡◌, take, filter, not}
 use Rattle.std.specs.BTreeSet as set
-use Rattle.fb_history.specs.KeysAndValues.KeyOrder.{key_cmp}
+use Rattle.fb_jobs.specs.KeyOrder.{key_cmp}
 use Rattle.fb_entries.proofs.renewal.not_in.Given as goal
 
 abbrev pub invariant-loop-key : goal.invariant-loop-key

@@ -4,7 +4,7 @@ use Rattle.std.proofs.lemmas.Grind.{common_steps}
 use Rattle.std.specs.Map.{lookup}
 use Rattle.std.specs.BTreeMap as tree
 use Rattle.std.specs.BTreeMap.{is_at}
-use Rattle.fb_history.specs.KeysAndValues.KeyOrder.{key_cmp, same_key}
+use Rattle.fb_jobs.specs.KeyOrder.{key_cmp, same_key}
 use Rattle.fb_entries.specs.Marking.{is_of, blank}
 use Rattle.fb_entries.proofs.KeySteps.{of_now, of_front, others_more, entry_more}
 use Rattle.fb_entries.proofs.renewal.put_blank.Goals as goal

@@ -2,7 +2,7 @@
 use Rattle.std.proofs.Common.{◌≡◌, ◌+◌, ◌++◌, ◌∷◌, [], take, None, cond, ap, sym, ◌∙◌, arith}
 use Rattle.std.proofs.lemmas.Grind.{common_steps}
 use Rattle.std.specs.BTreeMap as tree
-use Rattle.fb_history.specs.KeysAndValues.KeyOrder.{key_cmp, same_key}
+use Rattle.fb_jobs.specs.KeyOrder.{key_cmp, same_key}
 use Rattle.fb_entries.specs.Marking.{is_of}
 use Rattle.fb_entries.proofs.KeySteps.{of_now, out_more}
 use Rattle.fb_entries.proofs.renewal.take_out.Goals as goal

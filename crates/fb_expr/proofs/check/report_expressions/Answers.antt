@@ -3,7 +3,7 @@ use Rattle.std.proofs.lemmas.List.Folds.{flat_map-map}
 use Rattle.std.proofs.lemmas.Result.{on_ok_weaker}
 use Rattle.std.specs.List.{flat_map}
 use Rattle.fb_tree.specs.Tree.{algorithm_tree, transition_tree}
-use Rattle.fb_netcheck.specs.Iface.Kept.{scope_in}
+use Rattle.fb_iface.specs.Kept.{scope_in}
 use Rattle.fb_expr.specs.Charts.{algorithm_faults, transition_faults}
 use Rattle.fb_expr.proofs.check.report_expressions.Goals as goal
 

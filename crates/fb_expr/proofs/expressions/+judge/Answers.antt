@@ -1,7 +1,7 @@
 use Rattle.std.proofs.Common.{◌≡◌, ◌++◌, ◌∙◌, ap, map, sym, append_assoc}
 use Rattle.std.proofs.lemmas.Result.{IfOk-weaker, on_ok_weaker}
 use Rattle.fb_tree.specs.Expression.{expression_tree, operand_tree, operands_of}
-use Rattle.fb_netcheck.specs.Iface.Kept.{scope_in}
+use Rattle.fb_iface.specs.Kept.{scope_in}
 use Rattle.fb_expr.specs.Expressions.{class_in, faults_in, row_class, row_faults}
 use Rattle.fb_expr.proofs.TreeLemmas.{tree-Row}
 use Rattle.fb_expr.proofs.expressions.+judge.Goals as goal

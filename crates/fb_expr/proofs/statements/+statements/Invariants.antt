@@ -1,7 +1,7 @@
 use Rattle.std.proofs.Common.{◌≡◌, ◌++◌, drop, map}
 use Rattle.fb_tree.specs.Expression.{expression_tree}
 use Rattle.fb_tree.specs.Statement.{arms_of, statement_tree, statements_of}
-use Rattle.fb_netcheck.specs.Iface.Kept.{scope_in}
+use Rattle.fb_iface.specs.Kept.{scope_in}
 use Rattle.fb_expr.specs.Statements.{arms_faults, statements_faults}
 use Rattle.fb_expr.proofs.statements.+statements.Given as goal
 

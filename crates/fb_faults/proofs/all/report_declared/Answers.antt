@@ -1,12 +1,12 @@
 use Rattle.std.proofs.Common.{◌++◌, ◌∙◌, Some, ap, sym}
 use Rattle.std.proofs.lemmas.Result.{on_ok_weaker}
-use Rattle.fb_declarations.specs.Tree.Tree.{block_type, decl_tree, subapplication_type, system_configuration, system_tree, type_tree}
-use Rattle.fb_declarations.specs.Tree.declared.kinds.UnitKind.TheVariants.{Subapplication}
-use Rattle.fb_declarations.specs.Parse.Body.{Whole}
-use Rattle.fb_declarations.specs.Iface.Declarations.{declaration_faults}
-use Rattle.fb_declarations.specs.Netcheck.Networks.{declared_faults, tree_faults, type_network}
-use Rattle.fb_declarations.specs.Expr.Charts.{faults_in_unit}
-use Rattle.fb_declarations.specs.Ecc.Charts.{chart_faults_in}
+use Rattle.fb_tree.specs.Tree.{block_type, decl_tree, subapplication_type, system_configuration, system_tree, type_tree}
+use Rattle.fb_tree.specs.declared.kinds.UnitKind.TheVariants.{Subapplication}
+use Rattle.fb_netcheck.specs.Parse.Body.{Whole}
+use Rattle.fb_netcheck.specs.Iface.Declarations.{declaration_faults}
+use Rattle.fb_netcheck.specs.Networks.{declared_faults, tree_faults, type_network}
+use Rattle.fb_expr.specs.Charts.{faults_in_unit}
+use Rattle.fb_ecc.specs.Charts.{chart_faults_in}
 use Rattle.fb_faults.specs.Faults.{block_faults, reported_in}
 use Rattle.fb_faults.specs.Mappings.{system_mapping_faults}
 use Rattle.fb_faults.proofs.JoinLemmas.{block_joined, subapplication_joined, system_joined}

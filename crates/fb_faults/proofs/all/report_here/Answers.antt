@@ -1,10 +1,10 @@
 use Rattle.std.proofs.Common.{◌≡◌, ◌++◌, ◌∙◌, ap}
 use Rattle.std.proofs.lemmas.Result.{on_ok_weaker}
-use Rattle.fb_declarations.specs.Tree.Tree.{type_tree}
-use Rattle.fb_declarations.specs.Netcheck.Networks.{network_faults}
-use Rattle.fb_declarations.specs.Netcheck.Settings.{place_in}
-use Rattle.fb_declarations.specs.Expr.Charts.{expression_faults}
-use Rattle.fb_declarations.specs.Ecc.Charts.{chart_faults}
+use Rattle.fb_tree.specs.Tree.{type_tree}
+use Rattle.fb_netcheck.specs.Networks.{network_faults}
+use Rattle.fb_netcheck.specs.Settings.{place_in}
+use Rattle.fb_expr.specs.Charts.{expression_faults}
+use Rattle.fb_ecc.specs.Charts.{chart_faults}
 use Rattle.fb_faults.proofs.JoinLemmas.{three_joined}
 use Rattle.fb_faults.proofs.all.report_here.Goals as goal
 

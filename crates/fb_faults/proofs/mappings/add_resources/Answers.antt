@@ -2,8 +2,8 @@ use Rattle.std.proofs.Common.{◌≡◌, ◌+◌, ◌<◌, ◌&&◌, ◌||◌, [
 use Rattle.std.proofs.lemmas.Grind.{common_steps}
 use Rattle.std.proofs.lemmas.List.{map-append, take_all}
 use Rattle.std.specs.BTreeSet.{contains}
-use Rattle.fb_declarations.specs.Tree.declared.system.Resource.{Resource}
-use Rattle.fb_declarations.specs.Iface.Names.{has_name, is_same}
+use Rattle.fb_tree.specs.declared.system.Resource.{Resource}
+use Rattle.fb_netcheck.specs.Iface.Names.{has_name, is_same}
 use Rattle.fb_faults.specs.Pairs.{pair_cmp}
 use Rattle.fb_faults.proofs.MappingLemmas.{added, none_added}
 use Rattle.fb_faults.proofs.mappings.add_resources.Goals as goal

@@ -1,6 +1,6 @@
 use Rattle.std.proofs.Common.{◌≡◌, ℕ, List, ◌&&◌, ◌||◌, map, take}
 use Rattle.std.specs.BTreeSet.{contains}
-use Rattle.fb_declarations.specs.Iface.Names.{has_name, is_same}
+use Rattle.fb_netcheck.specs.Iface.Names.{has_name, is_same}
 use Rattle.fb_faults.specs.Pairs.{pair_cmp}
 use Rattle.fb_faults.proofs.mappings.add_resources.Given as goal
 

@@ -2,12 +2,12 @@ use Rattle.std.proofs.Common.{◌≡◌, ℕ, List, ◌+◌, ◌<◌, ◌&&◌, 
 use Rattle.std.proofs.lemmas.Grind.{common_steps}
 use Rattle.std.proofs.lemmas.List.{map-append}
 use Rattle.std.specs.BTreeSet.{contains}
-use Rattle.fb_declarations.proofs.Text.Tests.{not_true, not_false}
-use Rattle.fb_declarations.specs.Text.declared.name.NameUse.{NameUse}
-use Rattle.fb_declarations.specs.Tree.Tree.{DeviceTree, ResourceTree, device_tree, resource_tree}
-use Rattle.fb_declarations.specs.Tree.declared.system.Resource.{Resource}
-use Rattle.fb_declarations.specs.Iface.Names.{has_name, is_same, stands_for}
-use Rattle.fb_declarations.proofs.Iface.TreeLemmas.{same_items}
+use Rattle.fb_tree.proofs.Text.Tests.{not_true, not_false}
+use Rattle.fb_tree.specs.Text.declared.name.NameUse.{NameUse}
+use Rattle.fb_tree.specs.Tree.{DeviceTree, ResourceTree, device_tree, resource_tree}
+use Rattle.fb_tree.specs.declared.system.Resource.{Resource}
+use Rattle.fb_netcheck.specs.Iface.Names.{has_name, is_same, stands_for}
+use Rattle.fb_netcheck.proofs.Iface.TreeLemmas.{same_items}
 use Rattle.fb_faults.specs.Mappings.{resources_in}
 use Rattle.fb_faults.specs.Pairs.{pair_cmp}
 use Rattle.fb_faults.proofs.MappingLemmas.{among, among-new, among-old, seen-next}

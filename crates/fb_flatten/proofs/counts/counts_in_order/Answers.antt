@@ -1,10 +1,10 @@
 -- The next name can be counted, and then it is.
 use Rattle.std.proofs.Common.{List, ℕ, subst, sym, take, ◌∙◌}
 use Rattle.std.specs.BTreeMap.{get}
-use Rattle.fb_clean.specs.Text.Order.{name_cmp}
+use Rattle.fb_wiring.specs.Text.Order.{name_cmp}
 use Rattle.fb_flatten.specs.Tables.{AllCounted}
 use Rattle.fb_flatten.proofs.CountLemmas.{countable, counted_more, counted_nothing, counted_skip, in_table}
-use Rattle.fb_clean.proofs.NetParts.TableLemmas.{further}
+use Rattle.fb_wiring.proofs.TableLemmas.{further}
 use Rattle.fb_flatten.proofs.counts.counts_in_order.Goals as goal
 use Rattle.fb_flatten.proofs.counts.counts_in_order.Goals.{then-is_subapplication+in_ok-add_count, else-is_subapplication}
 

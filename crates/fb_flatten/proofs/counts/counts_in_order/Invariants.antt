@@ -1,7 +1,7 @@
 -- The subapplications passed so far are counted.
 use Rattle.std.proofs.Common.{take}
 use Rattle.std.specs.BTreeMap.{get}
-use Rattle.fb_clean.specs.Text.Order.{name_cmp}
+use Rattle.fb_wiring.specs.Text.Order.{name_cmp}
 use Rattle.fb_flatten.specs.Tables.{AllCounted}
 use Rattle.fb_flatten.proofs.counts.counts_in_order.Given as goal
 

@@ -2,11 +2,11 @@
 use Rattle.std.proofs.Common.{List, ℕ, subst, sym, take, ◌∙◌}
 use Rattle.std.proofs.lemmas.List.{take_all}
 use Rattle.std.specs.BTreeMap.{get}
-use Rattle.fb_clean.specs.Text.Order.{name_cmp}
+use Rattle.fb_wiring.specs.Text.Order.{name_cmp}
 use Rattle.fb_flatten.specs.Tables.{AllFinished, known_flats}
 use Rattle.fb_flatten.proofs.CountLemmas.{in_table}
 use Rattle.fb_flatten.proofs.FlatsLemmas.{added_finished, finished_more, finished_nothing, finished_skip}
-use Rattle.fb_clean.proofs.NetParts.TableLemmas.{further}
+use Rattle.fb_wiring.proofs.TableLemmas.{further}
 use Rattle.fb_flatten.proofs.flats.missing_flats.Goals as goal
 use Rattle.fb_flatten.proofs.flats.missing_flats.Goals.{then-is_missing+in_ok-add_flat, else-is_missing}
 

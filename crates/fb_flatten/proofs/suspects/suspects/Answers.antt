@@ -2,9 +2,9 @@
 use Rattle.std.proofs.Common.{◌≡◌, ◌∷◌, [], ◌++◌, List, ℕ, ap, sym, subst, ◌∙◌, arith}
 use Rattle.std.proofs.lemmas.Result.{IfOk-weaker}
 use Rattle.std.specs.List.Sorted.{IsStrictlySortedBy}
-use Rattle.fb_clean.specs.Text.Order.{name_cmp}
-use Rattle.fb_clean.specs.Library.Seen.{has_name}
-use Rattle.fb_clean.proofs.Library.WalkLemmas.{begun, one_pushed, no_items, Contains-has, has-Contains}
+use Rattle.fb_wiring.specs.Text.Order.{name_cmp}
+use Rattle.fb_wiring.specs.Library.Seen.{has_name}
+use Rattle.fb_wiring.proofs.Library.WalkLemmas.{begun, one_pushed, no_items, Contains-has, has-Contains}
 use Rattle.fb_flatten.proofs.SuspectLemmas.{IsSearch, IsSearch-begin, IsSearch-step, all_seen, search_falls}
 use Rattle.fb_flatten.proofs.suspects.suspects.Goals as goal
 

@@ -1,5 +1,5 @@
 -- The count tells whether there is a flat network.
-use Rattle.fb_clean.proofs.NetParts.FoundUnits.{not_too_large, too_large}
+use Rattle.fb_wiring.proofs.FoundUnits.{not_too_large, too_large}
 use Rattle.fb_flatten.proofs.unit_net.net_in_order.Goals as goal
 
 pub returns-then-instances-gt-INSTANCE_LIMIT : goal.returns-then-instances-gt-INSTANCE_LIMIT

@@ -2,8 +2,8 @@
 use Rattle.std.proofs.Common.{◌≡◌, true, false, List, [], ℕ, sym, ◌∙◌, ap, subst, is_some}
 use Rattle.std.specs.Prelude.{Contains, ◌↔◌, filter}
 use Rattle.std.specs.List.Sorted.{IsStrictlySortedBy}
-use Rattle.fb_clean.specs.Text.Order.{name_cmp}
-use Rattle.fb_clean.specs.Order.Reaches.{IsRecursive}
+use Rattle.fb_wiring.specs.Text.Order.{name_cmp}
+use Rattle.fb_wiring.specs.Reaches.{IsRecursive}
 use Rattle.fb_flatten.specs.Blocking.{AreThose, IsBlocking, is_blocking, is_some_name}
 use Rattle.fb_flatten.specs.Tables.{IsUnitOrder}
 use Rattle.fb_flatten.proofs.NetLemmas.{blocking_those, none_of_not, recursive_those, some_not_none, some_recursive}

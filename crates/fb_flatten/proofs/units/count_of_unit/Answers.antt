@@ -1,10 +1,10 @@
 -- The unit is there, its inner types are counted, and then it is.
 use Rattle.std.proofs.Common.{◌≡◌, Some, ◌∙◌}
-use Rattle.fb_clean.specs.Tree.Tree.{decl_tree}
-use Rattle.fb_clean.specs.Library.View.{tree_at}
+use Rattle.fb_wiring.specs.Tree.Tree.{decl_tree}
+use Rattle.fb_wiring.specs.Library.View.{tree_at}
 use Rattle.fb_flatten.proofs.CountLemmas.{unit_counted}
 use Rattle.fb_flatten.proofs.SoundLemmas.{sound_tree}
-use Rattle.fb_clean.proofs.NetParts.FoundUnits.{present_of, some_of_map}
+use Rattle.fb_wiring.proofs.FoundUnits.{present_of, some_of_map}
 use Rattle.fb_flatten.proofs.units.count_of_unit.Goals as goal
 
 pub unwrap-decl-requires : goal.unwrap-decl-requires

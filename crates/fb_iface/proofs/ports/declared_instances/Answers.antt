@@ -1,6 +1,6 @@
 use Rattle.std.proofs.Common.{◌≡◌, ◌∙◌, map, sym, arith}
 use Rattle.std.proofs.lemmas.Grind.{common_steps}
-use Rattle.fb_library.specs.Tree.Tree.{InstanceTree, instance_tree}
+use Rattle.fb_tree.specs.Tree.{InstanceTree, instance_tree}
 use Rattle.fb_iface.proofs.TreeLemmas.{same_items}
 use Rattle.fb_iface.proofs.ports.declared_instances.Goals as goal
 

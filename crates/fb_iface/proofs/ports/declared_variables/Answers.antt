@@ -2,7 +2,7 @@ use Rattle.std.proofs.Common.{◌≡◌, ◌∙◌, sym, arith}
 use Rattle.std.proofs.lemmas.Grind.{common_steps}
 use Rattle.std.proofs.lemmas.List.Folds.{flat_map-map}
 use Rattle.std.specs.List.{flat_map}
-use Rattle.fb_library.specs.Tree.Tree.{variables_tree}
+use Rattle.fb_tree.specs.Tree.{variables_tree}
 use Rattle.fb_iface.specs.Ports.{variables_together}
 use Rattle.fb_iface.proofs.ports.declared_variables.Goals as goal
 

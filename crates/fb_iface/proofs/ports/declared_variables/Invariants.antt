@@ -1,6 +1,6 @@
 use Rattle.std.proofs.Common.{◌≡◌, take}
 use Rattle.std.specs.List.{flat_map}
-use Rattle.fb_library.specs.Tree.Tree.{variables_tree}
+use Rattle.fb_tree.specs.Tree.{variables_tree}
 use Rattle.fb_iface.specs.Ports.{variables_together}
 use Rattle.fb_iface.proofs.ports.declared_variables.Given as goal
 

@@ -2,9 +2,9 @@
 use Rattle.std.proofs.Common.{◌≡◌, ◌+◌, ◌++◌, ◌∷◌, [], ◌||◌, ◌&&◌, not, ap, sym, ◌∙◌, arith, take}
 use Rattle.std.proofs.lemmas.Grind.{common_steps}
 use Rattle.std.specs.BTreeMap.{is_at}
-use Rattle.fb_table.specs.Text.Order.{name_cmp}
-use Rattle.fb_table.specs.Seen.{has_name}
-use Rattle.fb_table.proofs.SeenLemmas.{has-push, same_is}
+use Rattle.fb_text.specs.Order.{name_cmp}
+use Rattle.fb_library.specs.Seen.{has_name}
+use Rattle.fb_library.proofs.SeenLemmas.{has-push, same_is}
 use Rattle.fb_index.proofs.Bits.{one_other, one_same}
 use Rattle.fb_index.proofs.index.without.Goals as goal
 use Rattle.fb_index.proofs.index.without.Goals.{then-not-same_name+in_ok-push, else-not-same_name}

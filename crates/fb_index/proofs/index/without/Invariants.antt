@@ -1,7 +1,7 @@
 use Rattle.std.proofs.Common.{◌≡◌, ℕ, ◌&&◌, not, List, take}
 use Rattle.std.specs.BTreeMap.{is_at}
-use Rattle.fb_table.specs.Text.Order.{name_cmp}
-use Rattle.fb_table.specs.Seen.{has_name}
+use Rattle.fb_text.specs.Order.{name_cmp}
+use Rattle.fb_library.specs.Seen.{has_name}
 use Rattle.fb_index.proofs.index.without.Given as goal
 
 abbrev pub invariant-loop-other : goal.invariant-loop-other

@@ -1,6 +1,6 @@
 use Rattle.std.proofs.Common.{◌≡◌, ◌∷◌, [], ◌++◌, ap, sym, subst, ◌∙◌, arith}
 use Rattle.std.proofs.lemmas.Result.{IfOk-weaker}
-use Rattle.fb_table.specs.Seen.{Opens, has_name}
+use Rattle.fb_library.specs.Seen.{Opens, has_name}
 use Rattle.fb_library.specs.View.{mentions_at}
 use Rattle.fb_library.proofs.WalkLemmas.{IsWalk, IsWalk-begin, IsWalk-step, begun, one_pushed, no_items, opens_falls, complete_at_end, Contains-has, has-Contains}
 use Rattle.fb_library.proofs.walk.far.Goals as goal

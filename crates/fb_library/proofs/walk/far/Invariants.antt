@@ -1,5 +1,5 @@
 use Rattle.std.proofs.Common.{◌+◌, length}
-use Rattle.fb_table.specs.Seen.{unseen}
+use Rattle.fb_library.specs.Seen.{unseen}
 use Rattle.fb_library.proofs.WalkLemmas.{IsWalk, all_mentions}
 use Rattle.fb_library.proofs.walk.far.Given as goal
 

@@ -1,6 +1,6 @@
 use Rattle.std.proofs.Common.{◌≡◌, ◌++◌, take}
 use Rattle.std.specs.List.{flat_map}
-use Rattle.fb_iface.specs.Tree.Tree.{application_tree}
+use Rattle.fb_tree.specs.Tree.{application_tree}
 use Rattle.fb_netcheck.specs.Networks.{application_network}
 use Rattle.fb_netcheck.proofs.networks.report_in_system.Given as goal
 

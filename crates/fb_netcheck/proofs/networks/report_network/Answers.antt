@@ -2,8 +2,8 @@ use Rattle.std.proofs.Common.{◌≡◌, List, ◌++◌, ◌∙◌, ap, map, sym
 use Rattle.std.proofs.lemmas.List.Folds.{flat_map-map}
 use Rattle.std.proofs.lemmas.Result.{on_ok_weaker}
 use Rattle.std.specs.List.{flat_map}
-use Rattle.fb_iface.specs.Tree.Tree.{instance_tree}
-use Rattle.fb_iface.specs.Tree.declared.network.Instance.{Instance}
+use Rattle.fb_tree.specs.Tree.{instance_tree}
+use Rattle.fb_tree.specs.declared.network.Instance.{Instance}
 use Rattle.fb_iface.specs.declared.fault.Fault.{Fault}
 use Rattle.fb_netcheck.specs.Connections.{connection_faults}
 use Rattle.fb_netcheck.specs.Parameters.{instance_parameters}

@@ -1,6 +1,6 @@
 use Rattle.std.proofs.Common.{◌≡◌, ◌++◌, take}
 use Rattle.std.specs.List.{flat_map}
-use Rattle.fb_iface.specs.Tree.Tree.{parameter_tree}
+use Rattle.fb_tree.specs.Tree.{parameter_tree}
 use Rattle.fb_iface.specs.Names.{stands_for}
 use Rattle.fb_netcheck.specs.Parameters.{parameter_faults}
 use Rattle.fb_netcheck.proofs.parameters.report_of_type.Given as goal

@@ -1,7 +1,7 @@
 use Rattle.std.proofs.Common.{◌++◌, ◌∙◌, ap, sym}
 use Rattle.std.proofs.lemmas.List.Folds.{flat_map-map}
 use Rattle.std.proofs.lemmas.Result.{on_ok_weaker}
-use Rattle.fb_iface.specs.Tree.Tree.{ParameterTree, parameter_tree}
+use Rattle.fb_tree.specs.Tree.{ParameterTree, parameter_tree}
 use Rattle.fb_iface.specs.Names.{stands_for}
 use Rattle.fb_netcheck.specs.Parameters.{parameter_faults}
 use Rattle.fb_netcheck.proofs.parameters.report_typed.Goals as goal

@@ -1,4 +1,4 @@
-use Rattle.fb_forms.proofs.ReadKinds.{number_read}
+use Rattle.fb_grammar.proofs.ReadKinds.{number_read}
 use Rattle.fb_sections.proofs.constants.number.Goals as goal
 
 pub literal_use-requires : goal.literal_use-requires

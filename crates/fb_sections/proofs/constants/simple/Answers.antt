@@ -1,6 +1,6 @@
-use Rattle.fb_forms.proofs.Forms.{among_right}
-use Rattle.fb_forms.proofs.ReadKinds.{kind_read}
-use Rattle.fb_forms.specs.Literals.{number_kinds}
+use Rattle.fb_grammar.proofs.Forms.{among_right}
+use Rattle.fb_grammar.proofs.ReadKinds.{kind_read}
+use Rattle.fb_grammar.specs.Literals.{number_kinds}
 use Rattle.fb_sections.specs.Constants.{other_literal_kinds}
 use Rattle.fb_sections.proofs.constants.simple.Goals as goal
 

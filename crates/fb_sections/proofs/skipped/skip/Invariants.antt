@@ -1,5 +1,5 @@
 use Rattle.std.proofs.Common.{◌≡◌, length}
-use Rattle.fb_forms.specs.Reading.{read}
+use Rattle.fb_grammar.specs.Reading.{read}
 use Rattle.fb_sections.specs.Skipped.{skipped}
 use Rattle.fb_sections.proofs.skipped.skip.Given as goal
 

@@ -1,7 +1,7 @@
 use Rattle.std.proofs.Common.{List, subst}
-use Rattle.fb_wire.specs.Bench.Story.{Story}
-use Rattle.fb_shared.specs.Closing.{AgreesWith}
-use Rattle.fb_shared.specs.Seats.{Claim}
+use Rattle.fb_wire.specs.History.Story.{Story}
+use Rattle.fb_shared.specs.Locked.Closing.{AgreesWith}
+use Rattle.fb_shared.specs.Locked.Seats.{Claim}
 use Rattle.fb_serve.specs.Shown.{ShowsAll}
 use Rattle.fb_serve.proofs.Counts.{all_shown}
 use Rattle.fb_serve.proofs.server.close.Goals as goal

@@ -1,7 +1,7 @@
 use Rattle.std.proofs.Common.{◌≡◌, ◌+◌, ◌∷◌, [], true, false, Ok, List, map, ap, sym, refl, ◌∙◌, arith}
 use Rattle.std.proofs.lemmas.Result.{err_from_is_err_and}
-use Rattle.fb_sections.specs.Lexemes.declared.kind.Kind.{Kind}
-use Rattle.fb_sections.specs.Lexemes.declared.kind.Kind.TheVariants.{Comma}
+use Rattle.fb_grammar.specs.declared.kind.Kind.{Kind}
+use Rattle.fb_grammar.specs.declared.kind.Kind.TheVariants.{Comma}
 use Rattle.fb_tree.specs.declared.expression.Expr.{Expr}
 use Rattle.fb_tree.specs.declared.expression.Expr.TheOpen.{Row as RowF}
 use denote.Hole.Carrier.{roll}
@@ -11,10 +11,10 @@ use Rattle.fb_tree.specs.Expression.{Expression, row_expression, operand_tree, o
 use Rattle.fb_structured_text.specs.Expression.{expression, expressions, operand, primary, row_at, unary}
 use Rattle.fb_structured_text.specs.Operators.{operators}
 use Rattle.fb_structured_text.proofs.Rows.{begins-operand, level_passed, level_read, level_fails, rows_first_fails, rows_none, expression_is, primary_reference, primary_parentheses}
-use Rattle.fb_sections.specs.Forms.Form.{many}
-use Rattle.fb_sections.specs.Forms.Reading.{is_next, read}
-use Rattle.fb_sections.specs.Forms.Words.{further}
-use Rattle.fb_sections.proofs.Forms.Loops.{shorter, push_more, push_fails, push_done}
+use Rattle.fb_grammar.specs.Form.{many}
+use Rattle.fb_grammar.specs.Reading.{is_next, read}
+use Rattle.fb_grammar.specs.Words.{further}
+use Rattle.fb_grammar.proofs.Loops.{shorter, push_more, push_fails, push_done}
 use Rattle.fb_structured_text.proofs.expression_reader.+expression.Goals as goal
 
 pub deep_primary-returns-then-is_next : goal.deep_primary-returns-then-is_next

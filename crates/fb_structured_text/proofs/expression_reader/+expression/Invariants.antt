@@ -1,10 +1,10 @@
 use Rattle.std.proofs.Common.{◌≡◌, ◌≤◌, ◌+◌, ◌-◌, ◌*◌, Ok, length, map}
 use Rattle.fb_tree.specs.Expression.{expression_tree, operand_tree}
 use Rattle.fb_structured_text.specs.Expression.{expression, expressions, operand_at, row_at}
-use Rattle.fb_sections.specs.Forms.Form.{many}
-use Rattle.fb_sections.specs.Forms.Reading.{read}
-use Rattle.fb_sections.specs.Forms.Words.{further}
-use Rattle.fb_sections.specs.Forms.Repetition.{with_front}
+use Rattle.fb_grammar.specs.Form.{many}
+use Rattle.fb_grammar.specs.Reading.{read}
+use Rattle.fb_grammar.specs.Words.{further}
+use Rattle.fb_grammar.specs.Repetition.{with_front}
 use Rattle.fb_structured_text.proofs.expression_reader.+expression.Given as goal
 
 -- A level is left behind in parentheses and in brackets; within one, the way leads from weaker operators to stronger ones.

@@ -1,8 +1,8 @@
 use Rattle.std.proofs.Common.{refl, sym, ◌∙◌}
-use Rattle.fb_sections.specs.Forms.Words.{further}
-use Rattle.fb_sections.proofs.Forms.Loops.{shorter}
+use Rattle.fb_grammar.specs.Words.{further}
+use Rattle.fb_grammar.proofs.Loops.{shorter}
 use Rattle.fb_structured_text.specs.Statement.{label, labels}
-use Rattle.fb_sections.specs.Forms.Reading.{read}
+use Rattle.fb_grammar.specs.Reading.{read}
 use Rattle.fb_structured_text.proofs.Bodies.{labels_more}
 use Rattle.fb_structured_text.proofs.labels.labels.Goals as goal
 

@@ -1,4 +1,4 @@
-use Rattle.fb_sections.proofs.Forms.Forms.{one_spelled}
+use Rattle.fb_grammar.proofs.Forms.{one_spelled}
 use Rattle.fb_structured_text.specs.Expression.{expression}
 use Rattle.fb_structured_text.proofs.ExpressionLevels.{shape-expression}
 use Rattle.fb_structured_text.proofs.laws.one_expression.Goals as goal

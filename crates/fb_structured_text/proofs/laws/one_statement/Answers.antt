@@ -1,5 +1,5 @@
-use Rattle.fb_sections.specs.Forms.Form.{many}
-use Rattle.fb_sections.proofs.Forms.Forms.{one_spelled}
+use Rattle.fb_grammar.specs.Form.{many}
+use Rattle.fb_grammar.proofs.Forms.{one_spelled}
 use Rattle.fb_structured_text.specs.Statement.{statement}
 use Rattle.fb_structured_text.proofs.StatementLevels.{closed-statement, predictive-statements}
 use Rattle.fb_structured_text.proofs.laws.one_statement.Goals as goal

@@ -1,7 +1,7 @@
 use Rattle.std.proofs.Common.{◌≡◌, ◌<◌, true, List, sym, subst}
-use Rattle.fb_sections.proofs.Forms.ReadKinds.{kind_read}
-use Rattle.fb_sections.specs.Lexemes.declared.kind.Kind.{Kind}
-use Rattle.fb_sections.specs.Lexemes.Kind.{is_among}
+use Rattle.fb_grammar.proofs.ReadKinds.{kind_read}
+use Rattle.fb_grammar.specs.declared.kind.Kind.{Kind}
+use Rattle.fb_grammar.specs.Kind.{is_among}
 use Rattle.fb_structured_text.specs.Operators.{operators}
 use Rattle.fb_structured_text.proofs.Rows.{strength_told}
 use Rattle.fb_structured_text.proofs.operators.operator.Goals as goal

@@ -1,4 +1,4 @@
-use Rattle.fb_sections.proofs.Forms.ReadKinds.{kind_read}
+use Rattle.fb_grammar.proofs.ReadKinds.{kind_read}
 use Rattle.fb_structured_text.specs.Operators.{signs}
 use Rattle.fb_structured_text.proofs.operators.sign.Goals as goal
 

@@ -2,10 +2,10 @@ use Rattle.std.proofs.Common.{◌≡◌, ◌-◌, ◌∷◌, [], true≢false, e
 use Rattle.std.proofs.lemmas.List.{map-append}
 use Rattle.std.proofs.lemmas.Simd.{map-map}
 use Rattle.std.proofs.lemmas.Result.{err_from_is_err_and}
-use Rattle.fb_sections.specs.Lexemes.declared.kind.Kind.TheVariants.{Elsif}
-use Rattle.fb_sections.specs.Forms.Form.{many}
-use Rattle.fb_sections.specs.Forms.Reading.{first, read}
-use Rattle.fb_sections.proofs.Forms.Loops.{shorter, push_more, push_fails, push_done}
+use Rattle.fb_grammar.specs.declared.kind.Kind.TheVariants.{Elsif}
+use Rattle.fb_grammar.specs.Form.{many}
+use Rattle.fb_grammar.specs.Reading.{first, read}
+use Rattle.fb_grammar.proofs.Loops.{shorter, push_more, push_fails, push_done}
 use Rattle.fb_tree.specs.declared.statement.Stmt as Stmt
 use Rattle.fb_tree.specs.declared.statement.Stmt.TheOpen.{If as IfF}
 use Rattle.fb_tree.specs.declared.statement.Stmt.TheViews.{roll-Stmt}

@@ -1,8 +1,8 @@
 use Rattle.std.proofs.Common.{◌≡◌, ◌+◌, ◌-◌, ◌*◌, length, map}
-use Rattle.fb_sections.specs.Lexemes.declared.kind.Kind.TheVariants.{Elsif}
-use Rattle.fb_sections.specs.Forms.Form.{many}
-use Rattle.fb_sections.specs.Forms.Reading.{read}
-use Rattle.fb_sections.specs.Forms.Repetition.{with_front}
+use Rattle.fb_grammar.specs.declared.kind.Kind.TheVariants.{Elsif}
+use Rattle.fb_grammar.specs.Form.{many}
+use Rattle.fb_grammar.specs.Reading.{read}
+use Rattle.fb_grammar.specs.Repetition.{with_front}
 use Rattle.fb_tree.specs.Statement.{arm_tree, statement_tree}
 use Rattle.fb_structured_text.specs.Expression.{expression}
 use Rattle.fb_structured_text.specs.Statement.{arm, arms, case, cases, statement}

@@ -1,4 +1,4 @@
-use Rattle.fb_messages.specs.Bench.Calls.{ask_reply}
+use Rattle.fb_bench.specs.Calls.{ask_reply}
 use Rattle.fb_wire.proofs.Talks.{call_served}
 use Rattle.fb_wire.proofs.answer.answer_ask.Goals as goal
 

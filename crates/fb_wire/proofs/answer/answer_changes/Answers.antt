@@ -1,4 +1,4 @@
-use Rattle.fb_messages.specs.History.Machine.{OfCommit}
+use Rattle.fb_bench.specs.History.Machine.{OfCommit}
 use Rattle.fb_wire.proofs.Talks.{call_served}
 use Rattle.fb_wire.proofs.answer.answer_changes.Goals as goal
 

@@ -1,7 +1,7 @@
 use Rattle.std.proofs.Common.{◌≡◌, take}
 use Rattle.std.proofs.lemmas.List.{take-map}
-use Rattle.fb_messages.specs.Library.Changes.{edit_of, edits_of}
-use Rattle.fb_messages.specs.Bench.Records.{listed}
+use Rattle.fb_library.specs.Changes.{edit_of, edits_of}
+use Rattle.fb_bench.specs.Records.{listed}
 use Rattle.fb_wire.proofs.Talks.{reaches_itself}
 use Rattle.fb_wire.proofs.answer.answer_commit.Goals as goal
 

@@ -1,4 +1,4 @@
-use Rattle.fb_messages.specs.History.Machine.{OfDeliver}
+use Rattle.fb_bench.specs.History.Machine.{OfDeliver}
 use Rattle.fb_wire.proofs.Talks.{call_served}
 use Rattle.fb_wire.proofs.answer.answer_deliver.Goals as goal
 

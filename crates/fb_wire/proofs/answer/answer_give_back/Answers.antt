@@ -1,4 +1,4 @@
-use Rattle.fb_messages.specs.History.Machine.{OfGiveBack}
+use Rattle.fb_bench.specs.History.Machine.{OfGiveBack}
 use Rattle.fb_wire.proofs.Talks.{call_served}
 use Rattle.fb_wire.proofs.answer.answer_give_back.Goals as goal
 

@@ -1,7 +1,7 @@
 use Rattle.std.proofs.Common.{◌≡◌, ◌<◌, ℕ, List, [], ◌∷◌, map, take, length, get_or, Ok, Err, sym, ap, ◌∙◌}
 use Rattle.std.proofs.lemmas.List.{map-append}
-use Rattle.fb_messages.specs.Library.Texts.{Edit}
-use Rattle.fb_messages.specs.Library.Changes.{edit_of, edits_of}
+use Rattle.fb_library.specs.Texts.{Edit}
+use Rattle.fb_library.specs.Changes.{edit_of, edits_of}
 use Rattle.fb_wire.specs.declared.change.ChangeFault.{ChangeFault}
 use Rattle.fb_wire.specs.declared.change.ChangeFault.TheVariants as fault
 use Rattle.fb_messages.specs.declared.request.AskedChange.{AskedChange}

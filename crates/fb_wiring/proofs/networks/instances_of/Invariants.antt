@@ -1,6 +1,6 @@
 use Rattle.std.proofs.Common.{◌≡◌, take}
 use Rattle.std.specs.List.{filter_map}
-use Rattle.fb_netcheck.specs.Tree.Tree.{instance_tree}
+use Rattle.fb_tree.specs.Tree.{instance_tree}
 use Rattle.fb_wiring.specs.Networks.{plain_instance}
 use Rattle.fb_wiring.proofs.networks.instances_of.Given as goal
 

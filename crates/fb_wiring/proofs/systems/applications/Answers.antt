@@ -1,8 +1,8 @@
 use Rattle.std.proofs.Common.{◌∙◌, ap, map, sym}
 use Rattle.std.proofs.lemmas.Result.{IfOk-weaker}
-use Rattle.fb_netcheck.specs.Tree.Tree.{application_tree, decl_tree}
-use Rattle.fb_netcheck.specs.Tree.declared.system.Application.{Application}
-use Rattle.fb_netcheck.proofs.Iface.TreeLemmas.{same_items}
+use Rattle.fb_tree.specs.Tree.{application_tree, decl_tree}
+use Rattle.fb_tree.specs.declared.system.Application.{Application}
+use Rattle.fb_iface.proofs.TreeLemmas.{same_items}
 use Rattle.fb_wiring.specs.Applications.{applications_of, plain_application}
 use Rattle.fb_wiring.proofs.systems.applications.Goals as goal
 

@@ -1,5 +1,5 @@
 use Rattle.std.proofs.Common.{◌≡◌, map, take}
-use Rattle.fb_netcheck.specs.Tree.Tree.{application_tree}
+use Rattle.fb_tree.specs.Tree.{application_tree}
 use Rattle.fb_wiring.specs.Applications.{plain_application}
 use Rattle.fb_wiring.proofs.systems.applications_in.Given as goal
 

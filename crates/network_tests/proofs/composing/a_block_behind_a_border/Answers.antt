@@ -1,6 +1,6 @@
 -- The type of the block has its event input alone.
 use Rattle.std.proofs.Common.{Some, ap, ◌∙◌}
-use Rattle.fb_deploy.specs.Network.Plain.{PlainNetwork}
+use Rattle.fb_network.specs.Plain.{PlainNetwork}
 use Rattle.network_tests.proofs.Border.{inner_of}
 use Rattle.network_tests.proofs.composing.a_block_behind_a_border.Goals as goal
 

@@ -1,7 +1,7 @@
 -- The network of nothing is clean.
 use Rattle.std.proofs.Common.{ap, ◌∙◌}
-use Rattle.fb_deploy.specs.Network.Plain.{PlainNetwork}
-use Rattle.fb_deploy.proofs.Compose.NothingLemmas.{clean_nothing}
+use Rattle.fb_network.specs.Plain.{PlainNetwork}
+use Rattle.fb_network.proofs.NothingLemmas.{clean_nothing}
 use Rattle.network_tests.proofs.composing.a_network_of_nothing_is_flat.Goals as goal
 
 pub compose-requires-clause-clean : goal.compose-requires-clause-clean

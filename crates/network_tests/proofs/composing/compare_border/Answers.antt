@@ -1,9 +1,9 @@
 -- The network and the type of its block are clean.
 use Rattle.std.proofs.Common.{sym, subst}
 use Rattle.std.specs.BTreeMap.{get}
-use Rattle.fb_deploy.specs.Text.Order.{name_cmp}
-use Rattle.fb_deploy.specs.Network.Plain.{PlainNetwork}
-use Rattle.fb_deploy.specs.Network.Clean.{IsCleanThroughout}
+use Rattle.fb_tree.specs.Text.Order.{name_cmp}
+use Rattle.fb_network.specs.Plain.{PlainNetwork}
+use Rattle.fb_network.specs.Clean.{IsCleanThroughout}
 use Rattle.network_tests.proofs.Border.{clean_outer, ordered_alone, outer_of}
 use Rattle.network_tests.proofs.composing.compare_border.Goals as goal
 

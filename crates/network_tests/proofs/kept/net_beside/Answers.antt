@@ -1,13 +1,13 @@
 -- The one net that is kept is that of the unit of its name.
 use Rattle.std.proofs.Common.{◌≡◌, ℕ, Bool, true, false, cond, List, Some, None, refl, subst, ◌∙◌}
 use Rattle.std.specs.BTreeMap.{is_at}
-use Rattle.fb_deploy.specs.Text.Order.{name_cmp}
-use Rattle.fb_deploy.specs.Library.View.{Sources}
-use Rattle.fb_deploy.specs.Library.Texts.{sources_of}
-use Rattle.fb_deploy.specs.Flatten.Net.{PlainNet, plain_net}
-use Rattle.fb_deploy.specs.Flatten.Nets.{net_at}
-use Rattle.fb_deploy.specs.Flatten.Hints.{AreRightHints}
-use Rattle.fb_deploy.proofs.Compose.Equals.{same_bytes}
+use Rattle.fb_tree.specs.Text.Order.{name_cmp}
+use Rattle.fb_library.specs.View.{Sources}
+use Rattle.fb_library.specs.Texts.{sources_of}
+use Rattle.fb_flatten.specs.Net.{PlainNet, plain_net}
+use Rattle.fb_flatten.specs.Nets.{net_at}
+use Rattle.fb_flatten.specs.Hints.{AreRightHints}
+use Rattle.fb_network.proofs.Equals.{same_bytes}
 use Rattle.network_tests.specs.Kept.{hint_of}
 use Rattle.network_tests.proofs.kept.net_beside.Goals as goal
 

@@ -1,11 +1,11 @@
 -- The question is recorded with the machine's answer, and nothing else changes.
 use Rattle.std.proofs.Common.{◌≡◌, sym, ap, subst, ◌∙◌, arith}
-use Rattle.fb_entries.specs.History.Machine.{ToAsk, OfAsk, reply, shown}
-use Rattle.fb_entries.specs.History.Story.{Story, state_of, start}
+use Rattle.fb_history.specs.Machine.{ToAsk, OfAsk, reply, shown}
+use Rattle.fb_history.specs.Story.{Story, state_of, start}
 use Rattle.fb_bench.specs.Records.{shown_in}
 use Rattle.fb_bench.specs.Kept.{Agrees}
 use Rattle.fb_bench.proofs.Keeping.{kept_pushed}
-use Rattle.fb_entries.proofs.History.Steps.{story_pushed, share_pushed, reply_ask, after_ask}
+use Rattle.fb_history.proofs.Steps.{story_pushed, share_pushed, reply_ask, after_ask}
 use Rattle.fb_bench.proofs.bench.Bench.ask_recorded.Goals as goal
 
 pub invariant_of-self-2 : goal.invariant_of-self-2

@@ -1,11 +1,11 @@
 -- A key that has a value is no longer out.
 use Rattle.std.proofs.Common.{◌≡◌, true, false, sym, ap, subst, ◌∙◌, arith}
-use Rattle.fb_entries.specs.History.Machine.{State, ToGiveBack}
-use Rattle.fb_entries.specs.History.Story.{Story, state_of, start}
+use Rattle.fb_history.specs.Machine.{State, ToGiveBack}
+use Rattle.fb_history.specs.Story.{Story, state_of, start}
 use Rattle.fb_bench.specs.Kept.{Agrees}
 use Rattle.fb_bench.proofs.Marks.{agrees_return_kept}
 use Rattle.fb_bench.proofs.Keeping.{kept_pushed}
-use Rattle.fb_entries.proofs.History.Steps.{story_pushed, share_pushed, out_returned, after_returned}
+use Rattle.fb_history.proofs.Steps.{story_pushed, share_pushed, out_returned, after_returned}
 use Rattle.fb_bench.proofs.bench.Bench.clear_out.Goals as goal
 
 pub invariant_of-self-2 : goal.invariant_of-self-2

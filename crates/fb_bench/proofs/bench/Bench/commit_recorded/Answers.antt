@@ -2,15 +2,15 @@
 use Rattle.std.proofs.Common.{◌≡◌, ℕ, ◌<◌, ◌+◌, List, map, length, sym, ap, subst, ◌∙◌, arith, rules}
 use Rattle.fb_entries.specs.Library.Texts.{Edit, unit_of}
 use Rattle.fb_entries.specs.Library.Changes.{edits_of}
-use Rattle.fb_entries.specs.History.declared.answers.Committed.TheVariants.{Done}
-use Rattle.fb_entries.specs.History.Machine.{State, ToCommit, commit_answer, reply}
-use Rattle.fb_entries.specs.History.Story.{Story, state_of, recorded, record_of, start}
+use Rattle.fb_history.specs.declared.answers.Committed.TheVariants.{Done}
+use Rattle.fb_history.specs.Machine.{State, ToCommit, commit_answer, reply}
+use Rattle.fb_history.specs.Story.{Story, state_of, recorded, record_of, start}
 use Rattle.fb_bench.specs.Records.{listed, text_edits}
 use Rattle.fb_entries.specs.Renew.{items_or}
 use Rattle.fb_bench.specs.Kept.{Agrees, IsKept}
 use Rattle.fb_entries.specs.Indexed.{IsIndexOf}
 use Rattle.fb_bench.proofs.Keeping.{kept_pushed}
-use Rattle.fb_entries.proofs.History.Steps.{story_pushed, share_pushed}
+use Rattle.fb_history.proofs.Steps.{story_pushed, share_pushed}
 use Rattle.fb_bench.proofs.Committing.{answer_kept, commits_is, committed_is, agrees_renewed, keys_done}
 use Rattle.fb_bench.proofs.Renewals.{agrees_back}
 use Rattle.fb_bench.proofs.bench.Bench.commit_recorded.Goals as goal

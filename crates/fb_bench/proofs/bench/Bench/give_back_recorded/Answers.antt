@@ -1,10 +1,10 @@
 -- A key that is not out stays as it is.
 use Rattle.std.proofs.Common.{◌≡◌, false, sym, ap, subst, ◌∙◌, arith, rules}
-use Rattle.fb_entries.specs.History.Machine.{State, ToGiveBack}
-use Rattle.fb_entries.specs.History.Story.{Story, state_of, start}
+use Rattle.fb_history.specs.Machine.{State, ToGiveBack}
+use Rattle.fb_history.specs.Story.{Story, state_of, start}
 use Rattle.fb_bench.specs.Kept.{Agrees}
 use Rattle.fb_bench.proofs.Keeping.{kept_pushed}
-use Rattle.fb_entries.proofs.History.Steps.{story_pushed, share_pushed, out_returned, nothing_out, after_nothing_out}
+use Rattle.fb_history.proofs.Steps.{story_pushed, share_pushed, out_returned, nothing_out, after_nothing_out}
 use Rattle.fb_bench.proofs.bench.Bench.give_back_recorded.Goals as goal
 
 pub invariant_of-self-then-not-is_out : goal.invariant_of-self-then-not-is_out

@@ -1,11 +1,11 @@
 -- A key that is next is one of the library, whose kept values are those of its texts; the job is the machine's order.
 use Rattle.std.proofs.Common.{◌≡◌, true, sym, ap, subst, refl, ◌∙◌, Some}
-use Rattle.fb_entries.specs.KeysAndValues.Keys.{has_key}
-use Rattle.fb_entries.specs.History.Machine.{State, ToTake, reply, next}
-use Rattle.fb_entries.specs.History.Story.{Story, state_of, start}
-use Rattle.fb_entries.proofs.History.Least.{next_passes}
+use Rattle.fb_entries.specs.Jobs.Keys.{has_key}
+use Rattle.fb_history.specs.Machine.{State, ToTake, reply, next}
+use Rattle.fb_history.specs.Story.{Story, state_of, start}
+use Rattle.fb_history.proofs.Least.{next_passes}
 use Rattle.fb_bench.proofs.Marks.{ready_has, all_kept}
-use Rattle.fb_entries.proofs.History.Steps.{take_some}
+use Rattle.fb_history.proofs.Steps.{take_some}
 use Rattle.fb_bench.proofs.bench.Bench.job_for.Goals as goal
 
 pub make-requires-clause-has : goal.make-requires-clause-has

@@ -1,10 +1,10 @@
 -- The keys of a workbench stand in order.
 use Rattle.std.proofs.Common.{subst}
 use Rattle.std.specs.List.Sorted.{IsStrictlySortedBy}
-use Rattle.fb_entries.specs.KeysAndValues.KeyOrder.{key_cmp}
-use Rattle.fb_entries.specs.History.Machine.{keys_of}
-use Rattle.fb_entries.specs.History.Story.{Story, start, state_of}
-use Rattle.fb_entries.proofs.History.Sorted.{keys_rise}
+use Rattle.fb_entries.specs.Jobs.KeyOrder.{key_cmp}
+use Rattle.fb_history.specs.Machine.{keys_of}
+use Rattle.fb_history.specs.Story.{Story, start, state_of}
+use Rattle.fb_history.proofs.Sorted.{keys_rise}
 use Rattle.fb_bench.proofs.bench.Bench.key_at.Goals as goal
 
 pub returns-clause-ordered : goal.returns-clause-ordered

@@ -1,11 +1,11 @@
 -- A key that is given back is ready again if it waits for a result.
 use Rattle.std.proofs.Common.{◌≡◌, true, sym, ap, subst, ◌∙◌, arith}
-use Rattle.fb_entries.specs.History.Machine.{State, ToGiveBack}
-use Rattle.fb_entries.specs.History.Story.{Story, state_of, start}
+use Rattle.fb_history.specs.Machine.{State, ToGiveBack}
+use Rattle.fb_history.specs.Story.{Story, state_of, start}
 use Rattle.fb_bench.specs.Kept.{Agrees, IsKept}
 use Rattle.fb_bench.proofs.Marks.{agrees_return, put_and_taken}
 use Rattle.fb_bench.proofs.Keeping.{kept_pushed}
-use Rattle.fb_entries.proofs.History.Steps.{story_pushed, share_pushed, out_returned, after_returned}
+use Rattle.fb_history.proofs.Steps.{story_pushed, share_pushed, out_returned, after_returned}
 use Rattle.fb_bench.proofs.bench.Bench.make_ready.Goals as goal
 
 pub invariant_of-self : goal.invariant_of-self

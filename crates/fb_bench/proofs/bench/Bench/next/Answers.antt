@@ -1,9 +1,9 @@
 -- The first of the ready keys is the least key that is ready.
 use Rattle.std.proofs.Common.{◌≡◌, true, sym, ap, ◌∙◌, rules}
 use Rattle.fb_entries.specs.Jobs.declared.key.Key.{Key}
-use Rattle.fb_entries.specs.History.Machine.{next, is_ready}
-use Rattle.fb_entries.specs.History.Story.{Story, state_of, start}
-use Rattle.fb_entries.proofs.History.Least.{next_some, next_none}
+use Rattle.fb_history.specs.Machine.{next, is_ready}
+use Rattle.fb_history.specs.Story.{Story, state_of, start}
+use Rattle.fb_history.proofs.Least.{next_some, next_none}
 use Rattle.fb_bench.proofs.Marks.{ready_has, none_in}
 use Rattle.fb_bench.proofs.bench.Bench.next.Goals as goal
 

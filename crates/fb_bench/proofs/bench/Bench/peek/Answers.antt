@@ -1,8 +1,8 @@
 -- The machine's pending keys are those that are due.
 use Rattle.std.proofs.Common.{◌∙◌}
-use Rattle.fb_entries.specs.History.Story.{calls_of}
+use Rattle.fb_history.specs.Story.{calls_of}
 use Rattle.fb_bench.proofs.Showing.{due_shown}
-use Rattle.fb_entries.proofs.History.AfterCalls.{entry_is}
+use Rattle.fb_history.proofs.AfterCalls.{entry_is}
 use Rattle.fb_bench.proofs.bench.Bench.peek.Goals as goal
 
 pub returns-clause-due : goal.returns-clause-due

@@ -1,7 +1,7 @@
 -- The set of the keys that wait has each of them once.
 use Rattle.std.proofs.Common.{◌∙◌, ap, count_by}
-use Rattle.fb_entries.specs.History.Machine.{keys_of}
-use Rattle.fb_entries.specs.History.Story.{Story, state_of, start}
+use Rattle.fb_history.specs.Machine.{keys_of}
+use Rattle.fb_history.specs.Story.{Story, state_of, start}
 use Rattle.fb_bench.proofs.KeysKept.{waiting_count}
 use Rattle.fb_bench.proofs.bench.Bench.pending_count.Goals as goal
 

@@ -1,15 +1,15 @@
 -- The value that is kept is that of the present texts.
 use Rattle.std.proofs.Common.{◌≡◌, sym, ap, subst, refl, ◌∙◌, arith, rules}
-use Rattle.fb_entries.specs.KeysAndValues.Keys.{scratch}
-use Rattle.fb_entries.specs.KeysAndValues.Reads.{PlainJob}
-use Rattle.fb_entries.specs.KeysAndValues.Values.{finding_of}
-use Rattle.fb_entries.specs.History.declared.answers.Delivered.TheVariants.{Accepted}
-use Rattle.fb_entries.specs.History.Machine.{State, ToDeliver, OfDeliver, deliver_answer}
-use Rattle.fb_entries.specs.History.Story.{Story, state_of, start, logged, record_after}
+use Rattle.fb_entries.specs.Jobs.Keys.{scratch}
+use Rattle.fb_entries.specs.Jobs.Reads.{PlainJob}
+use Rattle.fb_entries.specs.Jobs.Values.{finding_of}
+use Rattle.fb_history.specs.declared.answers.Delivered.TheVariants.{Accepted}
+use Rattle.fb_history.specs.Machine.{State, ToDeliver, OfDeliver, deliver_answer}
+use Rattle.fb_history.specs.Story.{Story, state_of, start, logged, record_after}
 use Rattle.fb_bench.specs.Kept.{Agrees}
 use Rattle.fb_bench.proofs.Marks.{agrees_deliver}
 use Rattle.fb_bench.proofs.Keeping.{kept_pushed}
-use Rattle.fb_entries.proofs.History.Steps.{story_pushed, share_pushed, delivers_is, delivered_is}
+use Rattle.fb_history.proofs.Steps.{story_pushed, share_pushed, delivers_is, delivered_is}
 use Rattle.fb_bench.proofs.bench.Bench.take_in.Goals as goal
 
 pub invariant_of-self-2 : goal.invariant_of-self-2

@@ -1,10 +1,10 @@
 -- Where nothing is next, that is recorded, and nothing else changes.
 use Rattle.std.proofs.Common.{◌≡◌, sym, ap, subst, ◌∙◌, arith, rules, None}
-use Rattle.fb_entries.specs.History.Machine.{ToTake, next}
-use Rattle.fb_entries.specs.History.Story.{Story, state_of, start}
+use Rattle.fb_history.specs.Machine.{ToTake, next}
+use Rattle.fb_history.specs.Story.{Story, state_of, start}
 use Rattle.fb_bench.specs.Kept.{Agrees}
 use Rattle.fb_bench.proofs.Keeping.{kept_pushed}
-use Rattle.fb_entries.proofs.History.Steps.{story_pushed, share_pushed, take_none, stays_none}
+use Rattle.fb_history.proofs.Steps.{story_pushed, share_pushed, take_none, stays_none}
 use Rattle.fb_bench.proofs.bench.Bench.take_recorded.Goals as goal
 
 pub invariant_of-self-in-None : goal.invariant_of-self-in-None

@@ -2,8 +2,8 @@
 use Rattle.std.proofs.Common.{filter, not, is_none, ap, ◌∙◌}
 use Rattle.std.specs.BTreeMap as tree
 use Rattle.std.specs.BTreeSet as set
-use Rattle.fb_history.specs.KeysAndValues.Keys.{has_key}
-use Rattle.fb_history.specs.KeysAndValues.KeyOrder.{key_cmp}
+use Rattle.fb_jobs.specs.Keys.{has_key}
+use Rattle.fb_jobs.specs.KeyOrder.{key_cmp}
 use Rattle.fb_entries.proofs.Findings.{found}
 use Rattle.fb_entries.proofs.entries.Entries.find.Goals as goal
 

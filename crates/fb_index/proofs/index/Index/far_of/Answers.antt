@@ -1,8 +1,8 @@
 -- The walk ends where nothing is pending.
 use Rattle.std.proofs.Common.{◌≡◌, ◌↔◌, true, ◌∷◌, [], ◌++◌, sym, ap, subst, ◌∙◌, arith}
 use Rattle.std.proofs.lemmas.Result.{IfOk-weaker}
-use Rattle.fb_table.specs.Seen.{has_name, Opens}
-use Rattle.fb_table.proofs.SeenLemmas.{no_items}
+use Rattle.fb_library.specs.Seen.{has_name, Opens}
+use Rattle.fb_library.proofs.SeenLemmas.{no_items}
 use Rattle.fb_index.specs.Near.{users_of, ReachesSome}
 use Rattle.fb_index.proofs.Walks.{IsWalk, IsWalk-begin, IsWalk-step, walk_at_end, walk_falls}
 use Rattle.fb_index.proofs.index.Index.far_of.Goals as goal

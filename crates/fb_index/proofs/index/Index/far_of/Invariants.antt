@@ -1,5 +1,5 @@
 use Rattle.std.proofs.Common.{◌+◌, length}
-use Rattle.fb_table.specs.Seen.{unseen}
+use Rattle.fb_library.specs.Seen.{unseen}
 use Rattle.fb_index.proofs.Walks.{IsWalk, all_users}
 use Rattle.fb_index.proofs.index.Index.far_of.Given as goal
 

@@ -1,10 +1,10 @@
 -- The others are left under the name.
 use Rattle.std.proofs.Common.{ap, ◌∙◌}
 use Rattle.std.proofs.lemmas.Result.{IfOk-weaker}
-use Rattle.fb_table.specs.Seen.{has_name}
+use Rattle.fb_library.specs.Seen.{has_name}
 use Rattle.std.proofs.Common.{◌&&◌, not}
 use Rattle.std.specs.BTreeMap.{is_at}
-use Rattle.fb_table.specs.Text.Order.{name_cmp}
+use Rattle.fb_text.specs.Order.{name_cmp}
 use Rattle.fb_index.proofs.Lookups.{unit_left}
 use Rattle.fb_index.proofs.index.Index.leave.Goals as goal
 

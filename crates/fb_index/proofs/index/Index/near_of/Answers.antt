@@ -4,10 +4,10 @@ use Rattle.std.proofs.lemmas.Grind.{common_steps}
 use Rattle.std.proofs.lemmas.Result.{IfOk-weaker}
 use Rattle.std.specs.List.{list_any}
 use Rattle.std.specs.List.Sorted.{IsStrictlySortedBy}
-use Rattle.fb_table.specs.Text.Order.{name_cmp}
-use Rattle.fb_table.proofs.Text.OrderLemmas.{in_order-sorted, has-in_order}
-use Rattle.fb_table.specs.Seen.{has_name}
-use Rattle.fb_table.proofs.Names.{name_total}
+use Rattle.fb_text.specs.Order.{name_cmp}
+use Rattle.fb_text.proofs.OrderLemmas.{in_order-sorted, has-in_order}
+use Rattle.fb_library.specs.Seen.{has_name}
+use Rattle.fb_library.proofs.Names.{name_total}
 use Rattle.fb_index.specs.Near.{is_near}
 use Rattle.fb_index.proofs.index.Index.near_of.Goals as goal
 

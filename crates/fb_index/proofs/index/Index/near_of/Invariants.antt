@@ -1,6 +1,6 @@
 use Rattle.std.proofs.Common.{◌≡◌, ℕ, List, take}
 use Rattle.std.specs.List.{list_any}
-use Rattle.fb_table.specs.Seen.{has_name}
+use Rattle.fb_library.specs.Seen.{has_name}
 use Rattle.fb_index.specs.Near.{is_near}
 use Rattle.fb_index.proofs.index.Index.near_of.Given as goal
 

@@ -1,7 +1,7 @@
 -- No rows are in order.
 use Rattle.std.proofs.Common.{map, sym, subst}
 use Rattle.std.specs.List.Sorted.{IsStrictlySortedBy}
-use Rattle.fb_table.specs.Text.Order.{name_cmp}
+use Rattle.fb_text.specs.Order.{name_cmp}
 use Rattle.fb_index.proofs.Lookups.{Rows}
 use Rattle.fb_index.proofs.index.Index.new.Goals as goal
 

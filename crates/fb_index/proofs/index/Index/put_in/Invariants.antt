@@ -1,8 +1,8 @@
 use Rattle.std.proofs.Common.{◌≡◌, ℕ, ◌&&◌, ◌||◌, not, List, take}
 use Rattle.std.specs.BTreeMap.{is_at}
 use Rattle.std.specs.BTreeSet as set
-use Rattle.fb_table.specs.Text.Order.{name_cmp}
-use Rattle.fb_table.specs.Seen.{has_name}
+use Rattle.fb_text.specs.Order.{name_cmp}
+use Rattle.fb_library.specs.Seen.{has_name}
 use Rattle.fb_index.specs.Near.{is_near}
 use Rattle.fb_index.proofs.index.Index.put_in.Given as goal
 

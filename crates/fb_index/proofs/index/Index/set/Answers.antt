@@ -2,8 +2,8 @@
 use Rattle.std.proofs.Common.{◌≡◌, [], ap, ◌∙◌, arith}
 use Rattle.std.specs.BTreeMap.{insert_entry}
 use Rattle.std.proofs.lemmas.Result.{IfOk-weaker}
-use Rattle.fb_table.proofs.SeenLemmas.{no_items}
-use Rattle.fb_table.specs.Text.Order.{name_cmp}
+use Rattle.fb_library.proofs.SeenLemmas.{no_items}
+use Rattle.fb_text.specs.Order.{name_cmp}
 use Rattle.fb_index.proofs.Lookups.{users_put, users_removed, rows_put, rows_removed}
 use Rattle.fb_index.proofs.index.Index.set.Goals as goal
 

@@ -3,9 +3,9 @@ use Rattle.std.proofs.Common.{◌≡◌, ◌+◌, ◌++◌, ◌∷◌, [], true,
 use Rattle.std.proofs.lemmas.Grind.{common_steps}
 use Rattle.std.specs.BTreeMap.{is_at}
 use Rattle.std.specs.BTreeSet as set
-use Rattle.fb_table.specs.Text.Order.{name_cmp}
-use Rattle.fb_table.specs.Seen.{has_name}
-use Rattle.fb_table.proofs.SeenLemmas.{has-push, same_is}
+use Rattle.fb_text.specs.Order.{name_cmp}
+use Rattle.fb_library.specs.Seen.{has_name}
+use Rattle.fb_library.proofs.SeenLemmas.{has-push, same_is}
 use Rattle.fb_index.specs.Near.{is_near}
 use Rattle.fb_index.proofs.Bits.{one_less, one_kept}
 use Rattle.fb_index.proofs.Lookups.{flips}

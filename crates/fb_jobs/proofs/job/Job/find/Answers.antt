@@ -1,12 +1,12 @@
 -- What stands at the place was read under the name, and nothing where there is a gap.
 use Rattle.std.proofs.Common.{◌≡◌, ℕ, List, Some, get_or, sym, ap, subst, ◌∙◌}
 use Rattle.std.specs.Option.{option_map}
-use Rattle.fb_values.specs.Library.Texts.{text_at, text_in}
-use Rattle.fb_values.specs.Library.Place.{IsAt, IsGapFor}
-use Rattle.fb_values.specs.declared.key.Key.{Key}
-use Rattle.fb_values.specs.declared.read.Read.{Read}
-use Rattle.fb_values.specs.Reads.{PlainJob, IsRight, read_names, read_texts}
-use Rattle.fb_values.specs.Values.{all_seen, found_in}
+use Rattle.fb_deploy.specs.Library.Texts.{text_at, text_in}
+use Rattle.fb_deploy.specs.Library.Place.{IsAt, IsGapFor}
+use Rattle.fb_jobs.specs.declared.key.Key.{Key}
+use Rattle.fb_jobs.specs.declared.read.Read.{Read}
+use Rattle.fb_jobs.specs.Reads.{PlainJob, IsRight, read_names, read_texts}
+use Rattle.fb_jobs.specs.Values.{all_seen, found_in}
 use Rattle.fb_jobs.specs.Finished.{plain_job}
 use Rattle.fb_jobs.proofs.Currents.{reads_rise}
 use Rattle.fb_jobs.proofs.Searches.{text_there, none_in_gap}

@@ -1,8 +1,8 @@
 -- What the key needs of the library it needs of the reads too.
 use Rattle.std.proofs.Common.{sym, ap, subst, ◌∙◌, All}
-use Rattle.fb_values.specs.Values.{all_seen, texts_seen, IsOwn}
+use Rattle.fb_jobs.specs.Values.{all_seen, texts_seen, IsOwn}
 use Rattle.fb_jobs.specs.Hints.{AreHints, AreChosen}
-use Rattle.fb_values.specs.Reads.{IsRight, read_texts}
+use Rattle.fb_jobs.specs.Reads.{IsRight, read_texts}
 use Rattle.fb_jobs.proofs.HintLemmas.{chosen_hold}
 use Rattle.fb_jobs.proofs.Currents.{right_for}
 use Rattle.fb_jobs.proofs.job.Job.make.Goals as goal

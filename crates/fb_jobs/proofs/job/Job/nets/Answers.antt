@@ -1,7 +1,7 @@
 -- The nets are right in the reads.
 use Rattle.std.proofs.Common.{subst}
 use Rattle.fb_jobs.specs.Hints.{AreHints}
-use Rattle.fb_values.specs.Reads.{PlainJob, read_texts}
+use Rattle.fb_jobs.specs.Reads.{PlainJob, read_texts}
 use Rattle.fb_jobs.proofs.job.Job.nets.Goals as goal
 
 pub returns : goal.returns

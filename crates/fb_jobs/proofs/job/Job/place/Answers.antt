@@ -2,14 +2,14 @@
 use Rattle.std.proofs.Common.{◌≡◌, rules, IfOk, IfErr, List, ap, subst, sym, ◌∙◌}
 use Rattle.std.specs.List.Sorted.{IsStrictlySortedBy}
 use Rattle.std.proofs.lemmas.List.Sorted.{answers_always}
-use Rattle.fb_values.specs.Text.Order.{name_cmp}
-use Rattle.fb_values.specs.Library.Place.{IsAt, IsGapFor}
-use Rattle.fb_values.specs.Reads.{PlainJob, read_names}
-use Rattle.fb_values.specs.Values.{all_seen}
-use Rattle.fb_values.specs.declared.read.Read.{Read}
+use Rattle.fb_text.specs.Order.{name_cmp}
+use Rattle.fb_deploy.specs.Library.Place.{IsAt, IsGapFor}
+use Rattle.fb_jobs.specs.Reads.{PlainJob, read_names}
+use Rattle.fb_jobs.specs.Values.{all_seen}
+use Rattle.fb_jobs.specs.declared.read.Read.{Read}
 use Rattle.fb_jobs.specs.Finished.{plain_job}
 use Rattle.fb_jobs.proofs.Currents.{reads_rise}
-use Rattle.fb_values.proofs.Library.Searches.{Searched}
+use Rattle.fb_deploy.proofs.Library.Searches.{Searched}
 use Rattle.fb_jobs.proofs.Searches.{searched}
 use Rattle.fb_jobs.proofs.job.Job.place.Goals as goal
 

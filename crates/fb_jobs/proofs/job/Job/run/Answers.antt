@@ -2,16 +2,16 @@
 use Rattle.std.proofs.Common.{◌≡◌, true, ap, sym, subst, ◌∙◌, All}
 use Rattle.std.specs.BTreeMap as tree
 use Rattle.std.specs.FinMap.{get}
-use Rattle.fb_values.specs.Text.Order.{name_cmp}
-use Rattle.fb_values.specs.Flatten.Hints.{AreRightHints}
+use Rattle.fb_text.specs.Order.{name_cmp}
+use Rattle.fb_deploy.specs.Flatten.Hints.{AreRightHints}
 use Rattle.fb_jobs.specs.Hints.{hint_in}
 use Rattle.fb_jobs.proofs.HintLemmas.{hints_right}
-use Rattle.fb_values.specs.Library.Texts.{sources_of}
-use Rattle.fb_values.specs.Keys.{has_kind_at, scratch, scratch_of}
-use Rattle.fb_values.specs.Reads.{PlainJob, IsRight, read_texts}
+use Rattle.fb_deploy.specs.Library.Texts.{sources_of}
+use Rattle.fb_jobs.specs.Keys.{has_kind_at, scratch, scratch_of}
+use Rattle.fb_jobs.specs.Reads.{PlainJob, IsRight, read_texts}
 use Rattle.fb_jobs.specs.Finished.{plain_job}
-use Rattle.fb_values.specs.Values.{all_seen, texts_seen, finding_of, IsOwn}
-use Rattle.fb_values.proofs.SameNeeds.{kind_there, scratch_is}
+use Rattle.fb_jobs.specs.Values.{all_seen, texts_seen, finding_of, IsOwn}
+use Rattle.fb_jobs.proofs.SameNeeds.{kind_there, scratch_is}
 use Rattle.fb_jobs.proofs.job.Job.run.Goals as goal
 
 pub value_of-requires-clause-has : goal.value_of-requires-clause-has

@@ -1,7 +1,7 @@
 -- The book has a page of the call that is recorded, and is as it was where none is.
 use Rattle.std.proofs.Common.{◌≡◌, ◌==◌, ◌∙◌, ap, refl, nat_cmp, cond, Some, ℕ, length-append}
 use Rattle.std.specs.BTreeMap.{get}
-use Rattle.fb_bench.specs.Story.{record_of}
+use Rattle.fb_bench.specs.History.Story.{record_of}
 use Rattle.fb_bench.specs.Requests.{call_for}
 use Rattle.fb_locked.proofs.Books.{undone, written}
 use Rattle.fb_locked.proofs.locked.Locked.make_call.Goals as goal

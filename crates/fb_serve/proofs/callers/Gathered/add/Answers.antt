@@ -1,5 +1,5 @@
 use Rattle.std.proofs.Common.{◌≡◌, List, [], ◌∷◌, ◌++◌, ap, sym, ◌∙◌, subst}
-use Rattle.fb_shared.specs.Seats.{SeatState, Claim}
+use Rattle.fb_shared.specs.Locked.Seats.{SeatState, Claim}
 use Rattle.fb_serve.specs.Shown.{AreShown}
 use Rattle.fb_serve.proofs.Counts.{shown_with}
 use Rattle.fb_serve.proofs.callers.Gathered.add.Goals as goal

@@ -1,5 +1,5 @@
 use Rattle.std.proofs.Common.{◌∙◌, ◌++◌, ◌∷◌, [], List, ap, sym}
-use Rattle.fb_locked.specs.Bench.Machine.{Reply, OfTake}
+use Rattle.fb_locked.specs.History.Machine.{Reply, OfTake}
 use Rattle.fb_locked.specs.Seats.{Claim}
 use Rattle.fb_shared.proofs.Desks.{taken_reply}
 use Rattle.fb_shared.proofs.seated.SeatedDesk.take.Goals as goal

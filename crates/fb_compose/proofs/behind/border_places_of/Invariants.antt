@@ -1,6 +1,0 @@
-use Rattle.std.proofs.Common.{◌≡◌, take}
-use Rattle.fb_compose.specs.Composed.{border_places}
-use Rattle.fb_compose.proofs.behind.border_places_of.Given as goal
-
-abbrev pub invariant-loop-border : goal.invariant-loop-border
-invariant-loop-border l = l.places.items ≡ border_places l.sort l.name l.port (take l.border-index l.border-items)

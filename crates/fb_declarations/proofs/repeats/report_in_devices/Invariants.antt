@@ -1,8 +1,0 @@
-use Rattle.std.proofs.Common.{◌≡◌, ◌++◌, map, take}
-use Rattle.std.specs.List.{flat_map}
-use Rattle.fb_ecc.specs.Iface.Declarations.{space_duplicates}
-use Rattle.fb_declarations.proofs.repeats.report_in_devices.Given as goal
-
-abbrev pub invariant-loop-device : goal.invariant-loop-device
-invariant-loop-device l =
-    l.found.items ≡ l.initial.found.items ++ flat_map (λ d. space_duplicates (map (λ r. r.name) d.resources.items)) (take l.device-index l.devices)

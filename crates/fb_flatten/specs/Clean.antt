@@ -1,0 +1,48 @@
+-- What units without faults keep of their networks.
+use Rattle.std.specs.Prelude.{◌≡◌, ℕ, ◌<◌, List, [], Option, Some, Contains, find, slice_get}
+use Rattle.fb_wiring.specs.Tree.declared.kinds.UnitKind.{UnitKind}
+use Rattle.fb_wiring.specs.Tree.declared.kinds.UnitKind.TheVariants as kinds
+use Rattle.fb_wiring.specs.Library.View.{Sources}
+use Rattle.fb_wiring.specs.Iface.Names.{is_same}
+use Rattle.fb_faults.specs.Faults.{faults_of}
+use Rattle.fb_wiring.specs.Network.Clean.{IsClean}
+use Rattle.fb_wiring.specs.Network.Plain.{PlainNetwork}
+use Rattle.fb_wiring.specs.Network.declared.network.Instance.{Instance}
+use Rattle.fb_wiring.specs.Network.declared.network.InstanceKind.{InstanceKind}
+use Rattle.fb_wiring.specs.Network.declared.network.InstanceKind.TheVariants.{Block, Subapplication}
+use Rattle.fb_wiring.specs.ByName.{applications_at, declared, kind_at}
+use Rattle.fb_wiring.specs.declared.systems.Application.{Application}
+
+-- the kind that an instance wants of its type
+abbrev pub wanted_kind : InstanceKind → UnitKind
+wanted_kind Block = kinds.Block
+wanted_kind Subapplication = kinds.Subapplication
+
+-- the network is clean, and the type of each instance is of the kind that this wants
+pub record IsCleanWithKinds (sources : Sources) (network : PlainNetwork) : Type 0 where
+  pub clean : IsClean (declared sources) network
+  pub kinds : (i : Instance) → Contains network.instances i → kind_at sources i.type_name ≡ Some (wanted_kind i.kind)
+
+-- without faults, the network of a unit is clean
+abbrev pub NetworksAreClean : Type 0
+NetworksAreClean =
+    (sources : Sources) (unit : List ℕ) (network : PlainNetwork)
+    → declared sources unit ≡ Some network → faults_of sources unit ≡ [] → IsCleanWithKinds sources network
+
+-- the first application of that name
+abbrev pub application_named : List Application → List ℕ → Option Application
+application_named applications name = find (λ a. is_same a.name name) applications
+
+-- each application has a name of its own and a clean network
+pub record AreCleanWithKinds (sources : Sources) (applications : List Application) : Type 0 where
+  pub apart :
+      (i j : ℕ) (a b : Application)
+      → i < j → slice_get applications i ≡ Some a → slice_get applications j ≡ Some b → a.name ≡ b.name → ⊥
+  pub named : (a : Application) → Contains applications a → application_named applications a.name ≡ Some a
+  pub sound : (a : Application) → Contains applications a → IsCleanWithKinds sources a.network
+
+-- without faults, the networks of the applications of a system are clean
+abbrev pub ApplicationsAreClean : Type 0
+ApplicationsAreClean =
+    (sources : Sources) (unit : List ℕ) (applications : List Application)
+    → applications_at sources unit ≡ Some applications → faults_of sources unit ≡ [] → AreCleanWithKinds sources applications

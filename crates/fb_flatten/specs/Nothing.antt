@@ -1,0 +1,21 @@
+-- A unit without faults is one of which no check reports any.
+use Rattle.std.specs.Prelude.{◌≡◌, ℕ, List, []}
+use Rattle.fb_wiring.specs.Library.View.{Sources}
+use Rattle.fb_wiring.specs.Iface.Declarations.{iface_faults_of}
+use Rattle.fb_faults.specs.Expr.Charts.{expr_faults_of}
+use Rattle.fb_faults.specs.Ecc.Charts.{ecc_faults_of}
+use Rattle.fb_faults.specs.Netcheck.Networks.{net_faults_of}
+use Rattle.fb_faults.specs.Faults.{faults_of, syntax_faults_of}
+use Rattle.fb_faults.specs.Mappings.{mapping_faults_of}
+
+-- no check reports a fault of the unit
+pub record HasNoReport (sources : Sources) (unit : List ℕ) : Type 0 where
+  pub syntax : syntax_faults_of sources unit ≡ []
+  pub declarations : iface_faults_of sources unit ≡ []
+  pub expressions : expr_faults_of sources unit ≡ []
+  pub charts : ecc_faults_of sources unit ≡ []
+  pub networks : net_faults_of sources unit ≡ []
+  pub mappings : mapping_faults_of sources unit ≡ []
+
+abbrev pub NothingIsReported : Type 0
+NothingIsReported = (sources : Sources) (unit : List ℕ) → faults_of sources unit ≡ [] → HasNoReport sources unit

@@ -1,0 +1,9 @@
+pub mod Numbering
+pub mod Lookups
+pub mod NameWords
+pub mod Lexing
+pub mod Forms
+pub mod Loops
+pub mod ReadKinds
+pub mod Repeating
+pub mod Shapes

@@ -1,0 +1,13 @@
+-- Words and symbols by their length, as they are looked up.
+use Rattle.std.specs.Prelude.{ℕ, ◌&&◌, List, length, nat_le, nat_eq}
+use Rattle.std.specs.List.{filter}
+use Rattle.fb_grammar.specs.declared.kind.Kind.{Kind}
+use Rattle.fb_grammar.specs.ReservedWords.{reserved_words, symbols}
+
+-- the reserved words of so many letters
+unfoldable pub words_between : ℕ → ℕ → List (List ℕ × Kind)
+words_between low high = filter (λ e. nat_le low (length e.0) && nat_le (length e.0) high) reserved_words
+
+-- the symbols of so many bytes
+unfoldable pub symbols_of : ℕ → List (List ℕ × Kind)
+symbols_of n = filter (λ e. nat_eq (length e.0) n) symbols

@@ -1,0 +1,51 @@
+-- Forms of a grammar, what spells them, and their fronts.
+use Rattle.std.specs.Prelude.{◌≡◌, true, ◌⊎◌, List, [], ◌∷◌, ◌++◌, Option, Some, None}
+use Rattle.fb_grammar.specs.declared.kind.Kind.{Kind}
+use Rattle.fb_grammar.specs.declared.lexeme.Lexeme.{Lexeme}
+use Rattle.fb_grammar.specs.Kind.{is_among}
+
+-- A form whose spellings stand for values of A.
+pub data Form : Type 0 → Type 1 where
+  -- one token of one of these kinds
+  one : List Kind → Form Lexeme
+  -- x y
+  both : {A B : Type 0} → Form A → Form B → Form (A × B)
+  -- x | y
+  either : {A : Type 0} → Form A → Form A → Form A
+  -- [x]
+  option : {A : Type 0} → Form A → Form (Option A)
+  -- {x}
+  many : {A : Type 0} → Form A → Form (List A)
+  -- x, whose values are read as others
+  as_value : {A B : Type 0} → (A → B) → Form A → Form B
+
+abbrev pub SpellsOption : {A : Type 0} → (List Lexeme → A → Type 0) → List Lexeme → Option A → Type 0
+SpellsOption P tokens None = tokens ≡ []
+SpellsOption P tokens (Some value) = P tokens value
+
+abbrev pub SpellsEach : {A : Type 0} → (List Lexeme → A → Type 0) → List Lexeme → List A → Type 0
+SpellsEach P tokens [] = tokens ≡ []
+SpellsEach P tokens (value ∷ values) = (front rest : List Lexeme) × (tokens ≡ front ++ rest) × P front value × SpellsEach P rest values
+
+-- The tokens spell the value.
+abbrev pub Spells : {A : Type 0} → Form A → List Lexeme → A → Type 0
+Spells (one kinds) tokens value = (tokens ≡ value ∷ []) × (is_among kinds value.kind ≡ true)
+Spells (both x y) tokens value = (front rest : List Lexeme) × (tokens ≡ front ++ rest) × Spells x front value.0 × Spells y rest value.1
+Spells (either x y) tokens value = Spells x tokens value ⊎ Spells y tokens value
+Spells (option x) tokens value = SpellsOption (Spells x) tokens value
+Spells (many x) tokens values = SpellsEach (Spells x) tokens values
+Spells (as_value {A} f x) tokens value = (read : A) × Spells x tokens read × (value ≡ f read)
+
+-- The tokens are a front of the form.
+abbrev pub Front : {A : Type 0} → Form A → List Lexeme → Type 0
+-- of one token, nothing or that token
+Front (one kinds) tokens = (tokens ≡ []) ⊎ ((token : Lexeme) × (tokens ≡ token ∷ []) × (is_among kinds token.kind ≡ true))
+-- of x y, a front of x, or a spelling of x followed by a front of y
+Front (both {A} x y) tokens = Front x tokens ⊎ ((front rest : List Lexeme) × (value : A) × (tokens ≡ front ++ rest) × Spells x front value × Front y rest)
+-- of x | y, a front of either
+Front (either x y) tokens = Front x tokens ⊎ Front y tokens
+-- of [x], a front of x
+Front (option x) tokens = Front x tokens
+-- of {x}, none or more spellings of x followed by a front of x
+Front (many {A} x) tokens = (front rest : List Lexeme) × (values : List A) × (tokens ≡ front ++ rest) × SpellsEach (Spells x) front values × Front x rest
+Front (as_value f x) tokens = Front x tokens

@@ -1,0 +1,11 @@
+pub mod Kind
+pub mod ReservedWords
+pub mod ByLength
+pub mod Lexemes
+pub mod Form
+pub mod Reading
+pub mod Fault
+pub mod Words
+pub mod Literals
+pub mod Repetition
+pub mod Gives

@@ -1,0 +1,120 @@
+-- The reserved words and the symbols.
+use Rattle.std.specs.Prelude.{ℕ, List, [], ◌∷◌, codes, nat_eq, Option}
+use Rattle.std.specs.Map.{lookup}
+use Rattle.std.specs.Cmp.Lexicographic.{pointwise}
+use Rattle.fb_tree.specs.Text.Forms.{same_word}
+use Rattle.fb_grammar.specs.declared.kind.Kind.{Kind}
+use Rattle.fb_grammar.specs.declared.kind.Kind.TheVariants.{FunctionBlock, EndFunctionBlock, Adapter, EndAdapter, Subapplication, EndSubapplication, System, EndSystem, Application, EndApplication, Device, EndDevice, Resource, EndResource, Mappings, EndMappings, EventInput, EventOutput, EndEvent, Var, VarInput, VarOutput, EndVar, Plugs, EndPlugs, Sockets, EndSockets, Fbs, EndFbs, Subapps, EndSubapps, EventConnections, DataConnections, AdapterConnections, EndConnections, EcStates, EndStates, EcTransitions, EndTransitions, Algorithm, EndAlgorithm, Service, EndService, With, To, Array, Of, If, Then, Elsif, Else, EndIf, Case, EndCase, For, By, Do, EndFor, While, EndWhile, Repeat, Until, EndRepeat, Exit, Return, And, Or, Xor, Not, Mod, True, False, Assign, LessEqual, GreaterEqual, NotEqual, Power, Arrow, Range, Semicolon, Colon, Comma, Point, OpenParenthesis, CloseParenthesis, OpenBracket, CloseBracket, Equal, Less, Greater, Plus, Minus, Times, Divide, Ampersand}
+
+-- the reserved words
+abbrev pub reserved_words : List (List ℕ × Kind)
+reserved_words =
+    (codes "FUNCTION_BLOCK", FunctionBlock)
+    ∷ (codes "END_FUNCTION_BLOCK", EndFunctionBlock)
+    ∷ (codes "ADAPTER", Adapter)
+    ∷ (codes "END_ADAPTER", EndAdapter)
+    ∷ (codes "SUBAPPLICATION", Subapplication)
+    ∷ (codes "END_SUBAPPLICATION", EndSubapplication)
+    ∷ (codes "SYSTEM", System)
+    ∷ (codes "END_SYSTEM", EndSystem)
+    ∷ (codes "APPLICATION", Application)
+    ∷ (codes "END_APPLICATION", EndApplication)
+    ∷ (codes "DEVICE", Device)
+    ∷ (codes "END_DEVICE", EndDevice)
+    ∷ (codes "RESOURCE", Resource)
+    ∷ (codes "END_RESOURCE", EndResource)
+    ∷ (codes "MAPPINGS", Mappings)
+    ∷ (codes "END_MAPPINGS", EndMappings)
+    ∷ (codes "EVENT_INPUT", EventInput)
+    ∷ (codes "EVENT_OUTPUT", EventOutput)
+    ∷ (codes "END_EVENT", EndEvent)
+    ∷ (codes "VAR", Var)
+    ∷ (codes "VAR_INPUT", VarInput)
+    ∷ (codes "VAR_OUTPUT", VarOutput)
+    ∷ (codes "END_VAR", EndVar)
+    ∷ (codes "PLUGS", Plugs)
+    ∷ (codes "END_PLUGS", EndPlugs)
+    ∷ (codes "SOCKETS", Sockets)
+    ∷ (codes "END_SOCKETS", EndSockets)
+    ∷ (codes "FBS", Fbs)
+    ∷ (codes "END_FBS", EndFbs)
+    ∷ (codes "SUBAPPS", Subapps)
+    ∷ (codes "END_SUBAPPS", EndSubapps)
+    ∷ (codes "EVENT_CONNECTIONS", EventConnections)
+    ∷ (codes "DATA_CONNECTIONS", DataConnections)
+    ∷ (codes "ADAPTER_CONNECTIONS", AdapterConnections)
+    ∷ (codes "END_CONNECTIONS", EndConnections)
+    ∷ (codes "EC_STATES", EcStates)
+    ∷ (codes "END_STATES", EndStates)
+    ∷ (codes "EC_TRANSITIONS", EcTransitions)
+    ∷ (codes "END_TRANSITIONS", EndTransitions)
+    ∷ (codes "ALGORITHM", Algorithm)
+    ∷ (codes "END_ALGORITHM", EndAlgorithm)
+    ∷ (codes "SERVICE", Service)
+    ∷ (codes "END_SERVICE", EndService)
+    ∷ (codes "WITH", With)
+    ∷ (codes "TO", To)
+    ∷ (codes "ARRAY", Array)
+    ∷ (codes "OF", Of)
+    ∷ (codes "IF", If)
+    ∷ (codes "THEN", Then)
+    ∷ (codes "ELSIF", Elsif)
+    ∷ (codes "ELSE", Else)
+    ∷ (codes "END_IF", EndIf)
+    ∷ (codes "CASE", Case)
+    ∷ (codes "END_CASE", EndCase)
+    ∷ (codes "FOR", For)
+    ∷ (codes "BY", By)
+    ∷ (codes "DO", Do)
+    ∷ (codes "END_FOR", EndFor)
+    ∷ (codes "WHILE", While)
+    ∷ (codes "END_WHILE", EndWhile)
+    ∷ (codes "REPEAT", Repeat)
+    ∷ (codes "UNTIL", Until)
+    ∷ (codes "END_REPEAT", EndRepeat)
+    ∷ (codes "EXIT", Exit)
+    ∷ (codes "RETURN", Return)
+    ∷ (codes "AND", And)
+    ∷ (codes "OR", Or)
+    ∷ (codes "XOR", Xor)
+    ∷ (codes "NOT", Not)
+    ∷ (codes "MOD", Mod)
+    ∷ (codes "TRUE", True)
+    ∷ (codes "FALSE", False)
+    ∷ []
+
+-- the symbols
+abbrev pub symbols : List (List ℕ × Kind)
+symbols =
+    (codes ":=", Assign)
+    ∷ (codes "<=", LessEqual)
+    ∷ (codes ">=", GreaterEqual)
+    ∷ (codes "<>", NotEqual)
+    ∷ (codes "**", Power)
+    ∷ (codes "->", Arrow)
+    ∷ (codes "..", Range)
+    ∷ (codes ";", Semicolon)
+    ∷ (codes ":", Colon)
+    ∷ (codes ",", Comma)
+    ∷ (codes ".", Point)
+    ∷ (codes "(", OpenParenthesis)
+    ∷ (codes ")", CloseParenthesis)
+    ∷ (codes "[", OpenBracket)
+    ∷ (codes "]", CloseBracket)
+    ∷ (codes "=", Equal)
+    ∷ (codes "<", Less)
+    ∷ (codes ">", Greater)
+    ∷ (codes "+", Plus)
+    ∷ (codes "-", Minus)
+    ∷ (codes "*", Times)
+    ∷ (codes "/", Divide)
+    ∷ (codes "&", Ampersand)
+    ∷ []
+
+-- the kind of a reserved word, in any case
+unfoldable pub keyword : List ℕ → Option Kind
+keyword word = lookup (same_word word) reserved_words
+
+-- the kind of a symbol
+unfoldable pub symbol : List ℕ → Option Kind
+symbol bytes = lookup (pointwise nat_eq bytes) symbols

@@ -1,0 +1,372 @@
+//! Reserved words and symbols.
+ghost use Rattle.std.specs.Prelude.{◌≡◌, ◌∷◌, [], nat_eq};
+ghost use Rattle.std.specs.Map.{lookup};
+ghost use Rattle.std.specs.Cmp.Lexicographic.{pointwise};
+ghost use Rattle.fb_tree.specs.Text.Forms.{same_word};
+ghost use Rattle.fb_grammar.specs.ReservedWords.{keyword, symbol};
+ghost use Rattle.fb_grammar.specs.ByLength.{words_between, symbols_of};
+
+use crate::kind::Kind;
+use fb_tree::text::same_word;
+
+/// The reserved words of 2 letters.
+#[tactic(auto, unfolding(crate::specs::ByLength::words_between))]
+fn word_of_2(word: &[u8]) -> Option<Kind>
+    ensures { result ≡ lookup (same_word word.now) (words_between 2 2) }
+{
+    if same_word(word, b"TO") {
+        Some(Kind::To)
+    } else if same_word(word, b"OF") {
+        Some(Kind::Of)
+    } else if same_word(word, b"IF") {
+        Some(Kind::If)
+    } else if same_word(word, b"BY") {
+        Some(Kind::By)
+    } else if same_word(word, b"DO") {
+        Some(Kind::Do)
+    } else if same_word(word, b"OR") {
+        Some(Kind::Or)
+    } else {
+        None
+    }
+}
+
+/// The reserved words of 3 letters.
+#[tactic(auto, unfolding(crate::specs::ByLength::words_between))]
+fn word_of_3(word: &[u8]) -> Option<Kind>
+    ensures { result ≡ lookup (same_word word.now) (words_between 3 3) }
+{
+    if same_word(word, b"VAR") {
+        Some(Kind::Var)
+    } else if same_word(word, b"FBS") {
+        Some(Kind::Fbs)
+    } else if same_word(word, b"FOR") {
+        Some(Kind::For)
+    } else if same_word(word, b"AND") {
+        Some(Kind::And)
+    } else if same_word(word, b"XOR") {
+        Some(Kind::Xor)
+    } else if same_word(word, b"NOT") {
+        Some(Kind::Not)
+    } else if same_word(word, b"MOD") {
+        Some(Kind::Mod)
+    } else {
+        None
+    }
+}
+
+/// The reserved words of 4 letters.
+#[tactic(auto, unfolding(crate::specs::ByLength::words_between))]
+fn word_of_4(word: &[u8]) -> Option<Kind>
+    ensures { result ≡ lookup (same_word word.now) (words_between 4 4) }
+{
+    if same_word(word, b"WITH") {
+        Some(Kind::With)
+    } else if same_word(word, b"THEN") {
+        Some(Kind::Then)
+    } else if same_word(word, b"ELSE") {
+        Some(Kind::Else)
+    } else if same_word(word, b"CASE") {
+        Some(Kind::Case)
+    } else if same_word(word, b"EXIT") {
+        Some(Kind::Exit)
+    } else if same_word(word, b"TRUE") {
+        Some(Kind::True)
+    } else {
+        None
+    }
+}
+
+/// The reserved words of 5 letters.
+#[tactic(auto, unfolding(crate::specs::ByLength::words_between))]
+fn word_of_5(word: &[u8]) -> Option<Kind>
+    ensures { result ≡ lookup (same_word word.now) (words_between 5 5) }
+{
+    if same_word(word, b"PLUGS") {
+        Some(Kind::Plugs)
+    } else if same_word(word, b"ARRAY") {
+        Some(Kind::Array)
+    } else if same_word(word, b"ELSIF") {
+        Some(Kind::Elsif)
+    } else if same_word(word, b"WHILE") {
+        Some(Kind::While)
+    } else if same_word(word, b"UNTIL") {
+        Some(Kind::Until)
+    } else if same_word(word, b"FALSE") {
+        Some(Kind::False)
+    } else {
+        None
+    }
+}
+
+/// The reserved words of 6 letters.
+#[tactic(auto, unfolding(crate::specs::ByLength::words_between))]
+fn word_of_6(word: &[u8]) -> Option<Kind>
+    ensures { result ≡ lookup (same_word word.now) (words_between 6 6) }
+{
+    if same_word(word, b"SYSTEM") {
+        Some(Kind::System)
+    } else if same_word(word, b"DEVICE") {
+        Some(Kind::Device)
+    } else if same_word(word, b"END_IF") {
+        Some(Kind::EndIf)
+    } else if same_word(word, b"REPEAT") {
+        Some(Kind::Repeat)
+    } else if same_word(word, b"RETURN") {
+        Some(Kind::Return)
+    } else {
+        None
+    }
+}
+
+/// The reserved words of 7 letters.
+#[tactic(auto, unfolding(crate::specs::ByLength::words_between))]
+fn word_of_7(word: &[u8]) -> Option<Kind>
+    ensures { result ≡ lookup (same_word word.now) (words_between 7 7) }
+{
+    if same_word(word, b"ADAPTER") {
+        Some(Kind::Adapter)
+    } else if same_word(word, b"END_VAR") {
+        Some(Kind::EndVar)
+    } else if same_word(word, b"SOCKETS") {
+        Some(Kind::Sockets)
+    } else if same_word(word, b"END_FBS") {
+        Some(Kind::EndFbs)
+    } else if same_word(word, b"SUBAPPS") {
+        Some(Kind::Subapps)
+    } else if same_word(word, b"SERVICE") {
+        Some(Kind::Service)
+    } else if same_word(word, b"END_FOR") {
+        Some(Kind::EndFor)
+    } else {
+        None
+    }
+}
+
+/// The reserved words of 8 letters.
+#[tactic(auto, unfolding(crate::specs::ByLength::words_between))]
+fn word_of_8(word: &[u8]) -> Option<Kind>
+    ensures { result ≡ lookup (same_word word.now) (words_between 8 8) }
+{
+    if same_word(word, b"RESOURCE") {
+        Some(Kind::Resource)
+    } else if same_word(word, b"MAPPINGS") {
+        Some(Kind::Mappings)
+    } else if same_word(word, b"END_CASE") {
+        Some(Kind::EndCase)
+    } else {
+        None
+    }
+}
+
+/// The reserved words of 9 letters.
+#[tactic(auto, unfolding(crate::specs::ByLength::words_between))]
+fn word_of_9(word: &[u8]) -> Option<Kind>
+    ensures { result ≡ lookup (same_word word.now) (words_between 9 9) }
+{
+    if same_word(word, b"END_EVENT") {
+        Some(Kind::EndEvent)
+    } else if same_word(word, b"VAR_INPUT") {
+        Some(Kind::VarInput)
+    } else if same_word(word, b"END_PLUGS") {
+        Some(Kind::EndPlugs)
+    } else if same_word(word, b"EC_STATES") {
+        Some(Kind::EcStates)
+    } else if same_word(word, b"ALGORITHM") {
+        Some(Kind::Algorithm)
+    } else if same_word(word, b"END_WHILE") {
+        Some(Kind::EndWhile)
+    } else {
+        None
+    }
+}
+
+/// The reserved words of 10 letters.
+#[tactic(auto, unfolding(crate::specs::ByLength::words_between))]
+fn word_of_10(word: &[u8]) -> Option<Kind>
+    ensures { result ≡ lookup (same_word word.now) (words_between 10 10) }
+{
+    if same_word(word, b"END_SYSTEM") {
+        Some(Kind::EndSystem)
+    } else if same_word(word, b"END_DEVICE") {
+        Some(Kind::EndDevice)
+    } else if same_word(word, b"VAR_OUTPUT") {
+        Some(Kind::VarOutput)
+    } else if same_word(word, b"END_STATES") {
+        Some(Kind::EndStates)
+    } else if same_word(word, b"END_REPEAT") {
+        Some(Kind::EndRepeat)
+    } else {
+        None
+    }
+}
+
+/// The reserved words of 11 letters.
+#[tactic(auto, unfolding(crate::specs::ByLength::words_between))]
+fn word_of_11(word: &[u8]) -> Option<Kind>
+    ensures { result ≡ lookup (same_word word.now) (words_between 11 11) }
+{
+    if same_word(word, b"END_ADAPTER") {
+        Some(Kind::EndAdapter)
+    } else if same_word(word, b"APPLICATION") {
+        Some(Kind::Application)
+    } else if same_word(word, b"EVENT_INPUT") {
+        Some(Kind::EventInput)
+    } else if same_word(word, b"END_SOCKETS") {
+        Some(Kind::EndSockets)
+    } else if same_word(word, b"END_SUBAPPS") {
+        Some(Kind::EndSubapps)
+    } else if same_word(word, b"END_SERVICE") {
+        Some(Kind::EndService)
+    } else {
+        None
+    }
+}
+
+/// The reserved words of 12 to 13 letters.
+#[tactic(auto, unfolding(crate::specs::ByLength::words_between))]
+fn word_of_12_to_13(word: &[u8]) -> Option<Kind>
+    ensures { result ≡ lookup (same_word word.now) (words_between 12 13) }
+{
+    if same_word(word, b"END_RESOURCE") {
+        Some(Kind::EndResource)
+    } else if same_word(word, b"END_MAPPINGS") {
+        Some(Kind::EndMappings)
+    } else if same_word(word, b"EVENT_OUTPUT") {
+        Some(Kind::EventOutput)
+    } else if same_word(word, b"END_ALGORITHM") {
+        Some(Kind::EndAlgorithm)
+    } else {
+        None
+    }
+}
+
+/// The reserved words of 14 letters.
+#[tactic(auto, unfolding(crate::specs::ByLength::words_between))]
+fn word_of_14(word: &[u8]) -> Option<Kind>
+    ensures { result ≡ lookup (same_word word.now) (words_between 14 14) }
+{
+    if same_word(word, b"FUNCTION_BLOCK") {
+        Some(Kind::FunctionBlock)
+    } else if same_word(word, b"SUBAPPLICATION") {
+        Some(Kind::Subapplication)
+    } else if same_word(word, b"EC_TRANSITIONS") {
+        Some(Kind::EcTransitions)
+    } else {
+        None
+    }
+}
+
+/// The reserved words of 15 to 16 letters.
+#[tactic(auto, unfolding(crate::specs::ByLength::words_between))]
+fn word_of_15_to_16(word: &[u8]) -> Option<Kind>
+    ensures { result ≡ lookup (same_word word.now) (words_between 15 16) }
+{
+    if same_word(word, b"END_APPLICATION") {
+        Some(Kind::EndApplication)
+    } else if same_word(word, b"DATA_CONNECTIONS") {
+        Some(Kind::DataConnections)
+    } else if same_word(word, b"END_CONNECTIONS") {
+        Some(Kind::EndConnections)
+    } else if same_word(word, b"END_TRANSITIONS") {
+        Some(Kind::EndTransitions)
+    } else {
+        None
+    }
+}
+
+/// The reserved words of 17 to 19 letters.
+#[tactic(auto, unfolding(crate::specs::ByLength::words_between))]
+fn word_of_17_to_19(word: &[u8]) -> Option<Kind>
+    ensures { result ≡ lookup (same_word word.now) (words_between 17 19) }
+{
+    if same_word(word, b"END_FUNCTION_BLOCK") {
+        Some(Kind::EndFunctionBlock)
+    } else if same_word(word, b"END_SUBAPPLICATION") {
+        Some(Kind::EndSubapplication)
+    } else if same_word(word, b"EVENT_CONNECTIONS") {
+        Some(Kind::EventConnections)
+    } else if same_word(word, b"ADAPTER_CONNECTIONS") {
+        Some(Kind::AdapterConnections)
+    } else {
+        None
+    }
+}
+
+/// The kind of a reserved word, in any case.
+#[tactic(auto, using(crate::proofs::Lookups::keyword_by_length))]
+pub fn keyword(word: &[u8]) -> Option<Kind>
+    ensures { result ≡ keyword word.now }
+{
+    match word.len() {
+        2 => word_of_2(word),
+        3 => word_of_3(word),
+        4 => word_of_4(word),
+        5 => word_of_5(word),
+        6 => word_of_6(word),
+        7 => word_of_7(word),
+        8 => word_of_8(word),
+        9 => word_of_9(word),
+        10 => word_of_10(word),
+        11 => word_of_11(word),
+        12..=13 => word_of_12_to_13(word),
+        14 => word_of_14(word),
+        15..=16 => word_of_15_to_16(word),
+        17..=19 => word_of_17_to_19(word),
+        _ => None,
+    }
+}
+
+/// The symbols of one byte.
+#[tactic(auto, unfolding(crate::specs::ByLength::symbols_of))]
+fn symbol_of_1(b: u8) -> Option<Kind>
+    ensures { result ≡ lookup (pointwise nat_eq (b ∷ [])) (symbols_of 1) }
+{
+    match b {
+        b';' => Some(Kind::Semicolon),
+        b':' => Some(Kind::Colon),
+        b',' => Some(Kind::Comma),
+        b'.' => Some(Kind::Point),
+        b'(' => Some(Kind::OpenParenthesis),
+        b')' => Some(Kind::CloseParenthesis),
+        b'[' => Some(Kind::OpenBracket),
+        b']' => Some(Kind::CloseBracket),
+        b'=' => Some(Kind::Equal),
+        b'<' => Some(Kind::Less),
+        b'>' => Some(Kind::Greater),
+        b'+' => Some(Kind::Plus),
+        b'-' => Some(Kind::Minus),
+        b'*' => Some(Kind::Times),
+        b'/' => Some(Kind::Divide),
+        b'&' => Some(Kind::Ampersand),
+        _ => None,
+    }
+}
+
+/// The symbols of two bytes.
+#[tactic(auto, unfolding(crate::specs::ByLength::symbols_of))]
+fn symbol_of_2(a: u8, b: u8) -> Option<Kind>
+    ensures { result ≡ lookup (pointwise nat_eq (a ∷ b ∷ [])) (symbols_of 2) }
+{
+    match (a, b) {
+        (b':', b'=') => Some(Kind::Assign),
+        (b'<', b'=') => Some(Kind::LessEqual),
+        (b'>', b'=') => Some(Kind::GreaterEqual),
+        (b'<', b'>') => Some(Kind::NotEqual),
+        (b'*', b'*') => Some(Kind::Power),
+        (b'-', b'>') => Some(Kind::Arrow),
+        (b'.', b'.') => Some(Kind::Range),
+        _ => None,
+    }
+}
+
+/// The kind of a symbol.
+pub fn symbol(bytes: &[u8]) -> Option<Kind>
+    ensures { result ≡ symbol bytes.now }
+{
+    match bytes {
+        [b] => symbol_of_1(*b),
+        [a, b] => symbol_of_2(*a, *b),
+        _ => None,
+    }
+}

@@ -1,0 +1,54 @@
+//! Literals by the kinds of their tokens.
+
+ghost use Rattle.fb_grammar.specs.Literals.{across, literal_form, literal_kinds, literal_use};
+ghost use Rattle.fb_grammar.specs.Kind.{is_among};
+ghost use Rattle.std.specs.Prelude.{◌≡◌, true};
+
+use crate::kind::Kind;
+use crate::lexeme::Lexeme;
+use fb_tree::text::{Span, TypeClass};
+use fb_tree::{Literal, LiteralForm};
+
+/// The kinds of numbers.
+pub const NUMBERS: [Kind; 4] = [Kind::Zero, Kind::One, Kind::Number, Kind::RealNumber];
+
+/// The form of a literal of this kind, as far as it is written without a sign.
+pub fn literal_form(kind: Kind) -> LiteralForm
+    requires { is_among literal_kinds kind ≡ true }
+    ensures { result ≡ literal_form kind }
+{
+    match kind {
+        Kind::Zero | Kind::One => LiteralForm::Bit,
+        Kind::Number => LiteralForm::Whole,
+        Kind::RealNumber => LiteralForm::Real,
+        Kind::TypedTruth => LiteralForm::Typed(TypeClass::Truth),
+        Kind::TypedInteger => LiteralForm::Typed(TypeClass::Integer),
+        Kind::TypedBits => LiteralForm::Typed(TypeClass::Bits),
+        Kind::TypedFree => LiteralForm::Typed(TypeClass::Free),
+        Kind::TypedOther => LiteralForm::Typed(TypeClass::Other),
+        Kind::Text => LiteralForm::Text,
+        Kind::True | Kind::False => LiteralForm::Truth,
+        _ => unreachable!(),
+    }
+}
+
+/// The literal where it stands.
+pub fn literal_use(token: &Lexeme) -> Literal
+    requires { is_among literal_kinds token.now.kind ≡ true }
+    ensures { result ≡ literal_use token.now }
+{
+    Literal {
+        form: literal_form(token.kind),
+        span: token.span,
+    }
+}
+
+/// From the start of one to the end of the other.
+pub fn across(first: Span, last: Span) -> Span
+    ensures { result ≡ across first last }
+{
+    Span {
+        start: first.start,
+        end: last.end,
+    }
+}

@@ -1,0 +1,175 @@
+//! Names that are declared again in their name space.
+ghost use Rattle.std.specs.Prelude.{◌≡◌, ◌++◌, map, IfOk, OnOk};
+ghost use Rattle.std.specs.List.{flat_map};
+ghost use Rattle.fb_tree.specs.Tree.{chart_tree, decl_tree, device_tree, instance_tree, interface_tree, network_tree, system_tree, type_tree};
+ghost use Rattle.fb_iface.specs.Declarations.{duplicate_faults, space_duplicates};
+ghost use Rattle.fb_iface.specs.Spaces.{chart_spaces, interface_spaces, network_spaces, parameter_names, resource_names, system_spaces, type_spaces};
+
+use crate::code::Code;
+use crate::fault::Fault;
+use crate::named::Named;
+use fb_tree::text::NameUse;
+use fb_tree::{
+    Application, Chart, Decl, Device, Instance, Interface, Network, Role, System, TypeDeclaration,
+    Variables,
+};
+use std::alloc::{AllocError, Global};
+use std::collections::BTreeSet;
+
+/// Reports second and later declarations in each name space of a unit.
+pub fn report_duplicates(
+    alloc: Global,
+    decl: &Decl,
+    found: &mut Vec<Fault>,
+) -> Result<(), AllocError>
+    ensures { OnOk result
+        (found.new.items ≡ found.old.items ++ duplicate_faults (decl_tree decl.now)) }
+{
+    match decl {
+        Decl::Block(declared) | Decl::Adapter(declared) | Decl::Subapplication(declared) => {
+            report_in_type(alloc, declared, found)
+        }
+        Decl::System(system) => report_in_system(alloc, system, found),
+    }
+}
+
+fn report_in_type(
+    alloc: Global,
+    declared: &TypeDeclaration,
+    found: &mut Vec<Fault>,
+) -> Result<(), AllocError>
+    ensures { OnOk result (found.new.items
+        ≡ found.old.items ++ flat_map space_duplicates (type_spaces (type_tree declared.now))) }
+{
+    report_in_interface(alloc, &declared.interface, found)?;
+    report_in_chart(alloc, &declared.chart, found)?;
+    report_in_network(alloc, &declared.network, found)
+}
+
+fn report_in_interface(
+    alloc: Global,
+    interface: &Interface,
+    found: &mut Vec<Fault>,
+) -> Result<(), AllocError>
+    ensures { OnOk result (found.new.items
+        ≡ found.old.items
+        ++ flat_map space_duplicates (interface_spaces (interface_tree interface.now))) }
+{
+    report_repeated(alloc, interface.events.as_slice(), found)?;
+    let variables = variable_names(alloc, interface.variables.as_slice())?;
+    report_repeated(alloc, variables.as_slice(), found)
+}
+
+fn variable_names(alloc: Global, variables: &[Variables]) -> Result<Vec<NameUse>, AllocError>
+    ensures { IfOk result (λ names. names.items ≡ flat_map (λ v. v.names.items) variables.now) }
+{
+    let mut names = Vec::new(alloc);
+    for group in variables {
+        names.extend_from_slice(group.names.as_slice())?;
+    }
+    Ok(names)
+}
+
+fn report_in_chart(alloc: Global, chart: &Chart, found: &mut Vec<Fault>) -> Result<(), AllocError>
+    ensures { OnOk result (found.new.items
+        ≡ found.old.items ++ flat_map space_duplicates (chart_spaces (chart_tree chart.now))) }
+{
+    report_repeated(alloc, chart.states.as_slice(), found)?;
+    report_repeated(alloc, chart.algorithms.as_slice(), found)
+}
+
+/// Reports those among the instances of a network, and among the parameters of each.
+fn report_in_network(
+    alloc: Global,
+    network: &Network,
+    found: &mut Vec<Fault>,
+) -> Result<(), AllocError>
+    ensures { OnOk result (found.new.items
+        ≡ found.old.items
+        ++ flat_map space_duplicates (network_spaces (network_tree network.now))) }
+{
+    report_repeated(alloc, network.instances.as_slice(), found)?;
+    for instance in &network.instances {
+        report_in_instance(alloc, instance, found)?;
+    }
+    Ok(())
+}
+
+/// Reports those among the parameters of a block instance. Parameters of others are not judged.
+fn report_in_instance(
+    alloc: Global,
+    instance: &Instance,
+    found: &mut Vec<Fault>,
+) -> Result<(), AllocError>
+    ensures { OnOk result (found.new.items
+        ≡ found.old.items ++ space_duplicates (parameter_names (instance_tree instance.now))) }
+{
+    match instance.role {
+        Role::Block => report_repeated(alloc, instance.parameters.as_slice(), found),
+        Role::Plug | Role::Socket | Role::Subapplication => Ok(()),
+    }
+}
+
+fn report_in_system(
+    alloc: Global,
+    system: &System,
+    found: &mut Vec<Fault>,
+) -> Result<(), AllocError>
+    ensures { OnOk result (found.new.items
+        ≡ found.old.items ++ flat_map space_duplicates (system_spaces (system_tree system.now))) }
+{
+    report_repeated(alloc, system.applications.as_slice(), found)?;
+    report_in_applications(alloc, system.applications.as_slice(), found)?;
+    report_repeated(alloc, system.devices.as_slice(), found)?;
+    report_in_devices(alloc, system.devices.as_slice(), found)
+}
+
+fn report_in_applications(
+    alloc: Global,
+    applications: &[Application],
+    found: &mut Vec<Fault>,
+) -> Result<(), AllocError>
+    ensures { OnOk result (found.new.items ≡ found.old.items
+        ++ flat_map
+        (λ a. flat_map space_duplicates
+        (network_spaces (network_tree a.network))) applications.now) }
+{
+    for application in applications {
+        report_in_network(alloc, &application.network, found)?;
+    }
+    Ok(())
+}
+
+/// Reports those among the resources of each device.
+fn report_in_devices(
+    alloc: Global,
+    devices: &[Device],
+    found: &mut Vec<Fault>,
+) -> Result<(), AllocError>
+    ensures { OnOk result (found.new.items ≡ found.old.items
+        ++ flat_map (λ d. space_duplicates (map (λ r. r.name) d.resources.items)) devices.now) }
+{
+    for device in devices {
+        report_repeated(alloc, device.resources.as_slice(), found)?;
+    }
+    Ok(())
+}
+
+/// Reports each declaration of one name space whose name stands before it.
+fn report_repeated<T: Named>(
+    alloc: Global,
+    declarations: &[T],
+    found: &mut Vec<Fault>,
+) -> Result<(), AllocError>
+    ensures { OnOk result
+        (found.new.items ≡ found.old.items ++ space_duplicates (map T.name_of declarations.now)) }
+{
+    let mut seen = BTreeSet::new(alloc);
+    for declaration in declarations {
+        let name = declaration.name();
+        if !seen.insert(name.name)? {
+            found.push(Fault::at(Code::Duplicate, &name))?;
+        }
+    }
+    Ok(())
+}

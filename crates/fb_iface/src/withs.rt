@@ -1,0 +1,76 @@
+//! Names behind `WITH` (IEC 61499-1, 5.2: the data that an event carries).
+ghost use Rattle.std.specs.Prelude.{◌≡◌, ◌++◌, OnOk};
+ghost use Rattle.std.specs.List.{flat_map};
+ghost use Rattle.fb_tree.specs.Tree.{decl_tree, event_tree, interface_tree};
+ghost use Rattle.fb_iface.specs.Declarations.{with_faults_of};
+ghost use Rattle.fb_iface.specs.Names.{first_ones, stands_for};
+ghost use Rattle.fb_iface.specs.Ports.{meanings_in, variables_in};
+ghost use Rattle.fb_iface.specs.Withs.{carries, event_withs, with_faults};
+
+use crate::code::Code;
+use crate::fault::Fault;
+use crate::ports::{Ports, is_beside};
+use fb_tree::text::Name;
+use fb_tree::{Decl, Event, Interface, Side};
+use std::alloc::AllocError;
+
+/// Reports the names behind `WITH` that are no data of the event's side. The unit has these ports.
+pub fn report_withs(own: &Ports, decl: &Decl, found: &mut Vec<Fault>) -> Result<(), AllocError>
+    requires { own.now ≡ meanings_in (decl_tree decl.now) }
+    ensures { OnOk result
+        (found.new.items ≡ found.old.items ++ with_faults_of (decl_tree decl.now)) }
+{
+    match decl {
+        Decl::Block(declared) | Decl::Adapter(declared) | Decl::Subapplication(declared) => {
+            report_in_interface(own, &declared.interface, found)
+        }
+        Decl::System(_) => Ok(()),
+    }
+}
+
+/// Reports those of an interface.
+fn report_in_interface(
+    own: &Ports,
+    interface: &Interface,
+    found: &mut Vec<Fault>,
+) -> Result<(), AllocError>
+    requires { own.now.variables ≡ first_ones (variables_in (interface_tree interface.now)) }
+    ensures { OnOk result
+        (found.new.items ≡ found.old.items ++ with_faults (interface_tree interface.now)) }
+{
+    report_events(own, interface.events.as_slice(), found)
+}
+
+/// Reports those of each event.
+fn report_events(own: &Ports, events: &[Event], found: &mut Vec<Fault>) -> Result<(), AllocError>
+    ensures { OnOk result (found.new.items ≡ found.old.items
+        ++ flat_map (λ e. event_withs (stands_for own.now.variables) (event_tree e)) events.now) }
+{
+    for event in events {
+        report_event(own, event, found)?;
+    }
+    Ok(())
+}
+
+/// Reports those of one event.
+fn report_event(own: &Ports, event: &Event, found: &mut Vec<Fault>) -> Result<(), AllocError>
+    ensures { OnOk result (found.new.items
+        ≡ found.old.items ++ event_withs (stands_for own.now.variables) (event_tree event.now)) }
+{
+    for name in &event.with {
+        if !is_carried(own, event.side, &name.name) {
+            found.push(Fault::at(Code::WithUnknown, name))?;
+        }
+    }
+    Ok(())
+}
+
+/// Whether an event of this side may carry what the name stands for.
+fn is_carried(own: &Ports, side: Side, name: &Name) -> bool
+    ensures { result ≡ carries side (stands_for own.now.variables name.now) }
+{
+    match own.variable(name) {
+        Some(variable) => is_beside(side, variable.section),
+        None => false,
+    }
+}

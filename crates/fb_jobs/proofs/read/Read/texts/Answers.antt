@@ -1,0 +1,18 @@
+use Rattle.std.proofs.Common.{◌≡◌, ◌+◌, ◌++◌, [], ◌∷◌, take, arith, ap, sym, ◌∙◌}
+use Rattle.std.proofs.lemmas.Grind.{common_steps}
+use Rattle.std.proofs.lemmas.List.{map-append}
+use Rattle.fb_jobs.specs.Values.{seen_of, all_seen, text_seen, texts_seen}
+use Rattle.fb_jobs.proofs.read.Read.texts.Goals as goal
+
+pub loop-read-preserved : goal.loop-read-preserved
+loop-read-preserved c =
+    let reads = c.args.reads.now in
+    let i = c.loop-read.read-index in
+    let read = c.read-item.result in
+    let text = c.in_ok-text.field-0 in
+    let more : take (i + 1) reads ≡ take i reads ++ read ∷ [] = grind (arith, common_steps) in
+    ap texts_seen c.in_ok-push.ensures.items
+    ∙ map-append text_seen c.loop-read.texts.items (text ∷ [])
+    ∙ (λ k. c.loop-read.invariant k ++ c.in_ok-text.ensures k ∷ [])
+    ∙ sym (map-append seen_of (take i reads) (read ∷ []))
+    ∙ sym (ap all_seen more)

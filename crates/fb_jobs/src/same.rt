@@ -1,0 +1,151 @@
+//! Whether two values say the same, by content.
+ghost use Rattle.std.specs.Prelude.{◌≡◌, ◌↔◌, IsTrue};
+ghost use Rattle.fb_deploy.specs.Flatten.Net.{plain_net};
+ghost use Rattle.fb_deploy.specs.Deploy.{plain_deploy};
+ghost use Rattle.fb_jobs.specs.Values.{finding_of};
+
+use crate::value::Value;
+use fb_deploy::flatten::Net;
+use fb_deploy::placing::Misplaced;
+use fb_deploy::{Deploy, ResourcePlan};
+use fb_network::{Flat, FlatBlock};
+use fb_text::{Name, same_name};
+
+fn is_one_name(a: &Name, b: &Name) -> bool
+    ensures { IsTrue result ↔ (a.now ≡ b.now) }
+{
+    same_name(a, b)
+}
+
+/// The same items, where items that compare equal are one.
+fn are_equal<T: PartialEq>(a: &[T], b: &[T]) -> bool
+    requires { (x y : T) → IsTrue (T.eq x y) ↔ (x ≡ y) }
+    ensures { IsTrue result ↔ (a.now ≡ b.now) }
+{
+    a == b
+}
+
+fn is_same_block(a: &FlatBlock, b: &FlatBlock) -> bool
+    ensures { IsTrue result ↔ (a.now ≡ b.now) }
+{
+    a.path == b.path && is_one_name(&a.type_name, &b.type_name)
+}
+
+fn are_same_blocks(a: &[FlatBlock], b: &[FlatBlock]) -> bool
+    ensures { IsTrue result ↔ (a.now ≡ b.now) }
+{
+    if a.len() != b.len() {
+        return false;
+    }
+    for place in 0..a.len() {
+        if !is_same_block(&a[place], &b[place]) {
+            return false;
+        }
+    }
+    true
+}
+
+fn is_same_flat(a: &Flat, b: &Flat) -> bool
+    ensures { IsTrue result ↔ (a.now ≡ b.now) }
+{
+    are_same_blocks(a.blocks(), b.blocks())
+        && are_equal(a.links(), b.links())
+        && are_equal(a.borders(), b.borders())
+}
+
+fn is_same_net(a: &Net, b: &Net) -> bool
+    ensures { IsTrue result ↔ (plain_net a.now ≡ plain_net b.now) }
+{
+    match (a, b) {
+        (Net::Blocked(a), Net::Blocked(b)) => are_equal(a, b),
+        (Net::Recursive(a), Net::Recursive(b)) => are_equal(a, b),
+        (Net::TooLarge, Net::TooLarge) => true,
+        (
+            Net::Flat {
+                flat: a,
+                instances: of_a,
+            },
+            Net::Flat {
+                flat: b,
+                instances: of_b,
+            },
+        ) => is_same_flat(a, b) && *of_a == *of_b,
+        _ => false,
+    }
+}
+
+fn is_same_misplaced(a: &Misplaced, b: &Misplaced) -> bool
+    ensures { IsTrue result ↔ (a.now ≡ b.now) }
+{
+    match (a, b) {
+        (Misplaced::Unmapped(a), Misplaced::Unmapped(b)) => a == b,
+        (Misplaced::NoSuchBlock(a), Misplaced::NoSuchBlock(b)) => a == b,
+        _ => false,
+    }
+}
+
+fn are_same_misplaced(a: &[Misplaced], b: &[Misplaced]) -> bool
+    ensures { IsTrue result ↔ (a.now ≡ b.now) }
+{
+    if a.len() != b.len() {
+        return false;
+    }
+    for place in 0..a.len() {
+        if !is_same_misplaced(&a[place], &b[place]) {
+            return false;
+        }
+    }
+    true
+}
+
+fn is_same_resource(a: &ResourcePlan, b: &ResourcePlan) -> bool
+    ensures { IsTrue result ↔ (a.now ≡ b.now) }
+{
+    a.name() == b.name() && are_equal(a.commands(), b.commands())
+}
+
+fn are_same_resources(a: &[ResourcePlan], b: &[ResourcePlan]) -> bool
+    ensures { IsTrue result ↔ (a.now ≡ b.now) }
+{
+    if a.len() != b.len() {
+        return false;
+    }
+    for place in 0..a.len() {
+        if !is_same_resource(&a[place], &b[place]) {
+            return false;
+        }
+    }
+    true
+}
+
+fn is_same_deploy(a: &Deploy, b: &Deploy) -> bool
+    ensures { IsTrue result ↔ (plain_deploy a.now ≡ plain_deploy b.now) }
+{
+    match (a, b) {
+        (Deploy::Stopped(a), Deploy::Stopped(b)) => is_same_net(a, b),
+        (Deploy::Faulty(a), Deploy::Faulty(b)) => are_same_misplaced(a, b),
+        (
+            Deploy::Plan {
+                cuts: a,
+                resources: of_a,
+            },
+            Deploy::Plan {
+                cuts: b,
+                resources: of_b,
+            },
+        ) => are_equal(a, b) && are_same_resources(of_a, of_b),
+        _ => false,
+    }
+}
+
+/// The same value.
+pub fn is_same_value(a: &Value, b: &Value) -> bool
+    ensures { IsTrue result ↔ (finding_of a.now ≡ finding_of b.now) }
+{
+    match (a, b) {
+        (Value::Faults(a), Value::Faults(b)) => are_equal(a, b),
+        (Value::Net(a), Value::Net(b)) => is_same_net(a, b),
+        (Value::Deploy(a), Value::Deploy(b)) => is_same_deploy(a, b),
+        _ => false,
+    }
+}

@@ -1,0 +1,364 @@
+-- Each code of charts, by what its list of faults has.
+use Rattle.std.proofs.Common.{◌≡◌, ◌≢◌, ℕ, Bool, true, false, List, [], ◌∷◌, Option, Some, None, map, refl, sym, ap, ◌∙◌, subst, true≢false, ◌⊎◌, inl, inr, if◌then◌else◌}
+use Rattle.std.specs.List.{Contains, flat_map, slice_get}
+use Rattle.std.specs.Option.{option_map_or}
+use Rattle.std.proofs.lemmas.List.Elements.{Contains-append_left, Contains-append_right}
+use Rattle.fb_text.specs.declared.name.NameUse.{NameUse}
+use Rattle.fb_text.specs.declared.token.Span.{Span}
+use Rattle.fb_tree.specs.Tree.{AlgorithmTree, ChartTree, DeclTree, StateTree, TransitionTree, TypeTree, block_type}
+use Rattle.fb_tree.specs.declared.chart.Action.{Action}
+use Rattle.fb_tree.specs.declared.interface.Side.{Side}
+use Rattle.fb_tree.specs.declared.interface.Side.TheVariants.{Input, Output}
+use Rattle.fb_tree.specs.declared.network.End.{End}
+use Rattle.fb_tree.specs.declared.network.Role.{Role}
+use Rattle.fb_tree.specs.declared.network.Role.TheVariants.{Plug, Socket, Block, Subapplication}
+use Rattle.fb_deploy.specs.Library.View.{Sources, tree_at}
+use Rattle.fb_deploy.specs.Iface.declared.code.Code.{Code}
+use Rattle.fb_deploy.specs.Iface.declared.code.Code.TheVariants.{AlgorithmUnknown, EventUnknown, StateUnknown}
+use Rattle.fb_deploy.specs.Iface.declared.fault.Fault.{Fault}
+use Rattle.fb_deploy.specs.Iface.declared.ports.DeclaredEvent.{DeclaredEvent}
+use Rattle.fb_deploy.specs.Iface.declared.ports.DeclaredInstance.{DeclaredInstance}
+use Rattle.fb_deploy.specs.Iface.Fault.{fault_at}
+use Rattle.fb_deploy.specs.Iface.Names.{has_name, stands_for}
+use Rattle.fb_deploy.specs.Iface.Ports.{Meanings, meanings_in_type, same_side}
+use Rattle.fb_deploy.specs.Iface.Scope.{Scope, instance_ports, scope_of_type, usable}
+use Rattle.fb_text.proofs.Members.{contains_cases, contains_flat_map, contains_here, contains_later, contains_map, contains_nothing, contains_single, in_unless, in_written, origin_in_flat_map, origin_in_map, unless, written}
+use Rattle.fb_ecc.specs.Algorithms.{algorithm_fault, algorithm_faults, algorithm_names, run_faults}
+use Rattle.fb_ecc.specs.Charts.{chart_faults, chart_faults_in, ecc_faults_of}
+use Rattle.fb_ecc.specs.declared.events.EventTarget.{EventTarget}
+use Rattle.fb_ecc.specs.declared.events.EventTarget.TheVariants.{Found, Unknown, NotJudged}
+use Rattle.fb_ecc.specs.Events.{end_event_faults, event_among, event_behind, event_faults, event_in, event_named, event_of_adapter, event_on, opposite, sent_faults, side_through, span_from, target_faults, trigger_faults, written_fault}
+use Rattle.fb_laws.specs.Charts.{AlgorithmsAreDeclared, EventsAreKnown, HasUnknownAlgorithm, HasUnknownEvent, HasUnknownState, IsEventOf, IsNoEventOf, StandsForEvent, StatesAreListed, own_event, of_plug, of_socket}
+use Rattle.fb_ecc.specs.States.{transition_faults, state_fault, state_faults, state_names}
+use Rattle.fb_deploy.proofs.Iface.NameLemmas.{none_named, not_named}
+use Rattle.fb_laws.specs.Declared.{IsBlockAt}
+use Rattle.fb_laws.specs.Usable.{IsAdapter, IsNotJudged, of_unusable}
+use Rattle.fb_laws.proofs.ItemRows.{same_sides, side_itself}
+use Rattle.fb_laws.proofs.UsableTypes.{known_type, no_type, own_type, told_type, type_missing}
+use Rattle.fb_laws.proofs.Joined.{of_either, in_joined}
+
+-- what is so where a unit has a fault of this code
+abbrev pub Has : Code → Sources → List ℕ → Span → Type 0
+Has StateUnknown = HasUnknownState
+Has EventUnknown = HasUnknownEvent
+Has AlgorithmUnknown = HasUnknownAlgorithm
+Has code = λ sources unit span. ⊥
+
+-- what a list of states, or of algorithms, doesn't name
+
+unlisted_names : {A : Type 0} (name_of : A → NameUse) (items : List A) (q : List ℕ) → has_name (map name_of items) q ≡ false → (a : A) → Contains items a → (name_of a).name ≢ q
+unlisted_names name_of items q fails a c = not_named (map name_of items) q fails (name_of a) (contains_map name_of items a c)
+
+none_listed : {A : Type 0} (name_of : A → NameUse) (items : List A) (q : List ℕ) → ((a : A) → Contains items a → (name_of a).name ≢ q) → has_name (map name_of items) q ≡ false
+none_listed name_of items q fails =
+    none_named (map name_of items) q
+    (λ n c. let o = origin_in_map name_of items n c in
+    subst (λ (m : NameUse). m.name ≢ q) o.gives (fails o.origin o.among))
+
+-- actions
+
+record ActionOrigin (f : Action → List Fault) (chart : ChartTree) (fault : Fault) : Type 0 where
+  state : StateTree
+  listed : Contains chart.states state
+  action : Action
+  written : Contains state.actions action
+  has : Contains (f action) fault
+
+action_origin : (f : Action → List Fault) (chart : ChartTree) (fault : Fault) → Contains (flat_map (λ s. flat_map f s.actions) chart.states) fault → ActionOrigin f chart fault
+action_origin f chart fault c =
+    let s = origin_in_flat_map (λ (s : StateTree). flat_map f s.actions) chart.states fault c in
+    let a = origin_in_flat_map f s.origin.actions fault s.has in
+    record { state = s.origin; listed = s.among; action = a.origin; written = a.among; has = a.has }
+
+action_reported : (f : Action → List Fault) (chart : ChartTree) (s : StateTree) (a : Action) (fault : Fault) → Contains chart.states s → Contains s.actions a → Contains (f a) fault → Contains (flat_map (λ s. flat_map f s.actions) chart.states) fault
+action_reported f chart s a fault listed written has =
+    contains_flat_map (λ (s : StateTree). flat_map f s.actions) chart.states s fault listed (contains_flat_map f s.actions a fault written has)
+
+-- events
+
+-- which target it is
+
+abbrev is_found : EventTarget → Bool
+is_found Found = true
+is_found Unknown = false
+is_found NotJudged = false
+
+abbrev is_unknown : EventTarget → Bool
+is_unknown Found = false
+is_unknown Unknown = true
+is_unknown NotJudged = false
+
+stands_for_event : (side : Side) (ports : Meanings) (name : List ℕ) → event_among side ports name ≡ Found → StandsForEvent ports name side
+stands_for_event side ports name e = by (stands_for ports.events name) refl e
+  where
+    judged : (event : DeclaredEvent) → stands_for ports.events name ≡ Some event → (same : Bool) → same_side event.side side ≡ same → (if same then Found else Unknown) ≡ Found → StandsForEvent ports name side
+    judged event g true h e = record { event = event; first = g; on_side = same_sides event.side side h }
+    judged event g false h e = absurd (true≢false (sym (ap is_found e)))
+
+    by : (o : Option DeclaredEvent) → stands_for ports.events name ≡ o → event_on side o ≡ Found → StandsForEvent ports name side
+    by None g h = absurd (true≢false (sym (ap is_found h)))
+    by (Some event) g h = judged event g (same_side event.side side) refl h
+
+event_stands : (side : Side) (ports : Meanings) (name : List ℕ) → StandsForEvent ports name side → event_among side ports name ≡ Found
+event_stands side ports name s =
+    ap (event_on side) s.first
+    ∙ ap (λ a. if same_side a side then Found else Unknown) s.on_side
+    ∙ ap (λ b. if b then Found else Unknown) (side_itself side)
+
+-- ports that are known are judged
+judged_among : (side : Side) (ports : Meanings) (name : List ℕ) → event_among side ports name ≢ NotJudged
+judged_among side ports name e = by (stands_for ports.events name) e
+  where
+    judged : (same : Bool) → (if same then Found else Unknown) ≢ NotJudged
+    judged true h = true≢false (ap is_found h)
+    judged false h = true≢false (ap is_unknown h)
+
+    by : (o : Option DeclaredEvent) → event_on side o ≢ NotJudged
+    by None h = true≢false (ap is_unknown h)
+    by (Some event) h = judged (same_side event.side side) h
+
+module _ (sources : Sources) (d : TypeTree) (side : Side) where
+  abbrev scope : Scope
+  scope = scope_of_type sources d
+
+  abbrev own : Meanings
+  own = meanings_in_type d
+
+  abbrev IsEvent : NameUse → Option NameUse → Type 0
+  IsEvent = IsEventOf sources own side
+
+  abbrev IsUnjudged : NameUse → Option NameUse → Type 0
+  IsUnjudged = IsNotJudged sources own IsAdapter
+
+  -- what a port of a plug or socket is, by its adapter
+  behind : (p X : NameUse) (i : DeclaredInstance) (role : Role) (ports : Option Meanings) → stands_for own.instances p.name ≡ Some i → i.role ≡ role → usable i.role (tree_at sources i.type_name.name) ≡ ports → event_named scope side p (Some X) ≡ option_map_or (event_of_adapter ports X.name) (side_through role side) Unknown
+  behind p X i role ports is r u =
+      let g = own_type sources d p.name i is ∙ u in
+      ap (λ o. event_behind scope side o X.name) is
+      ∙ (λ k. option_map_or (event_of_adapter (g k) X.name) (side_through (r k) side) Unknown)
+
+  found_behind : (p X : NameUse) → event_named scope side p (Some X) ≡ Found → IsEvent p (Some X)
+  found_behind p X e = by (stands_for own.instances p.name) refl e
+    where
+      through_plug : (i : DeclaredInstance) → stands_for own.instances p.name ≡ Some i → i.role ≡ Plug → (ports : Option Meanings) → usable i.role (tree_at sources i.type_name.name) ≡ ports → event_of_adapter ports X.name side ≡ Found → IsEvent p (Some X)
+      through_plug i is plug None g h = absurd (true≢false (sym (ap is_found h)))
+      through_plug i is plug (Some ports) g h = of_plug i ports is plug (known_type sources i.type_name.name i.role ports g) (stands_for_event side ports X.name h)
+
+      through_socket : (i : DeclaredInstance) → stands_for own.instances p.name ≡ Some i → i.role ≡ Socket → (ports : Option Meanings) → usable i.role (tree_at sources i.type_name.name) ≡ ports → event_of_adapter ports X.name (opposite side) ≡ Found → IsEvent p (Some X)
+      through_socket i is socket None g h = absurd (true≢false (sym (ap is_found h)))
+      through_socket i is socket (Some ports) g h = of_socket i ports is socket (known_type sources i.type_name.name i.role ports g) (stands_for_event (opposite side) ports X.name h)
+
+      by_role : (i : DeclaredInstance) → stands_for own.instances p.name ≡ Some i → (role : Role) → i.role ≡ role → option_map_or (event_of_adapter (instance_ports scope i) X.name) (side_through role side) Unknown ≡ Found → IsEvent p (Some X)
+      by_role i is Plug r h = through_plug i is r (instance_ports scope i) (sym (own_type sources d p.name i is)) h
+      by_role i is Socket r h = through_socket i is r (instance_ports scope i) (sym (own_type sources d p.name i is)) h
+      by_role i is Block r h = absurd (true≢false (sym (ap is_found h)))
+      by_role i is Subapplication r h = absurd (true≢false (sym (ap is_found h)))
+
+      by : (o : Option DeclaredInstance) → stands_for own.instances p.name ≡ o → event_behind scope side o X.name ≡ Found → IsEvent p (Some X)
+      by None g h = absurd (true≢false (sym (ap is_found h)))
+      by (Some i) g h = by_role i g i.role refl h
+
+  not_judged_behind : (p X : NameUse) → event_named scope side p (Some X) ≡ NotJudged → IsUnjudged p (Some X)
+  not_judged_behind p X e = by (stands_for own.instances p.name) refl e
+    where
+      at_adapter : (i : DeclaredInstance) → stands_for own.instances p.name ≡ Some i → IsAdapter i → (wanted : Side) (ports : Option Meanings) → usable i.role (tree_at sources i.type_name.name) ≡ ports → event_of_adapter ports X.name wanted ≡ NotJudged → IsUnjudged p (Some X)
+      at_adapter i is adapter wanted None g h = of_unusable i is adapter (no_type sources i.type_name.name i.role g)
+      at_adapter i is adapter wanted (Some ports) g h = absurd (judged_among wanted ports X.name h)
+
+      by_role : (i : DeclaredInstance) → stands_for own.instances p.name ≡ Some i → (role : Role) → i.role ≡ role → option_map_or (event_of_adapter (instance_ports scope i) X.name) (side_through role side) Unknown ≡ NotJudged → IsUnjudged p (Some X)
+      by_role i is Plug r h = at_adapter i is (inl r) side (instance_ports scope i) (sym (own_type sources d p.name i is)) h
+      by_role i is Socket r h = at_adapter i is (inr r) (opposite side) (instance_ports scope i) (sym (own_type sources d p.name i is)) h
+      by_role i is Block r h = absurd (true≢false (ap is_unknown h))
+      by_role i is Subapplication r h = absurd (true≢false (ap is_unknown h))
+
+      by : (o : Option DeclaredInstance) → stands_for own.instances p.name ≡ o → event_behind scope side o X.name ≡ NotJudged → IsUnjudged p (Some X)
+      by None g h = absurd (true≢false (ap is_unknown h))
+      by (Some i) g h = by_role i g i.role refl h
+
+  event_found : (name : NameUse) (port : Option NameUse) → event_named scope side name port ≡ Found → IsEvent name port
+  event_found name None e = own_event (stands_for_event side own name.name e)
+  event_found name (Some X) e = found_behind name X e
+
+  not_judged : (name : NameUse) (port : Option NameUse) → event_named scope side name port ≡ NotJudged → IsUnjudged name port
+  not_judged name None e = absurd (judged_among side own name.name e)
+  not_judged name (Some X) e = not_judged_behind name X e
+
+  told_found : (name : NameUse) (port : Option NameUse) → IsEvent name port → event_named scope side name port ≡ Found
+  told_found name None (own_event s) = event_stands side own name.name s
+  told_found p (Some X) (of_plug i ports is plug u s) = behind p X i Plug (Some ports) is plug (told_type sources i.type_name.name i.role ports u) ∙ event_stands side ports X.name s
+  told_found p (Some X) (of_socket i ports is socket u s) = behind p X i Socket (Some ports) is socket (told_type sources i.type_name.name i.role ports u) ∙ event_stands (opposite side) ports X.name s
+
+  told_not_judged : (name : NameUse) (port : Option NameUse) → IsUnjudged name port → event_named scope side name port ≡ NotJudged
+  told_not_judged name None none = elim none [ ]
+  told_not_judged p (Some X) (of_unusable i is (inl plug) none) = behind p X i Plug None is plug (type_missing sources i.type_name.name i.role none)
+  told_not_judged p (Some X) (of_unusable i is (inr socket) none) = behind p X i Socket None is socket (type_missing sources i.type_name.name i.role none)
+
+  unknown_event : (event : End) → event_named scope side event.name event.port ≡ Unknown → IsNoEventOf sources own side event
+  unknown_event event e =
+      (λ is. true≢false (sym (ap is_unknown (sym (told_found event.name event.port is) ∙ e))), λ is. true≢false (sym (ap is_unknown (sym (told_not_judged event.name event.port is) ∙ e))))
+
+  no_event : (event : End) → IsNoEventOf sources own side event → event_named scope side event.name event.port ≡ Unknown
+  no_event event fails = by (event_named scope side event.name event.port) refl
+    where
+      by : (t : EventTarget) → event_named scope side event.name event.port ≡ t → t ≡ Unknown
+      by Found e = absurd (fails.0 (event_found event.name event.port e))
+      by Unknown e = refl
+      by NotJudged e = absurd (fails.1 (not_judged event.name event.port e))
+
+abbrev event_fault_at : End → Fault
+event_fault_at e = record { code = EventUnknown; span = span_from e.name.span e.port }
+
+record EventOrigin (sources : Sources) (d : TypeTree) (side : Side) (o : Option End) (fault : Fault) : Type 0 where
+  event : End
+  is_written : o ≡ Some event
+  unknown : IsNoEventOf sources (meanings_in_type d) side event
+  is : event_fault_at event ≡ fault
+
+in_target : (target : EventTarget) (event : End) (fault : Fault) → Contains (target_faults target (span_from event.name.span event.port)) fault → (target ≡ Unknown) × (event_fault_at event ≡ fault)
+in_target Found event fault c = absurd (contains_nothing fault c)
+in_target Unknown event fault c = (refl, contains_single (event_fault_at event) fault c)
+in_target NotJudged event fault c = absurd (contains_nothing fault c)
+
+event_origin : (sources : Sources) (d : TypeTree) (side : Side) (o : Option End) (fault : Fault) → Contains (written_fault (scope_of_type sources d) side o) fault → EventOrigin sources d side o fault
+event_origin sources d side o fault c =
+    let w = in_written (end_event_faults (scope_of_type sources d) side) o fault c in
+    let fails = in_target (event_named (scope_of_type sources d) side w.item.name w.item.port) w.item fault w.has in
+    record { event = w.item; is_written = w.is; unknown = unknown_event sources d side w.item fails.0; is = fails.1 }
+
+event_reported : (sources : Sources) (d : TypeTree) (side : Side) (o : Option End) (event : End) → o ≡ Some event → IsNoEventOf sources (meanings_in_type d) side event → Contains (written_fault (scope_of_type sources d) side o) (event_fault_at event)
+event_reported sources d side o event e unknown =
+    written (end_event_faults (scope_of_type sources d) side) o event (event_fault_at event) e
+    (subst (λ (t : EventTarget). Contains (target_faults t (span_from event.name.span event.port)) (event_fault_at event)) (sym (no_event sources d side event unknown)) (contains_here (event_fault_at event) []))
+
+-- the faults of a chart, list by list
+
+module _ (sources : Sources) (unit : List ℕ) where
+  abbrev Finds : Fault → Type 0
+  Finds f = Has f.code sources unit f.span
+
+  module _ (d : TypeTree) (declared : IsBlockAt sources unit d) where
+    abbrev block_scope : Scope
+    block_scope = scope_of_type sources d
+
+    abbrev listed : List ℕ → Bool
+    listed = has_name (state_names d.chart)
+
+    abbrev of_triggers : List Fault
+    of_triggers = flat_map (trigger_faults block_scope) d.chart.transitions
+
+    abbrev of_actions : (Action → List Fault) → List Fault
+    of_actions faults = flat_map (λ s. flat_map faults s.actions) d.chart.states
+
+    state_found : (t : TransitionTree) → Contains d.chart.transitions t → (state : NameUse) → Contains (t.source ∷ t.destination ∷ []) state → (f : Fault) → Contains (state_fault listed state) f → Finds f
+    state_found t written state named f c =
+        let fails = in_unless (listed state.name) (fault_at StateUnknown state) f c in
+        subst Finds fails.1
+        (record { block = d; declared = declared; transition = t; written = written; state = state; named = named; unlisted = unlisted_names (λ (s : StateTree). s.name) d.chart.states state.name fails.0; place = refl })
+
+    states_found : (f : Fault) → Contains (state_faults d.chart) f → Finds f
+    states_found f c =
+        let t = origin_in_flat_map (transition_faults listed) d.chart.transitions f c in
+        let source = contains_here t.origin.source (t.origin.destination ∷ []) in
+        let destination = contains_later t.origin.source (t.origin.destination ∷ []) t.origin.destination (contains_here t.origin.destination []) in
+        of_either {P = Finds} _ _ (state_found t.origin t.among t.origin.source source) (state_found t.origin t.among t.origin.destination destination) f t.has
+
+    triggers_found : (f : Fault) → Contains of_triggers f → Finds f
+    triggers_found f c =
+        let t = origin_in_flat_map (trigger_faults block_scope) d.chart.transitions f c in
+        let o = event_origin sources d Input (event_in t.origin.condition) f t.has in
+        subst Finds o.is
+        (inl (record { block = d; declared = declared; transition = t.origin; written = t.among; event = o.event; trigger = o.is_written; unknown = o.unknown; place = refl }))
+
+    sent_found : (f : Fault) → Contains (of_actions (sent_faults block_scope)) f → Finds f
+    sent_found f c =
+        let a = action_origin (sent_faults block_scope) d.chart f c in
+        let o = event_origin sources d Output a.action.event f a.has in
+        subst Finds o.is
+        (inr (record { block = d; declared = declared; state = a.state; listed = a.listed; action = a.action; written = a.written; event = o.event; sent = o.is_written; unknown = o.unknown; place = refl }))
+
+    algorithms_found : (f : Fault) → Contains (algorithm_faults d.chart) f → Finds f
+    algorithms_found f c =
+        let declares = has_name (algorithm_names d.chart) in
+        let a = action_origin (run_faults declares) d.chart f c in
+        let w = in_written (algorithm_fault declares) a.action.algorithm f a.has in
+        let fails = in_unless (declares w.item.name) (fault_at AlgorithmUnknown w.item) f w.has in
+        subst Finds fails.1
+        (record {
+          block = d;
+          declared = declared;
+          state = a.state;
+          listed = a.listed;
+          action = a.action;
+          written = a.written;
+          algorithm = w.item;
+          run = w.is;
+          undeclared = unlisted_names (λ (x : AlgorithmTree). x.name) d.chart.algorithms w.item.name fails.0;
+          place = refl;
+        })
+
+    chart_found : (f : Fault) → Contains (chart_faults block_scope d.chart) f → Finds f
+    chart_found = of_either _ _ (of_either _ _ states_found (of_either _ _ triggers_found sent_found)) algorithms_found
+
+    -- and the other way, a fault of the list at this place
+    reported : {code : Code} {span there : Span} (place : ℕ) (list : List Fault) → slice_get (state_faults d.chart ∷ event_faults block_scope d.chart ∷ algorithm_faults d.chart ∷ []) place ≡ Some list → span ≡ there → Contains list (record { code = code; span = there }) → Contains (ecc_faults_of sources unit) (record { code = code; span = span })
+    reported {code = code} {span = span} place list e at c =
+        let one = subst (λ (s : Span). Contains list (record { code = code; span = s })) (sym at) c in
+        let others = event_faults block_scope d.chart ∷ algorithm_faults d.chart ∷ [] in
+        subst (λ (o : Option DeclTree). Contains (chart_faults_in sources o) (record { code = code; span = span })) (sym declared) (in_joined (state_faults d.chart) others place list (record { code = code; span = span }) e one)
+
+  -- a fault says what its code means
+  pub found : (f : Fault) → Contains (ecc_faults_of sources unit) f → Finds f
+  found f c = by (tree_at sources unit) refl c
+    where
+      by : (o : Option DeclTree) → tree_at sources unit ≡ o → Contains (chart_faults_in sources o) f → Finds f
+      by (Some (block_type d)) e h = chart_found d e f h
+      by o e h = absurd (contains_nothing f h)
+
+pub states_listed : StatesAreListed
+states_listed sources unit span = (found sources unit _, from)
+  where
+    from : HasUnknownState sources unit span → Contains (ecc_faults_of sources unit) (record { code = StateUnknown; span = span })
+    from h =
+        reported sources unit h.block h.declared 0 (state_faults h.block.chart) refl h.place
+        (contains_flat_map (transition_faults names) h.block.chart.transitions h.transition (fault_at StateUnknown h.state) h.written (by (contains_cases h.transition.source (h.transition.destination ∷ []) h.state h.named)))
+      where
+        names : List ℕ → Bool
+        names = has_name (state_names h.block.chart)
+
+        one : Contains (state_fault names h.state) (fault_at StateUnknown h.state)
+        one = unless (names h.state.name) (fault_at StateUnknown h.state) (none_listed (λ (s : StateTree). s.name) h.block.chart.states h.state.name h.unlisted)
+
+        same : (n : NameUse) → n ≡ h.state → Contains (state_fault names n) (fault_at StateUnknown h.state)
+        same n e = subst (λ (m : NameUse). Contains (state_fault names m) (fault_at StateUnknown h.state)) (sym e) one
+
+        by : (h.transition.source ≡ h.state) ⊎ Contains (h.transition.destination ∷ []) h.state → Contains (transition_faults names h.transition) (fault_at StateUnknown h.state)
+        by (inl e) = Contains-append_left (state_fault names h.transition.source) (state_fault names h.transition.destination) _ (same h.transition.source e)
+        by (inr c) = Contains-append_right (state_fault names h.transition.source) (state_fault names h.transition.destination) _ (same h.transition.destination (contains_single h.transition.destination h.state c))
+
+pub algorithms_declared : AlgorithmsAreDeclared
+algorithms_declared sources unit span = (found sources unit _, from)
+  where
+    from : HasUnknownAlgorithm sources unit span → Contains (ecc_faults_of sources unit) (record { code = AlgorithmUnknown; span = span })
+    from h =
+        let declares = has_name (algorithm_names h.block.chart) in
+        let fault = fault_at AlgorithmUnknown h.algorithm in
+        let fails = none_listed (λ (a : AlgorithmTree). a.name) h.block.chart.algorithms h.algorithm.name h.undeclared in
+        let one = written (algorithm_fault declares) h.action.algorithm h.algorithm fault h.run (unless (declares h.algorithm.name) fault fails) in
+        reported sources unit h.block h.declared 2 (algorithm_faults h.block.chart) refl h.place (action_reported (run_faults declares) h.block.chart h.state h.action fault h.listed h.written one)
+
+pub events_known : EventsAreKnown
+events_known sources unit span = (found sources unit _, from)
+  where
+    from : HasUnknownEvent sources unit span → Contains (ecc_faults_of sources unit) (record { code = EventUnknown; span = span })
+    from (inl h) =
+        let scope = scope_of_type sources h.block in
+        let one = event_reported sources h.block Input (event_in h.transition.condition) h.event h.trigger h.unknown in
+        let all = contains_flat_map (trigger_faults scope) h.block.chart.transitions h.transition (event_fault_at h.event) h.written one in
+        reported sources unit h.block h.declared 1 (event_faults scope h.block.chart) refl h.place
+        (Contains-append_left (flat_map (trigger_faults scope) h.block.chart.transitions) (flat_map (λ s. flat_map (sent_faults scope) s.actions) h.block.chart.states) (event_fault_at h.event) all)
+    from (inr h) =
+        let scope = scope_of_type sources h.block in
+        let one = event_reported sources h.block Output h.action.event h.event h.sent h.unknown in
+        let all = action_reported (sent_faults scope) h.block.chart h.state h.action (event_fault_at h.event) h.listed h.written one in
+        reported sources unit h.block h.declared 1 (event_faults scope h.block.chart) refl h.place
+        (Contains-append_right (flat_map (trigger_faults scope) h.block.chart.transitions) (flat_map (λ s. flat_map (sent_faults scope) s.actions) h.block.chart.states) (event_fault_at h.event) all)

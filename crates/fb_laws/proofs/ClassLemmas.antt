@@ -1,0 +1,136 @@
+-- The class of each expression, by the function of the check.
+use Rattle.std.proofs.Common.{◌≡◌, ◌≢◌, Option, Some, None, unwrap_or, refl, sym, ap, ◌∙◌, subst}
+use Rattle.fb_tree.specs.Expression.{ReferenceTree, Expression, literal_expression, reference_expression, unary_expression, row_expression, parentheses, Expressions, no_expressions, expression_then, Operands, no_operands, operand_then}
+use Rattle.fb_tree.specs.Tree.{TypeTree}
+use Rattle.fb_tree.specs.declared.expression.BinaryUse.{BinaryUse}
+use Rattle.fb_tree.specs.declared.expression.UnaryUse.{UnaryUse}
+use Rattle.fb_tree.specs.declared.interface.TypeForm.{TypeForm}
+use Rattle.fb_tree.specs.declared.interface.TypeForm.TheVariants.{Plain, Sized, Array}
+use Rattle.fb_tree.specs.declared.interface.TypeUse.{TypeUse}
+use Rattle.fb_deploy.specs.Library.View.{Sources}
+use Rattle.fb_deploy.specs.Iface.Scope.{Scope, scope_of_type}
+use Rattle.fb_deploy.specs.Iface.declared.classes.Class.{Class}
+use Rattle.fb_deploy.specs.Iface.declared.classes.Class.TheVariants.{O, Free}
+use Rattle.fb_expr.specs.Classes.{change, pair_class, unary_class}
+use Rattle.fb_expr.specs.Expressions.{class_in, row_class}
+use Rattle.fb_expr.specs.References.{class_of_element, class_of_referent, class_with}
+use Rattle.fb_expr.specs.declared.references.Referent.{Referent}
+use Rattle.fb_expr.specs.declared.references.Referent.TheVariants.{Variable, Unjudged, Unknown}
+use Rattle.fb_laws.specs.Classes.{Changes, HasClass, of_literal, of_variable, of_element, of_no_array, of_no_variable, of_operator, of_broken, of_row, of_parentheses, RowHasClass, at_end, behind, IsPairIn, first_pair, later_pair}
+use Rattle.fb_laws.specs.Variables.{NamesVariable}
+use Rattle.fb_laws.proofs.ExpressionLemmas.{IsPairOf, first_pair as first_of, later_pair as later_of}
+use Rattle.fb_laws.proofs.ReferentLemmas.{Refers, variable, not_judged, nothing, referent, refers, told_variable}
+use Rattle.fb_laws.proofs.RuleLemmas.{Known, gives, fails, changes, no_change, none_change, results, told_change, told_results}
+
+plain_differs : Plain ≢ Array
+plain_differs e = let no : ⊥ = cc in no
+
+sized_differs : Sized ≢ Array
+sized_differs e = let no : ⊥ = cc in no
+
+no_array : (used : TypeUse) (form : TypeForm) → form ≢ Array → class_of_element form used.name.name ≡ O
+no_array used Plain other = refl
+no_array used Sized other = refl
+no_array used Array other = absurd (other refl)
+
+module _ (sources : Sources) (d : TypeTree) where
+  abbrev scope : Scope
+  scope = scope_of_type sources d
+
+  of_subscripts : (r : ReferenceTree) (used : TypeUse) (subscripts : Expressions) → NamesVariable sources d r.name r.member used → HasClass sources d (reference_expression r subscripts) (class_with used subscripts)
+  of_subscripts r used no_expressions n = of_variable used n
+  of_subscripts r used (expression_then e others) n = by_form used.form refl
+    where
+      by_form : (form : TypeForm) → used.form ≡ form → HasClass sources d (reference_expression r (expression_then e others)) (class_of_element form used.name.name)
+      by_form Plain is = of_no_array used n (λ array. plain_differs (sym is ∙ array))
+      by_form Sized is = of_no_array used n (λ array. sized_differs (sym is ∙ array))
+      by_form Array is = of_element used n is
+
+  names_nothing : (r : ReferenceTree) (t : Referent) → referent scope r.name r.member ≡ t → (used : TypeUse) → (t ≡ Variable used → ⊥) → ¬ NamesVariable sources d r.name r.member used
+  names_nothing r t is used other n = other (sym is ∙ told_variable sources d r.name r.member used n)
+
+  unjudged_differs : (used : TypeUse) → Unjudged ≡ Variable used → ⊥
+  unjudged_differs used e = let no : ⊥ = cc in no
+
+  unknown_differs : (used : TypeUse) → Unknown ≡ Variable used → ⊥
+  unknown_differs used e = let no : ⊥ = cc in no
+
+  of_reference : (r : ReferenceTree) (subscripts : Expressions) → HasClass sources d (reference_expression r subscripts) (class_of_referent (referent scope r.name r.member) subscripts)
+  of_reference r subscripts = by_referent (referent scope r.name r.member) refl (refers sources d r.name r.member)
+    where
+      by_referent : (t : Referent) → referent scope r.name r.member ≡ t → Refers sources d r.name r.member t → HasClass sources d (reference_expression r subscripts) (class_of_referent t subscripts)
+      by_referent (Variable used) is (variable n) = of_subscripts r used subscripts n
+      by_referent Unjudged is (not_judged j) = of_no_variable (λ used. names_nothing r Unjudged is used (unjudged_differs used))
+      by_referent Unknown is nothing = of_no_variable (λ used. names_nothing r Unknown is used (unknown_differs used))
+
+  of_unary : (used : UnaryUse) (x : Expression) (c : Class) → HasClass sources d x c → HasClass sources d (unary_expression used x) (unary_class used.operator c)
+  of_unary used x c has = by_case (change used.operator c) refl (changes used.operator c)
+    where
+      by_case : (o : Option Class) → change used.operator c ≡ o → Known (Changes used.operator c) o → HasClass sources d (unary_expression used x) (unwrap_or o Free)
+      by_case (Some g) is (gives k) = of_operator c has k
+      by_case None is fails = of_broken c has (none_change used.operator c is)
+
+  mutual
+    pub class_of : (e : Expression) → HasClass sources d e (class_in scope e)
+    class_of (literal_expression l) = of_literal
+    class_of (reference_expression r subscripts) = of_reference r subscripts
+    class_of (unary_expression used x) = of_unary used x (class_in scope x) (class_of x)
+    class_of (row_expression x operands) = of_row (class_in scope x) (class_of x) (row_of (class_in scope x) operands)
+    class_of (parentheses x span) = of_parentheses (class_of x)
+
+    row_of : (left : Class) (operands : Operands) → RowHasClass sources d left operands (row_class scope left operands)
+    row_of left no_operands = at_end
+    row_of left (operand_then used x others) =
+        let after = pair_class used.operator left (class_in scope x) in
+        behind (class_in scope x) after (class_of x) (results used.operator left (class_in scope x)) (row_of after others)
+
+  -- and no other
+
+  free_of : (r : ReferenceTree) (subscripts : Expressions) → ((used : TypeUse) → ¬ NamesVariable sources d r.name r.member used) → class_of_referent (referent scope r.name r.member) subscripts ≡ Free
+  free_of r subscripts none = by_referent (referent scope r.name r.member) (refers sources d r.name r.member)
+    where
+      by_referent : (t : Referent) → Refers sources d r.name r.member t → class_of_referent t subscripts ≡ Free
+      by_referent (Variable used) (variable n) = absurd (none used n)
+      by_referent Unjudged (not_judged j) = refl
+      by_referent Unknown nothing = refl
+
+  named_class : (r : ReferenceTree) (subscripts : Expressions) (used : TypeUse) → NamesVariable sources d r.name r.member used → class_of_referent (referent scope r.name r.member) subscripts ≡ class_with used subscripts
+  named_class r subscripts used n = ap (λ (t : Referent). class_of_referent t subscripts) (told_variable sources d r.name r.member used n)
+
+  mutual
+    pub told_class : (e : Expression) (c : Class) → HasClass sources d e c → class_in scope e ≡ c
+    told_class (literal_expression l) c of_literal = refl
+    told_class (reference_expression r no_expressions) c (of_variable used n) = named_class r no_expressions used n
+    told_class (reference_expression r (expression_then e others)) c (of_element used n array) =
+        named_class r (expression_then e others) used n ∙ ap (λ (form : TypeForm). class_of_element form used.name.name) array
+    told_class (reference_expression r (expression_then e others)) c (of_no_array used n other) = named_class r (expression_then e others) used n ∙ no_array used used.form other
+    told_class (reference_expression r subscripts) c (of_no_variable none) = free_of r subscripts none
+    told_class (unary_expression used x) g (of_operator c has k) =
+        ap (unary_class used.operator) (told_class x c has) ∙ ap (λ (o : Option Class). unwrap_or o Free) (told_change used.operator c g k)
+    told_class (unary_expression used x) g (of_broken c has none) =
+        ap (unary_class used.operator) (told_class x c has) ∙ ap (λ (o : Option Class). unwrap_or o Free) (no_change used.operator c none)
+    told_class (row_expression x operands) g (of_row c has row) = ap (λ k. row_class scope k operands) (told_class x c has) ∙ told_row c operands g row
+    told_class (parentheses x span) c (of_parentheses has) = told_class x c has
+
+    told_row : (left : Class) (operands : Operands) (h : Class) → RowHasClass sources d left operands h → row_class scope left operands ≡ h
+    told_row left no_operands h at_end = refl
+    told_row left (operand_then used x others) h (behind c g has gives_class row) =
+        ap (λ k. row_class scope (pair_class used.operator left k) others) (told_class x c has)
+        ∙ ap (λ k. row_class scope k others) (told_results used.operator left c g gives_class)
+        ∙ told_row g others h row
+
+  -- operators of rows, by what stands before them
+
+  pub pair_in : (used : BinaryUse) (before : Class) (x : Expression) (left : Class) (operands : Operands) → IsPairOf scope used before x left operands → IsPairIn sources d used before x left operands
+  pair_in used before x left no_operands none = elim none [ ]
+  pair_in used before x left (operand_then first y others) first_of = first_pair
+  pair_in used before x left (operand_then first y others) (later_of is) =
+      let after = pair_class first.operator left (class_in scope y) in
+      later_pair (class_in scope y) after (class_of y) (results first.operator left (class_in scope y)) (pair_in used before x after others is)
+
+  pub pair_of : (used : BinaryUse) (before : Class) (x : Expression) (left : Class) (operands : Operands) → IsPairIn sources d used before x left operands → IsPairOf scope used before x left operands
+  pair_of used before x left no_operands none = elim none [ ]
+  pair_of used before x left (operand_then first y others) first_pair = first_of
+  pair_of used before x left (operand_then first y others) (later_pair c g has gives_class is) =
+      let same : pair_class first.operator left (class_in scope y) ≡ g = ap (pair_class first.operator left) (told_class y c has) ∙ told_results first.operator left c g gives_class in
+      later_of (subst (λ k. IsPairOf scope used before x k others) (sym same) (pair_of used before x g others is))

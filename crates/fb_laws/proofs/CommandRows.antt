@@ -1,0 +1,430 @@
+-- The commands of each resource, in words of their own.
+use Rattle.std.proofs.Common.{ℕ, ◌≡◌, Bool, true, false, cond, List, [], ◌∷◌, ◌++◌, Option, Some, None, ◌⊎◌, inl, inr, refl, sym, ◌∙◌, ap, subst, get_or, map, append_assoc, arith}
+use Rattle.std.specs.Prelude.{Contains, filter, option_map, codes}
+use Rattle.std.specs.List.{filter_map, flat_map}
+use Rattle.std.specs.Str.{bytes_eq}
+use Rattle.std.proofs.lemmas.List.Kept.{IsStrictlySortedBy-filter}
+use Rattle.fb_text.proofs.OrderLemmas.{in_order-members, in_order-sorted}
+use Rattle.fb_text.proofs.Members.{contains_cases, contains_filter, contains_flat_map, contains_here, contains_later, contains_map, contains_nothing, origin_in_flat_map, origin_in_map, passes_in_filter}
+use Rattle.fb_placing.proofs.LineLemmas.{line_cmp-IsAntisymmetric}
+use Rattle.fb_tree.specs.Tree.{ApplicationTree, DeclTree, ParameterTree}
+use Rattle.fb_deploy.specs.Library.View.{Sources, tree_at}
+use Rattle.fb_wiring.specs.Network.LinkOrder.{link_cmp}
+use Rattle.fb_wiring.specs.Network.declared.flat.FlatBlock.{FlatBlock}
+use Rattle.fb_wiring.specs.Network.declared.flat.Link.{Link}
+use Rattle.fb_wiring.specs.Network.PlainFlat.{PlainFlat}
+use Rattle.fb_netcheck.specs.Spellings.{text_or_empty}
+use Rattle.fb_placing.specs.Cuts.{home_at}
+use Rattle.fb_placing.specs.Fronts.{nearest}
+use Rattle.fb_placing.specs.Homes.{block_home}
+use Rattle.fb_placing.specs.Standing.{PlainStanding, path_names, standing_at}
+use Rattle.fb_placing.specs.Systems.{applications_in, devices_in}
+use Rattle.fb_placing.specs.declared.homes.Home.{Home}
+use Rattle.fb_placing.specs.Lines.{create_line, create_lines, create_text, home_lines, line_cmp, line_cmp_total, lines_at, write_line, write_lines, write_text}
+use Rattle.fb_placing.specs.Orders.{connection_orders, line_order, link_resource, orders_of, start_order, start_text}
+use Rattle.fb_wiring.specs.Network.Places.{dotted}
+use Rattle.fb_placing.specs.Written.{written}
+use Rattle.fb_placing.specs.PlainResource.{PlainResource}
+use Rattle.fb_placing.specs.Resources.{commands_for, resource_plan, resource_plans, resources_of}
+use Rattle.fb_placing.specs.declared.lines.Line.{Line}
+use Rattle.fb_placing.specs.declared.orders.Order.{Order}
+use Rattle.fb_laws.proofs.Joined.{of_either}
+use Rattle.fb_laws.proofs.HomeLemmas.{bytes_same, home_listed, nearest_of, of_nearest, same_bytes}
+use Rattle.fb_laws.proofs.PlannedLemmas.{Known, home_there, homes_in, known, links_sorted, mapped, names_in, stands}
+use Rattle.fb_laws.proofs.CommandLemmas.{commands_append, for_lines, for_links, for_starts, given, gives_member, is_of, is_resource, link_command, link_on, lines_on, links_on, of_is, on_link}
+use Rattle.fb_laws.specs.Planned.{IsPlanned}
+use Rattle.fb_laws.specs.Plans.{AllBegin, BeginsWith, BlocksAreMadeAtHome, CommandsAreInOrder, IsInOrder, IsWithin, LinksAreMadeAtHome, MakesBlock, MakesItsBlocks, MakesItsLinks, NoneBegins, ParametersAreSetAtHome, ResourcesHaveTheirCommands, SetsItsParameters, SetsParameter, StandsOnce}
+
+-- ---- what commands begin with
+
+-- commands that begin otherwise
+none_of : (start other : List ℕ) (commands : List (List ℕ)) → ((command : List ℕ) → BeginsWith other command → ¬ BeginsWith start command) → AllBegin other commands → NoneBegins start commands
+none_of start other commands differ all command c = differ command (all command c)
+
+-- two words that differ at a place
+differ_at : (k : ℕ) (a b command : List ℕ) (x y : ℕ) → ((rest : List ℕ) → get_or (a ++ rest) k 0 ≡ x) → ((rest : List ℕ) → get_or (b ++ rest) k 0 ≡ y) → (x ≡ y → ⊥) → BeginsWith a command → ¬ BeginsWith b command
+differ_at k a b command x y is_x is_y other p q =
+    other (sym (is_x p.0) ∙ ap (λ (l : List ℕ). get_or l k 0) (sym p.1 ∙ q.1) ∙ is_y q.0)
+
+turned : (a b : List ℕ) → ((command : List ℕ) → BeginsWith a command → ¬ BeginsWith b command) → (command : List ℕ) → BeginsWith b command → ¬ BeginsWith a command
+turned a b differ command p q = differ command q p
+
+write_no_block : (command : List ℕ) → BeginsWith (codes "WRITE ") command → ¬ BeginsWith (codes "CREATE FB ") command
+write_no_block command p q = differ_at 0 (codes "WRITE ") (codes "CREATE FB ") command 87 67 (λ rest. refl) (λ rest. refl) (λ e. omega (arith, e)) p q
+
+link_no_block : (command : List ℕ) → BeginsWith (codes "CREATE CONNECTION ") command → ¬ BeginsWith (codes "CREATE FB ") command
+link_no_block command p q = differ_at 7 (codes "CREATE CONNECTION ") (codes "CREATE FB ") command 67 70 (λ rest. refl) (λ rest. refl) (λ e. omega (arith, e)) p q
+
+start_no_block : (command : List ℕ) → BeginsWith (codes "START ") command → ¬ BeginsWith (codes "CREATE FB ") command
+start_no_block command p q = differ_at 0 (codes "START ") (codes "CREATE FB ") command 83 67 (λ rest. refl) (λ rest. refl) (λ e. omega (arith, e)) p q
+
+link_no_write : (command : List ℕ) → BeginsWith (codes "CREATE CONNECTION ") command → ¬ BeginsWith (codes "WRITE ") command
+link_no_write command p q = differ_at 0 (codes "CREATE CONNECTION ") (codes "WRITE ") command 67 87 (λ rest. refl) (λ rest. refl) (λ e. omega (arith, e)) p q
+
+start_no_write : (command : List ℕ) → BeginsWith (codes "START ") command → ¬ BeginsWith (codes "WRITE ") command
+start_no_write command p q = differ_at 0 (codes "START ") (codes "WRITE ") command 83 87 (λ rest. refl) (λ rest. refl) (λ e. omega (arith, e)) p q
+
+start_no_link : (command : List ℕ) → BeginsWith (codes "START ") command → ¬ BeginsWith (codes "CREATE CONNECTION ") command
+start_no_link command p q = differ_at 0 (codes "START ") (codes "CREATE CONNECTION ") command 83 67 (λ rest. refl) (λ rest. refl) (λ e. omega (arith, e)) p q
+
+-- ---- the four parts
+
+module _ (sources : Sources) (system : List ℕ) (flat : PlainFlat) where
+  abbrev homes : List ℕ → Option (List ℕ)
+  homes = home_at (homes_in sources system flat)
+
+  module _ (r : List ℕ) where
+    abbrev makes : List Line
+    makes = lines_on r (create_lines homes flat.blocks)
+
+    abbrev writes : List Line
+    writes = lines_on r (write_lines sources system (applications_in (tree_at sources system)) (homes_in sources system flat))
+
+    abbrev joins : List Link
+    joins = links_on homes r flat.links
+
+    abbrev starts : List (List ℕ)
+    starts = map start_text (filter (λ (n : List ℕ). bytes_eq r n) (names_in sources system))
+
+    abbrev commands : List (List ℕ)
+    commands = commands_for (orders_of sources system (applications_in (tree_at sources system)) (names_in sources system) flat (homes_in sources system flat)) r
+
+    parts : commands ≡ map (λ (l : Line). l.command) makes ++ map (λ (l : Line). l.command) writes ++ map link_command joins ++ starts
+    parts =
+        let a = map line_order (create_lines homes flat.blocks) in
+        let b = map line_order (write_lines sources system (applications_in (tree_at sources system)) (homes_in sources system flat)) in
+        let c = connection_orders homes flat.links in
+        let d = map start_order (names_in sources system) in
+        commands_append (a ++ b ++ c) d r
+        ∙ ap (λ (l : List (List ℕ)). l ++ commands_for d r) (commands_append (a ++ b) c r ∙ ap (λ (l : List (List ℕ)). l ++ commands_for c r) (commands_append a b r))
+        ∙ (λ i. for_lines (create_lines homes flat.blocks) r i ++ for_lines (write_lines sources system (applications_in (tree_at sources system)) (homes_in sources system flat)) r i ++ for_links homes flat.links r i ++ for_starts (names_in sources system) r i)
+
+    -- each line that makes a block
+
+    create_given : (b : FlatBlock) (o : Option (List ℕ)) (line : Line) → homes b.path ≡ o → option_map (λ (q : List ℕ). (let it : Line = record { place = b.path; command = create_text b.path b.type_name; resource = q } in it)) o ≡ Some line → (line.place ≡ b.path) × (line.command ≡ create_text b.path b.type_name) × (homes b.path ≡ Some line.resource)
+    create_given b None line e g = absurd (let no : ⊥ = cc in no)
+    create_given b (Some q) line e g =
+        let same : (let it : Line = record { place = b.path; command = create_text b.path b.type_name; resource = q } in it) ≡ line = cc in
+        (sym (ap (λ (l : Line). l.place) same), sym (ap (λ (l : Line). l.command) same), e ∙ ap (λ (l : Line). Some l.resource) same)
+
+    made_text : (line : Line) → Contains makes line → BeginsWith (codes "CREATE FB ") line.command
+    made_text line c =
+        let kept = passes_in_filter (λ (l : Line). bytes_eq r l.resource) (create_lines homes flat.blocks) line c in
+        let o = given (create_line homes) flat.blocks line ((in_order-members line_cmp line_cmp_total line_cmp-IsAntisymmetric (filter_map (create_line homes) flat.blocks) line).0 kept.among) in
+        let is = create_given o.origin (homes o.origin.path) line refl o.gives in
+        (o.origin.path ++ 32 ∷ o.origin.type_name, is.1)
+
+    all_made : AllBegin (codes "CREATE FB ") (map (λ (l : Line). l.command) makes)
+    all_made command c =
+        let o = origin_in_map (λ (l : Line). l.command) makes command c in
+        subst (λ (t : List ℕ). BeginsWith (codes "CREATE FB ") t) o.gives (made_text o.origin o.among)
+
+    -- each line that sets a parameter
+
+    lines_begin : (home : Home) (o : Option PlainStanding) (line : Line) → Contains (lines_at sources home o) line → BeginsWith (codes "WRITE ") line.command
+    lines_begin home None line c = absurd (contains_nothing line c)
+    lines_begin home (Some s) line c =
+        let o = origin_in_map (write_line (text_or_empty sources s.unit) home) s.instance.parameters line c in
+        subst (λ (l : Line). BeginsWith (codes "WRITE ") l.command) o.gives (_, refl)
+
+    all_set : AllBegin (codes "WRITE ") (map (λ (l : Line). l.command) writes)
+    all_set command c =
+        let applications = applications_in (tree_at sources system) in
+        let o = origin_in_map (λ (l : Line). l.command) writes command c in
+        let kept = passes_in_filter (λ (l : Line). bytes_eq r l.resource) (write_lines sources system applications (homes_in sources system flat)) o.origin o.among in
+        let lines = flat_map (home_lines sources system applications) (homes_in sources system flat) in
+        let w = origin_in_flat_map (home_lines sources system applications) (homes_in sources system flat) o.origin ((in_order-members line_cmp line_cmp_total line_cmp-IsAntisymmetric lines o.origin).0 kept.among) in
+        subst (λ (t : List ℕ). BeginsWith (codes "WRITE ") t) o.gives (lines_begin w.origin (standing_at sources system applications (path_names w.origin.path)) o.origin w.has)
+
+    -- each command that makes a link
+
+    all_joined : AllBegin (codes "CREATE CONNECTION ") (map link_command joins)
+    all_joined command c =
+        let o = origin_in_map link_command joins command c in
+        (o.origin.from ++ 32 ∷ o.origin.to, sym o.gives)
+
+    -- each command that starts
+
+    start_is : (command : List ℕ) → Contains starts command → command ≡ start_text r
+    start_is command c =
+        let o = origin_in_map start_text (filter (λ (n : List ℕ). bytes_eq r n) (names_in sources system)) command c in
+        let kept = passes_in_filter (λ (n : List ℕ). bytes_eq r n) (names_in sources system) o.origin o.among in
+        sym o.gives ∙ ap start_text (sym (same_bytes r o.origin kept.passes))
+
+    all_started : AllBegin (codes "START ") starts
+    all_started command c = (r, start_is command c)
+
+    started : Contains (names_in sources system) r → Contains starts (start_text r)
+    started c = contains_map start_text (filter (λ (n : List ℕ). bytes_eq r n) (names_in sources system)) r (contains_filter (λ (n : List ℕ). bytes_eq r n) (names_in sources system) r c (bytes_same r r refl))
+
+-- an item that stands once is kept once
+none_kept : (r : List ℕ) (names : List (List ℕ)) → ¬ Contains names r → filter (λ (n : List ℕ). bytes_eq r n) names ≡ []
+none_kept r [] absent = refl
+none_kept r (n ∷ ns) absent = by (bytes_eq r n) refl (none_kept r ns (λ c. absent (contains_later n ns r c)))
+  where
+    by : (t : Bool) → bytes_eq r n ≡ t → filter (λ (n : List ℕ). bytes_eq r n) ns ≡ [] → cond t (n ∷ filter (λ (n : List ℕ). bytes_eq r n) ns) (filter (λ (n : List ℕ). bytes_eq r n) ns) ≡ []
+    by true e h = absurd (absent (subst (λ (w : List ℕ). Contains (n ∷ ns) w) (sym (same_bytes r n e)) (contains_here n ns)))
+    by false e h = h
+
+once_kept : (r : List ℕ) (names : List (List ℕ)) → Contains names r → StandsOnce names r → filter (λ (n : List ℕ). bytes_eq r n) names ≡ r ∷ []
+once_kept r [] c once = absurd (contains_nothing r c)
+once_kept r (n ∷ ns) c once = by (bytes_eq r n) refl (λ d. once_kept r ns d later)
+  where
+    later : StandsOnce ns r
+    later before after e = let o = once (n ∷ before) after (ap (λ (l : List (List ℕ)). n ∷ l) e) in ((λ d. o.0 (contains_later n before r d)), o.1)
+
+    by_case : bytes_eq r n ≡ false → (n ≡ r) ⊎ Contains ns r → Contains ns r
+    by_case e (inl same) = absurd (let yes = bytes_same r n (sym same) in cc)
+    by_case e (inr d) = d
+
+    by : (t : Bool) → bytes_eq r n ≡ t → (Contains ns r → filter (λ (n : List ℕ). bytes_eq r n) ns ≡ r ∷ []) → cond t (n ∷ filter (λ (n : List ℕ). bytes_eq r n) ns) (filter (λ (n : List ℕ). bytes_eq r n) ns) ≡ r ∷ []
+    by true e more =
+        let same = same_bytes r n e in
+        let o = once [] ns (ap (λ (w : List ℕ). w ∷ ns) (sym same)) in
+        (λ i. sym same i ∷ none_kept r ns o.1 i)
+    by false e more = more (by_case e (contains_cases n ns r c))
+
+-- ---- the laws
+
+module _ (sources : Sources) (system : List ℕ) (flat : PlainFlat) (cuts : List Link) (resources : List PlainResource) (p : IsPlanned sources system flat cuts resources) where
+  abbrev it : Known sources system flat cuts resources
+  it = known sources system flat cuts resources p
+
+  -- the resource of an entry
+  record IsEntry (entry : PlainResource) : Type 0 where
+    name : List ℕ
+    listed : Contains (names_in sources system) name
+    is : record { name = name; commands = commands sources system flat name } ≡ entry
+
+  entry_of : (entry : PlainResource) → Contains resources entry → IsEntry entry
+  entry_of entry c =
+      let orders = orders_of sources system (applications_in (tree_at sources system)) (names_in sources system) flat (homes_in sources system flat) in
+      let o = origin_in_map (resource_plan orders) (names_in sources system) entry (subst (λ (l : List PlainResource). Contains l entry) it.resources_are c) in
+      record { name = o.origin; listed = o.among; is = o.gives }
+
+  -- blocks
+
+  make_to : (r : List ℕ) (line : Line) → Contains (makes sources system flat r) line → MakesBlock sources system flat r line
+  make_to r line c =
+      let kept = passes_in_filter (λ (l : Line). bytes_eq r l.resource) (create_lines (homes sources system flat) flat.blocks) line c in
+      let o = given (create_line (homes sources system flat)) flat.blocks line ((in_order-members line_cmp line_cmp_total line_cmp-IsAntisymmetric (filter_map (create_line (homes sources system flat)) flat.blocks) line).0 kept.among) in
+      let is = create_given sources system flat r o.origin (homes sources system flat o.origin.path) line refl o.gives in
+      let on : line.resource ≡ r = sym (same_bytes r line.resource kept.passes) in
+      let own = it.homes o.origin o.among in
+      let there = home_listed (mapped sources system) flat.blocks o.origin own.on_resource o.among own.home in
+      let same : own.on_resource ≡ r = cc in
+      record {
+        block = o.origin;
+        listed = o.among;
+        home = of_nearest (mapped sources system) o.origin.path r (own.home ∙ ap (λ (w : List ℕ). Some w) same);
+        place = is.0;
+        command = is.1;
+        on_home = on;
+      }
+
+  same_line : (line : Line) (a b c : List ℕ) → line.place ≡ a → line.command ≡ b → line.resource ≡ c → (let l : Line = record { place = a; command = b; resource = c } in l) ≡ line
+  same_line line a b c e f g = λ i. record { place = sym e i; command = sym f i; resource = sym g i }
+
+  make_from : (r : List ℕ) (line : Line) → MakesBlock sources system flat r line → Contains (makes sources system flat r) line
+  make_from r line m =
+      let at : homes sources system flat m.block.path ≡ Some r = home_listed (mapped sources system) flat.blocks m.block r m.listed (nearest_of (mapped sources system) m.block.path r m.home) in
+      let gives : create_line (homes sources system flat) m.block ≡ Some line =
+      ap (λ (o : Option (List ℕ)). option_map (λ (q : List ℕ). (let l : Line = record { place = m.block.path; command = create_text m.block.path m.block.type_name; resource = q } in l)) o) at
+      ∙ ap (λ (l : Line). Some l) (same_line line m.block.path (create_text m.block.path m.block.type_name) r m.place m.command m.on_home) in
+      let among = gives_member (create_line (homes sources system flat)) flat.blocks m.block line m.listed gives in
+      contains_filter (λ (l : Line). bytes_eq r l.resource) (create_lines (homes sources system flat) flat.blocks) line
+      ((in_order-members line_cmp line_cmp_total line_cmp-IsAntisymmetric (filter_map (create_line (homes sources system flat)) flat.blocks) line).1 among)
+      (bytes_same r line.resource (sym m.on_home))
+
+  made_at : (r : List ℕ) → MakesItsBlocks sources system flat (record { name = r; commands = commands sources system flat r })
+  made_at r =
+      let a = map (λ (l : Line). l.command) (makes sources system flat r) in
+      let b = map (λ (l : Line). l.command) (writes sources system flat r) in
+      let c = map link_command (joins sources system flat r) in
+      let d = starts sources system flat r in
+      record {
+        lines = makes sources system flat r;
+        others = b ++ c ++ d;
+        commands = parts sources system flat r ∙ ap (λ (l : List (List ℕ)). l ++ d) (append_assoc a b c) ∙ append_assoc a (b ++ c) d;
+        members = λ line. (make_to r line, make_from r line);
+        in_order = IsStrictlySortedBy-filter line_cmp (λ (l : Line). bytes_eq r l.resource) (create_lines (homes sources system flat) flat.blocks) (in_order-sorted line_cmp line_cmp_total (filter_map (create_line (homes sources system flat)) flat.blocks));
+        no_others =
+            of_either (b ++ c) d
+            (of_either b c
+            (none_of (codes "CREATE FB ") (codes "WRITE ") b write_no_block (all_set sources system flat r))
+            (none_of (codes "CREATE FB ") (codes "CREATE CONNECTION ") c link_no_block (all_joined sources system flat r)))
+            (none_of (codes "CREATE FB ") (codes "START ") d start_no_block (all_started sources system flat r));
+      }
+
+  pub made : (entry : PlainResource) → Contains resources entry → MakesItsBlocks sources system flat entry
+  made entry c = let e = entry_of entry c in subst (λ (w : PlainResource). MakesItsBlocks sources system flat w) e.is (made_at e.name)
+
+  -- parameters
+
+  abbrev applications : List ApplicationTree
+  applications = applications_in (tree_at sources system)
+
+  -- the home of a block of the flat network
+  record IsHomeOfBlock (home : Home) : Type 0 where
+    block : FlatBlock
+    listed : Contains flat.blocks block
+    placed : home.path ≡ block.path
+    is_home : nearest (mapped sources system) block.path ≡ Some home.resource
+
+  of_block : (home : Home) → Contains (homes_in sources system flat) home → IsHomeOfBlock home
+  of_block home c =
+      let o = given (block_home (mapped sources system)) flat.blocks home c in
+      by o.origin o.among (nearest (mapped sources system) o.origin.path) refl o.gives
+    where
+      by : (b : FlatBlock) → Contains flat.blocks b → (o : Option (List ℕ)) → nearest (mapped sources system) b.path ≡ o → option_map (λ (q : List ℕ). (let h : Home = record { path = b.path; resource = q } in h)) o ≡ Some home → IsHomeOfBlock home
+      by b among None e g = absurd (let no : ⊥ = cc in no)
+      by b among (Some q) e g =
+          let same : (let h : Home = record { path = b.path; resource = q } in h) ≡ home = cc in
+          record { block = b; listed = among; placed = sym (ap (λ (h : Home). h.path) same); is_home = e ∙ ap (λ (h : Home). Some h.resource) same }
+
+  setting : (r : List ℕ) (line : Line) (home : Home) (block : FlatBlock) (s : PlainStanding) (parameter : ParameterTree) → Contains flat.blocks block → home.path ≡ block.path → nearest (mapped sources system) block.path ≡ Some home.resource → standing_at sources system applications (path_names home.path) ≡ Some s → Contains s.instance.parameters parameter → write_line (text_or_empty sources s.unit) home parameter ≡ line → line.resource ≡ r → SetsParameter sources system flat r line
+  setting r line home block s parameter listed placed is_home stands among gives on =
+      let same : home.resource ≡ r = ap (λ (l : Line). l.resource) gives ∙ on in
+      record {
+        block = block;
+        listed = listed;
+        home = of_nearest (mapped sources system) block.path r (is_home ∙ ap (λ (w : List ℕ). Some w) same);
+        standing = s;
+        stands = ap (λ (t : List ℕ). standing_at sources system applications (path_names t)) (sym placed) ∙ stands;
+        parameter = parameter;
+        given = among;
+        place = sym (ap (λ (l : Line). l.place) gives) ∙ ap (λ (t : List ℕ). dotted t parameter.name.name) placed;
+        command = sym (ap (λ (l : Line). l.command) gives) ∙ ap (λ (t : List ℕ). write_text (dotted t parameter.name.name) (written (text_or_empty sources s.unit) parameter.value)) placed;
+        on_home = on;
+      }
+
+  set_to : (r : List ℕ) (line : Line) → Contains (writes sources system flat r) line → SetsParameter sources system flat r line
+  set_to r line c =
+      let kept = passes_in_filter (λ (l : Line). bytes_eq r l.resource) (write_lines sources system applications (homes_in sources system flat)) line c in
+      let lines = flat_map (home_lines sources system applications) (homes_in sources system flat) in
+      let w = origin_in_flat_map (home_lines sources system applications) (homes_in sources system flat) line ((in_order-members line_cmp line_cmp_total line_cmp-IsAntisymmetric lines line).0 kept.among) in
+      by w.origin (of_block w.origin w.among) (sym (same_bytes r line.resource kept.passes)) (standing_at sources system applications (path_names w.origin.path)) refl w.has
+    where
+      by : (home : Home) → IsHomeOfBlock home → line.resource ≡ r → (o : Option PlainStanding) → standing_at sources system applications (path_names home.path) ≡ o → Contains (lines_at sources home o) line → SetsParameter sources system flat r line
+      by home b on None e d = absurd (contains_nothing line d)
+      by home b on (Some s) e d =
+          let o = origin_in_map (write_line (text_or_empty sources s.unit) home) s.instance.parameters line d in
+          setting r line home b.block s o.origin b.listed b.placed b.is_home e o.among o.gives on
+
+  set_from : (r : List ℕ) (line : Line) → SetsParameter sources system flat r line → Contains (writes sources system flat r) line
+  set_from r line m =
+      let home : Home = record { path = m.block.path; resource = r } in
+      let is_home : block_home (mapped sources system) m.block ≡ Some home =
+      ap (λ (o : Option (List ℕ)). option_map (λ (q : List ℕ). (let h : Home = record { path = m.block.path; resource = q } in h)) o) (nearest_of (mapped sources system) m.block.path r m.home) in
+      let at = gives_member (block_home (mapped sources system)) flat.blocks m.block home m.listed is_home in
+      let line_is : write_line (text_or_empty sources m.standing.unit) home m.parameter ≡ line = same_line line _ _ r m.place m.command m.on_home in
+      let here : Contains (lines_at sources home (Some m.standing)) line =
+      subst (λ (l : Line). Contains (lines_at sources home (Some m.standing)) l) line_is (contains_map (write_line (text_or_empty sources m.standing.unit) home) m.standing.instance.parameters m.parameter m.given) in
+      let has : Contains (home_lines sources system applications home) line = subst (λ (o : Option PlainStanding). Contains (lines_at sources home o) line) (sym m.stands) here in
+      let lines = flat_map (home_lines sources system applications) (homes_in sources system flat) in
+      let among = contains_flat_map (home_lines sources system applications) (homes_in sources system flat) home line at has in
+      contains_filter (λ (l : Line). bytes_eq r l.resource) (write_lines sources system applications (homes_in sources system flat)) line
+      ((in_order-members line_cmp line_cmp_total line_cmp-IsAntisymmetric lines line).1 among)
+      (bytes_same r line.resource (sym m.on_home))
+
+  set_at : (r : List ℕ) → SetsItsParameters sources system flat (record { name = r; commands = commands sources system flat r })
+  set_at r =
+      let a = map (λ (l : Line). l.command) (makes sources system flat r) in
+      let b = map (λ (l : Line). l.command) (writes sources system flat r) in
+      let c = map link_command (joins sources system flat r) in
+      let d = starts sources system flat r in
+      record {
+        before = a;
+        lines = writes sources system flat r;
+        behind = c ++ d;
+        commands = parts sources system flat r ∙ append_assoc (a ++ b) c d;
+        members = λ line. (set_to r line, set_from r line);
+        in_order = IsStrictlySortedBy-filter line_cmp (λ (l : Line). bytes_eq r l.resource) (write_lines sources system applications (homes_in sources system flat)) (in_order-sorted line_cmp line_cmp_total (flat_map (home_lines sources system applications) (homes_in sources system flat)));
+        none_before = none_of (codes "WRITE ") (codes "CREATE FB ") a (turned (codes "WRITE ") (codes "CREATE FB ") write_no_block) (all_made sources system flat r);
+        none_behind =
+            of_either c d
+            (none_of (codes "WRITE ") (codes "CREATE CONNECTION ") c link_no_write (all_joined sources system flat r))
+            (none_of (codes "WRITE ") (codes "START ") d start_no_write (all_started sources system flat r));
+      }
+
+  pub set : (entry : PlainResource) → Contains resources entry → SetsItsParameters sources system flat entry
+  set entry c = let e = entry_of entry c in subst (λ (w : PlainResource). SetsItsParameters sources system flat w) e.is (set_at e.name)
+
+  -- links
+
+  join_to : (r : List ℕ) (link : Link) → Contains (joins sources system flat r) link → IsWithin sources system flat r link
+  join_to r link c =
+      let kept = passes_in_filter (λ (l : Link). is_resource r (link_resource (homes sources system flat) l)) flat.links link c in
+      let on = link_on (homes sources system flat) link r (is_of r (link_resource (homes sources system flat) link) kept.passes) in
+      record { listed = kept.among; from = stands sources system flat it.homes link.from r on.0; to = stands sources system flat it.homes link.to r on.1 }
+
+  join_from : (r : List ℕ) (link : Link) → IsWithin sources system flat r link → Contains (joins sources system flat r) link
+  join_from r link w =
+      let on = on_link (homes sources system flat) link r (home_there sources system flat it.homes link.from r w.from) (home_there sources system flat it.homes link.to r w.to) in
+      contains_filter (λ (l : Link). is_resource r (link_resource (homes sources system flat) l)) flat.links link w.listed (of_is r (link_resource (homes sources system flat) link) on)
+
+  joined_at : (r : List ℕ) → MakesItsLinks sources system flat (record { name = r; commands = commands sources system flat r })
+  joined_at r =
+      let a = map (λ (l : Line). l.command) (makes sources system flat r) in
+      let b = map (λ (l : Line). l.command) (writes sources system flat r) in
+      let d = starts sources system flat r in
+      record {
+        before = a ++ b;
+        links = joins sources system flat r;
+        behind = d;
+        commands = parts sources system flat r;
+        members = λ link. (join_to r link, join_from r link);
+        in_order = IsStrictlySortedBy-filter link_cmp (λ (l : Link). is_resource r (link_resource (homes sources system flat) l)) flat.links (links_sorted sources system flat p.is_flat);
+        none_before =
+            of_either a b
+            (none_of (codes "CREATE CONNECTION ") (codes "CREATE FB ") a (turned (codes "CREATE CONNECTION ") (codes "CREATE FB ") link_no_block) (all_made sources system flat r))
+            (none_of (codes "CREATE CONNECTION ") (codes "WRITE ") b (turned (codes "CREATE CONNECTION ") (codes "WRITE ") link_no_write) (all_set sources system flat r));
+        none_behind = none_of (codes "CREATE CONNECTION ") (codes "START ") d start_no_link (all_started sources system flat r);
+      }
+
+  pub joined : (entry : PlainResource) → Contains resources entry → MakesItsLinks sources system flat entry
+  joined entry c = let e = entry_of entry c in subst (λ (w : PlainResource). MakesItsLinks sources system flat w) e.is (joined_at e.name)
+
+  -- names and order
+
+  plan_names : (orders : List Order) (names : List (List ℕ)) → map (λ (r : PlainResource). r.name) (resource_plans orders names) ≡ names
+  plan_names orders [] = refl
+  plan_names orders (n ∷ ns) = ap (λ (l : List (List ℕ)). n ∷ l) (plan_names orders ns)
+
+  pub names_are : map (λ (r : PlainResource). r.name) resources ≡ names_in sources system
+  names_are =
+      ap (map (λ (r : PlainResource). r.name)) it.resources_are
+      ∙ plan_names (orders_of sources system (applications_in (tree_at sources system)) (names_in sources system) flat (homes_in sources system flat)) (names_in sources system)
+
+  ordered_at : (r : List ℕ) → Contains (names_in sources system) r → IsInOrder (map (λ (r : PlainResource). r.name) resources) (record { name = r; commands = commands sources system flat r })
+  ordered_at r c = record {
+    blocks = map (λ (l : Line). l.command) (makes sources system flat r);
+    parameters = map (λ (l : Line). l.command) (writes sources system flat r);
+    links = map link_command (joins sources system flat r);
+    starts = starts sources system flat r;
+    commands = parts sources system flat r;
+    make_blocks = all_made sources system flat r;
+    set_parameters = all_set sources system flat r;
+    make_links = all_joined sources system flat r;
+    is_started = started sources system flat r c;
+    start_it = start_is sources system flat r;
+    one_start = λ once. ap (map start_text) (once_kept r (names_in sources system) c (subst (λ (l : List (List ℕ)). StandsOnce l r) names_are once));
+  }
+
+  pub ordered : (entry : PlainResource) → Contains resources entry → IsInOrder (map (λ (r : PlainResource). r.name) resources) entry
+  ordered entry c = let e = entry_of entry c in subst (λ (w : PlainResource). IsInOrder (map (λ (r : PlainResource). r.name) resources) w) e.is (ordered_at e.name e.listed)
+
+pub blocks_made : BlocksAreMadeAtHome
+blocks_made sources system flat cuts resources p entry c = made sources system flat cuts resources p entry c
+
+pub parameters_set : ParametersAreSetAtHome
+parameters_set sources system flat cuts resources p entry c = set sources system flat cuts resources p entry c
+
+pub links_made : LinksAreMadeAtHome
+links_made sources system flat cuts resources p entry c = joined sources system flat cuts resources p entry c
+
+pub in_order_of : CommandsAreInOrder
+in_order_of sources system flat cuts resources p entry c = ordered sources system flat cuts resources p entry c
+
+pub resources_have : ResourcesHaveTheirCommands
+resources_have sources system flat cuts resources p s e = names_are sources system flat cuts resources p ∙ ap (λ (o : Option DeclTree). resources_of (devices_in o)) e

@@ -1,0 +1,65 @@
+-- The cut links are those between blocks with different homes.
+use Rattle.std.proofs.Common.{ℕ, ◌≡◌, ◌≢◌, Bool, true, false, not, List, Option, refl, sym, ◌∙◌, ap, subst}
+use Rattle.std.specs.Prelude.{Contains}
+use Rattle.std.specs.List.Sorted.{IsStrictlySortedBy}
+use Rattle.std.specs.Str.{bytes_eq}
+use Rattle.std.proofs.lemmas.Bool.{false≢true}
+use Rattle.std.proofs.lemmas.List.Kept.{IsStrictlySortedBy-filter}
+use Rattle.fb_text.proofs.Members.{contains_filter, passes_in_filter}
+use Rattle.fb_deploy.specs.Library.View.{Sources}
+use Rattle.fb_wiring.specs.Network.LinkOrder.{link_cmp}
+use Rattle.fb_wiring.specs.Network.declared.flat.Link.{Link}
+use Rattle.fb_wiring.specs.Network.PlainFlat.{PlainFlat}
+use Rattle.fb_placing.specs.Cuts.{home_at, is_cut, same_home}
+use Rattle.fb_placing.specs.PlainResource.{PlainResource}
+use Rattle.fb_laws.proofs.HomeLemmas.{bytes_same, same_bytes, some_home}
+use Rattle.fb_laws.proofs.PlannedLemmas.{Known, home_there, homes_in, known, links_sorted, mapped, stands}
+use Rattle.fb_laws.proofs.PlanEnds.{net_fronts}
+use Rattle.fb_laws.specs.Planned.{IsPlanned}
+use Rattle.fb_laws.specs.Plans.{CutsJoinResources, JoinsResources}
+
+module _ (sources : Sources) (system : List ℕ) (flat : PlainFlat) (cuts : List Link) (resources : List PlainResource) (p : IsPlanned sources system flat cuts resources) where
+  abbrev it : Known sources system flat cuts resources
+  it = known sources system flat cuts resources p
+
+  abbrev homes : List ℕ → Option (List ℕ)
+  homes = home_at (homes_in sources system flat)
+
+  pub joins_two : (link : Link) → Contains cuts link → Contains flat.links link × JoinsResources sources system flat link
+  joins_two link c =
+      let kept = passes_in_filter (is_cut homes) flat.links link (subst (λ (l : List Link). Contains l link) it.cuts_are c) in
+      let fronts = net_fronts sources system flat p.is_flat link kept.among in
+      let from = some_home (mapped sources system) flat.blocks it.homes link.from fronts.0.block fronts.0.listed fronts.0.front in
+      let to = some_home (mapped sources system) flat.blocks it.homes link.to fronts.1.block fronts.1.listed fronts.1.front in (
+        kept.among,
+        record {
+          from_home = from.0;
+          to_home = to.0;
+          from = stands sources system flat it.homes link.from from.0 from.1;
+          to = stands sources system flat it.homes link.to to.0 to.1;
+          differ = λ e. false≢true (sym ((λ i. not (same_home (from.1 i) (to.1 i))) ∙ ap not (bytes_same from.0 to.0 e)) ∙ kept.passes);
+        },
+      )
+
+  other_bytes : (a b : List ℕ) → a ≢ b → bytes_eq a b ≡ false
+  other_bytes a b differ = by (bytes_eq a b) refl
+    where
+      by : (t : Bool) → bytes_eq a b ≡ t → t ≡ false
+      by true e = absurd (differ (same_bytes a b e))
+      by false e = refl
+
+  pub cuts_two : (link : Link) → Contains flat.links link × JoinsResources sources system flat link → Contains cuts link
+  cuts_two link (c, j) =
+      let from = home_there sources system flat it.homes link.from j.from_home j.from in
+      let to = home_there sources system flat it.homes link.to j.to_home j.to in
+      let cut : is_cut homes link ≡ true = (λ i. not (same_home (from i) (to i))) ∙ ap not (other_bytes j.from_home j.to_home j.differ) in
+      subst (λ (l : List Link). Contains l link) (sym it.cuts_are) (contains_filter (is_cut homes) flat.links link c cut)
+
+  pub cuts_sorted : IsStrictlySortedBy link_cmp cuts
+  cuts_sorted = subst (λ (l : List Link). IsStrictlySortedBy link_cmp l) (sym it.cuts_are) (IsStrictlySortedBy-filter link_cmp (is_cut homes) flat.links (links_sorted sources system flat p.is_flat))
+
+pub cuts_join : CutsJoinResources
+cuts_join sources system flat cuts resources p = record {
+  members = λ link. (joins_two sources system flat cuts resources p link, cuts_two sources system flat cuts resources p link);
+  in_order = cuts_sorted sources system flat cuts resources p;
+}

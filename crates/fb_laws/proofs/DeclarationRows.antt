@@ -1,0 +1,274 @@
+-- Each code of declarations, by what its list of faults has.
+use Rattle.std.proofs.Common.{◌≡◌, ◌≢◌, ℕ, ◌+◌, Bool, true, false, not, ◌&&◌, List, [], ◌∷◌, take, Option, Some, None, refl, sym, ap, ◌∙◌, subst, true≢false, arith}
+use Rattle.std.specs.List.{Contains, enumerate_from, filter, slice_get}
+use Rattle.std.specs.Option.{option_map_or}
+use Rattle.fb_text.proofs.Tests.{not_true}
+use Rattle.fb_text.specs.declared.token.Span.{Span}
+use Rattle.fb_text.specs.declared.name.NameUse.{NameUse}
+use Rattle.fb_tree.specs.Mentions.{unit_kind_of}
+use Rattle.fb_tree.specs.Tree.{ConstantTree, DeclTree, InstanceTree, TypeTree, block_type, adapter_type, one_value, value_list}
+use Rattle.fb_tree.specs.declared.constant.Simple.{Simple}
+use Rattle.fb_tree.specs.declared.interface.Side.{Side}
+use Rattle.fb_tree.specs.declared.interface.TypeForm.{TypeForm}
+use Rattle.fb_tree.specs.declared.interface.TypeForm.TheVariants as forms
+use Rattle.fb_tree.specs.declared.interface.TypeUse.{TypeUse}
+use Rattle.fb_deploy.specs.Library.View.{Sources, tree_at, type_in}
+use Rattle.fb_deploy.specs.Iface.declared.code.Code.{Code}
+use Rattle.fb_deploy.specs.Iface.declared.code.Code.TheVariants.{Duplicate, Literal, MixedKind, NameDiffers, UnknownType, WithUnknown, WrongKind}
+use Rattle.fb_deploy.specs.Iface.declared.fault.Fault.{Fault}
+use Rattle.fb_deploy.specs.Iface.declared.ports.DeclaredVariable.{DeclaredVariable}
+use Rattle.fb_deploy.specs.Iface.Class.{class_of_name, class_of_simple, class_of_type, is_free, takes}
+use Rattle.fb_deploy.specs.Iface.Declarations.{declaration_faults, declared_name, duplicate_faults, iface_faults_of, literal_faults_of, mixed_faults, name_faults, space_duplicates, with_faults_of}
+use Rattle.fb_deploy.specs.Iface.Fault.{fault_at}
+use Rattle.fb_deploy.specs.Iface.Literals.{constant_faults, fits_alone, initial_faults, list_faults, literal_fault, literal_faults, simple_span}
+use Rattle.fb_deploy.specs.Iface.Names.{has_name, is_repeated, is_same, repeated, stands_for}
+use Rattle.fb_deploy.specs.Iface.Ports.{variables_in}
+use Rattle.fb_laws.specs.Declarations.{DuplicatesAreReported, HasDuplicate, HasMisfit, HasMixedKind, HasOtherName, HasUnknownType, HasUnknownWith, HasWrongKind, IsDeclaredAt, IsMisfit, MisfitsAreReported, MixedKindsAreReported, OtherNamesAreReported, UnknownTypesAreReported, UnknownWithsAreReported, WrongKindsAreReported, alone, element, no_array, no_list}
+use Rattle.fb_deploy.specs.Iface.Sides.{goes_with}
+use Rattle.fb_deploy.specs.Iface.Spaces.{spaces_of}
+use Rattle.fb_deploy.specs.Iface.Types.{instance_faults, instances_of, suits, type_fault, type_faults}
+use Rattle.fb_deploy.specs.Iface.Withs.{carries, event_withs, with_faults}
+use Rattle.fb_text.proofs.Members.{contains_filter, contains_flat_map, contains_here, contains_map, contains_nothing, contains_single, origin_in_flat_map, origin_in_map, in_unless, in_written, passes_in_filter, unless, written}
+use Rattle.fb_deploy.proofs.Iface.EarlierLemmas.{IsEarlier, earlier_name, in_places}
+use Rattle.fb_deploy.proofs.Iface.DuplicateLemmas.{duplicate_reported}
+use Rattle.fb_deploy.proofs.Iface.NameLemmas.{same_exact, same_itself}
+use Rattle.fb_laws.proofs.Joined.{of_either, in_joined, in_where, is_false, where_passes}
+
+-- what is so where a unit has a fault of this code
+abbrev pub Has : Code → Sources → List ℕ → Span → Type 0
+Has NameDiffers = HasOtherName
+Has Duplicate = HasDuplicate
+Has MixedKind = HasMixedKind
+Has UnknownType = HasUnknownType
+Has WrongKind = HasWrongKind
+Has WithUnknown = HasUnknownWith
+Has Literal = HasMisfit
+Has code = λ sources unit span. ⊥
+
+-- names behind WITH
+
+withs_by_type : (decl : DeclTree) → with_faults_of decl ≡ option_map_or (λ d. with_faults d.interface) (type_in decl) []
+withs_by_type (block_type d) = refl
+withs_by_type decl = refl
+
+literals_by_type : (decl : DeclTree) → literal_faults_of decl ≡ option_map_or (λ d. literal_faults d.interface) (type_in decl) []
+literals_by_type (block_type d) = refl
+literals_by_type decl = refl
+
+no_data_where : (side : Side) (o : Option DeclaredVariable) → carries side o ≡ false → (v : DeclaredVariable) → o ≡ Some v → goes_with side v.section ≡ false
+no_data_where side o e v is = sym (ap (carries side) is) ∙ e
+
+uncarried_where : (side : Side) (o : Option DeclaredVariable) → ((v : DeclaredVariable) → o ≡ Some v → goes_with side v.section ≡ false) → carries side o ≡ false
+uncarried_where side None fails = refl
+uncarried_where side (Some v) fails = fails v refl
+
+-- constants
+
+abbrev is_array : TypeForm → Bool
+is_array forms.Array = true
+is_array form = false
+
+no_array_form : (form : TypeForm) → is_array form ≡ false → form ≢ forms.Array
+no_array_form form e is = true≢false (sym (ap is_array is) ∙ e)
+
+literal_at : (v : Simple) (f : Fault) → literal_fault (simple_span v) ≡ f → simple_span v ≡ f.span
+literal_at v f e = ap (λ (g : Fault). g.span) e
+
+-- where a constant doesn't fit
+pub misfit_origin : (used : TypeUse) (constant : ConstantTree) (f : Fault) → Contains (constant_faults used constant) f → (f.code ≡ Literal) × IsMisfit used constant f.span
+misfit_origin used (one_value v) f c = by used.form refl (in_unless (fits_alone used.form (class_of_type used) (class_of_simple v)) (literal_fault (simple_span v)) f c)
+  where
+    there : (form : TypeForm) → used.form ≡ form → fits_alone form (class_of_type used) (class_of_simple v) ≡ false → IsMisfit used (one_value v) (simple_span v)
+    there forms.Plain e fails = alone (no_array_form used.form (ap is_array e)) fails
+    there forms.Sized e fails = alone (no_array_form used.form (ap is_array e)) fails
+    there forms.Array e fails = no_list e fails
+
+    by : (form : TypeForm) → used.form ≡ form → (fits_alone used.form (class_of_type used) (class_of_simple v) ≡ false) × (literal_fault (simple_span v) ≡ f) → (f.code ≡ Literal) × IsMisfit used (one_value v) f.span
+    by form e fails =
+        (sym (ap (λ (g : Fault). g.code) fails.1), subst (λ (s : Span). IsMisfit used (one_value v) s) (literal_at v f fails.1) (there form e (ap (λ k. fits_alone k (class_of_type used) (class_of_simple v)) (sym e) ∙ fails.0)))
+misfit_origin used (value_list values span) f c = by used.form refl c
+  where
+    whole : (form : TypeForm) → used.form ≡ form → is_array form ≡ false → (is_free (class_of_type used) ≡ false) × (literal_fault span ≡ f) → (f.code ≡ Literal) × IsMisfit used (value_list values span) f.span
+    whole form e other fails =
+        (sym (ap (λ (g : Fault). g.code) fails.1), subst (λ (s : Span). IsMisfit used (value_list values span) s) (ap (λ (g : Fault). g.span) fails.1) (no_array (no_array_form used.form (ap is_array e ∙ other)) fails.0))
+
+    by : (form : TypeForm) → used.form ≡ form → Contains (list_faults form used values span) f → (f.code ≡ Literal) × IsMisfit used (value_list values span) f.span
+    by forms.Plain e h = whole forms.Plain e refl (in_unless (is_free (class_of_type used)) (literal_fault span) f h)
+    by forms.Sized e h = whole forms.Sized e refl (in_unless (is_free (class_of_type used)) (literal_fault span) f h)
+    by forms.Array e h =
+        let class = class_of_name used.name.name in
+        let n = origin_in_map (λ (v : Simple). literal_fault (simple_span v)) (filter (λ v. not (takes class (class_of_simple v))) values) f h in
+        let p = passes_in_filter (λ (v : Simple). not (takes class (class_of_simple v))) values n.origin n.among in
+        (sym (ap (λ (g : Fault). g.code) n.gives), subst (λ (s : Span). IsMisfit used (value_list values span) s) (literal_at n.origin f n.gives) (element e p.among (not_true (takes class (class_of_simple n.origin)) p.passes)))
+
+pub misfit_reported : (used : TypeUse) (constant : ConstantTree) (span : Span) → IsMisfit used constant span → Contains (constant_faults used constant) (literal_fault span)
+misfit_reported used (one_value v) span (alone other fails) = by used.form other refl
+  where
+    by : (form : TypeForm) → form ≢ forms.Array → used.form ≡ form → Contains (constant_faults used (one_value v)) (literal_fault (simple_span v))
+    by forms.Array not_so e = absurd (not_so refl)
+    by forms.Plain not_so e = unless (fits_alone used.form (class_of_type used) (class_of_simple v)) (literal_fault (simple_span v)) (ap (λ k. fits_alone k (class_of_type used) (class_of_simple v)) e ∙ fails)
+    by forms.Sized not_so e = unless (fits_alone used.form (class_of_type used) (class_of_simple v)) (literal_fault (simple_span v)) (ap (λ k. fits_alone k (class_of_type used) (class_of_simple v)) e ∙ fails)
+misfit_reported used (one_value v) span (no_list e fails) =
+    unless (fits_alone used.form (class_of_type used) (class_of_simple v)) (literal_fault (simple_span v)) (ap (λ k. fits_alone k (class_of_type used) (class_of_simple v)) e ∙ fails)
+misfit_reported used (value_list values s) span (element {v = v} e among fails) =
+    let class = class_of_name used.name.name in
+    let one = contains_map (λ (v : Simple). literal_fault (simple_span v)) (filter (λ v. not (takes class (class_of_simple v))) values) v (contains_filter (λ (v : Simple). not (takes class (class_of_simple v))) values v among (ap not fails)) in
+    subst (λ (k : TypeForm). Contains (list_faults k used values s) (literal_fault (simple_span v))) (sym e) one
+misfit_reported used (value_list values s) span (no_array other fails) = by used.form other
+  where
+    by : (form : TypeForm) → form ≢ forms.Array → Contains (list_faults form used values s) (literal_fault s)
+    by forms.Array not_so = absurd (not_so refl)
+    by forms.Plain not_so = unless (is_free (class_of_type used)) (literal_fault s) fails
+    by forms.Sized not_so = unless (is_free (class_of_type used)) (literal_fault s) fails
+
+-- the faults of a declaration, list by list
+
+module _ (sources : Sources) (unit : List ℕ) where
+  abbrev Finds : Fault → Type 0
+  Finds f = Has f.code sources unit f.span
+
+  mixed_found : (decl : DeclTree) → IsDeclaredAt sources unit decl → (f : Fault) → Contains (mixed_faults decl) f → Finds f
+  mixed_found (block_type d) declared f c =
+      let both = in_where (d.chart.is_written && d.network.is_written) (fault_at MixedKind d.name) f c in
+      by d.chart.is_written d.network.is_written refl refl both.0 both.1
+    where
+      by : (a b : Bool) → d.chart.is_written ≡ a → d.network.is_written ≡ b → (a && b) ≡ true → fault_at MixedKind d.name ≡ f → Finds f
+      by true true s n e is = subst Finds is (record { block = d; declared = declared; has_states = s; has_network = n; place = refl })
+      by true false s n e is = absurd (true≢false (sym e))
+      by false b s n e is = absurd (true≢false (sym e))
+  mixed_found (adapter_type d) declared f c = absurd (contains_nothing f c)
+  mixed_found decl declared f c = absurd (contains_nothing f c)
+
+  module _ (decl : DeclTree) (declared : IsDeclaredAt sources unit decl) where
+    name_found : (f : Fault) → Contains (name_faults unit decl) f → Finds f
+    name_found f c =
+        let differs = in_unless (is_same (declared_name decl).name unit) (fault_at NameDiffers (declared_name decl)) f c in
+        subst Finds differs.1 (record { decl = decl; declared = declared; differs = λ same. true≢false (sym (same_itself (declared_name decl).name unit same) ∙ differs.0); place = refl })
+
+    duplicate_found : (f : Fault) → Contains (duplicate_faults decl) f → Finds f
+    duplicate_found f c =
+        let s = origin_in_flat_map space_duplicates (spaces_of decl) f c in
+        let n = origin_in_map (fault_at Duplicate) (repeated s.origin) f s.has in
+        let p = origin_in_map (λ (placed : ℕ × NameUse). placed.1) (filter (is_repeated s.origin) (enumerate_from 0 s.origin)) n.origin n.among in
+        let r = passes_in_filter (is_repeated s.origin) (enumerate_from 0 s.origin) p.origin p.among in
+        let j = in_places 0 s.origin p.origin r.among in
+        let number : p.origin.0 ≡ j.0 = j.1 ∙ (let e : 0 + j.0 ≡ j.0 = omega arith in e) in
+        let again : has_name (take j.0 s.origin) p.origin.1.name ≡ true = ap (λ k. has_name (take k s.origin) p.origin.1.name) (sym number) ∙ r.passes in
+        let before = earlier_name s.origin j.0 p.origin.1.name again in
+        subst Finds (ap (fault_at Duplicate) p.gives ∙ n.gives)
+        (record { decl = decl; declared = declared; space = s.origin; among = s.among; earlier = before.earlier; later = j.0; before = before.before; first = before.first; again = p.origin.1; first_at = before.first_at; again_at = j.2; same = before.same; place = refl })
+
+    type_found : (f : Fault) → Contains (type_faults sources decl) f → Finds f
+    type_found f c = let i = origin_in_flat_map (instance_faults sources) (instances_of decl) f c in by i.origin i.among (tree_at sources i.origin.type_name.name) refl i.has
+      where
+        by : (i : InstanceTree) → Contains (instances_of decl) i → (type : Option DeclTree) → tree_at sources i.type_name.name ≡ type → Contains (type_fault i.role i.type_name type) f → Finds f
+        by i among None e h =
+            subst Finds (contains_single (fault_at UnknownType i.type_name) f h) (record { decl = decl; declared = declared; instance = i; among = among; unknown = e; place = refl })
+        by i among (Some type) e h =
+            let fails = in_unless (suits i.role (unit_kind_of type)) (fault_at WrongKind i.type_name) f h in
+            subst Finds fails.1 (record { decl = decl; declared = declared; instance = i; among = among; type = type; known = e; unsuited = fails.0; place = refl })
+
+    with_found : (f : Fault) → Contains (with_faults_of decl) f → Finds f
+    with_found f c =
+        let t = in_written (λ (d : TypeTree). with_faults d.interface) (type_in decl) f (subst (λ (l : List Fault). Contains l f) (withs_by_type decl) c) in
+        let variable = stands_for (variables_in t.item.interface) in
+        let e = origin_in_flat_map (event_withs variable) t.item.interface.events f t.has in
+        let n = origin_in_map (fault_at WithUnknown) (filter (λ w. not (carries e.origin.side (variable w.name))) e.origin.with) f e.has in
+        let p = passes_in_filter (λ w. not (carries e.origin.side (variable w.name))) e.origin.with n.origin n.among in
+        let none = no_data_where e.origin.side (variable n.origin.name) (not_true (carries e.origin.side (variable n.origin.name)) p.passes) in
+        subst Finds n.gives
+        (record { decl = decl; declared = declared; type = t.item; is_type = t.is; event = e.origin; among = e.among; name = n.origin; behind = p.among; no_data = none; place = refl })
+
+    literal_found : (f : Fault) → Contains (literal_faults_of decl) f → Finds f
+    literal_found f c =
+        let t = in_written (λ (d : TypeTree). literal_faults d.interface) (type_in decl) f (subst (λ (l : List Fault). Contains l f) (literals_by_type decl) c) in
+        let v = origin_in_flat_map initial_faults t.item.interface.variables f t.has in
+        let w = in_written (constant_faults v.origin.type_use) v.origin.initial f v.has in
+        let m = misfit_origin v.origin.type_use w.item f w.has in
+        subst (λ (code : Code). Has code sources unit f.span) (sym m.0)
+        (record { decl = decl; declared = declared; type = t.item; is_type = t.is; variables = v.origin; among = v.among; initial = w.item; written = w.is; misfit = m.1 })
+
+    declared_found : (f : Fault) → Contains (declaration_faults sources unit (Some decl)) f → Finds f
+    declared_found = of_either _ _ (of_either _ _ (of_either _ _ (of_either _ _ (of_either _ _ name_found duplicate_found) (mixed_found decl declared)) type_found) with_found) literal_found
+
+    -- and the other way, a fault of the list at this place
+    reported : {code : Code} {span there : Span} (place : ℕ) (list : List Fault) → slice_get (name_faults unit decl ∷ duplicate_faults decl ∷ mixed_faults decl ∷ type_faults sources decl ∷ with_faults_of decl ∷ literal_faults_of decl ∷ []) place ≡ Some list → span ≡ there → Contains list (record { code = code; span = there }) → Contains (iface_faults_of sources unit) (record { code = code; span = span })
+    reported {code = code} {span = span} place list e at c =
+        let others = duplicate_faults decl ∷ mixed_faults decl ∷ type_faults sources decl ∷ with_faults_of decl ∷ literal_faults_of decl ∷ [] in
+        let one = subst (λ (s : Span). Contains list (record { code = code; span = s })) (sym at) c in
+        subst (λ (o : Option DeclTree). Contains (declaration_faults sources unit o) (record { code = code; span = span })) (sym declared) (in_joined (name_faults unit decl) others place list (record { code = code; span = span }) e one)
+
+  -- a fault says what its code means
+  pub found : (f : Fault) → Contains (iface_faults_of sources unit) f → Finds f
+  found f c = by (tree_at sources unit) refl c
+    where
+      by : (o : Option DeclTree) → tree_at sources unit ≡ o → Contains (declaration_faults sources unit o) f → Finds f
+      by None e h = absurd (contains_nothing f h)
+      by (Some decl) e h = declared_found decl e f h
+
+pub other_names : OtherNamesAreReported
+other_names sources unit span = (found sources unit _, from)
+  where
+    from : HasOtherName sources unit span → Contains (iface_faults_of sources unit) (record { code = NameDiffers; span = span })
+    from h =
+        let fails = is_false (is_same (declared_name h.decl).name unit) (λ e. h.differs (same_exact (declared_name h.decl).name unit e)) in
+        reported sources unit h.decl h.declared 0 (name_faults unit h.decl) refl h.place (unless (is_same (declared_name h.decl).name unit) (fault_at NameDiffers (declared_name h.decl)) fails)
+
+pub duplicates : DuplicatesAreReported
+duplicates sources unit span = (found sources unit _, from)
+  where
+    from : HasDuplicate sources unit span → Contains (iface_faults_of sources unit) (record { code = Duplicate; span = span })
+    from h =
+        let before : IsEarlier h.space h.later h.again.name = record { earlier = h.earlier; before = h.before; first = h.first; first_at = h.first_at; same = h.same } in
+        reported sources unit h.decl h.declared 1 (duplicate_faults h.decl) refl h.place (duplicate_reported h.decl h.space h.later h.again h.among h.again_at before)
+
+pub mixed_kinds : MixedKindsAreReported
+mixed_kinds sources unit span = (found sources unit _, from)
+  where
+    from : HasMixedKind sources unit span → Contains (iface_faults_of sources unit) (record { code = MixedKind; span = span })
+    from h =
+        let both : (h.block.chart.is_written && h.block.network.is_written) ≡ true = λ i. h.has_states i && h.has_network i in
+        reported sources unit (block_type h.block) h.declared 2 (mixed_faults (block_type h.block)) refl h.place (where_passes (h.block.chart.is_written && h.block.network.is_written) (fault_at MixedKind h.block.name) both)
+
+-- a fault of the type of an instance
+in_types : (sources : Sources) (decl : DeclTree) (i : InstanceTree) (type : Option DeclTree) (f : Fault) → Contains (instances_of decl) i → tree_at sources i.type_name.name ≡ type → Contains (type_fault i.role i.type_name type) f → Contains (type_faults sources decl) f
+in_types sources decl i type f among e c =
+    contains_flat_map (instance_faults sources) (instances_of decl) i f among
+    (subst (λ (o : Option DeclTree). Contains (type_fault i.role i.type_name o) f) (sym e) c)
+
+pub unknown_types : UnknownTypesAreReported
+unknown_types sources unit span = (found sources unit _, from)
+  where
+    from : HasUnknownType sources unit span → Contains (iface_faults_of sources unit) (record { code = UnknownType; span = span })
+    from h =
+        reported sources unit h.decl h.declared 3 (type_faults sources h.decl) refl h.place (in_types sources h.decl h.instance None (fault_at UnknownType h.instance.type_name) h.among h.unknown (contains_here (fault_at UnknownType h.instance.type_name) []))
+
+pub wrong_kinds : WrongKindsAreReported
+wrong_kinds sources unit span = (found sources unit _, from)
+  where
+    from : HasWrongKind sources unit span → Contains (iface_faults_of sources unit) (record { code = WrongKind; span = span })
+    from h =
+        reported sources unit h.decl h.declared 3 (type_faults sources h.decl) refl h.place (in_types sources h.decl h.instance (Some h.type) (fault_at WrongKind h.instance.type_name) h.among h.known (unless (suits h.instance.role (unit_kind_of h.type)) (fault_at WrongKind h.instance.type_name) h.unsuited))
+
+pub unknown_withs : UnknownWithsAreReported
+unknown_withs sources unit span = (found sources unit _, from)
+  where
+    from : HasUnknownWith sources unit span → Contains (iface_faults_of sources unit) (record { code = WithUnknown; span = span })
+    from h =
+        let variable = stands_for (variables_in h.type.interface) in
+        let uncarried = λ (w : NameUse). not (carries h.event.side (variable w.name)) in
+        let fails = ap not (uncarried_where h.event.side (variable h.name.name) h.no_data) in
+        let one = contains_map (fault_at WithUnknown) (filter uncarried h.event.with) h.name (contains_filter uncarried h.event.with h.name h.behind fails) in
+        let listed = contains_flat_map (event_withs variable) h.type.interface.events h.event (fault_at WithUnknown h.name) h.among one in
+        reported sources unit h.decl h.declared 4 (with_faults_of h.decl) refl h.place
+        (subst (λ (l : List Fault). Contains l (fault_at WithUnknown h.name)) (sym (withs_by_type h.decl)) (written (λ (d : TypeTree). with_faults d.interface) (type_in h.decl) h.type (fault_at WithUnknown h.name) h.is_type listed))
+
+pub misfits_reported : MisfitsAreReported
+misfits_reported sources unit span = (found sources unit _, from)
+  where
+    from : HasMisfit sources unit span → Contains (iface_faults_of sources unit) (record { code = Literal; span = span })
+    from h =
+        let one = written (constant_faults h.variables.type_use) h.variables.initial h.initial (literal_fault span) h.written (misfit_reported h.variables.type_use h.initial span h.misfit) in
+        let listed = contains_flat_map initial_faults h.type.interface.variables h.variables (literal_fault span) h.among one in
+        reported sources unit h.decl h.declared 5 (literal_faults_of h.decl) refl refl
+        (subst (λ (l : List Fault). Contains l (literal_fault span)) (sym (literals_by_type h.decl)) (written (λ (d : TypeTree). literal_faults d.interface) (type_in h.decl) h.type (literal_fault span) h.is_type listed))

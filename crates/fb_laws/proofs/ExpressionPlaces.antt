@@ -1,0 +1,48 @@
+-- The place of each expression, by the function of the check.
+use Rattle.std.proofs.Common.{◌≡◌, refl, sym, ap, ◌∙◌, subst}
+use Rattle.fb_text.specs.declared.token.Span.{Span}
+use Rattle.fb_tree.specs.Expression.{Expression, literal_expression, reference_expression, unary_expression, row_expression, parentheses, Operands, no_operands, operand_then}
+use Rattle.fb_tree.specs.declared.expression.BinaryUse.{BinaryUse}
+use Rattle.fb_expr.specs.Spans.{across, span_of, span_through}
+use Rattle.fb_laws.specs.Places.{IsLast, only, later, StandsAt, literal, reference, operator, row, no_row, enclosed}
+
+-- the last of these operands, where there is one
+data Ending : Operands → Type 0 where
+  no_end : Ending no_operands
+  ending : {operands : Operands} (x : Expression) (s : Span) → IsLast x operands → StandsAt x s → ((a : Span) → span_through a operands ≡ across a s) → Ending operands
+
+one_more : (used : BinaryUse) (x : Expression) (others : Operands) → StandsAt x (span_of x) → Ending others → Ending (operand_then used x others)
+one_more used x no_operands here no_end = ending x (span_of x) only here (λ a. refl)
+one_more used x others here (ending y s last there whole) = ending y s (later last) there (λ a. whole (across a (span_of x)))
+
+of_row : (first : Expression) (operands : Operands) → StandsAt first (span_of first) → Ending operands → StandsAt (row_expression first operands) (span_through (span_of first) operands)
+of_row first no_operands here no_end = no_row here
+of_row first operands here (ending x s last there whole) = subst (StandsAt (row_expression first operands)) (sym (whole (span_of first))) (row x (span_of first) s here last there)
+
+mutual
+  pub stands : (e : Expression) → StandsAt e (span_of e)
+  stands (literal_expression l) = literal
+  stands (reference_expression r subscripts) = reference
+  stands (unary_expression used x) = operator (span_of x) (stands x)
+  stands (row_expression first operands) = of_row first operands (stands first) (ends operands)
+  stands (parentheses x span) = enclosed
+
+  ends : (operands : Operands) → Ending operands
+  ends no_operands = no_end
+  ends (operand_then used x others) = one_more used x others (stands x) (ends others)
+
+-- and no other
+
+told_end : (a : Span) (x : Expression) (operands : Operands) → IsLast x operands → span_through a operands ≡ across a (span_of x)
+told_end a x no_operands none = elim none [ ]
+told_end a x (operand_then used y no_operands) only = refl
+told_end a x (operand_then used y others) (later last) = told_end (across a (span_of y)) x others last
+
+pub told_stands : (e : Expression) (s : Span) → StandsAt e s → span_of e ≡ s
+told_stands (literal_expression l) s literal = refl
+told_stands (reference_expression r subscripts) s reference = refl
+told_stands (unary_expression used x) s (operator t there) = ap (across used.span) (told_stands x t there)
+told_stands (row_expression first operands) s (row x a b here last there) =
+    ap (λ k. span_through k operands) (told_stands first a here) ∙ told_end a x operands last ∙ ap (across a) (told_stands x b there)
+told_stands (row_expression first no_operands) s (no_row here) = told_stands first s here
+told_stands (parentheses x span) s enclosed = refl

@@ -1,0 +1,327 @@
+-- The parts of expressions, at each level.
+use Rattle.std.proofs.Common.{◌≡◌, ℕ, ◌≤◌, arith, zero, suc, true, inl, inr, List, [], ◌∷◌, ◌++◌, Option, Some, None, refl, sym, ap, ◌∙◌, subst, append_assoc}
+use Rattle.std.specs.List.{flat_map}
+use Rattle.std.proofs.lemmas.List.{append-nil}
+use Rattle.fb_text.specs.declared.name.NameUse.{NameUse}
+use Rattle.fb_text.specs.declared.token.Span.{Span}
+use Rattle.fb_structured_text.specs.Forms.Form.{Form, both, either, many, as_value, Spells, SpellsOption, SpellsEach}
+use Rattle.fb_structured_text.specs.Forms.Literals.{across, literal_kinds}
+use Rattle.fb_structured_text.specs.Forms.Words.{key, name}
+use Rattle.fb_structured_text.specs.Forms.Kind.{is_among}
+use Rattle.fb_structured_text.specs.Forms.declared.kind.Kind.{Kind}
+use Rattle.fb_structured_text.specs.Forms.declared.lexeme.Lexeme.{Lexeme}
+use Rattle.fb_tree.specs.Expression.{ReferenceTree, Expression, reference_expression, unary_expression, Expressions, expressions_of, operands_of}
+use Rattle.fb_tree.specs.declared.expression.BinaryUse.{BinaryUse}
+use Rattle.fb_tree.specs.declared.expression.UnaryUse.{UnaryUse}
+use Rattle.fb_structured_text.specs.Operators.{signs, strengths, unary_use, binary_use}
+use Rattle.fb_structured_text.specs.Expression.{levels, expression, variable_of, member_name, variable, expressions, subscripts, plain, subscripted, flat_reference, deep_reference, reference_value, literal, in_parentheses, parenthesized, flat_primary, deep_primary, with_sign, unary, row_of, operand, row, rows, reference}
+use Rattle.fb_laws.specs.SpanParts.{Part, expression_part, sign_part, operator_part, name_parts, option_parts, reference_parts, expression_parts, expressions_parts, operands_parts}
+use Rattle.fb_laws.specs.Written.{expression_span, span_through, SpellsPart, EndsAt, IsWritten, sign, operator}
+use Rattle.fb_laws.proofs.Tokens.{Fills, begins_more, ends_more, written_whole, Each, each_append, each_front, each_rest, each_left, each_right}
+use Rattle.fb_laws.proofs.Filling.{Filled, filled_as, filled_either, filled_token, filled_name, Ends, ends_filled, ends_second, ends_behind, filled_across, filled_more, filled_from}
+use Rattle.fb_laws.proofs.Sound.{Sound, sound_nothing, sound_both, sound_first, sound_second, sound_as, sound_either, sound_option, sound_many, sound_behind, sound_separated, sound_own, sound_same, sound_name, each_none, among_more, among_right}
+
+-- Lists
+
+each_expressions : (P : Part → Type 0) (es : List Expression) → Each P (flat_map expression_parts es) → Each P (expressions_parts (expressions_of es))
+each_expressions P [] h = tt
+each_expressions P (e ∷ es) h =
+    let first = expression_parts e in
+    let others = flat_map expression_parts es in
+    each_append P first (expressions_parts (expressions_of es)) (each_front P first others h) (each_expressions P es (each_rest P first others h))
+
+abbrev operand_parts : BinaryUse × Expression → List Part
+operand_parts o = operator_part o.0 ∷ expression_parts o.1
+
+each_operands : (P : Part → Type 0) (os : List (BinaryUse × Expression)) → Each P (flat_map operand_parts os) → Each P (operands_parts (operands_of os))
+each_operands P [] h = tt
+each_operands P (o ∷ os) h =
+    let first = operand_parts o in
+    let others = flat_map operand_parts os in
+    each_append P first (operands_parts (operands_of os)) (each_front P first others h) (each_operands P os (each_rest P first others h))
+
+-- References
+
+filled_variable : Filled variable (λ r. r.span)
+unfolding member_name
+filled_variable =
+    filled_as _ _ (λ r. r.span)
+    (filled_more name _ (λ n. n.span) (λ m. m.span) _ (λ n. refl) (λ n m. refl) filled_name (ends_behind _ name (λ m. m.span) (ends_filled name (λ m. m.span) filled_name)))
+
+each_variable : (P : Part → Type 0) (n : NameUse) (member : Option NameUse) → Each P (name_parts n ++ option_parts name_parts member) → Each P (reference_parts (variable_of n member))
+each_variable P n None h = h
+each_variable P n (Some m) h = h
+
+sound_variable : Sound variable reference_parts
+unfolding member_name
+sound_variable =
+    sound_as _ _ reference_parts
+    (sound_same _ (λ v. name_parts v.0 ++ option_parts name_parts v.1) _ (λ P v h. each_variable P v.0 v.1 h)
+    (sound_both name _ name_parts (option_parts name_parts) sound_name (sound_option _ name_parts (sound_behind _ name name_parts sound_name))))
+
+-- a variable with its subscripts
+abbrev subscripted_span : ReferenceTree × Expressions → Span
+subscripted_span r = r.0.span
+
+filled_flat_reference : Filled flat_reference subscripted_span
+unfolding flat_reference
+filled_flat_reference = filled_as plain variable subscripted_span filled_variable
+
+ends_subscripts : (inner : Form Expression) → Ends (subscripts inner) (λ s. s.1.span)
+unfolding subscripts
+ends_subscripts inner = ends_behind _ _ (λ s. s.1.span) (ends_second _ _ (λ l. l.span) (ends_filled _ (λ l. l.span) (filled_token _)))
+
+filled_deep_reference : (inner : Form Expression) → Filled (deep_reference inner) subscripted_span
+unfolding deep_reference
+filled_deep_reference inner =
+    filled_as _ _ subscripted_span
+    (filled_more variable (subscripts inner) (λ r. r.span) (λ s. s.1.span) _ (λ r. refl) (λ r s. refl) filled_variable (ends_subscripts inner))
+
+-- the names and the subscripts
+abbrev subscripted_parts : ReferenceTree × Expressions → List Part
+subscripted_parts r = reference_parts r.0 ++ expressions_parts r.1
+
+sound_flat_reference : Sound flat_reference subscripted_parts
+unfolding flat_reference
+sound_flat_reference = sound_as plain variable subscripted_parts (sound_same variable reference_parts _ (λ P r h. each_none P (reference_parts r) h) sound_variable)
+
+abbrev subscripts_parts : List Expression × Lexeme → List Part
+subscripts_parts s = flat_map expression_parts s.0
+
+each_subscripted : (P : Part → Type 0) (r : ReferenceTree) (s : Option (List Expression × Lexeme)) → Each P (reference_parts r ++ option_parts subscripts_parts s) → Each P (subscripted_parts (subscripted r s))
+each_subscripted P r None h = h
+each_subscripted P r (Some s) h =
+    let values = subscripts_parts s in
+    each_append P (reference_parts r) (expressions_parts (expressions_of s.0)) (each_front P (reference_parts r) values h) (each_expressions P s.0 (each_rest P (reference_parts r) values h))
+
+sound_deep_reference : (inner : Form Expression) → Sound inner expression_parts → Sound (deep_reference inner) subscripted_parts
+unfolding deep_reference subscripts expressions
+sound_deep_reference inner h =
+    sound_as _ _ subscripted_parts
+    (sound_same _ (λ v. reference_parts v.0 ++ option_parts subscripts_parts v.1) _ (λ P v e. each_subscripted P v.0 v.1 e)
+    (sound_both variable _ reference_parts (option_parts subscripts_parts) sound_variable
+    (sound_option _ subscripts_parts (sound_behind _ _ subscripts_parts (sound_first _ _ (flat_map expression_parts) (sound_separated _ inner expression_parts h))))))
+
+-- Forms whose spellings are expressions
+
+pub record IsExpression (x : Form Expression) : Type 0 where
+  pub spells : (us : List Lexeme) (e : Expression) → Spells x us e → SpellsPart us (expression_part e)
+
+-- what is so of a form of expressions, where its spellings are expressions
+pub record Suits (x : Form Expression) : Type 0 where
+  pub filled : Filled x expression_span
+  pub sound : IsExpression x → Sound x expression_parts
+
+is_left : (x y : Form Expression) → IsExpression (either x y) → IsExpression x
+is_left x y h = record { spells = λ us e s. h.spells us e (inl s) }
+
+is_right : (x y : Form Expression) → IsExpression (either x y) → IsExpression y
+is_right x y h = record { spells = λ us e s. h.spells us e (inr s) }
+
+suits_either : (x y : Form Expression) → Suits x → Suits y → Suits (either x y)
+suits_either x y h k = record {
+  filled = filled_either x y expression_span h.filled k.filled;
+  sound = λ is. sound_either x y expression_parts (h.sound (is_left x y is)) (k.sound (is_right x y is));
+}
+
+-- Operands
+
+filled_literal : Filled literal expression_span
+unfolding literal
+filled_literal = filled_as _ _ expression_span (filled_token literal_kinds)
+
+suits_literal : Suits literal
+unfolding literal
+suits_literal = record {
+  filled = filled_literal;
+  sound = λ is. sound_as _ _ expression_parts (sound_own _ (λ l. expression_part _) (λ _. []) (λ us l s. is.spells us _ (l, s, refl)) (filled_token literal_kinds) (sound_nothing _));
+}
+
+sound_reference_value : (x : Form (ReferenceTree × Expressions)) → Filled x subscripted_span → Sound x subscripted_parts → IsExpression (as_value reference_value x) → Sound x (λ r. expression_parts (reference_value r))
+sound_reference_value x filled sound is = sound_own x (λ r. expression_part (reference_value r)) subscripted_parts (λ us r s. is.spells us (reference_value r) (r, s, refl)) filled sound
+
+suits_reference : (x : Form (ReferenceTree × Expressions)) → Filled x subscripted_span → Sound x subscripted_parts → Suits (as_value reference_value x)
+suits_reference x filled sound = record {
+  filled = filled_as reference_value x expression_span filled;
+  sound = λ is. sound_as reference_value x expression_parts (sound_reference_value x filled sound is);
+}
+
+suits_parenthesized : (inner : Form Expression) → Sound inner expression_parts → Suits (parenthesized inner)
+unfolding parenthesized
+suits_parenthesized inner h =
+    let filled = filled_across (key _) (both inner (key _)) (λ l. l.span) (λ v. v.1.span) (filled_token _) (ends_second inner (key _) (λ l. l.span) (ends_filled (key _) (λ l. l.span) (filled_token _))) in
+    record {
+      filled = filled_as in_parentheses _ expression_span filled;
+      sound = λ is.
+          sound_as in_parentheses _ expression_parts
+          (sound_own _ (λ v. expression_part (in_parentheses v)) (λ v. expression_parts v.1.0) (λ us v s. is.spells us (in_parentheses v) (v, s, refl)) filled
+          (sound_second _ _ (λ v. expression_parts v.0) (sound_first inner _ expression_parts h)));
+    }
+
+suits_flat_primary : Suits flat_primary
+unfolding flat_primary
+suits_flat_primary = suits_either literal _ suits_literal (suits_reference flat_reference filled_flat_reference sound_flat_reference)
+
+suits_deep_primary : (inner : Form Expression) → Sound inner expression_parts → Suits (deep_primary inner)
+unfolding deep_primary
+suits_deep_primary inner h =
+    suits_either literal _ suits_literal
+    (suits_either _ (parenthesized inner) (suits_reference (deep_reference inner) (filled_deep_reference inner) (sound_deep_reference inner h)) (suits_parenthesized inner h))
+
+-- Signs
+
+filled_unary : (primary : Form Expression) → Filled primary expression_span → Filled (unary primary) expression_span
+unfolding unary
+filled_unary primary h =
+    filled_as _ _ expression_span
+    (filled_from _ primary (λ operator. operator.span) expression_span _ (λ e. refl) (λ operator e. refl) (filled_as unary_use _ (λ operator. operator.span) (filled_token signs)) h)
+
+sound_sign : Sound sign (λ operator. sign_part operator ∷ [])
+unfolding sign
+sound_sign = sound_own sign sign_part (λ _. []) (λ us operator s. s) (filled_as unary_use _ (λ operator. operator.span) (filled_token signs)) (sound_nothing _)
+
+-- an operand without a sign
+spelled_unary : (primary : Form Expression) (us : List Lexeme) (e : Expression) → Spells primary us e → Spells (unary primary) us e
+unfolding unary
+spelled_unary primary us e s = ((None, e), ([], us, refl, refl, s), refl)
+
+unsigned : (primary : Form Expression) → IsExpression (unary primary) → IsExpression primary
+unsigned primary h = record { spells = λ us e s. h.spells us e (spelled_unary primary us e s) }
+
+module _ (primary : Form Expression) (suits : Suits primary) (is : IsExpression (unary primary)) where
+  written_unary : (us front rest : List Lexeme) (o : Option UnaryUse) (e : Expression) → us ≡ front ++ rest → SpellsOption (Spells sign) front o → Spells primary rest e → Each (IsWritten us) (expression_parts (with_sign o e))
+  unfolding unary sign
+  written_unary us front rest None e eq none s =
+      subst (λ (z : List Lexeme). Each (IsWritten z) (expression_parts e)) (sym eq)
+      (each_right front rest (expression_parts e) ((suits.sound (unsigned primary is)).stands rest e s))
+  written_unary us front rest (Some operator) e eq before s =
+      let whole : Spells (unary primary) us (unary_expression operator e) = ((Some operator, e), (front, rest, eq, before, s), refl) in
+      let inner = each_append (IsWritten (front ++ rest)) (sign_part operator ∷ []) (expression_parts e) (each_left front rest (sign_part operator ∷ []) (sound_sign.stands front operator before)) (each_right front rest (expression_parts e) ((suits.sound (unsigned primary is)).stands rest e s)) in (
+        written_whole us (expression_part (unary_expression operator e)) ((filled_unary primary suits.filled).fills us (unary_expression operator e) whole) (is.spells us (unary_expression operator e) whole),
+        subst (λ (z : List Lexeme). Each (IsWritten z) (sign_part operator ∷ expression_parts e)) (sym eq) inner,
+      )
+
+  sound_unary : Sound (unary primary) expression_parts
+  unfolding unary sign
+  sound_unary = sound_as _ _ expression_parts (record { stands = λ us v s. written_unary us s.0 s.1 v.0 v.1 s.2 s.3 s.4 })
+
+suits_unary : (primary : Form Expression) → Suits primary → Suits (unary primary)
+suits_unary primary h = record { filled = filled_unary primary h.filled; sound = sound_unary primary h }
+
+-- Rows
+
+module _ (kinds : List Kind) (x : Form Expression) (filled : Filled x expression_span) where
+  -- from what stands before operands through the last of them
+  fills_operands : (front rest : List Lexeme) (s : Span) (os : List (BinaryUse × Expression)) → Fills front s → SpellsEach (Spells (operand kinds x)) rest os → Fills (front ++ rest) (span_through s (operands_of os))
+  unfolding operand
+  fills_operands front rest s [] h none = subst (λ (z : List Lexeme). Fills z s) (sym (ap (λ z. front ++ z) none ∙ append-nil front)) h
+  fills_operands front rest s (o ∷ os) h each =
+      let first = each.0 in
+      let others = each.1 in
+      let spelled = each.3 in
+      let last = (filled.fills spelled.1 o.1 spelled.4).ends in
+      let wider : Fills (front ++ first) (across s (expression_span o.1)) =
+      record {
+        begins = begins_more front first s.start h.begins;
+        ends = ends_more front first (expression_span o.1).end (subst (λ (z : List Lexeme). EndsAt z (expression_span o.1).end) (sym spelled.2) (ends_more spelled.0 spelled.1 (expression_span o.1).end last));
+      } in
+      subst (λ (z : List Lexeme). Fills z (span_through s (operands_of (o ∷ os)))) (append_assoc front first others ∙ ap (λ z. front ++ z) (sym each.2))
+      (fills_operands (front ++ first) others (across s (expression_span o.1)) os wider each.4)
+
+  fills_row : (us front rest : List Lexeme) (e : Expression) (os : List (BinaryUse × Expression)) → us ≡ front ++ rest → Fills front (expression_span e) → SpellsEach (Spells (operand kinds x)) rest os → Fills us (expression_span (row_of e os))
+  fills_row us front rest e [] eq h each = subst (λ (z : List Lexeme). Fills z (expression_span e)) (sym eq) (fills_operands front rest (expression_span e) [] h each)
+  fills_row us front rest e (o ∷ os) eq h each = subst (λ (z : List Lexeme). Fills z (expression_span (row_of e (o ∷ os)))) (sym eq) (fills_operands front rest (expression_span e) (o ∷ os) h each)
+
+  filled_row : Filled (row kinds x) expression_span
+  unfolding row
+  filled_row = filled_as _ _ expression_span (record { fills = λ us v s. fills_row us s.0 s.1 v.0 v.1 s.2 (filled.fills s.0 v.0 s.3) s.4 })
+
+-- one operand
+spelled_row : (kinds : List Kind) (x : Form Expression) (us : List Lexeme) (e : Expression) → Spells x us e → Spells (row kinds x) us e
+unfolding row
+spelled_row kinds x us e s = ((e, []), (us, [], sym (append-nil us), s, refl), refl)
+
+spelled_rows : (all : List (List Kind)) (x : Form Expression) (us : List Lexeme) (e : Expression) → Spells x us e → Spells (rows all x) us e
+unfolding rows
+spelled_rows [] x us e s = s
+spelled_rows (kinds ∷ stronger) x us e s = spelled_row kinds (rows stronger x) us e (spelled_rows stronger x us e s)
+
+alone : (kinds : List Kind) (x : Form Expression) → IsExpression (row kinds x) → IsExpression x
+alone kinds x h = record { spells = λ us e s. h.spells us e (spelled_row kinds x us e s) }
+
+-- these are operators
+abbrev AreOperators : List Kind → Type 0
+AreOperators kinds = (k : Kind) → is_among kinds k ≡ true → is_among (flat_map (λ ks. ks) strengths) k ≡ true
+
+sound_operand : (kinds : List Kind) (x : Form Expression) → AreOperators kinds → Sound x expression_parts → Sound (operand kinds x) operand_parts
+unfolding operand operator
+sound_operand kinds x are h =
+    sound_both _ x (λ o. operator_part o ∷ []) expression_parts
+    (sound_own _ operator_part (λ _. []) (λ us o s. (s.0, (s.1.0, are s.0.kind s.1.1), s.2)) (filled_as binary_use _ (λ o. o.span) (filled_token kinds)) (sound_nothing _)) h
+
+module _ (kinds : List Kind) (x : Form Expression) (are : AreOperators kinds) (suits : Suits x) (is : IsExpression (row kinds x)) where
+  written_row : (us : List Lexeme) (e : Expression) (os : List (BinaryUse × Expression)) → Spells (row kinds x) us (row_of e os) → Each (IsWritten us) (expression_parts e ++ flat_map operand_parts os) → Each (IsWritten us) (expression_parts (row_of e os))
+  written_row us e [] whole h = each_front (IsWritten us) (expression_parts e) [] h
+  written_row us e (o ∷ os) whole h =
+      let operands = flat_map operand_parts (o ∷ os) in (
+        written_whole us (expression_part (row_of e (o ∷ os))) ((filled_row kinds x suits.filled).fills us (row_of e (o ∷ os)) whole) (is.spells us (row_of e (o ∷ os)) whole),
+        each_append (IsWritten us) (expression_parts e) (operands_parts (operands_of (o ∷ os))) (each_front (IsWritten us) (expression_parts e) operands h)
+            (each_operands (IsWritten us) (o ∷ os) (each_rest (IsWritten us) (expression_parts e) operands h)),
+      )
+
+  sound_row_parts : Sound (both x (many (operand kinds x))) (λ v. expression_parts v.0 ++ flat_map operand_parts v.1)
+  sound_row_parts =
+      let inner = suits.sound (alone kinds x is) in
+      sound_both x _ expression_parts (flat_map operand_parts) inner (sound_many (operand kinds x) operand_parts (sound_operand kinds x are inner))
+
+  sound_row : Sound (row kinds x) expression_parts
+  unfolding row
+  sound_row = sound_as _ _ expression_parts (record { stands = λ us v s. written_row us v.0 v.1 (v, s, refl) (sound_row_parts.stands us v s) })
+
+suits_row : (kinds : List Kind) (x : Form Expression) → AreOperators kinds → Suits x → Suits (row kinds x)
+suits_row kinds x are h = record { filled = filled_row kinds x h.filled; sound = sound_row kinds x are h }
+
+suits_rows : (all : List (List Kind)) (x : Form Expression) → AreOperators (flat_map (λ ks. ks) all) → Suits x → Suits (rows all x)
+unfolding rows
+suits_rows [] x are h = h
+suits_rows (kinds ∷ stronger) x are h =
+    suits_row kinds (rows stronger x) (λ k m. are k (among_more kinds (flat_map (λ ks. ks) stronger) k m))
+    (suits_rows stronger x (λ k m. are k (among_right kinds (flat_map (λ ks. ks) stronger) k m)) h)
+
+-- Levels
+
+is_expression : (n : ℕ) → n ≤ levels → IsExpression (expression n)
+is_expression n within = record { spells = λ us e s. (n, within, s) }
+
+suits_level : (primary : Form Expression) → Suits primary → Suits (rows strengths (unary primary))
+suits_level primary h = suits_rows strengths (unary primary) (λ k m. m) (suits_unary primary h)
+
+suits_expression : (n : ℕ) → n ≤ levels → Suits (expression n)
+unfolding expression
+suits_expression zero within = suits_level flat_primary suits_flat_primary
+suits_expression (suc n) within =
+    let below : n ≤ levels = omega (arith, within) in
+    suits_level (deep_primary (expression n)) (suits_deep_primary (expression n) ((suits_expression n below).sound (is_expression n below)))
+
+pub sound_expression : (n : ℕ) → n ≤ levels → Sound (expression n) expression_parts
+sound_expression n within = (suits_expression n within).sound (is_expression n within)
+
+-- The variable of an assignment is an expression, too
+
+spelled_operand : (primary : Form Expression) (us : List Lexeme) (e : Expression) → Spells primary us e → Spells (rows strengths (unary primary)) us e
+spelled_operand primary us e s = spelled_rows strengths (unary primary) us e (spelled_unary primary us e s)
+
+is_flat_reference : IsExpression (as_value reference_value flat_reference)
+unfolding expression flat_primary
+is_flat_reference = record { spells = λ us e s. (0, omega arith, spelled_operand flat_primary us e (inr s)) }
+
+is_deep_reference : (n : ℕ) → suc n ≤ levels → IsExpression (as_value reference_value (deep_reference (expression n)))
+unfolding expression deep_primary
+is_deep_reference n within = record { spells = λ us e s. (suc n, within, spelled_operand (deep_primary (expression n)) us e (inr (inl s))) }
+
+pub sound_reference : (n : ℕ) → n ≤ levels → Sound (reference n) (λ r. expression_parts (reference_expression r.0 r.1))
+unfolding reference
+sound_reference zero within = sound_reference_value flat_reference filled_flat_reference sound_flat_reference is_flat_reference
+sound_reference (suc n) within =
+    let inner = sound_expression n (omega (arith, within)) in
+    sound_reference_value (deep_reference (expression n)) (filled_deep_reference (expression n)) (sound_deep_reference (expression n) inner) (is_deep_reference n within)

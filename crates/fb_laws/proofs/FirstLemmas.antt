@@ -1,0 +1,178 @@
+-- The first declarations of their names, by places.
+use Rattle.std.proofs.Common.{◌≡◌, ◌≢◌, zero, suc, ℕ, ◌+◌, ◌<◌, Bool, true, false, cond, List, [], ◌∷◌, length, map, take, Option, Some, None, is_none, refl, sym, ap, ◌∙◌, subst, true≢false, ◌⊎◌, inl, inr, arith}
+use Rattle.std.specs.Prelude.{Contains, filter}
+use Rattle.std.specs.List.{enumerate_from, slice_get}
+use Rattle.std.proofs.lemmas.Bool.{cases_order}
+use Rattle.std.proofs.lemmas.List.{take_all}
+use Rattle.std.proofs.lemmas.Map.Entries.{place_from_lookup}
+use Rattle.std.proofs.lemmas.Option.{slice_get_read}
+use Rattle.fb_deploy.specs.Iface.Names.{first_ones, is_same, stands_for}
+use Rattle.fb_deploy.proofs.Iface.NameLemmas.{same_exact, same_itself}
+use Rattle.fb_deploy.proofs.Iface.EarlierLemmas.{at_place}
+use Rattle.fb_text.proofs.Members.{contains_filter, contains_map}
+use Rattle.fb_laws.proofs.PickLemmas.{IsPicked, picked, picked_in_turn}
+
+pub at_contained : {X : Type 0} (xs : List X) (x : X) (c : Contains xs x) → slice_get xs c.0 ≡ Some x
+at_contained xs x c = slice_get_read xs (length xs) c.0 x refl c.1 (sym c.2)
+
+module _ {D : Type 0} where
+  -- no declaration before the place has the name
+  abbrev pub NoneBefore : List (List ℕ × D) → ℕ → List ℕ → Type 0
+  NoneBefore xs place name = (k : ℕ) (y : List ℕ × D) → k < place → slice_get xs k ≡ Some y → y.0 ≢ name
+
+  pub none_before : (xs : List (List ℕ × D)) (place : ℕ) (name : List ℕ) → stands_for (take place xs) name ≡ None → NoneBefore xs place name
+  none_before [] place name e k y lt there = absurd (let no : ⊥ = cc in no)
+  none_before (x ∷ xs) zero name e k y lt there = absurd (omega arith)
+  none_before (x ∷ xs) (suc place) name e k y lt there = by (is_same x.0 name) refl e k lt there (λ h. none_before xs place name h)
+    where
+      by : (b : Bool) → is_same x.0 name ≡ b → cond b (Some x.1) (stands_for (take place xs) name) ≡ None → (k : ℕ) → k < suc place → slice_get (x ∷ xs) k ≡ Some y → (stands_for (take place xs) name ≡ None → NoneBefore xs place name) → y.0 ≢ name
+      by true s h k less at more = absurd (let no : ⊥ = cc in no)
+      by false s h zero less at more = λ same. let here : x ≡ y = cc in true≢false (sym (same_itself x.0 name (ap (λ (z : List ℕ × D). z.0) here ∙ same)) ∙ s)
+      by false s h (suc k) less at more = more h k y (omega arith) at
+
+  pub before_none : (xs : List (List ℕ × D)) (place : ℕ) (name : List ℕ) → NoneBefore xs place name → stands_for (take place xs) name ≡ None
+  before_none [] zero name h = refl
+  before_none [] (suc place) name h = refl
+  before_none (x ∷ xs) zero name h = refl
+  before_none (x ∷ xs) (suc place) name h = by (is_same x.0 name) refl (before_none xs place name (λ k y lt there. h (suc k) y (omega arith) there))
+    where
+      by : (b : Bool) → is_same x.0 name ≡ b → stands_for (take place xs) name ≡ None → cond b (Some x.1) (stands_for (take place xs) name) ≡ None
+      by true s e = absurd (h 0 x (omega arith) refl (same_exact x.0 name s))
+      by false s e = e
+
+  placed : (n : ℕ) (xs : List (List ℕ × D)) (k : ℕ) (p : ℕ × (List ℕ × D)) → slice_get (enumerate_from n xs) k ≡ Some p → (p.0 ≡ n + k) × (slice_get xs k ≡ Some p.1)
+  placed n [] k p e = absurd (let no : ⊥ = cc in no)
+  placed n (x ∷ xs) zero p e =
+      let here : (n, x) ≡ p = cc in
+      let number : n ≡ p.0 = ap (λ (q : ℕ × (List ℕ × D)). q.0) here in
+      (omega (arith, number), ap (λ (q : ℕ × (List ℕ × D)). Some q.1) here)
+  placed n (x ∷ xs) (suc k) p e =
+      let o = placed (n + 1) xs k p e in
+      let number : p.0 ≡ (n + 1) + k = o.0 in
+      (omega (arith, number), o.1)
+
+  abbrev is_first : List (List ℕ × D) → ℕ × (List ℕ × D) → Bool
+  is_first xs p = is_none (stands_for (take p.0 xs) p.1.0)
+
+  none_of : (o : Option D) → is_none o ≡ true → o ≡ None
+  none_of None e = refl
+  none_of (Some d) e = absurd (let no : ⊥ = cc in no)
+
+  -- the first declaration of the name
+  pub record IsFirst (xs : List (List ℕ × D)) (name : List ℕ) (meaning : D) : Type 0 where
+    pub place : ℕ
+    pub there : slice_get xs place ≡ Some (name, meaning)
+    pub first : NoneBefore xs place name
+
+  first_facts : (xs : List (List ℕ × D)) (x : List ℕ × D) (o : IsPicked (λ p. p.1) (is_first xs) (enumerate_from 0 xs) x) → (slice_get xs o.place ≡ Some x) × NoneBefore xs o.place x.0
+  first_facts xs x o =
+      let p = placed 0 xs o.place o.item o.there in
+      let number : o.item.0 ≡ o.place = p.0 ∙ (let start : 0 + o.place ≡ o.place = omega arith in start) in
+      let unknown : is_none (stands_for (take o.place xs) x.0) ≡ true = (λ i. is_none (stands_for (take (sym number i) xs) (sym o.gives i).0)) ∙ o.passed in
+      (p.1 ∙ ap Some o.gives, none_before xs o.place x.0 (none_of (stands_for (take o.place xs) x.0) unknown))
+
+  abbrev first_picked : (xs : List (List ℕ × D)) (name : List ℕ) (x : List ℕ × D) → x.0 ≡ name → IsPicked (λ p. p.1) (is_first xs) (enumerate_from 0 xs) x → IsFirst xs name x.1
+  first_picked xs name x e o = record {
+    place = o.place;
+    there = (first_facts xs x o).0 ∙ (λ i. Some (e i, x.1));
+    first = subst (λ (n : List ℕ). NoneBefore xs o.place n) e (first_facts xs x o).1;
+  }
+
+  -- the first declaration of a name is among the first ones
+  among_first_ones : (xs : List (List ℕ × D)) (name : List ℕ) (m : D) → IsFirst xs name m → Contains (first_ones xs) (name, m)
+  among_first_ones xs name m o =
+      let start : 0 + o.place ≡ o.place = omega arith in
+      let listed : Contains (enumerate_from 0 xs) (o.place, (name, m)) = subst (λ (k : ℕ). Contains (enumerate_from 0 xs) (k, (name, m))) start (at_place 0 xs o.place (name, m) o.there) in
+      let passed : is_first xs (o.place, (name, m)) ≡ true = ap is_none (before_none xs o.place name o.first) in
+      contains_map (λ (p : ℕ × (List ℕ × D)). p.1) (filter (is_first xs) (enumerate_from 0 xs)) (o.place, (name, m)) (contains_filter (is_first xs) (enumerate_from 0 xs) (o.place, (name, m)) listed passed)
+
+  one_meaning : (xs : List (List ℕ × D)) (name : List ℕ) (m n : D) → IsFirst xs name m → IsFirst xs name n → m ≡ n
+  one_meaning xs name m n o p = by (cases_order o.place p.place)
+    where
+      by : (o.place ≡ p.place) ⊎ ((o.place < p.place) ⊎ (p.place < o.place)) → m ≡ n
+      by (inl e) =
+          let both : Some (name, m) ≡ Some (name, n) = sym o.there ∙ ap (slice_get xs) e ∙ p.there in
+          let same : (name, m) ≡ (name, n) = cc in
+          ap (λ (x : List ℕ × D). x.1) same
+      by (inr (inl h)) = absurd (p.first o.place (name, m) h o.there refl)
+      by (inr (inr h)) = absurd (o.first p.place (name, n) h p.there refl)
+
+  -- what a name stands for among the first declarations
+  pub stands_first : (xs : List (List ℕ × D)) (name : List ℕ) (m : D) → stands_for (first_ones xs) name ≡ Some m → IsFirst xs name m
+  stands_first xs name m e =
+      let o = place_from_lookup (λ declared. is_same declared name) (first_ones xs) m e in
+      let p = picked (λ q. q.1) (is_first xs) (enumerate_from 0 xs) o.0 (o.1, m) o.2 in
+      first_picked xs name (o.1, m) (same_exact o.1 name o.3) p
+
+  pub first_stands : (xs : List (List ℕ × D)) (name : List ℕ) (m : D) → IsFirst xs name m → stands_for (first_ones xs) name ≡ Some m
+  first_stands xs name m o = by (stands_for (first_ones xs) name) refl
+    where
+      listed : Contains (first_ones xs) (name, m)
+      listed = among_first_ones xs name m o
+
+      by : (found : Option D) → stands_for (first_ones xs) name ≡ found → found ≡ Some m
+      by (Some n) e = ap Some (one_meaning xs name n m (stands_first xs name n e) o)
+      by None e =
+          let whole : take (length (first_ones xs)) (first_ones xs) ≡ first_ones xs = take_all (length (first_ones xs)) (first_ones xs) (omega arith) in
+          absurd (none_before (first_ones xs) (length (first_ones xs)) name (ap (λ l. stands_for l name) whole ∙ e) listed.0 (name, m) listed.1 (at_contained (first_ones xs) (name, m) listed) refl)
+
+-- the first declarations of which some are kept, as ports
+module _ {D T : Type 0} (keep : D → Bool) (give : D → T) where
+  abbrev named : List ℕ × D → List ℕ × T
+  named x = (x.0, give x.1)
+
+  abbrev is_kept : List ℕ × D → Bool
+  is_kept x = keep x.1
+
+  abbrev pub ports : List (List ℕ × D) → List (List ℕ × T)
+  ports xs = map (λ x. (x.0, give x.1)) (filter (λ x. keep x.1) (first_ones xs))
+
+  -- the declaration that gives the port
+  pub record IsPort (xs : List (List ℕ × D)) (name : List ℕ) (type : T) : Type 0 where
+    pub meaning : D
+    pub origin : IsFirst xs name meaning
+    pub kept : keep meaning ≡ true
+    pub gives : give meaning ≡ type
+
+  -- two ports, that which is declared first before the other
+  pub record AreInTurn (xs : List (List ℕ × D)) (one other : List ℕ × T) : Type 0 where
+    pub first : IsPort xs one.0 one.1
+    pub second : IsPort xs other.0 other.1
+    pub earlier : first.origin.place < second.origin.place
+
+  port_at : (xs : List (List ℕ × D)) (port : List ℕ × T) (o : IsPicked named is_kept (first_ones xs) port) (p : IsPicked (λ q. q.1) (is_first xs) (enumerate_from 0 xs) o.item) → IsPort xs port.0 port.1
+  port_at xs port o p = record {
+    meaning = o.item.1;
+    origin = first_picked xs port.0 o.item (ap (λ (q : List ℕ × T). q.0) o.gives) p;
+    kept = o.passed;
+    gives = ap (λ (q : List ℕ × T). q.1) o.gives;
+  }
+
+  pub is_port : (xs : List (List ℕ × D)) (name : List ℕ) (type : T) → Contains (ports xs) (name, type) → IsPort xs name type
+  is_port xs name type c =
+      let o = picked named is_kept (first_ones xs) c.0 (name, type) (at_contained (ports xs) (name, type) c) in
+      port_at xs (name, type) o (picked (λ q. q.1) (is_first xs) (enumerate_from 0 xs) o.place o.item o.there)
+
+  pub among_ports : (xs : List (List ℕ × D)) (name : List ℕ) (type : T) → IsPort xs name type → Contains (ports xs) (name, type)
+  among_ports xs name type o =
+      let listed = among_first_ones xs name o.meaning o.origin in
+      let c = contains_map named (filter is_kept (first_ones xs)) (name, o.meaning) (contains_filter is_kept (first_ones xs) (name, o.meaning) listed o.kept) in
+      subst (λ (t : T). Contains (ports xs) (name, t)) o.gives c
+
+  pub in_turn : (xs : List (List ℕ × D)) (i j : ℕ) (one other : List ℕ × T) → i < j → slice_get (ports xs) i ≡ Some one → slice_get (ports xs) j ≡ Some other → AreInTurn xs one other
+  unfolding port_at
+  in_turn xs i j one other before at_one at_other =
+      let o = picked_in_turn named is_kept (first_ones xs) i j one other before at_one at_other in
+      let p = picked_in_turn (λ q. q.1) (is_first xs) (enumerate_from 0 xs) o.one.place o.other.place o.one.item o.other.item o.earlier o.one.there o.other.there in
+      record { first = port_at xs one o.one p.one; second = port_at xs other o.other p.other; earlier = p.earlier }
+
+  not_twice : (xs : List (List ℕ × D)) (one other : List ℕ × T) → AreInTurn xs one other → one.0 ≢ other.0
+  not_twice xs one other t same = t.second.origin.first t.first.origin.place (one.0, t.first.meaning) t.earlier t.first.origin.there same
+
+  pub once : (xs : List (List ℕ × D)) (i j : ℕ) (one other : List ℕ × T) → slice_get (ports xs) i ≡ Some one → slice_get (ports xs) j ≡ Some other → one.0 ≡ other.0 → i ≡ j
+  once xs i j one other at_one at_other same = by (cases_order i j)
+    where
+      by : (i ≡ j) ⊎ ((i < j) ⊎ (j < i)) → i ≡ j
+      by (inl e) = e
+      by (inr (inl h)) = absurd (not_twice xs one other (in_turn xs i j one other h at_one at_other) same)
+      by (inr (inr h)) = absurd (not_twice xs other one (in_turn xs j i other one h at_other at_one) (sym same))

@@ -1,0 +1,152 @@
+-- The homes of blocks, and of the ends of links.
+use Rattle.std.proofs.Common.{ℕ, ◌≡◌, ◌<◌, Bool, true, false, cond, List, [], ◌∷◌, Option, Some, None, ◌⊎◌, inl, inr, refl, sym, ◌∙◌, ap, subst, take, length, arith}
+use Rattle.std.specs.Prelude.{Contains, option_map, find}
+use Rattle.std.specs.List.{cons_option}
+use Rattle.std.specs.Str.{bytes_eq}
+use Rattle.std.proofs.Math.Seq.{take-append_seam}
+use Rattle.std.proofs.lemmas.List.{take_all}
+use Rattle.std.proofs.lemmas.Slice.Eq.{bytes_eq-Decides}
+use native.Mathlib.Decide.{dec_lt}
+use Rattle.fb_text.proofs.Members.{contains_cases, contains_here, contains_later, contains_nothing}
+use Rattle.fb_placing.proofs.NearestLemmas.{is_nearest}
+use Rattle.fb_wiring.specs.Network.declared.flat.FlatBlock.{FlatBlock}
+use Rattle.fb_placing.specs.Cuts.{home_at}
+use Rattle.fb_placing.specs.Firsts.{first_at}
+use Rattle.fb_placing.specs.Fronts.{IsFront, IsNearest, nearest}
+use Rattle.fb_placing.specs.Homes.{block_homes}
+use Rattle.fb_placing.specs.declared.homes.Home.{Home}
+use Rattle.fb_laws.specs.Planned.{IsBlockAt}
+
+-- ---- what is nearest is one only
+
+pub same_bytes : (a b : List ℕ) → bytes_eq a b ≡ true → a ≡ b
+same_bytes a b e = (bytes_eq-Decides a b).0 e
+
+pub bytes_same : (a b : List ℕ) → a ≡ b → bytes_eq a b ≡ true
+bytes_same a b e = (bytes_eq-Decides a b).1 e
+
+front_begins : (front path : List ℕ) → IsFront front path → take (length front) path ≡ front
+front_begins front path (inl e) = ap (take (length front)) e ∙ take_all (length front) front (omega arith)
+front_begins front path (inr (rest, e)) = ap (take (length front)) e ∙ take-append_seam front (46 ∷ rest)
+
+pub one_front : (a b path : List ℕ) → IsFront a path → IsFront b path → length a ≡ length b → a ≡ b
+one_front a b path p q e = sym (front_begins a path p) ∙ ap (λ (n : ℕ). take n path) e ∙ front_begins b path q
+
+pub one_nearest : {X : Type 0} (at : List ℕ → Option X) (path : List ℕ) (a b : Option X) → IsNearest at path a → IsNearest at path b → a ≡ b
+one_nearest at path None None p q = refl
+one_nearest at path None (Some y) p (g, front, has, longer) = absurd (let no = p g front in let yes = has in cc)
+one_nearest at path (Some x) None (f, front, has, longer) q = absurd (let no = q f front in let yes = has in cc)
+one_nearest {X = X} at path (Some x) (Some y) (f, front, has, longer) (g, front2, has2, longer2) =
+    elim (dec_lt (length f) (length g)) [
+      | Prim.yes below ↦ absurd (let no = longer g front2 below in let yes = has2 in cc)
+      | Prim.no above ↦ elim (dec_lt (length g) (length f)) [
+        | Prim.yes below ↦ absurd (let no = longer2 f front below in let yes = has in cc)
+        | Prim.no more ↦ let same : f ≡ g = one_front f g path front front2 (omega arith) in sym has ∙ ap at same ∙ has2
+      ]
+    ]
+
+pub nearest_of : {X : Type 0} (at : List ℕ → Option X) (path : List ℕ) (x : X) → IsNearest at path (Some x) → nearest at path ≡ Some x
+nearest_of at path x p = one_nearest at path (nearest at path) (Some x) (is_nearest at path) p
+
+pub of_nearest : {X : Type 0} (at : List ℕ → Option X) (path : List ℕ) (x : X) → nearest at path ≡ Some x → IsNearest at path (Some x)
+of_nearest at path x e = subst (λ o. IsNearest at path o) e (is_nearest at path)
+
+-- ---- homes of blocks
+
+module _ (resources : List ℕ → Option (List ℕ)) where
+  -- the home of a block of the list
+  pub home_listed : (blocks : List FlatBlock) (b : FlatBlock) (r : List ℕ) → Contains blocks b → nearest resources b.path ≡ Some r → home_at (block_homes resources blocks) b.path ≡ Some r
+  home_listed [] b r c e = absurd (contains_nothing b c)
+  home_listed (z ∷ zs) b r c e = by_home (nearest resources z.path) refl (contains_cases z zs b c) (λ d. home_listed zs b r d e)
+    where
+      by_test : (q : List ℕ) → nearest resources z.path ≡ Some q → (t : Bool) → bytes_eq z.path b.path ≡ t → (t ≡ false → home_at (block_homes resources zs) b.path ≡ Some r) → option_map (λ (h : Home). h.resource) (cond t (Some (record { path = z.path; resource = q })) (find (λ (h : Home). bytes_eq h.path b.path) (block_homes resources zs))) ≡ Some r
+      by_test q home true same more = sym home ∙ ap (nearest resources) (same_bytes z.path b.path same) ∙ e
+      by_test q home false differs more = more refl
+
+      by_home : (o : Option (List ℕ)) → nearest resources z.path ≡ o → (z ≡ b) ⊎ Contains zs b → (Contains zs b → home_at (block_homes resources zs) b.path ≡ Some r) → first_at (λ (h : Home). h.path) (λ (h : Home). h.resource) (cons_option (option_map (λ (q : List ℕ). (let h : Home = record { path = z.path; resource = q } in h)) o) (block_homes resources zs)) b.path ≡ Some r
+      by_home None none (inl same) more = absurd (let no = sym none ∙ ap (λ (w : FlatBlock). nearest resources w.path) same ∙ e in cc)
+      by_home None none (inr d) more = more d
+      by_home (Some q) home (inl same) more = by_test q home (bytes_eq z.path b.path) refl (λ differs. absurd (let yes = bytes_same z.path b.path (ap (λ (w : FlatBlock). w.path) same) in cc))
+      by_home (Some q) home (inr d) more = by_test q home (bytes_eq z.path b.path) refl (λ differs. more d)
+
+  -- a block with that home
+  pub record IsHomed (blocks : List FlatBlock) (path r : List ℕ) : Type 0 where
+    pub block : FlatBlock
+    pub listed : Contains blocks block
+    pub placed : block.path ≡ path
+    pub home : nearest resources path ≡ Some r
+
+  pub homed : (blocks : List FlatBlock) (path r : List ℕ) → home_at (block_homes resources blocks) path ≡ Some r → IsHomed blocks path r
+  homed [] path r e = absurd (cc)
+  homed (z ∷ zs) path r e = by_home (nearest resources z.path) refl e (homed zs path r)
+    where
+      later : IsHomed zs path r → IsHomed (z ∷ zs) path r
+      later o = record { block = o.block; listed = contains_later z zs o.block o.listed; placed = o.placed; home = o.home }
+
+      by_test : (q : List ℕ) → nearest resources z.path ≡ Some q → (t : Bool) → bytes_eq z.path path ≡ t → option_map (λ (h : Home). h.resource) (cond t (Some (record { path = z.path; resource = q })) (find (λ (h : Home). bytes_eq h.path path) (block_homes resources zs))) ≡ Some r → (home_at (block_homes resources zs) path ≡ Some r → IsHomed zs path r) → IsHomed (z ∷ zs) path r
+      by_test q home true same g more =
+          let there = same_bytes z.path path same in
+          record { block = z; listed = contains_here z zs; placed = there; home = ap (nearest resources) (sym there) ∙ home ∙ g }
+      by_test q home false differs g more = later (more g)
+
+      by_home : (o : Option (List ℕ)) → nearest resources z.path ≡ o → first_at (λ (h : Home). h.path) (λ (h : Home). h.resource) (cons_option (option_map (λ (q : List ℕ). (let h : Home = record { path = z.path; resource = q } in h)) o) (block_homes resources zs)) path ≡ Some r → (home_at (block_homes resources zs) path ≡ Some r → IsHomed zs path r) → IsHomed (z ∷ zs) path r
+      by_home None none g more = later (more g)
+      by_home (Some q) home g more = by_test q home (bytes_eq z.path path) refl g more
+
+  -- ---- homes of ends
+
+  -- a block has a home
+  pub record HasHome (b : FlatBlock) : Type 0 where
+    pub on_resource : List ℕ
+    pub home : nearest resources b.path ≡ Some on_resource
+
+  -- the block at an end has this home
+  pub record EndHome (blocks : List FlatBlock) (end r : List ℕ) : Type 0 where
+    pub block : FlatBlock
+    pub is_at : IsBlockAt blocks end block
+    pub home : IsNearest resources block.path (Some r)
+
+  module _ (blocks : List FlatBlock) (all : (b : FlatBlock) → Contains blocks b → HasHome b) where
+    nothing_at : (b : FlatBlock) → Contains blocks b → home_at (block_homes resources blocks) b.path ≡ None → ⊥
+    nothing_at b c none = let h = all b c in let there = home_listed blocks b h.on_resource c h.home in cc
+
+    pub end_home : (end r : List ℕ) → nearest (home_at (block_homes resources blocks)) end ≡ Some r → EndHome blocks end r
+    end_home end r e = by_front (of_nearest (home_at (block_homes resources blocks)) end r e)
+      where
+        made : (front : List ℕ) → IsFront front end → ((other : List ℕ) → IsFront other end → length front < length other → home_at (block_homes resources blocks) other ≡ None) → IsHomed blocks front r → EndHome blocks end r
+        made front is longer o = record {
+          block = o.block;
+          is_at = record {
+            listed = o.listed;
+            front = subst (λ (p : List ℕ). IsFront p end) (sym o.placed) is;
+            longest = λ other listed other_front. elim (dec_lt (length o.block.path) (length other.path)) [
+              | Prim.yes below ↦ absurd (nothing_at other listed (longer other.path other_front (subst (λ (p : List ℕ). length p < length other.path) o.placed below)))
+              | Prim.no above ↦ omega arith
+            ];
+          };
+          home = subst (λ (p : List ℕ). IsNearest resources p (Some r)) (sym o.placed) (of_nearest resources front r o.home);
+        }
+
+        by_front : IsNearest (home_at (block_homes resources blocks)) end (Some r) → EndHome blocks end r
+        by_front (front, is, has, longer) = made front is longer (homed blocks front r has)
+
+    pub home_end : (end r : List ℕ) → EndHome blocks end r → nearest (home_at (block_homes resources blocks)) end ≡ Some r
+    home_end end r o =
+        nearest_of (home_at (block_homes resources blocks)) end r
+        (o.block.path, o.is_at.front, home_listed blocks o.block r o.is_at.listed (nearest_of resources o.block.path r o.home), λ other front longer. by_other other front longer (home_at (block_homes resources blocks) other) refl)
+      where
+        by_other : (other : List ℕ) → IsFront other end → length o.block.path < length other → (h : Option (List ℕ)) → home_at (block_homes resources blocks) other ≡ h → home_at (block_homes resources blocks) other ≡ None
+        by_other other front longer None e = e
+        by_other other front longer (Some q) e =
+            let w = homed blocks other q e in
+            let short = o.is_at.longest w.block w.listed (subst (λ (p : List ℕ). IsFront p end) (sym w.placed) front) in
+            let same = ap length w.placed in
+            absurd (omega (arith, short, same, longer))
+
+    -- some block stands in front of the end
+    pub some_home : (end : List ℕ) (b : FlatBlock) → Contains blocks b → IsFront b.path end → (r : List ℕ) × (nearest (home_at (block_homes resources blocks)) end ≡ Some r)
+    some_home end b c front = by (nearest (home_at (block_homes resources blocks)) end) refl (is_nearest (home_at (block_homes resources blocks)) end)
+      where
+        by : (o : Option (List ℕ)) → nearest (home_at (block_homes resources blocks)) end ≡ o → IsNearest (home_at (block_homes resources blocks)) end (nearest (home_at (block_homes resources blocks)) end) → (r : List ℕ) × (nearest (home_at (block_homes resources blocks)) end ≡ Some r)
+        by None e is = absurd (nothing_at b c ((subst (λ (o : Option (List ℕ)). IsNearest (home_at (block_homes resources blocks)) end o) e is) b.path front))
+        by (Some r) e is = (r, e)

@@ -1,0 +1,182 @@
+-- The events of a type, and its plugs, sockets and instances in other roles.
+use Rattle.std.proofs.Common.{◌≡◌, ◌↔◌, ℕ, ◌<◌, Bool, true, List, Option, Some, map, refl, sym, ap, ◌∙◌, true≢false}
+use Rattle.fb_text.specs.declared.name.NameUse.{NameUse}
+use Rattle.fb_tree.specs.Tree.{EventTree, InstanceTree, InterfaceTree, NetworkTree}
+use Rattle.fb_tree.specs.declared.interface.Side.{Side}
+use Rattle.fb_tree.specs.declared.interface.Side.TheVariants as sides
+use Rattle.fb_tree.specs.declared.network.Role.{Role}
+use Rattle.fb_tree.specs.declared.network.Role.TheVariants.{Plug, Socket, Block, Subapplication}
+use Rattle.fb_deploy.specs.Iface.declared.ports.DeclaredEvent.{DeclaredEvent}
+use Rattle.fb_deploy.specs.Iface.declared.ports.DeclaredInstance.{DeclaredInstance}
+use Rattle.fb_deploy.specs.Iface.Names.{first_ones, stands_for}
+use Rattle.fb_deploy.specs.Iface.Ports.{events_in, instances_in, same_role, same_side}
+use Rattle.fb_text.proofs.Members.{got_in_map, map_gets}
+use Rattle.fb_laws.specs.Declared.{IsEventOn, IsFirstEvent, IsFirstInstance, IsFirstItem, IsInstanceAs, IsItemOf, of_adapter, of_block, of_subapplication}
+use Rattle.fb_laws.specs.Ports.{AdaptersAreDeclared, AreExactly, ComeAsDeclared, EventsAreDeclared, HaveOwnNames}
+use Rattle.fb_laws.proofs.FirstLemmas.{IsFirst, IsPort, among_ports, first_stands, in_turn, is_port, once, ports, stands_first}
+
+-- what items mean is their sort and their type
+record Meaning (D S T : Type 0) : Type 0 where
+  make : S → T → D
+  sort : D → S
+  type : D → T
+  made : (d : D) → make (sort d) (type d) ≡ d
+  sort_made : (s : S) (t : T) → sort (make s t) ≡ s
+  type_made : (s : S) (t : T) → type (make s t) ≡ t
+  same : S → S → Bool
+  exact : (a b : S) → same a b ≡ true → a ≡ b
+  itself : (a : S) → same a a ≡ true
+
+module _ {A D S T : Type 0} (of : Meaning D S T) (name_of : A → NameUse) (sort_of : A → S) (type_of : A → T) (items : List A) where
+  abbrev entry : A → List ℕ × D
+  entry x = ((name_of x).name, of.make (sort_of x) (type_of x))
+
+  abbrev declared : List (List ℕ × D)
+  declared = map entry items
+
+  first_of : (name : List ℕ) (m : D) (o : IsFirst declared name m) → IsFirstItem name_of items name o.place
+  first_of name m o =
+      let e = got_in_map entry items o.place (name, m) o.there in
+      record { item = e.0; there = e.1; named = ap (λ (p : List ℕ × D). p.0) e.2; first = λ k other less at. o.first k (entry other) less (map_gets entry items k other at) }
+
+  item_of : (name : List ℕ) (m : D) → IsFirst declared name m → IsItemOf name_of sort_of type_of items (of.sort m) name (of.type m)
+  unfolding first_of
+  item_of name m o =
+      let e = got_in_map entry items o.place (name, m) o.there in
+      record {
+        place = o.place;
+        declared = first_of name m o;
+        of_sort = sym (of.sort_made (sort_of e.0) (type_of e.0)) ∙ ap (λ (p : List ℕ × D). of.sort p.1) e.2;
+        typed = sym (of.type_made (sort_of e.0) (type_of e.0)) ∙ ap (λ (p : List ℕ × D). of.type p.1) e.2;
+      }
+
+  of_item : (name : List ℕ) (m : D) → IsItemOf name_of sort_of type_of items (of.sort m) name (of.type m) → IsFirst declared name m
+  of_item name m h =
+      let d = h.declared in
+      let means : of.make (sort_of d.item) (type_of d.item) ≡ m = (λ i. of.make (h.of_sort i) (h.typed i)) ∙ of.made m in
+      record {
+        place = h.place;
+        there = map_gets entry items h.place d.item d.there ∙ (λ i. Some (d.named i, means i));
+        first = λ k y less at same. let p = got_in_map entry items k y at in d.first k p.0 less p.1 (ap (λ (q : List ℕ × D). q.0) p.2 ∙ same);
+      }
+
+  stand : (name : List ℕ) (m : D) → stands_for (first_ones declared) name ≡ Some m ↔ IsItemOf name_of sort_of type_of items (of.sort m) name (of.type m)
+  stand name m = (λ e. item_of name m (stands_first declared name m e), λ h. first_stands declared name m (of_item name m h))
+
+  module _ (sort : S) where
+    abbrev keeps : D → Bool
+    keeps d = of.same (of.sort d) sort
+
+    is_item : (name : List ℕ) (type : T) → IsPort keeps of.type declared name type → IsItemOf name_of sort_of type_of items sort name type
+    is_item name type o =
+        let e = item_of name o.meaning o.origin in
+        record { place = e.place; declared = e.declared; of_sort = e.of_sort ∙ of.exact (of.sort o.meaning) sort o.kept; typed = e.typed ∙ o.gives }
+
+    item_is : (name : List ℕ) (type : T) → IsItemOf name_of sort_of type_of items sort name type → IsPort keeps of.type declared name type
+    item_is name type h =
+        let s = of.sort_made sort type in
+        let t = of.type_made sort type in
+        record {
+          meaning = of.make sort type;
+          origin = of_item name (of.make sort type) (record { place = h.place; declared = h.declared; of_sort = h.of_sort ∙ sym s; typed = h.typed ∙ sym t });
+          kept = ap (λ (x : S). of.same x sort) s ∙ of.itself sort;
+          gives = t;
+        }
+
+    are_exactly : AreExactly (ports keeps of.type declared) (IsItemOf name_of sort_of type_of items sort)
+    are_exactly name type = (λ c. is_item name type (is_port keeps of.type declared name type c), λ h. among_ports keeps of.type declared name type (item_is name type h))
+
+    come_in_turn : ComeAsDeclared (ports keeps of.type declared) (IsFirstItem name_of items) (λ place later. place < later)
+    come_in_turn j k one other before at_one at_other =
+        let t = in_turn keeps of.type declared j k one other before at_one at_other in
+        record {
+          place = t.first.origin.place;
+          later = t.second.origin.place;
+          declared = first_of one.0 t.first.meaning t.first.origin;
+          other_declared = first_of other.0 t.second.meaning t.second.origin;
+          earlier = t.earlier;
+        }
+
+-- events
+
+pub same_sides : (a b : Side) → same_side a b ≡ true → a ≡ b
+same_sides sides.Input sides.Input e = refl
+same_sides sides.Output sides.Output e = refl
+same_sides a b e = absurd (true≢false (sym e))
+
+pub side_itself : (a : Side) → same_side a a ≡ true
+side_itself sides.Input = refl
+side_itself sides.Output = refl
+
+abbrev of_events : Meaning DeclaredEvent Side (Option NameUse)
+of_events = record {
+  make = λ side type. record { side = side; type_name = type };
+  sort = λ d. d.side;
+  type = λ d. d.type_name;
+  made = λ d. refl;
+  sort_made = λ s t. refl;
+  type_made = λ s t. refl;
+  same = same_side;
+  exact = same_sides;
+  itself = side_itself;
+}
+
+pub events_stand : (i : InterfaceTree) (name : List ℕ) (m : DeclaredEvent) → stands_for (first_ones (events_in i)) name ≡ Some m ↔ IsEventOn i m.side name m.type_name
+events_stand i = stand of_events (λ (e : EventTree). e.name) (λ e. e.side) (λ e. e.type_name) i.events
+
+pub events_once : (i : InterfaceTree) (side : Side) → HaveOwnNames (ports (λ (d : DeclaredEvent). same_side d.side side) (λ d. d.type_name) (events_in i))
+events_once i side = once (λ (d : DeclaredEvent). same_side d.side side) (λ d. d.type_name) (events_in i)
+
+pub events_in_turn : (i : InterfaceTree) (side : Side) → ComeAsDeclared (ports (λ (d : DeclaredEvent). same_side d.side side) (λ d. d.type_name) (events_in i)) (IsFirstEvent i) (λ place later. place < later)
+events_in_turn i side = come_in_turn of_events (λ (e : EventTree). e.name) (λ e. e.side) (λ e. e.type_name) i.events side
+
+events : (i : InterfaceTree) (side : Side) → AreExactly (ports (λ (d : DeclaredEvent). same_side d.side side) (λ d. d.type_name) (events_in i)) (IsEventOn i side)
+events i side = are_exactly of_events (λ (e : EventTree). e.name) (λ e. e.side) (λ e. e.type_name) i.events side
+
+pub events_declared : EventsAreDeclared
+events_declared decl type (of_block d) side = events d.interface side
+events_declared decl type (of_adapter d) side = events d.interface side
+events_declared decl type (of_subapplication d) side = events d.interface side
+
+-- plugs, sockets, and instances in other roles
+
+same_roles : (a b : Role) → same_role a b ≡ true → a ≡ b
+same_roles Plug Plug e = refl
+same_roles Socket Socket e = refl
+same_roles Block Block e = refl
+same_roles Subapplication Subapplication e = refl
+same_roles a b e = absurd (true≢false (sym e))
+
+role_itself : (a : Role) → same_role a a ≡ true
+role_itself Plug = refl
+role_itself a = refl
+
+abbrev of_instances : Meaning DeclaredInstance Role NameUse
+of_instances = record {
+  make = λ role type. record { role = role; type_name = type };
+  sort = λ d. d.role;
+  type = λ d. d.type_name;
+  made = λ d. refl;
+  sort_made = λ s t. refl;
+  type_made = λ s t. refl;
+  same = same_role;
+  exact = same_roles;
+  itself = role_itself;
+}
+
+pub instances_stand : (n : NetworkTree) (name : List ℕ) (m : DeclaredInstance) → stands_for (first_ones (instances_in n)) name ≡ Some m ↔ IsInstanceAs n m.role name m.type_name
+instances_stand n = stand of_instances (λ (x : InstanceTree). x.name) (λ x. x.role) (λ x. x.type_name) n.instances
+
+pub adapters_once : (n : NetworkTree) (role : Role) → HaveOwnNames (ports (λ (d : DeclaredInstance). same_role d.role role) (λ d. d.type_name) (instances_in n))
+adapters_once n role = once (λ (d : DeclaredInstance). same_role d.role role) (λ d. d.type_name) (instances_in n)
+
+pub adapters_in_turn : (n : NetworkTree) (role : Role) → ComeAsDeclared (ports (λ (d : DeclaredInstance). same_role d.role role) (λ d. d.type_name) (instances_in n)) (IsFirstInstance n) (λ place later. place < later)
+adapters_in_turn n role = come_in_turn of_instances (λ (x : InstanceTree). x.name) (λ x. x.role) (λ x. x.type_name) n.instances role
+
+instances : (n : NetworkTree) (role : Role) → AreExactly (ports (λ (d : DeclaredInstance). same_role d.role role) (λ d. d.type_name) (instances_in n)) (IsInstanceAs n role)
+instances n role = are_exactly of_instances (λ (x : InstanceTree). x.name) (λ x. x.role) (λ x. x.type_name) n.instances role
+
+pub adapters_declared : AdaptersAreDeclared
+adapters_declared decl type (of_block d) role = instances d.network role
+adapters_declared decl type (of_adapter d) role = instances d.network role
+adapters_declared decl type (of_subapplication d) role = instances d.network role

@@ -1,0 +1,66 @@
+-- Each link is a cut, or within a resource.
+use Rattle.std.proofs.Common.{ℕ, ◌≡◌, Bool, true, false, not, List, Option, Some, ◌⊎◌, inl, inr, refl, sym, ◌∙◌, ap, subst}
+use Rattle.std.specs.Prelude.{Contains}
+use Rattle.std.specs.Str.{bytes_eq}
+use Rattle.std.proofs.lemmas.Bool.{false≢true}
+use Rattle.fb_text.proofs.Members.{contains_filter, passes_in_filter}
+use Rattle.fb_deploy.specs.Library.View.{Sources}
+use Rattle.fb_wiring.specs.Network.declared.flat.Link.{Link}
+use Rattle.fb_wiring.specs.Network.PlainFlat.{PlainFlat}
+use Rattle.fb_placing.specs.Cuts.{home_at, is_cut, same_home}
+use Rattle.fb_placing.specs.Fronts.{nearest}
+use Rattle.fb_placing.specs.PlainResource.{PlainResource}
+use Rattle.fb_laws.proofs.HomeLemmas.{bytes_same, nearest_of, same_bytes, some_home}
+use Rattle.fb_laws.proofs.PlannedLemmas.{Known, home_there, homes_in, known, mapped, stands}
+use Rattle.fb_laws.proofs.PlanEnds.{net_fronts}
+use Rattle.fb_laws.proofs.EntryLemmas.{entry_named, home_named}
+use Rattle.fb_laws.specs.Planned.{IsPlanned, StandsOn}
+use Rattle.fb_laws.specs.Plans.{IsMade, LinksAreCutOrMade}
+
+module _ (sources : Sources) (system : List ℕ) (flat : PlainFlat) (cuts : List Link) (resources : List PlainResource) (p : IsPlanned sources system flat cuts resources) where
+  abbrev it : Known sources system flat cuts resources
+  it = known sources system flat cuts resources p
+
+  abbrev homes : List ℕ → Option (List ℕ)
+  homes = home_at (homes_in sources system flat)
+
+  made_on : (link : Link) → Contains flat.links link → (r : List ℕ) → StandsOn sources system flat.blocks link.from r → StandsOn sources system flat.blocks link.to r → IsMade sources system flat resources link
+  made_on link c r from to =
+      let named = home_named sources system flat p.is_flat from.block.path r (nearest_of (mapped sources system) from.block.path r from.home) in
+      let entry = entry_named sources system flat cuts resources p r named in
+      record {
+        entry = entry.0;
+        listed = entry.1;
+        within = record {
+          listed = c;
+          from = subst (λ (n : List ℕ). StandsOn sources system flat.blocks link.from n) (sym entry.2) from;
+          to = subst (λ (n : List ℕ). StandsOn sources system flat.blocks link.to n) (sym entry.2) to;
+        };
+      }
+
+  pub cut_or : (link : Link) → Contains flat.links link → Contains cuts link ⊎ IsMade sources system flat resources link
+  cut_or link c =
+      let fronts = net_fronts sources system flat p.is_flat link c in
+      let from = some_home (mapped sources system) flat.blocks it.homes link.from fronts.0.block fronts.0.listed fronts.0.front in
+      let to = some_home (mapped sources system) flat.blocks it.homes link.to fronts.1.block fronts.1.listed fronts.1.front in
+      by from.0 to.0 from.1 to.1 (bytes_eq from.0 to.0) refl
+    where
+      by : (a b : List ℕ) → nearest homes link.from ≡ Some a → nearest homes link.to ≡ Some b → (t : Bool) → bytes_eq a b ≡ t → Contains cuts link ⊎ IsMade sources system flat resources link
+      by a b from to true same =
+          inr (made_on link c a (stands sources system flat it.homes link.from a from) (stands sources system flat it.homes link.to a (to ∙ ap (λ (w : List ℕ). Some w) (sym (same_bytes a b same)))))
+      by a b from to false differs =
+          let cut : is_cut homes link ≡ true = (λ i. not (same_home (from i) (to i))) ∙ ap not differs in
+          inl (subst (λ (l : List Link). Contains l link) (sym it.cuts_are) (contains_filter (is_cut homes) flat.links link c cut))
+
+  pub no_cut : (link : Link) → Contains cuts link → ¬ IsMade sources system flat resources link
+  no_cut link c m =
+      let kept = passes_in_filter (is_cut homes) flat.links link (subst (λ (l : List Link). Contains l link) it.cuts_are c) in
+      let from = home_there sources system flat it.homes link.from m.entry.name m.within.from in
+      let to = home_there sources system flat it.homes link.to m.entry.name m.within.to in
+      false≢true (sym ((λ i. not (same_home (from i) (to i))) ∙ ap not (bytes_same m.entry.name m.entry.name refl)) ∙ kept.passes)
+
+pub cut_or_made : LinksAreCutOrMade
+cut_or_made sources system flat cuts resources p link c = record {
+  either = cut_or sources system flat cuts resources p link c;
+  not_both = no_cut sources system flat cuts resources p link;
+}

@@ -1,0 +1,274 @@
+-- What ends name, by the tests of the check.
+use Rattle.std.proofs.Common.{◌≡◌, ◌≢◌, ℕ, Bool, true, false, ◌&&◌, List, Option, Some, None, refl, sym, ap, ◌∙◌, subst, true≢false}
+use Rattle.std.specs.Prelude.{option_map}
+use Rattle.std.specs.Option.{option_and_then, option_map_or}
+use Rattle.fb_text.specs.declared.name.NameUse.{NameUse}
+use Rattle.fb_tree.specs.Tree.{NetworkTree}
+use Rattle.fb_tree.specs.declared.interface.Section.{Section}
+use Rattle.fb_tree.specs.declared.interface.Section.TheVariants as sections
+use Rattle.fb_tree.specs.declared.interface.Side.{Side}
+use Rattle.fb_tree.specs.declared.interface.Side.TheVariants.{Input, Output}
+use Rattle.fb_tree.specs.declared.kinds.UnitKind.{UnitKind}
+use Rattle.fb_tree.specs.declared.kinds.UnitKind.TheVariants as kinds
+use Rattle.fb_tree.specs.declared.network.End.{End}
+use Rattle.fb_tree.specs.declared.network.Role.{Role}
+use Rattle.fb_tree.specs.declared.network.Role.TheVariants as roles
+use Rattle.fb_tree.specs.declared.network.Sort.{Sort}
+use Rattle.fb_tree.specs.declared.network.Sort.TheVariants as sorts
+use Rattle.fb_deploy.specs.Library.View.{Sources, tree_at}
+use Rattle.fb_deploy.specs.Iface.declared.ports.DeclaredEvent.{DeclaredEvent}
+use Rattle.fb_deploy.specs.Iface.declared.ports.DeclaredInstance.{DeclaredInstance}
+use Rattle.fb_deploy.specs.Iface.declared.ports.DeclaredVariable.{DeclaredVariable}
+use Rattle.fb_deploy.specs.Iface.Names.{first_ones, stands_for}
+use Rattle.fb_deploy.specs.Iface.Ports.{Meanings, instances_in, same_side}
+use Rattle.fb_deploy.specs.Iface.Scope.{instance_ports, usable}
+use Rattle.fb_netcheck.specs.declared.ends.Flow.TheVariants as flows
+use Rattle.fb_netcheck.specs.declared.ends.Holder.{Holder}
+use Rattle.fb_netcheck.specs.declared.ends.Holder.TheVariants.{Own, OfInstance, OfPlug, OfSocket}
+use Rattle.fb_netcheck.specs.declared.ends.Port.{Port}
+use Rattle.fb_netcheck.specs.declared.ends.Position.{Position}
+use Rattle.fb_netcheck.specs.declared.ends.Position.TheVariants.{Source, Destination}
+use Rattle.fb_netcheck.specs.declared.ends.Target.{Target}
+use Rattle.fb_netcheck.specs.declared.ends.Target.TheVariants.{Unknown, NotJudged, Found}
+use Rattle.fb_netcheck.specs.Ends.{adapter_port, data_port, event_port, holder_of, is_right, port_in, port_in_role, port_in_section, right_side, target, target_held, target_in, target_named, target_of, target_of_instance}
+use Rattle.fb_netcheck.specs.Settings.{NetworkPlace}
+use Rattle.fb_netcheck.specs.Sides.{is_own, is_own_port}
+use Rattle.fb_netcheck.specs.Types.{home_of}
+use Rattle.fb_laws.specs.Ends.{IsPort, IsReached, IsReachedBy, IsRightSide, Names, NamesRight, Site, event, data_input, data_output, socket, plug, of_block_instance, of_subapplication_instance, of_plug, of_socket, own_port, port_of, own_source, own_destination, instance_source, instance_destination, plug_source, plug_destination, socket_source, socket_destination}
+use Rattle.fb_laws.specs.Usable.{IsNotJudged, of_unusable}
+use Rattle.fb_laws.proofs.ItemRows.{same_sides}
+use Rattle.fb_laws.proofs.NetworkLemmas.{place_at}
+use Rattle.fb_laws.proofs.UsableTypes.{declared_type, known_type, no_type, told_type, type_missing}
+
+pub and_left : (a b : Bool) → (a && b) ≡ true → a ≡ true
+and_left true b e = refl
+and_left false b e = absurd (true≢false (sym e))
+
+pub and_right : (a b : Bool) → (a && b) ≡ true → b ≡ true
+and_right true b e = e
+and_right false b e = absurd (true≢false (sym e))
+
+pub both_true : (a b : Bool) → a ≡ true → b ≡ true → (a && b) ≡ true
+both_true a b p q = λ i. p i && q i
+
+-- ports
+
+module _ (ports : Meanings) (name : List ℕ) where
+  known_event : (p : Port) (o : Option DeclaredEvent) → stands_for ports.events name ≡ o → option_map event_port o ≡ Some p → IsPort ports name sorts.Event p
+  known_event p None g e = absurd (let fails : ⊥ = cc in fails)
+  known_event p (Some d) g e = let same : event_port d ≡ p = cc in subst (IsPort ports name sorts.Event) same (event d g)
+
+  known_section : (p : Port) (v : DeclaredVariable) → stands_for ports.variables name ≡ Some v → (s : Section) → v.section ≡ s → port_in_section s v.type_use ≡ Some p → IsPort ports name sorts.Data p
+  known_section p v g sections.Input is e = let same : record { side = Input; flow = flows.Data v.type_use } ≡ p = cc in subst (IsPort ports name sorts.Data) same (data_input v g is)
+  known_section p v g sections.Output is e = let same : record { side = Output; flow = flows.Data v.type_use } ≡ p = cc in subst (IsPort ports name sorts.Data) same (data_output v g is)
+  known_section p v g sections.Internal is e = absurd (let fails : ⊥ = cc in fails)
+
+  known_data : (p : Port) (o : Option DeclaredVariable) → stands_for ports.variables name ≡ o → option_and_then data_port o ≡ Some p → IsPort ports name sorts.Data p
+  known_data p None g e = absurd (let fails : ⊥ = cc in fails)
+  known_data p (Some v) g e = known_section p v g v.section refl e
+
+  known_role : (p : Port) (i : DeclaredInstance) → stands_for ports.instances name ≡ Some i → (r : Role) → i.role ≡ r → port_in_role r i.type_name ≡ Some p → IsPort ports name sorts.Adapter p
+  known_role p i g roles.Socket is e = let same : record { side = Input; flow = flows.Adapter i.type_name } ≡ p = cc in subst (IsPort ports name sorts.Adapter) same (socket i g is)
+  known_role p i g roles.Plug is e = let same : record { side = Output; flow = flows.Adapter i.type_name } ≡ p = cc in subst (IsPort ports name sorts.Adapter) same (plug i g is)
+  known_role p i g roles.Block is e = absurd (let fails : ⊥ = cc in fails)
+  known_role p i g roles.Subapplication is e = absurd (let fails : ⊥ = cc in fails)
+
+  known_adapter : (p : Port) (o : Option DeclaredInstance) → stands_for ports.instances name ≡ o → option_and_then adapter_port o ≡ Some p → IsPort ports name sorts.Adapter p
+  known_adapter p None g e = absurd (let fails : ⊥ = cc in fails)
+  known_adapter p (Some i) g e = known_role p i g i.role refl e
+
+  known_port : (sort : Sort) (p : Port) → port_in sort ports name ≡ Some p → IsPort ports name sort p
+  known_port sorts.Event p e = known_event p (stands_for ports.events name) refl e
+  known_port sorts.Data p e = known_data p (stands_for ports.variables name) refl e
+  known_port sorts.Adapter p e = known_adapter p (stands_for ports.instances name) refl e
+
+  told_port : (sort : Sort) (p : Port) → IsPort ports name sort p → port_in sort ports name ≡ Some p
+  told_port sort p (event d g) = ap (option_map event_port) g
+  told_port sort p (data_input v g is) = ap (option_and_then data_port) g ∙ ap (λ s. port_in_section s v.type_use) is
+  told_port sort p (data_output v g is) = ap (option_and_then data_port) g ∙ ap (λ s. port_in_section s v.type_use) is
+  told_port sort p (socket i g is) = ap (option_and_then adapter_port) g ∙ ap (λ r. port_in_role r i.type_name) is
+  told_port sort p (plug i g is) = ap (option_and_then adapter_port) g ∙ ap (λ r. port_in_role r i.type_name) is
+
+-- whose they are
+
+not_adapter_event : sorts.Event ≢ sorts.Adapter
+not_adapter_event e = let fails : ⊥ = cc in fails
+
+not_adapter_data : sorts.Data ≢ sorts.Adapter
+not_adapter_data e = let fails : ⊥ = cc in fails
+
+module _ (here : Site) (sort : Sort) (i : DeclaredInstance) where
+  known_holder : (holder : Holder) → holder_of here.kind sort i.role ≡ Some holder → IsReached here sort i holder
+  known_holder holder e = by here.kind sort i.role refl refl refl e
+    where
+      by : (kind : UnitKind) (s : Sort) (role : Role) → here.kind ≡ kind → sort ≡ s → i.role ≡ role → holder_of kind s role ≡ Some holder → IsReached here sort i holder
+      by kind s roles.Block k t r e = let same : OfInstance ≡ holder = cc in subst (IsReached here sort i) same (of_block_instance r)
+      by kind s roles.Subapplication k t r e = let same : OfInstance ≡ holder = cc in subst (IsReached here sort i) same (of_subapplication_instance r)
+      by kinds.Block sorts.Event roles.Plug k t r e = let same : OfPlug ≡ holder = cc in subst (IsReached here sort i) same (of_plug r k (λ a. not_adapter_event (sym t ∙ a)))
+      by kinds.Block sorts.Data roles.Plug k t r e = let same : OfPlug ≡ holder = cc in subst (IsReached here sort i) same (of_plug r k (λ a. not_adapter_data (sym t ∙ a)))
+      by kinds.Block sorts.Event roles.Socket k t r e = let same : OfSocket ≡ holder = cc in subst (IsReached here sort i) same (of_socket r k (λ a. not_adapter_event (sym t ∙ a)))
+      by kinds.Block sorts.Data roles.Socket k t r e = let same : OfSocket ≡ holder = cc in subst (IsReached here sort i) same (of_socket r k (λ a. not_adapter_data (sym t ∙ a)))
+      by kind s role k t r e = absurd (let fails : ⊥ = cc in fails)
+
+  plug_holder : (s : Sort) → s ≢ sorts.Adapter → holder_of kinds.Block s roles.Plug ≡ Some OfPlug
+  plug_holder sorts.Event other = refl
+  plug_holder sorts.Data other = refl
+  plug_holder sorts.Adapter other = absurd (other refl)
+
+  socket_holder : (s : Sort) → s ≢ sorts.Adapter → holder_of kinds.Block s roles.Socket ≡ Some OfSocket
+  socket_holder sorts.Event other = refl
+  socket_holder sorts.Data other = refl
+  socket_holder sorts.Adapter other = absurd (other refl)
+
+  told_holder : (holder : Holder) → IsReached here sort i holder → holder_of here.kind sort i.role ≡ Some holder
+  told_holder holder (of_block_instance r) = ap (holder_of here.kind sort) r
+  told_holder holder (of_subapplication_instance r) = ap (holder_of here.kind sort) r
+  told_holder holder (of_plug r k other) = (λ j. holder_of (k j) sort (r j)) ∙ plug_holder sort other
+  told_holder holder (of_socket r k other) = (λ j. holder_of (k j) sort (r j)) ∙ socket_holder sort other
+
+-- what an end names, by its target
+
+pub data IsTarget (sources : Sources) (here : Site) (sort : Sort) (name : NameUse) (port : Option NameUse) : Target → Type 0 where
+  is_found : {holder : Holder} {p : Port} (unit : List ℕ) → Names sources here sort name port holder unit p → IsTarget sources here sort name port (Found holder p)
+  is_not_judged : IsNotJudged sources here.own (IsReachedBy here sort) name port → IsTarget sources here sort name port NotJudged
+  is_unknown : IsTarget sources here sort name port Unknown
+
+module _ (sources : Sources) (here : Site) (n : NetworkTree) (own : here.own.instances ≡ first_ones (instances_in n)) (sort : Sort) where
+  abbrev at : NetworkPlace
+  at = place_at sources here n
+
+  abbrev usable_as : DeclaredInstance → Option Meanings
+  usable_as i = usable i.role (tree_at sources i.type_name.name)
+
+  ports_there : (name : List ℕ) (i : DeclaredInstance) → stands_for here.own.instances name ≡ Some i → instance_ports at.scope i ≡ usable_as i
+  ports_there name i g = declared_type sources n here.own.instances own name i g
+
+  target_own : (X : NameUse) (o : Option Port) → port_in sort here.own X.name ≡ o → IsTarget sources here sort X None (target_of Own o)
+  target_own X None e = is_unknown
+  target_own X (Some p) e = is_found here.unit (own_port (known_port here.own X.name sort p e))
+
+  target_behind : (I X : NameUse) (o : Option DeclaredInstance) → stands_for here.own.instances I.name ≡ o → IsTarget sources here sort I (Some X) (target_of_instance here.kind sort o (option_and_then (instance_ports at.scope) o) X.name)
+  target_behind I X None g = is_unknown
+  target_behind I X (Some i) g = by_holder (holder_of here.kind sort i.role) refl
+    where
+      by_port : (holder : Holder) → IsReached here sort i holder → (m : Meanings) → usable_as i ≡ Some m → (o : Option Port) → port_in sort m X.name ≡ o → IsTarget sources here sort I (Some X) (target_of holder o)
+      by_port holder r m u None e = is_unknown
+      by_port holder r m u (Some p) e = is_found i.type_name.name (port_of i m g r (known_type sources i.type_name.name i.role m u) (known_port m X.name sort p e))
+
+      by_ports : (holder : Holder) → IsReached here sort i holder → (m : Option Meanings) → usable_as i ≡ m → IsTarget sources here sort I (Some X) (target_in holder sort m X.name)
+      by_ports holder r None u = is_not_judged (of_unusable i g (holder, r) (no_type sources i.type_name.name i.role u))
+      by_ports holder r (Some m) u = by_port holder r m u (port_in sort m X.name) refl
+
+      by_holder : (h : Option Holder) → holder_of here.kind sort i.role ≡ h → IsTarget sources here sort I (Some X) (target_held h sort (instance_ports at.scope i) X.name)
+      by_holder None e = is_unknown
+      by_holder (Some holder) e = by_ports holder (known_holder here sort i holder e) (instance_ports at.scope i) (sym (ports_there I.name i g))
+
+  pub is_target : (name : NameUse) (port : Option NameUse) → IsTarget sources here sort name port (target_named at sort name.name port)
+  is_target name None = target_own name (port_in sort here.own name.name) refl
+  is_target name (Some X) = target_behind name X (stands_for here.own.instances name.name) refl
+
+  behind : (I X : NameUse) (i : DeclaredInstance) (holder : Holder) (m : Option Meanings) → stands_for here.own.instances I.name ≡ Some i → IsReached here sort i holder → usable_as i ≡ m → target_named at sort I.name (Some X) ≡ target_in holder sort m X.name
+  behind I X i holder m g r u =
+      let ports = ports_there I.name i g ∙ u in
+      ap (λ o. target_of_instance here.kind sort o (option_and_then (instance_ports at.scope) o) X.name) g
+      ∙ (λ j. target_held (told_holder here sort i holder r j) sort (ports j) X.name)
+
+  pub told_names : (name : NameUse) (port : Option NameUse) (holder : Holder) (unit : List ℕ) (p : Port) → Names sources here sort name port holder unit p → target_named at sort name.name port ≡ Found holder p
+  told_names name None holder unit p (own_port q) = ap (target_of Own) (told_port here.own name.name sort p q)
+  told_names I (Some X) holder unit p (port_of i m g r u q) = behind I X i holder (Some m) g r (told_type sources i.type_name.name i.role m u) ∙ ap (target_of holder) (told_port m X.name sort p q)
+
+  pub told_not_judged : (name : NameUse) (port : Option NameUse) → IsNotJudged sources here.own (IsReachedBy here sort) name port → target_named at sort name.name port ≡ NotJudged
+  told_not_judged I None q = elim q [ ]
+  told_not_judged I (Some X) (of_unusable i g r u) = behind I X i r.0 None g r.1 (type_missing sources i.type_name.name i.role u)
+
+  -- the unit in whose text the port is declared
+  pub told_home : (name : NameUse) (port : Option NameUse) (holder : Holder) (unit : List ℕ) (p : Port) → Names sources here sort name port holder unit p → home_of at name port ≡ unit
+  told_home name None holder unit p (own_port q) = refl
+  told_home I (Some X) holder unit p (port_of i m g r u q) = ap (λ o. option_map_or (λ (d : DeclaredInstance). d.type_name.name) o here.unit) g
+
+  pub unknown_names : (name : NameUse) (port : Option NameUse) → target_named at sort name.name port ≡ Unknown → (holder : Holder) (unit : List ℕ) (p : Port) → ¬ Names sources here sort name port holder unit p
+  unknown_names name port e holder unit p n = let both : Found holder p ≡ Unknown = sym (told_names name port holder unit p n) ∙ e in let fails : ⊥ = cc in fails
+
+  pub unknown_judged : (name : NameUse) (port : Option NameUse) → target_named at sort name.name port ≡ Unknown → ¬ IsNotJudged sources here.own (IsReachedBy here sort) name port
+  unknown_judged name port e n = let both : NotJudged ≡ Unknown = sym (told_not_judged name port n) ∙ e in let fails : ⊥ = cc in fails
+
+  pub known_unknown : (name : NameUse) (port : Option NameUse) → ((holder : Holder) (unit : List ℕ) (p : Port) → ¬ Names sources here sort name port holder unit p) → ¬ IsNotJudged sources here.own (IsReachedBy here sort) name port → target_named at sort name.name port ≡ Unknown
+  known_unknown name port none judged = by (target_named at sort name.name port) (is_target name port)
+    where
+      by : (t : Target) → IsTarget sources here sort name port t → t ≡ Unknown
+      by t (is_found {holder = holder} {p = p} unit n) = absurd (none holder unit p n)
+      by t (is_not_judged n) = absurd (judged n)
+      by t is_unknown = refl
+
+  -- an end with this target
+  pub record IsNamed (name : NameUse) (port : Option NameUse) (holder : Holder) (p : Port) : Type 0 where
+    pub unit : List ℕ
+    pub names : Names sources here sort name port holder unit p
+
+  pub known_names : (name : NameUse) (port : Option NameUse) (holder : Holder) (p : Port) → target_named at sort name.name port ≡ Found holder p → IsNamed name port holder p
+  known_names name port holder p e = by (target_named at sort name.name port) (is_target name port) e
+    where
+      by : (t : Target) → IsTarget sources here sort name port t → t ≡ Found holder p → IsNamed name port holder p
+      by t (is_found {holder = h} {p = q} unit n) e =
+          let holders : h ≡ holder = cc in
+          let ports : q ≡ p = cc in
+          record { unit = unit; names = subst (λ (r : Port). Names sources here sort name port holder unit r) ports (subst (λ (g : Holder). Names sources here sort name port g unit q) holders n) }
+      by t (is_not_judged n) e = absurd (let fails : ⊥ = cc in fails)
+      by t is_unknown e = absurd (let fails : ⊥ = cc in fails)
+
+-- the right sides
+
+is_side : (position : Position) (holder : Holder) → IsRightSide position holder (right_side position holder)
+is_side Source Own = own_source
+is_side Destination Own = own_destination
+is_side Source OfInstance = instance_source
+is_side Destination OfInstance = instance_destination
+is_side Source OfPlug = plug_source
+is_side Destination OfPlug = plug_destination
+is_side Source OfSocket = socket_source
+is_side Destination OfSocket = socket_destination
+
+pub known_right : (position : Position) (holder : Holder) (side : Side) → same_side side (right_side position holder) ≡ true → IsRightSide position holder side
+known_right position holder side e = subst (IsRightSide position holder) (sym (same_sides side (right_side position holder) e)) (is_side position holder)
+
+pub told_right : (position : Position) (holder : Holder) (side : Side) → IsRightSide position holder side → same_side side (right_side position holder) ≡ true
+told_right position holder side own_source = refl
+told_right position holder side is = refl
+
+-- ends that name ports of the right sides
+
+module _ (sources : Sources) (here : Site) (n : NetworkTree) (own : here.own.instances ≡ first_ones (instances_in n)) (sort : Sort) (position : Position) (end : End) where
+  abbrev there : Target
+  there = target (place_at sources here n) sort end
+
+  pub known_end : is_right position there ≡ true → NamesRight sources here sort position end
+  known_end e = by there (is_target sources here n own sort end.name end.port) e
+    where
+      by : (t : Target) → IsTarget sources here sort end.name end.port t → is_right position t ≡ true → NamesRight sources here sort position end
+      by t (is_found {holder = holder} {p = p} unit n) e = record { holder = holder; unit = unit; port = p; names = n; right = known_right position holder p.side e }
+      by t (is_not_judged n) e = absurd (true≢false (sym e))
+      by t is_unknown e = absurd (true≢false (sym e))
+
+  pub end_target : (r : NamesRight sources here sort position end) → there ≡ Found r.holder r.port
+  end_target r = told_names sources here n own sort end.name end.port r.holder r.unit r.port r.names
+
+  pub told_end : NamesRight sources here sort position end → is_right position there ≡ true
+  told_end r = ap (is_right position) (end_target r) ∙ told_right position r.holder r.port.side r.right
+
+  own_exact : (holder : Holder) → is_own holder ≡ true → holder ≡ Own
+  own_exact Own e = refl
+  own_exact holder e = absurd (true≢false (sym e))
+
+  -- own ones among them
+  pub known_own : is_own_port position there ≡ true → (r : NamesRight sources here sort position end) × (r.holder ≡ Own)
+  known_own e = by there (is_target sources here n own sort end.name end.port) e
+    where
+      by : (t : Target) → IsTarget sources here sort end.name end.port t → is_own_port position t ≡ true → (r : NamesRight sources here sort position end) × (r.holder ≡ Own)
+      by t (is_found {holder = holder} {p = p} unit n) e =
+          let test = same_side p.side (right_side position holder) in
+          (record { holder = holder; unit = unit; port = p; names = n; right = known_right position holder p.side (and_right (is_own holder) test e) }, own_exact holder (and_left (is_own holder) test e))
+      by t (is_not_judged n) e = absurd (true≢false (sym e))
+      by t is_unknown e = absurd (true≢false (sym e))
+
+  pub told_own : (r : NamesRight sources here sort position end) → r.holder ≡ Own → is_own_port position there ≡ true
+  told_own r e = ap (is_own_port position) (end_target r) ∙ both_true (is_own r.holder) (same_side r.port.side (right_side position r.holder)) (ap is_own e) (told_right position r.holder r.port.side r.right)

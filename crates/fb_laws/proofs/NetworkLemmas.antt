@@ -1,0 +1,213 @@
+-- The faults of a unit's networks, network by network and code by code.
+use Rattle.std.proofs.Common.{◌≡◌, ℕ, ◌&&◌, List, [], ◌∷◌, ◌++◌, map, Option, Some, None, refl, sym, ap, subst}
+use Rattle.std.specs.List.{Contains, flat_map, slice_get}
+use Rattle.std.proofs.lemmas.List.Elements.{Contains-append_left, Contains-append_right}
+use Rattle.fb_text.specs.declared.name.NameUse.{NameUse}
+use Rattle.fb_text.specs.declared.token.Span.{Span}
+use Rattle.fb_tree.specs.Tree.{DeclTree, InstanceTree, NetworkTree, ParameterTree, block_type, adapter_type, subapplication_type, system_configuration}
+use Rattle.fb_tree.specs.declared.interface.Section.{Section}
+use Rattle.fb_tree.specs.declared.interface.Section.TheVariants as sections
+use Rattle.fb_tree.specs.declared.interface.TypeUse.{TypeUse}
+use Rattle.fb_tree.specs.declared.kinds.UnitKind.{UnitKind}
+use Rattle.fb_tree.specs.declared.kinds.UnitKind.TheVariants as kinds
+use Rattle.fb_tree.specs.declared.network.Connection.{Connection}
+use Rattle.fb_tree.specs.declared.network.End.{End}
+use Rattle.fb_tree.specs.declared.network.Role.{Role}
+use Rattle.fb_tree.specs.declared.network.Role.TheVariants as roles
+use Rattle.fb_deploy.specs.Library.View.{Sources, tree_at}
+use Rattle.fb_deploy.specs.Iface.Fault.{fault_at}
+use Rattle.fb_deploy.specs.Iface.Names.{first_ones, stands_for}
+use Rattle.fb_deploy.specs.Iface.Ports.{Meanings, instances_in, same_side}
+use Rattle.fb_deploy.specs.Iface.Scope.{type_ports_of}
+use Rattle.fb_deploy.specs.Iface.declared.code.Code.{Code}
+use Rattle.fb_deploy.specs.Iface.declared.code.Code.TheVariants.{DataType, Literal, ParameterUnknown, PassThrough, PortSide, PortUnknown, SecondAdapter, SecondSource}
+use Rattle.fb_deploy.specs.Iface.declared.fault.Fault.{Fault}
+use Rattle.fb_deploy.specs.Iface.declared.ports.DeclaredVariable.{DeclaredVariable}
+use Rattle.fb_text.proofs.Members.{contains_flat_map, contains_nothing, contains_single, in_unless, origin_in_flat_map, origin_in_map}
+use Rattle.fb_netcheck.specs.declared.ends.Position.{Position}
+use Rattle.fb_netcheck.specs.declared.ends.Position.TheVariants.{Source, Destination}
+use Rattle.fb_netcheck.specs.declared.ends.Target.{Target}
+use Rattle.fb_netcheck.specs.declared.ends.Target.TheVariants.{Unknown, NotJudged, Found}
+use Rattle.fb_netcheck.specs.Connections.{connection_faults}
+use Rattle.fb_netcheck.specs.Ends.{end_span, right_side, target}
+use Rattle.fb_netcheck.specs.Networks.{application_network, net_faults_of, network_faults, tree_faults}
+use Rattle.fb_netcheck.specs.Parameters.{all_parameters, instance_parameters, judged_parameters, parameter_faults, typed_parameters, value_faults}
+use Rattle.fb_netcheck.specs.Paths.{fault_at_path, repeated}
+use Rattle.fb_netcheck.specs.Repeats.{all_adapter_ends, data_destinations, end_path, second_adapters, second_sources}
+use Rattle.fb_netcheck.specs.Settings.{NetworkPlace}
+use Rattle.fb_netcheck.specs.Sides.{connection_span, end_faults, fault_of, is_own_port, pass_through_faults}
+use Rattle.fb_netcheck.specs.Types.{joined_types}
+use Rattle.fb_laws.proofs.DeclarationRows.{misfit_origin}
+use Rattle.fb_laws.proofs.Joined.{in_joined, in_where, of_either}
+use Rattle.fb_laws.specs.Ends.{IsNetworkOf, Site, of_block, of_subapplication, of_application, place_of}
+
+-- the place of a network as the check has it
+abbrev pub place_at : Sources → Site → NetworkTree → NetworkPlace
+place_at sources here n = record { unit = here.unit; kind = here.kind; scope = record { own = here.own; type_ports = type_ports_of sources n } }
+
+-- a parameter with a fault
+pub record ParameterOrigin (here : NetworkPlace) (n : NetworkTree) (f : Fault) : Type 0 where
+  pub instance : InstanceTree
+  pub listed : Contains n.instances instance
+  pub is_block : instance.role ≡ roles.Block
+  pub ports : Meanings
+  pub usable : here.scope.type_ports roles.Block instance.type_name.name ≡ Some ports
+  pub parameter : ParameterTree
+  pub written : Contains instance.parameters parameter
+  pub has : Contains (parameter_faults (stands_for ports.variables parameter.name.name) parameter) f
+
+pub parameter_origin : (here : NetworkPlace) (n : NetworkTree) (f : Fault) → Contains (all_parameters here.scope n.instances) f → ParameterOrigin here n f
+parameter_origin here n f c = let i = origin_in_flat_map (instance_parameters here.scope) n.instances f c in by_role i.origin i.among i.origin.role refl i.has
+  where
+    by_ports : (i : InstanceTree) → Contains n.instances i → i.role ≡ roles.Block → (m : Option Meanings) → here.scope.type_ports roles.Block i.type_name.name ≡ m → Contains (typed_parameters m i.parameters) f → ParameterOrigin here n f
+    by_ports i among is None e h = absurd (contains_nothing f h)
+    by_ports i among is (Some m) e h =
+        let p = origin_in_flat_map (λ (p : ParameterTree). parameter_faults (stands_for m.variables p.name.name) p) i.parameters f h in
+        record { instance = i; listed = among; is_block = is; ports = m; usable = e; parameter = p.origin; written = p.among; has = p.has }
+
+    by_role : (i : InstanceTree) → Contains n.instances i → (role : Role) → i.role ≡ role → Contains (judged_parameters here.scope role i) f → ParameterOrigin here n f
+    by_role i among roles.Block is h = by_ports i among is (here.scope.type_ports roles.Block i.type_name.name) refl h
+    by_role i among role is h = absurd (contains_nothing f h)
+
+pub parameter_reported : (here : NetworkPlace) (n : NetworkTree) (f : Fault) → ParameterOrigin here n f → Contains (all_parameters here.scope n.instances) f
+parameter_reported here n f o =
+    let one = contains_flat_map (λ (p : ParameterTree). parameter_faults (stands_for o.ports.variables p.name.name) p) o.instance.parameters o.parameter f o.written o.has in
+    let typed = subst (λ (m : Option Meanings). Contains (typed_parameters m o.instance.parameters) f) (sym o.usable) one in
+    contains_flat_map (instance_parameters here.scope) n.instances o.instance f o.listed (subst (λ (role : Role). Contains (judged_parameters here.scope role o.instance) f) (sym o.is_block) typed)
+
+code_of : (f g : Fault) → f ≡ g → f.code ≡ g.code
+code_of f g e = ap (λ (h : Fault). h.code) e
+
+-- the faults of a network, by their codes
+
+module _ (sources : Sources) (here : NetworkPlace) (n : NetworkTree) where
+  abbrev pub at_source : Connection → List Fault
+  at_source c = end_faults Source c.source (target here c.sort c.source)
+
+  abbrev pub at_destination : Connection → List Fault
+  at_destination c = end_faults Destination c.destination (target here c.sort c.destination)
+
+  abbrev pub at_both : Connection → List Fault
+  at_both c = pass_through_faults here.kind c (target here c.sort c.source) (target here c.sort c.destination)
+
+  -- the part of the list where the faults of a code are
+  abbrev pub part : Code → List Fault
+  part PortUnknown = flat_map (λ c. at_source c ++ at_destination c) n.connections
+  part PortSide = flat_map (λ c. at_source c ++ at_destination c) n.connections
+  part PassThrough = flat_map at_both n.connections
+  part DataType = flat_map (joined_types sources here) n.connections
+  part SecondSource = second_sources n.connections
+  part SecondAdapter = second_adapters n.connections
+  part ParameterUnknown = all_parameters here.scope n.instances
+  part Literal = all_parameters here.scope n.instances
+  part code = []
+
+  moved : (f : Fault) (code : Code) → code ≡ f.code → Contains (part code) f → Contains (part f.code) f
+  moved f code e c = subst (λ (k : Code). Contains (part k) f) e c
+
+  end_part : (c : Connection) → Contains n.connections c → (position : Position) (end : End) (t : Target) (f : Fault) → Contains (at_source c ++ at_destination c) f → Contains (end_faults position end t) f → Contains (part f.code) f
+  end_part c among position end Unknown f both h =
+      moved f PortUnknown (code_of _ f (contains_single (fault_of PortUnknown end) f h)) (contains_flat_map (λ (x : Connection). at_source x ++ at_destination x) n.connections c f among both)
+  end_part c among position end NotJudged f both h = absurd (contains_nothing f h)
+  end_part c among position end (Found holder port) f both h =
+      moved f PortSide (code_of _ f (in_unless (same_side port.side (right_side position holder)) (fault_of PortSide end) f h).1) (contains_flat_map (λ (x : Connection). at_source x ++ at_destination x) n.connections c f among both)
+
+  pass_code : (kind : UnitKind) (c : Connection) (source destination : Target) (f : Fault) → Contains (pass_through_faults kind c source destination) f → PassThrough ≡ f.code
+  pass_code kinds.Subapplication c source destination f h = code_of _ f (in_where (is_own_port Source source && is_own_port Destination destination) (record { code = PassThrough; span = connection_span c }) f h).1
+  pass_code kind c source destination f h = absurd (contains_nothing f h)
+
+  connection_part : (c : Connection) → Contains n.connections c → (f : Fault) → Contains (connection_faults here c) f → Contains (part f.code) f
+  connection_part c among =
+      of_either _ _
+      (of_either _ _ (λ f h. end_part c among Source c.source (target here c.sort c.source) f (Contains-append_left (at_source c) (at_destination c) f h) h) (λ f h. end_part c among Destination c.destination (target here c.sort c.destination) f (Contains-append_right (at_source c) (at_destination c) f h) h))
+      (λ f h. moved f PassThrough (pass_code here.kind c (target here c.sort c.source) (target here c.sort c.destination) f h) (contains_flat_map at_both n.connections c f among h))
+
+  connections_part : (f : Fault) → Contains (flat_map (connection_faults here) n.connections) f → Contains (part f.code) f
+  connections_part f c = let o = origin_in_flat_map (connection_faults here) n.connections f c in connection_part o.origin o.among f o.has
+
+  types_part : (f : Fault) → Contains (flat_map (joined_types sources here) n.connections) f → Contains (part f.code) f
+  types_part f c = let o = origin_in_flat_map (joined_types sources here) n.connections f c in moved f DataType (code_of _ f (in_where _ (fault_of DataType o.origin.destination) f o.has).1) c
+
+  sources_part : (f : Fault) → Contains (second_sources n.connections) f → Contains (part f.code) f
+  sources_part f c = moved f SecondSource (code_of _ f (origin_in_map (fault_at_path SecondSource) (repeated (map end_path (data_destinations n.connections))) f c).gives) c
+
+  adapters_part : (f : Fault) → Contains (second_adapters n.connections) f → Contains (part f.code) f
+  adapters_part f c = moved f SecondAdapter (code_of _ f (origin_in_map (fault_at_path SecondAdapter) (repeated (map end_path (all_adapter_ends n.connections))) f c).gives) c
+
+  parameters_part : (f : Fault) → Contains (all_parameters here.scope n.instances) f → Contains (part f.code) f
+  parameters_part f c = let o = parameter_origin here n f c in by (stands_for o.ports.variables o.parameter.name.name) o.parameter o.has
+    where
+      other : (p : ParameterTree) → Contains (fault_at ParameterUnknown p.name ∷ []) f → Contains (part f.code) f
+      other p h = moved f ParameterUnknown (code_of _ f (contains_single (fault_at ParameterUnknown p.name) f h)) c
+
+      of_value : (section : Section) (used : TypeUse) (p : ParameterTree) → Contains (value_faults section used p) f → Contains (part f.code) f
+      of_value sections.Input used p h = moved f Literal (sym (misfit_origin used p.value f h).0) c
+      of_value sections.Output used p h = other p h
+      of_value sections.Internal used p h = other p h
+
+      by : (v : Option DeclaredVariable) (p : ParameterTree) → Contains (parameter_faults v p) f → Contains (part f.code) f
+      by None p h = other p h
+      by (Some v) p h = of_value v.section v.type_use p h
+
+  in_part : (f : Fault) → Contains (network_faults sources here n) f → Contains (part f.code) f
+  in_part = of_either _ _ (of_either _ _ (of_either _ _ (of_either _ _ connections_part types_part) sources_part) adapters_part) parameters_part
+
+-- the network that has a fault
+
+pub record NetworkOrigin (sources : Sources) (unit : List ℕ) (f : Fault) : Type 0 where
+  pub here : Site
+  pub network : NetworkTree
+  pub stands : IsNetworkOf sources unit here network
+  pub has : Contains (part sources (place_at sources here network) network f.code) f
+
+pub network_origin : (sources : Sources) (unit : List ℕ) (f : Fault) → Contains (net_faults_of sources unit) f → NetworkOrigin sources unit f
+network_origin sources unit f c = by (tree_at sources unit) refl c
+  where
+    found : (here : Site) (n : NetworkTree) → IsNetworkOf sources unit here n → Contains (network_faults sources (place_at sources here n) n) f → NetworkOrigin sources unit f
+    found here n stands h = record { here = here; network = n; stands = stands; has = in_part sources (place_at sources here n) n f h }
+
+    by : (o : Option DeclTree) → tree_at sources unit ≡ o → Contains (tree_faults sources unit o) f → NetworkOrigin sources unit f
+    by None e h = absurd (contains_nothing f h)
+    by (Some (block_type d)) e h = found _ d.network (of_block d e) h
+    by (Some (adapter_type d)) e h = absurd (contains_nothing f h)
+    by (Some (subapplication_type d)) e h = found _ d.network (of_subapplication d e) h
+    by (Some (system_configuration s)) e h = let a = origin_in_flat_map (application_network sources unit) s.applications f h in found _ a.origin.network (of_application s a.origin e a.among) a.has
+
+module _ (sources : Sources) (unit : List ℕ) (here : Site) (n : NetworkTree) (stands : IsNetworkOf sources unit here n) where
+  network_reported : (f : Fault) → Contains (network_faults sources (place_at sources here n) n) f → Contains (net_faults_of sources unit) f
+  network_reported f c = by here n stands c
+    where
+      by : (here : Site) (n : NetworkTree) → IsNetworkOf sources unit here n → Contains (network_faults sources (place_at sources here n) n) f → Contains (net_faults_of sources unit) f
+      by here n (of_block d e) h = subst (λ (o : Option DeclTree). Contains (tree_faults sources unit o) f) (sym e) h
+      by here n (of_subapplication d e) h = subst (λ (o : Option DeclTree). Contains (tree_faults sources unit o) f) (sym e) h
+      by here n (of_application s a e among) h =
+          subst (λ (o : Option DeclTree). Contains (tree_faults sources unit o) f) (sym e) (contains_flat_map (application_network sources unit) s.applications a f among h)
+
+  abbrev pub of_connections : List Fault
+  of_connections = flat_map (connection_faults (place_at sources here n)) n.connections
+
+  abbrev pub of_others : List (List Fault)
+  of_others = flat_map (joined_types sources (place_at sources here n)) n.connections ∷ second_sources n.connections ∷ second_adapters n.connections ∷ all_parameters (place_at sources here n).scope n.instances ∷ []
+
+  -- a fault of the list at this place
+  pub reported : {code : Code} {span there : Span} (place : ℕ) (list : List Fault) → slice_get (of_connections ∷ of_others) place ≡ Some list → span ≡ there → Contains list (record { code = code; span = there }) → Contains (net_faults_of sources unit) (record { code = code; span = span })
+  reported {code = code} {span = span} place list e at c =
+      let one = subst (λ (s : Span). Contains list (record { code = code; span = s })) (sym at) c in
+      network_reported (record { code = code; span = span }) (in_joined of_connections of_others place list (record { code = code; span = span }) e one)
+
+-- the instances of a network are among what its names stand for
+pub own_instances : (sources : Sources) (unit : List ℕ) (here : Site) (n : NetworkTree) → IsNetworkOf sources unit here n → here.own.instances ≡ first_ones (instances_in n)
+own_instances sources unit here n (of_block d e) = refl
+own_instances sources unit here n is = refl
+
+-- where ends stand
+
+pub end_place : (e : End) → end_span e ≡ place_of e
+end_place e = by e.port
+  where
+    by : (port : Option NameUse) → end_span (record { name = e.name; port = port }) ≡ place_of (record { name = e.name; port = port })
+    by None = refl
+    by (Some p) = refl
+
+abbrev pub fault_at_end : Code → End → Fault
+fault_at_end code e = record { code = code; span = place_of e }

@@ -1,0 +1,194 @@
+-- Which part of the check has a code, and a fault of a unit.
+use Rattle.std.proofs.Common.{◌≡◌, ◌≢◌, ℕ, Bool, true, false, List, [], ◌∷◌, Some, None, ◌⊎◌, inl, inr, refl, sym, ap, ◌∙◌, subst, true≢false}
+use Rattle.std.specs.List.{Contains, slice_get}
+use Rattle.std.specs.FinMap.{get}
+use Rattle.std.specs.Option.{option_and_then}
+use Rattle.fb_text.specs.declared.token.Span.{Span}
+use Rattle.fb_deploy.specs.Parse.Body.{BodyTree, BrokenAt, Whole, body_of}
+use Rattle.fb_deploy.specs.Library.View.{Sources, tree_at, tree_in, tree_of}
+use Rattle.fb_deploy.specs.Iface.Declarations.{iface_faults_of}
+use Rattle.fb_deploy.specs.Iface.declared.code.Code.{Code}
+use Rattle.fb_deploy.specs.Iface.declared.code.Code.TheVariants.{Syntax, NameDiffers, Duplicate, MixedKind, UnknownType, WrongKind, WithUnknown, StateUnknown, EventUnknown, AlgorithmUnknown, VariableUnknown, Class, PortUnknown, PortSide, DataType, SecondSource, SecondAdapter, PassThrough, ParameterUnknown, Literal, MappedTwice, NoSuchResource}
+use Rattle.fb_deploy.specs.Iface.declared.fault.Fault.{Fault}
+use Rattle.fb_expr.specs.Charts.{expr_faults_of}
+use Rattle.fb_ecc.specs.Charts.{ecc_faults_of}
+use Rattle.fb_netcheck.specs.Networks.{net_faults_of}
+use Rattle.fb_deploy.specs.Faults.Mappings.{mapping_faults_of}
+use Rattle.fb_deploy.specs.Faults.Faults.{body_faults, faults_of, reported_of, syntax_faults_of, text_faults}
+use Rattle.fb_text.proofs.Members.{contains_nothing, contains_single, in_written}
+use Rattle.fb_deploy.proofs.Faults.OrderLemmas.{those_reported}
+use Rattle.fb_laws.specs.UnitParts.{CodesAreOfTheirParts, ConstantsAreOfTwoParts, HasPart, IsCodeOf, IsOfConstants, IsOfPart, Part, Declarations, Expressions, Charts, Networks, Mappings, PartsHaveAllOtherCodes, PartsShareOneCode, WholeUnitsHaveFaultsOfParts, faults_by, of_constant, other_name, duplicate, mixed_kind, unknown_type, wrong_kind, unknown_with, initial_value, unknown_variable, class, unknown_state, unknown_event, unknown_algorithm, unknown_port, wrong_side, other_type, second_source, second_adapter, passage, unknown_parameter, parameter_value, second_mapping, lost_mapping}
+use Rattle.fb_laws.specs.Texts.{broken_at}
+use Rattle.fb_laws.proofs.CodeLemmas.{own_codes}
+use Rattle.fb_laws.proofs.Joined.{in_joined, of_either}
+
+-- the parts of a code
+
+-- the part that has a code, for that of constants the first
+abbrev own_part : Code → Part
+own_part VariableUnknown = Expressions
+own_part Class = Expressions
+own_part StateUnknown = Charts
+own_part EventUnknown = Charts
+own_part AlgorithmUnknown = Charts
+own_part PortUnknown = Networks
+own_part PortSide = Networks
+own_part DataType = Networks
+own_part SecondSource = Networks
+own_part SecondAdapter = Networks
+own_part PassThrough = Networks
+own_part ParameterUnknown = Networks
+own_part MappedTwice = Mappings
+own_part NoSuchResource = Mappings
+own_part code = Declarations
+
+abbrev pub is_of_texts : Code → Bool
+is_of_texts Syntax = true
+is_of_texts code = false
+
+abbrev IsHome : Part → Code → Type 0
+IsHome part code = (is_of_texts code ≡ false) × ((part ≡ own_part code) ⊎ ((part ≡ Networks) × (code ≡ Literal)))
+
+home_of : (part : Part) (code : Code) → IsCodeOf part code → IsHome part code
+home_of part code parameter_value = (refl, inr (refl, refl))
+home_of part code is = (refl, inl refl)
+
+pub one_shared : PartsShareOneCode
+one_shared p q code differ a b = by (home_of p code a).1 (home_of q code b).1
+  where
+    by : (p ≡ own_part code) ⊎ ((p ≡ Networks) × (code ≡ Literal)) → (q ≡ own_part code) ⊎ ((q ≡ Networks) × (code ≡ Literal)) → IsOfConstants p q code
+    by (inl e) (inl g) = absurd (differ (e ∙ sym g))
+    by (inl e) (inr g) = (g.1, inl (e ∙ ap own_part g.1, g.0))
+    by (inr e) (inl g) = (e.1, inr (e.0, g ∙ ap own_part e.1))
+    by (inr e) (inr g) = absurd (differ (e.0 ∙ sym g.0))
+
+-- a code of a part is none of texts
+pub no_text_code : (part : Part) (code : Code) → IsCodeOf part code → code ≡ Syntax → ⊥
+no_text_code part code c e = true≢false (sym (ap is_of_texts e) ∙ (home_of part code c).0)
+
+-- the list that has a code
+listed_code : (code : Code) → code ≢ Syntax → HasPart code
+listed_code Syntax other = absurd (other refl)
+listed_code NameDiffers other = record { part = Declarations; is = other_name }
+listed_code Duplicate other = record { part = Declarations; is = duplicate }
+listed_code MixedKind other = record { part = Declarations; is = mixed_kind }
+listed_code UnknownType other = record { part = Declarations; is = unknown_type }
+listed_code WrongKind other = record { part = Declarations; is = wrong_kind }
+listed_code WithUnknown other = record { part = Declarations; is = unknown_with }
+listed_code StateUnknown other = record { part = Charts; is = unknown_state }
+listed_code EventUnknown other = record { part = Charts; is = unknown_event }
+listed_code AlgorithmUnknown other = record { part = Charts; is = unknown_algorithm }
+listed_code VariableUnknown other = record { part = Expressions; is = unknown_variable }
+listed_code Class other = record { part = Expressions; is = class }
+listed_code PortUnknown other = record { part = Networks; is = unknown_port }
+listed_code PortSide other = record { part = Networks; is = wrong_side }
+listed_code DataType other = record { part = Networks; is = other_type }
+listed_code SecondSource other = record { part = Networks; is = second_source }
+listed_code SecondAdapter other = record { part = Networks; is = second_adapter }
+listed_code PassThrough other = record { part = Networks; is = passage }
+listed_code ParameterUnknown other = record { part = Networks; is = unknown_parameter }
+listed_code Literal other = record { part = Declarations; is = initial_value }
+listed_code MappedTwice other = record { part = Mappings; is = second_mapping }
+listed_code NoSuchResource other = record { part = Mappings; is = lost_mapping }
+
+pub all_other_codes : PartsHaveAllOtherCodes
+all_other_codes code = (listed_code code, λ p. no_text_code p.part code p.is)
+
+-- faults of texts
+
+pub record TextOrigin (sources : Sources) (unit : List ℕ) (f : Fault) : Type 0 where
+  pub text : List ℕ
+  pub present : get sources unit ≡ Some text
+  pub broken : body_of text ≡ BrokenAt f.span
+  pub code : f.code ≡ Syntax
+
+pub text_origin : (sources : Sources) (unit : List ℕ) (f : Fault) → Contains (text_faults (get sources unit)) f → TextOrigin sources unit f
+text_origin sources unit f c = let w = in_written (λ (t : List ℕ). body_faults (body_of t)) (get sources unit) f c in by w.item w.is (body_of w.item) refl w.has
+  where
+    made : (text : List ℕ) → get sources unit ≡ Some text → (span : Span) → body_of text ≡ BrokenAt span → broken_at span ≡ f → TextOrigin sources unit f
+    made text is span e same = record { text = text; present = is; broken = e ∙ ap (λ (g : Fault). BrokenAt g.span) same; code = sym (ap (λ (g : Fault). g.code) same) }
+
+    by : (text : List ℕ) → get sources unit ≡ Some text → (body : BodyTree) → body_of text ≡ body → Contains (body_faults body) f → TextOrigin sources unit f
+    by text is (Whole decl) e h = absurd (contains_nothing f h)
+    by text is (BrokenAt span) e h = made text is span e (contains_single (broken_at span) f h)
+
+-- the parts of what is reported
+
+pub data IsReported (sources : Sources) (unit : List ℕ) (f : Fault) : Type 0 where
+  of_text : TextOrigin sources unit f → IsReported sources unit f
+  of_part : (part : Part) → Contains (faults_by part sources unit) f → IsReported sources unit f
+
+module _ (sources : Sources) (unit : List ℕ) (f : Fault) where
+  -- the faults of the parts, in the order of the check
+  abbrev of_parts : List (List Fault)
+  of_parts = iface_faults_of sources unit ∷ expr_faults_of sources unit ∷ ecc_faults_of sources unit ∷ net_faults_of sources unit ∷ mapping_faults_of sources unit ∷ []
+
+  abbrev place_of : Part → ℕ
+  place_of Declarations = 1
+  place_of Expressions = 2
+  place_of Charts = 3
+  place_of Networks = 4
+  place_of Mappings = 5
+
+  part_at : (part : Part) → slice_get (syntax_faults_of sources unit ∷ of_parts) (place_of part) ≡ Some (faults_by part sources unit)
+  part_at Declarations = refl
+  part_at part = refl
+
+  is_reported : (g : Fault) → Contains (reported_of sources unit) g → IsReported sources unit g
+  is_reported = of_either _ _ (of_either _ _ (of_either _ _ (of_either _ _ (of_either _ _ (λ g h. of_text (text_origin sources unit g h)) (λ g. of_part Declarations)) (λ g. of_part Expressions)) (λ g. of_part Charts)) (λ g. of_part Networks)) (λ g. of_part Mappings)
+
+  -- the same of the faults in order
+  pub is_found : Contains (faults_of sources unit) f → IsReported sources unit f
+  is_found c = is_reported f ((those_reported sources unit f).0 c)
+
+  part_found : (part : Part) → Contains (faults_by part sources unit) f → Contains (faults_of sources unit) f
+  part_found part c = (those_reported sources unit f).1 (in_joined (syntax_faults_of sources unit) of_parts (place_of part) (faults_by part sources unit) f (part_at part) c)
+
+-- units that are whole
+
+pub no_tree : (sources : Sources) (unit : List ℕ) (f : Fault) → TextOrigin sources unit f → tree_at sources unit ≡ None
+no_tree sources unit f o = ap (option_and_then tree_of) o.present ∙ ap tree_in o.broken
+
+pub whole_units : WholeUnitsHaveFaultsOfParts
+whole_units sources unit decl there f = (λ c. by (is_found sources unit f c), λ o. part_found sources unit f o.part o.reported)
+  where
+    none_is_some : None ≡ Some decl → ⊥
+    none_is_some e = let fails : ⊥ = cc in fails
+
+    by : IsReported sources unit f → IsOfPart sources unit f
+    by (of_text o) = absurd (none_is_some (sym (no_tree sources unit f o) ∙ there))
+    by (of_part part h) = record { part = part; reported = h }
+
+pub of_their_parts : CodesAreOfTheirParts
+of_their_parts part sources unit f code other = (λ c. by (is_found sources unit f c), λ h. part_found sources unit f part h)
+  where
+    same : (q : Part) → (part ≡ own_part f.code) ⊎ ((part ≡ Networks) × (f.code ≡ Literal)) → (q ≡ own_part f.code) ⊎ ((q ≡ Networks) × (f.code ≡ Literal)) → q ≡ part
+    same q (inl e) (inl g) = g ∙ sym e
+    same q (inl e) (inr g) = absurd (other g.1)
+    same q (inr e) g = absurd (other e.1)
+
+    by : IsReported sources unit f → Contains (faults_by part sources unit) f
+    by (of_text o) = absurd (no_text_code part f.code code o.code)
+    by (of_part q h) =
+        subst (λ (p : Part). Contains (faults_by p sources unit) f) (same q (home_of part f.code code).1 (home_of q f.code (own_codes q sources unit f h)).1) h
+
+pub of_two_parts : ConstantsAreOfTwoParts
+of_two_parts sources unit span = (λ c. by (is_found sources unit it c), from)
+  where
+    it : Fault
+    it = of_constant span
+
+    moved : (q p : Part) → q ≡ p → Contains (faults_by q sources unit) it → Contains (faults_by p sources unit) it
+    moved q p e h = subst (λ (r : Part). Contains (faults_by r sources unit) it) e h
+
+    in_one : (q : Part) → Contains (faults_by q sources unit) it → (q ≡ own_part Literal) ⊎ ((q ≡ Networks) × (Literal ≡ Literal)) → Contains (iface_faults_of sources unit) it ⊎ Contains (net_faults_of sources unit) it
+    in_one q h (inl e) = inl (moved q Declarations e h)
+    in_one q h (inr e) = inr (moved q Networks e.0 h)
+
+    by : IsReported sources unit it → Contains (iface_faults_of sources unit) it ⊎ Contains (net_faults_of sources unit) it
+    by (of_text o) = absurd (true≢false (sym (ap is_of_texts o.code)))
+    by (of_part q h) = in_one q h (home_of q Literal (own_codes q sources unit it h)).1
+
+    from : Contains (iface_faults_of sources unit) it ⊎ Contains (net_faults_of sources unit) it → Contains (faults_of sources unit) it
+    from (inl h) = part_found sources unit it Declarations h
+    from (inr h) = part_found sources unit it Networks h

@@ -1,0 +1,223 @@
+-- Each end of a link of a flat network is that of a block.
+use Rattle.std.proofs.Common.{ℕ, ◌≡◌, List, [], ◌∷◌, ◌++◌, Some, ◌⊎◌, inl, inr, sym, ◌∙◌, ap, subst, map, append_assoc}
+use Rattle.std.specs.Prelude.{Contains}
+use Rattle.std.specs.BTreeMap.{is_at}
+use Rattle.std.proofs.lemmas.List.Elements.{Contains-append_left, Contains-append_right}
+use Rattle.fb_text.specs.Order.{name_cmp}
+use Rattle.fb_text.proofs.Members.{contains_cases, contains_flat_map, contains_here, contains_later, contains_map, contains_nothing, passes_in_find}
+use Rattle.fb_wiring.proofs.Network.Equals.{same_bytes}
+use Rattle.fb_placing.proofs.NameLemmas.{printed-push}
+use Rattle.fb_deploy.specs.Library.View.{Sources}
+use Rattle.fb_tree.specs.declared.network.Sort.{Sort}
+use Rattle.fb_wiring.specs.Network.declared.flat.FlatBlock.{FlatBlock}
+use Rattle.fb_wiring.specs.Network.declared.flat.Link.{Link}
+use Rattle.fb_wiring.specs.Network.declared.network.Instance.{Instance}
+use Rattle.fb_wiring.specs.Network.declared.network.InstanceKind.{InstanceKind}
+use Rattle.fb_wiring.specs.Network.declared.network.InstanceKind.TheVariants.{Block, Subapplication}
+use Rattle.fb_wiring.specs.Network.FlatNet.{IsFlat}
+use Rattle.fb_wiring.specs.Network.Instances.{AreBlocks, AreInstances, Held, NoInstance, ThenBlock, ThenSubapplication, held_as, held_within, leaf_first, leaves_of}
+use Rattle.fb_wiring.specs.Network.NetLink.{Direct, FromPlug, IsNetLink, ToPlug}
+use Rattle.fb_wiring.specs.Network.Network.{BlockPort, IsLeafPlace, LeafWithin, Place, View}
+use Rattle.fb_wiring.specs.Network.Places.{dotted}
+use Rattle.fb_wiring.specs.Network.Plain.{PlainNetwork}
+use Rattle.fb_wiring.specs.Network.PlainFlat.{PlainFlat}
+use Rattle.fb_wiring.specs.Network.Printed.{printed}
+use Rattle.fb_deploy.specs.Flatten.Net.{HasFlat}
+use Rattle.fb_wiring.specs.Units.{AreFlatApplications, IsUnitFlat, NoApplication, OfSubapplication, OfSystem, ThenApplication}
+use Rattle.fb_wiring.specs.declared.systems.Application.{Application}
+use Rattle.fb_wiring.specs.Network.Composed.{block_within}
+use Rattle.fb_wiring.specs.Network.SystemFlat.{IsSystemFlat, application_blocks}
+use Rattle.fb_wiring.specs.Network.declared.application.FlatApplication.{FlatApplication}
+use Rattle.fb_placing.specs.Fronts.{IsFront}
+
+-- ---- blocks at ports
+
+in_held : (z i : Instance) (rest : List Instance) (tail : List Held) → (z ≡ i) ⊎ Contains rest i → (Contains rest i → Contains tail (held_as i)) → Contains (held_as z ∷ tail) (held_as i)
+in_held z i rest tail (inl same) more = subst (λ (w : Instance). Contains (held_as z ∷ tail) (held_as w)) same (contains_here (held_as z) tail)
+in_held z i rest tail (inr d) more = contains_later (held_as z) tail (held_as i) (more d)
+
+-- an instance is held
+instance_held : {view : View} {list : List Instance} {held : List Held} → AreInstances view list held → (i : Instance) → Contains list i → Contains held (held_as i)
+instance_held NoInstance i c = absurd (contains_nothing i c)
+instance_held (ThenBlock z rest others k more) i c = in_held z i rest others (contains_cases z rest i c) (λ d. instance_held more i d)
+instance_held (ThenSubapplication z rest inner own others k known inside more) i c =
+    in_held z i rest (map (held_within z.name) own ++ others) (contains_cases z rest i c)
+    (λ d. Contains-append_right (map (held_within z.name) own) others (held_as i) (instance_held more i d))
+
+-- the instances of a subapplication are held within its name
+record InnerHeld (view : View) (inner : PlainNetwork) (held : List Held) (name : List ℕ) : Type 0 where
+  own : List Held
+  instances : AreInstances view inner.instances own
+  within : (h : Held) → Contains own h → Contains held (held_within name h)
+
+more_held : {view : View} {inner : PlainNetwork} {name : List ℕ} (front back : List Held) → InnerHeld view inner back name → InnerHeld view inner (front ++ back) name
+more_held {name = name} front back o = record { own = o.own; instances = o.instances; within = λ h c. Contains-append_right front back (held_within name h) (o.within h c) }
+
+inner_of_block : {view : View} {inner : PlainNetwork} (z i : Instance) (rest : List Instance) (others : List Held) → z.kind ≡ Block → i.kind ≡ Subapplication → (z ≡ i) ⊎ Contains rest i → (Contains rest i → InnerHeld view inner others i.name) → InnerHeld view inner (held_as z ∷ others) i.name
+inner_of_block z i rest others k g (inl same) more = absurd (let kinds = ap (λ (w : Instance). w.kind) same in cc)
+inner_of_block z i rest others k g (inr d) more = more_held (held_as z ∷ []) others (more d)
+
+inner_of_subapplication : {view : View} {inner inner2 : PlainNetwork} (z i : Instance) (rest : List Instance) (own others : List Held) → view z.type_name ≡ Some inner2 → AreInstances view inner2.instances own → view i.type_name ≡ Some inner → (z ≡ i) ⊎ Contains rest i → (Contains rest i → InnerHeld view inner others i.name) → InnerHeld view inner (held_as z ∷ (map (held_within z.name) own ++ others)) i.name
+inner_of_subapplication {view = view} {inner = inner} {inner2 = inner2} z i rest own others known inside typed (inl e) more =
+    let type_is : view z.type_name ≡ view i.type_name = ap (λ (w : Instance). view w.type_name) e in
+    let same : inner2 ≡ inner = cc in
+    let name_is : z.name ≡ i.name = ap (λ (w : Instance). w.name) e in
+    record {
+      own = own;
+      instances = subst (λ (m : PlainNetwork). AreInstances view m.instances own) same inside;
+      within = λ h c. contains_later (held_as z) (map (held_within z.name) own ++ others) (held_within i.name h)
+          (Contains-append_left (map (held_within z.name) own) others (held_within i.name h)
+          (subst (λ (n : List ℕ). Contains (map (held_within z.name) own) (held_within n h)) name_is (contains_map (held_within z.name) own h c)));
+    }
+inner_of_subapplication z i rest own others known inside typed (inr d) more =
+    more_held (held_as z ∷ []) (map (held_within z.name) own ++ others) (more_held (map (held_within z.name) own) others (more d))
+
+inner_held : {view : View} {list : List Instance} {held : List Held} {inner : PlainNetwork} → AreInstances view list held → (i : Instance) → Contains list i → i.kind ≡ Subapplication → view i.type_name ≡ Some inner → InnerHeld view inner held i.name
+inner_held NoInstance i c g typed = absurd (contains_nothing i c)
+inner_held (ThenBlock z rest others k more) i c g typed = inner_of_block z i rest others k g (contains_cases z rest i c) (λ d. inner_held more i d g typed)
+inner_held (ThenSubapplication z rest inner own others k known inside more) i c g typed =
+    inner_of_subapplication z i rest own others known inside typed (contains_cases z rest i c) (λ d. inner_held more i d g typed)
+
+-- a place is a port of a block that is held
+record IsHeldAt (held : List Held) (a : Place) : Type 0 where
+  first : List ℕ
+  others : Place
+  typed : List ℕ
+  listed : Contains held (record { path = first ∷ others; kind = Block; typed = typed })
+  port : List ℕ
+  place : a ≡ (first ∷ others) ++ port ∷ []
+
+leaf_held : {view : View} {network : PlainNetwork} {a : Place} → IsLeafPlace view network a → (held : List Held) → AreInstances view network.instances held → IsHeldAt held a
+leaf_held {network = network} (BlockPort name type port b e) held are =
+    let found = passes_in_find (λ (i : Instance). is_at (name_cmp i.name) name) network.instances b.instance b.first in
+    let same : b.instance.name ≡ name = same_bytes b.instance.name name found.passes in
+    record {
+      first = b.instance.name;
+      others = [];
+      typed = b.instance.type_name;
+      listed = subst (λ (k : InstanceKind). Contains held (record { path = b.instance.name ∷ []; kind = k; typed = b.instance.type_name })) b.kind (instance_held are b.instance found.among);
+      port = port;
+      place = e ∙ ap (λ (n : List ℕ). n ∷ port ∷ []) (sym same);
+    }
+leaf_held {network = network} (LeafWithin inner name a' i e leaf) held are =
+    let found = passes_in_find (λ (w : Instance). is_at (name_cmp w.name) name) network.instances i.instance i.first in
+    let same : i.instance.name ≡ name = same_bytes i.instance.name name found.passes in
+    let within = inner_held are i.instance found.among i.kind i.declared in
+    let o = leaf_held leaf within.own within.instances in
+    record {
+      first = i.instance.name;
+      others = o.first ∷ o.others;
+      typed = o.typed;
+      listed = within.within (record { path = o.first ∷ o.others; kind = Block; typed = o.typed }) o.listed;
+      port = o.port;
+      place = e ∙ (λ k. sym same k ∷ o.place k);
+    }
+
+-- what is held as a block is a block
+leaf_listed : (held : List Held) (path : Place) (typed : List ℕ) → Contains held (record { path = path; kind = Block; typed = typed }) → Contains (leaves_of held) (record { path = printed path; type_name = typed })
+leaf_listed [] path typed c = absurd (contains_nothing _ c)
+leaf_listed (h ∷ hs) path typed c = by (contains_cases h hs (record { path = path; kind = Block; typed = typed }) c) (leaf_listed hs path typed)
+  where
+    later : (k : InstanceKind) → Contains (leaves_of hs) (record { path = printed path; type_name = typed }) → Contains (leaf_first k h (leaves_of hs)) (record { path = printed path; type_name = typed })
+    later Block d = contains_later (record { path = printed h.path; type_name = h.typed }) (leaves_of hs) (record { path = printed path; type_name = typed }) d
+    later Subapplication d = d
+
+    by : (h ≡ record { path = path; kind = Block; typed = typed }) ⊎ Contains hs (record { path = path; kind = Block; typed = typed }) → (Contains hs (record { path = path; kind = Block; typed = typed }) → Contains (leaves_of hs) (record { path = printed path; type_name = typed })) → Contains (leaves_of (h ∷ hs)) (record { path = printed path; type_name = typed })
+    by (inl same) more = subst (λ (w : Held). Contains (leaf_first w.kind w (leaves_of hs)) (record { path = printed path; type_name = typed })) (sym same) (contains_here (record { path = printed path; type_name = typed }) (leaves_of hs))
+    by (inr d) more = later h.kind (more d)
+
+-- ---- blocks in front of ends
+
+pub record HasFront (blocks : List FlatBlock) (end : List ℕ) : Type 0 where
+  pub block : FlatBlock
+  pub listed : Contains blocks block
+  pub front : IsFront block.path end
+
+module _ {view : View} {network : PlainNetwork} {blocks : List FlatBlock} (are : AreBlocks view network blocks) where
+  at_held : {a : Place} (o : IsHeldAt are.held a) → Contains blocks (record { path = printed (o.first ∷ o.others); type_name = o.typed })
+  at_held o = subst (λ (l : List FlatBlock). Contains l (record { path = printed (o.first ∷ o.others); type_name = o.typed })) (sym are.blocks_are) (leaf_listed are.held (o.first ∷ o.others) o.typed o.listed)
+
+  leaf_front : {a : Place} → IsLeafPlace view network a → HasFront blocks (printed a)
+  leaf_front leaf =
+      let o = leaf_held leaf are.held are.instances in
+      record {
+        block = record { path = printed (o.first ∷ o.others); type_name = o.typed };
+        listed = at_held o;
+        front = inr (o.port, ap printed o.place ∙ printed-push o.first o.others o.port);
+      }
+
+  -- a port of a plug or a socket
+  port_front : {a : Place} (port : List ℕ) → IsLeafPlace view network a → HasFront blocks (printed (a ++ port ∷ []))
+  port_front port leaf =
+      let o = leaf_held leaf are.held are.instances in
+      record {
+        block = record { path = printed (o.first ∷ o.others); type_name = o.typed };
+        listed = at_held o;
+        front = inr (
+          o.port ++ 46 ∷ port,
+          ap (λ (a : Place). printed (a ++ port ∷ [])) o.place
+              ∙ printed-push o.first (o.others ++ o.port ∷ []) port
+              ∙ ap (λ (t : List ℕ). dotted t port) (printed-push o.first o.others o.port)
+              ∙ append_assoc (printed (o.first ∷ o.others)) (46 ∷ o.port) (46 ∷ port),
+        );
+      }
+
+  link_fronts : {sort : Sort} {a b : Place} → IsNetLink view network sort a b → HasFront blocks (printed a) × HasFront blocks (printed b)
+  link_fronts (Direct other link) = (leaf_front link.from_leaf, leaf_front link.to_leaf)
+  link_fronts (FromPlug plug socket adapter port link at c sort side from to) = (
+    subst (λ (p : Place). HasFront blocks (printed p)) (sym from) (port_front port.name link.from_leaf),
+    subst (λ (p : Place). HasFront blocks (printed p)) (sym to) (port_front port.name link.to_leaf),
+  )
+  link_fronts (ToPlug plug socket adapter port link at c sort side from to) = (
+    subst (λ (p : Place). HasFront blocks (printed p)) (sym from) (port_front port.name link.to_leaf),
+    subst (λ (p : Place). HasFront blocks (printed p)) (sym to) (port_front port.name link.from_leaf),
+  )
+
+flat_fronts : {view : View} {network : PlainNetwork} {flat : PlainFlat} → IsFlat view network flat → (link : Link) → Contains flat.links link → HasFront flat.blocks link.from × HasFront flat.blocks link.to
+flat_fronts {flat = flat} is link c =
+    let l = is.links.sound link c in
+    let ends = link_fronts is.blocks l.link in
+    (subst (λ (t : List ℕ). HasFront flat.blocks t) (sym l.from_is) ends.0, subst (λ (t : List ℕ). HasFront flat.blocks t) (sym l.to_is) ends.1)
+
+-- ---- the ends of a unit's links
+
+-- the flat network of one of the applications
+record IsOfApplication (view : View) (flat : FlatApplication) : Type 0 where
+  network : PlainNetwork
+  is : IsFlat view network flat.flat
+
+application_flat : {view : View} {applications : List Application} {flats : List FlatApplication} → AreFlatApplications view applications flats → (f : FlatApplication) → Contains flats f → IsOfApplication view f
+application_flat NoApplication f c = absurd (contains_nothing f c)
+application_flat {view = view} (ThenApplication {others = others} a z is more) f c = by (contains_cases z others f c) (λ d. application_flat more f d)
+  where
+    by : (z ≡ f) ⊎ Contains others f → (Contains others f → IsOfApplication view f) → IsOfApplication view f
+    by (inl same) rest = subst (λ (w : FlatApplication). IsOfApplication view w) same (record { network = a.network; is = is.net })
+    by (inr d) rest = rest d
+
+front_within : (name front path : List ℕ) → IsFront front path → IsFront (dotted name front) (dotted name path)
+front_within name front path (inl e) = inl (ap (dotted name) e)
+front_within name front path (inr (rest, e)) = inr (rest, ap (dotted name) e ∙ sym (append_assoc name (46 ∷ front) (46 ∷ rest)))
+
+fronts_within : (flats : List FlatApplication) (flat : PlainFlat) → IsSystemFlat flats flat → (f : FlatApplication) → Contains flats f → (end : List ℕ) → HasFront f.flat.blocks end → HasFront flat.blocks (dotted f.name end)
+fronts_within flats flat whole f c end h = record {
+  block = block_within f.name h.block;
+  listed =
+      subst (λ (l : List FlatBlock). Contains l (block_within f.name h.block)) (sym whole.blocks)
+      (contains_flat_map application_blocks flats f (block_within f.name h.block) c (contains_map (block_within f.name) f.flat.blocks h.block h.listed));
+  front = front_within f.name h.block.path end h.front;
+}
+
+system_fronts : {view : View} {applications : List Application} {flats : List FlatApplication} {flat : PlainFlat} → AreFlatApplications view applications flats → IsSystemFlat flats flat → (link : Link) → Contains flat.links link → HasFront flat.blocks link.from × HasFront flat.blocks link.to
+system_fronts {flats = flats} {flat = flat} are whole link c =
+    let l = (whole.links link).0 c in
+    let ends = flat_fronts (application_flat are l.application l.among).is l.own l.is_own in (
+      subst (λ (w : Link). HasFront flat.blocks w.from) (sym l.inside) (fronts_within flats flat whole l.application l.among l.own.from ends.0),
+      subst (λ (w : Link). HasFront flat.blocks w.to) (sym l.inside) (fronts_within flats flat whole l.application l.among l.own.to ends.1),
+    )
+
+unit_fronts : (sources : Sources) (unit : List ℕ) (flat : PlainFlat) → IsUnitFlat sources unit flat → (link : Link) → Contains flat.links link → HasFront flat.blocks link.from × HasFront flat.blocks link.to
+unit_fronts sources unit flat (OfSubapplication network kind there net) link c = flat_fronts net link c
+unit_fronts sources unit flat (OfSystem applications flats kind there are net) link c = system_fronts are net link c
+
+pub net_fronts : (sources : Sources) (unit : List ℕ) (flat : PlainFlat) → HasFlat sources unit flat → (link : Link) → Contains flat.links link → HasFront flat.blocks link.from × HasFront flat.blocks link.to
+net_fronts sources unit flat is link c = unit_fronts sources unit flat is.1.2 link c

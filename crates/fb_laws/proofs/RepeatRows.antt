@@ -1,0 +1,322 @@
+-- Ends that stand twice, by what the list of faults has.
+use Rattle.std.proofs.Common.{◌≡◌, List, [], ◌∷◌, ◌++◌, map, Option, Some, None, option_map, ◌⊎◌, inl, inr, refl, sym, ap, ◌∙◌, subst}
+use Rattle.std.specs.List.{Contains, flat_map}
+use Rattle.std.proofs.lemmas.List.Elements.{Contains-append_left, Contains-append_right, Contains-append_cases}
+use Rattle.fb_text.specs.declared.name.NameUse.{NameUse}
+use Rattle.fb_tree.specs.Tree.{NetworkTree}
+use Rattle.fb_tree.specs.declared.network.Connection.{Connection}
+use Rattle.fb_tree.specs.declared.network.End.{End}
+use Rattle.fb_tree.specs.declared.network.Sort.{Sort}
+use Rattle.fb_tree.specs.declared.network.Sort.TheVariants as sorts
+use Rattle.fb_deploy.specs.Iface.declared.code.Code.{Code}
+use Rattle.fb_deploy.specs.Iface.declared.code.Code.TheVariants.{SecondAdapter, SecondSource}
+use Rattle.fb_deploy.specs.Iface.declared.fault.Fault.{Fault}
+use Rattle.fb_text.proofs.Members.{ComesThrough, contains_cases, contains_flat_map, contains_here, contains_later, contains_nothing, contains_single, origin_in_flat_map}
+use Rattle.fb_netcheck.specs.declared.ends.Position.{Position}
+use Rattle.fb_netcheck.specs.declared.ends.Position.TheVariants.{Source, Destination}
+use Rattle.fb_netcheck.specs.Networks.{net_faults_of}
+use Rattle.fb_netcheck.specs.Paths.{Path, fault_at_path, repeated_faults}
+use Rattle.fb_netcheck.specs.Repeats.{adapter_ends, data_destination, end_path, path_named}
+use Rattle.fb_laws.specs.Ends.{HaveSameNames, IsEndOf, IsNetworkOf, Site, place_of, source, destination}
+use Rattle.fb_laws.specs.Networks.{AdaptersHaveOneEnd, DestinationsHaveOneSource, HasSecondAdapter, HasSecondSource, IsTaken, by_earlier, by_source}
+use Rattle.fb_laws.proofs.NetworkLemmas.{end_place, fault_at_end, network_origin, reported}
+use Rattle.fb_laws.proofs.RepeatedPaths.{repeat_origin, repeat_reported}
+use Rattle.fb_laws.proofs.SplitLemmas.{split_through, through_split}
+
+-- ends of connections
+
+abbrev names_of : End → Path
+names_of e = path_named e.name e.port
+
+same_ends : (a b : End) → names_of a ≡ names_of b → HaveSameNames a b
+same_ends a b e = by a.port b.port e
+  where
+    by : (p q : Option NameUse) → path_named a.name p ≡ path_named b.name q → (a.name.name ≡ b.name.name) × (option_map (λ n. n.name) p ≡ option_map (λ n. n.name) q)
+    by None None e = (cc, refl)
+    by None (Some q) e = absurd (let fails : ⊥ = cc in fails)
+    by (Some p) None e = absurd (let fails : ⊥ = cc in fails)
+    by (Some p) (Some q) e = let same : p.name ≡ q.name = cc in (cc, ap Some same)
+
+ends_same : (a b : End) → HaveSameNames a b → names_of a ≡ names_of b
+ends_same a b e = by a.port b.port e.1
+  where
+    by : (p q : Option NameUse) → option_map (λ (n : NameUse). n.name) p ≡ option_map (λ (n : NameUse). n.name) q → path_named a.name p ≡ path_named b.name q
+    by None None s = ap (λ n. n ∷ []) e.0
+    by None (Some q) s = absurd (let fails : ⊥ = cc in fails)
+    by (Some p) None s = absurd (let fails : ⊥ = cc in fails)
+    by (Some p) (Some q) s = let same : p.name ≡ q.name = cc in λ i. e.0 i ∷ same i ∷ []
+
+-- an end of those that each connection has, with one of the same names before it
+record IsSecond (f : Connection → List End) (connections : List Connection) (e : End) : Type 0 where
+  earlier : List Connection
+  again : Connection
+  later : List Connection
+  listed : connections ≡ earlier ++ again ∷ later
+  inside : List End
+  rest : List End
+  parts : f again ≡ inside ++ e ∷ rest
+  other : End
+  same : HaveSameNames other e
+  taken : ComesThrough f earlier other ⊎ Contains inside other
+
+path_fault : (code : Code) (e : End) → fault_at_path code (end_path e) ≡ fault_at_end code e
+path_fault code e = λ i. record { code = code; span = end_place e i }
+
+record SecondOrigin (code : Code) (f : Connection → List End) (connections : List Connection) (fault : Fault) : Type 0 where
+  end : End
+  second : IsSecond f connections end
+  is : fault_at_end code end ≡ fault
+
+taken_in : (f : Connection → List End) (earlier : List Connection) (inside : List End) (other : End) → Contains (flat_map f earlier ++ inside) other → ComesThrough f earlier other ⊎ Contains inside other
+taken_in f earlier inside other c = by (Contains-append_cases (flat_map f earlier) inside other c)
+  where
+    by : Contains (flat_map f earlier) other ⊎ Contains inside other → ComesThrough f earlier other ⊎ Contains inside other
+    by (inl h) = inl (origin_in_flat_map f earlier other h)
+    by (inr h) = inr h
+
+second_origin : (code : Code) (f : Connection → List End) (connections : List Connection) (fault : Fault) → Contains (repeated_faults code (map end_path (flat_map f connections))) fault → SecondOrigin code f connections fault
+second_origin code f connections fault c =
+    let e = repeat_origin end_path (flat_map f connections) code fault c in
+    let t = split_through f connections e.before e.after e.item e.split in
+    record {
+      end = e.item;
+      second = record {
+        earlier = t.earlier;
+        again = t.origin;
+        later = t.later;
+        listed = t.split;
+        inside = t.inside;
+        rest = t.rest;
+        parts = t.parts;
+        other = e.other;
+        same = same_ends e.other e.item e.same;
+        taken = taken_in f t.earlier t.inside e.other (subst (λ (l : List End). Contains l e.other) t.passed e.seen);
+      };
+      is = sym (path_fault code e.item) ∙ e.is;
+    }
+
+second_reported : (code : Code) (f : Connection → List End) (connections : List Connection) (e : End) → IsSecond f connections e → Contains (repeated_faults code (map end_path (flat_map f connections))) (fault_at_end code e)
+second_reported code f connections e h =
+    let split = ap (flat_map f) h.listed ∙ through_split f h.earlier h.later h.again h.inside h.rest e h.parts in
+    let seen = repeat_reported end_path code (flat_map f connections) (flat_map f h.earlier ++ h.inside) (h.rest ++ flat_map f h.later) e h.other split (among h.taken) (ends_same h.other e h.same) in
+    subst (λ (g : Fault). Contains (repeated_faults code (map end_path (flat_map f connections))) g) (path_fault code e) seen
+  where
+    among : ComesThrough f h.earlier h.other ⊎ Contains h.inside h.other → Contains (flat_map f h.earlier ++ h.inside) h.other
+    among (inl o) = Contains-append_left (flat_map f h.earlier) h.inside h.other (contains_flat_map f h.earlier o.origin h.other o.among o.has)
+    among (inr c) = Contains-append_right (flat_map f h.earlier) h.inside h.other c
+
+nothing_split : {A : Type 0} (before : List A) (x : A) (after : List A) → [] ≡ before ++ x ∷ after → ⊥
+nothing_split [] x after e = let fails : ⊥ = cc in fails
+nothing_split (y ∷ before) x after e = let fails : ⊥ = cc in fails
+
+-- destinations of data
+
+abbrev destinations : Connection → List End
+destinations c = data_destination c.sort c.destination
+
+data_parts : (sort : Sort) (d : End) (inside rest : List End) (e : End) → data_destination sort d ≡ inside ++ e ∷ rest → (sort ≡ sorts.Data) × (d ≡ e) × (inside ≡ [])
+data_parts sorts.Data d [] rest e p = (refl, cc, refl)
+data_parts sorts.Data d (x ∷ inside) rest e p = let tails : [] ≡ inside ++ e ∷ rest = cc in absurd (nothing_split inside e rest tails)
+data_parts sorts.Event d inside rest e p = absurd (nothing_split inside e rest p)
+data_parts sorts.Adapter d inside rest e p = absurd (nothing_split inside e rest p)
+
+in_data : (sort : Sort) (d e : End) → Contains (data_destination sort d) e → (sort ≡ sorts.Data) × (d ≡ e)
+in_data sorts.Data d e c = (refl, contains_single d e c)
+in_data sorts.Event d e c = absurd (contains_nothing e c)
+in_data sorts.Adapter d e c = absurd (contains_nothing e c)
+
+data_is : (sort : Sort) (d : End) → sort ≡ sorts.Data → data_destination sort d ≡ d ∷ []
+data_is sort d e = ap (λ s. data_destination s d) e
+
+pub one_source : DestinationsHaveOneSource
+one_source sources unit span = (to, from)
+  where
+    it : Fault
+    it = record { code = SecondSource; span = span }
+
+    in_earlier : (here : Site) (n : NetworkTree) → IsNetworkOf sources unit here n → (e : End) → fault_at_end SecondSource e ≡ it → (s : IsSecond destinations n.connections e) → ComesThrough destinations s.earlier s.other → HasSecondSource sources unit span
+    in_earlier here n stands e is s o =
+        let again = data_parts s.again.sort s.again.destination s.inside s.rest e s.parts in
+        let first = in_data o.origin.sort o.origin.destination s.other o.has in
+        record {
+          here = here;
+          network = n;
+          stands = stands;
+          before = s.earlier;
+          again = s.again;
+          after = s.later;
+          listed = s.listed;
+          of_data = again.0;
+          first = o.origin;
+          earlier = o.among;
+          first_of_data = first.0;
+          same = subst (λ (x : End). HaveSameNames x s.again.destination) (sym first.1) (subst (λ (x : End). HaveSameNames s.other x) (sym again.1) s.same);
+          place = sym (ap (λ (g : Fault). g.span) is) ∙ ap place_of (sym again.1);
+        }
+
+    by : (here : Site) (n : NetworkTree) → IsNetworkOf sources unit here n → (e : End) → fault_at_end SecondSource e ≡ it → (s : IsSecond destinations n.connections e) → ComesThrough destinations s.earlier s.other ⊎ Contains s.inside s.other → HasSecondSource sources unit span
+    by here n stands e is s (inl o) = in_earlier here n stands e is s o
+    by here n stands e is s (inr c) = absurd (contains_nothing s.other (subst (λ (l : List End). Contains l s.other) (data_parts s.again.sort s.again.destination s.inside s.rest e s.parts).2 c))
+
+    to : Contains (net_faults_of sources unit) it → HasSecondSource sources unit span
+    to c =
+        let o = network_origin sources unit it c in
+        let s = second_origin SecondSource destinations o.network.connections it o.has in
+        by o.here o.network o.stands s.end s.is s.second s.second.taken
+
+    from : HasSecondSource sources unit span → Contains (net_faults_of sources unit) it
+    from h =
+        let second : IsSecond destinations h.network.connections h.again.destination = record {
+          earlier = h.before;
+          again = h.again;
+          later = h.after;
+          listed = h.listed;
+          inside = [];
+          rest = [];
+          parts = data_is h.again.sort h.again.destination h.of_data;
+          other = h.first.destination;
+          same = h.same;
+          taken = inl (record { origin = h.first; among = h.earlier; has = subst (λ (l : List End). Contains l h.first.destination) (sym (data_is h.first.sort h.first.destination h.first_of_data)) (contains_here h.first.destination []) });
+        } in
+        reported sources unit h.here h.network h.stands 2 _ refl h.place (second_reported SecondSource destinations h.network.connections h.again.destination second)
+
+-- ends of adapter connections
+
+abbrev both_ends : Connection → List End
+both_ends c = adapter_ends c.sort c.source c.destination
+
+-- an end in the list of both, by what stands before it
+data IsPart (s d : End) (inside : List End) (e : End) : Type 0 where
+  at_source : inside ≡ [] → s ≡ e → IsPart s d inside e
+  at_destination : inside ≡ s ∷ [] → d ≡ e → IsPart s d inside e
+
+adapter_parts : (sort : Sort) (s d : End) (inside rest : List End) (e : End) → adapter_ends sort s d ≡ inside ++ e ∷ rest → (sort ≡ sorts.Adapter) × IsPart s d inside e
+adapter_parts sorts.Adapter s d [] rest e p = (refl, at_source refl cc)
+adapter_parts sorts.Adapter s d (x ∷ []) rest e p = let first : x ≡ s = cc in (refl, at_destination (ap (λ y. y ∷ []) first) cc)
+adapter_parts sorts.Adapter s d (x ∷ y ∷ inside) rest e p = let tails : [] ≡ inside ++ e ∷ rest = cc in absurd (nothing_split inside e rest tails)
+adapter_parts sorts.Data s d inside rest e p = absurd (nothing_split inside e rest p)
+adapter_parts sorts.Event s d inside rest e p = absurd (nothing_split inside e rest p)
+
+-- an end of an adapter connection
+record IsAdapterEnd (c : Connection) (e : End) : Type 0 where
+  of_adapter : c.sort ≡ sorts.Adapter
+  position : Position
+  is_end : IsEndOf c position e
+
+is_source : (c : Connection) (e : End) → c.source ≡ e → IsEndOf c Source e
+is_source c e same = subst (IsEndOf c Source) same source
+
+is_destination : (c : Connection) (e : End) → c.destination ≡ e → IsEndOf c Destination e
+is_destination c e same = subst (IsEndOf c Destination) same destination
+
+in_both : (c : Connection) (e : End) → Contains (both_ends c) e → IsAdapterEnd c e
+in_both c e h = by c.sort refl h
+  where
+    by_case : c.sort ≡ sorts.Adapter → (c.source ≡ e) ⊎ Contains (c.destination ∷ []) e → IsAdapterEnd c e
+    by_case is (inl same) = record { of_adapter = is; position = Source; is_end = is_source c e same }
+    by_case is (inr d) = record { of_adapter = is; position = Destination; is_end = is_destination c e (contains_single c.destination e d) }
+
+    by : (sort : Sort) → c.sort ≡ sort → Contains (adapter_ends sort c.source c.destination) e → IsAdapterEnd c e
+    by sorts.Adapter is h = by_case is (contains_cases c.source (c.destination ∷ []) e h)
+    by sorts.Data is h = absurd (contains_nothing e h)
+    by sorts.Event is h = absurd (contains_nothing e h)
+
+both_is : (c : Connection) → c.sort ≡ sorts.Adapter → both_ends c ≡ c.source ∷ c.destination ∷ []
+both_is c e = ap (λ s. adapter_ends s c.source c.destination) e
+
+both_have : (c : Connection) (position : Position) (e : End) → c.sort ≡ sorts.Adapter → IsEndOf c position e → Contains (both_ends c) e
+both_have c position e is end = subst (λ (l : List End). Contains l e) (sym (both_is c is)) (by position e end)
+  where
+    by : (position : Position) (e : End) → IsEndOf c position e → Contains (c.source ∷ c.destination ∷ []) e
+    by Source e source = contains_here c.source (c.destination ∷ [])
+    by Destination e destination = contains_later c.source (c.destination ∷ []) c.destination (contains_here c.destination [])
+
+-- what stands around an end in the list of both
+around : (c : Connection) (position : Position) (e : End) → IsEndOf c position e → (inside : List End) × (rest : List End) × (c.source ∷ c.destination ∷ [] ≡ inside ++ e ∷ rest)
+around c Source e source = ([], c.destination ∷ [], refl)
+around c Destination e destination = (c.source ∷ [], [], refl)
+
+pub one_end : AdaptersHaveOneEnd
+one_end sources unit span = (to, from)
+  where
+    it : Fault
+    it = record { code = SecondAdapter; span = span }
+
+    made : (here : Site) (n : NetworkTree) → IsNetworkOf sources unit here n → (e : End) → fault_at_end SecondAdapter e ≡ it → (s : IsSecond both_ends n.connections e) → (position : Position) → s.again.sort ≡ sorts.Adapter → IsEndOf s.again position e → IsTaken s.earlier s.again position e → HasSecondAdapter sources unit span
+    made here n stands e is s position sort end taken = record {
+      here = here;
+      network = n;
+      stands = stands;
+      before = s.earlier;
+      again = s.again;
+      after = s.later;
+      listed = s.listed;
+      of_adapter = sort;
+      position = position;
+      end = e;
+      is_end = end;
+      taken = taken;
+      place = sym (ap (λ (g : Fault). g.span) is);
+    }
+
+    position_of : (c : Connection) (inside : List End) (e : End) → IsPart c.source c.destination inside e → (position : Position) × IsEndOf c position e
+    position_of c inside e (at_source none same) = (Source, is_source c e same)
+    position_of c inside e (at_destination one same) = (Destination, is_destination c e same)
+
+    -- the source of its own connection
+    own : (earlier : List Connection) (c : Connection) (inside : List End) (e other : End) → IsPart c.source c.destination inside e → Contains inside other → HaveSameNames other e → (position : Position) × IsEndOf c position e × IsTaken earlier c position e
+    own earlier c inside e other (at_source none same) h names = absurd (contains_nothing other (subst (λ (l : List End). Contains l other) none h))
+    own earlier c inside e other (at_destination one same) h names =
+        let first = contains_single c.source other (subst (λ (l : List End). Contains l other) one h) in
+        let alike : HaveSameNames c.source c.destination = subst (λ (x : End). HaveSameNames x c.destination) (sym first) (subst (λ (x : End). HaveSameNames other x) (sym same) names) in
+        (Destination, is_destination c e same, subst (IsTaken earlier c Destination) same (by_source alike))
+
+    by : (here : Site) (n : NetworkTree) → IsNetworkOf sources unit here n → (e : End) → fault_at_end SecondAdapter e ≡ it → (s : IsSecond both_ends n.connections e) → ComesThrough both_ends s.earlier s.other ⊎ Contains s.inside s.other → HasSecondAdapter sources unit span
+    by here n stands e is s (inl o) =
+        let again = adapter_parts s.again.sort s.again.source s.again.destination s.inside s.rest e s.parts in
+        let at = position_of s.again s.inside e again.1 in
+        let first = in_both o.origin s.other o.has in
+        made here n stands e is s at.0 again.0 at.1 (by_earlier o.origin first.position s.other o.among first.of_adapter first.is_end s.same)
+    by here n stands e is s (inr c) =
+        let again = adapter_parts s.again.sort s.again.source s.again.destination s.inside s.rest e s.parts in
+        let at = own s.earlier s.again s.inside e s.other again.1 c s.same in
+        made here n stands e is s at.0 again.0 at.1 at.2
+
+    to : Contains (net_faults_of sources unit) it → HasSecondAdapter sources unit span
+    to c =
+        let o = network_origin sources unit it c in
+        let s = second_origin SecondAdapter both_ends o.network.connections it o.has in
+        by o.here o.network o.stands s.end s.is s.second s.second.taken
+
+    second : (connections before after : List Connection) (c : Connection) (position : Position) (e : End) → connections ≡ before ++ c ∷ after → c.sort ≡ sorts.Adapter → IsEndOf c position e → IsTaken before c position e → IsSecond both_ends connections e
+    second connections before after c position e listed sort end (by_earlier first other taken among first_sort first_end same) =
+        let parts = around c position e end in
+        record {
+          earlier = before;
+          again = c;
+          later = after;
+          listed = listed;
+          inside = parts.0;
+          rest = parts.1;
+          parts = both_is c sort ∙ parts.2;
+          other = taken;
+          same = same;
+          taken = inl (record { origin = first; among = among; has = both_have first other taken first_sort first_end });
+        }
+    second connections before after c position e listed sort end (by_source same) = record {
+      earlier = before;
+      again = c;
+      later = after;
+      listed = listed;
+      inside = c.source ∷ [];
+      rest = [];
+      parts = both_is c sort;
+      other = c.source;
+      same = same;
+      taken = inr (contains_here c.source []);
+    }
+
+    from : HasSecondAdapter sources unit span → Contains (net_faults_of sources unit) it
+    from h =
+        let again = second h.network.connections h.before h.after h.again h.position h.end h.listed h.of_adapter h.is_end h.taken in
+        reported sources unit h.here h.network h.stands 3 _ refl h.place (second_reported SecondAdapter both_ends h.network.connections h.end again)

@@ -1,0 +1,307 @@
+-- The rules of classes, by the functions of the check.
+use Rattle.std.proofs.Common.{◌≡◌, ◌≢◌, Bool, true, false, Option, Some, None, unwrap_or, refl, sym, ap, ◌∙◌, true≢false}
+use Rattle.std.specs.Option.{option_and_then}
+use Rattle.fb_tree.specs.declared.expression.BinaryOperator.{BinaryOperator}
+use Rattle.fb_tree.specs.declared.expression.BinaryOperator.TheVariants.{Or, Xor, And, Equal, NotEqual, Less, Greater, LessOrEqual, GreaterOrEqual, Add, Subtract, Multiply, Divide, Modulo, Power}
+use Rattle.fb_tree.specs.declared.expression.UnaryOperator.{UnaryOperator}
+use Rattle.fb_tree.specs.declared.expression.UnaryOperator.TheVariants.{Plus, Minus, Not}
+use Rattle.fb_deploy.specs.Iface.declared.classes.Class.{Class}
+use Rattle.fb_deploy.specs.Iface.declared.classes.Class.TheVariants.{B, I, W, O, Free, Num, Any}
+use Rattle.fb_expr.specs.Classes.{arithmetical, change, class_of_broken, combined, join, logical, operation, pair_class, whole as whole_of}
+use Rattle.fb_expr.specs.Rules.{allows}
+use Rattle.fb_expr.specs.declared.rules.ClassPlace.{ClassPlace}
+use Rattle.fb_expr.specs.declared.rules.ClassPlace.TheVariants.{Condition, Count, Counter, Selector}
+use Rattle.fb_laws.specs.Classes.{Joins, IsLogical, Calculates, Divides, Changes, JoinsTruths, Compares, IsArithmetic, Makes, Combines, Spoils, Results, Fits}
+
+-- a class that comes of a rule, where the check has one
+pub data Known (P : Class → Type 0) : Option Class → Type 0 where
+  gives : {g : Class} → P g → Known P (Some g)
+  fails : Known P None
+
+mapped : (P Q : Class → Type 0) (o : Option Class) → ((g : Class) → P g → Q g) → Known P o → Known Q o
+mapped P Q None f fails = fails
+mapped P Q (Some g) f (gives p) = gives (f g p)
+
+pub none_of : (P : Class → Type 0) (o : Option Class) → ((g : Class) → P g → o ≡ Some g) → o ≡ None → (g : Class) → ¬ P g
+none_of P o told e g p = let both : Some g ≡ None = sym (told g p) ∙ e in let no : ⊥ = cc in no
+
+pub missing : (P : Class → Type 0) (o : Option Class) → Known P o → ((g : Class) → ¬ P g) → o ≡ None
+missing P None fails none = refl
+missing P (Some g) (gives p) none = absurd (none g p)
+
+-- joins
+
+joins : (a b : Class) → Known (Joins a b) (join a b)
+joins B B = gives (Joins.equal B)
+joins B Free = gives (Joins.free_right B)
+joins B Any = gives (Joins.any_right B)
+joins I I = gives (Joins.equal I)
+joins I O = gives Joins.whole_left
+joins I Free = gives (Joins.free_right I)
+joins I Num = gives Joins.number_right_whole
+joins I Any = gives (Joins.any_right I)
+joins W W = gives (Joins.equal W)
+joins W Free = gives (Joins.free_right W)
+joins W Num = gives Joins.number_right_bits
+joins W Any = gives (Joins.any_right W)
+joins O I = gives Joins.whole_right
+joins O O = gives (Joins.equal O)
+joins O Free = gives (Joins.free_right O)
+joins O Num = gives Joins.number_right_other
+joins O Any = gives (Joins.any_right O)
+joins Free B = gives (Joins.free_left B)
+joins Free I = gives (Joins.free_left I)
+joins Free W = gives (Joins.free_left W)
+joins Free O = gives (Joins.free_left O)
+joins Free Free = gives (Joins.free_left Free)
+joins Free Num = gives (Joins.free_left Num)
+joins Free Any = gives (Joins.free_left Any)
+joins Num I = gives Joins.number_left_whole
+joins Num W = gives Joins.number_left_bits
+joins Num O = gives Joins.number_left_other
+joins Num Free = gives (Joins.free_right Num)
+joins Num Num = gives (Joins.equal Num)
+joins Num Any = gives (Joins.any_right Num)
+joins Any B = gives (Joins.any_left B)
+joins Any I = gives (Joins.any_left I)
+joins Any W = gives (Joins.any_left W)
+joins Any O = gives (Joins.any_left O)
+joins Any Free = gives (Joins.free_right Any)
+joins Any Num = gives (Joins.any_left Num)
+joins Any Any = gives (Joins.equal Any)
+joins a b = fails
+
+equal_joins : (c : Class) → join c c ≡ Some c
+equal_joins B = refl
+equal_joins c = refl
+
+left_joins : (c : Class) → join Any c ≡ Some c
+left_joins B = refl
+left_joins c = refl
+
+right_joins : (c : Class) → join c Any ≡ Some c
+right_joins B = refl
+right_joins c = refl
+
+free_joins : (c : Class) → join c Free ≡ Some Free
+free_joins B = refl
+free_joins c = refl
+
+pub told_join : (a b c : Class) → Joins a b c → join a b ≡ Some c
+told_join a b c (Joins.equal d) = equal_joins d
+told_join a b c (Joins.any_left d) = left_joins d
+told_join a b c (Joins.any_right d) = right_joins d
+told_join a b c (Joins.free_right d) = free_joins d
+told_join a b c is = refl
+
+pub none_join : (a b : Class) → join a b ≡ None → (c : Class) → ¬ Joins a b c
+none_join a b e = none_of (Joins a b) (join a b) (told_join a b) e
+
+pub no_join : (a b : Class) → ((c : Class) → ¬ Joins a b c) → join a b ≡ None
+no_join a b none = missing (Joins a b) (join a b) (joins a b) none
+
+-- what operators work on
+
+-- a class that logic keeps
+data Keeps (c : Class) : Class → Type 0 where
+  keeps : IsLogical c → Keeps c c
+
+kept : (c : Class) → Known (Keeps c) (logical c)
+kept B = gives (keeps IsLogical.truth)
+kept I = fails
+kept W = gives (keeps IsLogical.bits)
+kept O = fails
+kept Free = gives (keeps IsLogical.free)
+kept Num = gives (keeps IsLogical.number)
+kept Any = gives (keeps IsLogical.any)
+
+calculated : (c : Class) → Known (Calculates c) (arithmetical c)
+calculated B = fails
+calculated I = gives Calculates.whole
+calculated W = fails
+calculated O = gives Calculates.other
+calculated Free = gives Calculates.free
+calculated Num = gives Calculates.number
+calculated Any = gives Calculates.any
+
+divided : (c : Class) → Known (Divides c) (whole_of c)
+divided I = gives Divides.whole
+divided Free = gives Divides.free
+divided Num = gives Divides.number
+divided Any = gives Divides.any
+divided c = fails
+
+told_logic : (c : Class) → IsLogical c → logical c ≡ Some c
+told_logic c IsLogical.truth = refl
+told_logic c is = refl
+
+told_calculated : (c g : Class) → Calculates c g → arithmetical c ≡ Some g
+told_calculated c g Calculates.whole = refl
+told_calculated c g is = refl
+
+told_divided : (c g : Class) → Divides c g → whole_of c ≡ Some g
+told_divided c g Divides.whole = refl
+told_divided c g is = refl
+
+not_of : (c g : Class) → Keeps c g → Changes Not c g
+not_of c g (keeps l) = Changes.not l
+
+pub changes : (operator : UnaryOperator) (c : Class) → Known (Changes operator c) (change operator c)
+changes Not c = mapped (Keeps c) (Changes Not c) (logical c) (not_of c) (kept c)
+changes Plus c = mapped (Calculates c) (Changes Plus c) (arithmetical c) (λ g k. Changes.plus k) (calculated c)
+changes Minus c = mapped (Calculates c) (Changes Minus c) (arithmetical c) (λ g k. Changes.minus k) (calculated c)
+
+pub told_change : (operator : UnaryOperator) (c g : Class) → Changes operator c g → change operator c ≡ Some g
+told_change operator c g (Changes.not l) = told_logic c l
+told_change operator c g (Changes.plus k) = told_calculated c g k
+told_change operator c g (Changes.minus k) = told_calculated c g k
+
+pub none_change : (operator : UnaryOperator) (c : Class) → change operator c ≡ None → (g : Class) → ¬ Changes operator c g
+none_change operator c e = none_of (Changes operator c) (change operator c) (told_change operator c) e
+
+pub no_change : (operator : UnaryOperator) (c : Class) → ((g : Class) → ¬ Changes operator c g) → change operator c ≡ None
+no_change operator c none = missing (Changes operator c) (change operator c) (changes operator c) none
+
+by_logic : (operator : BinaryOperator) → JoinsTruths operator → (c : Class) → Known (Makes operator c) (logical c)
+by_logic operator is c = mapped (Keeps c) (Makes operator c) (logical c) (λ g k. kept_by g k) (kept c)
+  where
+    kept_by : (g : Class) → Keeps c g → Makes operator c g
+    kept_by g (keeps l) = Makes.logic is l
+
+by_arithmetic : (operator : BinaryOperator) → IsArithmetic operator → (c : Class) → Known (Makes operator c) (arithmetical c)
+by_arithmetic operator is c = mapped (Calculates c) (Makes operator c) (arithmetical c) (λ g k. Makes.arithmetic is k) (calculated c)
+
+makes : (operator : BinaryOperator) (c : Class) → Known (Makes operator c) (operation operator c)
+makes Or c = by_logic Or JoinsTruths.or c
+makes Xor c = by_logic Xor JoinsTruths.xor c
+makes And c = by_logic And JoinsTruths.and c
+makes Equal c = gives (Makes.comparison Compares.equal)
+makes NotEqual c = gives (Makes.comparison Compares.not_equal)
+makes Less c = gives (Makes.comparison Compares.less)
+makes Greater c = gives (Makes.comparison Compares.greater)
+makes LessOrEqual c = gives (Makes.comparison Compares.less_or_equal)
+makes GreaterOrEqual c = gives (Makes.comparison Compares.greater_or_equal)
+makes Add c = by_arithmetic Add IsArithmetic.add c
+makes Subtract c = by_arithmetic Subtract IsArithmetic.subtract c
+makes Multiply c = by_arithmetic Multiply IsArithmetic.multiply c
+makes Divide c = by_arithmetic Divide IsArithmetic.divide c
+makes Power c = by_arithmetic Power IsArithmetic.power c
+makes Modulo c = mapped (Divides c) (Makes Modulo c) (whole_of c) (λ g k. Makes.modulo k) (divided c)
+
+told_makes : (operator : BinaryOperator) (c g : Class) → Makes operator c g → operation operator c ≡ Some g
+told_makes operator c g (Makes.logic JoinsTruths.or l) = told_logic c l
+told_makes operator c g (Makes.logic is l) = told_logic c l
+told_makes operator c g (Makes.comparison Compares.equal) = refl
+told_makes operator c g (Makes.comparison is) = refl
+told_makes operator c g (Makes.arithmetic IsArithmetic.add n) = told_calculated c g n
+told_makes operator c g (Makes.arithmetic is n) = told_calculated c g n
+told_makes operator c g (Makes.modulo n) = told_divided c g n
+
+pub combines : (operator : BinaryOperator) (a b : Class) → Known (Combines operator a b) (combined operator a b)
+combines operator a b = by_join (join a b) (joins a b)
+  where
+    by_class : (c : Class) → Joins a b c → (o : Option Class) → Known (Makes operator c) o → Known (Combines operator a b) o
+    by_class c j None fails = fails
+    by_class c j (Some g) (gives m) = gives (Combines.joined c j m)
+
+    by_join : (o : Option Class) → Known (Joins a b) o → Known (Combines operator a b) (option_and_then (operation operator) o)
+    by_join None fails = fails
+    by_join (Some c) (gives j) = by_class c j (operation operator c) (makes operator c)
+
+pub told_combined : (operator : BinaryOperator) (a b g : Class) → Combines operator a b g → combined operator a b ≡ Some g
+told_combined operator a b g (Combines.joined c j m) = ap (option_and_then (operation operator)) (told_join a b c j) ∙ told_makes operator c g m
+
+pub none_combined : (operator : BinaryOperator) (a b : Class) → combined operator a b ≡ None → (g : Class) → ¬ Combines operator a b g
+none_combined operator a b e = none_of (Combines operator a b) (combined operator a b) (told_combined operator a b) e
+
+pub not_combined : (operator : BinaryOperator) (a b : Class) → ((g : Class) → ¬ Combines operator a b g) → combined operator a b ≡ None
+not_combined operator a b none = missing (Combines operator a b) (combined operator a b) (combines operator a b) none
+
+spoils : (operator : BinaryOperator) → Spoils operator (class_of_broken operator)
+spoils Or = Spoils.logic JoinsTruths.or
+spoils Xor = Spoils.logic JoinsTruths.xor
+spoils And = Spoils.logic JoinsTruths.and
+spoils Equal = Spoils.comparison Compares.equal
+spoils NotEqual = Spoils.comparison Compares.not_equal
+spoils Less = Spoils.comparison Compares.less
+spoils Greater = Spoils.comparison Compares.greater
+spoils LessOrEqual = Spoils.comparison Compares.less_or_equal
+spoils GreaterOrEqual = Spoils.comparison Compares.greater_or_equal
+spoils Add = Spoils.arithmetic IsArithmetic.add
+spoils Subtract = Spoils.arithmetic IsArithmetic.subtract
+spoils Multiply = Spoils.arithmetic IsArithmetic.multiply
+spoils Divide = Spoils.arithmetic IsArithmetic.divide
+spoils Power = Spoils.arithmetic IsArithmetic.power
+spoils Modulo = Spoils.modulo
+
+told_spoils : (operator : BinaryOperator) (g : Class) → Spoils operator g → class_of_broken operator ≡ g
+told_spoils operator g (Spoils.logic JoinsTruths.or) = refl
+told_spoils operator g (Spoils.logic is) = refl
+told_spoils operator g (Spoils.comparison Compares.equal) = refl
+told_spoils operator g (Spoils.comparison is) = refl
+told_spoils operator g (Spoils.arithmetic IsArithmetic.add) = refl
+told_spoils operator g (Spoils.arithmetic is) = refl
+told_spoils operator g Spoils.modulo = refl
+
+pub results : (operator : BinaryOperator) (a b : Class) → Results operator a b (pair_class operator a b)
+results operator a b = by_case (combined operator a b) refl (combines operator a b)
+  where
+    by_case : (o : Option Class) → combined operator a b ≡ o → Known (Combines operator a b) o → Results operator a b (unwrap_or o (class_of_broken operator))
+    by_case (Some g) e (gives p) = Results.met p
+    by_case None e fails = Results.broken (none_combined operator a b e) (spoils operator)
+
+pub told_results : (operator : BinaryOperator) (a b g : Class) → Results operator a b g → pair_class operator a b ≡ g
+told_results operator a b g (Results.met p) = ap (λ (o : Option Class). unwrap_or o (class_of_broken operator)) (told_combined operator a b g p)
+told_results operator a b g (Results.broken none s) =
+    ap (λ (o : Option Class). unwrap_or o (class_of_broken operator)) (not_combined operator a b none)
+    ∙ told_spoils operator g s
+
+-- places
+
+abbrev is_truth : Class → Bool
+is_truth B = true
+is_truth c = false
+
+no_truth : (c : Class) → is_truth c ≡ false → c ≢ B
+no_truth c e is = true≢false (sym (ap is_truth is) ∙ e)
+
+pub fits : (place : ClassPlace) (c : Class) → allows place c ≡ true → Fits place c
+fits Condition B e = Fits.truth
+fits Condition Free e = Fits.free Condition
+fits Condition Any e = Fits.any_truth
+fits Count I e = Fits.whole
+fits Count Free e = Fits.free Count
+fits Count Num e = Fits.number
+fits Count Any e = Fits.any_number
+fits Counter I e = Fits.counter
+fits Counter Free e = Fits.free Counter
+fits Selector I e = Fits.selector I (no_truth I refl)
+fits Selector W e = Fits.selector W (no_truth W refl)
+fits Selector O e = Fits.selector O (no_truth O refl)
+fits Selector Free e = Fits.free Selector
+fits Selector Num e = Fits.selector Num (no_truth Num refl)
+fits Selector Any e = Fits.selector Any (no_truth Any refl)
+fits place c e = absurd (true≢false (sym e))
+
+all_free : (place : ClassPlace) → allows place Free ≡ true
+all_free Condition = refl
+all_free place = refl
+
+selects : (c : Class) → c ≢ B → allows Selector c ≡ true
+selects B other = absurd (other refl)
+selects c other = refl
+
+pub told_fit : (place : ClassPlace) (c : Class) → Fits place c → allows place c ≡ true
+told_fit place c (Fits.selector d other) = selects d other
+told_fit place c (Fits.free p) = all_free p
+told_fit place c is = refl
+
+pub misfits : (place : ClassPlace) (c : Class) → allows place c ≡ false → ¬ Fits place c
+misfits place c e f = true≢false (sym (told_fit place c f) ∙ e)
+
+pub told_misfit : (place : ClassPlace) (c : Class) → ¬ Fits place c → allows place c ≡ false
+told_misfit place c none = by_case (allows place c) refl
+  where
+    by_case : (b : Bool) → allows place c ≡ b → b ≡ false
+    by_case true e = absurd (none (fits place c e))
+    by_case false e = refl

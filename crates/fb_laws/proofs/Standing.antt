@@ -1,0 +1,195 @@
+-- Parts that are written in the tokens as the grammar sees them stand in the text.
+use Rattle.std.proofs.Common.{◌≡◌, ℕ, zero, suc, ◌<◌, ◌≤◌, Bool, true, false, cond, List, [], ◌∷◌, ◌++◌, length, map, refl, sym, ap, ◌∙◌, subst, arith, Result, Ok, Err}
+use Rattle.std.specs.Prelude.{All, Contains, IsOk, nat_lt, slice_index_or, slice_range, ◌==◌}
+use Rattle.std.specs.Str.{IsCharBoundary, str_to_ascii_uppercase}
+use Rattle.std.proofs.lemmas.List.{map-append}
+use Rattle.std.proofs.lemmas.List.Elements.{Contains-append_left, All-contains, All-from_recursion, All-map, All-weaker, Contains-append_right}
+use Rattle.fb_text.specs.Name.{name_of}
+use Rattle.fb_text.specs.Tokens.{tokens_of, spans_of, IsSpelled, LiesIn, SpansRise}
+use Rattle.fb_text.specs.Forms.{HasForm}
+use Rattle.fb_text.specs.Words.{is_word, word_len}
+use Rattle.fb_text.specs.declared.name.NameFault.{NameFault}
+use Rattle.fb_text.specs.declared.name.NameFault.TheVariants.{Empty, BadByte, TooLong}
+use Rattle.fb_text.specs.declared.name.NameUse.{NameUse}
+use Rattle.fb_text.specs.declared.token.Span.{Span}
+use Rattle.fb_text.specs.declared.token.Token.{Token}
+use Rattle.fb_text.specs.declared.token.TokenKind.{TokenKind}
+use Rattle.fb_text.specs.declared.token.TokenKind.TheVariants.{Word}
+use Rattle.fb_text.proofs.NameLemmas.{name_of-ok}
+use Rattle.fb_structured_text.proofs.Forms.NameWords.{names as names_are_words}
+use Rattle.fb_deploy.specs.Parse.Body.{IsBody, IsBodyIn, body_of, Whole}
+use Rattle.fb_structured_text.specs.Forms.Words.{name as name_form}
+use Rattle.fb_structured_text.specs.Forms.Form.{Spells}
+use Rattle.fb_structured_text.specs.Forms.Kind.{is_among, name_kinds}
+use Rattle.fb_structured_text.specs.Forms.Lexemes.{lexeme_of, lexemes_in, lexemes_of, name_or, name_use}
+use Rattle.fb_structured_text.specs.Forms.declared.lexeme.Lexeme.{Lexeme}
+use Rattle.fb_tree.specs.Tree.{DeclTree}
+use Rattle.fb_deploy.proofs.Parse.Bodies.{told}
+use Rattle.fb_laws.specs.SpanParts.{Part, name_part, tree_parts}
+use Rattle.fb_laws.specs.Standing.{Covers, IsWord}
+use Rattle.fb_laws.specs.Spans.{PartsAreWritten, SpansCoverTokens, SpansLieInText, NamesAreWords}
+use Rattle.fb_laws.specs.Written.{part_span, BeginsAt, EndsAt, IsWritten}
+use Rattle.fb_laws.proofs.Reading.{AreTokens, tokens_are, rise_at, rise_behind}
+use Rattle.fb_laws.proofs.UnitSpans.{sound_unit}
+
+-- Spellings
+
+ok_name : (a b c : Bool) (e f g : NameFault) (name other : List ℕ)
+    → IsOk (cond a (Err e) (cond b (Err f) (cond c (Err g) (Ok name)))) → name_or (cond a (Err e) (cond b (Err f) (cond c (Err g) (Ok name)))) other ≡ name
+ok_name true b c e f g name other h = cc
+ok_name false true c e f g name other h = cc
+ok_name false false true e f g name other h = cc
+ok_name false false false e f g name other h = refl
+
+-- a word of at most 64 bytes spells its name
+spelled_word : (bytes other : List ℕ) → is_word bytes ≡ true → length bytes ≤ 64 → name_or (name_of bytes) other ≡ str_to_ascii_uppercase bytes
+unfolding name_of
+spelled_word bytes other word short =
+    ok_name (length bytes == 0) (nat_lt (word_len bytes) (length bytes)) (nat_lt 64 (length bytes)) Empty (BadByte (word_len bytes)) TooLong (str_to_ascii_uppercase bytes) other
+    ((name_of-ok bytes).1 (word, short))
+
+-- Tokens
+
+-- the token of a lexeme
+pub record IsOfToken (text : List ℕ) (tokens : List Token) (l : Lexeme) : Type 0 where
+  pub token : Token
+  pub among : Contains tokens token
+  pub same : l ≡ lexeme_of text token
+
+of_token : (text : List ℕ) (tokens : List Token) (l : Lexeme) (k : ℕ) → k < length (map (lexeme_of text) tokens) → slice_index_or (map (lexeme_of text) tokens) k l ≡ l → IsOfToken text tokens l
+of_token text [] l k within e = absurd (omega arith)
+of_token text (t ∷ ts) l zero within e = record { token = t; among = (0, omega arith, refl); same = sym e }
+of_token text (t ∷ ts) l (suc k) within e =
+    let later = of_token text ts l k (omega arith) e in
+    record { token = later.token; among = Contains-append_right (t ∷ []) ts later.token later.among; same = later.same }
+
+-- where tokens as the grammar sees them stand
+abbrev spans : List Lexeme → List Span
+spans us = map (λ l. l.span) us
+
+same_spans : (text : List ℕ) (tokens : List Token) → spans (map (lexeme_of text) tokens) ≡ spans_of tokens
+unfolding lexeme_of
+same_spans text [] = refl
+same_spans text (t ∷ ts) = ap (λ ss. t.span ∷ ss) (same_spans text ts)
+
+word_bytes : (kind : TokenKind) (bytes : List ℕ) → HasForm kind bytes → kind ≡ Word → is_word bytes ≡ true
+word_bytes kind bytes form e = subst (λ (k : TokenKind). HasForm k bytes) e form
+
+word_stands : (text : List ℕ) (tokens : List Token) (token : Token) (name : NameUse) → AreTokens text tokens → Contains tokens token → is_among name_kinds (lexeme_of text token).kind ≡ true
+    → name ≡ name_use (lexeme_of text token) → IsWord text tokens name
+unfolding lexeme_of
+word_stands text tokens token name are among kind same =
+    let bytes = slice_range text token.span.start token.span.end in
+    let word = (names_are_words token.kind bytes).0 kind in
+    let spelled = All-contains (IsSpelled text) tokens token are.spelled among in
+    record {
+      token = token;
+      among = among;
+      word = word.0;
+      span = ap (λ (n : NameUse). n.span) same;
+      spelling = ap (λ (n : NameUse). n.name) same ∙ spelled_word bytes _ (word_bytes token.kind bytes spelled word.0) word.1;
+    }
+
+-- the token of a name that is written
+name_in : (us inside : List Lexeme) (before behind : List Lexeme) (name : NameUse) → us ≡ before ++ (inside ++ behind) → Spells name_form inside name
+    → (l : Lexeme) × Contains us l × (is_among name_kinds l.kind ≡ true) × (name ≡ name_use l)
+unfolding name_form
+name_in us inside before behind name e s =
+    let l = s.0 in
+    let one : Contains inside l = subst (λ (z : List Lexeme). Contains z l) (sym s.1.0) (0, omega arith, refl) in
+    (l, subst (λ (z : List Lexeme). Contains z l) (sym e) (Contains-append_right before (inside ++ behind) l (Contains-append_left inside behind l one)), s.1.1, s.2)
+
+pub name_stands : (text : List ℕ) (tokens : List Token) (name : NameUse) → AreTokens text tokens → IsWritten (map (lexeme_of text) tokens) (name_part name) → IsWord text tokens name
+name_stands text tokens name are h =
+    let found = name_in (map (lexeme_of text) tokens) h.inside h.before h.behind name h.parts h.spells in
+    let of = of_token text tokens found.0 found.1.0 found.1.1 found.1.2 in
+    word_stands text tokens of.token name are of.among (subst (λ (l : Lexeme). is_among name_kinds l.kind ≡ true) of.same found.2) (found.3 ∙ ap name_use of.same)
+
+-- Tokens that a span covers
+
+last_span : (us : List Lexeme) (place : ℕ) → EndsAt us place → (s : Span) × Contains (spans us) s × (place ≡ s.end)
+last_span [] place h = absurd h
+last_span (u ∷ []) place h = (u.span, (0, omega arith, refl), h)
+last_span (u ∷ v ∷ us) place h =
+    let later = last_span (v ∷ us) place h in
+    (later.0, Contains-append_right (u.span ∷ []) (spans (v ∷ us)) later.0 later.1, later.2)
+
+covers : (us before inside behind : List Lexeme) (s : Span) → us ≡ before ++ (inside ++ behind) → BeginsAt inside s.start → EndsAt inside s.end → Covers (spans us) s
+covers us before [] behind s e begins ends = absurd begins
+covers us before (l ∷ inside) behind s e begins ends =
+    let last = last_span (l ∷ inside) s.end ends in
+    record {
+      before = spans before;
+      first = l.span;
+      behind = spans inside ++ spans behind;
+      last = last.0;
+      parts = ap spans e ∙ map-append (λ (t : Lexeme). t.span) before (l ∷ inside ++ behind) ∙ ap (λ z. spans before ++ l.span ∷ z) (map-append (λ (t : Lexeme). t.span) inside behind);
+      from_first = Contains-append_left (spans (l ∷ inside)) (spans behind) last.0 last.1;
+      start = begins;
+      end = last.2;
+    }
+
+pub part_covers : (text : List ℕ) (tokens : List Token) (p : Part) → IsWritten (map (lexeme_of text) tokens) p → Covers (spans_of tokens) (part_span p)
+part_covers text tokens p h =
+    subst (λ (ss : List Span). Covers ss (part_span p)) (same_spans text tokens)
+    (covers (map (lexeme_of text) tokens) h.before h.inside h.behind (part_span p) h.parts h.begins h.ends)
+
+-- Trees
+
+-- the parts of a tree are written in the tokens of the text
+pub record StandsInTokens (text : List ℕ) (tree : DeclTree) : Type 0 where
+  pub tokens : List Token
+  pub are : tokens_of text ≡ Ok tokens
+  pub written : All (IsWritten (map (lexeme_of text) tokens)) (tree_parts tree)
+
+tree_in : (text : List ℕ) (tree : DeclTree) (r : Result (List Token) Span) → tokens_of text ≡ r → IsBodyIn (length text) (lexemes_in text r) (Whole tree) → StandsInTokens text tree
+tree_in text tree (Err bad) e h = cc
+tree_in text tree (Ok tokens) e h =
+    record {
+      tokens = tokens;
+      are = e;
+      written = All-from_recursion (IsWritten (map (lexeme_of text) tokens)) (tree_parts tree) (sound_unit.stands (map (lexeme_of text) tokens) tree h);
+    }
+
+pub tree_stands : (text : List ℕ) (tree : DeclTree) → body_of text ≡ Whole tree → StandsInTokens text tree
+unfolding lexemes_of
+tree_stands text tree e = tree_in text tree (tokens_of text) refl (subst (IsBody text) e (told text))
+
+-- The laws
+
+pub parts_are_written : PartsAreWritten
+unfolding lexemes_of
+parts_are_written text tree e =
+    let h = tree_stands text tree e in
+    (map (lexeme_of text) h.tokens, ap (lexemes_in text) h.are, h.written)
+
+pub spans_cover_tokens : SpansCoverTokens
+spans_cover_tokens text tree e =
+    let h = tree_stands text tree e in
+    (h.tokens, h.are, All-weaker (IsWritten (map (lexeme_of text) h.tokens)) (λ p. Covers (spans_of h.tokens) (part_span p)) (part_covers text h.tokens) (tree_parts tree) h.written)
+
+pub names_are_spelled : NamesAreWords
+names_are_spelled text tree utf8 e =
+    let h = tree_stands text tree e in
+    (h.tokens, h.are, λ name among. name_stands text h.tokens name (tokens_are text utf8 h.tokens h.are) (All-contains (IsWritten (map (lexeme_of text) h.tokens)) (tree_parts tree) (name_part name) h.written among))
+
+module _ (text : List ℕ) (tokens : List Token) (are : AreTokens text tokens) where
+  one_lies : (s : Span) → Contains (spans_of tokens) s → LiesIn text s
+  one_lies s among = All-contains (LiesIn text) (spans_of tokens) s (All-map (LiesIn text) (λ (t : Token). t.span) tokens are.within) among
+
+  pub covers_lies : (s : Span) → Covers (spans_of tokens) s → LiesIn text s × (s.start < s.end)
+  covers_lies s c =
+      let from_first = c.first ∷ c.behind in
+      let among : (z : Span) → Contains from_first z → Contains (spans_of tokens) z = λ z h. subst (λ (ss : List Span). Contains ss z) (sym c.parts) (Contains-append_right c.before from_first z h) in
+      let first = one_lies c.first (among c.first (0, omega arith, refl)) in
+      let last = one_lies c.last (among c.last c.from_first) in
+      let rise = rise_behind 0 (length text) c.before c.first c.behind (subst (SpansRise 0 (length text)) c.parts are.rise) in
+      let later = rise_at c.first.start (length text) from_first c.last c.from_first.0 rise c.from_first.1 c.from_first.2 in
+      let some : s.start < s.end = omega (arith, c.start, c.end, later.0, later.1) in
+      (record { rises = omega (arith, some); starts = subst (IsCharBoundary text) (sym c.start) first.starts; ends = subst (IsCharBoundary text) (sym c.end) last.ends }, some)
+
+pub spans_lie_in_text : SpansLieInText
+spans_lie_in_text text tree utf8 e =
+    let h = tree_stands text tree e in
+    All-weaker (IsWritten (map (lexeme_of text) h.tokens)) (λ p. LiesIn text (part_span p) × ((part_span p).start < (part_span p).end))
+    (λ p written. covers_lies text h.tokens (tokens_are text utf8 h.tokens h.are) (part_span p) (part_covers text h.tokens p written)) (tree_parts tree) h.written

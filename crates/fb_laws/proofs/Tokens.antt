@@ -1,0 +1,83 @@
+-- Parts that are written among tokens.
+use Rattle.std.proofs.Common.{ℕ, List, [], ◌∷◌, ◌++◌, sym, ap, ◌∙◌, append_assoc}
+use Rattle.std.specs.List.{AllByRecursion}
+use Rattle.std.proofs.lemmas.List.{append-nil}
+use Rattle.fb_text.specs.declared.token.Span.{Span}
+use Rattle.fb_structured_text.specs.Forms.declared.lexeme.Lexeme.{Lexeme}
+use Rattle.fb_laws.specs.SpanParts.{Part}
+use Rattle.fb_laws.specs.Written.{part_span, BeginsAt, EndsAt, SpellsPart, IsWritten}
+
+-- Where tokens begin and end
+
+pub begins_more : (us vs : List Lexeme) (place : ℕ) → BeginsAt us place → BeginsAt (us ++ vs) place
+begins_more [] vs place h = absurd h
+begins_more (u ∷ us) vs place h = h
+
+ends_next : (u : Lexeme) (us : List Lexeme) (place : ℕ) → EndsAt us place → EndsAt (u ∷ us) place
+ends_next u [] place h = absurd h
+ends_next u (v ∷ us) place h = h
+
+pub ends_more : (us vs : List Lexeme) (place : ℕ) → EndsAt vs place → EndsAt (us ++ vs) place
+ends_more [] vs place h = h
+ends_more (u ∷ us) vs place h = ends_next u (us ++ vs) place (ends_more us vs place h)
+
+-- the tokens begin where the span begins, and end where it ends
+pub record Fills (us : List Lexeme) (span : Span) : Type 0 where
+  pub begins : BeginsAt us span.start
+  pub ends : EndsAt us span.end
+
+-- Parts
+
+-- the tokens are those of the part
+pub written_whole : (us : List Lexeme) (p : Part) → Fills us (part_span p) → SpellsPart us p → IsWritten us p
+written_whole us p fills spells =
+    record { before = []; inside = us; behind = []; parts = sym (append-nil us); begins = fills.begins; ends = fills.ends; spells = spells }
+
+written_left : (us vs : List Lexeme) (p : Part) → IsWritten us p → IsWritten (us ++ vs) p
+written_left us vs p h = record {
+  before = h.before;
+  inside = h.inside;
+  behind = h.behind ++ vs;
+  parts = ap (λ z. z ++ vs) h.parts ∙ append_assoc h.before (h.inside ++ h.behind) vs ∙ ap (λ z. h.before ++ z) (append_assoc h.inside h.behind vs);
+  begins = h.begins;
+  ends = h.ends;
+  spells = h.spells;
+}
+
+written_right : (us vs : List Lexeme) (p : Part) → IsWritten vs p → IsWritten (us ++ vs) p
+written_right us vs p h = record {
+  before = us ++ h.before;
+  inside = h.inside;
+  behind = h.behind;
+  parts = ap (λ z. us ++ z) h.parts ∙ sym (append_assoc us h.before (h.inside ++ h.behind));
+  begins = h.begins;
+  ends = h.ends;
+  spells = h.spells;
+}
+
+-- What holds of each part of a list
+
+abbrev pub Each : (Part → Type 0) → List Part → Type 0
+Each P ps = AllByRecursion P ps
+
+pub each_append : (P : Part → Type 0) (ps qs : List Part) → Each P ps → Each P qs → Each P (ps ++ qs)
+each_append P [] qs h k = k
+each_append P (p ∷ ps) qs h k = (h.0, each_append P ps qs h.1 k)
+
+pub each_front : (P : Part → Type 0) (ps qs : List Part) → Each P (ps ++ qs) → Each P ps
+each_front P [] qs h = tt
+each_front P (p ∷ ps) qs h = (h.0, each_front P ps qs h.1)
+
+pub each_rest : (P : Part → Type 0) (ps qs : List Part) → Each P (ps ++ qs) → Each P qs
+each_rest P [] qs h = h
+each_rest P (p ∷ ps) qs h = each_rest P ps qs h.1
+
+pub each_weaker : (P Q : Part → Type 0) → ((p : Part) → P p → Q p) → (ps : List Part) → Each P ps → Each Q ps
+each_weaker P Q f [] h = tt
+each_weaker P Q f (p ∷ ps) h = (f p h.0, each_weaker P Q f ps h.1)
+
+pub each_left : (us vs : List Lexeme) (ps : List Part) → Each (IsWritten us) ps → Each (IsWritten (us ++ vs)) ps
+each_left us vs ps h = each_weaker (IsWritten us) (IsWritten (us ++ vs)) (written_left us vs) ps h
+
+pub each_right : (us vs : List Lexeme) (ps : List Part) → Each (IsWritten vs) ps → Each (IsWritten (us ++ vs)) ps
+each_right us vs ps h = each_weaker (IsWritten vs) (IsWritten (us ++ vs)) (written_right us vs) ps h

@@ -1,0 +1,217 @@
+-- The parts of sections that are joined, and of units.
+use Rattle.std.proofs.Common.{List, [], ◌∷◌, ◌++◌}
+use Rattle.std.specs.List.{flat_map}
+use Rattle.fb_text.specs.declared.name.NameUse.{NameUse}
+use Rattle.fb_deploy.specs.Parse.Contents.{ContentsTree, of_events, of_variables, of_adapters, of_instances, of_connections, of_states, of_transitions, of_algorithm, interfaces_merged, networks_merged, charts_merged, merged, joined}
+use Rattle.fb_structured_text.specs.Forms.Form.{Form, many}
+use Rattle.fb_structured_text.specs.Forms.Words.{name}
+use Rattle.fb_deploy.specs.Parse.Grammar.{data_section, service_section, interface_section, network_section, chart_section, block_section, adapter_section, application_section, subapplication_section, framed, type_of, block, adapter, subapplication, application_of, application, system_section, system, unit}
+use Rattle.fb_structured_text.specs.Forms.declared.kind.Kind.{Kind}
+use Rattle.fb_sections.specs.Network.{blocks, connections, plugs, sockets, subapplications}
+use Rattle.fb_deploy.specs.Parse.SystemContents.{SystemContentsTree, of_application, of_device, of_mappings, system_joined}
+use Rattle.fb_tree.specs.Tree.{InterfaceTree, NetworkTree, ChartTree}
+use Rattle.fb_laws.specs.SpanParts.{Part, name_part, name_parts, event_parts, variables_parts, interface_parts, instance_parts, connection_parts, network_parts, state_parts, transition_parts, algorithm_parts, chart_parts, declared_parts, application_parts, device_parts, mapping_parts, system_parts, tree_parts}
+use Rattle.fb_laws.proofs.Tokens.{Each, each_append, each_front, each_rest}
+use Rattle.fb_laws.proofs.Sound.{Sound, sound_nothing, sound_both, sound_as, sound_either, sound_many, sound_behind, sound_before, sound_name, sound_same, each_none, each_items}
+use Rattle.fb_laws.proofs.Sections.{sound_events, sound_data_variables, sound_internal_variables, sound_plugs, sound_sockets, sound_blocks, sound_subapplications, sound_connections, sound_states, sound_mappings, sound_device}
+use Rattle.fb_laws.proofs.ChartSpans.{sound_transitions, sound_algorithm}
+
+-- The parts of items of two kinds, joined with others
+each_joined : {A B : Type 0} (P : Part → Type 0) (f : A → List Part) (g : B → List Part) (xs ys : List A) (zs ws : List B)
+    → Each P (flat_map f xs ++ flat_map g zs) → Each P (flat_map f ys ++ flat_map g ws) → Each P (flat_map f (xs ++ ys) ++ flat_map g (zs ++ ws))
+each_joined P f g xs ys zs ws h k =
+    each_append P (flat_map f (xs ++ ys)) (flat_map g (zs ++ ws))
+    (each_items P f xs ys (each_front P (flat_map f xs) (flat_map g zs) h) (each_front P (flat_map f ys) (flat_map g ws) k))
+    (each_items P g zs ws (each_rest P (flat_map f xs) (flat_map g zs) h) (each_rest P (flat_map f ys) (flat_map g ws) k))
+
+-- and of items of three kinds
+each_joined_3 : {A B C : Type 0} (P : Part → Type 0) (f : A → List Part) (g : B → List Part) (o : C → List Part) (xs ys : List A) (zs ws : List B) (vs us : List C)
+    → Each P (flat_map f xs ++ (flat_map g zs ++ flat_map o vs)) → Each P (flat_map f ys ++ (flat_map g ws ++ flat_map o us))
+    → Each P (flat_map f (xs ++ ys) ++ (flat_map g (zs ++ ws) ++ flat_map o (vs ++ us)))
+each_joined_3 P f g o xs ys zs ws vs us h k =
+    each_append P (flat_map f (xs ++ ys)) (flat_map g (zs ++ ws) ++ flat_map o (vs ++ us))
+    (each_items P f xs ys (each_front P (flat_map f xs) (flat_map g zs ++ flat_map o vs) h) (each_front P (flat_map f ys) (flat_map g ws ++ flat_map o us) k))
+    (each_joined P g o zs ws vs us (each_rest P (flat_map f xs) (flat_map g zs ++ flat_map o vs) h) (each_rest P (flat_map f ys) (flat_map g ws ++ flat_map o us) k))
+
+-- Sections
+
+abbrev contents_parts : ContentsTree → List Part
+contents_parts c = interface_parts c.interface ++ (network_parts c.network ++ chart_parts c.chart)
+
+each_interfaces : (P : Part → Type 0) (a b : InterfaceTree) → Each P (interface_parts a) → Each P (interface_parts b) → Each P (interface_parts (interfaces_merged a b))
+each_interfaces P a b h k = each_joined P event_parts variables_parts a.events b.events a.variables b.variables h k
+
+each_networks : (P : Part → Type 0) (a b : NetworkTree) → Each P (network_parts a) → Each P (network_parts b) → Each P (network_parts (networks_merged a b))
+each_networks P a b h k = each_joined P instance_parts connection_parts a.instances b.instances a.connections b.connections h k
+
+each_charts : (P : Part → Type 0) (a b : ChartTree) → Each P (chart_parts a) → Each P (chart_parts b) → Each P (chart_parts (charts_merged a b))
+each_charts P a b h k = each_joined_3 P state_parts transition_parts algorithm_parts a.states b.states a.transitions b.transitions a.algorithms b.algorithms h k
+
+each_merged : (P : Part → Type 0) (a b : ContentsTree) → Each P (contents_parts a) → Each P (contents_parts b) → Each P (contents_parts (merged a b))
+each_merged P a b h k =
+    let inner_a = network_parts a.network ++ chart_parts a.chart in
+    let inner_b = network_parts b.network ++ chart_parts b.chart in
+    let h' = each_rest P (interface_parts a.interface) inner_a h in
+    let k' = each_rest P (interface_parts b.interface) inner_b k in
+    each_append P (interface_parts (interfaces_merged a.interface b.interface)) (network_parts (networks_merged a.network b.network) ++ chart_parts (charts_merged a.chart b.chart))
+    (each_interfaces P a.interface b.interface (each_front P (interface_parts a.interface) inner_a h) (each_front P (interface_parts b.interface) inner_b k))
+    (each_append P (network_parts (networks_merged a.network b.network)) (chart_parts (charts_merged a.chart b.chart))
+    (each_networks P a.network b.network (each_front P (network_parts a.network) (chart_parts a.chart) h') (each_front P (network_parts b.network) (chart_parts b.chart) k'))
+    (each_charts P a.chart b.chart (each_rest P (network_parts a.network) (chart_parts a.chart) h') (each_rest P (network_parts b.network) (chart_parts b.chart) k')))
+
+each_section : (P : Part → Type 0) (all : List ContentsTree) → Each P (flat_map contents_parts all) → Each P (contents_parts (joined all))
+each_section P [] h = tt
+each_section P (c ∷ others) h =
+    each_merged P c (joined others) (each_front P (contents_parts c) (flat_map contents_parts others) h)
+    (each_section P others (each_rest P (contents_parts c) (flat_map contents_parts others) h))
+
+-- items with nothing behind them
+sound_of : {A : Type 0} (x : Form A) (of : A → ContentsTree) (f : A → List Part) → ((P : Part → Type 0) (v : A) → Each P (f v) → Each P (contents_parts (of v))) → Sound x f → Sound x (λ v. contents_parts (of v))
+sound_of x of f same h = sound_same x f (λ v. contents_parts (of v)) same h
+
+sound_data_section : Sound data_section contents_parts
+unfolding data_section
+sound_data_section =
+    sound_either _ _ contents_parts
+    (sound_as of_events _ contents_parts (sound_of _ of_events (flat_map event_parts) (λ P v h. each_none P (flat_map event_parts v ++ []) (each_none P (flat_map event_parts v) h)) sound_events))
+    (sound_as of_variables _ contents_parts (sound_of _ of_variables (flat_map variables_parts) (λ P v h. each_none P (flat_map variables_parts v) h) sound_data_variables))
+
+sound_service_section : Sound service_section contents_parts
+unfolding service_section
+sound_service_section = sound_as _ _ contents_parts (sound_nothing _)
+
+each_instances : (P : Part → Type 0) (f : List Part) → Each P f → Each P ((f ++ []) ++ [])
+each_instances P f h = each_none P (f ++ []) (each_none P f h)
+
+sound_interface_section : Sound interface_section contents_parts
+unfolding interface_section
+sound_interface_section =
+    sound_either _ _ contents_parts sound_data_section
+    (sound_either _ _ contents_parts
+    (sound_as of_adapters plugs contents_parts (sound_of plugs of_adapters (flat_map instance_parts) (λ P v h. each_instances P (flat_map instance_parts v) h) sound_plugs))
+    (sound_as of_adapters sockets contents_parts (sound_of sockets of_adapters (flat_map instance_parts) (λ P v h. each_instances P (flat_map instance_parts v) h) sound_sockets)))
+
+sound_network_section : Sound network_section contents_parts
+unfolding network_section
+sound_network_section =
+    sound_either _ _ contents_parts
+    (sound_as of_instances blocks contents_parts (sound_of blocks of_instances (flat_map instance_parts) (λ P v h. each_instances P (flat_map instance_parts v) h) sound_blocks))
+    (sound_as of_connections connections contents_parts (sound_of connections of_connections (flat_map connection_parts) (λ P v h. each_none P (flat_map connection_parts v) h) sound_connections))
+
+sound_chart_section : Sound chart_section contents_parts
+unfolding chart_section
+sound_chart_section =
+    sound_either _ _ contents_parts
+    (sound_as of_states _ contents_parts (sound_of _ of_states (flat_map state_parts) (λ P v h. each_none P (flat_map state_parts v) h) sound_states))
+    (sound_either _ _ contents_parts
+    (sound_as of_transitions _ contents_parts (sound_of _ of_transitions (flat_map transition_parts) (λ P v h. each_none P (flat_map transition_parts v) h) sound_transitions))
+    (sound_as of_algorithm _ contents_parts (sound_of _ of_algorithm algorithm_parts (λ P v h. each_none P (algorithm_parts v) h) sound_algorithm)))
+
+sound_block_section : Sound block_section contents_parts
+unfolding block_section
+sound_block_section =
+    sound_either _ _ contents_parts sound_interface_section
+    (sound_either _ _ contents_parts
+    (sound_as of_variables _ contents_parts (sound_of _ of_variables (flat_map variables_parts) (λ P v h. each_none P (flat_map variables_parts v) h) sound_internal_variables))
+    (sound_either _ _ contents_parts sound_network_section
+    (sound_either _ _ contents_parts sound_chart_section sound_service_section)))
+
+sound_adapter_section : Sound adapter_section contents_parts
+unfolding adapter_section
+sound_adapter_section = sound_either _ _ contents_parts sound_data_section sound_service_section
+
+sound_application_section : Sound application_section contents_parts
+unfolding application_section
+sound_application_section =
+    sound_either _ _ contents_parts sound_network_section
+    (sound_as of_instances subapplications contents_parts (sound_of subapplications of_instances (flat_map instance_parts) (λ P v h. each_instances P (flat_map instance_parts v) h) sound_subapplications))
+
+sound_subapplication_section : Sound subapplication_section contents_parts
+unfolding subapplication_section
+sound_subapplication_section =
+    sound_either _ _ contents_parts sound_interface_section
+    (sound_either _ _ contents_parts sound_application_section sound_service_section)
+
+-- Types
+
+abbrev framed_parts : NameUse × ContentsTree → List Part
+framed_parts v = name_part v.0 ∷ contents_parts v.1
+
+sound_framed : (start : Kind) (section : Form ContentsTree) (end : Kind) → Sound section contents_parts → Sound (framed start section end) framed_parts
+sound_framed start section end h =
+    sound_behind _ _ framed_parts
+    (sound_both name _ name_parts contents_parts sound_name
+    (sound_before _ _ contents_parts
+    (sound_as joined (many section) contents_parts
+    (sound_same (many section) (flat_map contents_parts) (λ v. contents_parts (joined v)) each_section (sound_many section contents_parts h)))))
+
+sound_type : (start : Kind) (section : Form ContentsTree) (end : Kind) → Sound section contents_parts → Sound (framed start section end) (λ v. declared_parts (type_of v))
+sound_type start section end h = sound_framed start section end h
+
+sound_block : Sound block declared_parts
+unfolding block
+sound_block = sound_as type_of _ declared_parts (sound_type _ block_section _ sound_block_section)
+
+sound_adapter : Sound adapter declared_parts
+unfolding adapter
+sound_adapter = sound_as type_of _ declared_parts (sound_type _ adapter_section _ sound_adapter_section)
+
+sound_subapplication : Sound subapplication declared_parts
+unfolding subapplication
+sound_subapplication = sound_as type_of _ declared_parts (sound_type _ subapplication_section _ sound_subapplication_section)
+
+-- Systems
+
+each_network : (P : Part → Type 0) (v : NameUse × ContentsTree) → Each P (framed_parts v) → Each P (application_parts (application_of v))
+each_network P v h =
+    let inner = network_parts v.1.network ++ chart_parts v.1.chart in
+    (h.0, each_front P (network_parts v.1.network) (chart_parts v.1.chart) (each_rest P (interface_parts v.1.interface) inner h.1))
+
+sound_application : Sound application application_parts
+unfolding application
+sound_application =
+    sound_as application_of _ application_parts
+    (sound_same _ framed_parts (λ v. application_parts (application_of v)) each_network (sound_framed _ application_section _ sound_application_section))
+
+abbrev system_contents_parts : SystemContentsTree → List Part
+system_contents_parts c = flat_map application_parts c.applications ++ (flat_map device_parts c.devices ++ flat_map mapping_parts c.mappings)
+
+each_system_section : (P : Part → Type 0) (all : List SystemContentsTree) → Each P (flat_map system_contents_parts all) → Each P (system_contents_parts (system_joined all))
+each_system_section P [] h = tt
+each_system_section P (c ∷ others) h =
+    let rest = system_joined others in
+    let behind = flat_map system_contents_parts others in
+    each_joined_3 P application_parts device_parts mapping_parts c.applications rest.applications c.devices rest.devices c.mappings rest.mappings
+    (each_front P (system_contents_parts c) behind h)
+    (each_system_section P others (each_rest P (system_contents_parts c) behind h))
+
+sound_system_section : Sound system_section system_contents_parts
+unfolding system_section
+sound_system_section =
+    sound_either _ _ system_contents_parts
+    (sound_as of_application application system_contents_parts
+    (sound_same application application_parts _ (λ P v h. each_none P (application_parts v ++ []) (each_none P (application_parts v) h)) sound_application))
+    (sound_either _ _ system_contents_parts
+    (sound_as of_device _ system_contents_parts
+    (sound_same _ device_parts _ (λ P v h. each_none P (device_parts v ++ []) (each_none P (device_parts v) h)) sound_device))
+    (sound_as of_mappings _ system_contents_parts sound_mappings))
+
+sound_system : Sound system system_parts
+unfolding system
+sound_system =
+    sound_as _ _ system_parts
+    (sound_behind _ _ _ (sound_both name _ name_parts system_contents_parts sound_name
+    (sound_before _ _ system_contents_parts
+    (sound_as system_joined (many system_section) system_contents_parts
+    (sound_same (many system_section) (flat_map system_contents_parts) (λ v. system_contents_parts (system_joined v)) each_system_section
+    (sound_many system_section system_contents_parts sound_system_section))))))
+
+-- Units
+
+pub sound_unit : Sound unit tree_parts
+unfolding unit
+sound_unit =
+    sound_either _ _ tree_parts (sound_as _ block tree_parts sound_block)
+    (sound_either _ _ tree_parts (sound_as _ adapter tree_parts sound_adapter)
+    (sound_either _ _ tree_parts (sound_as _ subapplication tree_parts sound_subapplication)
+    (sound_as _ system tree_parts sound_system)))

@@ -1,0 +1,61 @@
+-- Usable types, by what the check knows of them.
+use Rattle.std.proofs.Common.{◌≡◌, ℕ, cond, List, [], ◌∷◌, map, Option, Some, None, refl, sym, ap, ◌∙◌, subst}
+use Rattle.std.specs.List.{Contains}
+use Rattle.fb_tree.specs.Tree.{DeclTree, InstanceTree, NetworkTree, TypeTree, block_type, adapter_type, subapplication_type}
+use Rattle.fb_tree.specs.declared.network.Role.{Role}
+use Rattle.fb_tree.specs.declared.network.Role.TheVariants as roles
+use Rattle.fb_deploy.specs.Library.View.{Sources, tree_at}
+use Rattle.fb_deploy.specs.Iface.Names.{first_ones, stands_for}
+use Rattle.fb_deploy.specs.Iface.Ports.{Meanings, instances_in, meanings_in_type}
+use Rattle.fb_deploy.specs.Iface.Scope.{instance_ports, scope_of_type, type_ports_of, usable}
+use Rattle.fb_deploy.specs.Iface.declared.ports.DeclaredInstance.{DeclaredInstance}
+use Rattle.fb_netcheck.proofs.Locality.{Each, instance_stands}
+use Rattle.fb_text.proofs.Members.{contains_here, contains_later, contains_map}
+use Rattle.fb_deploy.proofs.Iface.NameLemmas.{named}
+use Rattle.fb_laws.specs.Usable.{IsUsable, as_plug, as_socket, as_block, as_subapplication}
+
+module _ (sources : Sources) (name : List ℕ) where
+  pub told_type : (role : Role) (ports : Meanings) → IsUsable sources name role ports → usable role (tree_at sources name) ≡ Some ports
+  told_type role ports (as_plug d e) = ap (usable roles.Plug) e
+  told_type role ports (as_socket d e) = ap (usable roles.Socket) e
+  told_type role ports (as_block d e) = ap (usable roles.Block) e
+  told_type role ports (as_subapplication d e) = ap (usable roles.Subapplication) e
+
+  pub known_type : (role : Role) (ports : Meanings) → usable role (tree_at sources name) ≡ Some ports → IsUsable sources name role ports
+  known_type role ports e = by role (tree_at sources name) refl e
+    where
+      by : (role : Role) (o : Option DeclTree) → tree_at sources name ≡ o → usable role o ≡ Some ports → IsUsable sources name role ports
+      by roles.Plug (Some (adapter_type d)) t e = let same : meanings_in_type d ≡ ports = cc in subst (IsUsable sources name roles.Plug) same (as_plug d t)
+      by roles.Socket (Some (adapter_type d)) t e = let same : meanings_in_type d ≡ ports = cc in subst (IsUsable sources name roles.Socket) same (as_socket d t)
+      by roles.Block (Some (block_type d)) t e = let same : meanings_in_type d ≡ ports = cc in subst (IsUsable sources name roles.Block) same (as_block d t)
+      by roles.Subapplication (Some (subapplication_type d)) t e = let same : meanings_in_type d ≡ ports = cc in subst (IsUsable sources name roles.Subapplication) same (as_subapplication d t)
+      by role o t e = absurd (let fails : ⊥ = cc in fails)
+
+  pub no_type : (role : Role) → usable role (tree_at sources name) ≡ None → (ports : Meanings) → ¬ IsUsable sources name role ports
+  no_type role e ports is = let both : Some ports ≡ None = sym (told_type role ports is) ∙ e in let fails : ⊥ = cc in fails
+
+  pub type_missing : (role : Role) → ((ports : Meanings) → ¬ IsUsable sources name role ports) → usable role (tree_at sources name) ≡ None
+  type_missing role none = by (usable role (tree_at sources name)) refl
+    where
+      by : (o : Option Meanings) → usable role (tree_at sources name) ≡ o → o ≡ None
+      by None e = refl
+      by (Some ports) e = absurd (none ports (known_type role ports e))
+
+-- the types of the instances of a network are known to its check
+
+each_from : {A : Type 0} (P : A → Type 0) (xs : List A) → ((x : A) → Contains xs x → P x) → Each P xs
+each_from P [] h = tt
+each_from P (x ∷ xs) h = (h x (contains_here x xs), each_from P xs (λ y c. h y (contains_later x xs y c)))
+
+pub listed_type : (sources : Sources) (n : NetworkTree) (x : InstanceTree) → Contains n.instances x → (role : Role) → type_ports_of sources n role x.type_name.name ≡ usable role (tree_at sources x.type_name.name)
+listed_type sources n x c role =
+    let mentions = map (λ (i : InstanceTree). i.type_name) n.instances in
+    ap (λ b. usable role (cond b (tree_at sources x.type_name.name) None)) (named mentions x.type_name.name x.type_name (contains_map (λ (i : InstanceTree). i.type_name) n.instances x c) refl)
+
+pub declared_type : (sources : Sources) (n : NetworkTree) (instances : List (List ℕ × DeclaredInstance)) → instances ≡ first_ones (instances_in n) → (name : List ℕ) (i : DeclaredInstance) → stands_for instances name ≡ Some i → type_ports_of sources n i.role i.type_name.name ≡ usable i.role (tree_at sources i.type_name.name)
+declared_type sources n instances own name i e =
+    instance_stands (λ (d : DeclaredInstance). type_ports_of sources n d.role d.type_name.name ≡ usable d.role (tree_at sources d.type_name.name)) n (each_from _ n.instances (λ x c. listed_type sources n x c x.role)) name i (ap (λ l. stands_for l name) (sym own) ∙ e)
+
+-- the same of a type's own plugs, sockets and instances
+pub own_type : (sources : Sources) (d : TypeTree) (name : List ℕ) (i : DeclaredInstance) → stands_for (meanings_in_type d).instances name ≡ Some i → instance_ports (scope_of_type sources d) i ≡ usable i.role (tree_at sources i.type_name.name)
+own_type sources d name i e = declared_type sources d.network (meanings_in_type d).instances refl name i e

@@ -1,0 +1,130 @@
+-- Each code of declarations in words of its own: where the list of faults has it.
+use Rattle.std.specs.Prelude.{◌≡◌, ◌≢◌, ℕ, ◌<◌, true, false, List, Some, None, Contains, slice_get}
+use Rattle.fb_text.specs.declared.token.Span.{Span}
+use Rattle.fb_text.specs.declared.name.NameUse.{NameUse}
+use Rattle.fb_tree.specs.Mentions.{unit_kind_of}
+use Rattle.fb_tree.specs.Tree.{ConstantTree, DeclTree, EventTree, InstanceTree, TypeTree, VariablesTree, block_type, one_value, value_list}
+use Rattle.fb_tree.specs.declared.constant.Simple.{Simple}
+use Rattle.fb_tree.specs.declared.interface.TypeForm.TheVariants as forms
+use Rattle.fb_tree.specs.declared.interface.TypeUse.{TypeUse}
+use Rattle.fb_deploy.specs.Library.View.{Sources, tree_at, type_in}
+use Rattle.fb_deploy.specs.Iface.declared.code.Code.TheVariants.{Duplicate, Literal, MixedKind, NameDiffers, UnknownType, WithUnknown, WrongKind}
+use Rattle.fb_deploy.specs.Iface.declared.ports.DeclaredVariable.{DeclaredVariable}
+use Rattle.fb_deploy.specs.Iface.Class.{class_of_name, class_of_simple, class_of_type, is_free, takes}
+use Rattle.fb_deploy.specs.Iface.Declarations.{declared_name}
+use Rattle.fb_deploy.specs.Iface.Literals.{simple_span}
+use Rattle.fb_deploy.specs.Iface.Names.{stands_for}
+use Rattle.fb_deploy.specs.Iface.Ports.{variables_in}
+use Rattle.fb_deploy.specs.Iface.Sides.{goes_with}
+use Rattle.fb_deploy.specs.Iface.Spaces.{spaces_of}
+use Rattle.fb_deploy.specs.Iface.Types.{instances_of, suits}
+use Rattle.fb_laws.specs.UnitParts.{Declarations, IsReportedWhere}
+
+-- the unit is present and not broken, and this is what it declares
+abbrev pub IsDeclaredAt : Sources → List ℕ → DeclTree → Type 0
+IsDeclaredAt sources unit decl = tree_at sources unit ≡ Some decl
+
+-- the declared name is not the unit's
+pub record HasOtherName (sources : Sources) (unit : List ℕ) (span : Span) : Type 0 where
+  pub decl : DeclTree
+  pub declared : IsDeclaredAt sources unit decl
+  pub differs : (declared_name decl).name ≢ unit
+  pub place : span ≡ (declared_name decl).span
+
+-- a name that stands in a name space at a place where an earlier place of the same space has it
+pub record HasDuplicate (sources : Sources) (unit : List ℕ) (span : Span) : Type 0 where
+  pub decl : DeclTree
+  pub declared : IsDeclaredAt sources unit decl
+  pub space : List NameUse
+  pub among : Contains (spaces_of decl) space
+  pub earlier : ℕ
+  pub later : ℕ
+  pub before : earlier < later
+  pub first : NameUse
+  pub again : NameUse
+  pub first_at : slice_get space earlier ≡ Some first
+  pub again_at : slice_get space later ≡ Some again
+  pub same : first.name ≡ again.name
+  pub place : span ≡ again.span
+
+-- a block type with a section of states and with a section of block instances or of connections
+pub record HasMixedKind (sources : Sources) (unit : List ℕ) (span : Span) : Type 0 where
+  pub block : TypeTree
+  pub declared : IsDeclaredAt sources unit (block_type block)
+  pub has_states : block.chart.is_written ≡ true
+  pub has_network : block.network.is_written ≡ true
+  pub place : span ≡ block.name.span
+
+-- an instance, plug or socket of a type that is absent or broken
+pub record HasUnknownType (sources : Sources) (unit : List ℕ) (span : Span) : Type 0 where
+  pub decl : DeclTree
+  pub declared : IsDeclaredAt sources unit decl
+  pub instance : InstanceTree
+  pub among : Contains (instances_of decl) instance
+  pub unknown : tree_at sources instance.type_name.name ≡ None
+  pub place : span ≡ instance.type_name.span
+
+-- an instance, plug or socket of a type that is there and is of another kind than its section wants
+pub record HasWrongKind (sources : Sources) (unit : List ℕ) (span : Span) : Type 0 where
+  pub decl : DeclTree
+  pub declared : IsDeclaredAt sources unit decl
+  pub instance : InstanceTree
+  pub among : Contains (instances_of decl) instance
+  pub type : DeclTree
+  pub known : IsDeclaredAt sources instance.type_name.name type
+  pub unsuited : suits instance.role (unit_kind_of type) ≡ false
+  pub place : span ≡ instance.type_name.span
+
+-- a name behind WITH that stands for no data input (behind an event input), no data output (behind an event output)
+pub record HasUnknownWith (sources : Sources) (unit : List ℕ) (span : Span) : Type 0 where
+  pub decl : DeclTree
+  pub declared : IsDeclaredAt sources unit decl
+  pub type : TypeTree
+  pub is_type : type_in decl ≡ Some type
+  pub event : EventTree
+  pub among : Contains type.interface.events event
+  pub name : NameUse
+  pub behind : Contains event.with name
+  pub no_data : (v : DeclaredVariable) → stands_for (variables_in type.interface) name.name ≡ Some v → goes_with event.side v.section ≡ false
+  pub place : span ≡ name.span
+
+-- where a constant doesn't fit its type: a constant that stands alone, one that stands alone for an array, an element of the list for an array,
+-- a list for what is no array and not of a generic type
+pub data IsMisfit (used : TypeUse) : ConstantTree → Span → Type 0 where
+  alone : {v : Simple} → used.form ≢ forms.Array → takes (class_of_type used) (class_of_simple v) ≡ false → IsMisfit used (one_value v) (simple_span v)
+  no_list : {v : Simple} → used.form ≡ forms.Array → is_free (class_of_simple v) ≡ false → IsMisfit used (one_value v) (simple_span v)
+  element : {values : List Simple} {span : Span} {v : Simple} → used.form ≡ forms.Array → Contains values v → takes (class_of_name used.name.name) (class_of_simple v) ≡ false → IsMisfit used (value_list values span) (simple_span v)
+  no_array : {values : List Simple} {span : Span} → used.form ≢ forms.Array → is_free (class_of_type used) ≡ false → IsMisfit used (value_list values span) span
+
+-- an initial value that doesn't fit the type of its variables
+pub record HasMisfit (sources : Sources) (unit : List ℕ) (span : Span) : Type 0 where
+  pub decl : DeclTree
+  pub declared : IsDeclaredAt sources unit decl
+  pub type : TypeTree
+  pub is_type : type_in decl ≡ Some type
+  pub variables : VariablesTree
+  pub among : Contains type.interface.variables variables
+  pub initial : ConstantTree
+  pub written : variables.initial ≡ Some initial
+  pub misfit : IsMisfit variables.type_use initial span
+
+abbrev pub OtherNamesAreReported : Type 0
+OtherNamesAreReported = IsReportedWhere Declarations NameDiffers HasOtherName
+
+abbrev pub DuplicatesAreReported : Type 0
+DuplicatesAreReported = IsReportedWhere Declarations Duplicate HasDuplicate
+
+abbrev pub MixedKindsAreReported : Type 0
+MixedKindsAreReported = IsReportedWhere Declarations MixedKind HasMixedKind
+
+abbrev pub UnknownTypesAreReported : Type 0
+UnknownTypesAreReported = IsReportedWhere Declarations UnknownType HasUnknownType
+
+abbrev pub WrongKindsAreReported : Type 0
+WrongKindsAreReported = IsReportedWhere Declarations WrongKind HasWrongKind
+
+abbrev pub UnknownWithsAreReported : Type 0
+UnknownWithsAreReported = IsReportedWhere Declarations WithUnknown HasUnknownWith
+
+abbrev pub MisfitsAreReported : Type 0
+MisfitsAreReported = IsReportedWhere Declarations Literal HasMisfit

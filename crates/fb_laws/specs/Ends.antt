@@ -1,0 +1,119 @@
+-- The networks of a unit, and what the ends of their connections name.
+use Rattle.std.specs.Prelude.{◌≡◌, ◌≢◌, ℕ, List, [], Option, Some, None, option_map, Contains}
+use Rattle.fb_text.specs.declared.name.NameUse.{NameUse}
+use Rattle.fb_text.specs.declared.token.Span.{Span}
+use Rattle.fb_tree.specs.Tree.{ApplicationTree, NetworkTree, SystemTree, TypeTree, block_type, subapplication_type, system_configuration}
+use Rattle.fb_tree.specs.declared.interface.Section.TheVariants as sections
+use Rattle.fb_tree.specs.declared.interface.Side.{Side}
+use Rattle.fb_tree.specs.declared.interface.Side.TheVariants.{Input, Output}
+use Rattle.fb_tree.specs.declared.kinds.UnitKind.{UnitKind}
+use Rattle.fb_tree.specs.declared.kinds.UnitKind.TheVariants as kinds
+use Rattle.fb_tree.specs.declared.network.Connection.{Connection}
+use Rattle.fb_tree.specs.declared.network.End.{End}
+use Rattle.fb_tree.specs.declared.network.Role.TheVariants as roles
+use Rattle.fb_tree.specs.declared.network.Sort.{Sort}
+use Rattle.fb_tree.specs.declared.network.Sort.TheVariants as sorts
+use Rattle.fb_deploy.specs.Library.View.{Sources, tree_at}
+use Rattle.fb_deploy.specs.Iface.declared.ports.DeclaredEvent.{DeclaredEvent}
+use Rattle.fb_deploy.specs.Iface.declared.ports.DeclaredInstance.{DeclaredInstance}
+use Rattle.fb_deploy.specs.Iface.declared.ports.DeclaredVariable.{DeclaredVariable}
+use Rattle.fb_deploy.specs.Iface.Names.{first_ones, stands_for}
+use Rattle.fb_deploy.specs.Iface.Ports.{Meanings, instances_in, meanings_in_type}
+use Rattle.fb_netcheck.specs.declared.ends.Flow.TheVariants as flows
+use Rattle.fb_netcheck.specs.declared.ends.Holder.{Holder}
+use Rattle.fb_netcheck.specs.declared.ends.Holder.TheVariants.{Own, OfInstance, OfPlug, OfSocket}
+use Rattle.fb_netcheck.specs.declared.ends.Port.{Port}
+use Rattle.fb_netcheck.specs.declared.ends.Position.{Position}
+use Rattle.fb_netcheck.specs.declared.ends.Position.TheVariants.{Source, Destination}
+use Rattle.fb_laws.specs.Places.{span_through}
+use Rattle.fb_laws.specs.Usable.{IsUsable}
+
+-- where a network stands: the unit, what it is, and what its own names stand for
+pub record Site : Type 0 where
+  pub unit : List ℕ
+  pub kind : UnitKind
+  pub own : Meanings
+
+-- A network of the unit, where it stands: that of a block type, of a subapplication type, or of an application of a system, which has no own
+-- ports.
+pub data IsNetworkOf (sources : Sources) (unit : List ℕ) : Site → NetworkTree → Type 0 where
+  of_block : (d : TypeTree) → tree_at sources unit ≡ Some (block_type d)
+      → IsNetworkOf sources unit (record { unit = unit; kind = kinds.Block; own = meanings_in_type d }) d.network
+  of_subapplication : (d : TypeTree) → tree_at sources unit ≡ Some (subapplication_type d)
+      → IsNetworkOf sources unit (record { unit = unit; kind = kinds.Subapplication; own = meanings_in_type d }) d.network
+  of_application : (s : SystemTree) (a : ApplicationTree)
+      → tree_at sources unit ≡ Some (system_configuration s) → Contains s.applications a
+      → IsNetworkOf sources unit (record {
+        unit = unit;
+        kind = kinds.System;
+        own = record { events = []; variables = []; instances = first_ones (instances_in a.network) };
+      }) a.network
+
+-- an end of a connection, where it stands in it
+pub data IsEndOf (c : Connection) : Position → End → Type 0 where
+  source : IsEndOf c Source c.source
+  destination : IsEndOf c Destination c.destination
+
+abbrev pub place_of : End → Span
+place_of end = span_through end.name end.port
+
+-- two ends of the same names
+abbrev pub HaveSameNames : End → End → Type 0
+HaveSameNames a b = (a.name.name ≡ b.name.name)
+    × (option_map (λ n. n.name) a.port ≡ option_map (λ n. n.name) b.port)
+
+-- a name of a unit stands for a port of this sort: an event, a data input or output, a socket as an input or a plug as an output
+pub data IsPort (ports : Meanings) (name : List ℕ) : Sort → Port → Type 0 where
+  event : (e : DeclaredEvent) → stands_for ports.events name ≡ Some e
+      → IsPort ports name sorts.Event (record { side = e.side; flow = flows.Event })
+  data_input : (v : DeclaredVariable) → stands_for ports.variables name ≡ Some v
+      → v.section ≡ sections.Input
+      → IsPort ports name sorts.Data (record { side = Input; flow = flows.Data v.type_use })
+  data_output : (v : DeclaredVariable) → stands_for ports.variables name ≡ Some v
+      → v.section ≡ sections.Output
+      → IsPort ports name sorts.Data (record { side = Output; flow = flows.Data v.type_use })
+  socket : (i : DeclaredInstance) → stands_for ports.instances name ≡ Some i → i.role ≡ roles.Socket
+      → IsPort ports name sorts.Adapter (record { side = Input; flow = flows.Adapter i.type_name })
+  plug : (i : DeclaredInstance) → stands_for ports.instances name ≡ Some i → i.role ≡ roles.Plug
+      → IsPort ports name sorts.Adapter (record { side = Output; flow = flows.Adapter i.type_name })
+
+-- Connections of this sort reach the ports of an instance; those of an own plug or socket are reached by events and data, in a block type.
+pub data IsReached (here : Site) (sort : Sort) (i : DeclaredInstance) : Holder → Type 0 where
+  of_block_instance : i.role ≡ roles.Block → IsReached here sort i OfInstance
+  of_subapplication_instance : i.role ≡ roles.Subapplication → IsReached here sort i OfInstance
+  of_plug : i.role ≡ roles.Plug → here.kind ≡ kinds.Block → sort ≢ sorts.Adapter
+      → IsReached here sort i OfPlug
+  of_socket : i.role ≡ roles.Socket → here.kind ≡ kinds.Block → sort ≢ sorts.Adapter
+      → IsReached here sort i OfSocket
+
+-- The port of this sort that `X` or `I.X` names: whose it is, and the unit in whose text it is declared.
+pub data Names (sources : Sources) (here : Site) (sort : Sort) : NameUse → Option NameUse → Holder → List ℕ → Port → Type 0 where
+  own_port : {X : NameUse} {port : Port} → IsPort here.own X.name sort port
+      → Names sources here sort X None Own here.unit port
+  port_of : {I X : NameUse} {holder : Holder} {port : Port} (i : DeclaredInstance) (ports : Meanings)
+      → stands_for here.own.instances I.name ≡ Some i → IsReached here sort i holder
+      → IsUsable sources i.type_name.name i.role ports → IsPort ports X.name sort port
+      → Names sources here sort I (Some X) holder i.type_name.name port
+
+-- connections of this sort reach the ports of the instance
+abbrev pub IsReachedBy : Site → Sort → DeclaredInstance → Type 0
+IsReachedBy here sort i = (holder : Holder) × IsReached here sort i holder
+
+-- The right sides. What comes in at an own input, or through a plug, is a source inside.
+pub data IsRightSide : Position → Holder → Side → Type 0 where
+  own_source : IsRightSide Source Own Input
+  own_destination : IsRightSide Destination Own Output
+  instance_source : IsRightSide Source OfInstance Output
+  instance_destination : IsRightSide Destination OfInstance Input
+  plug_source : IsRightSide Source OfPlug Input
+  plug_destination : IsRightSide Destination OfPlug Output
+  socket_source : IsRightSide Source OfSocket Output
+  socket_destination : IsRightSide Destination OfSocket Input
+
+-- an end names a port of the right side
+pub record NamesRight (sources : Sources) (here : Site) (sort : Sort) (position : Position) (end : End) : Type 0 where
+  pub holder : Holder
+  pub unit : List ℕ
+  pub port : Port
+  pub names : Names sources here sort end.name end.port holder unit port
+  pub right : IsRightSide position holder port.side

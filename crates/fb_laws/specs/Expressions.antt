@@ -1,0 +1,88 @@
+-- Each code of expressions and statements in words of its own: where the list of faults has it.
+use Rattle.std.specs.Prelude.{◌≡◌, ℕ, List, Option, None}
+use Rattle.fb_text.specs.declared.name.NameUse.{NameUse}
+use Rattle.fb_text.specs.declared.token.Span.{Span}
+use Rattle.fb_tree.specs.Expression.{ReferenceTree, Expression, reference_expression, unary_expression, row_expression, Expressions, Operands}
+use Rattle.fb_tree.specs.Statement.{Statement, assignment, count, Statements}
+use Rattle.fb_tree.specs.Tree.{TypeTree}
+use Rattle.fb_tree.specs.declared.expression.BinaryUse.{BinaryUse}
+use Rattle.fb_tree.specs.declared.expression.UnaryUse.{UnaryUse}
+use Rattle.fb_tree.specs.declared.interface.TypeUse.{TypeUse}
+use Rattle.fb_deploy.specs.Library.View.{Sources}
+use Rattle.fb_deploy.specs.Iface.Class.{class_of_type}
+use Rattle.fb_deploy.specs.Iface.Ports.{meanings_in_type}
+use Rattle.fb_deploy.specs.Iface.declared.classes.Class.{Class as ValueClass}
+use Rattle.fb_deploy.specs.Iface.declared.code.Code.TheVariants.{Class, VariableUnknown}
+use Rattle.fb_expr.specs.declared.rules.ClassPlace.{ClassPlace}
+use Rattle.fb_expr.specs.declared.rules.ClassPlace.TheVariants.{Condition, Count, Counter}
+use Rattle.fb_laws.specs.Classes.{Changes, Combines, Fits, HasClass, IsPairIn, Joins}
+use Rattle.fb_laws.specs.Occurrences.{Asks, IsOneOf, IsRunIn, IsTestedIn, IsWrittenIn}
+use Rattle.fb_laws.specs.Declared.{IsBlockAt}
+use Rattle.fb_laws.specs.Places.{StandsAt, span_through}
+use Rattle.fb_laws.specs.UnitParts.{IsReportedWhere}
+use Rattle.fb_laws.specs.UnitParts as parts
+use Rattle.fb_laws.specs.Usable.{IsAdapter, IsNotJudged}
+use Rattle.fb_laws.specs.Variables.{NamesVariable}
+
+-- the names of a reference in the guards and the algorithms of a type, or the name behind FOR in an algorithm
+pub data IsNamedIn (d : TypeTree) : NameUse → Option NameUse → Type 0 where
+  in_reference : (r : ReferenceTree) (subscripts : Expressions)
+      → IsWrittenIn d (reference_expression r subscripts) → IsNamedIn d r.name r.member
+  behind_for : (name : NameUse) (from to : Expression) (by : Option Expression) (body : Statements)
+      → IsRunIn d (count name from to by body) → IsNamedIn d name None
+
+-- a reference, or a name behind FOR, that names no variable
+pub record HasUnknownVariable (sources : Sources) (unit : List ℕ) (span : Span) : Type 0 where
+  pub block : TypeTree
+  pub declared : IsBlockAt sources unit block
+  pub name : NameUse
+  pub member : Option NameUse
+  pub named : IsNamedIn block name member
+  pub unknown : (used : TypeUse) → ¬ NamesVariable sources block name member used
+  pub judged : ¬ IsNotJudged sources (meanings_in_type block) IsAdapter name member
+  pub place : span ≡ span_through name member
+
+-- A rule of classes that is broken in the type, with the place of its fault: at an operator before an operand that it has no rule for; at one
+-- between operands that don't join, or whose join it has no rule for; at a subscript, a guard, or an expression in a statement that doesn't fit its
+-- place; at the variable of a FOR that is no whole number; and at the `:=` of an assignment whose sides don't join.
+pub data BreaksRule (sources : Sources) (d : TypeTree) : Span → Type 0 where
+  at_operator : (used : UnaryUse) (x : Expression) (c : ValueClass)
+      → IsWrittenIn d (unary_expression used x) → HasClass sources d x c
+      → ((g : ValueClass) → ¬ Changes used.operator c g) → BreaksRule sources d used.span
+  between_operands : (first : Expression) (row : Operands) (start : ValueClass) (used : BinaryUse)
+      (before : ValueClass) (x : Expression) (c : ValueClass)
+      → IsWrittenIn d (row_expression first row) → HasClass sources d first start
+      → IsPairIn sources d used before x start row → HasClass sources d x c
+      → ((g : ValueClass) → ¬ Combines used.operator before c g) → BreaksRule sources d used.span
+  at_subscript : {span : Span} (r : ReferenceTree) (subscripts : Expressions) (x : Expression) (c : ValueClass)
+      → IsWrittenIn d (reference_expression r subscripts) → IsOneOf x subscripts
+      → HasClass sources d x c → ¬ Fits Count c → StandsAt x span → BreaksRule sources d span
+  at_guard : {span : Span} (x : Expression) (c : ValueClass) → IsTestedIn d x
+      → HasClass sources d x c → ¬ Fits Condition c → StandsAt x span → BreaksRule sources d span
+  in_statement : {span : Span} (s : Statement) (place : ClassPlace) (x : Expression) (c : ValueClass)
+      → IsRunIn d s → Asks s place x → HasClass sources d x c → ¬ Fits place c → StandsAt x span
+      → BreaksRule sources d span
+  at_counter : (name : NameUse) (from to : Expression) (by : Option Expression) (body : Statements) (used : TypeUse)
+      → IsRunIn d (count name from to by body) → NamesVariable sources d name None used
+      → ¬ Fits Counter (class_of_type used) → BreaksRule sources d name.span
+  at_assignment : (r : ReferenceTree) (subscripts : Expressions) (place : Span) (e : Expression) (a b : ValueClass)
+      → IsRunIn d (assignment r subscripts place e)
+      → HasClass sources d (reference_expression r subscripts) a → HasClass sources d e b
+      → ((c : ValueClass) → ¬ Joins a b c) → BreaksRule sources d place
+
+-- a rule of classes that is broken
+pub record HasBrokenRule (sources : Sources) (unit : List ℕ) (span : Span) : Type 0 where
+  pub block : TypeTree
+  pub declared : IsBlockAt sources unit block
+  pub breaks : BreaksRule sources block span
+
+abbrev pub VariablesAreKnown : Type 0
+VariablesAreKnown = IsReportedWhere parts.Expressions VariableUnknown HasUnknownVariable
+
+abbrev pub ClassesAreRight : Type 0
+ClassesAreRight = IsReportedWhere parts.Expressions Class HasBrokenRule
+
+-- each expression has exactly one class
+abbrev pub ExpressionsHaveOneClass : Type 0
+ExpressionsHaveOneClass = (sources : Sources) (d : TypeTree) (e : Expression)
+    → (c : ValueClass) × HasClass sources d e c × ((other : ValueClass) → HasClass sources d e other → other ≡ c)

@@ -1,0 +1,23 @@
+-- What the contracts of this crate cite.
+pub mod SpanParts
+pub mod Written
+pub mod Standing
+pub mod Alone
+pub mod Spans
+pub mod Declared
+pub mod Ports
+pub mod UnitParts
+pub mod Declarations
+pub mod Places
+pub mod Usable
+pub mod Charts
+pub mod Ends
+pub mod Networks
+pub mod Occurrences
+pub mod Variables
+pub mod Classes
+pub mod Expressions
+pub mod Mappings
+pub mod Texts
+pub mod Planned
+pub mod Plans

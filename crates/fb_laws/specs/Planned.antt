@@ -1,0 +1,53 @@
+-- Systems with a plan, and where their blocks and the ends of their links stand.
+use Rattle.std.specs.Prelude.{◌≡◌, ◌≤◌, ℕ, false, List, length, Some, Contains}
+use Rattle.fb_tree.specs.Tree.{MappingTree}
+use Rattle.fb_deploy.specs.Library.View.{Sources, tree_at}
+use Rattle.fb_wiring.specs.Network.declared.flat.FlatBlock.{FlatBlock}
+use Rattle.fb_wiring.specs.Network.declared.flat.Link.{Link}
+use Rattle.fb_wiring.specs.Network.PlainFlat.{PlainFlat}
+use Rattle.fb_deploy.specs.Flatten.Net.{HasFlat}
+use Rattle.fb_placing.specs.Fronts.{IsFront, IsNearest}
+use Rattle.fb_placing.specs.Mappings.{names_used, resource_at}
+use Rattle.fb_placing.specs.Standing.{leads_nowhere}
+use Rattle.fb_placing.specs.Systems.{applications_in, mappings_in}
+use Rattle.fb_deploy.specs.Deploy.{planned}
+use Rattle.fb_placing.specs.PlainResource.{PlainResource}
+use Rattle.fb_deploy.specs.Plans.{plan_at}
+
+-- the system has this flat network, and its plan has these cut links and these resources with their commands
+pub record IsPlanned (sources : Sources) (system : List ℕ) (flat : PlainFlat) (cuts : List Link) (resources : List PlainResource) : Type 0 where
+  pub is_flat : HasFlat sources system flat
+  pub plan : plan_at sources system ≡ Some (planned cuts resources)
+
+-- The home of what stands at a path is the resource of the mapping with the longest path that is this path or stands in front of it by whole
+-- names.
+abbrev pub IsHome : Sources → List ℕ → List ℕ → List ℕ → Type 0
+IsHome sources system path resource =
+    IsNearest (resource_at (mappings_in (tree_at sources system))) path (Some resource)
+
+-- the block at an end of a link: its path is the longest of those that stand in front of the end by whole names
+pub record IsBlockAt (blocks : List FlatBlock) (end : List ℕ) (block : FlatBlock) : Type 0 where
+  pub listed : Contains blocks block
+  pub front : IsFront block.path end
+  pub longest : (other : FlatBlock) → Contains blocks other → IsFront other.path end
+      → length other.path ≤ length block.path
+
+-- an end of a link stands on the home of the block at this end
+pub record StandsOn (sources : Sources) (system : List ℕ) (blocks : List FlatBlock) (end resource : List ℕ) : Type 0 where
+  pub block : FlatBlock
+  pub is_at : IsBlockAt blocks end block
+  pub home : IsHome sources system block.path resource
+
+-- Nothing of the system is misplaced: each block has a home, and each mapping is of an application, a block or a subapplication instance.
+pub record IsPlacedWhole (sources : Sources) (system : List ℕ) (flat : PlainFlat) : Type 0 where
+  pub homes : (block : FlatBlock) → Contains flat.blocks block
+      → (resource : List ℕ) × IsHome sources system block.path resource
+  pub mappings :
+      (m : MappingTree) → Contains (mappings_in (tree_at sources system)) m
+      → leads_nowhere sources system (applications_in (tree_at sources system)) (names_used m.path) ≡ false
+
+-- the system has a plan with cut links and resources
+pub record HasCommands (sources : Sources) (system : List ℕ) (flat : PlainFlat) : Type 0 where
+  pub cuts : List Link
+  pub resources : List PlainResource
+  pub is_planned : IsPlanned sources system flat cuts resources

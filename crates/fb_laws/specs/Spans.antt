@@ -1,0 +1,50 @@
+-- The laws of the parts of trees that keep where they stand.
+use Rattle.std.specs.Prelude.{◌≡◌, ℕ, ◌<◌, List, All, Contains, Ok, IsUtf8}
+use Rattle.fb_text.specs.Tokens.{tokens_of, spans_of, LiesIn}
+use Rattle.fb_text.specs.declared.name.NameUse.{NameUse}
+use Rattle.fb_text.specs.declared.token.Token.{Token}
+use Rattle.fb_deploy.specs.Parse.Body.{body_of, Whole}
+use Rattle.fb_structured_text.specs.Forms.Lexemes.{lexemes_of}
+use Rattle.fb_structured_text.specs.Forms.declared.lexeme.Lexeme.{Lexeme}
+use Rattle.fb_tree.specs.Tree.{ConstantTree, DeclTree}
+use Rattle.fb_laws.specs.Alone.{ReadsAlone, ConstantReadsAlone}
+use Rattle.fb_laws.specs.SpanParts.{name_part, constant_part, tree_parts}
+use Rattle.fb_laws.specs.Standing.{Covers, IsWord}
+use Rattle.fb_laws.specs.Written.{part_span, IsWritten}
+
+-- Each part of the tree of a text is what the tokens from its begin to its end spell.
+abbrev pub PartsAreWritten : Type 0
+PartsAreWritten =
+    (text : List ℕ) (tree : DeclTree) → body_of text ≡ Whole tree
+    → (lexemes : List Lexeme) × (lexemes_of text ≡ Ok lexemes) × All (IsWritten lexemes) (tree_parts tree)
+
+-- The span of each part covers tokens of the text.
+abbrev pub SpansCoverTokens : Type 0
+SpansCoverTokens =
+    (text : List ℕ) (tree : DeclTree) → body_of text ≡ Whole tree
+    → (tokens : List Token) × (tokens_of text ≡ Ok tokens)
+    × All (λ p. Covers (spans_of tokens) (part_span p)) (tree_parts tree)
+
+-- The span of each part is a part of the text that is not empty, between characters.
+abbrev pub SpansLieInText : Type 0
+SpansLieInText =
+    (text : List ℕ) (tree : DeclTree) → IsUtf8 text → body_of text ≡ Whole tree
+    → All (λ p. LiesIn text (part_span p) × ((part_span p).start < (part_span p).end)) (tree_parts tree)
+
+-- Each name of the tree is a word of the text.
+abbrev pub NamesAreWords : Type 0
+NamesAreWords =
+    (text : List ℕ) (tree : DeclTree) → IsUtf8 text → body_of text ≡ Whole tree
+    → (tokens : List Token) × (tokens_of text ≡ Ok tokens)
+    × ((name : NameUse) → Contains (tree_parts tree) (name_part name) → IsWord text tokens name)
+
+-- Each part reads alone as it does in the text.
+abbrev pub PartsReadAlone : Type 0
+PartsReadAlone = (text : List ℕ) (tree : DeclTree) → IsUtf8 text → body_of text ≡ Whole tree
+    → All (ReadsAlone text) (tree_parts tree)
+
+-- The text of each constant alone reads as that constant.
+abbrev pub ConstantsReadAlone : Type 0
+ConstantsReadAlone =
+    (text : List ℕ) (tree : DeclTree) → IsUtf8 text → body_of text ≡ Whole tree
+    → (c : ConstantTree) → Contains (tree_parts tree) (constant_part c) → ConstantReadsAlone text c

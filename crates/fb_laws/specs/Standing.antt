@@ -1,0 +1,26 @@
+-- Where spans and names stand among the tokens of a text.
+use Rattle.std.specs.Prelude.{◌≡◌, ℕ, List, ◌∷◌, ◌++◌, slice_range, Contains}
+use Rattle.std.specs.Str.{str_to_ascii_uppercase}
+use Rattle.fb_text.specs.declared.name.NameUse.{NameUse}
+use Rattle.fb_text.specs.declared.token.Span.{Span}
+use Rattle.fb_text.specs.declared.token.Token.{Token}
+use Rattle.fb_text.specs.declared.token.TokenKind.TheVariants.{Word}
+
+-- the span begins where one of the tokens begins, and ends where that token or a later one ends
+pub record Covers (tokens : List Span) (span : Span) : Type 0 where
+  pub before : List Span
+  pub first : Span
+  pub behind : List Span
+  pub last : Span
+  pub parts : tokens ≡ before ++ first ∷ behind
+  pub from_first : Contains (first ∷ behind) last
+  pub start : span.start ≡ first.start
+  pub end : span.end ≡ last.end
+
+-- one of the tokens is a word that the name spells in upper case, and stands where the name stands
+pub record IsWord (text : List ℕ) (tokens : List Token) (name : NameUse) : Type 0 where
+  pub token : Token
+  pub among : Contains tokens token
+  pub word : token.kind ≡ Word
+  pub span : name.span ≡ token.span
+  pub spelling : name.name ≡ str_to_ascii_uppercase (slice_range text token.span.start token.span.end)

@@ -1,0 +1,40 @@
+-- Units whose text is broken, whole or absent.
+use Rattle.std.specs.Prelude.{◌≡◌, ◌≢◌, ℕ, List, [], ◌∷◌, Some, None, Contains, ◌↔◌}
+use Rattle.std.specs.FinMap.{get}
+use Rattle.fb_text.specs.declared.token.Span.{Span}
+use Rattle.fb_tree.specs.Tree.{DeclTree}
+use Rattle.fb_deploy.specs.Parse.Body.{BrokenAt, IsBody}
+use Rattle.fb_deploy.specs.Library.View.{Sources, tree_at}
+use Rattle.fb_deploy.specs.Iface.declared.code.Code.TheVariants.{Syntax}
+use Rattle.fb_deploy.specs.Iface.declared.fault.Fault.{Fault}
+use Rattle.fb_deploy.specs.Faults.Faults.{faults_of}
+
+-- the unit is present, its text spells no declaration, and this is where it is broken
+pub record IsBroken (sources : Sources) (unit : List ℕ) (span : Span) : Type 0 where
+  pub text : List ℕ
+  pub present : get sources unit ≡ Some text
+  pub broken : IsBody text (BrokenAt span)
+
+abbrev pub broken_at : Span → Fault
+broken_at span = record { code = Syntax; span = span }
+
+-- the code stands for a broken text, and for nothing else
+abbrev pub BrokenTextsAreReported : Type 0
+BrokenTextsAreReported = (sources : Sources) (unit : List ℕ) (span : Span)
+    → Contains (faults_of sources unit) (broken_at span) ↔ IsBroken sources unit span
+
+-- a unit whose text is broken has this fault and no other
+abbrev pub BrokenTextsAreReportedAlone : Type 0
+BrokenTextsAreReportedAlone = (sources : Sources) (unit : List ℕ) (span : Span)
+    → IsBroken sources unit span → faults_of sources unit ≡ broken_at span ∷ []
+
+-- a unit that is present and not broken has no such fault
+abbrev pub WholeTextsAreNotReported : Type 0
+WholeTextsAreNotReported = (sources : Sources) (unit : List ℕ) (decl : DeclTree)
+    → tree_at sources unit ≡ Some decl → (fault : Fault) → Contains (faults_of sources unit) fault
+    → fault.code ≢ Syntax
+
+-- a unit that is absent has no faults
+abbrev pub AbsentUnitsHaveNoFaults : Type 0
+AbsentUnitsHaveNoFaults = (sources : Sources) (unit : List ℕ) → get sources unit ≡ None
+    → faults_of sources unit ≡ []

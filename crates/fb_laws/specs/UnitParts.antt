@@ -1,0 +1,111 @@
+-- The parts of the check of a unit, the codes that each has, and which faults of the unit are whose.
+use Rattle.std.specs.Prelude.{◌≡◌, ◌≢◌, ℕ, List, Some, Contains, ◌↔◌, ◌⊎◌}
+use Rattle.fb_text.specs.declared.token.Span.{Span}
+use Rattle.fb_tree.specs.Tree.{DeclTree}
+use Rattle.fb_deploy.specs.Library.View.{Sources, tree_at}
+use Rattle.fb_deploy.specs.Iface.Declarations.{iface_faults_of}
+use Rattle.fb_deploy.specs.Iface.declared.code.Code.{Code}
+use Rattle.fb_deploy.specs.Iface.declared.code.Code.TheVariants.{Syntax, NameDiffers, Duplicate, MixedKind, UnknownType, WrongKind, WithUnknown, StateUnknown, EventUnknown, AlgorithmUnknown, VariableUnknown, Class, PortUnknown, PortSide, DataType, SecondSource, SecondAdapter, PassThrough, ParameterUnknown, Literal, MappedTwice, NoSuchResource}
+use Rattle.fb_deploy.specs.Iface.declared.fault.Fault.{Fault}
+use Rattle.fb_expr.specs.Charts.{expr_faults_of}
+use Rattle.fb_ecc.specs.Charts.{ecc_faults_of}
+use Rattle.fb_netcheck.specs.Networks.{net_faults_of}
+use Rattle.fb_deploy.specs.Faults.Mappings.{mapping_faults_of}
+use Rattle.fb_deploy.specs.Faults.Faults.{faults_of}
+
+-- the parts of the check of a unit whose text is not broken
+pub data Part : Type 0 where
+  Declarations : Part
+  Expressions : Part
+  Charts : Part
+  Networks : Part
+  Mappings : Part
+
+-- what each part reports
+abbrev pub faults_by : Part → Sources → List ℕ → List Fault
+faults_by Declarations sources unit = iface_faults_of sources unit
+faults_by Expressions sources unit = expr_faults_of sources unit
+faults_by Charts sources unit = ecc_faults_of sources unit
+faults_by Networks sources unit = net_faults_of sources unit
+faults_by Mappings sources unit = mapping_faults_of sources unit
+
+-- the part reports the code at exactly these places of a unit
+abbrev pub IsReportedWhere : Part → Code → (Sources → List ℕ → Span → Type 0) → Type 0
+IsReportedWhere part code Has = (sources : Sources) (unit : List ℕ) (span : Span)
+    → Contains (faults_by part sources unit) (record { code = code; span = span }) ↔ Has sources unit span
+
+-- the codes of each part
+pub data IsCodeOf : Part → Code → Type 0 where
+  other_name : IsCodeOf Declarations NameDiffers
+  duplicate : IsCodeOf Declarations Duplicate
+  mixed_kind : IsCodeOf Declarations MixedKind
+  unknown_type : IsCodeOf Declarations UnknownType
+  wrong_kind : IsCodeOf Declarations WrongKind
+  unknown_with : IsCodeOf Declarations WithUnknown
+  initial_value : IsCodeOf Declarations Literal
+  unknown_variable : IsCodeOf Expressions VariableUnknown
+  class : IsCodeOf Expressions Class
+  unknown_state : IsCodeOf Charts StateUnknown
+  unknown_event : IsCodeOf Charts EventUnknown
+  unknown_algorithm : IsCodeOf Charts AlgorithmUnknown
+  unknown_port : IsCodeOf Networks PortUnknown
+  wrong_side : IsCodeOf Networks PortSide
+  other_type : IsCodeOf Networks DataType
+  second_source : IsCodeOf Networks SecondSource
+  second_adapter : IsCodeOf Networks SecondAdapter
+  passage : IsCodeOf Networks PassThrough
+  unknown_parameter : IsCodeOf Networks ParameterUnknown
+  parameter_value : IsCodeOf Networks Literal
+  second_mapping : IsCodeOf Mappings MappedTwice
+  lost_mapping : IsCodeOf Mappings NoSuchResource
+
+-- a part has the code
+pub record HasPart (code : Code) : Type 0 where
+  pub part : Part
+  pub is : IsCodeOf part code
+
+-- the parts have every code but that of broken texts
+abbrev pub PartsHaveAllOtherCodes : Type 0
+PartsHaveAllOtherCodes = (code : Code) → code ≢ Syntax ↔ HasPart code
+
+-- what a part reports has one of its codes
+abbrev pub PartsHaveOwnCodes : Type 0
+PartsHaveOwnCodes = (part : Part) (sources : Sources) (unit : List ℕ) (fault : Fault)
+    → Contains (faults_by part sources unit) fault → IsCodeOf part fault.code
+
+-- the code of constants, in initial values and in parameters
+abbrev pub IsOfConstants : Part → Part → Code → Type 0
+IsOfConstants p q code = (code ≡ Literal)
+    × (((p ≡ Declarations) × (q ≡ Networks)) ⊎ ((p ≡ Networks) × (q ≡ Declarations)))
+
+-- two parts share that code alone
+abbrev pub PartsShareOneCode : Type 0
+PartsShareOneCode = (p q : Part) (code : Code) → p ≢ q → IsCodeOf p code → IsCodeOf q code
+    → IsOfConstants p q code
+
+-- a part reports the fault
+pub record IsOfPart (sources : Sources) (unit : List ℕ) (fault : Fault) : Type 0 where
+  pub part : Part
+  pub reported : Contains (faults_by part sources unit) fault
+
+-- a unit that is present and not broken has the faults of its parts, and no other
+abbrev pub WholeUnitsHaveFaultsOfParts : Type 0
+WholeUnitsHaveFaultsOfParts = (sources : Sources) (unit : List ℕ) (decl : DeclTree)
+    → tree_at sources unit ≡ Some decl → (fault : Fault)
+    → Contains (faults_of sources unit) fault ↔ IsOfPart sources unit fault
+
+-- a code that one part has is reported of a unit where this part reports it
+abbrev pub CodesAreOfTheirParts : Type 0
+CodesAreOfTheirParts = (part : Part) (sources : Sources) (unit : List ℕ) (fault : Fault)
+    → IsCodeOf part fault.code → fault.code ≢ Literal
+    → Contains (faults_of sources unit) fault ↔ Contains (faults_by part sources unit) fault
+
+-- a fault of a constant
+abbrev pub of_constant : Span → Fault
+of_constant span = record { code = Literal; span = span }
+
+-- the code of constants is reported of a unit where its declarations or its networks have it
+abbrev pub ConstantsAreOfTwoParts : Type 0
+ConstantsAreOfTwoParts = (sources : Sources) (unit : List ℕ) (span : Span)
+    → Contains (faults_of sources unit) (of_constant span)
+    ↔ (Contains (iface_faults_of sources unit) (of_constant span) ⊎ Contains (net_faults_of sources unit) (of_constant span))

@@ -1,0 +1,32 @@
+-- Types of instances that are usable, and names that are not judged because the type of an instance is not.
+use Rattle.std.specs.Prelude.{◌≡◌, ℕ, List, Option, Some, ◌⊎◌}
+use Rattle.fb_text.specs.declared.name.NameUse.{NameUse}
+use Rattle.fb_tree.specs.Tree.{TypeTree, adapter_type, block_type, subapplication_type}
+use Rattle.fb_tree.specs.declared.network.Role.{Role}
+use Rattle.fb_tree.specs.declared.network.Role.TheVariants as roles
+use Rattle.fb_deploy.specs.Library.View.{Sources, tree_at}
+use Rattle.fb_deploy.specs.Iface.declared.ports.DeclaredInstance.{DeclaredInstance}
+use Rattle.fb_deploy.specs.Iface.Names.{stands_for}
+use Rattle.fb_deploy.specs.Iface.Ports.{Meanings, meanings_in_type}
+
+-- The type of this name is usable in this role: present, not broken, and of the kind that the section wants. These are what its names stand
+-- for.
+pub data IsUsable (sources : Sources) (name : List ℕ) : Role → Meanings → Type 0 where
+  as_plug : (d : TypeTree) → tree_at sources name ≡ Some (adapter_type d)
+      → IsUsable sources name roles.Plug (meanings_in_type d)
+  as_socket : (d : TypeTree) → tree_at sources name ≡ Some (adapter_type d)
+      → IsUsable sources name roles.Socket (meanings_in_type d)
+  as_block : (d : TypeTree) → tree_at sources name ≡ Some (block_type d)
+      → IsUsable sources name roles.Block (meanings_in_type d)
+  as_subapplication : (d : TypeTree) → tree_at sources name ≡ Some (subapplication_type d)
+      → IsUsable sources name roles.Subapplication (meanings_in_type d)
+
+-- a plug or a socket
+abbrev pub IsAdapter : DeclaredInstance → Type 0
+IsAdapter i = i.role ≡ roles.Plug ⊎ i.role ≡ roles.Socket
+
+-- `I.X` where I stands for an instance whose ports count, and its type is not usable
+pub data IsNotJudged (sources : Sources) (own : Meanings) (Counts : DeclaredInstance → Type 0) : NameUse → Option NameUse → Type 0 where
+  of_unusable : {I X : NameUse} (i : DeclaredInstance) → stands_for own.instances I.name ≡ Some i → Counts i
+      → ((ports : Meanings) → ¬ IsUsable sources i.type_name.name i.role ports)
+      → IsNotJudged sources own Counts I (Some X)

@@ -1,0 +1,97 @@
+-- What the tokens within the span of a part spell.
+use Rattle.std.specs.Prelude.{◌≡◌, ℕ, ◌≤◌, List, [], ◌∷◌, ◌++◌}
+use Rattle.std.specs.List.{flat_map}
+use Rattle.fb_text.specs.declared.token.Span.{Span}
+use Rattle.fb_structured_text.specs.Forms.Form.{Form, one, as_value, Spells}
+use Rattle.fb_structured_text.specs.Forms.Literals.{across}
+use Rattle.fb_structured_text.specs.Forms.Words.{key, name}
+use Rattle.fb_structured_text.specs.Forms.declared.kind.Kind.{Kind}
+use Rattle.fb_structured_text.specs.Forms.declared.lexeme.Lexeme.{Lexeme}
+use Rattle.fb_sections.specs.Constants.{constant, type_use}
+use Rattle.fb_tree.specs.Expression.{Expression, literal_expression, reference_expression, unary_expression, row_expression, parentheses, Operands, no_operands, operand_then}
+use Rattle.fb_tree.specs.Tree.{ConstantTree, one_value, value_list}
+use Rattle.fb_tree.specs.declared.constant.Simple.{Simple}
+use Rattle.fb_tree.specs.declared.constant.Simple.TheVariants as simple
+use Rattle.fb_tree.specs.declared.expression.BinaryUse.{BinaryUse}
+use Rattle.fb_tree.specs.declared.expression.UnaryUse.{UnaryUse}
+use Rattle.fb_structured_text.specs.Expression.{levels, expression}
+use Rattle.fb_structured_text.specs.Operators.{signs, strengths, unary_use, binary_use}
+use Rattle.fb_laws.specs.SpanParts.{Part, name_part, constant_part, type_part, expression_part, sign_part, operator_part, mark_part}
+
+-- Where a part stands
+
+abbrev pub simple_span : Simple → Span
+simple_span (simple.Literal literal) = literal.span
+simple_span (simple.Name name) = name.span
+
+abbrev pub constant_span : ConstantTree → Span
+constant_span (one_value value) = simple_span value
+constant_span (value_list values span) = span
+
+abbrev mutual
+  -- an expression, with the parentheses and the subscripts that belong to it
+  pub expression_span : Expression → Span
+  expression_span (literal_expression literal) = literal.span
+  expression_span (reference_expression reference subscripts) = reference.span
+  expression_span (unary_expression sign e) = across sign.span (expression_span e)
+  expression_span (row_expression e operands) = span_through (expression_span e) operands
+  expression_span (parentheses e span) = span
+
+  -- from there through the last of these operands
+  pub span_through : Span → Operands → Span
+  span_through span no_operands = span
+  span_through span (operand_then operator e operands) = span_through (across span (expression_span e)) operands
+
+abbrev pub part_span : Part → Span
+part_span (name_part name) = name.span
+part_span (constant_part c) = constant_span c
+part_span (type_part t) = t.span
+part_span (expression_part e) = expression_span e
+part_span (sign_part sign) = sign.span
+part_span (operator_part operator) = operator.span
+part_span (mark_part kind span) = span
+
+-- What spells it
+
+-- an operator before an operand
+unfoldable pub sign : Form UnaryUse
+sign = as_value unary_use (one signs)
+
+-- an operator between two operands
+unfoldable pub operator : Form BinaryUse
+operator = as_value binary_use (one (flat_map (λ kinds. kinds) strengths))
+
+-- a word or symbol of a kind
+unfoldable pub mark : Kind → Form Span
+mark kind = as_value (λ token. token.span) (key kind)
+
+-- the tokens spell the part, an expression at one of the levels
+abbrev pub SpellsPart : List Lexeme → Part → Type 0
+SpellsPart tokens (name_part n) = Spells name tokens n
+SpellsPart tokens (constant_part c) = Spells constant tokens c
+SpellsPart tokens (type_part t) = Spells type_use tokens t
+SpellsPart tokens (expression_part e) = (level : ℕ) × (level ≤ levels) × Spells (expression level) tokens e
+SpellsPart tokens (sign_part s) = Spells sign tokens s
+SpellsPart tokens (operator_part o) = Spells operator tokens o
+SpellsPart tokens (mark_part kind span) = Spells (mark kind) tokens span
+
+-- the first token begins there
+abbrev pub BeginsAt : List Lexeme → ℕ → Type 0
+BeginsAt [] place = ⊥
+BeginsAt (token ∷ tokens) place = place ≡ token.span.start
+
+-- the last token ends there
+abbrev pub EndsAt : List Lexeme → ℕ → Type 0
+EndsAt [] place = ⊥
+EndsAt (token ∷ []) place = place ≡ token.span.end
+EndsAt (token ∷ next ∷ tokens) place = EndsAt (next ∷ tokens) place
+
+-- Tokens that stand in a row among these, from where the span begins to where it ends, spell the part.
+pub record IsWritten (tokens : List Lexeme) (part : Part) : Type 0 where
+  pub before : List Lexeme
+  pub inside : List Lexeme
+  pub behind : List Lexeme
+  pub parts : tokens ≡ before ++ (inside ++ behind)
+  pub begins : BeginsAt inside (part_span part).start
+  pub ends : EndsAt inside (part_span part).end
+  pub spells : SpellsPart inside part

@@ -1,0 +1,57 @@
+//! Laws of the plans of systems: what is cut, and what is done on each resource.
+ghost use Rattle.fb_laws.specs.Plans.{BlocksAreMadeAtHome, BlocksHaveOneHome, CommandsAreInOrder, CutsJoinResources, EndsHaveOneHome, HomesHaveCommands, LinksAreCutOrMade, LinksAreMadeAtHome, ParametersAreSetAtHome, PlacedSystemsHaveCommands, ResourcesHaveTheirCommands};
+
+/// A system with a flat network has a plan with commands where each block has a home, and each mapping is of something.
+pub fn placed_systems_have_commands()
+    ensures { PlacedSystemsHaveCommands }
+{}
+
+/// A block has one home.
+pub fn blocks_have_one_home()
+    ensures { BlocksHaveOneHome }
+{}
+
+/// An end of a link stands on one resource.
+pub fn ends_have_one_home()
+    ensures { EndsHaveOneHome }
+{}
+
+/// The cut links are those between blocks with different homes, in the order of the flat network, each once.
+pub fn cuts_join_resources()
+    ensures { CutsJoinResources }
+{}
+
+/// A resource makes the blocks whose home it is, each once, in the order of their paths, and no other block.
+pub fn blocks_are_made_at_home()
+    ensures { BlocksAreMadeAtHome }
+{}
+
+/// A resource sets the parameters of the blocks whose home it is, each once, in the order of their places, and no other parameter.
+pub fn parameters_are_set_at_home()
+    ensures { ParametersAreSetAtHome }
+{}
+
+/// A resource makes the links both of whose ends stand on it, each once, in the order of the flat network, and no other link.
+pub fn links_are_made_at_home()
+    ensures { LinksAreMadeAtHome }
+{}
+
+/// A resource makes blocks first, then sets parameters, then makes links, and is started last.
+pub fn commands_are_in_order()
+    ensures { CommandsAreInOrder }
+{}
+
+/// The resources of the devices have their commands, in the order of the text.
+pub fn resources_have_their_commands()
+    ensures { ResourcesHaveTheirCommands }
+{}
+
+/// Each block has a home, and this is a resource of the plan.
+pub fn homes_have_commands()
+    ensures { HomesHaveCommands }
+{}
+
+/// Each link of the flat network is a cut, or some resource of the plan makes it, and not both.
+pub fn links_are_cut_or_made()
+    ensures { LinksAreCutOrMade }
+{}

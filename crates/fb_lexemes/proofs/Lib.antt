@@ -1,6 +1,0 @@
-pub mod Numbering
-pub mod Lookups
-pub mod NameWords
-pub mod Lexing
--- Passed on to the crates above, which do not list these libraries.
-pub use Rattle.fb_tree.proofs.Text as Text

@@ -1,8 +1,0 @@
-use Rattle.fb_lexemes.proofs.Numbering.{same_code, among-members}
-use Rattle.fb_lexemes.proofs.kind.own_numbers.Goals as goal
-
-pub returns : goal.returns
-returns c = record {
-  own = same_code;
-  members = among-members;
-}

@@ -1,0 +1,72 @@
+-- A search among items that stand by rising name.
+use Rattle.std.proofs.Common.{◌≡◌, ℕ, suc, ◌<◌, ◌≤◌, List, [], ◌∷◌, length, map, get_or, inl, inr, refl, sym, ap, ◌∙◌, arith, Result, Ok, Err, IfOk, IfErr}
+use Rattle.std.specs.List.Sorted.{IsStrictlySortedBy, IsNonDecreasingBy, IsSearchInRange, IsBinarySearchResult}
+use Rattle.std.specs.Ordering.{ordering_index, ordering_reverse}
+use Rattle.std.specs.declared.cmp.Ordering.{Ordering}
+use Rattle.std.specs.declared.cmp.Ordering.TheVariants.{Less, Equal, Greater}
+use Rattle.std.proofs.lemmas.Bool.{cases_lt}
+use Rattle.std.proofs.lemmas.List.{get_or-map}
+use Rattle.std.proofs.lemmas.Map.Keys.{Less-from_sorted}
+use Rattle.fb_parse.specs.Text.Order.{name_cmp}
+use Rattle.fb_library.specs.Place.{IsAt, IsGapFor}
+use Rattle.fb_library.proofs.Names.{name_total, exact_name}
+use Rattle.fb_library.proofs.Places.{less}
+
+-- the comparisons with a name rise along names in order
+index_rises : (x y n : List ℕ) → name_cmp x y ≡ Less → (r : Ordering) → name_cmp x n ≡ r → ordering_index r ≤ ordering_index (name_cmp y n)
+index_rises x y n lt Less e = omega arith
+index_rises x y n lt Equal e =
+    let above : name_cmp y n ≡ Greater = ap (name_cmp y) (sym (exact_name x n e)) ∙ name_total.antisymm y x ∙ ap ordering_reverse lt in
+    rw above (omega arith)
+index_rises x y n lt Greater e =
+    let above : name_cmp y n ≡ Greater = name_total.antisymm y n ∙ ap ordering_reverse (name_total.trans n x y (less x n e) lt) in
+    rw above (omega arith)
+
+pub record Searched (names : List (List ℕ)) (n : List ℕ) (r : Result ℕ ℕ) : Type 0 where
+  pub found : IfOk r (IsAt names n)
+  pub absent : IfErr r (IsGapFor names n)
+
+module _ {A : Type 0} (name : A → List ℕ) where
+  count : (xs : List A) → length (map name xs) ≡ length xs
+  count [] = refl
+  count (x ∷ xs) = ap (λ n. suc n) (count xs)
+
+  there : (xs : List A) (i : ℕ) (d : A) → i < length xs → get_or (map name xs) i [] ≡ name (get_or xs i d)
+  there xs i d lt = get_or-map name xs i d [] lt
+
+  rises : (xs : List A) (n : List ℕ) → IsStrictlySortedBy name_cmp (map name xs) → IsNonDecreasingBy (λ x. ordering_index (name_cmp (name x) n)) xs
+  rises xs n sorted i j d le lt = elim (cases_lt i j) [
+    | inl before ↦
+        let first = there xs i d (omega (arith, before, lt)) in
+        let second = there xs j d lt in
+        let below = Less-from_sorted name_cmp (map name xs) i j [] sorted before (omega (arith, lt, count xs)) in
+        index_rises (name (get_or xs i d)) (name (get_or xs j d)) n (sym (λ k. name_cmp (first k) (second k)) ∙ below) _ refl
+    | inr behind ↦
+        let same : i ≡ j = omega arith in
+        rw same (omega arith)
+  ]
+
+  -- a search ends at the item of that name, or where it would go
+  pub searched : (xs : List A) (n : List ℕ) (r : Result ℕ ℕ) → IsStrictlySortedBy name_cmp (map name xs) → IsSearchInRange r (length xs) → IsBinarySearchResult (λ x. name_cmp (name x) n) xs r → Searched (map name xs) n r
+  searched [] n (Ok at) sorted within is = absurd (omega (arith, within))
+  searched (x ∷ xs) n (Ok at) sorted within is = record {
+    found = record {
+      in_range = omega (arith, within, count (x ∷ xs));
+      named = there (x ∷ xs) at x within ∙ exact_name _ n (is x);
+    };
+    absent = tt;
+  }
+  searched [] n (Err at) sorted within is = record {
+    found = tt;
+    absent = record { in_range = within; below = λ j lt. absurd (omega (arith, within)); above = λ j le lt. absurd (omega arith) };
+  }
+  searched (x ∷ xs) n (Err at) sorted within is = record {
+    found = tt;
+    absent = record {
+      in_range = omega (arith, within, count (x ∷ xs));
+      below = λ j lt. ap (λ m. name_cmp m n) (there (x ∷ xs) j x (omega (arith, within, lt))) ∙ (is (rises (x ∷ xs) n sorted)).0 j x (omega arith) lt;
+      above = λ j le lt.
+          let here : j < length (x ∷ xs) = omega (arith, lt, count (x ∷ xs)) in
+          ap (name_cmp n) (there (x ∷ xs) j x here) ∙ less _ n ((is (rises (x ∷ xs) n sorted)).1 j x le here);
+    };
+  }

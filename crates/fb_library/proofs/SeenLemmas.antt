@@ -1,0 +1,164 @@
+-- Names that were seen, and names that are pending.
+use Rattle.std.proofs.Common.{◌≡◌, ℕ, ◌+◌, ◌≤◌, Bool, true, false, not, cond, if◌then◌else◌, ◌||◌, List, [], ◌∷◌, ◌++◌, length, refl, sym, ap, ◌∙◌, arith, nat_cmp, length-append}
+use Rattle.std.proofs.lemmas.Bool.{false≢true}
+pub use Rattle.std.proofs.lemmas.Bool.{or_left, or_right}
+use Rattle.std.specs.List.{Contains}
+use Rattle.std.specs.Ordering.{eq_by_cmp}
+use Rattle.std.specs.Cmp.{eq_by_cmp_equiv}
+use Rattle.std.specs.Cmp.Lexicographic.{slice_cmp, nat_list_cmp_total}
+use Rattle.std.specs.BTreeSet.{BTreeSet, Updates}
+use Rattle.std.specs.FinMap.{slice_cmp-IsAntisymmetric, nat_cmp-IsAntisymmetric}
+use Rattle.std.proofs.lemmas.Map.Views.{Contains-from_any, list_any-from_Contains, tells_apart}
+use Rattle.fb_parse.proofs.Text.Tests.{by_bool, or_cases, or_assoc, or_false, no_both}
+use Rattle.fb_library.specs.Seen.{has_name, unseen, Opens}
+
+true_or : (b c : Bool) → cond b true c ≡ (c || b)
+true_or true true = refl
+true_or true false = refl
+true_or false true = refl
+true_or false false = refl
+
+abbrev pub same : List ℕ → List ℕ → Bool
+same = eq_by_cmp (slice_cmp nat_cmp)
+
+pub same_is : (x y : List ℕ) → same x y ≡ true → x ≡ y
+same_is = tells_apart (slice_cmp-IsAntisymmetric nat_cmp-IsAntisymmetric)
+
+pub same_self : (x : List ℕ) → same x x ≡ true
+same_self = (eq_by_cmp_equiv nat_list_cmp_total).refl
+
+same_swap : (x y : List ℕ) → same x y ≡ same y x
+same_swap = (eq_by_cmp_equiv nat_list_cmp_total).symm
+
+pub Contains-has : (q : List ℕ) (xs : List (List ℕ)) → has_name xs q ≡ true → Contains xs q
+Contains-has = Contains-from_any same_is
+
+pub has-Contains : (q : List ℕ) (xs : List (List ℕ)) → Contains xs q → has_name xs q ≡ true
+has-Contains = list_any-from_Contains (eq_by_cmp_equiv nat_list_cmp_total)
+
+pub has-push : (xs : List (List ℕ)) (x q : List ℕ) → has_name (xs ++ x ∷ []) q ≡ (has_name xs q || same q x)
+has-push [] x q = or_false (same q x)
+has-push (y ∷ xs) x q = ap (λ b. same q y || b) (has-push xs x q) ∙ or_assoc (same q y) (has_name xs q) (same q x)
+
+-- the last of some names is among them
+pub last_named : (xs : List (List ℕ)) (x : List ℕ) → Contains (xs ++ x ∷ []) x
+last_named xs x = Contains-has x (xs ++ x ∷ []) (has-push xs x x ∙ or_right (has_name xs x) (same x x) (same_self x))
+
+-- ---- counting what was not seen
+abbrev one_unless : Bool → ℕ
+one_unless b = if b then 0 else 1
+
+one_unless-true : (b : Bool) → b ≡ true → one_unless b ≡ 0
+one_unless-true b e = ap one_unless e
+
+one_unless-false : (b : Bool) → b ≡ false → one_unless b ≡ 1
+one_unless-false b e = ap one_unless e
+
+one_unless-le : (b : Bool) → one_unless b ≤ 1
+one_unless-le true = omega arith
+one_unless-le false = omega arith
+
+less_here : (a b m n : ℕ) → a ≤ b → m ≤ n → a + m ≤ b + n
+less_here a b m n h k = omega arith
+
+fewer_here : (b c : Bool) → (b ≡ true → c ≡ true) → one_unless c ≤ one_unless b
+fewer_here true c h = let e : one_unless c ≡ 0 = one_unless-true c (h refl) in omega arith
+fewer_here false c h = one_unless-le c
+
+fewer : (seen seen' all : List (List ℕ)) → ((q : List ℕ) → has_name seen q ≡ true → has_name seen' q ≡ true) → unseen seen' all ≤ unseen seen all
+fewer seen seen' [] grows = omega arith
+fewer seen seen' (y ∷ all) grows =
+    less_here (one_unless (has_name seen' y)) (one_unless (has_name seen y)) _ _ (fewer_here (has_name seen y) (has_name seen' y) (grows y)) (fewer seen seen' all grows)
+
+one_here : (b c : Bool) (m n : ℕ) → b ≡ false → c ≡ true → m ≤ n → (one_unless c + m) + 1 ≤ one_unless b + n
+one_here b c m n f t h =
+    let p : one_unless b ≡ 1 = one_unless-false b f in
+    let q : one_unless c ≡ 0 = one_unless-true c t in
+    omega arith
+
+one_later : (a b m n : ℕ) → a ≤ b → m + 1 ≤ n → (a + m) + 1 ≤ b + n
+one_later a b m n h k = omega arith
+
+one_fewer : (seen seen' : List (List ℕ)) (x : List ℕ) → has_name seen x ≡ false → has_name seen' x ≡ true → ((q : List ℕ) → has_name seen q ≡ true → has_name seen' q ≡ true) → (all : List (List ℕ)) → has_name all x ≡ true → unseen seen' all + 1 ≤ unseen seen all
+one_fewer seen seen' x new now grows [] e = absurd (false≢true e)
+one_fewer seen seen' x new now grows (y ∷ all) e =
+    by_bool (same x y)
+    (λ s.
+    let is = same_is x y s in
+    one_here (has_name seen y) (has_name seen' y) _ _ (ap (has_name seen) (sym is) ∙ new) (ap (has_name seen') (sym is) ∙ now) (fewer seen seen' all grows))
+    (λ f.
+    one_later (one_unless (has_name seen' y)) (one_unless (has_name seen y)) _ _ (fewer_here (has_name seen y) (has_name seen' y) (grows y))
+    (one_fewer seen seen' x new now grows all (ap (λ b. b || has_name all x) (sym f) ∙ e)))
+
+-- ---- the names of one unit
+pub Opens-none : (seen pending : List (List ℕ)) → Opens [] seen pending seen pending
+Opens-none seen pending = record {
+  marks = λ q. sym (or_false (has_name seen q));
+  keeps = λ q h. h;
+  opened = λ q t f. no_both (has_name seen q) t f;
+  only = λ q h. or_left (has_name pending q) false h;
+  falls = λ all within. omega arith;
+}
+
+module _ (names seen pending seen1 pending1 seen2 : List (List ℕ)) (x : List ℕ) (opens : Opens names seen pending seen1 pending1) (adds : (q : List ℕ) → has_name seen2 q ≡ (has_name seen1 q || same q x)) where
+  marked : (q : List ℕ) → has_name seen2 q ≡ (has_name seen q || has_name (names ++ x ∷ []) q)
+  marked q = adds q ∙ ap (λ b. b || same q x) (opens.marks q) ∙ sym (or_assoc (has_name seen q) (has_name names q) (same q x)) ∙ ap (λ b. has_name seen q || b) (sym (has-push names x q))
+
+  grown : (q : List ℕ) → has_name seen1 q ≡ true → has_name seen2 q ≡ true
+  grown q h = adds q ∙ or_left (has_name seen1 q) (same q x) h
+
+  wider : (pending2 : List (List ℕ)) (q : List ℕ) → (has_name pending q || has_name names q) ≡ true → (has_name pending q || has_name (names ++ x ∷ []) q) ≡ true
+  wider pending2 q h = or_cases (has_name pending q) (has_name names q) h (λ l. or_left (has_name pending q) _ l) (λ r. or_right (has_name pending q) _ (has-push names x q ∙ or_left (has_name names q) (same q x) r))
+
+  pub Opens-new : has_name seen1 x ≡ false → Opens (names ++ x ∷ []) seen pending seen2 (pending1 ++ x ∷ [])
+  Opens-new new = record {
+    marks = marked;
+    keeps = λ q h. has-push pending1 x q ∙ or_left (has_name pending1 q) (same q x) (opens.keeps q h);
+    opened = λ q t f. has-push pending1 x q ∙ or_cases (has_name seen1 q) (same q x) (sym (adds q) ∙ t) (λ l. or_left (has_name pending1 q) (same q x) (opens.opened q l f)) (λ r. or_right (has_name pending1 q) (same q x) r);
+    only = λ q h. or_cases (has_name pending1 q) (same q x) (sym (has-push pending1 x q) ∙ h) (λ l. wider pending1 q (opens.only q l)) (λ r. or_right (has_name pending q) _ (has-push names x q ∙ or_right (has_name names q) (same q x) r));
+    falls = λ all within.
+        let before = opens.falls all (λ q h. within q (has-push names x q ∙ or_left (has_name names q) (same q x) h)) in
+        let there = within x (has-push names x x ∙ or_right (has_name names x) (same x x) (same_self x)) in
+        let less = one_fewer seen1 seen2 x new (adds x ∙ or_right (has_name seen1 x) (same x x) (same_self x)) grown all there in
+        let longer = length-append pending1 (x ∷ []) in
+        omega (arith, before, less, longer);
+  }
+
+  pub Opens-old : has_name seen1 x ≡ true → Opens (names ++ x ∷ []) seen pending seen2 pending1
+  Opens-old old = record {
+    marks = marked;
+    keeps = opens.keeps;
+    opened = λ q t f. or_cases (has_name seen1 q) (same q x) (sym (adds q) ∙ t) (λ l. opens.opened q l f) (λ r. opens.opened q (ap (has_name seen1) (same_is q x r) ∙ old) f);
+    only = λ q h. wider pending1 q (opens.only q h);
+    falls = λ all within.
+        let before = opens.falls all (λ q h. within q (has-push names x q ∙ or_left (has_name names q) (same q x) h)) in
+        let less = fewer seen1 seen2 all grown in
+        omega (arith, before, less);
+  }
+
+-- what `insert` says of a set, in these words
+pub has-updates : (old new : BTreeSet (List ℕ)) (x : List ℕ) → Updates (slice_cmp nat_cmp) old new x true → (q : List ℕ) → has_name new.keys q ≡ (has_name old.keys q || same q x)
+has-updates old new x updates q = updates.0 q ∙ true_or (same x q) (has_name old.keys q) ∙ ap (λ b. has_name old.keys q || b) (same_swap x q)
+
+-- ---- for the answers
+pub not_true : (a b : Bool) → a ≡ not b → a ≡ true → b ≡ false
+not_true a true e t = no_both a t e
+not_true a false e t = refl
+
+pub not_false : (a b : Bool) → a ≡ not b → a ≡ false → b ≡ true
+not_false a true e f = refl
+not_false a false e f = sym f ∙ e
+
+-- one name in an empty set
+pub begun : (old new : BTreeSet (List ℕ)) (x : List ℕ) → old.keys ≡ [] → Updates (slice_cmp nat_cmp) old new x true → (q : List ℕ) → has_name new.keys q ≡ same q x
+begun old new x none updates q = has-updates old new x updates q ∙ ap (λ l. has_name l q || same q x) none
+
+pub one_pushed : (xs ys : List (List ℕ)) (x : List ℕ) → xs ≡ [] → ys ≡ xs ++ x ∷ [] → ys ≡ x ∷ []
+one_pushed xs ys x none is = is ∙ ap (λ l. l ++ x ∷ []) none
+
+pub no_items : (xs : List (List ℕ)) → length xs ≡ 0 → xs ≡ []
+no_items [] e = refl
+no_items (x ∷ xs) e = absurd (omega arith)
+
+pub longer : (xs ys : List (List ℕ)) (x : List ℕ) → xs ≡ ys ++ x ∷ [] → length xs ≡ length ys + 1
+longer xs ys x is = ap length is ∙ length-append ys (x ∷ [])

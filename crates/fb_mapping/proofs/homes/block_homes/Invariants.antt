@@ -1,7 +1,0 @@
-use Rattle.std.proofs.Common.{◌≡◌, take}
-use Rattle.std.specs.BTreeMap.{get_by_text}
-use Rattle.fb_mapping.specs.Homes.{block_homes}
-use Rattle.fb_mapping.proofs.homes.block_homes.Given as goal
-
-abbrev pub invariant-loop-block : goal.invariant-loop-block
-invariant-loop-block l = l.homes.items ≡ block_homes (get_by_text l.table) (take l.block-index l.blocks)

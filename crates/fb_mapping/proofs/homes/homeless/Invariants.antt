@@ -1,7 +1,0 @@
-use Rattle.std.proofs.Common.{◌≡◌, take}
-use Rattle.std.specs.BTreeMap.{get_by_text}
-use Rattle.fb_mapping.specs.Homes.{homeless}
-use Rattle.fb_mapping.proofs.homes.homeless.Given as goal
-
-abbrev pub invariant-loop-block : goal.invariant-loop-block
-invariant-loop-block l = l.paths.items ≡ homeless (get_by_text l.table) (take l.block-index l.blocks)

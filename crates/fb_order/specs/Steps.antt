@@ -1,8 +1,0 @@
--- The steps of the search.
-use Rattle.std.specs.Prelude.{ℕ, List, map}
-use Rattle.fb_order.specs.declared.search.Step.{Step}
-use Rattle.fb_order.specs.declared.search.Step.TheVariants.{Enter}
-
--- the steps that enter these names
-abbrev pub enters : List (List ℕ) → List Step
-enters names = map (λ name. Enter name) names

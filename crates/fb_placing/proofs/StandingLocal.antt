@@ -1,0 +1,148 @@
+-- What stands at the paths of a system depends on the texts alone that the system rests on.
+use Rattle.std.proofs.Common.{ℕ, ◌≡◌, Bool, true, false, not, cond, List, [], ◌∷◌, Option, Some, None, refl, sym, ◌∙◌, ap, subst}
+use Rattle.std.specs.Prelude.{Contains, find, option_map, option_and_then}
+use Rattle.std.specs.Option.{option_map_or}
+use Rattle.std.specs.Str.{bytes_eq}
+use Rattle.std.specs.FinMap.{slice_cmp-IsAntisymmetric, nat_cmp-IsAntisymmetric}
+use Rattle.std.specs.Cmp.Lexicographic.{nat_list_cmp_total}
+use Rattle.fb_tree.specs.Text.Order.{name_cmp}
+use Rattle.fb_tree.proofs.Text.OrderLemmas.{in_order-members}
+use Rattle.fb_tree.specs.Tree.{ApplicationTree, DeclTree, InstanceTree, block_type, adapter_type, subapplication_type, system_configuration}
+use Rattle.fb_tree.specs.Mentions.{mentioned_in, types_in}
+use Rattle.fb_netcheck.specs.Library.View.{Sources, tree_at, tree_of, mentions_at, mentions_in}
+use Rattle.fb_netcheck.specs.Library.Rests.{Rests, itself, through}
+use Rattle.fb_netcheck.specs.Library.Local.{AgreeFar}
+use Rattle.fb_tree.proofs.Text.Members.{contains_nothing, contains_here, contains_later, contains_flat_map, contains_map}
+use Rattle.fb_placing.specs.Firsts.{first_at}
+use Rattle.fb_placing.specs.Standing.{PlainStanding, application_called, inner_instances, is_placed, leads_nowhere, standing_among, standing_at, standing_beyond, standing_from, standing_inside}
+use Rattle.fb_placing.specs.Systems.{applications_in}
+use Rattle.fb_placing.proofs.StandingLemmas.{beyond_nothing}
+
+-- what is found is the form of an item
+record IsFound {X Y : Type 0} (value : X → Y) (xs : List X) (y : Y) : Type 0 where
+  pub item : X
+  pub among : Contains xs item
+  pub gives : value item ≡ y
+
+found_in : {X Y : Type 0} (key : X → List ℕ) (value : X → Y) (xs : List X) (q : List ℕ) (y : Y) → first_at key value xs q ≡ Some y → IsFound value xs y
+found_in key value [] q y e = absurd (let no : ⊥ = cc in no)
+found_in {X = X} {Y = Y} key value (x ∷ xs) q y e = by_test (bytes_eq (key x) q) e (found_in key value xs q y)
+  where
+    by_test : (b : Bool) → option_map value (cond b (Some x) (find (λ (z : X). bytes_eq (key z) q) xs)) ≡ Some y → (first_at key value xs q ≡ Some y → IsFound value xs y) → IsFound value (x ∷ xs) y
+    by_test true e more = record { item = x; among = contains_here x xs; gives = cc }
+    by_test false e more = let f = more e in record { item = f.item; among = contains_later x xs f.item f.among; gives = f.gives }
+
+-- what is rested on may mention more
+rests_on : {sources : Sources} {u v w : List ℕ} → Rests sources u v → Contains (mentions_at sources v) w → Rests sources u w
+rests_on itself m = through m itself
+rests_on (through k r) m = through k (rests_on r m)
+
+-- the type of an instance
+abbrev type_of : PlainStanding → List ℕ
+type_of s = s.instance.type_name.name
+
+among_typed : (unit : List ℕ) (instances : List InstanceTree) (name : List ℕ) (s : PlainStanding) → standing_among unit instances name ≡ Some s → Contains (types_in instances) (type_of s)
+among_typed unit instances name s e =
+    let f = found_in (λ (i : InstanceTree). i.name.name) (λ (i : InstanceTree). let it : PlainStanding = record { unit = unit; instance = i } in it) instances name s e in
+    subst (λ (t : List ℕ). Contains (types_in instances) t) (ap type_of f.gives) (contains_map (λ (i : InstanceTree). i.type_name.name) instances f.item f.among)
+
+mentioned : (tree : DeclTree) (v : List ℕ) → Contains (mentioned_in tree) v → Contains (mentions_in (Some tree)) v
+mentioned tree v c = (in_order-members name_cmp nat_list_cmp_total (slice_cmp-IsAntisymmetric nat_cmp-IsAntisymmetric) (mentioned_in tree) v).1 c
+
+inner_mentioned : (tree : Option DeclTree) (v : List ℕ) → Contains (types_in (inner_instances tree)) v → Contains (mentions_in tree) v
+inner_mentioned None v c = absurd (contains_nothing v c)
+inner_mentioned (Some (block_type d)) v c = absurd (contains_nothing v c)
+inner_mentioned (Some (adapter_type d)) v c = absurd (contains_nothing v c)
+inner_mentioned (Some (subapplication_type d)) v c = mentioned (subapplication_type d) v c
+inner_mentioned (Some (system_configuration s)) v c = absurd (contains_nothing v c)
+
+application_mentioned : (tree : Option DeclTree) (a : ApplicationTree) (v : List ℕ) → Contains (applications_in tree) a → Contains (types_in a.network.instances) v → Contains (mentions_in tree) v
+application_mentioned None a v c d = absurd (contains_nothing a c)
+application_mentioned (Some (block_type t)) a v c d = absurd (contains_nothing a c)
+application_mentioned (Some (adapter_type t)) a v c d = absurd (contains_nothing a c)
+application_mentioned (Some (subapplication_type t)) a v c d = absurd (contains_nothing a c)
+application_mentioned (Some (system_configuration s)) a v c d =
+    mentioned (system_configuration s) v (contains_flat_map (λ (x : ApplicationTree). types_in x.network.instances) s.applications a v c d)
+
+module _ (a b : Sources) (unit : List ℕ) (agree : AgreeFar unit a b) where
+  pub tree_same : (v : List ℕ) → Rests a unit v → tree_at a v ≡ tree_at b v
+  tree_same v r = ap (option_and_then tree_of) (agree v r)
+
+  -- the unit rests on the type of the instance
+  abbrev Reached : Option PlainStanding → Type 0
+  Reached o = (s : PlainStanding) → o ≡ Some s → Rests a unit (type_of s)
+
+  inside_reached : (name : List ℕ) (s : PlainStanding) → Rests a unit (type_of s) → Reached (standing_inside a name s)
+  inside_reached name s r t e =
+      rests_on r (inner_mentioned (tree_at a (type_of s)) (type_of t) (among_typed (type_of s) (inner_instances (tree_at a (type_of s))) name t e))
+
+  inside_same : (name : List ℕ) (s : PlainStanding) → Rests a unit (type_of s) → standing_inside a name s ≡ standing_inside b name s
+  inside_same name s r = ap (λ (t : Option DeclTree). standing_among (type_of s) (inner_instances t) name) (tree_same (type_of s) r)
+
+  beyond_same : (names : List (List ℕ)) (o : Option PlainStanding) → Reached o → standing_beyond a o names ≡ standing_beyond b o names
+  beyond_same [] o r = refl
+  beyond_same (name ∷ names) None r = beyond_nothing a names ∙ sym (beyond_nothing b names)
+  beyond_same (name ∷ names) (Some s) r =
+      beyond_same names (standing_inside a name s) (inside_reached name s (r s refl))
+      ∙ ap (λ (o : Option PlainStanding). standing_beyond b o names) (inside_same name s (r s refl))
+
+  pub at_same : (names : List (List ℕ)) → standing_at a unit (applications_in (tree_at a unit)) names ≡ standing_at b unit (applications_in (tree_at a unit)) names
+  at_same [] = refl
+  at_same (first ∷ names) = by_application (application_called apps first) refl
+    where
+      apps : List ApplicationTree
+      apps = applications_in (tree_at a unit)
+
+      from_same : (it : ApplicationTree) → Contains apps it → (ns : List (List ℕ)) → standing_from a unit it.network.instances ns ≡ standing_from b unit it.network.instances ns
+      from_same it c [] = refl
+      from_same it c (name ∷ ns) =
+          beyond_same ns (standing_among unit it.network.instances name)
+          (λ s e. rests_on itself (application_mentioned (tree_at a unit) it (type_of s) c (among_typed unit it.network.instances name s e)))
+
+      by_application : (o : Option ApplicationTree) → application_called apps first ≡ o → option_and_then (λ (it : ApplicationTree). standing_from a unit it.network.instances names) o ≡ option_and_then (λ (it : ApplicationTree). standing_from b unit it.network.instances names) o
+      by_application None e = refl
+      by_application (Some it) e =
+          let f = found_in (λ (x : ApplicationTree). x.name.name) (λ (x : ApplicationTree). x) apps first it e in
+          from_same it (subst (λ (x : ApplicationTree). Contains apps x) f.gives f.among) names
+
+  -- the unit rests on the unit that declares the instance
+  abbrev Declared : Option PlainStanding → Type 0
+  Declared o = (s : PlainStanding) → o ≡ Some s → Rests a unit s.unit
+
+  among_declared : (u : List ℕ) (instances : List InstanceTree) (name : List ℕ) → Rests a unit u → Declared (standing_among u instances name)
+  among_declared u instances name r s e =
+      let f = found_in (λ (i : InstanceTree). i.name.name) (λ (i : InstanceTree). let it : PlainStanding = record { unit = u; instance = i } in it) instances name s e in
+      subst (λ (v : List ℕ). Rests a unit v) (ap (λ (t : PlainStanding). t.unit) f.gives) r
+
+  beyond_declared : (names : List (List ℕ)) (o : Option PlainStanding) → Reached o → Declared o → Declared (standing_beyond a o names)
+  beyond_declared [] o r d = d
+  beyond_declared (name ∷ names) None r d = λ s e. absurd (let nothing = beyond_nothing a names in let no : ⊥ = cc in no)
+  beyond_declared (name ∷ names) (Some s) r d =
+      beyond_declared names (standing_inside a name s) (inside_reached name s (r s refl))
+      (among_declared (type_of s) (inner_instances (tree_at a (type_of s))) name (r s refl))
+
+  pub unit_reached : (names : List (List ℕ)) → Declared (standing_at a unit (applications_in (tree_at a unit)) names)
+  unit_reached [] = λ s e. absurd (let no : ⊥ = cc in no)
+  unit_reached (first ∷ names) = by_application (application_called apps first) refl
+    where
+      apps : List ApplicationTree
+      apps = applications_in (tree_at a unit)
+
+      from_declared : (it : ApplicationTree) → Contains apps it → (ns : List (List ℕ)) → Declared (standing_from a unit it.network.instances ns)
+      from_declared it c [] = λ s e. absurd (let no : ⊥ = cc in no)
+      from_declared it c (name ∷ ns) =
+          beyond_declared ns (standing_among unit it.network.instances name)
+          (λ s e. rests_on itself (application_mentioned (tree_at a unit) it (type_of s) c (among_typed unit it.network.instances name s e)))
+          (among_declared unit it.network.instances name itself)
+
+      by_application : (o : Option ApplicationTree) → application_called apps first ≡ o → Declared (option_and_then (λ (it : ApplicationTree). standing_from a unit it.network.instances names) o)
+      by_application None e = λ s f. absurd (let no : ⊥ = cc in no)
+      by_application (Some it) e =
+          let f = found_in (λ (x : ApplicationTree). x.name.name) (λ (x : ApplicationTree). x) apps first it e in
+          from_declared it (subst (λ (x : ApplicationTree). Contains apps x) f.gives f.among) names
+
+  pub nowhere_same : (names : List (List ℕ)) → leads_nowhere a unit (applications_in (tree_at a unit)) names ≡ leads_nowhere b unit (applications_in (tree_at a unit)) names
+  nowhere_same [] = refl
+  nowhere_same (first ∷ []) = refl
+  nowhere_same (first ∷ (name ∷ names)) =
+      ap (λ (o : Option PlainStanding). option_map_or (λ (s : PlainStanding). not (is_placed s.instance.role)) o true) (at_same (first ∷ (name ∷ names)))

@@ -1,0 +1,57 @@
+-- The homes of the blocks of a system, and what is misplaced (IEC 61499-1, clause 7: system configurations).
+use Rattle.std.specs.Prelude.{ℕ, List, [], ◌∷◌, ◌++◌, map, filter, Option, is_none, option_map}
+use Rattle.std.specs.List.{filter_map}
+use Rattle.fb_tree.specs.Text.Order.{names_in_order}
+use Rattle.fb_tree.specs.Tree.{ApplicationTree, DeclTree, MappingTree}
+use Rattle.fb_netcheck.specs.Library.View.{Sources, tree_at}
+use Rattle.fb_network.specs.declared.flat.FlatBlock.{FlatBlock}
+use Rattle.fb_placing.specs.declared.homes.Home.{Home}
+use Rattle.fb_placing.specs.declared.homes.Homes.{Homes}
+use Rattle.fb_placing.specs.declared.homes.Homes.TheVariants as homes
+use Rattle.fb_placing.specs.declared.homes.Misplaced.{Misplaced}
+use Rattle.fb_placing.specs.declared.homes.Misplaced.TheVariants.{Unmapped, NoSuchBlock}
+use Rattle.fb_placing.specs.Fronts.{nearest}
+use Rattle.fb_placing.specs.Mappings.{mapping_path, names_used, resource_at}
+use Rattle.fb_placing.specs.Standing.{leads_nowhere}
+use Rattle.fb_placing.specs.Systems.{applications_in, mappings_in}
+
+-- homes, or what is misplaced
+pub data PlainHomes : Type 0 where
+  faulty_homes : List Misplaced → PlainHomes
+  all_homes : List Home → PlainHomes
+
+-- the same without where it lies in memory
+abbrev pub plain_homes : Homes → PlainHomes
+plain_homes (homes.Faulty found) = faulty_homes found.items
+plain_homes (homes.On list) = all_homes list.items
+
+abbrev pub block_home : (List ℕ → Option (List ℕ)) → FlatBlock → Option Home
+block_home resources block = option_map (λ r. record { path = block.path; resource = r }) (nearest resources block.path)
+
+-- the homes of blocks, in the order of the blocks, where these resources are mapped to
+abbrev pub block_homes : (List ℕ → Option (List ℕ)) → List FlatBlock → List Home
+block_homes resources blocks = filter_map (block_home resources) blocks
+
+-- the paths of blocks without a home
+abbrev pub homeless : (List ℕ → Option (List ℕ)) → List FlatBlock → List (List ℕ)
+homeless resources blocks = map (λ b. b.path) (filter (λ b. is_none (nearest resources b.path)) blocks)
+
+-- the paths of mappings that are of nothing
+abbrev pub astray : Sources → List ℕ → List ApplicationTree → List MappingTree → List (List ℕ)
+astray sources system applications mappings =
+    map mapping_path (filter (λ m. leads_nowhere sources system applications (names_used m.path)) mappings)
+
+-- blocks that no mapping places, then mappings that place nothing, each sorted by the bytes of the paths
+abbrev pub misplaced : Sources → List ℕ → Option DeclTree → List FlatBlock → List Misplaced
+misplaced sources system tree blocks =
+    map (λ p. Unmapped p) (names_in_order (homeless (resource_at (mappings_in tree)) blocks))
+    ++ map (λ p. NoSuchBlock p) (names_in_order (astray sources system (applications_in tree) (mappings_in tree)))
+
+abbrev pub unless_faulty : List Misplaced → List Home → PlainHomes
+unless_faulty [] list = all_homes list
+unless_faulty (m ∷ ms) list = faulty_homes (m ∷ ms)
+
+-- the homes of the blocks of a system, where nothing is misplaced
+abbrev pub homes_of : Sources → List ℕ → List FlatBlock → PlainHomes
+homes_of sources system blocks =
+    unless_faulty (misplaced sources system (tree_at sources system) blocks) (block_homes (resource_at (mappings_in (tree_at sources system))) blocks)

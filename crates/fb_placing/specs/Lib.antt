@@ -1,0 +1,18 @@
+-- What the contracts of this crate cite.
+pub mod Firsts
+pub mod Fronts
+pub mod Systems
+pub mod Mappings
+pub mod Standing
+pub mod Homes
+pub mod Cuts
+pub mod Laws
+pub mod Written
+pub mod Lines
+pub mod Orders
+pub mod PlainResource
+pub mod Resources
+pub mod Commands
+-- Of the crates below, for the crates above.
+pub use Rattle.fb_tree.specs as Tree
+pub use Rattle.fb_network.specs as Network

@@ -1,0 +1,46 @@
+-- The commands of a system, each with the resource that it is for.
+use Rattle.std.specs.Prelude.{ℕ, List, ◌∷◌, ◌++◌, map, Option, None, option_map, if◌then◌else◌, codes}
+use Rattle.std.specs.List.{filter_map}
+use Rattle.fb_tree.specs.Tree.{ApplicationTree}
+use Rattle.fb_netcheck.specs.Library.View.{Sources}
+use Rattle.fb_network.specs.PlainFlat.{PlainFlat}
+use Rattle.fb_network.specs.declared.flat.Link.{Link}
+use Rattle.fb_placing.specs.Cuts.{home_at, same_home}
+use Rattle.fb_placing.specs.Fronts.{nearest}
+use Rattle.fb_placing.specs.declared.homes.Home.{Home}
+use Rattle.fb_placing.specs.declared.lines.Line.{Line}
+use Rattle.fb_placing.specs.declared.orders.Order.{Order}
+use Rattle.fb_placing.specs.Lines.{create_lines, write_lines}
+
+abbrev pub line_order : Line → Order
+line_order l = record { resource = l.resource; command = l.command }
+
+-- CREATE CONNECTION from to
+abbrev pub connection_text : List ℕ → List ℕ → List ℕ
+connection_text from to = codes "CREATE CONNECTION " ++ from ++ 32 ∷ to
+
+-- the resource on which both ends of a link stand, where blocks have these homes
+abbrev pub link_resource : (List ℕ → Option (List ℕ)) → Link → Option (List ℕ)
+link_resource homes link = if same_home (nearest homes link.from) (nearest homes link.to) then nearest homes link.from else None
+
+-- the command that joins the ends of a link within a resource
+abbrev pub connection_order : (List ℕ → Option (List ℕ)) → Link → Option Order
+connection_order homes link = option_map (λ r. record { resource = r; command = connection_text link.from link.to }) (link_resource homes link)
+
+abbrev pub connection_orders : (List ℕ → Option (List ℕ)) → List Link → List Order
+connection_orders homes links = filter_map (connection_order homes) links
+
+-- START DEVICE.RESOURCE
+abbrev pub start_text : List ℕ → List ℕ
+start_text resource = codes "START " ++ resource
+
+abbrev pub start_order : List ℕ → Order
+start_order resource = record { resource = resource; command = start_text resource }
+
+-- all commands: blocks are made first, then parameters are set, then connections are made, then resources are started
+abbrev pub orders_of : Sources → List ℕ → List ApplicationTree → List (List ℕ) → PlainFlat → List Home → List Order
+orders_of sources system applications resources flat homes =
+    map line_order (create_lines (home_at homes) flat.blocks)
+    ++ map line_order (write_lines sources system applications homes)
+    ++ connection_orders (home_at homes) flat.links
+    ++ map start_order resources

@@ -1,0 +1,29 @@
+-- Constants as they are written.
+use Rattle.std.specs.Prelude.{ℕ, List, [], Result, Ok, Err, slice_range}
+use Rattle.std.specs.List.{flat_map}
+use Rattle.fb_tree.specs.Text.Tokens.{tokens_of}
+use Rattle.fb_tree.specs.Text.declared.token.Span.{Span}
+use Rattle.fb_tree.specs.Text.declared.token.Token.{Token}
+use Rattle.fb_tree.specs.Tree.{ConstantTree, one_value, value_list}
+use Rattle.fb_netcheck.specs.Iface.Literals.{simple_span}
+use Rattle.fb_netcheck.specs.Spellings.{part}
+
+abbrev pub token_text : List ℕ → Token → List ℕ
+token_text text t = slice_range text t.span.start t.span.end
+
+abbrev pub joined_tokens : List ℕ → Result (List Token) Span → List ℕ
+joined_tokens text (Ok tokens) = flat_map (token_text text) tokens
+joined_tokens text (Err bad) = []
+
+-- the tokens of a text as they are written, without blanks and comments between
+abbrev pub without_gaps : List ℕ → List ℕ
+without_gaps text = joined_tokens text (tokens_of text)
+
+-- where a constant stands in its text
+abbrev pub constant_span : ConstantTree → Span
+constant_span (one_value value) = simple_span value
+constant_span (value_list values span) = span
+
+-- a constant as it is written in the text, without blanks and comments between its tokens
+abbrev pub written : List ℕ → ConstantTree → List ℕ
+written text constant = without_gaps (part text (constant_span constant))

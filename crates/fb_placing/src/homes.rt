@@ -1,0 +1,211 @@
+//! The homes of the blocks of a system.
+ghost use Rattle.std.specs.Prelude.{◌≡◌, [], ◌∷◌, ◌++◌, map, IfOk, OnOk};
+ghost use Rattle.std.specs.BTreeMap.{get_by_text};
+ghost use Rattle.fb_tree.specs.Tree.{mapping_tree};
+ghost use Rattle.fb_netcheck.specs.Library.View.{tree_at};
+ghost use Rattle.fb_placing.specs.Homes.{astray, block_home, block_homes, homeless, homes_of, misplaced, plain_homes};
+ghost use Rattle.fb_placing.specs.Mappings.{names_used, resource_at};
+ghost use Rattle.fb_placing.specs.Systems.{applications_in, mappings_in};
+ghost use Rattle.fb_placing.specs.declared.homes.Misplaced.TheVariants.{NoSuchBlock, Unmapped};
+
+use crate::fronts::{PathTable, nearest};
+use crate::mappings::{mapping_table, path_of_names};
+use crate::sorted::sorted_paths;
+use crate::standing::leads_nowhere;
+use fb_netcheck::library::{View, tree_by_name};
+use fb_network::{FlatBlock, Path};
+use fb_tree::text::{Name, NameUse};
+use fb_tree::{Decl, Mapping};
+use std::alloc::{AllocError, Global};
+
+/// The path of a block, and the resource on which it stands, as `DEVICE.RESOURCE`.
+#[derive(Debug, Drop)]
+pub struct Home {
+    pub path: Path,
+    pub resource: Path,
+}
+
+/// A path at which blocks and mappings do not meet.
+#[derive(Debug, Drop)]
+pub enum Misplaced {
+    /// A block that no mapping places.
+    Unmapped(Path),
+    /// A mapping that is of no application, block or subapplication instance.
+    NoSuchBlock(Path),
+}
+
+/// The homes of the blocks of a system, or what is misplaced.
+#[derive(Drop)]
+pub enum Homes {
+    Faulty(Vec<Misplaced>),
+    On(Vec<Home>),
+}
+
+/// The mappings of a system.
+fn mappings_of<'a, V: View>(view: &'a V, system: &Name) -> &'a [Mapping]
+    ensures { map mapping_tree result.now ≡ mappings_in (tree_at (V.sources view.now) system.now) }
+{
+    match tree_by_name(view, system) {
+        Some(Decl::System(it)) => it.mappings.as_slice(),
+        _ => &[],
+    }
+}
+
+/// The home of a block, where the table has what is mapped.
+fn block_home(table: &PathTable, block: &FlatBlock) -> Result<Option<Home>, AllocError>
+    ensures { IfOk result (λ home. home ≡ block_home (get_by_text table.now) block.now) }
+{
+    match nearest(table, block.path.as_str()) {
+        Some(resource) => {
+            let path = block.path.copy()?;
+            let resource = resource.copy()?;
+            Ok(Some(Home { path, resource }))
+        }
+        None => Ok(None),
+    }
+}
+
+/// The homes of the blocks, where the table has what is mapped.
+fn block_homes(
+    alloc: Global,
+    table: &PathTable,
+    blocks: &[FlatBlock],
+) -> Result<Vec<Home>, AllocError>
+    ensures { IfOk result (λ homes. homes.items ≡ block_homes (get_by_text table.now) blocks.now) }
+{
+    let mut homes = Vec::new(alloc);
+    for block in blocks {
+        if let Some(home) = block_home(table, block)? {
+            homes.push(home)?;
+        }
+    }
+    Ok(homes)
+}
+
+/// The paths of blocks without a home.
+fn homeless(alloc: Global, table: &PathTable, blocks: &[FlatBlock]) -> Result<Vec<Path>, AllocError>
+    ensures { IfOk result (λ paths. paths.items ≡ homeless (get_by_text table.now) blocks.now) }
+{
+    let mut paths = Vec::new(alloc);
+    for block in blocks {
+        if nearest(table, block.path.as_str()).is_none() {
+            paths.push(block.path.copy()?)?;
+        }
+    }
+    Ok(paths)
+}
+
+/// The names of a mapping's path.
+fn names_of(alloc: Global, names: &[NameUse]) -> Result<Vec<&str>, AllocError>
+    ensures { IfOk result (λ texts. map (λ n. n.now) texts.items ≡ names_used names.now) }
+{
+    let mut texts = Vec::new(alloc);
+    for name in names {
+        texts.push(name.name.as_str())?;
+    }
+    Ok(texts)
+}
+
+/// Adds the path of a mapping if it is of nothing.
+fn push_astray<V: View>(
+    alloc: Global,
+    view: &V,
+    system: &Name,
+    mapping: &Mapping,
+    paths: &mut Vec<Path>,
+) -> Result<(), AllocError>
+    ensures { OnOk result (paths.new.items ≡ paths.old.items
+        ++ astray (V.sources view.now) system.now
+        (applications_in (tree_at (V.sources view.now) system.now))
+        (mapping_tree mapping.now ∷ [])) }
+{
+    let path = mapping.path.as_slice();
+    let names = names_of(alloc, path)?;
+    if let Some((first, others)) = path.split_first() {
+        if leads_nowhere(view, system, names.as_slice()) {
+            paths.push(path_of_names(alloc, first, others)?)?;
+        }
+    }
+    Ok(())
+}
+
+/// The paths of mappings that are of nothing.
+fn astray<V: View>(
+    alloc: Global,
+    view: &V,
+    system: &Name,
+    mappings: &[Mapping],
+) -> Result<Vec<Path>, AllocError>
+    ensures { IfOk result (λ paths. paths.items
+        ≡ astray (V.sources view.now) system.now
+        (applications_in (tree_at (V.sources view.now) system.now))
+        (map mapping_tree mappings.now)) }
+{
+    let mut paths = Vec::new(alloc);
+    for mapping in mappings {
+        push_astray(alloc, view, system, mapping, &mut paths)?;
+    }
+    Ok(paths)
+}
+
+/// Adds blocks that no mapping places.
+fn push_unmapped(paths: Vec<Path>, found: &mut Vec<Misplaced>) -> Result<(), AllocError>
+    ensures { OnOk result (found.new.items ≡ found.old.items ++ map (λ p. Unmapped p) paths.items) }
+{
+    for path in paths {
+        found.push(Misplaced::Unmapped(path))?;
+    }
+    Ok(())
+}
+
+/// Adds mappings that are of nothing.
+fn push_no_such_block(paths: Vec<Path>, found: &mut Vec<Misplaced>) -> Result<(), AllocError>
+    ensures { OnOk result
+        (found.new.items ≡ found.old.items ++ map (λ p. NoSuchBlock p) paths.items) }
+{
+    for path in paths {
+        found.push(Misplaced::NoSuchBlock(path))?;
+    }
+    Ok(())
+}
+
+/// Blocks that no mapping places, and then mappings that are of nothing, each by the bytes of their paths.
+fn misplaced_in<V: View>(
+    alloc: Global,
+    view: &V,
+    system: &Name,
+    table: &PathTable,
+    blocks: &[FlatBlock],
+) -> Result<Vec<Misplaced>, AllocError>
+    requires { get_by_text table.now
+        ≡ resource_at (mappings_in (tree_at (V.sources view.now) system.now)) }
+    ensures { IfOk result (λ found. found.items
+        ≡ misplaced (V.sources view.now) system.now
+        (tree_at (V.sources view.now) system.now) blocks.now) }
+{
+    let mut found = Vec::new(alloc);
+    let unmapped = sorted_paths(homeless(alloc, table, blocks)?)?;
+    push_unmapped(unmapped, &mut found)?;
+    let nowhere = sorted_paths(astray(alloc, view, system, mappings_of(view, system))?)?;
+    push_no_such_block(nowhere, &mut found)?;
+    Ok(found)
+}
+
+/// The homes of the blocks of a system, in the order of the blocks, or what is misplaced.
+pub fn homes_of<V: View>(
+    alloc: Global,
+    view: &V,
+    system: &Name,
+    blocks: &[FlatBlock],
+) -> Result<Homes, AllocError>
+    ensures { IfOk result
+        (λ homes. plain_homes homes ≡ homes_of (V.sources view.now) system.now blocks.now) }
+{
+    let table = mapping_table(alloc, mappings_of(view, system))?;
+    let found = misplaced_in(alloc, view, system, &table, blocks)?;
+    if found.is_empty() {
+        Ok(Homes::On(block_homes(alloc, &table, blocks)?))
+    } else {
+        Ok(Homes::Faulty(found))
+    }
+}

@@ -1,0 +1,31 @@
+//! The resources on which the blocks of a system stand, the links between resources, and the commands of each resource (IEC 61499-1,
+//! clause 7: system configurations).
+#![tactic(auto)]
+
+mod command;
+mod commands;
+mod cuts;
+mod fronts;
+mod homes;
+mod laws;
+mod lines;
+mod mappings;
+mod orders;
+mod resources;
+mod sorted;
+mod standing;
+mod written;
+
+pub use command::Command;
+pub use commands::{Commands, commands_of};
+pub use cuts::{cuts_of, home_table, is_cut};
+pub use fronts::{PathTable, nearest};
+pub use homes::{Home, Homes, Misplaced, homes_of};
+pub use laws::homes_are_nearest;
+pub use resources::ResourcePlan;
+pub use standing::{Standing, path_names, standing_at};
+
+/// Of `fb_network`, for the crates above.
+pub mod plain {
+    pub use fb_network::{Flat, Link};
+}

@@ -1,0 +1,241 @@
+//! Commands in the order of the places that they are about.
+ghost use Rattle.std.specs.Prelude.{◌≡◌, ◌++◌, IfOk, OnOk, map, Some, refl};
+ghost use Rattle.std.specs.BTreeMap.{get_by_text};
+ghost use Rattle.std.specs.List.{filter_map, flat_map};
+ghost use Rattle.std.specs.Ordering.{eq_by_cmp, as_partial_cmp};
+ghost use Rattle.std.specs.Cmp.{eq_by_cmp_equiv, partial_equiv_from_equiv, partial_order_from_total};
+ghost use Rattle.fb_tree.specs.Text.Order.{in_order};
+ghost use Rattle.fb_tree.specs.Tree.{parameter_tree};
+ghost use Rattle.fb_netcheck.specs.Library.View.{tree_at};
+ghost use Rattle.fb_placing.specs.Standing.{plain_standing};
+ghost use Rattle.fb_placing.specs.Systems.{applications_in};
+ghost use Rattle.fb_placing.specs.Lines.{create_line, create_lines, home_lines, line_cmp, line_cmp_total, lines_at, write_line, write_lines};
+
+use crate::command::Command;
+use crate::fronts::PathTable;
+use crate::homes::Home;
+use crate::standing::{Standing, path_names, standing_at};
+use crate::written::written;
+use fb_netcheck::library::View;
+use fb_netcheck::text_by_name;
+use fb_network::{FlatBlock, Path, sort_once};
+use fb_tree::Parameter;
+use fb_tree::text::Name;
+use std::alloc::{AllocError, Global};
+use std::cmp::Ordering;
+
+/// A command, the place that it is about, and the resource that it is for. Lines are ordered by the bytes of their places.
+#[derive(Debug, Drop)]
+pub struct Line {
+    pub place: Path,
+    pub command: Command,
+    pub resource: Path,
+}
+
+impl PartialEq for Line {
+    ghost eq = { eq_by_cmp line_cmp };
+
+    ghost laws = { partial_equiv_from_equiv (eq_by_cmp_equiv line_cmp_total) };
+
+    fn eq(&self, other: &Line) -> bool {
+        self.cmp(other).is_eq()
+    }
+}
+
+impl Eq for Line {
+    ghost laws = { eq_by_cmp_equiv line_cmp_total };
+}
+
+impl PartialOrd for Line {
+    ghost partial_cmp = { as_partial_cmp line_cmp };
+
+    ghost laws = { partial_order_from_total line_cmp_total };
+
+    fn partial_cmp(&self, other: &Line) -> Option<Ordering> {
+        Some(self.cmp(other))
+    }
+}
+
+impl Ord for Line {
+    ghost cmp = { line_cmp };
+
+    ghost total = { line_cmp_total };
+
+    ghost matches_partial_cmp = { λ a b. refl };
+
+    ghost matches_eq = { λ a b. refl };
+
+    fn cmp(&self, other: &Line) -> Ordering {
+        let places = self.place.cmp(&other.place);
+        let commands = self.command.cmp(&other.command);
+        places.then(commands.then(self.resource.cmp(&other.resource)))
+    }
+}
+
+/// The lines in order, each once.
+fn sorted_lines(lines: Vec<Line>) -> Result<Vec<Line>, AllocError>
+    ensures { IfOk result (λ sorted. sorted.items ≡ in_order line_cmp lines.items) }
+{
+    let mut sorted = lines;
+    sort_once(&mut sorted)?;
+    Ok(sorted)
+}
+
+/// The command that makes a block, if the block has a home.
+fn create_line(
+    alloc: Global,
+    homes: &PathTable,
+    block: &FlatBlock,
+) -> Result<Option<Line>, AllocError>
+    ensures { IfOk result (λ line. line ≡ create_line (get_by_text homes.now) block.now) }
+{
+    let path = block.path.as_str();
+    match homes.get(path) {
+        Some(resource) => {
+            let command = Command::of_two(alloc, "CREATE FB ", path, block.type_name.as_str())?;
+            let place = block.path.copy()?;
+            let resource = resource.copy()?;
+            Ok(Some(Line {
+                place,
+                command,
+                resource,
+            }))
+        }
+        None => Ok(None),
+    }
+}
+
+/// The commands that make blocks, in the order of the blocks.
+fn block_lines(
+    alloc: Global,
+    homes: &PathTable,
+    blocks: &[FlatBlock],
+) -> Result<Vec<Line>, AllocError>
+    ensures { IfOk result
+        (λ lines. lines.items ≡ filter_map (create_line (get_by_text homes.now)) blocks.now) }
+{
+    let mut lines = Vec::new(alloc);
+    for block in blocks {
+        if let Some(line) = create_line(alloc, homes, block)? {
+            lines.push(line)?;
+        }
+    }
+    Ok(lines)
+}
+
+/// The commands that make blocks, by the bytes of their paths.
+pub(crate) fn create_lines(
+    alloc: Global,
+    homes: &PathTable,
+    blocks: &[FlatBlock],
+) -> Result<Vec<Line>, AllocError>
+    ensures { IfOk result (λ lines. lines.items ≡ create_lines (get_by_text homes.now) blocks.now) }
+{
+    sorted_lines(block_lines(alloc, homes, blocks)?)
+}
+
+/// The command that sets a parameter of a block.
+fn write_line(
+    alloc: Global,
+    text: &str,
+    home: &Home,
+    parameter: &Parameter,
+) -> Result<Line, AllocError>
+    ensures { IfOk result
+        (λ line. line ≡ write_line text.now home.now (parameter_tree parameter.now)) }
+{
+    let place = home.path.then(alloc, &parameter.name.name)?;
+    let value = written(alloc, text, &parameter.value)?;
+    let command = Command::of_two(alloc, "WRITE ", place.as_str(), value.as_str())?;
+    let resource = home.resource.copy()?;
+    Ok(Line {
+        place,
+        command,
+        resource,
+    })
+}
+
+fn push_write_lines(
+    alloc: Global,
+    text: &str,
+    home: &Home,
+    parameters: &[Parameter],
+    lines: &mut Vec<Line>,
+) -> Result<(), AllocError>
+    ensures { OnOk result (lines.new.items
+        ≡ lines.old.items
+        ++ map (write_line text.now home.now) (map parameter_tree parameters.now)) }
+{
+    for parameter in parameters {
+        lines.push(write_line(alloc, text, home, parameter)?)?;
+    }
+    Ok(())
+}
+
+/// Adds the commands that set the parameters of what stands at a home's path.
+fn push_lines_of<V: View>(
+    alloc: Global,
+    view: &V,
+    home: &Home,
+    it: &Standing<'_>,
+    lines: &mut Vec<Line>,
+) -> Result<(), AllocError>
+    ensures { OnOk result (lines.new.items
+        ≡ lines.old.items
+        ++ lines_at (V.sources view.now) home.now (Some (plain_standing it.now))) }
+{
+    let text = text_by_name(view, &it.unit);
+    push_write_lines(alloc, text, home, it.instance.parameters.as_slice(), lines)
+}
+
+/// Adds the commands that set the parameters of a block.
+fn push_home_lines<V: View>(
+    alloc: Global,
+    view: &V,
+    system: &Name,
+    home: &Home,
+    lines: &mut Vec<Line>,
+) -> Result<(), AllocError>
+    ensures { OnOk result (lines.new.items ≡ lines.old.items
+        ++ home_lines (V.sources view.now) system.now
+        (applications_in (tree_at (V.sources view.now) system.now)) home.now) }
+{
+    let names = path_names(alloc, home.path.as_str())?;
+    match standing_at(view, system, names.as_slice()) {
+        Some(it) => push_lines_of(alloc, view, home, &it, lines),
+        None => Ok(()),
+    }
+}
+
+/// The commands that set the parameters of blocks, in the order of the blocks.
+fn all_home_lines<V: View>(
+    alloc: Global,
+    view: &V,
+    system: &Name,
+    homes: &[Home],
+) -> Result<Vec<Line>, AllocError>
+    ensures { IfOk result (λ lines. lines.items
+        ≡ flat_map
+        (home_lines (V.sources view.now) system.now
+        (applications_in (tree_at (V.sources view.now) system.now))) homes.now) }
+{
+    let mut lines = Vec::new(alloc);
+    for home in homes {
+        push_home_lines(alloc, view, system, home, &mut lines)?;
+    }
+    Ok(lines)
+}
+
+/// The commands that set the parameters of blocks, by the bytes of their places.
+pub(crate) fn write_lines<V: View>(
+    alloc: Global,
+    view: &V,
+    system: &Name,
+    homes: &[Home],
+) -> Result<Vec<Line>, AllocError>
+    ensures { IfOk result (λ lines. lines.items
+        ≡ write_lines (V.sources view.now) system.now
+        (applications_in (tree_at (V.sources view.now) system.now)) homes.now) }
+{
+    sorted_lines(all_home_lines(alloc, view, system, homes)?)
+}

@@ -1,0 +1,24 @@
+use Rattle.std.proofs.Common.{rules, Bool, false, ◌||◌, ◌≡◌, ◌∙◌, ap, ap₂}
+use Rattle.clap.specs.Words.{App, app_of, with_rule, with_subcommand}
+use Rattle.fb_program.specs.Words.{named_app, script_app, serve_app}
+use Rattle.fb_program.proofs.arguments.command.Goals as goal
+
+neither : {a b : Bool} → a ≡ false → b ≡ false → a || b ≡ false
+neither one two = ap₂ (λ (x y : Bool). x || y) one two
+
+pub returns : goal.returns
+returns c =
+    let units = c.in_ok-arg.ensures.shape c.units_option.ensures.local ∙ ap₂ with_rule c.new.ensures.app c.units_option.ensures.rule in
+    let script : app_of c.in_ok-script.script ≡ script_app = c.in_ok-script.ensures.shape c.history_option.ensures.local ∙ ap₂ with_rule units c.history_option.ensures.rule in
+    let port = c.in_ok-arg-2.ensures.shape c.port_option.ensures.local ∙ ap₂ with_rule c.new-2.ensures.app c.port_option.ensures.rule in
+    let workers = c.in_ok-arg-3.ensures.shape c.number_option.ensures.local ∙ ap₂ with_rule port c.number_option.ensures.rule in
+    let sessions = c.in_ok-arg-4.ensures.shape c.number_option-2.ensures.local ∙ ap₂ with_rule workers c.number_option-2.ensures.rule in
+    let limited = c.in_ok-arg-5.ensures.shape c.units_option-2.ensures.local ∙ ap₂ with_rule sessions c.units_option-2.ensures.rule in
+    let serve : app_of c.in_ok-serve.serve ≡ serve_app = c.in_ok-serve.ensures.shape c.history_option-2.ensures.local ∙ ap₂ with_rule limited c.history_option-2.ensures.rule in
+    let local_to_script = c.in_ok-script.ensures.globals ∙ neither (c.in_ok-arg.ensures.globals ∙ neither c.new.ensures.local c.units_option.ensures.local) c.history_option.ensures.local in
+    let local_sizes = c.in_ok-arg-3.ensures.globals ∙ neither (c.in_ok-arg-2.ensures.globals ∙ neither c.new-2.ensures.local c.port_option.ensures.local) c.number_option.ensures.local in
+    let local_options = c.in_ok-arg-5.ensures.globals ∙ neither (c.in_ok-arg-4.ensures.globals ∙ neither local_sizes c.number_option-2.ensures.local) c.units_option-2.ensures.local in
+    let local_to_serve = c.in_ok-serve.ensures.globals ∙ neither local_options c.history_option-2.ensures.local in
+    let named : app_of c.subcommand_required.result ≡ named_app = search rules in
+    let first = c.in_ok-subcommand.ensures.shape local_to_script ∙ ap₂ with_subcommand named (ap (λ (a : App). a.top) script) in
+    c.in_ok-command.ensures.shape local_to_serve ∙ ap₂ with_subcommand first (ap (λ (a : App). a.top) serve)

@@ -1,0 +1,68 @@
+-- What the program's words ask for.
+use Rattle.std.specs.Prelude.{◌≡◌, ◌≤◌, ℕ, List, [], ◌∷◌, codes, true, Option, Some, option_map}
+use Rattle.std.specs.Str.Parse.{digits_value, without_leading_plus}
+use Rattle.clap.specs.Words.{App, Row, Rule, Text, new_app, new_rule, one_of, subcommand_of, with_rule, with_subcommand}
+use Rattle.clap.specs.declared.builder.value_parser.ValueParser.TheVariants as reads
+use Rattle.fb_program.specs.declared.asked.Settings.{Settings}
+use Rattle.fb_program.specs.declared.asked.Settings.TheVariants.{Script, Serve}
+
+-- an option `--name N` with N from 1 to a most, and its default
+abbrev pub number_option : Text → ℕ → Text → Rule
+number_option name most default = record (new_rule name) { long = Some name; parser = Some (reads.Unsigned 1 most); defaults = default ∷ [] }
+
+-- `--port P`, which has no default
+abbrev pub port_option : Rule
+port_option = record (new_rule (codes "port")) { long = Some (codes "port"); parser = Some (reads.Unsigned 0 65535); required = true }
+
+abbrev pub units_option : Rule
+units_option = number_option (codes "units") 4096 (codes "1024")
+
+abbrev pub history_option : Rule
+history_option = number_option (codes "history") 1000000 (codes "100000")
+
+abbrev pub script_app : App
+script_app = with_rule (with_rule (new_app (codes "script")) units_option) history_option
+
+abbrev pub serve_app : App
+serve_app =
+    with_rule (with_rule (
+    with_rule (with_rule (with_rule (new_app (codes "serve")) port_option) (number_option (codes "workers") 16 (codes "2")))
+    (number_option (codes "sessions") 64 (codes "1"))
+    ) units_option) history_option
+
+-- the program, of which a subcommand is asked
+abbrev pub named_app : App
+named_app = let a = new_app (codes "bench61499") in record a { top = record a.top { subcommand_required = true } }
+
+abbrev pub bench_app : App
+bench_app = with_subcommand (with_subcommand named_app script_app.top) serve_app.top
+
+-- the number that the matches give an option, which may be its default
+abbrev pub number_of : Text → List Row → Option ℕ
+number_of name rows = option_map (λ text. digits_value 10 (without_leading_plus text)) (one_of name rows)
+
+abbrev pub IsNumberIn : ℕ → ℕ → Text → List Row → ℕ → Type 0
+IsNumberIn least most name rows number = (number_of name rows ≡ Some number) × (least ≤ number) × (number ≤ most)
+
+-- the settings of a script are those of these matches
+abbrev pub IsScript : List Row → Settings → Type 0
+IsScript rows (Script units history) = IsNumberIn 1 4096 (codes "units") rows units × IsNumberIn 1 1000000 (codes "history") rows history
+IsScript rows (Serve port workers sessions units history) = ⊥
+
+-- the settings of a server are those of these matches
+abbrev pub IsServe : List Row → Settings → Type 0
+IsServe rows (Script units history) = ⊥
+IsServe rows (Serve port workers sessions units history) =
+    IsNumberIn 0 65535 (codes "port") rows port × IsNumberIn 1 16 (codes "workers") rows workers × IsNumberIn 1 64 (codes "sessions") rows sessions
+    × IsNumberIn 1 4096 (codes "units") rows units × IsNumberIn 1 1000000 (codes "history") rows history
+
+-- the settings are those of this subcommand and its matches
+abbrev pub IsAsked : Option (Text × List Row) → Settings → Type 0
+IsAsked found (Script units history) = (rows : List Row) × (found ≡ Some (codes "script", rows)) × IsScript rows (Script units history)
+IsAsked found (Serve port workers sessions units history) =
+    (rows : List Row) × (found ≡ Some (codes "serve", rows)) × IsServe rows (Serve port workers sessions units history)
+
+-- The words, of which the first is the program's name, ask for these settings: by the subcommand that they name
+-- and by clap's matches of its options.
+abbrev pub Asks : List Text → Settings → Type 0
+Asks words settings = IsAsked (subcommand_of bench_app words) settings

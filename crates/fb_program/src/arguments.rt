@@ -1,0 +1,134 @@
+//! The program's words.
+ghost use Rattle.std.specs.Prelude.{◌≡◌, ◌≤◌, List, map, IfOk, IfSome, false, true, codes};
+ghost use Rattle.clap.specs.Words.{app_of, found_of, rows_of, rule_of, subcommand_rows_of};
+ghost use Rattle.fb_program.specs.Words.{IsNumberIn, IsAsked, Asks, IsScript, IsServe, bench_app, number_option, units_option, history_option, port_option};
+
+use crate::asked;
+use clap::builder::ValueParser;
+use clap::error::ErrorKind;
+use clap::{Arg, ArgMatches, Command, Error};
+use std::alloc::{AllocError, Global};
+
+const MOST_PORT: u64 = 65_535;
+
+const MOST_WORKERS: u64 = 16;
+
+const MOST_SESSIONS: u64 = 64;
+
+const MOST_UNITS: u64 = 4096;
+
+const MOST_HISTORY: u64 = 1_000_000;
+
+/// An option `--NAME N`, with N from 1 to `most`, and its default.
+fn number_option<'a>(alloc: Global, name: &'a str, most: u64, default: &'a str) -> Arg<'a>
+    ensures rule { rule_of result ≡ number_option name.now most default.now }
+    ensures local { result.global ≡ false }
+{
+    Arg::new(alloc, name)
+        .long(name)
+        .value_parser(ValueParser::unsigned(1, most))
+        .default_value(default)
+}
+
+fn units_option<'a>(alloc: Global) -> Arg<'a>
+    ensures rule { rule_of result ≡ units_option }
+    ensures local { result.global ≡ false }
+{
+    number_option(alloc, "units", MOST_UNITS, "1024")
+}
+
+fn history_option<'a>(alloc: Global) -> Arg<'a>
+    ensures rule { rule_of result ≡ history_option }
+    ensures local { result.global ≡ false }
+{
+    number_option(alloc, "history", MOST_HISTORY, "100000")
+}
+
+fn port_option<'a>(alloc: Global) -> Arg<'a>
+    ensures rule { rule_of result ≡ port_option }
+    ensures local { result.global ≡ false }
+{
+    Arg::new(alloc, "port")
+        .long("port")
+        .value_parser(ValueParser::unsigned(0, MOST_PORT))
+        .required(true)
+}
+
+fn command<'a>(alloc: Global) -> Result<Command<'a>, AllocError>
+    ensures { IfOk result (λ c. app_of c ≡ bench_app) }
+{
+    let script = Command::new(alloc, "script")
+        .arg(units_option(alloc))?
+        .arg(history_option(alloc))?;
+    let serve = Command::new(alloc, "serve")
+        .arg(port_option(alloc))?
+        .arg(number_option(alloc, "workers", MOST_WORKERS, "2"))?
+        .arg(number_option(alloc, "sessions", MOST_SESSIONS, "1"))?
+        .arg(units_option(alloc))?
+        .arg(history_option(alloc))?;
+    let command = Command::new(alloc, "bench61499")
+        .subcommand_required(true)
+        .subcommand(script)?
+        .subcommand(serve)?;
+    Ok(command)
+}
+
+fn number_at(matches: &ArgMatches<'_>, name: &str, least: u64, most: u64) -> Option<u64>
+    ensures { IfSome result (λ n.
+        IsNumberIn least most name.now (rows_of (found_of matches.now)) n) }
+{
+    let number = matches.get_one::<u64>(name)?;
+    if least <= number && number <= most {
+        Some(number)
+    } else {
+        None
+    }
+}
+
+fn script_in(matches: &ArgMatches<'_>) -> Option<asked::Settings>
+    ensures { IfSome result (IsScript (rows_of (found_of matches.now))) }
+{
+    let units = number_at(matches, "units", 1, MOST_UNITS)?;
+    let history = number_at(matches, "history", 1, MOST_HISTORY)?;
+    Some(asked::Settings::Script { units, history })
+}
+
+fn serve_in(matches: &ArgMatches<'_>) -> Option<asked::Settings>
+    ensures { IfSome result (IsServe (rows_of (found_of matches.now))) }
+{
+    let port = number_at(matches, "port", 0, MOST_PORT)?;
+    let workers = number_at(matches, "workers", 1, MOST_WORKERS)?;
+    let sessions = number_at(matches, "sessions", 1, MOST_SESSIONS)?;
+    let units = number_at(matches, "units", 1, MOST_UNITS)?;
+    let history = number_at(matches, "history", 1, MOST_HISTORY)?;
+    Some(asked::Settings::Serve {
+        port: port as u16,
+        workers: workers as u8,
+        sessions: sessions as u8,
+        units,
+        history,
+    })
+}
+
+fn asked_in(matches: &ArgMatches<'_>) -> Option<asked::Settings>
+    ensures { IfSome result (λ s. IsAsked (subcommand_rows_of matches.now) s) }
+{
+    if let Some(script) = matches.subcommand_matches("script") {
+        return script_in(script);
+    }
+    let serve = matches.subcommand_matches("serve")?;
+    serve_in(serve)
+}
+
+/// Reads the program's words, of which the first is its name. A request for help is an error, as in
+/// `clap`.
+pub fn settings<'a>(alloc: Global, words: &'a [&'a str]) -> Result<asked::Settings, Error>
+    ensures { IfOk result (λ settings. Asks (map (λ word. word.now) words.now) settings) }
+{
+    let mut command = command(alloc)?;
+    let matches = command.try_get_matches_from_mut(words)?;
+    match asked_in(&matches) {
+        Some(settings) => Ok(settings),
+        None => Err(command.error(ErrorKind::ValueValidation, "no settings")?),
+    }
+}

@@ -1,6 +1,0 @@
-use Rattle.std.proofs.Common.{◌≡◌, take}
-use Rattle.fb_table.specs.Entries.{shelves_of}
-use Rattle.fb_table.proofs.shelves.copies.Given as goal
-
-abbrev pub invariant-loop-shelf : goal.invariant-loop-shelf
-invariant-loop-shelf g l = shelves_of l.copies.items ≡ shelves_of (take l.shelf-index l.shelves)

@@ -1,6 +1,0 @@
-use Rattle.std.proofs.Common.{take}
-use Rattle.fb_table.specs.Seen.{Opens}
-use Rattle.fb_table.proofs.walk.open_new.Given as goal
-
-abbrev pub invariant-loop-name : goal.invariant-loop-name
-invariant-loop-name l = Opens (take l.name-index l.names) l.initial.seen.keys l.initial.pending.items l.seen.keys l.pending.items

@@ -1,5 +1,0 @@
-use Rattle.fb_unit_rows.proofs.PartLemmas.{whole_units}
-use Rattle.fb_unit_rows.proofs.laws.whole_units_have_faults_of_parts.Goals as goal
-
-pub returns : goal.returns
-returns c = whole_units

@@ -1,6 +1,0 @@
-use Rattle.std.proofs.Common.{◌≡◌, take}
-use Rattle.fb_values.specs.Values.{all_seen, texts_seen}
-use Rattle.fb_values.proofs.read.Read.texts.Given as goal
-
-abbrev pub invariant-loop-read : goal.invariant-loop-read
-invariant-loop-read l = texts_seen l.texts.items ≡ all_seen (take l.read-index l.reads)

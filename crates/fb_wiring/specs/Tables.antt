@@ -1,0 +1,186 @@
+-- Networks, counts and flat networks of the names of an order.
+use Rattle.std.specs.Prelude.{ℕ, ◌≡◌, ◌≢◌, ◌≤◌, ◌+◌, Bool, true, false, not, ◌&&◌, is_none, List, Option, Some, None, Contains, length, min}
+use Rattle.std.specs.Option.{option_or}
+use Rattle.std.specs.BTreeMap.{is_at}
+use Rattle.fb_tree.specs.Text.Order.{name_cmp}
+use Rattle.fb_tree.specs.Tree.{DeclTree, block_type, adapter_type, subapplication_type, system_configuration}
+use Rattle.fb_tree.specs.declared.kinds.UnitKind.TheVariants as kinds
+use Rattle.fb_iface.specs.Library.View.{Sources, tree_at}
+use Rattle.fb_network.specs.declared.count.TheConstants.{INSTANCE_LIMIT}
+use Rattle.fb_network.specs.declared.network.Port.{Port}
+use Rattle.fb_network.specs.Plain.{PlainNetwork}
+use Rattle.fb_network.specs.PlainFlat.{PlainFlat}
+use Rattle.fb_network.specs.Network.{View}
+use Rattle.fb_network.specs.Instances.{Held, AreInstances}
+use Rattle.fb_network.specs.Clean.{IsCleanThroughout}
+use Rattle.fb_network.specs.Count.{IsCount}
+use Rattle.fb_network.specs.Counts.{IsCounted, AreCounted}
+use Rattle.fb_network.specs.Part.{IsFlatInWhole, SameAdapters}
+use Rattle.fb_network.specs.Ready.{Nets, IsFinished, AreFinished}
+use Rattle.fb_network.specs.SystemFlat.{IsSystemFlat}
+use Rattle.fb_network.specs.declared.application.FlatApplication.{FlatApplication}
+use Rattle.fb_wiring.specs.ByName.{declared, kind_at}
+use Rattle.fb_wiring.specs.declared.systems.Application.{Application}
+use Rattle.fb_wiring.specs.Hints.{count_of_hint, flat_of_hint}
+use Rattle.fb_wiring.specs.Net.{PlainNet}
+use Rattle.fb_wiring.specs.Units.{AreFlatApplications, Holds, IsFlatApplication, IsWithinLimit}
+
+-- ---- networks
+
+-- what the table has is what the texts say
+abbrev pub IsTrue : Sources → View → Type 0
+IsTrue sources table = (name : List ℕ) (network : PlainNetwork) → table name ≡ Some network → declared sources name ≡ Some network
+
+-- the table has the network of the name
+abbrev pub Has : Sources → View → List ℕ → Type 0
+Has sources table name = (network : PlainNetwork) → declared sources name ≡ Some network → table name ≡ Some network
+
+-- and that of the adapter of a port, if it has one
+abbrev pub HasAdapter : Sources → View → Option (List ℕ) → Type 0
+HasAdapter sources table adapter = (name : List ℕ) → adapter ≡ Some name → Has sources table name
+
+-- and those of the adapters of these ports
+abbrev pub HasAdapters : Sources → View → List Port → Type 0
+HasAdapters sources table ports = (port : Port) → Contains ports port → HasAdapter sources table port.adapter
+
+-- more is in the table, and no less
+pub record Grows (sources : Sources) (old new : View) : Type 0 where
+  pub is_true : IsTrue sources new
+  pub keeps : (name : List ℕ) → Has sources old name → Has sources new name
+
+-- the table has the network of the type, and those of the adapters of its ports
+pub record HasType (sources : Sources) (table : View) (name : List ℕ) : Type 0 where
+  pub network : Has sources table name
+  pub adapters : (network : PlainNetwork) → declared sources name ≡ Some network → HasAdapters sources table network.ports
+
+pub record IsTable (sources : Sources) (table : View) (names : List (List ℕ)) : Type 0 where
+  pub is_true : IsTrue sources table
+  pub types : (name : List ℕ) → Contains names name → HasType sources table name
+
+-- ---- counts
+
+-- the subapplications among these names are counted
+abbrev pub AllCounted : Sources → (List ℕ → Option ℕ) → List (List ℕ) → Type 0
+AllCounted sources counts names =
+    (name : List ℕ) → Contains names name → kind_at sources name ≡ Some kinds.Subapplication → IsCounted (declared sources) counts name
+
+-- The instances of the type can be counted: its kept net has their number, or the table has its network, and the types of its subapplication
+-- instances are counted.
+pub record IsCountable (view table : View) (kept : Option ℕ) (counts : List ℕ → Option ℕ) (name : List ℕ) : Type 0 where
+  pub network : PlainNetwork
+  pub declared : view name ≡ Some network
+  pub there : table name ≡ Some network
+  pub known : (count : ℕ) → kept ≡ Some count → IsCount view network.instances count
+  pub counted : kept ≡ None → AreCounted view network.instances counts
+
+-- the number of instances of the type, where those of its inner types are counted
+abbrev pub IsCountByTable : View → (List ℕ → Option ℕ) → List ℕ → ℕ → Type 0
+IsCountByTable table counts name count =
+    (view : View) (network : PlainNetwork)
+    → table name ≡ Some network → AreCounted view network.instances counts → IsCount view network.instances count
+
+-- the same where the type can be counted
+abbrev pub IsTypeCount : View → Option ℕ → (List ℕ → Option ℕ) → List ℕ → ℕ → Type 0
+IsTypeCount table kept counts name count =
+    (view : View) (can : IsCountable view table kept counts name) → IsCount view can.network.instances count
+
+-- the name is counted in the new ones in each view in which it can be
+abbrev pub IsCountedWhereKnown : View → Option ℕ → (List ℕ → Option ℕ) → (List ℕ → Option ℕ) → List ℕ → Type 0
+IsCountedWhereKnown table kept old new name = (view : View) → IsCountable view table kept old name → IsCounted view new name
+
+-- each other name has what it had
+abbrev pub SameOthers : {X : Type 0} → (List ℕ → Option X) → (List ℕ → Option X) → List ℕ → Type 0
+SameOthers old new name = (other : List ℕ) → other ≢ name → new other ≡ old other
+
+-- the number of instances of a unit, of all depths, as far as it is looked at
+pub record IsUnitCount (sources : Sources) (unit : List ℕ) (count : ℕ) : Type 0 where
+  pub held : List Held
+  pub holds : Holds sources unit held
+  pub count_is : count ≡ min (length held) (INSTANCE_LIMIT + 1)
+
+-- the type holds no more instances than the limit
+pub record IsSmallType (view : View) (name : List ℕ) : Type 0 where
+  pub network : PlainNetwork
+  pub declared : view name ≡ Some network
+  pub held : List Held
+  pub instances : AreInstances view network.instances held
+  pub within : length held ≤ INSTANCE_LIMIT
+
+-- so does the unit
+abbrev pub IsSmall : Sources → List ℕ → Type 0
+IsSmall sources name = (instances : ℕ) × IsWithinLimit sources name instances
+
+-- ---- flat networks
+
+-- what is kept, and else what is composed
+abbrev pub known_flats : (List ℕ → Option PlainNet) → Nets → Nets
+known_flats hints composed name = option_or (flat_of_hint (hints name)) (composed name)
+
+-- what is composed of a type: its flat network in each view of which the table has the adapters
+pub record IsComposed (table : View) (nets : Nets) (name : List ℕ) (flat : PlainFlat) : Type 0 where
+  pub network : PlainNetwork
+  pub there : table name ≡ Some network
+  pub whole : IsFlatInWhole table network nets flat
+
+-- it is found under the name
+pub record IsAdded (table : View) (nets new : Nets) (name : List ℕ) : Type 0 where
+  pub flat : PlainFlat
+  pub found : new name ≡ Some flat
+  pub composed : IsComposed table nets name flat
+
+-- the subapplications among these names that are not too large are finished, but for the unit
+abbrev pub AllFinished : Sources → Nets → List ℕ → List (List ℕ) → Type 0
+AllFinished sources nets unit names =
+    (name : List ℕ)
+    → Contains names name → name ≢ unit → kind_at sources name ≡ Some kinds.Subapplication → IsSmallType (declared sources) name
+    → IsFinished (declared sources) nets name
+
+abbrev pub is_subapplication_tree : DeclTree → Bool
+is_subapplication_tree (block_type d) = false
+is_subapplication_tree (adapter_type d) = false
+is_subapplication_tree (subapplication_type d) = true
+is_subapplication_tree (system_configuration s) = false
+
+abbrev pub is_subapplication_in : Option DeclTree → Bool
+is_subapplication_in None = false
+is_subapplication_in (Some tree) = is_subapplication_tree tree
+
+-- whether the flat network of the name is to be composed for the unit: that of a subapplication below the unit whose kept net does not tell
+abbrev pub is_missing : Sources → (List ℕ → Option PlainNet) → List ℕ → List ℕ → Bool
+is_missing sources hints unit name =
+    not (is_at (name_cmp unit) name) && (is_none (count_of_hint (hints name)) && is_subapplication_in (tree_at sources name))
+
+-- the network can be composed by the table: it has the adapters, the network is clean throughout, and its inner types are finished
+pub record IsComposable (table whole : View) (nets : Nets) (network : PlainNetwork) : Type 0 where
+  pub same : SameAdapters table whole network
+  pub clean : IsCleanThroughout whole network
+  pub finished : AreFinished whole network nets
+
+-- the networks of all applications can
+abbrev pub AreComposable : View → View → Nets → List Application → Type 0
+AreComposable table whole nets applications = (a : Application) → Contains applications a → IsComposable table whole nets a.network
+
+-- what is composed of an application, where it can be
+abbrev pub IsComposedApplication : View → Nets → Application → FlatApplication → Type 0
+IsComposedApplication table nets application flat =
+    (whole : View) → IsComposable table whole nets application.network → IsFlatApplication whole application flat
+
+abbrev pub AreComposedApplications : View → Nets → List Application → List FlatApplication → Type 0
+AreComposedApplications table nets applications flats =
+    (whole : View) → AreComposable table whole nets applications → AreFlatApplications whole applications flats
+
+-- the flat network of applications together
+pub record IsFlatTogether (view : View) (applications : List Application) (flat : PlainFlat) : Type 0 where
+  pub flats : List FlatApplication
+  pub each : AreFlatApplications view applications flats
+  pub joined : IsSystemFlat flats flat
+
+abbrev pub AreComposedTogether : View → Nets → List Application → PlainFlat → Type 0
+AreComposedTogether table nets applications flat =
+    (whole : View) → AreComposable table whole nets applications → IsFlatTogether whole applications flat
+
+abbrev pub is_system_tree : DeclTree → Bool
+is_system_tree (block_type d) = false
+is_system_tree (adapter_type d) = false
+is_system_tree (subapplication_type d) = false
+is_system_tree (system_configuration s) = true

@@ -1,0 +1,82 @@
+//! Nets that are kept.
+ghost use Rattle.std.specs.Prelude.{◌≡◌, ℕ, List, Option, None, option_map, option_copied};
+ghost use Rattle.std.specs.BTreeMap.{get};
+ghost use Rattle.fb_tree.specs.Text.Order.{name_cmp};
+ghost use Rattle.fb_network.specs.Ready as ready;
+ghost use Rattle.fb_wiring.specs.Hints.{count_of_hint, flat_of_hint, is_whole_hint};
+ghost use Rattle.fb_wiring.specs.Net.{PlainNet, plain_net};
+ghost use Rattle.fb_wiring.specs.Tables.{known_flats};
+
+use crate::nets::Net;
+use fb_network::{Flat, INSTANCE_LIMIT, Nets};
+use fb_tree::text::Name;
+use std::collections::BTreeMap;
+
+/// Kept nets by the names of their units.
+pub trait Hints {
+    ghost hints: { Self → (List ℕ → Option PlainNet) };
+
+    /// The net that is kept of a unit.
+    fn net_of(&self, name: &Name) -> Option<&Net>
+        ensures { option_map plain_net (option_copied result) ≡ hints self.now name.now };
+}
+
+/// Where no net is kept.
+#[derive(Clone, Copy)]
+pub struct NoHints;
+
+impl Hints for NoHints {
+    ghost hints = { λ s name. None };
+
+    fn net_of(&self, _name: &Name) -> Option<&Net> {
+        None
+    }
+}
+
+fn kept_flat<'a, H: Hints>(hints: &'a H, name: &Name) -> Option<&'a Flat>
+    ensures { option_copied result ≡ flat_of_hint (H.hints hints.now name.now) }
+{
+    match hints.net_of(name) {
+        Some(Net::Flat { flat, .. }) => Some(flat),
+        _ => None,
+    }
+}
+
+/// The flat networks among kept nets, and those that are composed beside them.
+#[derive(Clone, Copy)]
+pub struct KnownFlats<'a, H> {
+    pub hints: &'a H,
+    pub composed: &'a BTreeMap<Name, Flat>,
+}
+
+impl<H: Hints> Nets for KnownFlats<'_, H> {
+    ghost nets = { λ s. known_flats (H.hints s.hints.now) (get name_cmp s.composed.now) };
+
+    fn net(&self, name: &Name) -> Option<&Flat> {
+        match kept_flat(self.hints, name) {
+            Some(flat) => Some(flat),
+            None => self.composed.get(name),
+        }
+    }
+}
+
+/// Whether the kept net of the unit tells that all that it rests on is present and without faults.
+pub fn is_known_whole<H: Hints>(hints: &H, name: &Name) -> bool
+    ensures { result ≡ is_whole_hint (H.hints hints.now name.now) }
+{
+    match hints.net_of(name) {
+        Some(Net::Recursive(_) | Net::TooLarge | Net::Flat { .. }) => true,
+        Some(Net::Blocked(_)) | None => false,
+    }
+}
+
+/// How many instances the unit holds at all depths, up to one past the limit, where its kept net tells.
+pub fn kept_count<H: Hints>(hints: &H, name: &Name) -> Option<u32>
+    ensures { result ≡ count_of_hint (H.hints hints.now name.now) }
+{
+    match hints.net_of(name) {
+        Some(Net::Flat { instances, .. }) => Some(*instances),
+        Some(Net::TooLarge) => Some(INSTANCE_LIMIT + 1),
+        Some(Net::Blocked(_) | Net::Recursive(_)) | None => None,
+    }
+}

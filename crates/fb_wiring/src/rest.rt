@@ -1,0 +1,50 @@
+//! What is left to look at where nets are kept.
+ghost use Rattle.std.specs.Prelude.{◌≡◌};
+ghost use Rattle.std.specs.Option.{option_map};
+ghost use Rattle.std.specs.FinMap as map;
+ghost use Rattle.fb_wiring.specs.Hints.{is_left, left_of};
+
+use crate::hints::{Hints, kept_count};
+use fb_iface::library::View;
+use fb_iface::parse::Source;
+use fb_tree::text::{Name, same_name};
+
+/// The sources that have to be looked at for the net of a unit: none of other units whose kept nets tell how many instances they hold. Such a
+/// net also tells that all that its unit rests on is present, without faults and does not reach itself.
+#[derive(Clone, Copy)]
+pub struct Rest<'a, V, H> {
+    pub view: &'a V,
+    pub hints: &'a H,
+    pub unit: Name,
+}
+
+fn is_left<H: Hints>(hints: &H, unit: &Name, name: &Name) -> bool
+    ensures { result ≡ is_left (H.hints hints.now) unit.now name.now }
+{
+    same_name(unit, name) || kept_count(hints, name).is_none()
+}
+
+/// The source of a name that has to be looked at.
+fn source_left<'a, V: View, H: Hints>(
+    view: &'a V,
+    hints: &H,
+    unit: &Name,
+    name: &Name,
+) -> Option<&'a Source>
+    ensures { option_map (λ it. it.now.text) result
+        ≡ map.get (left_of (H.hints hints.now) (V.sources view.now) unit.now) name.now }
+{
+    if is_left(hints, unit, name) {
+        view.get(name)
+    } else {
+        None
+    }
+}
+
+impl<V: View, H: Hints> View for Rest<'_, V, H> {
+    ghost sources = { λ s. left_of (H.hints s.hints.now) (V.sources s.view.now) s.unit };
+
+    fn get(&self, name: &Name) -> Option<&Source> {
+        source_left(self.view, self.hints, &self.unit, name)
+    }
+}

@@ -1,0 +1,207 @@
+//! Tables of values by name.
+use fb_library::{Table, names_of, open_new};
+use fb_text::Name;
+use std::alloc::Global;
+use std::collections::BTreeSet;
+use std::process::Abort;
+use std::sync::Arc;
+use std::test::Fail;
+
+// So many that the table has several shelves.
+const MANY: usize = 300;
+
+fn name(alloc: Global, number: usize) -> Result<Name, Fail> {
+    let text = format!(in alloc; "N{number:03}")?;
+    Ok(Name::read(text.as_str())?)
+}
+
+/// Puts a value under the name of a number.
+fn put(alloc: Global, table: &mut Table<usize>, number: usize, value: usize) -> Result<(), Fail> {
+    Ok(table.put(name(alloc, number)?, Arc::new(alloc, value)?)?)
+}
+
+/// A table of `MANY` names, from a number on in steps of so many and round. Each has its number.
+fn table(alloc: Global, first: usize, step: usize) -> Result<Table<usize>, Fail> {
+    let mut table = Table::new(alloc);
+    let mut number = first;
+    for _ in 0..MANY {
+        put(alloc, &mut table, number, number)?;
+        number = number.wrapping_add(step) % MANY;
+    }
+    Ok(table)
+}
+
+/// The same in no order, by sevens.
+fn by_sevens(alloc: Global) -> Result<Table<usize>, Fail> {
+    table(alloc, 0, 7)
+}
+
+fn value(table: &Table<usize>, name: &Name) -> Option<usize> {
+    match table.get(name) {
+        Some(value) => Some(**value),
+        None => None,
+    }
+}
+
+/// Compares the value and the place of the name of a number.
+fn compare_at(
+    rt: &impl Abort,
+    alloc: Global,
+    table: &Table<usize>,
+    names: &[Name],
+    number: usize,
+) -> Result<(), Fail> {
+    let name = name(alloc, number)?;
+    assert_eq!(rt; value(table, &name), Some(number), "a value");
+    assert_eq!(rt; table.name_at(number), Some(name), "a place");
+    assert_eq!(rt; names.get(number), Some(&name), "a name");
+    Ok(())
+}
+
+/// Compares a table that has all names with these.
+fn compare_all(
+    rt: &impl Abort,
+    alloc: Global,
+    table: &Table<usize>,
+    names: &[Name],
+) -> Result<(), Fail> {
+    assert_eq!(rt; [table.len(), names.len()], [MANY, MANY], "lengths");
+    for number in 0..MANY {
+        compare_at(rt, alloc, table, names, number)?;
+    }
+    Ok(())
+}
+
+fn compare_whole(rt: &impl Abort, alloc: Global, table: &Table<usize>) -> Result<(), Fail> {
+    let names = table.names(alloc)?;
+    compare_all(rt, alloc, table, &names)
+}
+
+/// Compares what is before and behind all names, and behind them.
+fn compare_absent(rt: &impl Abort, table: &Table<usize>) -> Result<(), Fail> {
+    let [before, behind] = [Name::read("N")?, Name::read("Z")?];
+    assert_eq!(rt; table.name_at(MANY), None, "behind all");
+    assert_eq!(rt; value(table, &before), None, "N");
+    assert_eq!(rt; value(table, &behind), None, "Z");
+    Ok(())
+}
+
+#[test]
+fn a_table_has_what_was_put(rt: HostRuntime) -> Result<(), Fail> {
+    let table = by_sevens(rt.alloc())?;
+    compare_whole(&rt, rt.alloc(), &table)?;
+    compare_absent(&rt, &table)
+}
+
+#[test]
+fn a_new_table_is_empty(rt: HostRuntime) {
+    let table = Table::<usize>::new(rt.alloc());
+    assert_eq!(rt; table.len(), 0, "length");
+    assert_eq!(rt; table.name_at(0), None, "the first name");
+}
+
+/// Compares the names of two tables.
+fn compare_names(
+    rt: &impl Abort,
+    alloc: Global,
+    table: &Table<usize>,
+    names: &[Name],
+) -> Result<(), Fail> {
+    let found = table.names(alloc)?;
+    assert_eq!(rt; found.as_slice(), names, "names");
+    Ok(())
+}
+
+/// Compares these names with those of tables into which they were put in order, rising and falling.
+fn compare_orders(rt: &impl Abort, alloc: Global, names: &[Name]) -> Result<(), Fail> {
+    compare_names(rt, alloc, &table(alloc, 0, 1)?, names)?;
+    compare_names(rt, alloc, &table(alloc, MANY - 1, MANY - 1)?, names)
+}
+
+#[test]
+fn names_may_be_put_in_order(rt: HostRuntime) -> Result<(), Fail> {
+    let names = by_sevens(rt.alloc())?.names(rt.alloc())?;
+    compare_orders(&rt, rt.alloc(), &names)
+}
+
+/// Removes the name of every second number.
+fn remove_from(alloc: Global, table: &mut Table<usize>, first: usize) -> Result<(), Fail> {
+    let mut number = first;
+    for _ in 0..MANY / 2 {
+        table.remove(&name(alloc, number)?)?;
+        number = number.wrapping_add(2);
+    }
+    Ok(())
+}
+
+/// Removes the even numbers and what is not there, and puts another value under 1.
+fn change(alloc: Global, table: &mut Table<usize>) -> Result<(), Fail> {
+    remove_from(alloc, table, 0)?;
+    put(alloc, table, 1, MANY)?;
+    Ok(table.remove(&Name::read("Z")?)?)
+}
+
+fn compare_changed(rt: &impl Abort, alloc: Global, table: &Table<usize>) -> Result<(), Fail> {
+    let [zero, one] = [name(alloc, 0)?, name(alloc, 1)?];
+    assert_eq!(rt; table.len(), MANY / 2, "length");
+    assert_eq!(rt; table.name_at(0), Some(one), "the first name");
+    assert_eq!(rt; value(table, &zero), None, "0");
+    assert_eq!(rt; value(table, &one), Some(MANY), "1");
+    Ok(())
+}
+
+/// Removes the odd numbers too, and puts 1 anew.
+fn compare_emptied(rt: &impl Abort, alloc: Global, table: &mut Table<usize>) -> Result<(), Fail> {
+    remove_from(alloc, table, 1)?;
+    assert_eq!(rt; table.len(), 0, "length");
+    compare_names(rt, alloc, table, &[])?;
+    put(alloc, table, 1, 1)?;
+    compare_names(rt, alloc, table, &[name(alloc, 1)?])
+}
+
+/// Changes a table, and compares it with a copy of what it was.
+fn compare_both(
+    rt: &impl Abort,
+    alloc: Global,
+    table: &mut Table<usize>,
+    copy: &Table<usize>,
+) -> Result<(), Fail> {
+    change(alloc, table)?;
+    compare_changed(rt, alloc, table)?;
+    compare_whole(rt, alloc, copy)?;
+    compare_emptied(rt, alloc, table)
+}
+
+fn compare_with_copy(rt: &impl Abort, alloc: Global, table: &mut Table<usize>) -> Result<(), Fail> {
+    let copy = table.copy()?;
+    compare_both(rt, alloc, table, &copy)
+}
+
+#[test]
+fn a_copy_of_a_table_stays_as_it_was(rt: HostRuntime) -> Result<(), Fail> {
+    let mut table = by_sevens(rt.alloc())?;
+    compare_with_copy(&rt, rt.alloc(), &mut table)
+}
+
+/// Opens C, B, A and C again, and compares what is opened, and what has been seen then.
+fn compare_opened(
+    rt: &impl Abort,
+    alloc: Global,
+    seen: &mut BTreeSet<Name>,
+    [a, b, c]: [Name; 3],
+) -> Result<(), Fail> {
+    let mut pending = Vec::new(alloc);
+    open_new([c, b, a, c].as_slice(), seen, &mut pending)?;
+    assert_eq!(rt; pending.as_slice(), [c, a].as_slice(), "opened");
+    let names = names_of(alloc, seen)?;
+    assert_eq!(rt; names.as_slice(), [a, b, c].as_slice(), "seen");
+    Ok(())
+}
+
+#[test]
+fn new_names_are_opened_once(rt: HostRuntime) -> Result<(), Fail> {
+    let [a, b, c] = [Name::read("A")?, Name::read("B")?, Name::read("C")?];
+    let mut seen = BTreeSet::new(rt.alloc());
+    seen.insert(b)?;
+    compare_opened(&rt, rt.alloc(), &mut seen, [a, b, c])
+}
