@@ -1,6 +1,7 @@
-//! The recorded calls with their answers. Texts and values are shared with the workbench, as long as that has them.
+//! The recorded calls with the kinds of their answers. Texts are shared with the workbench, as long as that has them; values and what jobs have
+//! read are not kept.
 
-use crate::machine::{Called, Committed, Delivered, Edit, HistoryFull, Key, Read, Shown};
+use crate::machine::{Called, Committed, Delivered, Edit, HistoryFull, Key, Shown};
 use crate::names::Symbol;
 use std::rc::Rc;
 
@@ -25,19 +26,37 @@ impl Change {
 }
 
 pub enum Call {
-    Commit(Vec<Change>),
+    Commit(Box<[Change]>),
     Take,
-    Deliver(Key, Rc<[Read]>),
+    Deliver(Key),
     GiveBack(Key),
     Ask(Key),
 }
 
 pub enum Answer {
     Commit(Committed),
-    Take(Option<(Key, Rc<[Read]>)>),
+    Take(Option<Key>),
     Deliver(Delivered),
     GiveBack(bool),
-    Ask(Shown),
+    Ask(Asked),
+}
+
+/// What an ask has shown.
+#[derive(Clone, Copy)]
+pub enum Asked {
+    Value,
+    Pending,
+    NoSuchKey,
+}
+
+impl Asked {
+    pub fn of(shown: &Shown) -> Asked {
+        match shown {
+            Shown::Value(_) => Asked::Value,
+            Shown::Pending => Asked::Pending,
+            Shown::NoSuchKey => Asked::NoSuchKey,
+        }
+    }
 }
 
 /// One call.

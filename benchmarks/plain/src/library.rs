@@ -11,13 +11,16 @@ use std::rc::Rc;
 pub struct Source {
     pub text: Rc<str>,
     pub body: Body,
+    /// The types that it mentions, each once.
+    pub mentions: Box<[Symbol]>,
 }
 
 impl Source {
     pub fn new(text: &str, names: &mut Names) -> Source {
         let body = read(text, names);
+        let mentions = body.as_ref().map(mentions).unwrap_or_default();
         let text = Rc::from(text);
-        Source { text, body }
+        Source { text, body, mentions }
     }
 
     pub fn unit(&self) -> Option<&Unit> {
@@ -25,8 +28,12 @@ impl Source {
     }
 }
 
-/// Texts by the names of their units.
-pub type Sources = HashMap<Symbol, Rc<Source>>;
+fn mentions(unit: &Unit) -> Box<[Symbol]> {
+    let mut found: Vec<Symbol> = unit.mentions().collect();
+    found.sort_unstable();
+    found.dedup();
+    found.into()
+}
 
 #[derive(Clone)]
 pub struct Held {
@@ -57,7 +64,8 @@ impl Library {
         self.units.remove(&unit);
     }
 
-    fn unit(&self, name: Symbol) -> Option<&Unit> {
+    /// The unit of this name, if it is there and not broken.
+    pub fn unit(&self, name: Symbol) -> Option<&Unit> {
         self.get(name)?.source.unit()
     }
 
@@ -65,10 +73,14 @@ impl Library {
         Some(self.unit(name)?.kind)
     }
 
+    /// The types that the unit mentions, each once.
+    pub fn mentions(&self, name: Symbol) -> &[Symbol] {
+        self.get(name).map_or(&[], |held| &held.source.mentions)
+    }
+
     /// The unit and the types that it mentions, in any order and perhaps more than once.
     pub fn near(&self, name: Symbol) -> Vec<Symbol> {
-        let mentions = self.unit(name).into_iter().flat_map(Unit::mentions);
-        std::iter::once(name).chain(mentions).collect()
+        std::iter::once(&name).chain(self.mentions(name)).copied().collect()
     }
 
     /// The unit, what it mentions, what that mentions and so on.
@@ -77,8 +89,7 @@ impl Library {
         let mut found = vec![name];
         let mut at = 0;
         while let Some(next) = found.get(at).copied() {
-            let mentions = self.unit(next).into_iter().flat_map(Unit::mentions);
-            found.extend(mentions.filter(|mentioned| seen.insert(*mentioned)));
+            found.extend(self.mentions(next).iter().filter(|mentioned| seen.insert(**mentioned)));
             at += 1;
         }
         found

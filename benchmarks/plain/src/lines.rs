@@ -137,8 +137,7 @@ impl Desk {
         let Some(job) = place.and_then(|place| self.held.get(place)) else {
             return Err(refused("NoSuchJob"));
         };
-        let value = job.run(&self.workbench.names);
-        match self.workbench.deliver(job, value)? {
+        match self.workbench.deliver(job)? {
             Delivered::Accepted => Ok("{\"delivered\":\"accepted\"}".to_string()),
             Delivered::NoSuchKey => Err(refused("NoSuchKey")),
             Delivered::NotPending => Err(refused("NotPending")),
@@ -156,22 +155,12 @@ impl Desk {
     fn work(&mut self, turns: u64) -> String {
         let mut accepted = 0;
         for _ in 0..turns {
-            match self.work_once() {
-                Ok(Some(Delivered::Accepted)) => accepted += 1,
-                Ok(Some(_)) => {}
-                Ok(None) => break,
+            match self.workbench.work() {
+                Ok(true) => accepted += 1,
+                Ok(false) => break,
                 Err(HistoryFull) => return format!("{{\"accepted\":{accepted},\"refused\":\"HistoryFull\"}}"),
             }
         }
         format!("{{\"accepted\":{accepted}}}")
-    }
-
-    /// How the delivery went, or none where there was nothing to take.
-    fn work_once(&mut self) -> Result<Option<Delivered>, HistoryFull> {
-        let Some(job) = self.workbench.take()? else {
-            return Ok(None);
-        };
-        let value = job.run(&self.workbench.names);
-        self.workbench.deliver(&job, value).map(Some)
     }
 }

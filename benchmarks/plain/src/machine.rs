@@ -1,11 +1,13 @@
 //! The workbench: units, entries, and the calls that change them.
 
-use crate::faults::{faults, Fault};
-use crate::history::{Answer, Call, Change, History};
-use crate::library::{Held, Library, Source, Sources};
+mod values;
+
+use crate::faults::Fault;
+use crate::history::{Answer, Asked, Call, Change, History};
+use crate::library::{Held, Library, Source};
 use crate::names::{Names, Symbol};
-use crate::nets::{net, Net};
-use crate::plans::{plan, Plan};
+use crate::nets::Net;
+use crate::plans::Plan;
 use crate::tree::UnitKind;
 use std::collections::{BTreeSet, HashMap, HashSet};
 use std::rc::Rc;
@@ -34,50 +36,33 @@ pub enum Value {
     Plan(Rc<Plan>),
 }
 
-/// What a job has read under a name: a text with its revision, or nothing.
-pub struct Read {
-    pub name: Symbol,
-    pub found: Option<(u64, Rc<str>)>,
+/// What a job has read under a name: the revision of its text, or nothing.
+struct Read {
+    name: Symbol,
+    revision: Option<u64>,
 }
 
-/// A key with what its value depends on.
+/// A key with what its value depends on. The value is worked out where it is delivered, if all that was read is still there.
 pub struct Job {
     pub key: Key,
-    pub reads: Rc<[Read]>,
-    sources: Sources,
-}
-
-impl Job {
-    /// Computes the value from what was read, and from nothing else.
-    pub fn run(&self, names: &Names) -> Value {
-        match self.key.kind {
-            Kind::Faults => Value::Faults(self.faults()),
-            Kind::Net => Value::Net(Rc::new(self.net(names))),
-            Kind::Deploy => {
-                let plan = plan(self.key.unit, self.net(names), &self.sources, names);
-                Value::Plan(Rc::new(plan))
-            }
-        }
-    }
-
-    fn faults(&self) -> Rc<[Fault]> {
-        let find = |name: Symbol| self.sources.get(&name).map(|source| &source.body);
-        let unit = self.key.unit;
-        find(unit).map_or_else(Vec::new, |body| faults(unit, body, &find)).into()
-    }
-
-    fn net(&self, names: &Names) -> Net {
-        let needs: Vec<Symbol> = self.reads.iter().map(|read| read.name).collect();
-        net(self.key.unit, &needs, &self.sources, names)
-    }
+    reads: Vec<Read>,
 }
 
 struct Entry {
-    /// The names whose texts decide its value, in order.
-    needs: Vec<Symbol>,
-    /// None while it is pending.
-    value: Option<Value>,
+    /// The value, where it has been needed since one of the texts that decide it was changed.
+    known: Option<Value>,
+    is_pending: bool,
     is_out: bool,
+}
+
+impl Entry {
+    fn pending() -> Entry {
+        Entry {
+            known: None,
+            is_pending: true,
+            is_out: false,
+        }
+    }
 }
 
 #[derive(Clone, Copy)]
@@ -124,8 +109,8 @@ pub struct Workbench {
     library: Library,
     commits: u64,
     entries: HashMap<Key, Entry>,
-    /// For each name, the keys whose values its text decides.
-    users: HashMap<Symbol, HashSet<Key>>,
+    /// For each name, the units that mention it.
+    users: HashMap<Symbol, HashSet<Symbol>>,
     /// The keys that are pending and not handed out, by kind and then by name.
     ready: BTreeSet<(Kind, Rc<str>, Symbol)>,
     history: History,
@@ -151,13 +136,13 @@ impl Workbench {
 impl Workbench {
     pub fn commit(&mut self, edits: Vec<Edit>) -> Called<Committed> {
         self.history.check()?;
-        let changes = edits.iter().take(MOST_CHANGES + 1).map(Change::of).collect();
+        let changes: Vec<Change> = edits.iter().take(MOST_CHANGES + 1).map(Change::of).collect();
         let answer = self.judged(&edits);
         if let Committed::Done(number) = answer {
             self.commits = number;
             self.apply(edits);
         }
-        self.history.push(Call::Commit(changes), Answer::Commit(answer));
+        self.history.push(Call::Commit(changes.into()), Answer::Commit(answer));
         Ok(answer)
     }
 
@@ -200,29 +185,64 @@ impl Workbench {
 
     fn apply(&mut self, edits: Vec<Edit>) {
         let units: Vec<Symbol> = edits.iter().map(|edit| edit.unit).collect();
-        let revision = self.commits;
-        for edit in edits {
-            match edit.source {
-                Some(source) => self.library.put(edit.unit, Held { revision, source }),
-                None => self.library.remove(edit.unit),
+        for key in self.reached(&units) {
+            if let Some(entry) = self.entries.get_mut(&key) {
+                *entry = Entry::pending();
+                self.ready.insert(self.place(key));
             }
         }
-        for key in self.touched(&units) {
-            self.forget(key);
-            if self.has_key(key) {
-                self.renew(key);
+        for edit in edits {
+            self.put(edit);
+        }
+        for unit in units {
+            for kind in KINDS {
+                self.renew(Key { kind, unit });
             }
         }
     }
 
-    /// The keys of the units, and those that their texts decide.
-    fn touched(&self, units: &[Symbol]) -> HashSet<Key> {
-        let mut keys = HashSet::new();
-        for unit in units {
-            keys.extend(KINDS.map(|kind| Key { kind, unit: *unit }));
-            keys.extend(self.users.get(unit).into_iter().flatten());
+    /// The keys of other units that the texts of these decide: faults of those that mention them, nets and plans of all that rest on them.
+    fn reached(&self, units: &[Symbol]) -> Vec<Key> {
+        let mut seen: HashSet<Symbol> = units.iter().copied().collect();
+        let mut found = units.to_vec();
+        let mut keys = Vec::new();
+        let mut at = 0;
+        while let Some(name) = found.get(at) {
+            for unit in self.users.get(name).into_iter().flatten().copied() {
+                if at < units.len() {
+                    let kind = Kind::Faults;
+                    keys.push(Key { kind, unit });
+                }
+                if seen.insert(unit) {
+                    keys.extend([Kind::Net, Kind::Deploy].map(|kind| Key { kind, unit }));
+                    found.push(unit);
+                }
+            }
+            at += 1;
         }
         keys
+    }
+
+    fn put(&mut self, edit: Edit) {
+        let unit = edit.unit;
+        let old: Box<[Symbol]> = self.library.mentions(unit).into();
+        let revision = self.commits;
+        match edit.source {
+            Some(source) => self.library.put(unit, Held { revision, source }),
+            None => self.library.remove(unit),
+        }
+        let new = self.library.mentions(unit);
+        if *old == *new {
+            return;
+        }
+        for name in old {
+            if let Some(users) = self.users.get_mut(&name) {
+                users.remove(&unit);
+            }
+        }
+        for name in new {
+            self.users.entry(*name).or_default().insert(unit);
+        }
     }
 
     fn has_key(&self, key: Key) -> bool {
@@ -233,36 +253,24 @@ impl Workbench {
         }
     }
 
-    /// Takes an entry away, if there is one.
-    fn forget(&mut self, key: Key) {
-        let Some(entry) = self.entries.remove(&key) else {
-            return;
-        };
-        for name in entry.needs {
-            if let Some(users) = self.users.get_mut(&name) {
-                users.remove(&key);
-            }
+    /// Makes a pending entry in place of what there is, if there is such a key.
+    fn renew(&mut self, key: Key) {
+        if self.has_key(key) {
+            self.entries.insert(key, Entry::pending());
+            self.ready.insert(self.place(key));
+        } else if self.entries.remove(&key).is_some() {
+            self.ready.remove(&self.place(key));
         }
-        self.ready.remove(&self.place(key));
     }
 
-    /// Makes a pending entry.
-    fn renew(&mut self, key: Key) {
+    /// The names whose texts decide the value of a key, in order.
+    fn needs(&self, key: Key) -> Vec<Symbol> {
         let mut needs = match key.kind {
             Kind::Faults => self.library.near(key.unit),
             Kind::Net | Kind::Deploy => self.library.far(key.unit),
         };
         self.names.sort(&mut needs);
-        for name in &needs {
-            self.users.entry(*name).or_default().insert(key);
-        }
-        let entry = Entry {
-            needs,
-            value: None,
-            is_out: false,
-        };
-        self.entries.insert(key, entry);
-        self.ready.insert(self.place(key));
+        needs
     }
 
     /// The place of a key in the order of work.
@@ -276,44 +284,64 @@ impl Workbench {
 impl Workbench {
     /// Hands out the least key that is pending and not handed out.
     pub fn take(&mut self) -> Called<Option<Job>> {
+        let key = self.take_key()?;
+        Ok(key.map(|key| self.job(key)))
+    }
+
+    fn take_key(&mut self) -> Called<Option<Key>> {
         self.history.check()?;
-        let job = self.ready.pop_first().and_then(|(kind, _, unit)| self.handed_out(Key { kind, unit }));
-        let taken = job.as_ref().map(|job| (job.key, job.reads.clone()));
-        self.history.push(Call::Take, Answer::Take(taken));
-        Ok(job)
-    }
-
-    fn handed_out(&mut self, key: Key) -> Option<Job> {
-        let entry = self.entries.get_mut(&key)?;
-        entry.is_out = true;
-        let mut sources = Sources::new();
-        let mut reads = Vec::with_capacity(entry.needs.len());
-        for name in entry.needs.iter().copied() {
-            let held = self.library.get(name);
-            let found = held.map(|held| (held.revision, held.source.text.clone()));
-            reads.push(Read { name, found });
-            sources.extend(held.map(|held| (name, held.source.clone())));
+        let key = self.ready.pop_first().map(|(kind, _, unit)| Key { kind, unit });
+        if let Some(entry) = key.and_then(|key| self.entries.get_mut(&key)) {
+            entry.is_out = true;
         }
-        let reads = reads.into();
-        Some(Job { key, reads, sources })
+        self.history.push(Call::Take, Answer::Take(key));
+        Ok(key)
     }
 
-    pub fn deliver(&mut self, job: &Job, value: Value) -> Called<Delivered> {
+    fn job(&self, key: Key) -> Job {
+        let reads = self.needs(key).into_iter().map(|name| Read {
+            name,
+            revision: self.library.get(name).map(|held| held.revision),
+        });
+        let reads = reads.collect();
+        Job { key, reads }
+    }
+
+    /// Takes a key and delivers its value at once, so that all that it needs is still there. Tells whether there was one.
+    pub fn work(&mut self) -> Called<bool> {
+        let Some(key) = self.take_key()? else {
+            return Ok(false);
+        };
+        self.history.check()?;
+        self.finish(key, Delivered::Accepted);
+        Ok(true)
+    }
+
+    /// Takes the result of a job. It is worked out from the present texts, since those that the job has read have to be the same.
+    pub fn deliver(&mut self, job: &Job) -> Called<Delivered> {
         self.history.check()?;
         let answer = self.delivery(job);
-        if let (Delivered::Accepted, Some(entry)) = (answer, self.entries.get_mut(&job.key)) {
-            entry.value = Some(value);
-            entry.is_out = false;
-            self.ready.remove(&self.place(job.key));
-        }
-        self.history.push(Call::Deliver(job.key, job.reads.clone()), Answer::Deliver(answer));
+        self.finish(job.key, answer);
         Ok(answer)
+    }
+
+    /// Ends that a key is pending, if the delivery is accepted.
+    fn finish(&mut self, key: Key, answer: Delivered) {
+        if matches!(answer, Delivered::Accepted) {
+            self.find_value(key);
+            self.ready.remove(&self.place(key));
+            if let Some(entry) = self.entries.get_mut(&key) {
+                entry.is_pending = false;
+                entry.is_out = false;
+            }
+        }
+        self.history.push(Call::Deliver(key), Answer::Deliver(answer));
     }
 
     fn delivery(&self, job: &Job) -> Delivered {
         match self.entries.get(&job.key) {
             None => Delivered::NoSuchKey,
-            Some(entry) if entry.value.is_some() => Delivered::NotPending,
+            Some(entry) if !entry.is_pending => Delivered::NotPending,
             Some(_) => match job.reads.iter().find(|read| !self.is_current(read)) {
                 Some(read) => Delivered::Stale(read.name),
                 None => Delivered::Accepted,
@@ -322,11 +350,7 @@ impl Workbench {
     }
 
     fn is_current(&self, read: &Read) -> bool {
-        match (self.library.get(read.name), &read.found) {
-            (None, None) => true,
-            (Some(now), Some((revision, text))) => now.revision == *revision && now.source.text == *text,
-            _ => false,
-        }
+        self.library.get(read.name).map(|held| held.revision) == read.revision
     }
 
     /// Takes a key's handed-out mark away, and tells whether it had one.
@@ -347,12 +371,12 @@ impl Workbench {
         self.history.check()?;
         let shown = match self.entries.get(&key) {
             None => Shown::NoSuchKey,
-            Some(entry) => match &entry.value {
-                None => Shown::Pending,
-                Some(value) => Shown::Value(value.clone()),
+            Some(entry) => match &entry.known {
+                Some(value) if !entry.is_pending => Shown::Value(value.clone()),
+                _ => Shown::Pending,
             },
         };
-        self.history.push(Call::Ask(key), Answer::Ask(shown.clone()));
+        self.history.push(Call::Ask(key), Answer::Ask(Asked::of(&shown)));
         Ok(shown)
     }
 }

@@ -39,11 +39,6 @@ impl Names {
         symbol
     }
 
-    /// The symbol of a name in upper case, if it has one already.
-    pub fn known(&self, upper: &str) -> Option<Symbol> {
-        self.numbers.get(upper).copied()
-    }
-
     pub fn text(&self, symbol: Symbol) -> &Rc<str> {
         &self.texts[symbol.0.get() as usize - 1]
     }

@@ -1,234 +1,267 @@
-//! The plan of a system: the links between resources, and what each resource is told.
+//! The plan of a system: where its blocks stand, and the constants that are written to them. Its commands are made where they are shown.
 
-use crate::library::Sources;
+use crate::library::Library;
 use crate::names::{Names, Symbol};
-use crate::nets::{dotted, unit_of, Flat, Link, Net};
+use crate::nets::{Flat, Net, Shown};
 use crate::tokens::{tokens, Span};
-use crate::tree::{Constant, Instance, Mapping, Network, UnitKind};
+use crate::tree::{Constant, Instance, Network, System};
 use std::collections::HashMap;
+use std::rc::Rc;
 
 pub enum Plan {
-    Stopped(Net),
+    Stopped(Rc<Net>),
     /// Blocks that no mapping places, and mappings that place nothing.
     Faulty {
         unmapped: Vec<String>,
         astray: Vec<String>,
     },
-    Planned {
-        cuts: Vec<Link>,
-        resources: Vec<Resource>,
-    },
+    Planned(Planned),
 }
 
+pub struct Planned {
+    pub flat: Rc<Flat>,
+    pub resources: Vec<Resource>,
+    /// The number of the resource of each block.
+    pub homes: Vec<u32>,
+    pub writes: Vec<Write>,
+    /// The constants of all writes.
+    pub constants: String,
+}
+
+/// A resource with its device.
+#[derive(Clone, Copy, PartialEq, Eq, Hash)]
 pub struct Resource {
-    /// `DEVICE.RESOURCE`
-    pub name: String,
-    pub commands: Vec<String>,
+    pub device: Symbol,
+    pub name: Symbol,
 }
 
-/// A command with the place that it is about and its resource.
-#[derive(PartialEq, Eq, PartialOrd, Ord)]
-struct Line {
-    place: String,
-    command: String,
-    resource: String,
+/// A constant that is written to a parameter of a block.
+#[derive(Clone, Copy)]
+pub struct Write {
+    pub block: u32,
+    pub parameter: Symbol,
+    pub constant: Span,
 }
 
-/// The plan of a system whose net this is.
-pub fn plan(system: Symbol, net: Net, sources: &Sources, names: &Names) -> Plan {
-    match net {
-        Net::Flat(flat) => Planner { system, sources, names }.plan(&flat),
-        net => Plan::Stopped(net),
-    }
-}
-
-/// Resources by the paths that are mapped to them.
-type Homes = HashMap<String, String>;
-
-/// What the longest front of the path has.
-fn nearest<'h>(homes: &'h Homes, path: &str) -> Option<&'h String> {
-    let mut front = path;
-    loop {
-        if let Some(resource) = homes.get(front) {
-            return Some(resource);
+/// The plan of a system without faults whose net this is.
+pub fn plan(system: Symbol, net: Rc<Net>, library: &Library, names: &Names) -> Plan {
+    match (&*net, library.unit(system)) {
+        (Net::Flat(flat), Some(unit)) => {
+            let mut planner = Planner::new(&unit.system, library);
+            planner.applications(system, &unit.system, flat);
+            planner.plan(&unit.system, flat.clone(), names)
         }
-        front = &front[..front.rfind('.')?];
+        _ => Plan::Stopped(net),
     }
 }
+
+// ---- mapped paths
+
+/// The paths of the mappings as a tree of names. The root has no name.
+struct Mapped {
+    children: HashMap<(usize, Symbol), usize>,
+    nodes: Vec<Node>,
+}
+
+#[derive(Default)]
+struct Node {
+    /// The resource that the first mapping of the path names.
+    home: Option<u32>,
+    /// Something stands there.
+    is_met: bool,
+}
+
+impl Mapped {
+    fn new(system: &System, resources: &[Resource]) -> Mapped {
+        let numbers: HashMap<Resource, u32> = resources.iter().copied().zip(0..).collect();
+        let mut mapped = Mapped {
+            children: HashMap::new(),
+            nodes: vec![Node::default()],
+        };
+        for mapping in &system.mappings {
+            let (device, name) = (mapping.device.symbol, mapping.resource.symbol);
+            let node = mapped.node(&mapping.path);
+            let home = &mut mapped.nodes[node].home;
+            *home = home.or(numbers.get(&Resource { device, name }).copied());
+        }
+        mapped
+    }
+
+    /// The node of a path, which is made where it is not there.
+    fn node(&mut self, path: &[Symbol]) -> usize {
+        let mut node = 0;
+        for name in path {
+            let next = self.nodes.len();
+            node = *self.children.entry((node, *name)).or_insert(next);
+            if node == next {
+                self.nodes.push(Node::default());
+            }
+        }
+        node
+    }
+}
+
+impl Mapped {
+    /// Whether something stands at a path, which a mapping has.
+    fn is_met(&self, path: &[Symbol]) -> bool {
+        let child = |node, name: &Symbol| self.children.get(&(node, *name)).copied();
+        path.iter().try_fold(0, child).is_some_and(|node| self.nodes[node].is_met)
+    }
+}
+
+/// What the mappings say of a place in the network.
+#[derive(Clone, Copy)]
+struct Place {
+    /// The node of its path, if a mapping begins so.
+    node: Option<usize>,
+    /// The resource of the longest front of its path.
+    home: Option<u32>,
+}
+
+impl Mapped {
+    fn root(&self) -> Place {
+        let (node, home) = (Some(0), None);
+        Place { node, home }
+    }
+
+    /// Goes on to a place of this name, which is there.
+    fn meet(&mut self, outer: Place, name: Symbol) -> Place {
+        let node = outer.node.and_then(|node| self.children.get(&(node, name)).copied());
+        let mut home = outer.home;
+        if let Some(node) = node {
+            self.nodes[node].is_met = true;
+            home = self.nodes[node].home.or(home);
+        }
+        Place { node, home }
+    }
+}
+
+// ---- plans
 
 struct Planner<'a> {
-    system: Symbol,
-    sources: &'a Sources,
-    names: &'a Names,
+    library: &'a Library,
+    resources: Vec<Resource>,
+    mapped: Mapped,
+    /// Of each block, by number.
+    homes: Vec<Option<u32>>,
+    writes: Vec<Write>,
+    constants: String,
 }
 
 impl<'a> Planner<'a> {
-    fn plan(&self, flat: &Flat) -> Plan {
-        let mapped = self.mapped();
-        let is_homeless = |path: &&String| nearest(&mapped, path).is_none();
-        let paths = flat.blocks.iter().map(|block| &block.path);
-        let unmapped = in_order(paths.clone().filter(is_homeless).cloned());
-        let astray = in_order(
-            self.mappings()
-                .iter()
-                .filter(|it| self.leads_nowhere(&it.path))
-                .map(|it| self.path(&it.path)),
-        );
-        if !unmapped.is_empty() || !astray.is_empty() {
-            return Plan::Faulty { unmapped, astray };
-        }
-        let homes = paths.filter_map(|path| Some((path.clone(), nearest(&mapped, path)?.clone()))).collect();
-        let cuts = flat.links.iter().filter(|link| shared_home(&homes, link).is_none()).cloned().collect();
-        let resources = self.resources(flat, &homes);
-        Plan::Planned { cuts, resources }
-    }
-
-    fn text(&self, symbol: Symbol) -> &'a str {
-        self.names.text(symbol)
-    }
-
-    fn path(&self, names: &[Symbol]) -> String {
-        let names: Vec<&str> = names.iter().map(|name| self.text(*name)).collect();
-        names.join(".")
-    }
-
-    fn mappings(&self) -> &'a [Mapping] {
-        unit_of(self.system, self.sources).map_or(&[], |unit| &unit.system.mappings)
-    }
-
-    fn mapped(&self) -> Homes {
-        let mut homes = Homes::new();
-        for mapping in self.mappings() {
-            let resource = dotted(self.text(mapping.device.symbol), self.text(mapping.resource.symbol));
-            homes.entry(self.path(&mapping.path)).or_insert(resource);
-        }
-        homes
-    }
-}
-
-/// Texts in the order of their bytes, each once.
-fn in_order<T: Ord>(texts: impl Iterator<Item = T>) -> Vec<T> {
-    let mut texts: Vec<T> = texts.collect();
-    texts.sort_unstable();
-    texts.dedup();
-    texts
-}
-
-/// The resource on which both ends of a link stand.
-fn shared_home<'h>(homes: &'h Homes, link: &Link) -> Option<&'h String> {
-    nearest(homes, &link.from).filter(|home| nearest(homes, &link.to) == Some(*home))
-}
-
-// ---- what stands at a path
-
-/// The first instance of that name.
-fn instance(network: &Network, name: Symbol) -> Option<&Instance> {
-    network.place(name).map(|place| &network.instances[place])
-}
-
-impl<'a> Planner<'a> {
-    /// The network of the application of that name.
-    fn application(&self, name: Symbol) -> Option<&'a Network> {
-        let applications = &unit_of(self.system, self.sources)?.system.applications;
-        let found = applications.iter().find(|application| application.name.symbol == name)?;
-        Some(&found.network)
-    }
-
-    /// The instance at a path of two or more names, and the unit whose text declares it.
-    fn standing(&self, path: &[Symbol]) -> Option<(Symbol, &'a Instance)> {
-        let (application, names) = path.split_first()?;
-        let (first, inner) = names.split_first()?;
-        let mut unit = self.system;
-        let mut found = instance(self.application(*application)?, *first)?;
-        for name in inner {
-            unit = found.type_name.symbol;
-            let holder = unit_of(unit, self.sources).filter(|holder| holder.kind == UnitKind::Subapplication)?;
-            found = instance(&holder.network, *name)?;
-        }
-        Some((unit, found))
-    }
-
-    fn leads_nowhere(&self, path: &[Symbol]) -> bool {
-        match path {
-            [application] => self.application(*application).is_none(),
-            _ => self.standing(path).is_none_or(|(_, found)| found.role.is_adapter()),
+    fn new(system: &System, library: &'a Library) -> Planner<'a> {
+        let resources = resources(system);
+        Planner {
+            library,
+            mapped: Mapped::new(system, &resources),
+            resources,
+            homes: Vec::new(),
+            writes: Vec::new(),
+            constants: String::new(),
         }
     }
-}
 
-// ---- commands
-
-impl Planner<'_> {
-    fn resources(&self, flat: &Flat, homes: &Homes) -> Vec<Resource> {
-        let mut resources = self.resource_names();
-        let places: HashMap<String, usize> = resources.iter().enumerate().map(|(at, it)| (it.name.clone(), at)).collect();
-        let mut tell = |resource: &str, command: String| {
-            if let Some(place) = places.get(resource) {
-                resources[*place].commands.push(command);
-            }
-        };
-        for line in self.create_lines(flat, homes).into_iter().chain(self.write_lines(homes)) {
-            tell(&line.resource, line.command);
-        }
-        for link in &flat.links {
-            if let Some(resource) = shared_home(homes, link) {
-                tell(resource, format!("CREATE CONNECTION {} {}", link.from, link.to));
+    /// Goes over all that stands in the system.
+    fn applications(&mut self, unit: Symbol, system: &System, flat: &Flat) {
+        for (item, application) in flat.items.iter().zip(&system.applications) {
+            let place = self.mapped.meet(self.mapped.root(), item.name);
+            if let Some(inner) = &item.inner {
+                self.network(unit, &application.network, inner, place);
             }
         }
-        for resource in &mut resources {
-            resource.commands.push(format!("START {}", resource.name));
-        }
-        resources
     }
 
-    fn resource_names(&self) -> Vec<Resource> {
-        let devices = unit_of(self.system, self.sources).map_or(&[][..], |unit| &unit.system.devices);
-        let mut found = Vec::new();
-        for device in devices {
-            found.extend(device.resources.iter().map(|resource| Resource {
-                name: dotted(self.text(device.name.symbol), self.text(resource.symbol)),
-                commands: Vec::new(),
-            }));
-        }
-        found
-    }
-
-    fn create_lines(&self, flat: &Flat, homes: &Homes) -> Vec<Line> {
-        let lines = flat.blocks.iter().filter_map(|block| {
-            Some(Line {
-                place: block.path.clone(),
-                command: format!("CREATE FB {} {}", block.path, self.text(block.type_name)),
-                resource: homes.get(&block.path)?.clone(),
-            })
-        });
-        in_order(lines)
-    }
-
-    fn write_lines(&self, homes: &Homes) -> Vec<Line> {
-        let mut lines = Vec::new();
-        for (path, resource) in homes {
-            let names: Option<Vec<Symbol>> = path.split('.').map(|name| self.names.known(name)).collect();
-            let Some((unit, instance)) = names.and_then(|names| self.standing(&names)) else {
-                continue;
-            };
-            for (name, constant) in &instance.parameters {
-                let place = dotted(path, self.text(name.symbol));
-                let command = format!("WRITE {place} {}", self.written(unit, constant));
-                let resource = resource.clone();
-                lines.push(Line { place, command, resource });
+    /// Goes over a network that a unit declares, by its flat network.
+    fn network(&mut self, unit: Symbol, network: &Network, flat: &Flat, outer: Place) {
+        for item in &flat.items {
+            let place = self.mapped.meet(outer, item.name);
+            match &item.inner {
+                None => {
+                    self.writes_to(unit, &network.instances[item.place as usize]);
+                    self.homes.push(place.home);
+                }
+                Some(inner) => {
+                    if let Some(holder) = self.library.unit(item.type_name) {
+                        self.network(item.type_name, &holder.network, inner, place);
+                    }
+                }
             }
         }
-        in_order(lines.into_iter())
     }
 
-    /// A constant as the text has it, without blanks and comments between its tokens.
-    fn written(&self, unit: Symbol, constant: &Constant) -> String {
-        let span: Span = match constant {
+    /// Adds the parameters of the block that comes next.
+    fn writes_to(&mut self, unit: Symbol, instance: &Instance) {
+        for (name, constant) in &instance.parameters {
+            let start = self.constants.len();
+            self.add_constant(unit, constant);
+            self.writes.push(Write {
+                block: self.homes.len() as u32,
+                parameter: name.symbol,
+                constant: Span::new(start, self.constants.len()),
+            });
+        }
+    }
+
+    /// Adds a constant as the text has it, without blanks and comments between its tokens.
+    fn add_constant(&mut self, unit: Symbol, constant: &Constant) {
+        let span = match constant {
             Constant::One(simple) => simple.span,
             Constant::List(_, span) => *span,
         };
-        let part = self.sources.get(&unit).map_or("", |source| span.of(&source.text));
+        let part = self.library.get(unit).map_or("", |held| span.of(&held.source.text));
         let tokens = tokens(part).unwrap_or_default();
-        tokens.iter().map(|token| token.span.of(part)).collect()
+        self.constants.extend(tokens.iter().map(|token| token.span.of(part)));
     }
+
+    fn plan(self, system: &System, flat: Rc<Flat>, names: &Names) -> Plan {
+        let astray = self.astray(system, names);
+        let homes: Option<Vec<u32>> = self.homes.iter().copied().collect();
+        match homes {
+            Some(homes) if astray.is_empty() => Plan::Planned(Planned {
+                flat,
+                resources: self.resources,
+                homes,
+                writes: self.writes,
+                constants: self.constants,
+            }),
+            _ => {
+                let unmapped = self.unmapped(&flat, names);
+                Plan::Faulty { unmapped, astray }
+            }
+        }
+    }
+
+    /// The paths of blocks without homes, in order.
+    fn unmapped(&self, flat: &Flat, names: &Names) -> Vec<String> {
+        let shown = Shown::new(flat, names);
+        let homeless = shown.order.iter().filter(|number| self.homes[**number as usize].is_none());
+        homeless.map(|number| shown.path(*number).to_string()).collect()
+    }
+
+    /// The mapped paths at which nothing stands, in order, each once.
+    fn astray(&self, system: &System, names: &Names) -> Vec<String> {
+        let paths = system.mappings.iter().map(|mapping| &mapping.path);
+        let mut found: Vec<String> = paths.filter(|path| !self.mapped.is_met(path)).map(|path| dotted(path, names)).collect();
+        found.sort_unstable();
+        found.dedup();
+        found
+    }
+}
+
+fn dotted(path: &[Symbol], names: &Names) -> String {
+    let names: Vec<&str> = path.iter().map(|name| &**names.text(*name)).collect();
+    names.join(".")
+}
+
+/// All resources in the order of the text.
+fn resources(system: &System) -> Vec<Resource> {
+    let mut found = Vec::new();
+    for device in &system.devices {
+        let device_name = device.name.symbol;
+        found.extend(device.resources.iter().map(|resource| Resource {
+            device: device_name,
+            name: resource.symbol,
+        }));
+    }
+    found
 }

@@ -1,42 +1,88 @@
-//! Flat networks, composed of those of inner types. The units that are met have no faults, and none reaches itself.
+//! Flat networks, composed of those of inner types. A network keeps what it adds itself and shares the inner ones; blocks are numbers, in the
+//! order of the texts. The units that are met have no faults, and none reaches itself.
 
-use super::unit_of;
-use crate::library::Sources;
-use crate::names::{Names, Symbol};
+use super::MOST_INSTANCES;
+use crate::library::Library;
+use crate::names::Symbol;
 use crate::tree::{Connection, End, Instance, Network, Role, Side, Sort, Unit};
-use std::collections::HashMap;
 use std::rc::Rc;
 
 #[derive(Default)]
 pub struct Flat {
-    pub blocks: Vec<Block>,
-    /// By sort, and then by the bytes of both ends.
+    /// The instances of all depths.
+    instances: usize,
+    /// How many blocks there are in all depths.
+    pub blocks: u32,
+    /// Its blocks and subapplication instances in the order of the text, or the applications of a system.
+    pub items: Vec<Item>,
+    /// The links that hold one of its own connections, each once.
     pub links: Vec<Link>,
-    /// By sort, and then by the bytes of the port and of the place.
+    /// All borders by sort and port, each once.
     pub borders: Vec<Border>,
 }
 
-pub struct Block {
-    pub path: String,
+pub struct Item {
+    pub name: Symbol,
+    /// The type of an instance. An application has that of its system.
     pub type_name: Symbol,
+    /// Where it is declared, among the instances of the network or the applications of the system.
+    pub place: u32,
+    /// The number of its first block.
+    pub first: u32,
+    /// What stands in it, if it is no block.
+    pub inner: Option<Rc<Flat>>,
 }
 
-#[derive(Clone, PartialEq, Eq, PartialOrd, Ord)]
+/// A port of a block, or a port of the adapter there.
+#[derive(Clone, Copy, PartialEq, Eq, PartialOrd, Ord)]
+pub struct Spot {
+    pub block: u32,
+    pub port: Symbol,
+    pub member: Option<Symbol>,
+}
+
+#[derive(Clone, Copy, PartialEq, Eq, PartialOrd, Ord)]
 pub struct Link {
     pub sort: Sort,
-    pub from: String,
-    pub to: String,
+    pub from: Spot,
+    pub to: Spot,
 }
 
-#[derive(PartialEq, Eq, PartialOrd, Ord)]
+#[derive(Clone, Copy, PartialEq, Eq, PartialOrd, Ord)]
 pub struct Border {
     pub sort: Sort,
-    pub port: String,
-    pub place: String,
+    pub port: Symbol,
+    pub spot: Spot,
+}
+
+impl Spot {
+    /// The spot as it is seen where the blocks begin at this number.
+    pub fn behind(self, first: u32) -> Spot {
+        let block = first + self.block;
+        Spot { block, ..self }
+    }
+
+    fn member(self, name: Symbol) -> Spot {
+        let member = Some(name);
+        Spot { member, ..self }
+    }
 }
 
 impl Flat {
-    /// Puts links and borders in order, each once.
+    /// Adds an item, which holds so many instances.
+    fn add(&mut self, name: Symbol, type_name: Symbol, place: usize, inner: Option<Rc<Flat>>) {
+        let item = Item {
+            name,
+            type_name,
+            place: place as u32,
+            first: self.blocks,
+            inner,
+        };
+        self.blocks += item.inner.as_ref().map_or(1, |inner| inner.blocks);
+        self.instances += item.inner.as_ref().map_or(0, |inner| inner.instances);
+        self.items.push(item);
+    }
+
     fn sort(&mut self) {
         self.links.sort_unstable();
         self.links.dedup();
@@ -44,207 +90,138 @@ impl Flat {
         self.borders.dedup();
     }
 
-    /// Adds the blocks and links of another one, which stands under this name.
-    fn add_within(&mut self, name: &str, inner: &Flat) {
-        self.blocks.extend(inner.blocks.iter().map(|block| Block {
-            path: dotted(name, &block.path),
-            type_name: block.type_name,
-        }));
-        self.links.extend(inner.links.iter().map(|link| Link {
-            sort: link.sort,
-            from: dotted(name, &link.from),
-            to: dotted(name, &link.to),
-        }));
+    fn borders_of(&self, sort: Sort, port: Symbol) -> &[Border] {
+        let key = |border: &Border| (border.sort, border.port);
+        let start = self.borders.partition_point(|border| key(border) < (sort, port));
+        let len = self.borders[start..].partition_point(|border| key(border) == (sort, port));
+        &self.borders[start..start + len]
     }
 }
 
-pub fn dotted(first: &str, second: &str) -> String {
-    format!("{first}.{second}")
-}
-
-/// Composes flat networks, and keeps those of inner types.
+/// Composes flat networks of those of inner types.
 pub struct Composer<'a> {
-    sources: &'a Sources,
-    names: &'a Names,
-    counts: HashMap<Symbol, usize>,
-    flats: HashMap<Symbol, Rc<Flat>>,
-}
-
-/// The networks that a unit has: its own, or those of its applications.
-fn networks(unit: &Unit) -> impl Iterator<Item = &Network> {
-    let applications = unit.system.applications.iter().map(|application| &application.network);
-    std::iter::once(&unit.network).chain(applications)
-}
-
-// ---- counts
-
-impl<'a> Composer<'a> {
-    pub fn new(sources: &'a Sources, names: &'a Names) -> Composer<'a> {
-        Composer {
-            sources,
-            names,
-            counts: HashMap::new(),
-            flats: HashMap::new(),
-        }
-    }
-
-    /// How many instances of all depths the unit holds.
-    pub fn count(&mut self, unit: &Unit) -> usize {
-        let mut count = 0_usize;
-        for instance in networks(unit).flat_map(|network| &network.instances) {
-            if !instance.role.is_adapter() {
-                count = count.saturating_add(1).saturating_add(self.count_within(instance));
-            }
-        }
-        count
-    }
-
-    fn count_within(&mut self, instance: &Instance) -> usize {
-        let name = instance.type_name.symbol;
-        if instance.role != Role::Subapplication {
-            return 0;
-        }
-        if let Some(count) = self.counts.get(&name) {
-            return *count;
-        }
-        let count = unit_of(name, self.sources).map_or(0, |unit| self.count(unit));
-        self.counts.insert(name, count);
-        count
-    }
+    pub library: &'a Library,
+    /// The flat network of a subapplication type, or none where it is too large.
+    pub inner: &'a dyn Fn(Symbol) -> Option<Rc<Flat>>,
 }
 
 // ---- networks
 
-impl<'a> Composer<'a> {
-    pub fn unit(&mut self, unit: &Unit) -> Flat {
-        let mut flat = self.network(&unit.network);
-        for application in &unit.system.applications {
-            let inner = self.network(&application.network);
-            flat.add_within(self.text(application.name.symbol), &inner);
+impl Composer<'_> {
+    /// The flat network of a subapplication or a system, or none where it is too large.
+    pub fn unit(&self, unit: &Unit) -> Option<Flat> {
+        let mut flat = self.network(&unit.network)?;
+        for (place, application) in unit.system.applications.iter().enumerate() {
+            let inner = self.network(&application.network)?;
+            flat.add(application.name.symbol, unit.name.symbol, place, Some(Rc::new(inner)));
         }
-        flat.sort();
-        flat
+        (flat.instances <= MOST_INSTANCES).then_some(flat)
     }
 
-    fn text(&self, symbol: Symbol) -> &'a str {
-        self.names.text(symbol)
-    }
-
-    fn network(&mut self, network: &Network) -> Flat {
+    fn network(&self, network: &Network) -> Option<Flat> {
         let mut flat = Flat::default();
-        for instance in &network.instances {
-            self.instance(instance, &mut flat);
+        for (place, instance) in network.instances.iter().enumerate() {
+            self.instance(place, instance, &mut flat)?;
         }
+        let mut ends = Ends::default();
         for connection in &network.connections {
-            self.connection(network, connection, &mut flat);
+            self.connection(network, connection, &mut ends, &mut flat);
         }
         flat.sort();
-        flat
+        Some(flat)
     }
 
-    fn instance(&mut self, instance: &Instance, flat: &mut Flat) {
-        let name = self.text(instance.name.symbol);
+    fn instance(&self, place: usize, instance: &Instance, flat: &mut Flat) -> Option<()> {
         let type_name = instance.type_name.symbol;
-        match instance.role {
-            Role::Plug | Role::Socket => {}
-            Role::Block => {
-                let path = name.to_string();
-                flat.blocks.push(Block { path, type_name });
-            }
-            Role::Subapplication => {
-                let inner = self.inner(type_name);
-                flat.add_within(name, &inner);
-            }
-        }
-    }
-
-    /// The flat network of a subapplication type.
-    fn inner(&mut self, name: Symbol) -> Rc<Flat> {
-        if let Some(flat) = self.flats.get(&name) {
-            return flat.clone();
-        }
-        let flat = unit_of(name, self.sources).map_or_else(Flat::default, |unit| self.unit(unit));
-        let flat = Rc::new(flat);
-        self.flats.insert(name, flat.clone());
-        flat
+        let inner = match instance.role {
+            Role::Plug | Role::Socket => return Some(()),
+            Role::Block => None,
+            Role::Subapplication => Some((self.inner)(type_name)?),
+        };
+        flat.add(instance.name.symbol, type_name, place, inner);
+        flat.instances += 1;
+        (flat.instances <= MOST_INSTANCES).then_some(())
     }
 }
 
 // ---- connections
 
+/// The ports of blocks behind the ends of a connection.
+#[derive(Default)]
+struct Ends {
+    froms: Vec<Spot>,
+    tos: Vec<Spot>,
+}
+
 impl Composer<'_> {
-    fn connection(&mut self, network: &Network, connection: &Connection, flat: &mut Flat) {
+    fn connection(&self, network: &Network, connection: &Connection, ends: &mut Ends, flat: &mut Flat) {
         let sort = connection.sort;
-        let froms = self.behind(network, sort, &connection.source);
-        let tos = self.behind(network, sort, &connection.destination);
-        self.borders(sort, &connection.source, &tos, flat);
-        self.borders(sort, &connection.destination, &froms, flat);
-        for from in &froms {
-            for to in &tos {
+        spots_behind(network, sort, &connection.source, flat, &mut ends.froms);
+        spots_behind(network, sort, &connection.destination, flat, &mut ends.tos);
+        add_borders(sort, &connection.source, &ends.tos, flat);
+        add_borders(sort, &connection.destination, &ends.froms, flat);
+        for from in ends.froms.iter().copied() {
+            for to in ends.tos.iter().copied() {
                 match sort {
                     Sort::Adapter => self.adapter_links(network, &connection.source, from, to, flat),
-                    _ => flat.links.push(Link {
-                        sort,
-                        from: from.clone(),
-                        to: to.clone(),
-                    }),
+                    _ => flat.links.push(Link { sort, from, to }),
                 }
             }
         }
     }
 
-    /// The ports of blocks behind an end: none behind an own port.
-    fn behind(&mut self, network: &Network, sort: Sort, end: &End) -> Vec<String> {
-        let (Some(port), Some(place)) = (end.second, network.place(end.first)) else {
-            return Vec::new();
-        };
-        let (name, port) = (self.text(end.first), self.text(port));
-        let instance = &network.instances[place];
-        if instance.role != Role::Subapplication {
-            return vec![dotted(name, port)];
-        }
-        let inner = self.inner(instance.type_name.symbol);
-        let borders = inner.borders.iter().filter(|border| border.sort == sort && border.port == port);
-        borders.map(|border| dotted(name, &border.place)).collect()
-    }
-
-    /// The borders of an own port that is joined with these places.
-    fn borders(&self, sort: Sort, end: &End, places: &[String], flat: &mut Flat) {
-        if end.second.is_some() {
-            return;
-        }
-        let port = self.text(end.first);
-        flat.borders.extend(places.iter().map(|place| Border {
-            sort,
-            port: port.to_string(),
-            place: place.clone(),
-        }));
-    }
-
     /// The links of the events and data of an adapter: its outputs go from the plug to the socket, its inputs back.
-    fn adapter_links(&self, network: &Network, source: &End, plug: &str, socket: &str, flat: &mut Flat) {
-        let adapter = adapter_name(network, source, self.sources).and_then(|name| unit_of(name, self.sources));
+    fn adapter_links(&self, network: &Network, source: &End, plug: Spot, socket: Spot, flat: &mut Flat) {
+        let adapter = self.adapter_name(network, source).and_then(|name| self.library.unit(name));
         let Some(adapter) = adapter else {
             return;
         };
         let events = adapter.interface.events.iter().map(|event| (Sort::Event, event.side, event.name));
         let variables = adapter.interface.variables.iter().map(|it| (Sort::Data, it.side, it.name));
         for (sort, side, name) in events.chain(variables) {
-            let (plug, socket) = (dotted(plug, self.text(name.symbol)), dotted(socket, self.text(name.symbol)));
+            let (plug, socket) = (plug.member(name.symbol), socket.member(name.symbol));
             let (from, to) = if side == Side::Output { (plug, socket) } else { (socket, plug) };
             flat.links.push(Link { sort, from, to });
         }
     }
+
+    /// The adapter type of the plug or socket that an end names.
+    fn adapter_name(&self, network: &Network, end: &End) -> Option<Symbol> {
+        let type_name = network.instances[network.place(end.first)?].type_name.symbol;
+        match end.second {
+            None => Some(type_name),
+            Some(port) => {
+                let inner = &self.library.unit(type_name)?.network;
+                Some(inner.instances[inner.place(port)?].type_name.symbol)
+            }
+        }
+    }
 }
 
-/// The adapter type of the plug or socket that an end names.
-fn adapter_name(network: &Network, end: &End, sources: &Sources) -> Option<Symbol> {
-    let type_name = network.instances[network.place(end.first)?].type_name.symbol;
-    match end.second {
-        None => Some(type_name),
-        Some(port) => {
-            let inner = &unit_of(type_name, sources)?.network;
-            Some(inner.instances[inner.place(port)?].type_name.symbol)
-        }
+/// Finds the ports of blocks behind an end: none behind an own port.
+fn spots_behind(network: &Network, sort: Sort, end: &End, flat: &Flat, found: &mut Vec<Spot>) {
+    found.clear();
+    let (Some(port), Some(place)) = (end.second, network.place(end.first)) else {
+        return;
+    };
+    let Ok(at) = flat.items.binary_search_by_key(&(place as u32), |item| item.place) else {
+        return;
+    };
+    let item = &flat.items[at];
+    match &item.inner {
+        None => found.push(Spot {
+            block: item.first,
+            port,
+            member: None,
+        }),
+        Some(inner) => found.extend(inner.borders_of(sort, port).iter().map(|border| border.spot.behind(item.first))),
+    }
+}
+
+/// Adds the borders of an own port that is joined with these spots.
+fn add_borders(sort: Sort, end: &End, spots: &[Spot], flat: &mut Flat) {
+    if end.second.is_none() {
+        let port = end.first;
+        flat.borders.extend(spots.iter().map(|spot| Border { sort, port, spot: *spot }));
     }
 }

@@ -1,22 +1,51 @@
-//! Which types reach themselves.
+//! Which types reach themselves, and an order of those that don't.
 
-use super::unit_of;
-use crate::library::Sources;
+use crate::library::Library;
 use crate::names::Symbol;
-use crate::tree::Unit;
-use std::collections::HashSet;
+use std::collections::{HashMap, HashSet};
 
 /// Those of the names that reach themselves by one or more mentions.
-pub fn recursive(names: &[Symbol], sources: &Sources) -> Vec<Symbol> {
-    names.iter().copied().filter(|name| reaches_itself(*name, sources)).collect()
+pub fn recursive(names: &[Symbol], library: &Library) -> Vec<Symbol> {
+    names.iter().copied().filter(|name| reaches_itself(*name, library)).collect()
 }
 
-fn reaches_itself(name: Symbol, sources: &Sources) -> bool {
+fn reaches_itself(name: Symbol, library: &Library) -> bool {
     let mut seen = HashSet::new();
     let mut left = vec![name];
     while let Some(next) = left.pop() {
-        let mentions = unit_of(next, sources).into_iter().flat_map(Unit::mentions);
-        left.extend(mentions.filter(|mentioned| seen.insert(*mentioned)));
+        left.extend(library.mentions(next).iter().filter(|mentioned| seen.insert(**mentioned)));
     }
     seen.contains(&name)
+}
+
+enum Step {
+    Enter(Symbol),
+    Leave(Symbol),
+}
+
+/// The unit and what it rests on, each after all that it mentions, or none where one of them reaches itself. Names that are done are passed
+/// over with all that they rest on, of which none reaches itself.
+pub fn inner_first(unit: Symbol, library: &Library, is_done: &dyn Fn(Symbol) -> bool) -> Option<Vec<Symbol>> {
+    let mut found = Vec::new();
+    let mut was_left = HashMap::new();
+    let mut steps = vec![Step::Enter(unit)];
+    while let Some(step) = steps.pop() {
+        match step {
+            Step::Leave(name) => {
+                was_left.insert(name, true);
+                found.push(name);
+            }
+            Step::Enter(name) => match was_left.get(&name) {
+                Some(true) => {}
+                Some(false) => return None,
+                None if is_done(name) => {}
+                None => {
+                    was_left.insert(name, false);
+                    steps.push(Step::Leave(name));
+                    steps.extend(library.mentions(name).iter().copied().map(Step::Enter));
+                }
+            },
+        }
+    }
+    Some(found)
 }
