@@ -22,7 +22,7 @@ use Rattle.fb_entries.specs.Index.Near.{Users}
 use Rattle.fb_entries.specs.Indexed.{IsIndexOf, IsReached}
 use Rattle.fb_entries.proofs.Jobs.KindLemmas.{in_all_keys}
 use Rattle.fb_entries.proofs.Members.{of_filtered}
-use Rattle.fb_bench.proofs.Renewing.{held_all_edited, agree_unreached, ScratchLocal, blank_fits, kept_fits, gone_fits}
+use Rattle.fb_bench.proofs.Renewing.{held_all_edited, agree_unreached, ScratchLocal, waiting_fits, kept_fits, gone_fits}
 use Rattle.fb_entries.proofs.Reached.{reached_by}
 
 -- ---- a key of no changed unit
@@ -74,7 +74,7 @@ module _ (law : ScratchLocal) (commit : ℕ) (es : List Edit) (s : State) (q : K
 
   renewed_fits : (o1 o3 : Option Entry) → is_none o1 ≡ false → o3 ≡ waiting_if true o1 → has_key U q ≡ true → (not (has_key s.units q) || reaches D U q) ≡ true → EntryFits (after_done commit es s) q o3
   renewed_fits None o3 there renewed has new = cc
-  renewed_fits (Some it) o3 there renewed has new = subst (λ o. EntryFits (after_done commit es s) q o) (sym renewed) (blank_fits commit es s q has new)
+  renewed_fits (Some it) o3 there renewed has new = subst (λ o. EntryFits (after_done commit es s) q o) (sym renewed) (waiting_fits commit es s q has new it)
 
   same_fits : (o : Option Entry) → EntryFits s q o → has_key U q ≡ true → has_key s.units q ≡ true → reaches D U q ≡ false → EntryFits (after_done commit es s) q o
   same_fits None fits has had missed = let no : has_key s.units q ≡ false = fits.0 in cc

@@ -22,10 +22,11 @@ abbrev pub IsScratch : Texts → Key → Option (Arc Value Global) → Type 0
 IsScratch texts key None = Unit {0}
 IsScratch texts key (Some value) = finding_of value.value ≡ scratch texts key
 
--- an entry for each key of the texts, and for no other, with its marks and its value
+-- an entry for each key of the texts, and for no other, with its marks, its value and what was found for it
 abbrev pub EntryFits : State → Key → Option Entry → Type 0
 EntryFits state key None = (has_key state.units key ≡ false) × (state.pending key ≡ false) × (state.out key ≡ false)
-EntryFits state key (Some it) = (has_key state.units key ≡ true) × (state.pending key ≡ is_none it.value) × (state.out key ≡ it.out) × IsScratch state.units key it.value
+EntryFits state key (Some it) =
+    (has_key state.units key ≡ true) × (state.pending key ≡ is_none it.value) × (state.out key ≡ it.out) × IsScratch state.units key it.value × IsScratch state.units key it.found
 
 -- what is kept agrees with a state
 pub record Agrees (units : Texts) (commits : ℕ) (entries : tree.BTreeMap Key Entry) (ready waiting : set.BTreeSet Key) (state : State) : Type 0 where

@@ -6,10 +6,11 @@ ghost use Rattle.fb_bench.specs.Records.{job_in};
 
 use crate::answers::{Answered, Taken};
 use crate::commit::{Outcome, first_changes, outcome_of, record_with_room};
+use crate::found::{keep_all, shares_of};
 use crate::peek::Shown;
 use crate::request::{Request, call_of_result, reply_of_job};
 use fb_entries::index::Index;
-use fb_entries::jobs::{Finished, Job, Key, Read, current_reads, locality};
+use fb_entries::jobs::{Finished, Job, Key, Read, current_nets, current_reads, locality};
 use fb_entries::library::{Change, Library};
 use fb_entries::{Entries, join, keep, leave, mark_out};
 use fb_history::{
@@ -57,6 +58,7 @@ impl Bench {
     ghost use Rattle.fb_history.specs.declared.answers.Delivered.TheVariants.{Accepted};
     ghost use Rattle.fb_history.specs.Story.{IsOrigin, IsFull, new_story, state_of, reply_at, recorded, record_of, record_at, calls_of, IsReplay, AreTurns};
     ghost use Rattle.fb_bench.specs.Records.{call_of, reply_of, shown_in, job_in, commit_of};
+    ghost use Rattle.fb_bench.specs.Founds.{HasNetsOf};
     ghost use Rattle.fb_bench.specs.Refusals.{IsFullRefusal};
     ghost use Rattle.fb_bench.specs.Requests.{call_for, reply_in};
     ghost use Rattle.fb_bench.specs.Peeks.{shown_by, is_pending};
@@ -261,7 +263,7 @@ impl Bench {
         ensures answer { IfOk result (λ made. reply_of made.1 ≡ reply_at self.now ToTake) }
     {
         let wanted = key;
-        let job = Job::make(self.alloc, &self.library, wanted, &self.entries)?;
+        let job = Job::for_kept(self.alloc, &self.library, wanted, &self.entries)?;
         let answer = reply_of_job(self.alloc, &job)?;
         Ok((job, answer))
     }
@@ -382,6 +384,7 @@ impl Bench {
         match answer {
             Delivered::Accepted => {
                 current_reads();
+                current_nets();
                 let share = self.take_in(caller, call, finished)?;
                 Ok((Delivered::Accepted, share))
             }
@@ -394,7 +397,7 @@ impl Bench {
         }
     }
 
-    /// Records a result that is accepted, and keeps its value.
+    /// Records a result that is accepted, and keeps its value and the nets that were found on the way.
     fn take_in(
         &mut self,
         caller: u32,
@@ -406,16 +409,19 @@ impl Bench {
         requires accepted { Accepted ≡ deliver_answer (state_of self.old) finished.now }
         requires value { scratch (state_of self.old).units finished.now.key
             ≡ scratch (read_texts finished.now.reads) finished.now.key }
+        requires nets { HasNetsOf (state_of self.old).units finished.now }
         ensures step { OnOk result (self.new ≡ recorded self.old caller (ToDeliver finished.now)) }
         ensures share { IfOk result
             (λ it. it.value ≡ record_of self.old caller (ToDeliver finished.now)) }
         ensures err { OnErr result (self.new ≡ self.old) }
     {
         let value = finished.value().clone()?;
+        let found = shares_of(self.alloc, finished.found())?;
         let answer = Reply::Delivering(None);
         let share = self.history.push(caller, call, answer)?;
         let key = finished.key();
         keep(&mut self.entries.by_key, &key, value);
+        keep_all(&mut self.entries.by_key, found);
         leave(&mut self.entries.ready, &key);
         leave(&mut self.entries.waiting, &key);
         Ok(share)

@@ -19,6 +19,11 @@ abbrev pub kept_in : Option Entry → Option Finding
 kept_in None = None
 kept_in (Some it) = option_map (λ value. finding_of value.value) it.value
 
+-- the value that was found for it
+abbrev pub found_in : Option Entry → Option Finding
+found_in None = None
+found_in (Some it) = option_map (λ value. finding_of value.value) it.found
+
 -- the units of the changes
 abbrev pub units_of : List Change → List (List ℕ)
 units_of changes = map unit_of (edits_of changes)

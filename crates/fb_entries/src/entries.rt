@@ -170,13 +170,35 @@ impl Entries {
 }
 
 impl Kept for Entries {
-    ghost use Rattle.fb_entries.specs.Found.{kept_in};
+    ghost use Rattle.fb_entries.specs.Found.{found_in, kept_in};
 
     ghost kept = { λ it key. kept_in (tree.get key_cmp it.by_key key) };
+
+    ghost found = { λ it key. found_in (tree.get key_cmp it.by_key key) };
 
     fn value(&self, key: &Key) -> Option<&Arc<Value>> {
         match self.by_key.get(key) {
             Some(entry) => match &entry.value {
+                Some(value) => Some(value),
+                None => None,
+            },
+            None => None,
+        }
+    }
+
+    fn found(&self, key: &Key) -> Option<&Arc<Value>> {
+        match self.by_key.get(key) {
+            Some(entry) => match &entry.found {
+                Some(value) => Some(value),
+                None => None,
+            },
+            None => None,
+        }
+    }
+
+    fn former(&self, key: &Key) -> Option<&Arc<Value>> {
+        match self.by_key.get(key) {
+            Some(entry) => match &entry.former {
                 Some(value) => Some(value),
                 None => None,
             },

@@ -133,11 +133,7 @@ pub(crate) fn put_blank(entries: &mut BTreeMap<Key, Entry>, keys: &[Key]) -> Res
     ensures there { OnOk result (HasEntries keys.now entries.new) }
 {
     for key in keys {
-        let blank = Entry {
-            value: None,
-            out: false,
-        };
-        if entries.insert(*key, blank).is_err() {
+        if entries.insert(*key, Entry::blank()).is_err() {
             return Err(AllocError);
         }
     }

@@ -20,6 +20,7 @@ take_in-requires c =
       room = search rules;
       call = c.in_ok-call.ensures;
       accepted = accepted;
+      nets = λ hint is. c.current_nets.ensures (state_of c.args.self.now).units now hint c.reads.ensures.right (accepted_fresh (state_of c.args.self.now) now accepted) is;
       value = c.current_reads.ensures (state_of c.args.self.now).units now c.reads.ensures.right (accepted_fresh (state_of c.args.self.now) now accepted);
     }
 
