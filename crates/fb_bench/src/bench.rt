@@ -64,6 +64,7 @@ impl Bench {
     ghost use Rattle.fb_bench.specs.Peeks.{shown_by, is_pending};
     ghost use Rattle.fb_history.specs.Due.{is_due};
     ghost use Rattle.fb_history.specs.Laws.{entry_after};
+    ghost use Rattle.fb_entries.specs.Indexed.{IsIndexOf};
     ghost use Rattle.fb_entries.specs.Library.Texts.{held, revision_of};
 
     /// An empty workbench. It keeps the allocator for all its calls.
@@ -209,6 +210,13 @@ impl Bench {
         ensures { result ≡ revision_of (held (state_of self.now).units unit.now) }
     {
         self.library.revision(unit)
+    }
+
+    /// What the units of the present texts mention, by which a commit finds what it reaches.
+    pub fn index(&self) -> &Index
+        ensures { IsIndexOf (state_of self.now).units result.now }
+    {
+        &self.index
     }
 
     /// The least key that is pending and not handed out.

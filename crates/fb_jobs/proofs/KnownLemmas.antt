@@ -10,7 +10,7 @@ use Rattle.std.specs.Cmp.Lexicographic.{nat_list_cmp_total}
 use Rattle.std.specs.FinMap.{slice_cmp-IsAntisymmetric, nat_cmp-IsAntisymmetric}
 use Rattle.std.specs.declared.sync.Arc.{Arc}
 use Rattle.std.specs.declared.alloc.Global.{Global}
-use Rattle.std.proofs.lemmas.List.Elements.{All-contains, Contains-append_cases}
+use Rattle.std.proofs.lemmas.List.Elements.{All-contains, Contains-append_cases, Contains-append_left, Contains-append_right}
 use Rattle.fb_text.specs.Order.{name_cmp}
 use Rattle.fb_text.proofs.OrderLemmas.{in_order-members}
 use Rattle.fb_text.proofs.Members.{contains_nothing, contains_cases, contains_here, contains_later}
@@ -33,17 +33,18 @@ use Rattle.fb_jobs.specs.declared.key.Key.{Key}
 use Rattle.fb_jobs.specs.declared.read.Read.{Read}
 use Rattle.fb_jobs.specs.declared.value.Value.{Value}
 use Rattle.fb_jobs.specs.declared.value.Value.TheVariants.{Faults, Net, Deploy}
-use Rattle.fb_jobs.specs.Hints.{AreHints, IsHint, IsNetOf, net_key}
+use Rattle.fb_jobs.specs.Hints.{AreChosen, AreHints, IsHint, IsNetOf, net_key}
 use Rattle.fb_jobs.specs.Keys.{Finding, FaultsFound, NetFound, has_key, needs, needs_of, net_finding, scratch}
 use Rattle.fb_jobs.specs.Kept.{AreKept}
 use Rattle.fb_jobs.specs.Kinds.{needs_all}
-use Rattle.fb_jobs.specs.Known.{AddsFaultless, AddsNet, AreFaultlessAmong, AreNetsOf, AreWithoutFaults, IsKeptFaultless, IsNetOfUnit, IsOwnNet, IsThere, Nets, faults_key, hint_in, net_in}
+use Rattle.fb_jobs.specs.declared.known.Knowledge.{Knowledge}
+use Rattle.fb_jobs.specs.Known.{IsKnowledge, AddsFaultless, AddsNet, AreFaultlessAmong, AreNetsOf, AreWithoutFaults, IsKeptFaultless, IsNetOfUnit, IsOwnNet, IsThere, Nets, faults_key, hint_in, net_in}
 use Rattle.fb_jobs.specs.Reads.{Seen, is_among, read_names, read_texts, reads_for}
 use Rattle.fb_jobs.specs.Values.{all_seen, finding_of}
 use Rattle.fb_jobs.specs.Work.{IsOwnIn}
 use Rattle.fb_jobs.proofs.SameNeeds.{has_key_local, scratch_local, same_at, at_itself, unit_needed}
 use Rattle.fb_jobs.proofs.Currents.{agree_for, names_under}
-use Rattle.fb_jobs.proofs.HintLemmas.{net_stays, rests_on}
+use Rattle.fb_jobs.proofs.HintLemmas.{chosen_hints, hints_stay, net_stays, rests_on}
 
 -- ---- nets by the names of their units
 
@@ -155,3 +156,22 @@ faultless_in T units are name has = let it = are name has in unblocked T name it
 
 pub no_units : (T : Texts) (units : set.BTreeSet (List ℕ)) → units.keys ≡ [] → AreWithoutFaults T units
 no_units T units empty name has = ?
+
+pub hints_alone : (T : Texts) (key : Key) (hints : List Hint) (it : Knowledge) → AreHints T key hints → it.hints.items ≡ hints → it.own ≡ None → it.faultless.keys ≡ [] → IsKnowledge (read_texts (reads_for T key)) key it
+hints_alone T key hints it right is none empty = record {
+  hints_are = subst (AreHints (read_texts (reads_for T key)) key) (sym is) (hints_stay T key hints right);
+  own_is = λ value there. absurd (no_value it.own value none there);
+  faultless_are = no_units (read_texts (reads_for T key)) it.faultless empty;
+}
+  where
+    no_value : (o : Option (Arc Value Global)) (value : Arc Value Global) → o ≡ None → o ≡ Some value → ⊥
+    no_value None value none there = cc
+    no_value (Some v) value none there = cc
+
+-- what is kept of what the key needs
+pub kept_known : (T : Texts) (key : Key) (kept found : Key → Option Finding) (it : Knowledge) → AreKept T kept → AreKept T found → needs_all key.kind ≡ true → AreChosen T kept key.unit (reads_for T key) it.hints.items → IsOwnNet kept found key.unit it.own → AreFaultlessAmong T kept (reads_for T key) it.faultless → IsKnowledge (read_texts (reads_for T key)) key it
+kept_known T key kept found it right right_found all chosen own faultless = record {
+  hints_are = hints_stay T key it.hints.items (chosen_hints T kept key it.hints.items right all chosen);
+  own_is = own_stays T key kept found it.own right right_found all own;
+  faultless_are = faultless_stay T key kept it.faultless right all faultless;
+}

@@ -4,7 +4,7 @@ use Rattle.std.specs.declared.sync.Arc.{Arc}
 use Rattle.std.specs.declared.alloc.Global.{Global}
 use Rattle.fb_jobs.specs.Keys.{scratch}
 use Rattle.fb_jobs.specs.Reads.{PlainJob, IsRight, read_texts}
-use Rattle.fb_jobs.specs.Values.{finding_of, all_seen, texts_seen, IsOwn}
+use Rattle.fb_jobs.specs.Values.{finding_of, all_seen, texts_seen, IsOwn, IsOwnText}
 use Rattle.fb_jobs.specs.Known.{IsKnowledge}
 use Rattle.fb_jobs.specs.Work.{IsFoundFor}
 use Rattle.fb_jobs.specs.declared.hints.Hint.{Hint}
@@ -22,6 +22,7 @@ pub record IsJob (key : Key) (reads : List Read) (texts : List TextRead) : Type 
   pub right : IsRight (plain_job key reads)
   pub own : All IsOwn reads
   pub texts_are : texts_seen texts ≡ all_seen reads
+  pub texts_own : All IsOwnText texts
 
 -- and what is known beside them is what the reads give
 pub record IsGiven (key : Key) (reads : List Read) (texts : List TextRead) (knowledge : Knowledge) : Type 0 where

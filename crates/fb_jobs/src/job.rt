@@ -12,7 +12,7 @@ ghost use Rattle.fb_jobs.specs.Kept.{AreKept};
 ghost use Rattle.fb_jobs.specs.Keys.{has_key};
 ghost use Rattle.fb_jobs.specs.Known.{IsKnowledge};
 ghost use Rattle.fb_jobs.specs.Reads.{IsRight, read_names, read_texts, reads_for};
-ghost use Rattle.fb_jobs.specs.Values.{all_seen, texts_seen, IsOwn};
+ghost use Rattle.fb_jobs.specs.Values.{all_seen, texts_seen, IsOwn, IsOwnText};
 
 use crate::computed::work_of;
 use crate::hints::Hint;
@@ -137,7 +137,8 @@ impl Job {
 
     /// The texts of the reads, to be kept.
     pub fn texts(&self) -> &Arc<Vec<TextRead>>
-        ensures { texts_seen result.now.value.items ≡ self.now.reads }
+        ensures same { texts_seen result.now.value.items ≡ self.now.reads }
+        ensures own { All IsOwnText result.now.value.items }
     {
         &self.texts
     }

@@ -3,7 +3,7 @@ ghost use Rattle.std.specs.Prelude.{◌≡◌, All};
 ghost use Rattle.fb_jobs.specs.Finished.{IsFinished, plain_job};
 ghost use Rattle.fb_jobs.specs.Keys.{scratch};
 ghost use Rattle.fb_jobs.specs.Reads.{IsRight, read_texts};
-ghost use Rattle.fb_jobs.specs.Values.{all_seen, finding_of, texts_seen, IsOwn};
+ghost use Rattle.fb_jobs.specs.Values.{all_seen, finding_of, texts_seen, IsOwn, IsOwnText};
 ghost use Rattle.fb_jobs.specs.Work.{IsFoundFor};
 
 use crate::computed::Worked;
@@ -69,7 +69,8 @@ impl Finished {
 
     /// The texts of the reads, to be kept.
     pub fn texts(&self) -> &Arc<Vec<TextRead>>
-        ensures { texts_seen result.now.value.items ≡ self.now.reads }
+        ensures same { texts_seen result.now.value.items ≡ self.now.reads }
+        ensures own { All IsOwnText result.now.value.items }
     {
         &self.texts
     }
