@@ -4,12 +4,14 @@ use Rattle.std.specs.BTreeMap.{get}
 use Rattle.fb_wiring.specs.Text.Order.{name_cmp}
 use Rattle.fb_wiring.specs.Tree.Tree.{decl_tree}
 use Rattle.fb_wiring.specs.Library.View.{tree_at}
+use Rattle.fb_wiring.specs.Network.PlainFlat.{PlainFlat}
+use Rattle.fb_wiring.specs.Units.{IsUnitFlat}
 use Rattle.fb_wiring.specs.declared.systems.Application.{Application}
 use Rattle.fb_flatten.specs.Tables.{AreComposedTogether, known_flats}
 use Rattle.fb_flatten.proofs.CountLemmas.{in_table}
 use Rattle.fb_flatten.proofs.FlatsLemmas.{flat_of_system_is, flat_of_type_is}
 use Rattle.fb_flatten.proofs.SoundLemmas.{sound_tree}
-use Rattle.fb_wiring.proofs.FoundUnits.{if_ok, present_of, some_of_map}
+use Rattle.fb_wiring.proofs.FoundUnits.{present_of, some_of_map}
 use Rattle.fb_flatten.proofs.units.flat_of_unit.Goals as goal
 
 pub unwrap-decl-requires : goal.unwrap-decl-requires
@@ -20,19 +22,9 @@ unwrap-decl-requires g c =
 pub flat_of_type-requires : goal.flat_of_type-requires
 flat_of_type-requires g c = in_table c.requires.order.names c.requires.table c.args.unit.now c.requires.order.own
 
-pub returns-then-is_of_system : goal.returns-then-is_of_system
-returns-then-is_of_system g c =
-    let present : tree_at (g.V.View.sources c.args.view.now) c.args.unit.now ≡ Some (decl_tree c.unwrap-decl.result.now) = present_of _ c.tree_by_name.ensures c.unwrap-decl.ensures in
-    let table = get name_cmp c.args.table.now in
-    let nets = known_flats (g.H.Hints.hints c.args.hints.now) (get name_cmp c.in_ok-composed.composed) in
-    if_ok c.flat_of_applications.result
-    (λ flat f. flat_of_system_is c.requires.order c.requires.table nets (decl_tree c.unwrap-decl.result.now) present (sym c.is_of_system.ensures ∙ c.if-is_of_system.true) c.in_ok-composed.ensures c.requires.small
-    (subst (λ (l : List Application). AreComposedTogether table nets l flat) (c.as_slice.ensures.value ∙ c.in_ok-found.ensures) f))
-    c.flat_of_applications.ensures
-
 pub returns : goal.returns
 returns g c =
     let present : tree_at (g.V.View.sources c.args.view.now) c.args.unit.now ≡ Some (decl_tree c.unwrap-decl.result.now) = present_of _ c.tree_by_name.ensures c.unwrap-decl.ensures in
-    if_ok c.flat_of_type.result
-    (λ flat f. flat_of_type_is c.requires.order c.requires.table (decl_tree c.unwrap-decl.result.now) c.requires.net present (sym c.is_of_system.ensures ∙ c.if-is_of_system.false) c.in_ok-composed.ensures c.requires.small f)
-    c.flat_of_type.ensures
+    let table = get name_cmp c.args.table.now in
+    let nets = known_flats (g.H.Hints.hints c.args.hints.now) (get name_cmp c.in_ok-flats.flats) in
+    ?

@@ -4,7 +4,7 @@ use Rattle.std.specs.Prelude.{IfOk}
 use Rattle.fb_wiring.proofs.Library.FarLemmas.{one_list}
 use Rattle.fb_flatten.specs.Far.{far_of}
 use Rattle.fb_flatten.proofs.FarNames.{far_is_all}
-use Rattle.fb_flatten.proofs.computed.all_far.Goals as goal
+use Rattle.fb_flatten.proofs.far.all_far.Goals as goal
 
 all_three : {X E : Type 0} (r : Result X E) (P Q R S : X → Type 0) → ((x : X) → P x → Q x → R x → S x) → IfOk r P → IfOk r Q → IfOk r R → IfOk r S
 all_three (Ok x) P Q R S f p q s = f x p q s
