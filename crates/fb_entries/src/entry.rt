@@ -91,8 +91,8 @@ pub(crate) fn renew(entries: &mut BTreeMap<Key, Entry>, key: &Key)
 {
     if let Some(entry) = entries.get_mut(key) {
         let former = last_of(entry.value.take(), entry.former.take());
+        let _ = entry.found.take();
         entry.out = false;
-        entry.found = None;
         entry.former = former;
     }
 }
