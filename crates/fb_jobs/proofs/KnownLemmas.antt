@@ -1,6 +1,7 @@
 -- What a job knows beside its reads holds in them.
-use Rattle.std.proofs.Common.{◌≡◌, ◌⊎◌, inl, inr, ℕ, Bool, true, false, cond, ◌||◌, is_none, List, [], ◌∷◌, ◌++◌, refl, sym, ap, subst, ◌∙◌, Option, Some, None, Contains, All}
+use Rattle.std.proofs.Common.{◌≡◌, ◌⊎◌, inl, inr, ℕ, Bool, true, false, true≢false, cond, ◌||◌, is_none, is_some, List, [], ◌∷◌, ◌++◌, refl, sym, ap, subst, ◌∙◌, Option, Some, None, Contains, All}
 use Rattle.std.specs.Map.{lookup}
+use Rattle.std.specs.List.{list_any}
 use Rattle.std.specs.FinMap.{get}
 use Rattle.std.specs.BTreeMap as tree
 use Rattle.std.specs.BTreeMap.{is_at}
@@ -20,6 +21,7 @@ use Rattle.fb_deploy.specs.Library.Rests.{Rests, itself, through}
 use Rattle.fb_deploy.proofs.Library.Sources.{get_source}
 use Rattle.fb_deploy.proofs.Library.WalkLemmas.{has-Contains, Contains-has}
 use Rattle.fb_deploy.specs.Faults.Faults.{faults_of}
+use Rattle.fb_deploy.specs.Iface.declared.fault.Fault.{Fault}
 use Rattle.fb_deploy.specs.Flatten.Blocking.{is_blocking, is_some_fault}
 use Rattle.fb_deploy.specs.Flatten.Far.{far_of}
 use Rattle.fb_deploy.specs.Flatten.Hints.{AreFaultless, AreRightHints}
@@ -147,15 +149,63 @@ faultless_stay T key kept units right all among name has =
     let agree = λ n near. agree_for T key n (faults_needed T key name n all needed near) in
     (has_key_local T read (faults_key name) agree ∙ it.1, scratch_local T read (faults_key name) agree ∙ sym (right (faults_key name) (FaultsFound []) it.2))
 
+-- gathered read by read
+no_member : (units : set.BTreeSet (List ℕ)) (name : List ℕ) → units.keys ≡ [] → set.contains name_cmp units name ≡ true → ⊥
+no_member units name empty has =
+    let none : set.contains name_cmp units name ≡ false = ap (λ ks. list_any (is_at (name_cmp name)) ks) empty in absurd (true≢false (sym has ∙ none))
+
+pub none_faultless : (T : Texts) (kept : Key → Option Finding) (reads : List Seen) (units : set.BTreeSet (List ℕ)) → units.keys ≡ [] → AreFaultlessAmong T kept reads units
+none_faultless T kept reads units empty name has = absurd (no_member units name empty has)
+
+or_first : (a b c : Bool) → (b ≡ true → c ≡ true) → (a || b) ≡ true → (a || c) ≡ true
+or_first true b c step e = refl
+or_first false b c step e = step e
+
+or_last : (a b : Bool) → b ≡ true → (a || b) ≡ true
+or_last true b e = refl
+or_last false b e = e
+
+among_more : (name : List ℕ) (reads : List Read) (read : Read) → is_among name (read_names (all_seen reads)) ≡ true → is_among name (read_names (all_seen (reads ++ read ∷ []))) ≡ true
+among_more name [] read e = cc
+among_more name (r ∷ reads) read e = or_first (is_at (name_cmp name) r.name) _ _ (among_more name reads read) e
+
+among_last : (reads : List Read) (read : Read) → is_among read.name (read_names (all_seen (reads ++ read ∷ []))) ≡ true
+among_last [] read = ap (λ b. b || false) (at_itself read.name)
+among_last (r ∷ reads) read = or_last (is_at (name_cmp read.name) r.name) _ (among_last reads read)
+
+pub one_more_faultless : (T : Texts) (kept : Key → Option Finding) (before now : List Read) (read : Read) (old new : set.BTreeSet (List ℕ)) → now ≡ before ++ read ∷ [] → AreFaultlessAmong T kept (all_seen before) old → AddsFaultless T kept read.name old new → AreFaultlessAmong T kept (all_seen now) new
+one_more_faultless T kept before now read old new more so_far adds name has =
+    subst (λ (reads : List Read). (is_among name (read_names (all_seen reads)) ≡ true) × IsThere T name × IsKeptFaultless kept name) (sym more)
+    (elim (adds name has) [
+      | inl was ↦ let it = so_far name was in (among_more name before read it.0, (it.1, it.2))
+      | inr is ↦ (subst (λ n. is_among n (read_names (all_seen (before ++ read ∷ []))) ≡ true) (sym is.0) (among_last before read), (is.1, is.2))
+    ])
+
+put_unit : (T : Texts) (kept : Key → Option Finding) (name other : List ℕ) (old new same : Bool) → is_at (name_cmp name) other ≡ same → new ≡ cond same true old → IsThere T name → IsKeptFaultless kept name → new ≡ true → (old ≡ true) ⊎ ((other ≡ name) × IsThere T other × IsKeptFaultless kept other)
+put_unit T kept name other old new true is now there none has =
+    let named : name ≡ other = same_at name other is in
+    inr (sym named, (subst (IsThere T) named there, subst (IsKeptFaultless kept) named none))
+put_unit T kept name other old new false is now there none has = inl (sym now ∙ has)
+
+pub adds_unit : (T : Texts) (kept : Key → Option Finding) (name : List ℕ) (old new : set.BTreeSet (List ℕ)) → IsThere T name → IsKeptFaultless kept name → ((other : List ℕ) → set.contains name_cmp new other ≡ cond (is_at (name_cmp name) other) true (set.contains name_cmp old other)) → AddsFaultless T kept name old new
+adds_unit T kept name old new there none now other has =
+    put_unit T kept name other (set.contains name_cmp old other) (set.contains name_cmp new other) (is_at (name_cmp name) other) refl (now other) there none has
+
 unblocked : (T : Texts) (name : List ℕ) → IsThere T name → scratch T (faults_key name) ≡ FaultsFound [] → is_blocking (sources_of T) name ≡ false
 unfolding has_key scratch
-unblocked T name there none = ?
+unblocked T name there none =
+    by (get (sources_of T) name) (sym (get_source T name)) (faults_of (sources_of T) name) none
+  where
+    by : (o : Option (List ℕ)) → text_at T name ≡ o → (found : List Fault) → FaultsFound found ≡ FaultsFound [] → (is_none o || is_some_fault found) ≡ false
+    by None e found none = let no : is_some (text_at T name) ≡ false = ap is_some e in absurd (true≢false (sym there ∙ no))
+    by (Some text) e [] none = refl
+    by (Some text) e (f ∷ fs) none = cc
 
 pub faultless_in : (T : Texts) (units : set.BTreeSet (List ℕ)) → AreWithoutFaults T units → AreFaultless (sources_of T) (λ name. set.contains name_cmp units name)
 faultless_in T units are name has = let it = are name has in unblocked T name it.0 it.1
 
 pub no_units : (T : Texts) (units : set.BTreeSet (List ℕ)) → units.keys ≡ [] → AreWithoutFaults T units
-no_units T units empty name has = ?
+no_units T units empty name has = absurd (no_member units name empty has)
 
 pub hints_alone : (T : Texts) (key : Key) (hints : List Hint) (it : Knowledge) → AreHints T key hints → it.hints.items ≡ hints → it.own ≡ None → it.faultless.keys ≡ [] → IsKnowledge (read_texts (reads_for T key)) key it
 hints_alone T key hints it right is none empty = record {

@@ -7,6 +7,7 @@ pub mod Sources
 pub mod Currents
 pub mod HintLemmas
 pub mod KnownLemmas
+pub mod WorkLemmas
 pub mod Searches
 -- Of the crates below, for the crates above.
 pub use Rattle.fb_deploy.proofs.Library as Library

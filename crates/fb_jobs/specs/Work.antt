@@ -1,5 +1,5 @@
 -- What a job computes: its value, and the nets of other units on the way.
-use Rattle.std.specs.Prelude.{◌≡◌, ℕ, Bool, true, List, Option, Some, All}
+use Rattle.std.specs.Prelude.{◌≡◌, ℕ, Bool, true, false, List, [], Option, Some, All}
 use Rattle.std.specs.BTreeMap as tree
 use Rattle.std.specs.BTreeSet as set
 use Rattle.std.specs.declared.sync.Arc.{Arc}
@@ -39,9 +39,10 @@ pub record IsFoundIn (sources : Sources) (unit : List ℕ) (hint : Hint) : Type 
   pub below : Rests sources unit hint.unit
   pub net_is : finding_of hint.value.value ≡ net_finding (net_at sources hint.unit)
 
--- the value of the kind, and nets of what the unit rests on
+-- the value of the kind, and nets of what the unit rests on, none where not all of that is read
 pub record IsWork (kind : Kind) (sources : Sources) (unit : List ℕ) (worked : Worked) : Type 0 where
   pub value_is : finding_of worked.value.value ≡ scratch_of kind sources unit
+  pub none : needs_all kind ≡ false → worked.found.items ≡ []
   pub found_are : All (IsFoundIn sources unit) worked.found.items
 
 -- the net of a unit that the key needs with all that it rests on

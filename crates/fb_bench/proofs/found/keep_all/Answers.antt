@@ -1,7 +1,8 @@
 -- One net more.
 use Rattle.std.proofs.Common.{◌≡◌, sym, subst, ◌∙◌, length}
 use Rattle.std.specs.Prelude.{Contains}
-use Rattle.std.proofs.lemmas.Iterator.Yields.{YieldsList-from_vec, YieldsList-turn}
+use Rattle.std.proofs.lemmas.Iterator.Adapters.{YieldsList-from_vec}
+use Rattle.std.proofs.lemmas.Iterator.Consumers.{YieldsList-turn}
 use Rattle.std.proofs.lemmas.List.Elements.{All-contains, Contains-get_or}
 use Rattle.fb_entries.specs.Jobs.declared.hints.Hint.{Hint}
 use Rattle.fb_entries.specs.Jobs.Hints.{IsNetOf, net_key}
