@@ -1,5 +1,5 @@
 -- What is composed for a unit is, with its count, the net of its type.
-use Rattle.std.proofs.Common.{ℕ, ◌≡◌, ◌≤◌, arith, length, true, not, List, Option, Some, None, inl, refl, sym, ◌∙◌, ap, subst}
+use Rattle.std.proofs.Common.{ℕ, ◌≡◌, ◌≤◌, arith, true, not, List, Option, Some, None, inl, refl, sym, ◌∙◌, ap, subst}
 use Rattle.std.proofs.lemmas.Bool.{false≢true}
 use Rattle.std.specs.Prelude.{Contains, ◌≢◌, is_none, option_map}
 use Rattle.std.specs.Option.{option_or}
@@ -21,11 +21,11 @@ use Rattle.fb_wiring.specs.Networks.{network_of}
 use Rattle.fb_wiring.specs.Units.{Holds, IsUnitFlat, IsWithinLimit, OfSubapplication}
 use Rattle.fb_wiring.proofs.KindLemmas.{subapplication_by_tree}
 use Rattle.fb_wiring.proofs.Network.Equals.{bytes_same}
-use Rattle.fb_flatten.specs.Hints.{count_of_hint, flat_of_hint}
+use Rattle.fb_flatten.specs.Hints.{count_of_hint}
 use Rattle.fb_flatten.specs.Inner.{IsCountedFlat, IsInnerNet}
-use Rattle.fb_flatten.specs.Net.{PlainNet, flat_net, IsNet}
+use Rattle.fb_flatten.specs.Net.{PlainNet, flat_net}
 use Rattle.fb_flatten.specs.Nets.{net_at}
-use Rattle.fb_flatten.specs.Tables.{AllCounted, AllFinished, AreMissing, IsSmallType, IsUnitOrder, is_missing, is_subapplication_in, known_flats}
+use Rattle.fb_flatten.specs.Tables.{AllCounted, AllFinished, AreMissing, IsSmallType, IsUnitOrder, is_missing, known_flats}
 use Rattle.fb_flatten.specs.declared.inner.Inner.{Inner}
 use Rattle.fb_flatten.proofs.ComputedNets.{net_at_is}
 use Rattle.fb_flatten.proofs.FlatsLemmas.{and_first, and_second}

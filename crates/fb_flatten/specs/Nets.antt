@@ -1,5 +1,5 @@
 -- The net of a unit, computed from the texts.
-use Rattle.std.specs.Prelude.{◌≡◌, ℕ, zero, suc, Bool, true, false, if◌then◌else◌, nat_lt, List, [], ◌∷◌, ◌++◌, length, map, filter, Option, Some, None, ◌↔◌}
+use Rattle.std.specs.Prelude.{◌≡◌, ℕ, zero, suc, Bool, true, if◌then◌else◌, nat_lt, List, [], ◌∷◌, ◌++◌, length, map, filter, Option, Some, None, ◌↔◌}
 use Rattle.std.specs.List.{flat_map, list_any}
 use Rattle.fb_wiring.specs.Text.Order.{in_order}
 use Rattle.fb_wiring.specs.Tree.Tree.{DeclTree, block_type, adapter_type, subapplication_type, system_configuration}

@@ -9,7 +9,7 @@ mod far;
 mod flats;
 mod inner;
 mod laws;
-mod net;
+mod nets;
 mod suspects;
 mod units;
 
@@ -26,7 +26,7 @@ pub use laws::{
     far_is_all, far_of_is_local, flat_networks_are_local, has_net_by_text, net_at_is_local,
     net_at_is_net, net_is_local, one_net,
 };
-pub use net::{net, net_with};
+pub use nets::{net, net_with};
 
 /// Of `fb_text`, for the crates above.
 pub mod text {

@@ -77,8 +77,8 @@ compute_in_order-requires-clause-order g c =
     subst (λ (l : List (List ℕ)). IsUnitOrder sources hints c.args.unit l) (sym c.as_slice-in-Some.ensures.value)
     (unit_order hints sources c.args.unit c.requires.right c.in-Some.order.items whole (rw c.in-Some.is at c.in_ok-inner_first.ensures.ordered) (rw c.in-Some.is at c.in_ok-inner_first.ensures.whole))
 
-pub returns-in-Some : goal.returns-in-Some
-returns-in-Some g c =
+pub returns : goal.returns
+returns g c =
     let sources = g.V.View.sources c.args.view.now in
     let unit = c.args.unit in
     record {

@@ -5,7 +5,7 @@ use Rattle.std.specs.BTreeMap.{get}
 use Rattle.fb_wiring.specs.Text.Order.{name_cmp}
 use Rattle.fb_flatten.specs.Tables.{AllFinished, known_flats}
 use Rattle.fb_flatten.proofs.CountLemmas.{in_table}
-use Rattle.fb_flatten.proofs.FlatsLemmas.{AreComposed, added_finished, finished_more, finished_nothing, finished_skip, missing_more}
+use Rattle.fb_flatten.proofs.FlatsLemmas.{added_finished, finished_more, finished_nothing, finished_skip, missing_more}
 use Rattle.fb_wiring.proofs.TableLemmas.{further}
 use Rattle.fb_wiring.proofs.Network.EmptyMaps.{nothing_at}
 use Rattle.fb_flatten.proofs.flats.missing_flats.Goals as goal

@@ -6,4 +6,4 @@ use Rattle.fb_flatten.specs.Inner.{IsCountedFlat}
 use Rattle.fb_flatten.proofs.inner.inner_nets.Given as goal
 
 abbrev pub invariant-loop-unit : goal.invariant-loop-unit
-invariant-loop-unit g l = All (IsCountedFlat (get name_cmp l.fn.flats) (get name_cmp l.counts)) l.nets.items
+invariant-loop-unit l = All (IsCountedFlat (get name_cmp l.fn.flats) (get name_cmp l.counts)) l.nets.items
