@@ -1,5 +1,5 @@
 -- The plan of a unit, computed from the texts.
-use Rattle.std.specs.Prelude.{◌≡◌, ◌↔◌, ℕ, Bool, true, false, if◌then◌else◌, IsTrue, List, Option, Some, None, is_some, option_map}
+use Rattle.std.specs.Prelude.{◌≡◌, ◌↔◌, ℕ, Bool, true, if◌then◌else◌, IsTrue, List, Option, Some, None, is_some, option_map}
 use Rattle.fb_mapping.specs.Tree.Tree.{DeclTree}
 use Rattle.fb_mapping.specs.Library.View.{Sources, tree_at}
 use Rattle.fb_mapping.specs.Library.Local.{AgreeFar}
