@@ -15,8 +15,8 @@ use Rattle.fb_bench.specs.Kept.{Agrees}
 -- entries that agree with a state of which each of these is a net agree with it still
 abbrev pub KeepsAgreement : List Hint → tree.BTreeMap Key Entry → tree.BTreeMap Key Entry → Type 0
 KeepsAgreement found old new =
-    (units : Texts) (commits : ℕ) (ready waiting : set.BTreeSet Key) (state : State)
-    → Agrees units commits old ready waiting state → All (IsNetOf state.units) found → Agrees units commits new ready waiting state
+    (units : Texts) (commits : ℕ) (ready : set.BTreeSet Key) (state : State)
+    → Agrees units commits old ready state → All (IsNetOf state.units) found → Agrees units commits new ready state
 
 -- nets that are found for current reads are those of the present texts
 abbrev pub HasNetsOf : Texts → PlainJob → Type 0

@@ -10,5 +10,5 @@ use Rattle.fb_bench.proofs.found.keep_all.Given as goal
 
 abbrev pub invariant-loop-it : goal.invariant-loop-it
 invariant-loop-it l =
-    (units : Texts) (commits : ℕ) (ready waiting : set.BTreeSet Key) (state : State)
-    → Agrees units commits l.initial.entries ready waiting state → All (IsNetOf state.units) l.initial.found.items → Agrees units commits l.entries ready waiting state
+    (units : Texts) (commits : ℕ) (ready : set.BTreeSet Key) (state : State)
+    → Agrees units commits l.initial.entries ready state → All (IsNetOf state.units) l.initial.found.items → Agrees units commits l.entries ready state
