@@ -1,4 +1,5 @@
-pub mod Books
+pub mod Callers
 pub mod Closings
 pub mod Receipts
 pub mod Takes
+pub mod Works

@@ -50,9 +50,19 @@ pub fn run_session<R: Wait, F: Feed, S: Sink>(
         (S.is_flushed writer.new) }
     ensures write_failed { IsTrue (S.has_failed writer.new) ↔ (result.end ≡ RunEnd.WriteFailed) }
 {
-    let mut desk = Seated::new(rt, shared, seat, Vec::new(alloc));
+    let mut desk = Seated {
+        rt,
+        shared,
+        seat,
+        receipts: Vec::new(alloc),
+    };
     let end = run_lines(alloc, reader, writer, &mut desk, turns);
-    let (seat, receipts) = desk.into_parts();
+    let Seated {
+        rt: _,
+        shared: _,
+        seat,
+        receipts,
+    } = desk;
     Session {
         end,
         seat,

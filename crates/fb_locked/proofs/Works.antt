@@ -1,6 +1,6 @@
 -- Calls of a worker, one list after another.
 use Rattle.std.proofs.Common.{◌≡◌, ℕ, ◌+◌, ◌*◌, ◌≤◌, List, [], ◌∷◌, ◌++◌, Option, None, sym, ap, ◌∙◌, subst, arith, append_assoc, append-nil, length-append, refl}
-use Rattle.fb_locked.specs.History.Machine.{Call}
+use Rattle.fb_bench.specs.History.Machine.{Call}
 use Rattle.fb_locked.specs.declared.locked.SharedRefused.{SharedRefused}
 use Rattle.fb_locked.specs.declared.locked.SharedRefused.TheVariants as refused
 use Rattle.fb_locked.specs.declared.look.WorkEnd.{WorkEnd}

@@ -2,7 +2,7 @@ use Rattle.std.proofs.Common.{◌≡◌, ◌<◌, ◌-◌, ◌+◌, ℕ, length,
 use Rattle.std.proofs.lemmas.Grind.{common_steps}
 use Rattle.fb_locked.specs.Closing.{IsReceiptRight, times}
 use Rattle.fb_locked.proofs.Closings.{placed, right_more, marks_more}
-use Rattle.fb_locked.proofs.close.check_receipts.Goals as goal
+use Rattle.fb_locked.proofs.receipts.check_by_marks.Goals as goal
 
 pub loop-receipt-preserved : goal.loop-receipt-preserved
 loop-receipt-preserved c =

@@ -1,6 +1,6 @@
 use Rattle.std.proofs.Common.{◌≡◌, ◌+◌, ◌<◌, ℕ, length, take, get_or, cond, false}
 use Rattle.fb_locked.specs.Closing.{AreReceiptsRight, times}
-use Rattle.fb_locked.proofs.close.check_receipts.Given as goal
+use Rattle.fb_locked.proofs.receipts.check_by_marks.Given as goal
 
 abbrev pub invariant-loop-receipt : goal.invariant-loop-receipt
 invariant-loop-receipt l = record {
