@@ -87,14 +87,14 @@ times_cons n c cs = sum_by-cons (λ (x : Claim). cond (x.number == n) 1 0) c cs
 none_at : (n : ℕ) (c : Claim) (cs : List Claim) (b : Bool) → c.number == n ≡ b → (b || has_number cs n) ≡ false → (has_number cs n ≡ false → times n cs ≡ 0) → times n (c ∷ cs) ≡ 0
 none_at n c cs true is none rest = let bad : true ≡ false = none in cc
 none_at n c cs false is none rest =
-    let here : cond (c.number == n) 1 0 ≡ 0 = ap (λ (b : Bool). cond b 1 0) is in omega (arith, times_cons n c cs, here, rest none)
+    let here : ◌≡◌ {A = ℕ} (cond (c.number == n) 1 0) 0 = ap (λ (b : Bool). cond b 1 0) is in omega (arith, times_cons n c cs, here, rest none)
 
 pub none_times : (n : ℕ) (rs : List Claim) → has_number rs n ≡ false → times n rs ≡ 0
 none_times n [] none = refl
 none_times n (c ∷ cs) none = none_at n c cs (c.number == n) refl none (none_times n cs)
 
 some_at : (n : ℕ) (c : Claim) (cs : List Claim) (b : Bool) → c.number == n ≡ b → (b || has_number cs n) ≡ true → (has_number cs n ≡ true → 1 ≤ times n cs) → 1 ≤ times n (c ∷ cs)
-some_at n c cs true is some rest = let here : cond (c.number == n) 1 0 ≡ 1 = ap (λ (b : Bool). cond b 1 0) is in omega (arith, times_cons n c cs, here)
+some_at n c cs true is some rest = let here : ◌≡◌ {A = ℕ} (cond (c.number == n) 1 0) 1 = ap (λ (b : Bool). cond b 1 0) is in omega (arith, times_cons n c cs, here)
 some_at n c cs false is some rest = omega (arith, times_cons n c cs, rest some)
 
 pub some_times : (n : ℕ) (rs : List Claim) → has_number rs n ≡ true → 1 ≤ times n rs

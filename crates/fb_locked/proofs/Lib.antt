@@ -1,5 +1,5 @@
-pub mod Callers
 pub mod Closings
-pub mod Receipts
+pub mod EachCaller
+pub mod NextClaims
 pub mod Takes
 pub mod Works

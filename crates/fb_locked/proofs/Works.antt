@@ -1,13 +1,17 @@
 -- Calls of a worker, one list after another.
-use Rattle.std.proofs.Common.{◌≡◌, ℕ, ◌+◌, ◌*◌, ◌≤◌, List, [], ◌∷◌, ◌++◌, Option, None, sym, ap, ◌∙◌, subst, arith, append_assoc, append-nil, length-append, refl}
-use Rattle.fb_bench.specs.History.Machine.{Call}
+use Rattle.std.proofs.Common.{◌≡◌, ℕ, ◌+◌, ◌*◌, ◌≤◌, ◌⊎◌, inl, inr, List, [], ◌∷◌, ◌++◌, Option, Some, None, Result, Ok, Err, option_map, sym, ap, ◌∙◌, subst, arith, append_assoc, append-nil, length-append, refl}
+use Rattle.fb_bench.specs.Jobs.Reads.{PlainJob}
+use Rattle.fb_bench.specs.History.Machine.{Call, ToDeliver, ToGiveBack}
+use Rattle.fb_bench.specs.declared.answers.Answered.{Answered}
 use Rattle.fb_locked.specs.declared.locked.SharedRefused.{SharedRefused}
 use Rattle.fb_locked.specs.declared.locked.SharedRefused.TheVariants as refused
 use Rattle.fb_locked.specs.declared.look.WorkEnd.{WorkEnd}
-use Rattle.fb_locked.specs.Seats.{SeatState, Claim, IsReceiptOf, seat_after}
-use Rattle.fb_locked.specs.Refusals.{IsRefusalOf}
-use Rattle.fb_locked.specs.Ends.{NamesSeat, end_of}
-use Rattle.fb_locked.specs.Runs.{Hand, Empty, hand_after, IsRun, IsWork, Follows, AddsWork, Works, IsRefusal}
+use Rattle.fb_locked.specs.declared.look.WorkEnd.TheVariants.{Memory}
+use Rattle.fb_locked.specs.Seats.{Hall, SeatState, Claim, IsReceiptOf, seat_after}
+use Rattle.fb_locked.specs.Refusals.{IsRefusalOf, RefusedAs}
+use Rattle.fb_locked.specs.Calls.{AnswersKept, Stays}
+use Rattle.fb_locked.specs.Ends.{NamesSeat, EndsAs, GivesUp, end_of}
+use Rattle.fb_locked.specs.Runs.{Hand, Empty, Holds, Gave, hand_after, IsRun, IsWork, Follows, AddsWork, Works, IsRefusal}
 
 run_append : (seat : SeatState) (xs ys : List Claim) (middle after : SeatState) → IsRun seat xs middle → IsRun middle ys after → IsRun seat (xs ++ ys) after
 run_append seat [] ys middle after one two = subst (λ (s : SeatState). IsRun s ys after) one two
@@ -73,3 +77,43 @@ refusal_names seat (refused.SeatDiffers turns book) named = named
 refusal_names seat (refused.Behind seen len) named = named
 refusal_names seat refused.HistoryFull named = tt
 refusal_names seat refused.Memory named = tt
+
+-- ---- how a job is settled
+
+-- its result is delivered
+pub delivers : (order : PlainJob) (seat after : SeatState) (old new : List Claim) (answer : Answered) → AnswersKept seat (ToDeliver order) (Ok answer) old after new → Works (Holds order) 1 seat old new after None
+delivers order seat after old new answer kept = (Empty, adds_call (Holds order) seat after old new (ToDeliver order) kept.0 kept.2 refl kept.1 kept.4, refl)
+
+-- its key is given back, if it can be
+pub gives_up : (order : PlainJob) (seat after : SeatState) (old new : List Claim) (answer : Result Answered SharedRefused) → AnswersKept seat (ToGiveBack order.key) answer old after new → Works (Holds order) 1 seat old new after (Some Memory)
+gives_up order seat after old new (Ok answer) kept = (Gave, adds_call (Holds order) seat after old new (ToGiveBack order.key) kept.0 kept.2 refl kept.1 kept.4, refl)
+gives_up order seat after old new (Err cause) kept = (Holds order, adds_nothing (Holds order) 1 seat after old new kept.1 kept.2, tt)
+
+-- its delivery is refused
+pub ends_refused : (order : PlainJob) (seat after : SeatState) (old new : List Claim) (call : Call) (cause : SharedRefused) → AnswersKept seat call (Err cause) old after new → Works (Holds order) 1 seat old new after (Some (end_of cause))
+ends_refused order seat after old new call cause kept = (Holds order, adds_nothing (Holds order) 1 seat after old new kept.1 kept.2, refusal_ends cause)
+
+pub refused_names : (seat after : SeatState) (old new : List Claim) (call : Call) (cause : SharedRefused) → AnswersKept seat call (Err cause) old after new → NamesSeat after (end_of cause)
+refused_names seat after old new call cause kept = subst (λ (s : SeatState). NamesSeat s (end_of cause)) (sym kept.2) (refusal_names seat cause kept.0)
+
+-- a refusal ends a worker under its name
+pub ends_as : (first : Option SharedRefused) (cause : SharedRefused) → RefusedAs first cause → EndsAs (option_map end_of first) (end_of cause)
+ends_as None cause is = ap end_of is
+ends_as (Some other) cause is = ap end_of is
+
+pub stays_gives : (cause : SharedRefused) (hall hall' : Hall) (seat seat' : SeatState) (order : PlainJob) (old new : List Claim) → Stays hall seat old hall' seat' new → GivesUp (end_of cause) hall seat order old hall' seat' new
+stays_gives (refused.SeatDiffers turns book) hall hall' seat seat' order old new stays = stays
+stays_gives (refused.Behind seen len) hall hall' seat seat' order old new stays = stays
+stays_gives refused.HistoryFull hall hall' seat seat' order old new stays = stays
+stays_gives refused.Memory hall hall' seat seat' order old new stays = inr stays
+
+-- where nothing has changed before
+pub works_from : (order : PlainJob) (seat seat1 after : SeatState) (old old1 new : List Claim) (end : Option WorkEnd) → seat1 ≡ seat → old1 ≡ old → Works (Holds order) 1 seat1 old1 new after end → Works (Holds order) 1 seat old new after end
+works_from order seat seat1 after old old1 new end seats olds works =
+    subst (λ (s : SeatState). Works (Holds order) 1 s old new after end) seats (subst (λ (l : List Claim). Works (Holds order) 1 seat1 l new after end) olds works)
+
+pub gives_from : (hall hall1 hall' : Hall) (seat seat1 seat' : SeatState) (order : PlainJob) (old old1 new : List Claim) → Stays hall seat old hall1 seat1 old1 → GivesUp Memory hall1 seat1 order old1 hall' seat' new → GivesUp Memory hall seat order old hall' seat' new
+gives_from hall hall1 hall' seat seat1 seat' order old old1 new stays gives =
+    subst (λ (h : Hall). GivesUp Memory h seat order old hall' seat' new) stays.0 (
+    subst (λ (s : SeatState). GivesUp Memory hall1 s order old hall' seat' new) stays.1 (subst (λ (l : List Claim). GivesUp Memory hall1 seat1 order l hall' seat' new) stays.2 gives)
+    )

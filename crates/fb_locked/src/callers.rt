@@ -1,5 +1,5 @@
 //! The callers of a workbench: whose seats are missing or differ, and how many records each has.
-ghost use Rattle.std.specs.Prelude.{◌≡◌, ◌+◌, ◌<◌, [], IfOk, OnOk, Some, length};
+ghost use Rattle.std.specs.Prelude.{◌≡◌, ◌+◌, ◌≤◌, [], IfOk, OnOk, Some, length};
 ghost use Rattle.fb_bench.specs.History.Story.{Record, record_at};
 ghost use Rattle.fb_locked.specs.Book.{CountsOne, HasCounts, IsBookOf};
 ghost use Rattle.fb_locked.specs.Closing.{has_seat, has_wrong_seat, is_missing, IsLeast, lesser_of};
@@ -15,7 +15,7 @@ pub(crate) fn missing_seat(bench: &Bench, callers: u32, seats: &[Seat]) -> Optio
 {
     let mut least = missing_first(callers, seats);
     for place in 0..bench.len() {
-        let caller = caller_at(bench, place);
+        let caller = caller_at(bench, place as u64 + 1);
         let missing = !is_seated(seats, caller);
         least = lesser(least, caller, missing);
     }
@@ -64,13 +64,13 @@ fn lesser(least: Option<u32>, caller: u32, wrong: bool) -> Option<u32>
     }
 }
 
-/// Whose the record at this place is, counted from 0.
-fn caller_at(bench: &Bench, place: usize) -> u32
-    requires { place < length bench.now.log.records }
-    ensures { (it : Record) × (record_at bench.now.log.records (place + 1) ≡ Some it)
+/// Whose the record of this number is, counted from 1.
+fn caller_at(bench: &Bench, number: u64) -> u32
+    requires { (1 ≤ number) × (number ≤ length bench.now.log.records) }
+    ensures { (it : Record) × (record_at bench.now.log.records number ≡ Some it)
         × (result ≡ it.caller) }
 {
-    match bench.record(place as u64 + 1) {
+    match bench.record(number) {
         Some(record) => record.caller(),
         None => unreachable!(),
     }
@@ -86,7 +86,7 @@ pub(crate) fn count_records(
 {
     let mut counts = count_first(alloc, bench, callers)?;
     for place in 0..bench.len() {
-        count_one(&mut counts, bench, caller_at(bench, place))?;
+        count_one(&mut counts, bench, caller_at(bench, place as u64 + 1))?;
     }
     Ok(counts)
 }

@@ -115,7 +115,9 @@ fn check(
     if let Some(caller) = wrong_seat(bench, seats) {
         return Err(CloseFault::SeatDiffers(caller));
     }
-    check_receipts(alloc, bench, receipts)?;
+    if let Err(fault) = check_receipts(alloc, bench, receipts) {
+        return Err(fault);
+    }
     match count_records(alloc, bench, callers) {
         Ok(counts) => Ok(counts),
         Err(_) => Err(CloseFault::Memory),

@@ -99,7 +99,7 @@ impl Locked {
         finished: Option<&Finished>,
     ) -> Option<WorkEnd>
         requires { IfSome finished (λ it. it.now ≡ job.now) }
-        ensures settles { SettlesJob self.old seat.old job.now (is_some finished) result
+        ensures settles { SettlesJob self.old seat.old job.now (is_some finished.entry) result
             receipts.old.items self.new seat.new receipts.new.items }
         ensures works { Works (Holds job.now) 1
             seat.old receipts.old.items receipts.new.items seat.new result }

@@ -1,13 +1,25 @@
 -- The callers of a workbench, one more at a time: whose seats are missing, and how many records each has.
-use Rattle.std.proofs.Common.{◌≡◌, ◌==◌, ◌&&◌, ◌||◌, ℕ, ◌+◌, ◌<◌, List, [], Bool, true, false, not, cond, Option, Some, None, refl, ap, sym, ◌∙◌, arith, nat_lt, nat_le, length, take, get_or, add-zero}
+use Rattle.std.proofs.Common.{◌≡◌, ◌==◌, ◌&&◌, ◌||◌, ℕ, ◌+◌, ◌<◌, ◌≤◌, ◌⊎◌, inl, inr, zero, List, [], Bool, true, false, not, cond, Option, Some, None, refl, ap, sym, ◌∙◌, arith, nat_lt, nat_le, length, take, get_or, add-zero, slice_get, suc}
 use Rattle.std.proofs.lemmas.Bool.{eqb-true}
 use Rattle.std.proofs.lemmas.Bool.Decides.{nat_tests}
 use Rattle.std.proofs.lemmas.List.Sums.{sum_by_more}
-use Rattle.std.proofs.lemmas.Option.{slice_get_within, get_or_from_slice_get}
+use Rattle.std.proofs.lemmas.Option.{slice_get_within, get_or_from_slice_get, slice_get_cases}
 use Rattle.fb_bench.specs.History.Story.{Record, turns_of, record_at}
 use Rattle.fb_locked.specs.Book.{is_caller}
 use Rattle.fb_locked.specs.Closing.{has_seat, is_missing}
 use Rattle.fb_locked.specs.Seats.{SeatState}
+
+record_at-next : (es : List Record) (i : ℕ) → record_at es (i + 1) ≡ slice_get es i
+record_at-next es i = let next : i + 1 ≡ suc i = omega arith in ap (record_at es) next
+
+-- there is a record of each number up to that of the last
+pub record_there : (es : List Record) (n : ℕ) → 1 ≤ n → n ≤ length es → record_at es n ≡ None → ⊥
+record_there es zero one within none = omega (arith, one)
+record_there es (suc p) one within none = by (slice_get_cases es p).1
+  where
+    by : ((x : Record) × (p < length es) × (slice_get es p ≡ Some x) × (get_or es p x ≡ x)) ⊎ ((length es ≤ p) × (slice_get es p ≡ None)) → ⊥
+    by (inl some) = let no : Some some.0 ≡ None = sym some.2 ∙ none in cc
+    by (inr past) = omega (arith, past.0, within)
 
 -- ---- one caller more
 
@@ -31,8 +43,9 @@ turned false t false = grind (arith, nat_tests)
 
 turns_more : (q : ℕ) (es : List Record) (i : ℕ) (e : Record) → record_at es (i + 1) ≡ Some e → turns_of q (take (i + 1) es) ≡ turns_of q (take i es) + cond (e.caller == q) 1 0
 turns_more q es i e is =
-    sum_by_more (λ (x : Record). cond (x.caller == q) 1 0) es i e (slice_get_within es i e is)
-    ∙ ap (λ (x : Record). turns_of q (take i es) + cond (x.caller == q) 1 0) (get_or_from_slice_get es i e e is)
+    let here : slice_get es i ≡ Some e = sym (record_at-next es i) ∙ is in
+    sum_by_more (λ (x : Record). cond (x.caller == q) 1 0) es i e (slice_get_within es i e here)
+    ∙ ap (λ (x : Record). turns_of q (take i es) + cond (x.caller == q) 1 0) (get_or_from_slice_get es i e e here)
 
 caller_more : (callers : ℕ) (es : List Record) (i q : ℕ) (e : Record) → record_at es (i + 1) ≡ Some e → is_caller callers (take (i + 1) es) q ≡ (is_caller callers (take i es) q || e.caller == q)
 caller_more callers es i q e is =
