@@ -56,7 +56,7 @@ impl Bench {
     ghost use Rattle.fb_entries.specs.Jobs.Reads.{read_texts};
     ghost use Rattle.fb_entries.specs.Jobs.Values.{all_seen};
     ghost use Rattle.fb_history.specs.declared.answers.Delivered.TheVariants.{Accepted};
-    ghost use Rattle.fb_history.specs.Story.{IsOrigin, IsFull, new_story, state_of, reply_at, recorded, record_of, record_at, calls_of, IsReplay, AreTurns};
+    ghost use Rattle.fb_history.specs.Story.{IsOrigin, IsFull, new_story, state_of, reply_at, recorded, record_of, record_at, turns_of, calls_of, IsReplay, AreTurns};
     ghost use Rattle.fb_bench.specs.Records.{call_of, reply_of, shown_in, job_in, commit_of};
     ghost use Rattle.fb_bench.specs.Founds.{HasNetsOf};
     ghost use Rattle.fb_bench.specs.Refusals.{IsFullRefusal};
@@ -110,6 +110,13 @@ impl Bench {
         ensures { option_map (λ it. it.now) result ≡ record_at self.now.log.records number }
     {
         self.history.record(number)
+    }
+
+    /// How many recorded calls the caller has made.
+    pub fn turns_of(&self, caller: u32) -> u64
+        ensures { result ≡ turns_of caller self.now.log.records }
+    {
+        self.history.turns_of(caller)
     }
 
     /// How many keys the present texts have.
