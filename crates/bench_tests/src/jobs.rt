@@ -31,7 +31,7 @@ const USER: &str = r#"
 < {"commit":1}
 "#;
 
-fn key_of(kind: Kind, unit: &str) -> Result<Key, Fail> {
+pub(crate) fn key_of(kind: Kind, unit: &str) -> Result<Key, Fail> {
     let unit = Name::read(unit)?;
     Ok(Key { kind, unit })
 }
@@ -41,7 +41,7 @@ fn faults_of_a() -> Result<Key, Fail> {
 }
 
 // A new workbench after a conversation.
-fn bench_after(alloc: Global, text: &str) -> Result<Bench, Fail> {
+pub(crate) fn bench_after(alloc: Global, text: &str) -> Result<Bench, Fail> {
     let mut bench = new_bench(alloc, 4, 100)?;
     match talk(alloc, &mut bench, 1, text)? {
         None => Ok(bench),
@@ -50,7 +50,7 @@ fn bench_after(alloc: Global, text: &str) -> Result<Bench, Fail> {
 }
 
 // The job for a key, which is one of the next eight.
-fn job_for(bench: &mut Bench, key: Key) -> Result<Job, Fail> {
+pub(crate) fn job_for(bench: &mut Bench, key: Key) -> Result<Job, Fail> {
     for _ in 0..8u8 {
         if let Taken::Job(job) = bench.take(1)? {
             if job.key() == key {
@@ -92,7 +92,7 @@ fn have_read(job: &Job, finished: &Finished, key: Key, wanted: &[(&str, u64)]) -
 }
 
 // Whether a result is taken in.
-fn is_accepted(bench: &mut Bench, finished: &Finished) -> Result<bool, Fail> {
+pub(crate) fn is_accepted(bench: &mut Bench, finished: &Finished) -> Result<bool, Fail> {
     Ok(bench.deliver(1, finished)? == Delivered::Accepted)
 }
 
@@ -406,80 +406,5 @@ fn are_made_alone(alloc: Global) -> Result<bool, Fail> {
 #[test]
 fn calls_as_requests(rt: HostRuntime) -> Result<(), Fail> {
     assert!(rt; are_made_alone(rt.alloc())?);
-    Ok(())
-}
-
-// Subapplications in one another with all their values, then the outermost one anew, with its faults.
-const NEST: &str = r#"
-> {"op":"commit","changes":[{"put":"T","base":0,"text":"FUNCTION_BLOCK T END_FUNCTION_BLOCK"},{"put":"INNER","base":0,"text":"SUBAPPLICATION INNER FBS X:T; END_FBS END_SUBAPPLICATION"},{"put":"MID","base":0,"text":"SUBAPPLICATION MID SUBAPPS X:INNER; END_SUBAPPS END_SUBAPPLICATION"},{"put":"OUTER","base":0,"text":"SUBAPPLICATION OUTER SUBAPPS X:MID; END_SUBAPPS END_SUBAPPLICATION"}]}
-< {"commit":1}
-> {"op":"work","turns":7}
-< {"accepted":7}
-> {"op":"commit","changes":[{"put":"OUTER","base":1,"text":"SUBAPPLICATION OUTER SUBAPPS X:MID; Y:MID; END_SUBAPPS END_SUBAPPLICATION"}]}
-< {"commit":2}
-> {"op":"work","turns":1}
-< {"accepted":1}
-"#;
-
-// Whether a job takes the nets of these units along, and no others.
-fn takes_along(job: &Job, wanted: &[&str]) -> Result<bool, Fail> {
-    for name in wanted {
-        if !job.nets().contains_key(&Name::read(name)?) {
-            return Ok(false);
-        }
-    }
-    Ok(job.nets().len() == wanted.len())
-}
-
-fn net_of(unit: &str) -> Result<Key, Fail> {
-    key_of(Kind::Net, unit)
-}
-
-// Whether a job takes these nets along, and its result is taken in.
-fn is_run_with(alloc: Global, bench: &mut Bench, job: &Job, wanted: &[&str]) -> Result<bool, Fail> {
-    let finished = job.run(alloc)?;
-    Ok(takes_along(job, wanted)? && is_accepted(bench, &finished)?)
-}
-
-fn is_worked_with(
-    alloc: Global,
-    bench: &mut Bench,
-    unit: &str,
-    wanted: &[&str],
-) -> Result<bool, Fail> {
-    let job = job_for(bench, net_of(unit)?)?;
-    is_run_with(alloc, bench, &job, wanted)
-}
-
-const DOUBLED: &str = r#"
-> {"op":"ask","kind":"net","unit":"OUTER"}
-< {"net":{"blocks":[["X.X.X","T"],["Y.X.X","T"]],"borders":[],"links":[]}}
-> {"op":"commit","changes":[{"put":"T","base":1,"text":"FUNCTION_BLOCK T EVENT_INPUT E; END_EVENT END_FUNCTION_BLOCK"}]}
-< {"commit":3}
-> {"op":"work","turns":2}
-< {"accepted":2}
-"#;
-
-// Whether the job for the innermost net takes none along.
-fn takes_none(bench: &mut Bench) -> Result<bool, Fail> {
-    let job = job_for(bench, net_of("INNER")?)?;
-    takes_along(&job, &[])
-}
-
-// Whether the outermost net is made of those that are kept, and once T has changed the innermost one of none.
-fn are_kept(alloc: Global, bench: &mut Bench) -> Result<bool, Fail> {
-    let is_worked = is_worked_with(alloc, bench, "OUTER", &["INNER", "MID"])?;
-    let is_said = talk(alloc, bench, 1, DOUBLED)?.is_none();
-    Ok(is_worked && is_said && takes_none(bench)?)
-}
-
-fn are_kept_alone(alloc: Global) -> Result<bool, Fail> {
-    let mut bench = bench_after(alloc, NEST)?;
-    are_kept(alloc, &mut bench)
-}
-
-#[test]
-fn jobs_take_kept_nets_along(rt: HostRuntime) -> Result<(), Fail> {
-    assert!(rt; are_kept_alone(rt.alloc())?);
     Ok(())
 }

@@ -7,6 +7,8 @@ mod calls;
 #[cfg(test)]
 mod jobs;
 #[cfg(test)]
+mod kept;
+#[cfg(test)]
 mod nets;
 #[cfg(test)]
 mod plans;

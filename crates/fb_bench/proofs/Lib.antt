@@ -2,6 +2,7 @@ pub mod Keeping
 pub mod Empty
 pub mod Showing
 pub mod Marks
+pub mod Founds
 pub mod Renewing
 pub mod Renewals
 pub mod KeysKept

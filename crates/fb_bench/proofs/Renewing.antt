@@ -22,7 +22,7 @@ use Rattle.fb_entries.specs.Jobs.Reads.{is_among, Agree}
 use Rattle.fb_entries.specs.declared.entry.Entry.{Entry}
 use Rattle.fb_history.specs.Machine.{State, after_done, reaches}
 use Rattle.fb_bench.specs.Kept.{EntryFits, IsScratch}
-use Rattle.fb_entries.specs.Marking.{is_of, blank}
+use Rattle.fb_entries.specs.Marking.{is_of, waiting}
 use Rattle.fb_text.proofs.OrderLemmas.{is_equal}
 use Rattle.fb_history.proofs.AfterCalls.{or_parts, not_met}
 
@@ -112,11 +112,12 @@ module _ (commit : ℕ) (es : List Edit) (s : State) (q : Key) where
   later = all_edited commit es s.units
 
   -- a new or a reached key
-  pub blank_fits : has_key later q ≡ true → (not (has_key s.units q) || reaches (map unit_of es) later q) ≡ true → EntryFits (after_done commit es s) q (Some blank)
-  blank_fits has new = (
+  pub waiting_fits : has_key later q ≡ true → (not (has_key s.units q) || reaches (map unit_of es) later q) ≡ true → (it : Entry) → EntryFits (after_done commit es s) q (Some (waiting it))
+  waiting_fits has new it = (
     has,
     (λ i. has i && ((s.pending q || not (has_key s.units q)) || reaches (map unit_of es) later q)) ∙ waits_bits (s.pending q) (has_key s.units q) (reaches (map unit_of es) later q) new,
     out_bits (has_key later q) (has_key s.units q) (s.out q) (reaches (map unit_of es) later q) new,
+    tt,
     tt,
   )
 
@@ -128,6 +129,7 @@ module _ (commit : ℕ) (es : List Edit) (s : State) (q : Key) where
         (λ i. has i && ((s.pending q || not (fits.0 i)) || missed i)) ∙ or_false _ ∙ or_false _ ∙ fits.1,
         (λ i. ((has i && fits.0 i) && s.out q) && not (missed i)) ∙ and_true _ ∙ fits.2,
         kept_value s.units later q it.value (law later s.units q agree) fits.3,
+        kept_value s.units later q it.found (law later s.units q agree) fits.4,
       )
 
   -- a key that the texts after the commit don't have

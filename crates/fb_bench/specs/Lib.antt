@@ -1,5 +1,6 @@
 pub mod Records
 pub mod Kept
+pub mod Founds
 pub mod Outcomes
 pub mod Peeks
 pub mod Requests

@@ -6,10 +6,11 @@ ghost use Rattle.fb_bench.specs.Records.{job_in};
 
 use crate::answers::{Answered, Taken};
 use crate::commit::{Outcome, first_changes, outcome_of, record_with_room};
+use crate::found::{keep_all, shares_of};
 use crate::peek::Shown;
 use crate::request::{Request, call_of_result, reply_of_job};
 use fb_entries::index::Index;
-use fb_entries::jobs::{Finished, Job, Key, Read, current_reads, locality};
+use fb_entries::jobs::{Finished, Job, Key, Read, current_nets, current_reads, locality};
 use fb_entries::library::{Change, Library};
 use fb_entries::{Entries, join, keep, leave, mark_out};
 use fb_history::{
@@ -57,11 +58,13 @@ impl Bench {
     ghost use Rattle.fb_history.specs.declared.answers.Delivered.TheVariants.{Accepted};
     ghost use Rattle.fb_history.specs.Story.{IsOrigin, IsFull, new_story, state_of, reply_at, recorded, record_of, record_at, turns_of, calls_of, IsReplay, AreTurns};
     ghost use Rattle.fb_bench.specs.Records.{call_of, reply_of, shown_in, job_in, commit_of};
+    ghost use Rattle.fb_bench.specs.Founds.{HasNetsOf};
     ghost use Rattle.fb_bench.specs.Refusals.{IsFullRefusal};
     ghost use Rattle.fb_bench.specs.Requests.{call_for, reply_in};
     ghost use Rattle.fb_bench.specs.Peeks.{shown_by, is_pending};
     ghost use Rattle.fb_history.specs.Due.{is_due};
     ghost use Rattle.fb_history.specs.Laws.{entry_after};
+    ghost use Rattle.fb_entries.specs.Indexed.{IsIndexOf};
     ghost use Rattle.fb_entries.specs.Library.Texts.{held, revision_of};
 
     /// An empty workbench. It keeps the allocator for all its calls.
@@ -120,34 +123,35 @@ impl Bench {
     pub fn key_count(&self) -> usize
         ensures { result ≡ length (keys_of (state_of self.now).units) }
     {
-        self.entries.keys.len()
+        self.entries.by_key.len()
     }
 
-    /// The key at a place, counted from 0, by kind and then by name.
+    /// The key at a place, counted from 0, by kind and then by name. It passes over those before it.
     pub fn key_at(&self, place: usize) -> Option<Key>
         ensures key { result ≡ slice_get (keys_of (state_of self.now).units) place }
         ensures ordered { IsStrictlySortedBy key_cmp (keys_of (state_of self.now).units) }
     {
-        self.entries.keys.get(place).copied()
+        self.entries.key_at(place)
     }
 
-    /// How many keys are pending.
+    /// How many keys are pending. It looks at each entry.
     pub fn pending_count(&self) -> usize
         ensures { result ≡ count_by (state_of self.now).pending
             (keys_of (state_of self.now).units) }
     {
-        self.entries.waiting.len()
+        self.entries.pending_count()
     }
 
-    /// What is known of a key.
-    fn shown(&self, key: &Key) -> Result<Asked, AllocError>
-        ensures { IfOk result (λ asked. shown_in asked ≡ shown (state_of self.now) key.now) }
+    /// What is known of a key: what is answered, and what is recorded.
+    fn shown(&self, key: &Key) -> Result<(Asked, Asked), AllocError>
+        ensures answer { IfOk result (λ made. shown_in made.0 ≡ shown (state_of self.now) key.now) }
+        ensures stored { IfOk result (λ made. shown_in made.1 ≡ shown (state_of self.now) key.now) }
     {
         match self.entries.by_key.get(key) {
-            None => Ok(Asked::NoSuchKey),
+            None => Ok((Asked::NoSuchKey, Asked::NoSuchKey)),
             Some(entry) => match &entry.value {
-                None => Ok(Asked::Pending),
-                Some(value) => Ok(Asked::Value(value.clone()?)),
+                None => Ok((Asked::Pending, Asked::Pending)),
+                Some(value) => Ok((Asked::Value(value.clone()?), Asked::Value(value.clone()?))),
             },
         }
     }
@@ -176,8 +180,7 @@ impl Bench {
         if self.history.is_full() {
             return Err(Refused::HistoryFull);
         }
-        let stored = self.shown(&key)?;
-        let answer = self.shown(&key)?;
+        let (answer, stored) = self.shown(&key)?;
         let share = self
             .history
             .push(caller, Call::Ask(key), Reply::Asking(stored))?;
@@ -214,6 +217,13 @@ impl Bench {
         ensures { result ≡ revision_of (held (state_of self.now).units unit.now) }
     {
         self.library.revision(unit)
+    }
+
+    /// What the units of the present texts mention, by which a commit finds what it reaches.
+    pub fn index(&self) -> &Index
+        ensures { IsIndexOf (state_of self.now).units result.now }
+    {
+        &self.index
     }
 
     /// The least key that is pending and not handed out.
@@ -268,7 +278,7 @@ impl Bench {
         ensures answer { IfOk result (λ made. reply_of made.1 ≡ reply_at self.now ToTake) }
     {
         let wanted = key;
-        let job = Job::make(self.alloc, &self.library, wanted, &self.entries)?;
+        let job = Job::for_kept(self.alloc, &self.library, wanted, &self.entries)?;
         let answer = reply_of_job(self.alloc, &job)?;
         Ok((job, answer))
     }
@@ -389,6 +399,7 @@ impl Bench {
         match answer {
             Delivered::Accepted => {
                 current_reads();
+                current_nets();
                 let share = self.take_in(caller, call, finished)?;
                 Ok((Delivered::Accepted, share))
             }
@@ -401,7 +412,7 @@ impl Bench {
         }
     }
 
-    /// Records a result that is accepted, and keeps its value.
+    /// Records a result that is accepted, and keeps its value and the nets that were found on the way.
     fn take_in(
         &mut self,
         caller: u32,
@@ -413,18 +424,20 @@ impl Bench {
         requires accepted { Accepted ≡ deliver_answer (state_of self.old) finished.now }
         requires value { scratch (state_of self.old).units finished.now.key
             ≡ scratch (read_texts finished.now.reads) finished.now.key }
+        requires nets { HasNetsOf (state_of self.old).units finished.now }
         ensures step { OnOk result (self.new ≡ recorded self.old caller (ToDeliver finished.now)) }
         ensures share { IfOk result
             (λ it. it.value ≡ record_of self.old caller (ToDeliver finished.now)) }
         ensures err { OnErr result (self.new ≡ self.old) }
     {
         let value = finished.value().clone()?;
+        let found = shares_of(self.alloc, finished.found())?;
         let answer = Reply::Delivering(None);
         let share = self.history.push(caller, call, answer)?;
         let key = finished.key();
         keep(&mut self.entries.by_key, &key, value);
+        keep_all(&mut self.entries.by_key, found);
         leave(&mut self.entries.ready, &key);
-        leave(&mut self.entries.waiting, &key);
         Ok(share)
     }
 

@@ -5,6 +5,7 @@ mod answers;
 mod bench;
 mod commit;
 mod desk;
+mod found;
 mod peek;
 mod request;
 

@@ -82,6 +82,13 @@ plan_at_is sources unit plan = (computed_is sources unit plan, λ h. is_computed
 pub plan_at_of : PlanAtOfSystems
 plan_at_of sources unit = (some_of sources unit (plan_at sources unit) refl, λ system. ap (λ (o : Option PlainDeploy). is_some o) (computed sources unit system).at)
 
+-- the plan of a system whose net this is
+pub plan_by : (sources : Sources) (unit : List ℕ) (net : PlainNet) → IsSystem sources unit → net_at sources unit ≡ Some net → plan_at sources unit ≡ Some (planned_by sources unit net)
+unfolding plan_at
+plan_by sources unit net system there =
+    ap (λ (b : Bool). if b then option_map (planned_by sources unit) (net_at sources unit) else None) ((has_by_text sources unit).1 system)
+    ∙ ap (λ (o : Option PlainNet). option_map (planned_by sources unit) o) there
+
 pub plan_at_local : PlanAtIsLocal
 unfolding plan_at
 plan_at_local a b unit agree =

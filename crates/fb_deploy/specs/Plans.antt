@@ -1,17 +1,16 @@
 -- The plan of a unit, computed from the texts.
-use Rattle.std.specs.Prelude.{◌≡◌, ◌↔◌, ℕ, Bool, true, false, if◌then◌else◌, IsTrue, List, Option, Some, None, is_some, option_map}
+use Rattle.std.specs.Prelude.{◌≡◌, ◌↔◌, ℕ, Bool, true, if◌then◌else◌, IsTrue, List, Option, Some, None, is_some, option_map}
 use Rattle.fb_mapping.specs.Tree.Tree.{DeclTree}
 use Rattle.fb_mapping.specs.Library.View.{Sources, tree_at}
 use Rattle.fb_mapping.specs.Library.Local.{AgreeFar}
 use Rattle.fb_mapping.specs.Flatten.Nets.{net_at}
-use Rattle.fb_mapping.specs.Flatten.Tables.{is_system_tree}
+use Rattle.fb_mapping.specs.Flatten.Tables.{is_system_in}
 use Rattle.fb_mapping.specs.Placed.{IsSystem}
 use Rattle.fb_deploy.specs.Deploy.{PlainDeploy, IsPlan, planned_by}
 
 -- whether a unit with this tree, or with none, has a plan
 abbrev pub has_plan_in : Option DeclTree → Bool
-has_plan_in None = false
-has_plan_in (Some tree) = is_system_tree tree
+has_plan_in tree = is_system_in tree
 
 abbrev pub plan_in : Sources → List ℕ → Option DeclTree → Option PlainDeploy
 plan_in sources unit tree = if has_plan_in tree then option_map (planned_by sources unit) (net_at sources unit) else None

@@ -1,17 +1,16 @@
 //! What is to be done on the resources of a system to run it there (IEC 61499-1, clause 7: system configurations).
 #![tactic(auto)]
 
-mod computed;
 mod laws;
 mod planning;
 
-pub use computed::{is_of_plan, plan_of_unit_with};
+pub use fb_mapping::is_system;
 pub use fb_mapping::placing::{Command, ResourcePlan};
 pub use laws::{
     has_plan_by_text, one_plan, plan_at_is_local, plan_at_is_plan, plan_at_of_systems,
     plan_is_local,
 };
-pub use planning::{Deploy, plan, plan_with};
+pub use planning::{Deploy, plan, plan_by_net, plan_with};
 
 /// Of `fb_parse`, for the crates above.
 pub mod parse {
@@ -40,5 +39,8 @@ pub mod placing {
 
 /// Of `fb_flatten`, for the crates above.
 pub mod flatten {
-    pub use fb_mapping::flatten::{Hints, Net, all_far, is_of_net, net_of_unit_with};
+    pub use fb_mapping::flatten::{
+        Computed, Hints, Inner, Known, Net, NetsAlone, NoHints, all_far, compute, has_net,
+        is_subapplication, net_with,
+    };
 }

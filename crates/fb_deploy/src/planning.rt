@@ -1,9 +1,12 @@
 //! The plans of systems.
-ghost use Rattle.std.specs.Prelude.{◌≡◌, IfOk};
+ghost use Rattle.std.specs.Prelude.{◌≡◌, IfOk, Some};
 ghost use Rattle.fb_mapping.specs.Flatten.Hints.{AreRightHints};
+ghost use Rattle.fb_mapping.specs.Flatten.Net.{plain_net};
+ghost use Rattle.fb_mapping.specs.Flatten.Nets.{net_at};
 ghost use Rattle.fb_mapping.specs.Library.View.{tree_at};
 ghost use Rattle.fb_mapping.specs.Placed.{IsSystem};
 ghost use Rattle.fb_deploy.specs.Deploy.{IsPlan, flat_plan, plain_deploy, tree_plan};
+ghost use Rattle.fb_deploy.specs.Plans.{plan_at};
 
 use fb_mapping::flatten::{Hints, Net, NoHints, net_with};
 use fb_mapping::library::View;
@@ -58,11 +61,48 @@ fn plan_flat<V: View>(
     }
 }
 
+/// The names once more.
+fn copied(alloc: Global, names: &[Name]) -> Result<Vec<Name>, AllocError>
+    ensures { IfOk result (λ copy. copy.items ≡ names.now) }
+{
+    let mut copy = Vec::new(alloc);
+    copy.extend_from_slice(names)?;
+    Ok(copy)
+}
+
+/// The plan of a system whose net this is.
+pub fn plan_by_net<V: View>(
+    alloc: Global,
+    view: &V,
+    system: Name,
+    net: &Net,
+) -> Result<Deploy, AllocError>
+    requires system { IsSystem (V.sources view.now) system }
+    requires net { net_at (V.sources view.now) system ≡ Some (plain_net net.now) }
+    ensures { IfOk result
+        (λ deploy. plan_at (V.sources view.now) system ≡ Some (plain_deploy deploy)) }
+{
+    match net {
+        Net::Blocked(names) => {
+            let names = copied(alloc, names.as_slice())?;
+            Ok(Deploy::Stopped(Net::Blocked(names)))
+        }
+        Net::Recursive(names) => {
+            let names = copied(alloc, names.as_slice())?;
+            Ok(Deploy::Stopped(Net::Recursive(names)))
+        }
+        Net::TooLarge => Ok(Deploy::Stopped(Net::TooLarge)),
+        Net::Flat { flat, .. } => plan_flat(alloc, view, &system, flat),
+    }
+}
+
 /// The commands that make the blocks of a system on its resources, set their parameters, join them and start the resources, and the links
 /// that are left, those between resources; or why there is no flat network, or what is misplaced.
 pub fn plan<V: View>(alloc: Global, view: &V, system: Name) -> Result<Deploy, AllocError>
     requires { IsSystem (V.sources view.now) system }
-    ensures { IfOk result (λ deploy. IsPlan (V.sources view.now) system (plain_deploy deploy)) }
+    ensures is { IfOk result (λ deploy. IsPlan (V.sources view.now) system (plain_deploy deploy)) }
+    ensures at { IfOk result
+        (λ deploy. plan_at (V.sources view.now) system ≡ Some (plain_deploy deploy)) }
 {
     plan_with(alloc, view, system, &NoHints)
 }
@@ -76,10 +116,10 @@ pub fn plan_with<V: View, H: Hints>(
 ) -> Result<Deploy, AllocError>
     requires system { IsSystem (V.sources view.now) system }
     requires right { AreRightHints (V.sources view.now) (H.hints hints.now) }
-    ensures { IfOk result (λ deploy. IsPlan (V.sources view.now) system (plain_deploy deploy)) }
+    ensures is { IfOk result (λ deploy. IsPlan (V.sources view.now) system (plain_deploy deploy)) }
+    ensures at { IfOk result
+        (λ deploy. plan_at (V.sources view.now) system ≡ Some (plain_deploy deploy)) }
 {
-    match net_with(alloc, view, system, hints)? {
-        Net::Flat { flat, .. } => plan_flat(alloc, view, &system, &flat),
-        net => Ok(Deploy::Stopped(net)),
-    }
+    let net = net_with(alloc, view, system, hints)?;
+    plan_by_net(alloc, view, system, &net)
 }

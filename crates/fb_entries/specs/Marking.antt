@@ -1,7 +1,7 @@
 -- What small steps write to entries and to sets of keys.
 use Rattle.std.specs.Prelude.{◌≡◌, Bool, true, false, List, Option, Some, None, is_none, if◌then◌else◌}
 use Rattle.std.specs.List.{list_any}
-use Rattle.std.specs.Option.{option_map}
+use Rattle.std.specs.Option.{option_map, option_or}
 use Rattle.std.specs.BTreeMap as tree
 use Rattle.std.specs.BTreeSet as set
 use Rattle.std.specs.declared.sync.Arc.{Arc}
@@ -19,19 +19,36 @@ is_of key keys = list_any (same_key key) keys
 
 -- an entry that waits for a result
 abbrev pub blank : Entry
-blank = record { value = None; out = false }
+blank = record { value = None; out = false; found = None; former = None }
+
+-- an entry that has no value
+abbrev pub is_unkept : Entry → Bool
+is_unkept it = is_none it.value
 
 -- an entry with this handed-out mark
 abbrev pub with_out : Bool → Entry → Entry
 with_out out it = record it { out = out }
 
--- an entry that is not handed out, with this value
+-- an entry that is not handed out, with this value, and with nothing from before
 abbrev pub with_value : Arc Value Global → Entry → Entry
-with_value value it = record it { value = Some value; out = false }
+with_value value it = record { value = Some value; out = false; found = None; former = None }
+
+-- what was found for an entry that has no value
+abbrev pub unless_kept : Option (Arc Value Global) → Arc Value Global → Option (Arc Value Global)
+unless_kept None found = Some found
+unless_kept (Some value) found = None
+
+-- an entry for which this was found
+abbrev pub with_found : Arc Value Global → Entry → Entry
+with_found found it = record it { found = unless_kept it.value found }
+
+-- an entry that waits for a result again: what was found for it is gone, and the value that it had last is the former one
+abbrev pub waiting : Entry → Entry
+waiting it = record { value = None; out = false; found = None; former = option_or it.value it.former }
 
 -- the entry of a key that is to wait for a result or not
 abbrev pub waiting_if : Bool → Option Entry → Option Entry
-waiting_if renewed it = if renewed then option_map (λ (old : Entry). blank) it else it
+waiting_if renewed it = if renewed then option_map waiting it else it
 
 -- the entry of the key, if there is one, is changed, and no other
 abbrev pub ChangesEntry : Key → (Entry → Entry) → tree.BTreeMap Key Entry → tree.BTreeMap Key Entry → Type 0

@@ -1,17 +1,38 @@
 //! What is kept of a key.
-ghost use Rattle.std.specs.Prelude.{true, false, OnOk, OnErr};
-ghost use Rattle.fb_entries.specs.Marking.{with_out, with_value, ChangesEntry, RenewsEntry, MarksKey, SameKeys};
+ghost use Rattle.std.specs.Prelude.{◌≡◌, true, false, OnOk, OnErr};
+ghost use Rattle.std.specs.Option.{option_or};
+ghost use Rattle.fb_entries.specs.Marking.{blank, unless_kept, with_found, with_out, with_value, ChangesEntry, RenewsEntry, MarksKey, SameKeys};
 
 use fb_jobs::{Key, Value};
 use std::alloc::AllocError;
 use std::collections::{BTreeMap, BTreeSet};
 use std::sync::Arc;
 
-/// What is kept of a key: its value unless it is pending, and whether it is handed out.
+/// What is kept of a key.
 #[derive(Drop)]
 pub struct Entry {
+    /// Its value, unless it is pending.
     pub value: Option<Arc<Value>>,
+    /// Whether it is handed out.
     pub out: bool,
+    /// Of a pending key its value, where a job for another key computed it on the way.
+    pub found: Option<Arc<Value>>,
+    /// Of a pending key the value that it had before, to be shared where it comes out again.
+    pub former: Option<Arc<Value>>,
+}
+
+impl Entry {
+    /// An entry that waits for a result.
+    pub(crate) fn blank() -> Entry
+        ensures { result ≡ blank }
+    {
+        Entry {
+            value: None,
+            out: false,
+            found: None,
+            former: None,
+        }
+    }
 }
 
 /// Marks a key that has an entry as handed out or not.
@@ -30,16 +51,49 @@ pub fn keep(entries: &mut BTreeMap<Key, Entry>, key: &Key, value: Arc<Value>)
     if let Some(entry) = entries.get_mut(key) {
         entry.value = Some(value);
         entry.out = false;
+        entry.found = None;
+        entry.former = None;
     }
 }
 
-/// Lets a key that has an entry wait for a result; the key is not handed out then.
+/// What was found for an entry that has this value: nothing, if it has one.
+fn unless_kept(value: &Option<Arc<Value>>, found: Arc<Value>) -> Option<Arc<Value>>
+    ensures { result ≡ unless_kept value.now found }
+{
+    match value {
+        Some(_) => None,
+        None => Some(found),
+    }
+}
+
+/// Keeps for a pending key that has an entry the value that a job for another key computed on its way. The key stays pending.
+pub fn keep_found(entries: &mut BTreeMap<Key, Entry>, key: &Key, found: Arc<Value>)
+    ensures { ChangesEntry key.now (with_found found) entries.old entries.new }
+{
+    if let Some(entry) = entries.get_mut(key) {
+        entry.found = unless_kept(&entry.value, found);
+    }
+}
+
+/// The value, or else the former one.
+fn last_of(value: Option<Arc<Value>>, former: Option<Arc<Value>>) -> Option<Arc<Value>>
+    ensures { result ≡ option_or value former }
+{
+    match value {
+        Some(value) => Some(value),
+        None => former,
+    }
+}
+
+/// Lets a key that has an entry wait for a result; the key is not handed out then, and what was found for it is dropped.
 pub(crate) fn renew(entries: &mut BTreeMap<Key, Entry>, key: &Key)
     ensures { RenewsEntry key.now entries.old entries.new }
 {
     if let Some(entry) = entries.get_mut(key) {
-        entry.value = None;
+        let former = last_of(entry.value.take(), entry.former.take());
+        let _ = entry.found.take();
         entry.out = false;
+        entry.former = former;
     }
 }
 

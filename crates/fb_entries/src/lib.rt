@@ -8,7 +8,7 @@ mod reach;
 mod renewal;
 
 pub use entries::{Entries, Found};
-pub use entry::{Entry, join, keep, leave, mark_out};
+pub use entry::{Entry, join, keep, keep_found, leave, mark_out};
 pub use renewal::Renewal;
 
 /// Of `fb_parse`, for the crates above.
@@ -28,5 +28,7 @@ pub mod index {
 
 /// Of `fb_jobs`, for the crates above.
 pub mod jobs {
-    pub use fb_jobs::{Finished, Job, Key, Read, Value, current_reads, locality};
+    pub use fb_jobs::{
+        Finished, Hint, Job, Key, Kind, Read, Value, current_nets, current_reads, locality,
+    };
 }

@@ -8,7 +8,7 @@ use Rattle.std.specs.BTreeMap.{is_at}
 use Rattle.fb_wiring.specs.Text.Order.{name_cmp}
 use Rattle.fb_wiring.specs.Tree.Tree.{DeclTree, block_type, adapter_type, subapplication_type, system_configuration}
 use Rattle.fb_wiring.specs.Tree.declared.kinds.UnitKind.TheVariants as kinds
-use Rattle.fb_wiring.specs.Library.View.{Sources, tree_at}
+use Rattle.fb_wiring.specs.Library.View.{Sources, mentions_at, tree_at}
 use Rattle.fb_wiring.specs.Network.declared.count.TheConstants.{INSTANCE_LIMIT}
 use Rattle.fb_wiring.specs.Network.declared.network.InstanceKind.TheVariants.{Subapplication}
 use Rattle.fb_wiring.specs.Network.declared.network.Instance.{Instance}
@@ -27,7 +27,7 @@ use Rattle.fb_wiring.proofs.Network.Equals.{same_bytes, at_not}
 use Rattle.fb_wiring.specs.Network.Counts.{IsCounted, AreCounted}
 use Rattle.fb_flatten.specs.Hints.{AreRightHints, count_of_hint}
 use Rattle.fb_flatten.specs.Net.{PlainNet, IsSound}
-use Rattle.fb_flatten.specs.Tables.{AllCounted, IsCountable, IsSmallType, IsSoundOrder, IsTable, IsUnitCount, IsUnitOrder, SameOthers, is_subapplication_in}
+use Rattle.fb_flatten.specs.Tables.{AllCounted, IsCountable, IsSmallType, IsSoundOrder, IsTable, IsUnitCount, SameOthers, is_subapplication_in}
 use Rattle.fb_wiring.specs.Units.{own_instances}
 use Rattle.fb_flatten.proofs.ComputedNets.{unit_faultless}
 use Rattle.fb_flatten.proofs.HintLemmas.{kept_counted}
@@ -103,8 +103,8 @@ module _ {sources : Sources} {hints : List ℕ → Option PlainNet} {table : Vie
       }
 
 -- the unit is counted by the counts of its inner types
-pub unit_counted : {sources : Sources} {hints : List ℕ → Option PlainNet} {unit : List ℕ} {order : List (List ℕ)} {counts : List ℕ → Option ℕ} (tree : DeclTree) (instances : List Instance) (count : ℕ) → IsUnitOrder sources hints unit order → tree_at sources unit ≡ Some tree → AllCounted sources counts order → instances ≡ own_instances tree → ((view : View) → AreCounted view instances counts → IsCount view instances count) → IsUnitCount sources unit count
-unit_counted {sources = sources} {unit = unit} tree instances count o present all same counted =
+pub unit_counted : {sources : Sources} {unit : List ℕ} {counts : List ℕ → Option ℕ} (tree : DeclTree) (instances : List Instance) (count : ℕ) → IsSound sources unit → tree_at sources unit ≡ Some tree → AllCounted sources counts (mentions_at sources unit) → instances ≡ own_instances tree → ((view : View) → AreCounted view instances counts → IsCount view instances count) → IsUnitCount sources unit count
+unit_counted {sources = sources} {unit = unit} tree instances count sound present all same counted =
     record {
       held = c.held;
       holds = record { tree = tree; present = present; instances = subst (λ (l : List Instance). AreInstances (declared sources) l c.held) same c.instances };
@@ -116,7 +116,7 @@ unit_counted {sources = sources} {unit = unit} tree instances count o present al
 
     c : IsCount (declared sources) instances count
     c = counted (declared sources)
-        (λ i h k. all i.type_name (o.mentions i.type_name (own_within sources unit tree present i (own i h))) (own_kind sources unit tree (o.names.sound unit o.own) present i (own i h) k))
+        (λ i h k. all i.type_name (own_within sources unit tree present i (own i h)) (own_kind sources unit tree sound present i (own i h) k))
 
 -- ---- sizes
 

@@ -27,7 +27,7 @@ use Rattle.fb_wiring.proofs.Network.Equals.{same_bytes, not_at, at_not}
 use Rattle.fb_wiring.specs.Network.Ready.{Nets, IsFinished, AreFinished}
 use Rattle.fb_flatten.specs.Hints.{AreRightHints, count_of_hint, flat_of_hint}
 use Rattle.fb_flatten.specs.Net.{PlainNet}
-use Rattle.fb_flatten.specs.Tables.{AllFinished, AreComposedTogether, IsAdded, IsComposed, IsSmall, IsSmallType, IsTable, IsUnitOrder, SameOthers, is_missing, is_subapplication_in, is_system_tree, known_flats}
+use Rattle.fb_flatten.specs.Tables.{AllFinished, AreComposedTogether, AreMissing, IsAdded, IsComposed, IsSmall, IsSmallType, IsTable, IsUnitOrder, SameOthers, is_missing, is_subapplication_in, is_system_tree, known_flats}
 use Rattle.fb_wiring.specs.Units.{HasNet, IsUnitFlat, OfSubapplication, OfSystem, own_instances}
 use Rattle.fb_flatten.proofs.ComposeLemmas.{application_composable, type_composable}
 use Rattle.fb_flatten.proofs.CountLemmas.{inner_kind, inner_small, own_kind}
@@ -46,15 +46,20 @@ in_take {X = X} (suc k) (y ∷ ys) x c = by_case (contains_cases y (take k ys) x
     by_case (inl e) more = subst (λ (z : X). Contains (y ∷ ys) z) e (contains_here y ys)
     by_case (inr h) more = contains_later y ys x (more h)
 
-and_first : (a b : Bool) → (a && b) ≡ true → a ≡ true
+pub and_first : (a b : Bool) → (a && b) ≡ true → a ≡ true
 and_first true b e = refl
 and_first false b e = absurd (false≢true e)
 
-and_second : (a b : Bool) → (a && b) ≡ true → b ≡ true
+pub and_second : (a b : Bool) → (a && b) ≡ true → b ≡ true
 and_second true b e = e
 and_second false b e = absurd (false≢true e)
 
 -- ---- the names of an order
+
+-- what is composed, when these names of the order are passed
+pub record AreComposed (sources : Sources) (hints : List ℕ → Option PlainNet) (unit : List ℕ) (order names : List (List ℕ)) (composed : Nets) : Type 0 where
+  pub finished : AllFinished sources (known_flats hints composed) unit names
+  pub missing : AreMissing sources hints unit order composed
 
 pub finished_nothing : (sources : Sources) (nets : Nets) (unit : List ℕ) → AllFinished sources nets unit []
 finished_nothing sources nets unit name c other kind small = absurd (contains_nothing name c)
@@ -79,6 +84,14 @@ module _ (sources : Sources) (hints : List ℕ → Option PlainNet) (unit : List
             flat = f.flat;
           }
       by_test false e (inr s) = absurd (at_not name q e (sym s))
+
+  -- a further name that is missing
+  pub missing_more : (order : List (List ℕ)) (old new : Nets) → AreMissing sources hints unit order old → SameOthers old new name → Contains order name → is_missing sources hints unit name ≡ true → AreMissing sources hints unit order new
+  missing_more order old new all others c missing q flat e = by_test (is_at (name_cmp name) q) refl
+    where
+      by_test : (b : Bool) → is_at (name_cmp name) q ≡ b → Contains order q × (is_missing sources hints unit q ≡ true)
+      by_test true t = subst (λ (n : List ℕ). Contains order n × (is_missing sources hints unit n ≡ true)) (same_bytes name q t) (c, missing)
+      by_test false t = all q flat (sym (others q (at_not name q t)) ∙ e)
 
   -- a further name that is not missing
   pub finished_skip : (composed : Nets) → AreRightHints sources hints → is_missing sources hints unit name ≡ false → AllFinished sources (known_flats hints composed) unit names → AllFinished sources (known_flats hints composed) unit (names ++ name ∷ [])

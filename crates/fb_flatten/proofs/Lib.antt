@@ -23,6 +23,7 @@ pub mod RestLemmas
 pub mod CountLemmas
 pub mod ComposeLemmas
 pub mod FlatsLemmas
+pub mod InnerNets
 pub mod SuspectLemmas
 -- Of the crates below, for the crates above.
 pub use Rattle.fb_wiring.proofs.Parse as Parse

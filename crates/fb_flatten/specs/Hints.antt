@@ -1,7 +1,8 @@
 -- Nets that are kept from before.
-use Rattle.std.specs.Prelude.{◌≡◌, ℕ, List, Option, Some}
+use Rattle.std.specs.Prelude.{◌≡◌, ℕ, Bool, true, false, List, Option, Some}
 use Rattle.fb_wiring.specs.Library.View.{Sources}
 pub use Rattle.fb_wiring.specs.Hints.{flat_of_net, flat_of_hint, is_whole_net, is_whole_hint, count_of_net, count_of_hint, is_left, left_of}
+use Rattle.fb_flatten.specs.Blocking.{is_blocking}
 use Rattle.fb_flatten.specs.Net.{PlainNet}
 use Rattle.fb_flatten.specs.Nets.{net_at}
 
@@ -9,3 +10,7 @@ use Rattle.fb_flatten.specs.Nets.{net_at}
 abbrev pub AreRightHints : Sources → (List ℕ → Option PlainNet) → Type 0
 AreRightHints sources hints =
     (name : List ℕ) (net : PlainNet) → hints name ≡ Some net → net_at sources name ≡ Some net
+
+-- each unit that is known to be without faults is there and has none
+abbrev pub AreFaultless : Sources → (List ℕ → Bool) → Type 0
+AreFaultless sources faultless = (name : List ℕ) → faultless name ≡ true → is_blocking sources name ≡ false

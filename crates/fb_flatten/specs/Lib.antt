@@ -10,6 +10,7 @@ pub mod Far
 pub mod Nets
 pub mod Hints
 pub mod Suspects
+pub mod Inner
 -- Of the crates below, for the crates above.
 pub use Rattle.fb_wiring.specs.Parse as Parse
 pub use Rattle.fb_wiring.specs.Library as Library

@@ -1,5 +1,5 @@
 -- The net of a unit, computed from the texts.
-use Rattle.std.specs.Prelude.{◌≡◌, ℕ, zero, suc, Bool, true, false, if◌then◌else◌, nat_lt, List, [], ◌∷◌, ◌++◌, length, map, filter, Option, Some, None, ◌↔◌}
+use Rattle.std.specs.Prelude.{◌≡◌, ℕ, zero, suc, Bool, true, if◌then◌else◌, nat_lt, List, [], ◌∷◌, ◌++◌, length, map, filter, Option, Some, None, ◌↔◌}
 use Rattle.std.specs.List.{flat_map, list_any}
 use Rattle.fb_wiring.specs.Text.Order.{in_order}
 use Rattle.fb_wiring.specs.Tree.Tree.{DeclTree, block_type, adapter_type, subapplication_type, system_configuration}
@@ -25,7 +25,7 @@ use Rattle.fb_wiring.specs.Networks.{network_of}
 use Rattle.fb_wiring.specs.declared.systems.Application.{Application}
 use Rattle.fb_flatten.specs.Blocking.{is_blocking}
 use Rattle.fb_flatten.specs.Net.{PlainNet, blocked, recursive, too_large, flat_net, IsNet}
-use Rattle.fb_wiring.specs.Units.{HasNet, has_net_tree, own_instances}
+pub use Rattle.fb_wiring.specs.Units.{HasNet, has_net_tree, has_net_in, own_instances}
 use Rattle.fb_flatten.specs.Far.{far_of}
 
 -- ---- flat networks
@@ -111,11 +111,6 @@ abbrev pub net_of_tree : Sources → List ℕ → DeclTree → PlainNet
 net_of_tree sources unit tree =
     let names = far_of sources unit in
     first_net (filter (is_blocking sources) names) (filter (is_recursive sources) names) (finite_net (length names) sources tree)
-
--- whether a unit with this tree, or with none, has a net
-abbrev pub has_net_in : Option DeclTree → Bool
-has_net_in None = false
-has_net_in (Some tree) = has_net_tree tree
 
 -- a unit has its net by its own text
 abbrev pub HasNetByText : Type 0

@@ -1,8 +1,10 @@
 -- Orders of names, and what is found by tables.
-use Rattle.std.specs.Prelude.{◌≡◌, ℕ, ◌<◌, List, Option, None, Contains, length, take, slice_index_or}
+use Rattle.std.specs.Prelude.{◌≡◌, ℕ, ◌<◌, true, List, Option, None, Some, Contains, length, take, slice_index_or}
 use Rattle.fb_wiring.specs.Library.View.{Sources, mentions_at}
 use Rattle.fb_wiring.specs.Library.Rests.{Rests}
-pub use Rattle.fb_wiring.specs.Tables.{IsTrue, Has, HasAdapter, HasAdapters, Grows, HasType, IsTable, AllCounted, IsCountable, IsCountByTable, IsTypeCount, IsCountedWhereKnown, SameOthers, IsUnitCount, IsSmallType, IsSmall, known_flats, IsComposed, IsAdded, AllFinished, is_subapplication_tree, is_subapplication_in, is_missing, IsComposable, AreComposable, IsComposedApplication, AreComposedApplications, IsFlatTogether, AreComposedTogether, is_system_tree}
+pub use Rattle.fb_wiring.specs.Tables.{IsTrue, Has, HasAdapter, HasAdapters, Grows, HasType, IsTable, AllCounted, IsCountable, IsCountByTable, IsTypeCount, IsCountedWhereKnown, SameOthers, IsUnitCount, IsSmallType, IsSmall, known_flats, IsComposed, IsAdded, AllFinished, is_subapplication_tree, is_subapplication_in, is_missing, IsComposable, AreComposable, IsComposedApplication, AreComposedApplications, IsFlatTogether, AreComposedTogether, is_system_tree, is_system_in}
+use Rattle.fb_wiring.specs.Network.PlainFlat.{PlainFlat}
+use Rattle.fb_wiring.specs.Network.Ready.{Nets}
 use Rattle.fb_flatten.specs.Hints.{count_of_hint}
 use Rattle.fb_flatten.specs.Net.{PlainNet, IsSound}
 
@@ -21,3 +23,9 @@ pub record IsUnitOrder (sources : Sources) (hints : List ℕ → Option PlainNet
   pub own : Contains order unit
   pub mentions : (w : List ℕ) → Contains (mentions_at sources unit) w → Contains order w
   pub below : (name : List ℕ) → Contains order name → Rests sources unit name
+
+-- what is composed is that of names of the order that are missing for the unit
+abbrev pub AreMissing : Sources → (List ℕ → Option PlainNet) → List ℕ → List (List ℕ) → Nets → Type 0
+AreMissing sources hints unit order composed =
+    (name : List ℕ) (flat : PlainFlat)
+    → composed name ≡ Some flat → Contains order name × (is_missing sources hints unit name ≡ true)

@@ -1,25 +1,29 @@
 //! What keeps a unit from having a flat network.
 ghost use Rattle.std.specs.Prelude.{◌≡◌, IfOk, filter};
 ghost use Rattle.fb_flatten.specs.Blocking.{is_blocking, is_some_name};
-ghost use Rattle.fb_flatten.specs.Hints.{AreRightHints};
+ghost use Rattle.fb_flatten.specs.Hints.{AreFaultless, AreRightHints};
 
 use fb_faults::faults;
 use fb_wiring::library::View;
 use fb_wiring::text::Name;
-use fb_wiring::{Hints, is_known_whole};
+use fb_wiring::{Hints, Known, is_known_whole};
 use std::alloc::{AllocError, Global};
 
 /// Whether the name is that of no unit, or of one with faults.
-fn blocks<V: View, H: Hints>(
+fn blocks<V: View, K: Hints + Known>(
     alloc: Global,
     view: &V,
-    hints: &H,
+    known: &K,
     name: &Name,
 ) -> Result<bool, AllocError>
-    requires { AreRightHints (V.sources view.now) (H.hints hints.now) }
+    requires right { AreRightHints (V.sources view.now) (K.hints known.now) }
+    requires faultless { AreFaultless (V.sources view.now) (K.faultless known.now) }
     ensures { IfOk result (λ is. is ≡ is_blocking (V.sources view.now) name.now) }
 {
-    if is_known_whole(hints, name) {
+    if is_known_whole(known, name) {
+        return Ok(false);
+    }
+    if known.is_faultless(name) {
         return Ok(false);
     }
     if view.get(name).is_none() {
@@ -30,19 +34,20 @@ fn blocks<V: View, H: Hints>(
 }
 
 /// The names among these that are those of no unit, or of one with faults, in the same order.
-pub(crate) fn blocking<V: View, H: Hints>(
+pub(crate) fn blocking<V: View, K: Hints + Known>(
     alloc: Global,
     view: &V,
-    hints: &H,
+    known: &K,
     names: &[Name],
 ) -> Result<Vec<Name>, AllocError>
-    requires { AreRightHints (V.sources view.now) (H.hints hints.now) }
+    requires right { AreRightHints (V.sources view.now) (K.hints known.now) }
+    requires faultless { AreFaultless (V.sources view.now) (K.faultless known.now) }
     ensures { IfOk result
         (λ found. found.items ≡ filter (is_blocking (V.sources view.now)) names.now) }
 {
     let mut found = Vec::new(alloc);
     for name in names {
-        if blocks(alloc, view, hints, name)? {
+        if blocks(alloc, view, known, name)? {
             found.push(*name)?;
         }
     }

@@ -3,7 +3,7 @@ ghost use Rattle.std.specs.Prelude.{IfOk};
 ghost use Rattle.std.specs.BTreeMap.{get};
 ghost use Rattle.fb_wiring.specs.Text.Order.{name_cmp};
 ghost use Rattle.fb_flatten.specs.Hints.{AreRightHints};
-ghost use Rattle.fb_flatten.specs.Tables.{AllFinished, IsTable, IsUnitOrder, known_flats};
+ghost use Rattle.fb_flatten.specs.Tables.{AllFinished, AreMissing, IsTable, IsUnitOrder, known_flats};
 
 use fb_wiring::library::View;
 use fb_wiring::plain::Flat;
@@ -24,9 +24,12 @@ pub(crate) fn missing_flats<V: View, H: Hints>(
     requires order { IsUnitOrder (V.sources view.now) (H.hints hints.now) unit.now order.now }
     requires table { IsTable (V.sources view.now) (get name_cmp table.now) order.now }
     requires right { AreRightHints (V.sources view.now) (H.hints hints.now) }
-    ensures { IfOk result (λ composed.
+    ensures finished { IfOk result (λ composed.
         AllFinished (V.sources view.now)
         (known_flats (H.hints hints.now) (get name_cmp composed)) unit.now order.now) }
+    ensures missing { IfOk result (λ composed.
+        AreMissing (V.sources view.now) (H.hints hints.now) unit.now order.now
+        (get name_cmp composed)) }
 {
     let mut composed = BTreeMap::new(alloc);
     for name in order {

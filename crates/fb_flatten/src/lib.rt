@@ -3,26 +3,30 @@
 
 mod blocking;
 mod clean_laws;
-mod computed;
+mod computing;
 mod counts;
+mod far;
 mod flats;
+mod inner;
 mod laws;
-mod scratch;
+mod nets;
 mod suspects;
-mod unit_net;
 mod units;
 
 pub use clean_laws::{
     applications_are_clean, networks_are_clean, without_faults_nothing_is_reported,
 };
-pub use computed::{all_far, is_of_net, net_of_unit, net_of_unit_with};
-pub use fb_wiring::{Hints, Net, NoHints, has_net, is_of_system};
+pub use computing::{Computed, compute};
+pub use far::all_far;
+pub use fb_wiring::{
+    Hints, Known, Net, NetsAlone, NoHints, has_net, is_of_system, is_subapplication,
+};
+pub use inner::Inner;
 pub use laws::{
     far_is_all, far_of_is_local, flat_networks_are_local, has_net_by_text, net_at_is_local,
     net_at_is_net, net_is_local, one_net,
 };
-pub use scratch::net;
-pub use unit_net::net_with;
+pub use nets::{net, net_with};
 
 /// Of `fb_text`, for the crates above.
 pub mod text {

@@ -1,37 +1,40 @@
--- Nets that are kept are right in the reads of a job that needs all that its unit rests on.
-use Rattle.std.proofs.Common.{◌≡◌, ◌⊎◌, inl, inr, ℕ, Bool, true, false, cond, ◌||◌, List, [], ◌∷◌, ◌++◌, refl, sym, ap, subst, ◌∙◌, Option, Some, None}
-use Rattle.std.specs.Map.{lookup}
+-- What is kept is right in the reads of a job that needs all that its unit rests on.
+use Rattle.std.proofs.Common.{arith, ◌≡◌, ◌≢◌, ℕ, Bool, true, false, cond, ◌&&◌, not, List, [], ◌∷◌, ◌++◌, refl, sym, ap, subst, ◌∙◌, Option, filter, All, Contains}
 use Rattle.std.specs.BTreeMap.{is_at}
-use Rattle.std.specs.Ordering.{is_eq}
-use Rattle.std.specs.BTreeMap as tree
-use Rattle.std.specs.declared.sync.Arc.{Arc}
-use Rattle.std.specs.declared.alloc.Global.{Global}
+use Rattle.std.specs.List.{AllPairs, AllByRecursion}
+use Rattle.std.specs.List.Sorted.{IsStrictlySortedBy}
+use Rattle.std.specs.Option.{option_and_then}
+use Rattle.std.specs.declared.cmp.Ordering.TheVariants.{Less}
+use Rattle.std.proofs.lemmas.List.Elements.{All-nil, All-cons, All-push, All-contains, All-contains_itself, filter-append}
+use Rattle.std.proofs.lemmas.List.Kept.{AllPairs-cons, IsStrictlySortedBy-filter}
+use Rattle.std.proofs.lemmas.Cmp.{tied_itself}
+use Rattle.std.proofs.lemmas.List.{append-nil, map-append}
 use Rattle.fb_text.specs.Order.{name_cmp}
+use Rattle.fb_text.proofs.Members.{contains_map, passes_in_filter}
 use Rattle.fb_deploy.specs.Library.Texts.{Texts, sources_of}
-use Rattle.fb_deploy.specs.Library.View.{Sources}
+use Rattle.fb_deploy.specs.Library.View.{Sources, tree_of}
 use Rattle.fb_deploy.specs.Library.Rests.{Rests, itself, through}
+use Rattle.fb_deploy.proofs.Library.Names.{name_total}
+use Rattle.fb_deploy.proofs.Library.Sources.{get_source}
 use Rattle.fb_deploy.proofs.Library.WalkLemmas.{has-Contains, Contains-has}
 use Rattle.fb_deploy.specs.Flatten.Far.{far_of}
-use Rattle.fb_deploy.specs.Flatten.Net.{PlainNet, plain_net}
-use Rattle.fb_deploy.specs.Flatten.Nets.{net_at}
-use Rattle.fb_deploy.specs.Flatten.Hints.{AreRightHints}
+use Rattle.fb_deploy.specs.Flatten.Tables.{is_subapplication_in}
 use Rattle.fb_deploy.proofs.Flatten.FarNames.{far_is_all}
+use Rattle.fb_jobs.specs.declared.hints.Hint.{Hint}
 use Rattle.fb_jobs.specs.declared.key.Kind.{Kind}
 use Rattle.fb_jobs.specs.declared.key.Kind.TheVariants as kind
 use Rattle.fb_jobs.specs.declared.key.Key.{Key}
-use Rattle.fb_jobs.specs.declared.value.Value.{Value}
-use Rattle.fb_jobs.specs.declared.value.Value.TheVariants.{Faults, Net, Deploy}
-use Rattle.fb_jobs.specs.Keys.{Finding, NetFound, needs, needs_of, scratch, net_finding}
+use Rattle.fb_jobs.specs.Keys.{Finding, needs, needs_of, scratch}
 use Rattle.fb_jobs.specs.Kept.{AreKept}
 use Rattle.fb_jobs.specs.Kinds.{needs_all}
-use Rattle.fb_jobs.specs.Reads.{Seen, is_among, read_names, read_texts, reads_for}
+use Rattle.fb_jobs.specs.Reads.{is_among, read_names, read_texts, reads_for}
 use Rattle.fb_jobs.specs.Values.{finding_of, all_seen}
-use Rattle.fb_jobs.specs.Hints.{Nets, AreHints, AreChosen, AreOfReads, AddsHint, net_key, net_in, hint_in}
+use Rattle.fb_jobs.specs.Hints.{AddsChosen, AreChosen, AreHints, IsHint, IsKeptHint, is_chosen, is_other_subapplication, net_key, units_of}
 use Rattle.fb_jobs.specs.declared.read.Read.{Read}
-use Rattle.fb_jobs.proofs.SameNeeds.{scratch_local, same_at, at_itself}
+use Rattle.fb_jobs.proofs.SameNeeds.{scratch_local, needs_local, needs_rise}
 use Rattle.fb_jobs.proofs.Currents.{agree_for, names_under}
 
-rests_on : {sources : Sources} {a b c : List ℕ} → Rests sources a b → Rests sources b c → Rests sources a c
+pub rests_on : {sources : Sources} {a b c : List ℕ} → Rests sources a b → Rests sources b c → Rests sources a c
 rests_on itself k = k
 rests_on (through m h) k = through m (rests_on h k)
 
@@ -47,79 +50,112 @@ within_kind kind.Faults sources unit name n far first second = cc
 within_kind kind.Net sources unit name n far first second = far_within sources unit name n first second
 within_kind kind.Deploy sources unit name n far first second = far_within sources unit name n first second
 
-net_needed : (T : Texts) (key : Key) (name n : List ℕ) → needs_all key.kind ≡ true → is_among name (needs T key) ≡ true → is_among n (needs T (net_key name)) ≡ true → is_among n (needs T key) ≡ true
+pub net_needed : (T : Texts) (key : Key) (name n : List ℕ) → needs_all key.kind ≡ true → is_among name (needs T key) ≡ true → is_among n (needs T (net_key name)) ≡ true → is_among n (needs T key) ≡ true
 unfolding needs
 net_needed T key name n far first second = within_kind key.kind (sources_of T) key.unit name n far first second
 
--- the kept nets that are chosen are what the reads give
-pub chosen_hold : (T : Texts) (key : Key) (kept : Key → Option Finding) (nets : Nets) → AreKept T kept → AreChosen key.kind kept (reads_for T key) nets → AreHints (read_texts (reads_for T key)) nets
-chosen_hold T key kept nets right chosen name value there =
-    let it = chosen.0 name value there in
-    let read : is_among name (needs T key) ≡ true = ap (is_among name) (sym (names_under T (needs T key))) ∙ it.0 in
-    right (net_key name) (finding_of value.value) it.1
-    ∙ sym (scratch_local T (read_texts (reads_for T key)) (net_key name) (λ n among. agree_for T key n (net_needed T key name n (chosen.1 name value there) read among)))
+-- ---- in the reads it is as in the texts
 
-net_found : (o : Option PlainNet) (net : PlainNet) → NetFound net ≡ net_finding o → o ≡ Some net
-net_found None net e = cc
-net_found (Some other) net e = cc
+-- the net of what is needed
+pub net_stays : (T : Texts) (key : Key) (name : List ℕ) → needs_all key.kind ≡ true → is_among name (needs T key) ≡ true → scratch (read_texts (reads_for T key)) (net_key name) ≡ scratch T (net_key name)
+net_stays T key name all needed =
+    scratch_local T (read_texts (reads_for T key)) (net_key name) (λ n among. agree_for T key n (net_needed T key name n all needed among))
 
-net_of_scratch : (T : Texts) (name : List ℕ) (net : PlainNet) → NetFound net ≡ scratch T (net_key name) → net_at (sources_of T) name ≡ Some net
-unfolding scratch
-net_of_scratch T name net e = net_found (net_at (sources_of T) name) net e
+other_stays : (T : Texts) (key : Key) (name : List ℕ) → is_among name (needs T key) ≡ true → is_other_subapplication T key.unit name ≡ true → is_other_subapplication (read_texts (reads_for T key)) key.unit name ≡ true
+other_stays T key name needed e =
+    let read = read_texts (reads_for T key) in
+    ap (λ (o : Option (List ℕ)). not (is_at (name_cmp key.unit) name) && is_subapplication_in (option_and_then tree_of o)) (get_source read name ∙ sym (agree_for T key name needed) ∙ sym (get_source T name)) ∙ e
 
-value_right : (T : Texts) (name : List ℕ) (value : Value) (net : PlainNet) → finding_of value ≡ scratch T (net_key name) → net_in value ≡ Some net → net_at (sources_of T) name ≡ Some net
-value_right T name (Faults faults) net is e = cc
-value_right T name (Net it) net is e = net_of_scratch T name (plain_net it) is ∙ e
-value_right T name (Deploy deploy) net is e = cc
+hint_stays : (T : Texts) (key : Key) (hint : Hint) → needs_all key.kind ≡ true → IsHint T key hint → IsHint (read_texts (reads_for T key)) key hint
+hint_stays T key hint all it = record {
+  other = other_stays T key hint.unit it.needed it.other;
+  needed = ap (is_among hint.unit) (needs_local T (read_texts (reads_for T key)) key (agree_for T key)) ∙ it.needed;
+  net_is = it.net_is ∙ sym (net_stays T key hint.unit all it.needed);
+}
 
-hint_right : (T : Texts) (name : List ℕ) (o : Option (Arc Value Global)) (net : PlainNet) → ((value : Arc Value Global) → o ≡ Some value → finding_of value.value ≡ scratch T (net_key name)) → hint_in o ≡ Some net → net_at (sources_of T) name ≡ Some net
-hint_right T name None net holds e = cc
-hint_right T name (Some value) net holds e = value_right T name value.value net (holds value refl) e
+none_left : (P : Hint → Type 0) (hints : List Hint) → hints ≡ [] → All P hints
+none_left P hints e = subst (All P) (sym e) (All-nil P)
 
--- so each is the net of its unit
-pub hints_right : (T : Texts) (nets : Nets) → AreHints T nets → AreRightHints (sources_of T) (λ name. hint_in (tree.get name_cmp nets name))
-hints_right T nets holds name net e = hint_right T name (tree.get name_cmp nets name) net (holds name) e
+each_stays : (T : Texts) (key : Key) (hints : List Hint) (all : Bool) → needs_all key.kind ≡ all → (all ≡ false → hints ≡ []) → All (IsHint T key) hints → All (IsHint (read_texts (reads_for T key)) key) hints
+each_stays T key hints false is none each = none_left (IsHint (read_texts (reads_for T key)) key) hints (none refl)
+each_stays T key hints true is none each = each_mapped hints each
+  where
+    each_mapped : (hints : List Hint) → All (IsHint T key) hints → All (IsHint (read_texts (reads_for T key)) key) hints
+    each_mapped hints each k d below = hint_stays T key _ is (each k d below)
+
+-- the hints of a job are those of its reads
+pub hints_stay : (T : Texts) (key : Key) (hints : List Hint) → AreHints T key hints → AreHints (read_texts (reads_for T key)) key hints
+hints_stay T key hints it = record {
+  none = it.none;
+  each = each_stays T key hints (needs_all key.kind) refl it.none it.each;
+  once = it.once;
+}
+
+-- ---- those that are chosen
+
+all_apart : (n : List ℕ) (hint : Hint) (hints : List Hint) → hint.unit ≡ n → AllByRecursion (λ m. name_cmp n m ≡ Less) (units_of hints) → All (λ (other : Hint). hint.unit ≢ other.unit) hints
+all_apart n hint [] e below = All-nil (λ (other : Hint). hint.unit ≢ other.unit)
+all_apart n hint (h ∷ hs) e below =
+    All-cons (λ (other : Hint). hint.unit ≢ other.unit) h hs
+    (λ (same : hint.unit ≡ h.unit). let itself = tied_itself name_total n in let less : name_cmp n n ≡ Less = subst (λ m. name_cmp n m ≡ Less) (sym same ∙ e) below.0 in cc)
+    (all_apart n hint hs e below.1)
+
+units_apart : (hints : List Hint) → IsStrictlySortedBy name_cmp (units_of hints) → AllPairs (λ (a b : Hint). a.unit ≢ b.unit) hints
+unfolding IsStrictlySortedBy
+units_apart [] sorted = λ i j d first last. absurd (omega (arith, last))
+units_apart (h ∷ hs) sorted = AllPairs-cons (λ (a b : Hint). a.unit ≢ b.unit) h hs (all_apart h.unit h hs refl sorted.0) (units_apart hs sorted.1)
+
+and_first : (a b : Bool) → (a && b) ≡ true → a ≡ true
+and_first true b e = refl
+and_first false b e = cc
+
+chosen_is : (T : Texts) (kept : Key → Option Finding) (key : Key) (hints : List Hint) → AreKept T kept → AreChosen T kept key.unit (reads_for T key) hints → (hint : Hint) → Contains hints hint → IsHint T key hint
+chosen_is T kept key hints right chosen hint there =
+    let among = passes_in_filter (is_chosen T kept key.unit) (read_names (reads_for T key)) hint.unit (subst (λ ns. Contains ns hint.unit) chosen.units (contains_map (λ (h : Hint). h.unit) hints hint there)) in
+    record {
+      other = and_first _ _ among.passes;
+      needed = has-Contains hint.unit (needs T key) (subst (λ ns. Contains ns hint.unit) (names_under T (needs T key)) among.among);
+      net_is = right (net_key hint.unit) (finding_of hint.value.value) (All-contains (IsKeptHint kept) hints hint chosen.nets there);
+    }
+
+pub chosen_hints : (T : Texts) (kept : Key → Option Finding) (key : Key) (hints : List Hint) → AreKept T kept → needs_all key.kind ≡ true → AreChosen T kept key.unit (reads_for T key) hints → AreHints T key hints
+chosen_hints T kept key hints right all chosen = record {
+  none = λ e. cc;
+  each = λ k d below. chosen_is T kept key hints right chosen _ (All-contains_itself hints k d below);
+  once =
+      units_apart hints (subst (IsStrictlySortedBy name_cmp) (sym chosen.units) (IsStrictlySortedBy-filter name_cmp (is_chosen T kept key.unit) (read_names (reads_for T key)) (subst (IsStrictlySortedBy name_cmp) (sym (names_under T (needs T key))) (needs_rise T key))));
+}
 
 -- ---- gathering them
 
-no_entry : (nets : Nets) (name : List ℕ) (value : Arc Value Global) → nets.entries ≡ [] → tree.get name_cmp nets name ≡ Some value → ⊥
-no_entry nets name value empty there =
-    let none : tree.get name_cmp nets name ≡ None = ap (λ es. lookup (is_at (name_cmp name)) es) empty in cc
+pub nothing_chosen : (T : Texts) (kept : Key → Option Finding) (unit : List ℕ) (hints : List Hint) → hints ≡ [] → AreChosen T kept unit [] hints
+nothing_chosen T kept unit hints e = record { units = ap units_of e; nets = subst (All (IsKeptHint kept)) (sym e) (All-nil (IsKeptHint kept)) }
 
-pub nothing_kept : (kept : Key → Option Finding) (reads : List Seen) (nets : Nets) → nets.entries ≡ [] → AreOfReads kept reads nets
-nothing_kept kept reads nets empty name value there = absurd (no_entry nets name value empty there)
+names_more : (reads : List Read) (read : Read) → read_names (all_seen (reads ++ read ∷ [])) ≡ read_names (all_seen reads) ++ read.name ∷ []
+names_more [] read = refl
+names_more (r ∷ reads) read = ap (λ ns. r.name ∷ ns) (names_more reads read)
 
-pub none_chosen : (kind : Kind) (kept : Key → Option Finding) (reads : List Seen) (nets : Nets) → nets.entries ≡ [] → AreChosen kind kept reads nets
-none_chosen kind kept reads nets empty = (nothing_kept kept reads nets empty, λ name value there. absurd (no_entry nets name value empty there))
+pub one_more_read : (T : Texts) (kept : Key → Option Finding) (unit : List ℕ) (before now : List Read) (read : Read) (old new : List Hint) → now ≡ before ++ read ∷ [] → AreChosen T kept unit (all_seen before) old → AddsChosen T kept unit read.name old new → AreChosen T kept unit (all_seen now) new
+one_more_read T kept unit before now read old new more so_far adds = record {
+  units =
+      adds.units ∙ ap (λ ns. ns ++ filter (is_chosen T kept unit) (read.name ∷ [])) so_far.units
+      ∙ sym (filter-append (is_chosen T kept unit) (read_names (all_seen before)) (read.name ∷ []))
+      ∙ ap (filter (is_chosen T kept unit)) (sym (names_more before read) ∙ ap (λ (rs : List Read). read_names (all_seen rs)) (sym more));
+  nets = adds.nets so_far.nets;
+}
 
-pub put_hint : (kept : Key → Option Finding) (name other : List ℕ) (value put : Arc Value Global) (old new : Option (Arc Value Global)) (same : Bool) → is_eq (name_cmp name other) ≡ same → new ≡ cond same (Some put) old → kept (net_key name) ≡ Some (finding_of put.value) → new ≡ Some value → (old ≡ Some value) ⊎ ((other ≡ name) × (kept (net_key other) ≡ Some (finding_of value.value)))
-put_hint kept name other value put old new true is now had there =
-    let one : put ≡ value = cc in
-    let named : name ≡ other = same_at name other is in
-    inr (sym named, subst (λ n. kept (net_key n) ≡ Some (finding_of value.value)) named (had ∙ ap (λ (it : Arc Value Global). Some (finding_of it.value)) one))
-put_hint kept name other value put old new false is now had there = inl (sym now ∙ there)
+-- one name more, which is not chosen
+pub adds_none : (T : Texts) (kept : Key → Option Finding) (unit name : List ℕ) (hints : List Hint) → is_chosen T kept unit name ≡ false → AddsChosen T kept unit name hints hints
+adds_none T kept unit name hints e = record {
+  units = sym (append-nil (units_of hints)) ∙ ap (λ b. units_of hints ++ cond b (name ∷ []) []) (sym e);
+  nets = λ had. had;
+}
 
-or_first : (a b c : Bool) → (b ≡ true → c ≡ true) → (a || b) ≡ true → (a || c) ≡ true
-or_first true b c step e = refl
-or_first false b c step e = step e
-
-or_last : (a b : Bool) → b ≡ true → (a || b) ≡ true
-or_last true b e = refl
-or_last false b e = e
-
-among_more : (name : List ℕ) (reads : List Read) (read : Read) → is_among name (read_names (all_seen reads)) ≡ true → is_among name (read_names (all_seen (reads ++ read ∷ []))) ≡ true
-among_more name [] read e = cc
-among_more name (r ∷ reads) read e = or_first (is_at (name_cmp name) r.name) _ _ (among_more name reads read) e
-
-among_last : (reads : List Read) (read : Read) → is_among read.name (read_names (all_seen (reads ++ read ∷ []))) ≡ true
-among_last [] read = ap (λ b. b || false) (at_itself read.name)
-among_last (r ∷ reads) read = or_last (is_at (name_cmp read.name) r.name) _ (among_last reads read)
-
-pub one_more_read : (kept : Key → Option Finding) (before now : List Read) (read : Read) (old new : Nets) → now ≡ before ++ read ∷ [] → AreOfReads kept (all_seen before) old → AddsHint kept read.name old new → AreOfReads kept (all_seen now) new
-one_more_read kept before now read old new more so_far adds name value there = elim (adds name value there) [
-  | inl was ↦
-      let it = so_far name value was in
-      (subst (λ (reads : List Read). is_among name (read_names (all_seen reads)) ≡ true) (sym more) (among_more name before read it.0), it.1)
-  | inr is ↦
-      (subst (λ (reads : List Read). is_among name (read_names (all_seen reads)) ≡ true) (sym more) (subst (λ n. is_among n (read_names (all_seen (before ++ read ∷ []))) ≡ true) (sym is.0) (among_last before read)), is.1)
-]
+-- or which is
+pub adds_one : (T : Texts) (kept : Key → Option Finding) (unit name : List ℕ) (old new : List Hint) (hint : Hint) → is_chosen T kept unit name ≡ true → hint.unit ≡ name → IsKeptHint kept hint → new ≡ old ++ hint ∷ [] → AddsChosen T kept unit name old new
+adds_one T kept unit name old new hint e named has more = record {
+  units =
+      ap units_of more ∙ map-append (λ (h : Hint). h.unit) old (hint ∷ []) ∙ ap (λ n. units_of old ++ n ∷ []) named
+      ∙ ap (λ b. units_of old ++ cond b (name ∷ []) []) (sym e);
+  nets = λ had. subst (All (IsKeptHint kept)) (sym more) (All-push (IsKeptHint kept) old hint had has);
+}

@@ -6,6 +6,8 @@ pub mod SameNeeds
 pub mod Sources
 pub mod Currents
 pub mod HintLemmas
+pub mod KnownLemmas
+pub mod WorkLemmas
 pub mod Searches
 -- Of the crates below, for the crates above.
 pub use Rattle.fb_deploy.proofs.Library as Library

@@ -1,17 +1,15 @@
--- The nets among kept values that a job is given along.
-use Rattle.std.specs.Prelude.{◌≡◌, ◌⊎◌, ℕ, true, List, Option, Some, None}
-use Rattle.std.specs.BTreeMap as tree
-use Rattle.std.specs.declared.sync.Arc.{Arc}
-use Rattle.std.specs.declared.alloc.Global.{Global}
+-- The nets of other subapplications that a job is given along.
+use Rattle.std.specs.Prelude.{◌≡◌, ◌≢◌, ℕ, Bool, true, false, not, ◌&&◌, is_some, List, [], ◌∷◌, ◌++◌, map, filter, Option, Some, All}
+use Rattle.std.specs.List.{AllPairs}
+use Rattle.std.specs.BTreeMap.{is_at}
 use Rattle.fb_text.specs.Order.{name_cmp}
-use Rattle.fb_deploy.specs.Library.Texts.{Texts}
-use Rattle.fb_deploy.specs.Flatten.Net.{PlainNet, plain_net}
-use Rattle.fb_jobs.specs.declared.key.Kind.{Kind}
+use Rattle.fb_deploy.specs.Library.Texts.{Texts, sources_of}
+use Rattle.fb_deploy.specs.Library.View.{tree_at}
+use Rattle.fb_deploy.specs.Flatten.Tables.{is_subapplication_in}
 use Rattle.fb_jobs.specs.declared.key.Kind.TheVariants as kind
 use Rattle.fb_jobs.specs.declared.key.Key.{Key}
-use Rattle.fb_jobs.specs.declared.value.Value.{Value}
-use Rattle.fb_jobs.specs.declared.value.Value.TheVariants.{Faults, Net, Deploy}
-use Rattle.fb_jobs.specs.Keys.{Finding, scratch}
+use Rattle.fb_jobs.specs.declared.hints.Hint.{Hint}
+use Rattle.fb_jobs.specs.Keys.{Finding, needs, scratch}
 pub use Rattle.fb_jobs.specs.Kept.{AreKept}
 use Rattle.fb_jobs.specs.Kinds.{needs_all}
 use Rattle.fb_jobs.specs.Reads.{Seen, read_names, is_among}
@@ -21,37 +19,44 @@ use Rattle.fb_jobs.specs.Values.{finding_of}
 abbrev pub net_key : List ℕ → Key
 net_key unit = record { kind = kind.Net; unit = unit }
 
--- nets by the names of their units
-abbrev pub Nets : Type 0
-Nets = tree.BTreeMap (List ℕ) (Arc Value Global)
+-- a name of a subapplication that is not the unit
+abbrev pub is_other_subapplication : Texts → List ℕ → List ℕ → Bool
+is_other_subapplication texts unit name = not (is_at (name_cmp unit) name) && is_subapplication_in (tree_at (sources_of texts) name)
 
--- each of them is what the texts give from scratch
-abbrev pub AreHints : Texts → Nets → Type 0
-AreHints texts nets = (name : List ℕ) (value : Arc Value Global) → tree.get name_cmp nets name ≡ Some value → finding_of value.value ≡ scratch texts (net_key name)
+-- it is the net of its unit
+abbrev pub IsNetOf : Texts → Hint → Type 0
+IsNetOf texts hint = finding_of hint.value.value ≡ scratch texts (net_key hint.unit)
 
--- each is what is kept of the net of a unit that is read
-abbrev pub AreOfReads : (Key → Option Finding) → List Seen → Nets → Type 0
-AreOfReads kept reads nets =
-    (name : List ℕ) (value : Arc Value Global) → tree.get name_cmp nets name ≡ Some value
-    → (is_among name (read_names reads) ≡ true) × (kept (net_key name) ≡ Some (finding_of value.value))
+-- the net of another subapplication among what the key needs
+pub record IsHint (texts : Texts) (key : Key) (hint : Hint) : Type 0 where
+  pub other : is_other_subapplication texts key.unit hint.unit ≡ true
+  pub needed : is_among hint.unit (needs texts key) ≡ true
+  pub net_is : IsNetOf texts hint
 
--- and there are some only for a key that needs all that its unit rests on
-abbrev pub AreChosen : Kind → (Key → Option Finding) → List Seen → Nets → Type 0
-AreChosen kind kept reads nets =
-    AreOfReads kept reads nets
-    × ((name : List ℕ) (value : Arc Value Global) → tree.get name_cmp nets name ≡ Some value → needs_all kind ≡ true)
+-- what a job for the key can be given along: nets of other subapplications that the key needs, no unit twice; for faults nothing
+pub record AreHints (texts : Texts) (key : Key) (hints : List Hint) : Type 0 where
+  pub none : needs_all key.kind ≡ false → hints ≡ []
+  pub each : All (IsHint texts key) hints
+  pub once : AllPairs (λ (a b : Hint). a.unit ≢ b.unit) hints
 
-abbrev pub net_in : Value → Option PlainNet
-net_in (Faults faults) = None
-net_in (Net net) = Some (plain_net net)
-net_in (Deploy deploy) = None
+-- ---- which of the kept nets `for_kept` takes along
 
-abbrev pub hint_in : Option (Arc Value Global) → Option PlainNet
-hint_in None = None
-hint_in (Some value) = net_in value.value
+abbrev pub is_chosen : Texts → (Key → Option Finding) → List ℕ → List ℕ → Bool
+is_chosen texts kept unit name = is_other_subapplication texts unit name && is_some (kept (net_key name))
 
--- nothing is added but the net that is kept of the unit
-abbrev pub AddsHint : (Key → Option Finding) → List ℕ → Nets → Nets → Type 0
-AddsHint kept name old new =
-    (other : List ℕ) (value : Arc Value Global) → tree.get name_cmp new other ≡ Some value
-    → (tree.get name_cmp old other ≡ Some value) ⊎ ((other ≡ name) × (kept (net_key other) ≡ Some (finding_of value.value)))
+abbrev pub units_of : List Hint → List (List ℕ)
+units_of hints = map (λ (hint : Hint). hint.unit) hints
+
+-- it is what is kept of the net of its unit
+abbrev pub IsKeptHint : (Key → Option Finding) → Hint → Type 0
+IsKeptHint kept hint = kept (net_key hint.unit) ≡ Some (finding_of hint.value.value)
+
+-- all nets that are kept of other subapplications among the reads
+pub record AreChosen (texts : Texts) (kept : Key → Option Finding) (unit : List ℕ) (reads : List Seen) (hints : List Hint) : Type 0 where
+  pub units : units_of hints ≡ filter (is_chosen texts kept unit) (read_names reads)
+  pub nets : All (IsKeptHint kept) hints
+
+-- one name more
+pub record AddsChosen (texts : Texts) (kept : Key → Option Finding) (unit name : List ℕ) (old new : List Hint) : Type 0 where
+  pub units : units_of new ≡ units_of old ++ filter (is_chosen texts kept unit) (name ∷ [])
+  pub nets : All (IsKeptHint kept) old → All (IsKeptHint kept) new

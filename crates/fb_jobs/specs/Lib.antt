@@ -7,6 +7,8 @@ pub mod Values
 pub mod Kept
 pub mod Reach
 pub mod Hints
+pub mod Known
+pub mod Work
 pub mod Finished
 -- Of the crates below, for the crates above.
 pub use Rattle.fb_deploy.specs.Parse as Parse

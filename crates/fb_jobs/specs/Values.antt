@@ -39,6 +39,10 @@ texts_seen reads = map text_seen reads
 abbrev pub IsOwn : Read → Type 0
 IsOwn it = MatchOption it.source (it.revision ≡ 0) (λ source. source.value.unit ≡ it.name)
 
+-- a text, or nothing with revision 0
+abbrev pub IsOwnText : TextRead → Type 0
+IsOwnText it = MatchOption it.text (it.revision ≡ 0) (λ text. Unit {0})
+
 abbrev pub finding_of : Value → Finding
 finding_of (Faults faults) = FaultsFound faults.items
 finding_of (Net net) = NetFound (plain_net net)

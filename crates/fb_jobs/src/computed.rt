@@ -1,33 +1,183 @@
 //! The values that jobs compute.
-ghost use Rattle.std.specs.Prelude.{◌≡◌, true, IfOk};
+ghost use Rattle.std.specs.Prelude.{◌≡◌, ℕ, true, Some, List, All, IfOk};
 ghost use Rattle.std.specs.FinMap as map;
-ghost use Rattle.fb_deploy.specs.Flatten.Hints.{AreRightHints};
+ghost use Rattle.fb_deploy.specs.Flatten.Hints.{AreFaultless, AreRightHints};
+ghost use Rattle.fb_deploy.specs.Flatten.Inner.{IsInnerNet};
+ghost use Rattle.fb_deploy.specs.Flatten.Net.{plain_net};
+ghost use Rattle.fb_deploy.specs.Flatten.Nets.{has_net_in, net_at};
+ghost use Rattle.fb_deploy.specs.Library.View.{Sources, tree_at};
+ghost use Rattle.fb_deploy.specs.Plans.{has_plan_in};
 ghost use Rattle.fb_jobs.specs.Keys.{has_kind_at, scratch_of};
 ghost use Rattle.fb_jobs.specs.Values.{finding_of};
+ghost use Rattle.fb_jobs.specs.Work.{IsFoundIn, IsOwnIn, IsWork, known_faultless, known_hints};
+ghost use Rattle.fb_jobs.specs.declared.key.Kind.TheVariants as kind;
 
+use crate::hints::Hint;
 use crate::key::{Key, Kind};
+use crate::known::{KnownNets, own_net_in};
+use crate::same::is_same_value;
 use crate::value::Value;
 use fb_deploy::faults::faults;
-use fb_deploy::flatten::{Hints, net_of_unit_with};
+use fb_deploy::flatten::{Computed, Inner, Net, compute};
 use fb_deploy::library::View;
-use fb_deploy::plan_of_unit_with;
+use fb_deploy::plan_by_net;
+use fb_text::Name;
 use std::alloc::{AllocError, Global};
+use std::sync::Arc;
 
-/// The key's value, computed afresh, but for the nets that are given along.
-pub(crate) fn value_of<V: View, H: Hints>(
+/// A value, and the nets of other units that were computed on the way to it.
+#[derive(Drop)]
+pub(crate) struct Worked {
+    pub(crate) value: Arc<Value>,
+    pub(crate) found: Vec<Hint>,
+}
+
+/// The former value where the new one says the same, or else the new one.
+fn former_or(
+    alloc: Global,
+    former: &Option<Arc<Value>>,
+    value: Value,
+) -> Result<Arc<Value>, AllocError>
+    ensures { IfOk result (λ shared. finding_of shared.value ≡ finding_of value) }
+{
+    match former {
+        Some(former) if is_same_value(former, &value) => Ok(former.clone()?),
+        _ => Ok(Arc::new(alloc, value)?),
+    }
+}
+
+/// The same of a net that is known already.
+fn former_or_own(former: &Option<Arc<Value>>, own: &Arc<Value>) -> Result<Arc<Value>, AllocError>
+    ensures { IfOk result (λ shared. finding_of shared.value ≡ finding_of own.now.value) }
+{
+    match former {
+        Some(former) if is_same_value(former, own) => Ok(former.clone()?),
+        _ => Ok(own.clone()?),
+    }
+}
+
+/// The nets that were computed on the way, each shared.
+fn found_nets(alloc: Global, inner: Vec<Inner>) -> Result<Vec<Hint>, AllocError>
+    ensures { IfOk result (λ found. (sources : Sources) (unit : List ℕ)
+        → All (IsInnerNet sources unit) inner.items → All (IsFoundIn sources unit) found.items) }
+{
+    let mut found = Vec::new(alloc);
+    for it in inner {
+        found.push(Hint {
+            unit: it.unit,
+            value: Arc::new(alloc, Value::Net(it.net))?,
+        })?;
+    }
+    Ok(found)
+}
+
+/// The faults of a unit.
+fn faults_work<V: View>(
+    alloc: Global,
+    view: &V,
+    unit: &Name,
+    former: &Option<Arc<Value>>,
+) -> Result<Worked, AllocError>
+    ensures { IfOk result (IsWork kind.Faults (V.sources view.now) unit.now) }
+{
+    let found = faults(alloc, view, unit)?;
+    Ok(Worked {
+        value: former_or(alloc, former, Value::Faults(found))?,
+        found: Vec::new(alloc),
+    })
+}
+
+/// The net of a unit.
+fn net_work<V: View>(
+    alloc: Global,
+    view: &V,
+    unit: Name,
+    known: &KnownNets<'_>,
+    own: &Option<Arc<Value>>,
+    former: &Option<Arc<Value>>,
+) -> Result<Worked, AllocError>
+    requires has { has_net_in (tree_at (V.sources view.now) unit) ≡ true }
+    requires right { AreRightHints (V.sources view.now) (known_hints known.now) }
+    requires faultless { AreFaultless (V.sources view.now) (known_faultless known.now) }
+    requires own { IsOwnIn (V.sources view.now) unit own.now }
+    ensures { IfOk result (IsWork kind.Net (V.sources view.now) unit) }
+{
+    if let Some(own) = own {
+        return Ok(Worked {
+            value: former_or_own(former, own)?,
+            found: Vec::new(alloc),
+        });
+    }
+    let Computed { net, inner } = compute(alloc, view, unit, known)?;
+    Ok(Worked {
+        value: former_or(alloc, former, Value::Net(net))?,
+        found: found_nets(alloc, inner)?,
+    })
+}
+
+/// The plan of a system by its net.
+fn plan_value<V: View>(
+    alloc: Global,
+    view: &V,
+    system: Name,
+    net: &Net,
+    former: &Option<Arc<Value>>,
+) -> Result<Arc<Value>, AllocError>
+    requires has { has_plan_in (tree_at (V.sources view.now) system) ≡ true }
+    requires net { net_at (V.sources view.now) system ≡ Some (plain_net net.now) }
+    ensures { IfOk result
+        (λ value. finding_of value.value ≡ scratch_of kind.Deploy (V.sources view.now) system) }
+{
+    let deploy = plan_by_net(alloc, view, system, net)?;
+    former_or(alloc, former, Value::Deploy(deploy))
+}
+
+/// The plan of a system.
+fn plan_work<V: View>(
+    alloc: Global,
+    view: &V,
+    system: Name,
+    known: &KnownNets<'_>,
+    own: &Option<Arc<Value>>,
+    former: &Option<Arc<Value>>,
+) -> Result<Worked, AllocError>
+    requires has { has_plan_in (tree_at (V.sources view.now) system) ≡ true }
+    requires right { AreRightHints (V.sources view.now) (known_hints known.now) }
+    requires faultless { AreFaultless (V.sources view.now) (known_faultless known.now) }
+    requires own { IsOwnIn (V.sources view.now) system own.now }
+    ensures { IfOk result (IsWork kind.Deploy (V.sources view.now) system) }
+{
+    if let Some(net) = own_net_in(own) {
+        return Ok(Worked {
+            value: plan_value(alloc, view, system, net, former)?,
+            found: Vec::new(alloc),
+        });
+    }
+    let Computed { net, inner } = compute(alloc, view, system, known)?;
+    Ok(Worked {
+        value: plan_value(alloc, view, system, &net, former)?,
+        found: found_nets(alloc, inner)?,
+    })
+}
+
+/// The key's value, computed afresh, but for what is known already.
+pub(crate) fn work_of<V: View>(
     alloc: Global,
     view: &V,
     key: Key,
-    hints: &H,
-) -> Result<Value, AllocError>
+    known: &KnownNets<'_>,
+    own: &Option<Arc<Value>>,
+    former: &Option<Arc<Value>>,
+) -> Result<Worked, AllocError>
     requires has { has_kind_at key.kind (map.get (V.sources view.now) key.unit) ≡ true }
-    requires right { AreRightHints (V.sources view.now) (H.hints hints.now) }
-    ensures { IfOk result
-        (λ value. finding_of value ≡ scratch_of key.kind (V.sources view.now) key.unit) }
+    requires right { AreRightHints (V.sources view.now) (known_hints known.now) }
+    requires faultless { AreFaultless (V.sources view.now) (known_faultless known.now) }
+    requires own { IsOwnIn (V.sources view.now) key.unit own.now }
+    ensures { IfOk result (IsWork key.kind (V.sources view.now) key.unit) }
 {
     match key.kind {
-        Kind::Faults => Ok(Value::Faults(faults(alloc, view, &key.unit)?)),
-        Kind::Net => Ok(Value::Net(net_of_unit_with(alloc, view, key.unit, hints)?)),
-        Kind::Deploy => Ok(Value::Deploy(plan_of_unit_with(alloc, view, key.unit, hints)?)),
+        Kind::Faults => faults_work(alloc, view, &key.unit, former),
+        Kind::Net => net_work(alloc, view, key.unit, known, own, former),
+        Kind::Deploy => plan_work(alloc, view, key.unit, known, own, former),
     }
 }

@@ -1,91 +1,73 @@
-//! The nets among kept values that a job is given along.
-ghost use Rattle.std.specs.Prelude.{◌≡◌, option_map, option_copied, IfOk, OnOk};
-ghost use Rattle.std.specs.BTreeMap as tree;
-ghost use Rattle.fb_text.specs.Order.{name_cmp};
-ghost use Rattle.fb_deploy.specs.Flatten.Net.{plain_net};
-ghost use Rattle.fb_jobs.specs.Hints.{AddsHint, AreChosen, AreOfReads, hint_in, net_in, net_key};
+//! The nets of other subapplications that a job is given along.
+ghost use Rattle.std.specs.Prelude.{◌≡◌, IfOk, OnOk};
+ghost use Rattle.fb_jobs.specs.Hints.{AddsChosen, AreChosen, net_key};
 ghost use Rattle.fb_jobs.specs.Values.{all_seen};
 
 use crate::kept::Kept;
 use crate::key::{Key, Kind};
 use crate::read::Read;
 use crate::value::Value;
-use fb_deploy::flatten::{Hints, Net};
-use fb_text::Name;
+use fb_deploy::flatten::is_subapplication;
+use fb_deploy::library::Library;
+use fb_text::{Name, same_name};
 use std::alloc::{AllocError, Global};
-use std::collections::BTreeMap;
 use std::sync::Arc;
 
-/// Nets by the names of their units.
-#[derive(Clone, Copy)]
-pub(crate) struct KeptNets<'a> {
-    pub(crate) nets: &'a BTreeMap<Name, Arc<Value>>,
+/// A net that is kept of a unit.
+#[derive(Drop)]
+pub struct Hint {
+    pub unit: Name,
+    /// A `Value::Net`.
+    pub value: Arc<Value>,
 }
 
-impl Hints for KeptNets<'_> {
-    ghost hints = { λ it name. hint_in (tree.get name_cmp it.nets.now name) };
-
-    fn net_of(&self, name: &Name) -> Option<&Net> {
-        match self.nets.get(name) {
-            Some(value) => net_in(value),
-            None => None,
-        }
-    }
-}
-
-fn net_in(value: &Value) -> Option<&Net>
-    ensures { option_map plain_net (option_copied result) ≡ net_in value.now }
+/// The key of a unit's net.
+pub(crate) fn net_key(unit: Name) -> Key
+    ensures { result ≡ net_key unit }
 {
-    match value {
-        Value::Net(net) => Some(net),
-        Value::Faults(_) | Value::Deploy(_) => None,
+    Key {
+        kind: Kind::Net,
+        unit,
     }
 }
 
-/// Adds the net that is kept of a unit, if there is one.
+/// Adds the net that is kept of a unit, where it is another subapplication.
 fn add_hint<K: Kept>(
+    library: &Library,
     kept: &K,
-    nets: &mut BTreeMap<Name, Arc<Value>>,
+    unit: &Name,
+    hints: &mut Vec<Hint>,
     name: &Name,
 ) -> Result<(), AllocError>
-    ensures { OnOk result (AddsHint (K.kept kept.now) name.now nets.old nets.new) }
+    ensures { OnOk result
+        (AddsChosen library.now (K.kept kept.now) unit.now name.now hints.old.items hints.new.items) }
 {
-    let key = Key {
-        kind: Kind::Net,
-        unit: *name,
-    };
-    if let Some(value) = kept.value(&key) {
-        nets.insert(*name, value.clone()?)?;
+    if same_name(unit, name) || !is_subapplication(library, name) {
+        return Ok(());
+    }
+    if let Some(value) = kept.value(&net_key(*name)) {
+        hints.push(Hint {
+            unit: *name,
+            value: value.clone()?,
+        })?;
     }
     Ok(())
 }
 
-/// The nets that are kept of the units that are read.
-fn nets_of<K: Kept>(
+/// The nets that are kept of other subapplications among the reads.
+pub(crate) fn hints_among<K: Kept>(
     alloc: Global,
+    library: &Library,
     kept: &K,
+    unit: &Name,
     reads: &[Read],
-) -> Result<BTreeMap<Name, Arc<Value>>, AllocError>
-    ensures { IfOk result (λ nets. AreOfReads (K.kept kept.now) (all_seen reads.now) nets) }
+) -> Result<Vec<Hint>, AllocError>
+    ensures { IfOk result
+        (λ hints. AreChosen library.now (K.kept kept.now) unit.now (all_seen reads.now) hints.items) }
 {
-    let mut nets = BTreeMap::new(alloc);
+    let mut hints = Vec::new(alloc);
     for read in reads {
-        add_hint(kept, &mut nets, &read.name)?;
+        add_hint(library, kept, unit, &mut hints, &read.name)?;
     }
-    Ok(nets)
-}
-
-/// The same for a key that needs all that its unit rests on. For other keys there are none.
-pub(crate) fn hints_of<K: Kept>(
-    alloc: Global,
-    kept: &K,
-    kind: Kind,
-    reads: &[Read],
-) -> Result<BTreeMap<Name, Arc<Value>>, AllocError>
-    ensures { IfOk result (λ nets. AreChosen kind (K.kept kept.now) (all_seen reads.now) nets) }
-{
-    match kind {
-        Kind::Faults => Ok(BTreeMap::new(alloc)),
-        Kind::Net | Kind::Deploy => nets_of(alloc, kept, reads),
-    }
+    Ok(hints)
 }

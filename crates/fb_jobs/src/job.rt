@@ -6,16 +6,19 @@ ghost use Rattle.std.specs.List.Sorted.{IsStrictlySortedBy};
 ghost use Rattle.fb_text.specs.Order.{name_cmp};
 ghost use Rattle.fb_deploy.specs.Library.Texts.{text_at, sources_of};
 ghost use Rattle.fb_deploy.specs.Library.Place.{IsAt, IsGapFor};
+ghost use Rattle.fb_jobs.specs.Finished.{plain_job};
 ghost use Rattle.fb_jobs.specs.Hints.{AreHints};
 ghost use Rattle.fb_jobs.specs.Kept.{AreKept};
 ghost use Rattle.fb_jobs.specs.Keys.{has_key};
+ghost use Rattle.fb_jobs.specs.Known.{IsKnowledge};
 ghost use Rattle.fb_jobs.specs.Reads.{IsRight, read_names, read_texts, reads_for};
-ghost use Rattle.fb_jobs.specs.Values.{all_seen, texts_seen, IsOwn};
+ghost use Rattle.fb_jobs.specs.Values.{all_seen, texts_seen, IsOwn, IsOwnText};
 
-use crate::computed::value_of;
-use crate::hints::{KeptNets, hints_of};
+use crate::computed::work_of;
+use crate::hints::Hint;
 use crate::kept::Kept;
 use crate::key::Key;
+use crate::known::{Knowledge, KnownNets, nets_of};
 use crate::read::{Read, TextRead};
 use crate::reads::reads_of;
 use crate::result::Finished;
@@ -24,7 +27,6 @@ use fb_deploy::library::{Library, View};
 use fb_deploy::parse::Source;
 use fb_text::Name;
 use std::alloc::{AllocError, Global};
-use std::collections::BTreeMap;
 use std::marker::Model;
 use std::sync::Arc;
 
@@ -35,8 +37,9 @@ pub struct Job {
     key: Key,
     reads: Arc<Vec<Read>>,
     texts: Arc<Vec<TextRead>>,
-    // nets of units that are read, which need not be computed anew
-    nets: BTreeMap<Name, Arc<Value>>,
+    knowledge: Knowledge,
+    // a value that the key had once, to be shared where it comes out again
+    former: Option<Arc<Value>>,
 }
 
 impl Model for Job {
@@ -48,12 +51,32 @@ impl Model for Job {
 
     ghost view = { λ it. plain_job it.key it.reads.value.items };
 
-    ghost invariant = { λ it. IsGiven it.key it.reads.value.items it.texts.value.items it.nets };
+    ghost invariant = { λ it. IsGiven it.key it.reads.value.items it.texts.value.items it.knowledge };
 }
 
 impl Job {
-    /// Reads for the key what it needs, sharing the sources, and takes the nets along that are kept of the units that are read.
-    pub fn make<K: Kept>(
+    /// Reads for the key what it needs, sharing the sources, and takes along the nets of these other subapplications, which are not
+    /// computed anew. A key for faults takes none.
+    pub fn make(
+        alloc: Global,
+        library: &Library,
+        key: Key,
+        hints: Vec<Hint>,
+    ) -> Result<Job, AllocError>
+        requires has { has_key library.now key ≡ true }
+        requires hints { AreHints library.now key hints.items }
+        ensures { IfOk result
+            (λ job. job ≡ record { key = key; reads = reads_for library.now key }) }
+    {
+        let wanted = key;
+        let reads = reads_of(alloc, library, wanted)?;
+        let knowledge = Knowledge::of_hints(alloc, hints);
+        Job::of_reads(alloc, key, reads, knowledge, None)
+    }
+
+    /// The same with all that is kept: as hints the nets of other subapplications among the reads; the net of the unit itself, where it
+    /// is kept or was found by a job for another key; which of the reads are without faults; and the value that the key had before.
+    pub fn for_kept<K: Kept>(
         alloc: Global,
         library: &Library,
         key: Key,
@@ -61,19 +84,40 @@ impl Job {
     ) -> Result<Job, AllocError>
         requires has { has_key library.now key ≡ true }
         requires kept { AreKept library.now (K.kept kept.now) }
+        requires found { AreKept library.now (K.found kept.now) }
         ensures { IfOk result
             (λ job. job ≡ record { key = key; reads = reads_for library.now key }) }
     {
         let wanted = key;
         let reads = reads_of(alloc, library, wanted)?;
-        let nets = hints_of(alloc, kept, key.kind, &reads)?;
+        let knowledge = Knowledge::of_kept(alloc, library, kept, &key, &reads)?;
+        let former = match kept.former(&key) {
+            Some(value) => Some(value.clone()?),
+            None => None,
+        };
+        Job::of_reads(alloc, key, reads, knowledge, former)
+    }
+
+    fn of_reads(
+        alloc: Global,
+        key: Key,
+        reads: Vec<Read>,
+        knowledge: Knowledge,
+        former: Option<Arc<Value>>,
+    ) -> Result<Job, AllocError>
+        requires right { IsRight (plain_job key reads.items) }
+        requires own { All IsOwn reads.items }
+        requires known { IsKnowledge (read_texts (all_seen reads.items)) key knowledge }
+        ensures { IfOk result (λ job. job ≡ plain_job key reads.items) }
+    {
         let texts = Arc::new(alloc, Read::texts(alloc, &reads)?)?;
         let reads = Arc::new(alloc, reads)?;
         Ok(Job {
             key,
             reads,
             texts,
-            nets,
+            knowledge,
+            former,
         })
     }
 
@@ -93,27 +137,33 @@ impl Job {
 
     /// The texts of the reads, to be kept.
     pub fn texts(&self) -> &Arc<Vec<TextRead>>
-        ensures { texts_seen result.now.value.items ≡ self.now.reads }
+        ensures same { texts_seen result.now.value.items ≡ self.now.reads }
+        ensures own { All IsOwnText result.now.value.items }
     {
         &self.texts
     }
 
-    /// The nets that are taken along, by the names of their units.
-    pub fn nets(&self) -> &BTreeMap<Name, Arc<Value>>
-        ensures { AreHints (read_texts self.now.reads) result.now }
+    /// The nets of other subapplications that are taken along.
+    pub fn hints(&self) -> &[Hint]
+        ensures { AreHints (read_texts self.now.reads) self.now.key result.now }
     {
-        &self.nets
+        &self.knowledge.hints
     }
 
-    /// Computes the value that the reads give. A net that was taken along is not computed anew.
+    /// Computes the value that the reads give. What is taken along is not computed anew.
     pub fn run(&self, alloc: Global) -> Result<Finished, AllocError>
         ensures { IfOk result (λ finished. finished ≡ self.now) }
     {
-        let hints = KeptNets { nets: &self.nets };
-        let value = Arc::new(alloc, value_of(alloc, self, self.key, &hints)?)?;
+        let nets = nets_of(alloc, &self.knowledge.hints)?;
+        let known = KnownNets {
+            nets: &nets,
+            faultless: &self.knowledge.faultless,
+        };
+        let own = &self.knowledge.own;
+        let work = work_of(alloc, self, self.key, &known, own, &self.former)?;
         let reads = self.reads.clone()?;
         let texts = self.texts.clone()?;
-        Ok(Finished::of_reads(self.key, reads, texts, value))
+        Ok(Finished::of_reads(self.key, reads, texts, work))
     }
 
     /// Where a name stands among the reads, or where it would go.

@@ -12,8 +12,18 @@ use std::sync::Arc;
 pub trait Kept {
     ghost kept: { Self → (Key → Option Finding) };
 
+    ghost found: { Self → (Key → Option Finding) };
+
     /// The value that is kept of a key.
     fn value(&self, key: &Key) -> Option<&Arc<Value>>
         ensures { option_map (λ it. finding_of it.value) (option_copied result)
             ≡ kept self.now key.now };
+
+    /// The value of a pending key that a job for another key computed on its way.
+    fn found(&self, key: &Key) -> Option<&Arc<Value>>
+        ensures { option_map (λ it. finding_of it.value) (option_copied result)
+            ≡ found self.now key.now };
+
+    /// A value that the key had once, to be shared where it comes out again.
+    fn former(&self, key: &Key) -> Option<&Arc<Value>>;
 }

@@ -6,7 +6,10 @@ ghost use Rattle.fb_text.specs.Order.{name_cmp};
 ghost use Rattle.fb_deploy.specs.Library.Texts.{Texts};
 ghost use Rattle.fb_jobs.specs.declared.key.Key.{Key};
 ghost use Rattle.fb_jobs.specs.declared.key.Kind.{Kind};
+ghost use Rattle.fb_jobs.specs.Hints.{IsNetOf};
 ghost use Rattle.fb_jobs.specs.KeyOrder.{kind_cmp};
+ghost use Rattle.fb_jobs.specs.declared.hints.Hint.{Hint};
+ghost use Rattle.fb_jobs.specs.Work.{IsFoundFor};
 ghost use Rattle.fb_jobs.specs.Kinds.{all_kinds};
 ghost use Rattle.fb_jobs.specs.Keys.{has_key, needs, scratch};
 ghost use Rattle.fb_jobs.specs.Reads.{Agree, PlainJob, IsLeastStale, IsRight, read_names, read_texts, stale};
@@ -31,6 +34,12 @@ pub fn locality()
 pub fn current_reads()
     ensures { (texts : Texts) (it : PlainJob) → IsRight it → stale texts it.reads ≡ None
         → scratch texts it.key ≡ scratch (read_texts it.reads) it.key }
+{}
+
+/// A net that was found on the way to the value of such reads is that of the present texts.
+pub fn current_nets()
+    ensures { (texts : Texts) (it : PlainJob) (hint : Hint) → IsRight it → stale texts it.reads ≡ None
+        → IsFoundFor (read_texts it.reads) it.key hint → IsNetOf texts hint }
 {}
 
 /// What a key needs, and so what is read for it, stands in order, each name once.

@@ -1,10 +1,10 @@
 //! What was read for a key, and which keys there are.
-ghost use Rattle.std.specs.Prelude.{◌≡◌, IfOk};
+ghost use Rattle.std.specs.Prelude.{◌≡◌, All, IfOk};
 ghost use Rattle.fb_jobs.specs.Keys.{has_key};
 
 use crate::key::{Key, Kind};
-use fb_deploy::flatten::is_of_net;
-use fb_deploy::is_of_plan;
+use fb_deploy::flatten::has_net;
+use fb_deploy::is_system;
 use fb_deploy::library::Library;
 use fb_deploy::parse::Source;
 use fb_text::Name;
@@ -34,16 +34,17 @@ pub fn has_key(library: &Library, key: Key) -> bool
 {
     match key.kind {
         Kind::Faults => library.source(&key.unit).is_some(),
-        Kind::Net => is_of_net(library, &key.unit),
-        Kind::Deploy => is_of_plan(library, &key.unit),
+        Kind::Net => has_net(library, &key.unit),
+        Kind::Deploy => is_system(library, &key.unit),
     }
 }
 
 impl Read {
-    ghost use Rattle.fb_jobs.specs.Values.{seen_of, all_seen, text_seen, texts_seen};
+    ghost use Rattle.fb_jobs.specs.Values.{seen_of, all_seen, text_seen, texts_seen, IsOwn, IsOwnText};
 
     fn text(&self) -> Result<TextRead, AllocError>
-        ensures { IfOk result (λ it. text_seen it ≡ seen_of self.now) }
+        ensures seen { IfOk result (λ it. text_seen it ≡ seen_of self.now) }
+        ensures own { IsOwn self.now → IfOk result IsOwnText }
     {
         let text = match &self.source {
             Some(source) => Some(source.shared_text().clone()?),
@@ -58,7 +59,8 @@ impl Read {
 
     /// The texts of the reads, shared.
     pub fn texts(alloc: Global, reads: &[Read]) -> Result<Vec<TextRead>, AllocError>
-        ensures { IfOk result (λ texts. texts_seen texts.items ≡ all_seen reads.now) }
+        ensures seen { IfOk result (λ texts. texts_seen texts.items ≡ all_seen reads.now) }
+        ensures own { All IsOwn reads.now → IfOk result (λ texts. All IsOwnText texts.items) }
     {
         let mut texts = Vec::with_capacity(alloc, reads.len())?;
         for read in reads {

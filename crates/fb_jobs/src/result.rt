@@ -3,8 +3,11 @@ ghost use Rattle.std.specs.Prelude.{◌≡◌, All};
 ghost use Rattle.fb_jobs.specs.Finished.{IsFinished, plain_job};
 ghost use Rattle.fb_jobs.specs.Keys.{scratch};
 ghost use Rattle.fb_jobs.specs.Reads.{IsRight, read_texts};
-ghost use Rattle.fb_jobs.specs.Values.{all_seen, finding_of, texts_seen, IsOwn};
+ghost use Rattle.fb_jobs.specs.Values.{all_seen, finding_of, texts_seen, IsOwn, IsOwnText};
+ghost use Rattle.fb_jobs.specs.Work.{IsFoundFor};
 
+use crate::computed::Worked;
+use crate::hints::Hint;
 use crate::key::Key;
 use crate::read::{Read, TextRead};
 use crate::value::Value;
@@ -17,7 +20,7 @@ pub struct Finished {
     key: Key,
     reads: Arc<Vec<Read>>,
     texts: Arc<Vec<TextRead>>,
-    value: Arc<Value>,
+    work: Worked,
 }
 
 impl Model for Finished {
@@ -29,7 +32,7 @@ impl Model for Finished {
 
     ghost view = { λ it. plain_job it.key it.reads.value.items };
 
-    ghost invariant = { λ it. IsFinished it.key it.reads.value.items it.texts.value.items it.value };
+    ghost invariant = { λ it. IsFinished it.key it.reads.value.items it.texts.value.items it.work.value it.work.found.items };
 }
 
 impl Finished {
@@ -37,16 +40,16 @@ impl Finished {
         key: Key,
         reads: Arc<Vec<Read>>,
         texts: Arc<Vec<TextRead>>,
-        value: Arc<Value>,
+        work: Worked,
     ) -> Finished
-        requires { IsFinished key reads.value.items texts.value.items value }
+        requires { IsFinished key reads.value.items texts.value.items work.value work.found.items }
         ensures { result ≡ plain_job key reads.value.items }
     {
         Finished {
             key,
             reads,
             texts,
-            value,
+            work,
         }
     }
 
@@ -66,7 +69,8 @@ impl Finished {
 
     /// The texts of the reads, to be kept.
     pub fn texts(&self) -> &Arc<Vec<TextRead>>
-        ensures { texts_seen result.now.value.items ≡ self.now.reads }
+        ensures same { texts_seen result.now.value.items ≡ self.now.reads }
+        ensures own { All IsOwnText result.now.value.items }
     {
         &self.texts
     }
@@ -75,6 +79,13 @@ impl Finished {
     pub fn value(&self) -> &Arc<Value>
         ensures { finding_of result.now.value ≡ scratch (read_texts self.now.reads) self.now.key }
     {
-        &self.value
+        &self.work.value
+    }
+
+    /// The nets of other units that were computed on the way, from scratch by the same reads.
+    pub fn found(&self) -> &[Hint]
+        ensures { All (IsFoundFor (read_texts self.now.reads) self.now.key) result.now }
+    {
+        &self.work.found
     }
 }

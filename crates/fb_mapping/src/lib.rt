@@ -49,5 +49,8 @@ pub mod placing {
 
 /// Of `fb_flatten`, for the crates above.
 pub mod flatten {
-    pub use fb_flatten::{Hints, Net, NoHints, all_far, is_of_net, net_of_unit_with, net_with};
+    pub use fb_flatten::{
+        Computed, Hints, Inner, Known, Net, NetsAlone, NoHints, all_far, compute, has_net,
+        is_subapplication, net_with,
+    };
 }

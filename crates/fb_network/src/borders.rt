@@ -2,7 +2,8 @@
 ghost use Rattle.std.specs.Prelude.{◌≡◌, ◌++◌, IfOk, OnOk};
 ghost use Rattle.std.specs.BTreeMap.{get};
 ghost use Rattle.fb_tree.specs.Text.Order.{name_cmp};
-ghost use Rattle.fb_network.specs.Composed.{composed_borders, connection_borders, end_borders};
+ghost use Rattle.fb_network.specs.declared.network.End.TheVariants.{Own};
+ghost use Rattle.fb_network.specs.Composed.{behind_of, composed_borders, connection_borders, end_borders};
 
 use crate::behind::behind;
 use crate::flat::Border;
@@ -11,28 +12,50 @@ use crate::network::{Connection, End, Network};
 use crate::path::Path;
 use crate::table::Table;
 use fb_tree::Sort;
+use fb_tree::text::Name;
 use std::alloc::{AllocError, Global};
 
-/// The borders of an end that is an own port, at the places behind the other end.
-fn push_end_borders(
+/// The borders of an own port at these places.
+fn push_port_borders(
     borders: &mut Vec<Border>,
     sort: Sort,
-    end: &End,
-    places: &[Path],
+    port: &Name,
+    places: Vec<Path>,
 ) -> Result<(), AllocError>
     ensures { OnOk result
-        (borders.new.items ≡ borders.old.items ++ end_borders sort end.now places.now) }
+        (borders.new.items ≡ borders.old.items ++ end_borders sort (Own port.now) places.items) }
 {
-    if let End::Own(port) = end {
-        for place in places {
-            borders.push(Border {
-                sort,
-                port: *port,
-                place: place.copy()?,
-            })?;
-        }
+    for place in places {
+        borders.push(Border {
+            sort,
+            port: *port,
+            place,
+        })?;
     }
     Ok(())
+}
+
+/// The borders of an end that is an own port, at the places behind the other end.
+fn push_end_borders<N: Nets>(
+    alloc: Global,
+    borders: &mut Vec<Border>,
+    instances: &Table,
+    nets: &N,
+    sort: Sort,
+    end: &End,
+    other: &End,
+) -> Result<(), AllocError>
+    ensures { OnOk result (borders.new.items ≡ borders.old.items
+        ++ end_borders sort end.now
+        (behind_of (get name_cmp instances.now) (N.nets nets.now) sort other.now)) }
+{
+    match end {
+        End::Own(port) => {
+            let places = behind(alloc, instances, nets, sort, other)?;
+            push_port_borders(borders, sort, port, places)
+        }
+        End::Of(_, _) => Ok(()),
+    }
 }
 
 fn push_connection_borders<N: Nets>(
@@ -46,10 +69,10 @@ fn push_connection_borders<N: Nets>(
         ++ connection_borders (get name_cmp instances.now) (N.nets nets.now) connection.now) }
 {
     let sort = connection.sort;
-    let tos = behind(alloc, instances, nets, sort, &connection.destination)?;
-    push_end_borders(borders, sort, &connection.source, &tos)?;
-    let froms = behind(alloc, instances, nets, sort, &connection.source)?;
-    push_end_borders(borders, sort, &connection.destination, &froms)
+    let source = &connection.source;
+    let destination = &connection.destination;
+    push_end_borders(alloc, borders, instances, nets, sort, source, destination)?;
+    push_end_borders(alloc, borders, instances, nets, sort, destination, source)
 }
 
 /// The borders of a network, by its own connections.

@@ -75,11 +75,12 @@ impl Path {
     }
 }
 
-/// Two texts with a point between.
+/// Two texts with a point between. The room for it is taken once.
 fn joined(alloc: Global, first: &str, second: &str) -> Result<String, AllocError>
     ensures { IfOk result (λ text. string_bytes text ≡ dotted first.now second.now) }
 {
-    let mut text = String::from_str(alloc, first)?;
+    let mut text = String::with_capacity(alloc, first.len() + 1 + second.len())?;
+    text.push_str(first)?;
     text.push('.')?;
     text.push_str(second)?;
     Ok(text)

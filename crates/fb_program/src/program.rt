@@ -86,29 +86,24 @@ fn script<F: Feed, S: Sink, E: Write>(
     }
 }
 
-/// Says that memory ran out for the words.
-fn out_of_memory<E: Write>(errors: &mut E) -> u8
-    ensures { result ≡ 1 }
-{
-    let _ = writeln!(errors, "bench61499: out of memory");
-    FAILED
-}
-
+/// Refuses words that ask for nothing, with the text of the command line reader. Where memory ran out for them nothing is said.
 fn refuse<E: Write>(error: &Error, errors: &mut E) -> u8
     ensures some { 0 < result }
     ensures status { result ≤ 2 }
+    ensures silent { result ≡ 1 → errors.new ≡ errors.old }
 {
     if error.kind() == ErrorKind::OutOfMemory {
-        return out_of_memory(errors);
+        return FAILED;
     }
     let _ = write!(errors, "{error}");
     MISUSED
 }
 
-/// Refuses words that could not be read, since one of them is no UTF-8 or memory ran out.
+/// Refuses words that could not be read, since one of them is no UTF-8, or memory ran out, of which nothing is said.
 pub fn refuse_words<E: Write>(kind: io::ErrorKind, errors: &mut E) -> u8
     ensures text { kind ≡ InvalidData → result ≡ 2 }
     ensures memory { kind ≢ InvalidData → result ≡ 1 }
+    ensures silent { kind ≢ InvalidData → errors.new ≡ errors.old }
 {
     if kind == io::ErrorKind::InvalidData {
         let _ = writeln!(
@@ -117,7 +112,7 @@ pub fn refuse_words<E: Write>(kind: io::ErrorKind, errors: &mut E) -> u8
         );
         return MISUSED;
     }
-    out_of_memory(errors)
+    FAILED
 }
 
 /// Does what the words ask for, if it is a script, says on `errors` what went wrong, and gives the

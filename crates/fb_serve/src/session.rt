@@ -1,8 +1,7 @@
 //! One session.
-ghost use Rattle.std.specs.Prelude.{◌≡◌, ◌↔◌, ◌≤◌, ◌+◌, ◌++◌, ℕ, List, map, IsTrue, false};
-ghost use Rattle.std.specs.Io.KnownBytes.{Consumes, IsAtEnd};
-ghost use Rattle.fb_streams.specs.Streams.{StaysFlushed};
-ghost use Rattle.fb_wire.specs.Ends.{Stands};
+ghost use Rattle.std.specs.Prelude.{◌≡◌, ◌++◌, ℕ, List, map, false};
+ghost use Rattle.std.specs.Io.KnownBytes.{Consumes};
+ghost use Rattle.fb_wire.specs.Ends.{ShowsEnd, Stands};
 ghost use Rattle.fb_wire.specs.Talk.{Pair};
 ghost use Rattle.fb_shared.specs.Locked.Runs.{IsRun};
 ghost use Rattle.fb_serve.specs.Sessions.{answered_in, call_shown};
@@ -41,14 +40,11 @@ pub fn run_session<R: Wait, F: Feed, S: Sink>(
         × (answered_in pairs ≡ map call_shown result.receipts.items) }
     // The receipts are of calls with this seat, one after another.
     ensures run { IsRun seat result.receipts.items result.seat }
-    ensures whole { result.end ≡ RunEnd.End → IsAtEnd (F.left reader.new) }
-    ensures turns { F.reads reader.new ≤ F.reads reader.old + turns }
-    ensures all_turns { result.end ≡ RunEnd.TurnsOver
-        → F.reads reader.new ≡ F.reads reader.old + turns }
-    ensures read_failed { IsTrue (F.has_failed reader.new) ↔ (result.end ≡ RunEnd.ReadFailed) }
-    ensures flushed { StaysFlushed (S.is_flushed writer.old) (S.has_failed writer.new)
-        (S.is_flushed writer.new) }
-    ensures write_failed { IsTrue (S.has_failed writer.new) ↔ (result.end ≡ RunEnd.WriteFailed) }
+    ensures shown { ShowsEnd result.end turns
+        (record { left = F.left reader.old; reads = F.reads reader.old; read_has_failed = F.has_failed reader.old;
+            is_flushed = S.is_flushed writer.old; write_has_failed = S.has_failed writer.old })
+        (record { left = F.left reader.new; reads = F.reads reader.new; read_has_failed = F.has_failed reader.new;
+            is_flushed = S.is_flushed writer.new; write_has_failed = S.has_failed writer.new }) }
 {
     let mut desk = Seated {
         rt,

@@ -1,5 +1,7 @@
 -- How a run ends, and what it has said and done by then.
-use Rattle.std.specs.Prelude.{◌≡◌, ℕ, List, [], ◌∷◌, ◌++◌, take}
+use Rattle.std.specs.Prelude.{◌≡◌, ◌↔◌, ◌≤◌, ◌+◌, ℕ, Bool, List, [], ◌∷◌, ◌++◌, take, Option, IsTrue}
+use Rattle.std.specs.Io.KnownBytes.{IsAtEnd}
+use Rattle.fb_streams.specs.Streams.{StaysFlushed}
 use Rattle.serde_json.specs.Data.{Data}
 use Rattle.fb_wire.specs.Lines.{Fits, IsTooLong, lines_of}
 use Rattle.fb_messages.specs.Replies.{reply_line}
@@ -50,3 +52,23 @@ abbrev pub IsBetweenLines : RunEnd → Type 0
 IsBetweenLines WriteFailed = ⊥
 IsBetweenLines Memory = ⊥
 IsBetweenLines _ = Unit {0}
+
+-- ---- what an end says of the reader and the writer
+
+-- what is known of a reader and a writer: what is left to be read, how often was read, and what has failed or is flushed
+pub record Streams : Type 0 where
+  pub left : Option (List ℕ)
+  pub reads : ℕ
+  pub read_has_failed : Bool
+  pub is_flushed : Bool
+  pub write_has_failed : Bool
+
+-- At the end of the input nothing is left. No more was read than the turns, and as often where these are over. A read or a write has failed
+-- exactly where the end says so, and else all that was written is flushed, if it was before.
+pub record ShowsEnd (end : RunEnd) (turns : ℕ) (old new : Streams) : Type 0 where
+  pub whole : end ≡ End → IsAtEnd new.left
+  pub turns_are : new.reads ≤ old.reads + turns
+  pub all_turns : end ≡ TurnsOver → new.reads ≡ old.reads + turns
+  pub read_failed : IsTrue new.read_has_failed ↔ (end ≡ ReadFailed)
+  pub flushed : StaysFlushed old.is_flushed new.write_has_failed new.is_flushed
+  pub write_failed : IsTrue new.write_has_failed ↔ (end ≡ WriteFailed)

@@ -1,5 +1,6 @@
 //! Why a run fails.
-ghost use Rattle.std.specs.Prelude.{◌≡◌, ◌↔◌, None};
+ghost use Rattle.std.specs.Prelude.{◌≡◌};
+ghost use Rattle.fb_wire.specs.Faults.{fault_of};
 
 use crate::end::RunEnd;
 use thiserror::Error;
@@ -21,7 +22,7 @@ pub enum Fault {
 
 /// The fault of an end, or none where the input ended.
 pub fn fault_of(end: RunEnd) -> Option<Fault>
-    ensures { (result ≡ None) ↔ (end ≡ RunEnd.End) }
+    ensures { result ≡ fault_of end }
 {
     match end {
         RunEnd::End => None,

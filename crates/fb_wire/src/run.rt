@@ -3,7 +3,7 @@ ghost use Rattle.std.specs.Prelude.{◌≡◌, ◌↔◌, ◌≤◌, ◌<◌, �
 ghost use Rattle.std.specs.Io.KnownBytes.{Consumes, IsAtEnd};
 ghost use Rattle.fb_bench.specs.Solo.{IsStep};
 ghost use Rattle.fb_streams.specs.Streams.{StaysFlushed};
-ghost use Rattle.fb_wire.specs.Ends.{Stands};
+ghost use Rattle.fb_wire.specs.Ends.{ShowsEnd, Stands};
 ghost use Rattle.fb_wire.specs.Script.{SaysBy};
 ghost use Rattle.fb_wire.specs.Turns.{StopsAtEnd, StopsRead, TakesPiece};
 ghost use Rattle.fb_wire.specs.Talk.{Pair, Runs};
@@ -94,14 +94,11 @@ pub fn run_lines<F: Feed, S: Sink, D: Desk>(
         × Runs D.step desk.old pairs desk.new
         × (S.held writer.new ≡ S.held writer.old ++ out)
         × Stands result bytes pairs out }
-    ensures whole { result ≡ RunEnd.End → IsAtEnd (F.left reader.new) }
-    ensures turns { F.reads reader.new ≤ F.reads reader.old + turns }
-    ensures all_turns { result ≡ RunEnd.TurnsOver
-        → F.reads reader.new ≡ F.reads reader.old + turns }
-    ensures read_failed { IsTrue (F.has_failed reader.new) ↔ (result ≡ RunEnd.ReadFailed) }
-    ensures flushed { StaysFlushed (S.is_flushed writer.old) (S.has_failed writer.new)
-        (S.is_flushed writer.new) }
-    ensures write_failed { IsTrue (S.has_failed writer.new) ↔ (result ≡ RunEnd.WriteFailed) }
+    ensures shown { ShowsEnd result turns
+        (record { left = F.left reader.old; reads = F.reads reader.old; read_has_failed = F.has_failed reader.old;
+            is_flushed = S.is_flushed writer.old; write_has_failed = S.has_failed writer.old })
+        (record { left = F.left reader.new; reads = F.reads reader.new; read_has_failed = F.has_failed reader.new;
+            is_flushed = S.is_flushed writer.new; write_has_failed = S.has_failed writer.new }) }
 {
     let mut talk = Conversation::new(alloc);
     let mut buffer = [0; READ_SIZE];
@@ -131,14 +128,11 @@ fn run_solo<F: Feed, S: Sink>(
         × Stands result bytes pairs out
         × SaysBy result solo.old.caller solo.old.bench.now bytes out solo.new.bench.now }
     ensures same_reference { solo.new.bench.ghost_name ≡ solo.old.bench.ghost_name }
-    ensures whole { result ≡ RunEnd.End → IsAtEnd (F.left reader.new) }
-    ensures turns { F.reads reader.new ≤ F.reads reader.old + turns }
-    ensures all_turns { result ≡ RunEnd.TurnsOver
-        → F.reads reader.new ≡ F.reads reader.old + turns }
-    ensures read_failed { IsTrue (F.has_failed reader.new) ↔ (result ≡ RunEnd.ReadFailed) }
-    ensures flushed { StaysFlushed (S.is_flushed writer.old) (S.has_failed writer.new)
-        (S.is_flushed writer.new) }
-    ensures write_failed { IsTrue (S.has_failed writer.new) ↔ (result ≡ RunEnd.WriteFailed) }
+    ensures shown { ShowsEnd result turns
+        (record { left = F.left reader.old; reads = F.reads reader.old; read_has_failed = F.has_failed reader.old;
+            is_flushed = S.is_flushed writer.old; write_has_failed = S.has_failed writer.old })
+        (record { left = F.left reader.new; reads = F.reads reader.new; read_has_failed = F.has_failed reader.new;
+            is_flushed = S.is_flushed writer.new; write_has_failed = S.has_failed writer.new }) }
 {
     run_lines(alloc, reader, writer, solo, turns)
 }
@@ -162,14 +156,11 @@ pub fn run_script<F: Feed, S: Sink>(
         × (S.held writer.new ≡ S.held writer.old ++ out)
         × Stands result bytes pairs out
         × SaysBy result caller bench.old bytes out bench.new }
-    ensures whole { result ≡ RunEnd.End → IsAtEnd (F.left reader.new) }
-    ensures turns { F.reads reader.new ≤ F.reads reader.old + turns }
-    ensures all_turns { result ≡ RunEnd.TurnsOver
-        → F.reads reader.new ≡ F.reads reader.old + turns }
-    ensures read_failed { IsTrue (F.has_failed reader.new) ↔ (result ≡ RunEnd.ReadFailed) }
-    ensures flushed { StaysFlushed (S.is_flushed writer.old) (S.has_failed writer.new)
-        (S.is_flushed writer.new) }
-    ensures write_failed { IsTrue (S.has_failed writer.new) ↔ (result ≡ RunEnd.WriteFailed) }
+    ensures shown { ShowsEnd result turns
+        (record { left = F.left reader.old; reads = F.reads reader.old; read_has_failed = F.has_failed reader.old;
+            is_flushed = S.is_flushed writer.old; write_has_failed = S.has_failed writer.old })
+        (record { left = F.left reader.new; reads = F.reads reader.new; read_has_failed = F.has_failed reader.new;
+            is_flushed = S.is_flushed writer.new; write_has_failed = S.has_failed writer.new }) }
 {
     let mut solo = Solo::new(bench, caller);
     run_solo(alloc, reader, writer, &mut solo, turns)

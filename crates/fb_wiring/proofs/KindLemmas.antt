@@ -39,6 +39,17 @@ no_net_kind sources unit absent = (λ t. absurd (let no : ⊥ = cc in no), no_ne
     no_net (inl k) = let same = kind in absurd (let no : ⊥ = cc in no)
     no_net (inr k) = let same = kind in absurd (let no : ⊥ = cc in no)
 
+-- a subapplication by its tree
+pub subapplication_by_tree : (sources : Sources) (unit : List ℕ) → is_subapplication_in (tree_at sources unit) ≡ true → kind_at sources unit ≡ Some kinds.Subapplication
+subapplication_by_tree sources unit is = by (tree_at sources unit) is
+  where
+    by : (o : Option DeclTree) → is_subapplication_in o ≡ true → option_map unit_kind_of o ≡ Some kinds.Subapplication
+    by None e = absurd (let no : ⊥ = cc in no)
+    by (Some (block_type d)) e = absurd (let no : ⊥ = cc in no)
+    by (Some (adapter_type d)) e = absurd (let no : ⊥ = cc in no)
+    by (Some (subapplication_type d)) e = refl
+    by (Some (system_configuration s)) e = absurd (let no : ⊥ = cc in no)
+
 -- a subapplication is told by its tree
 pub subapplication_told : (sources : Sources) (unit : List ℕ) → kind_at sources unit ≡ Some kinds.Subapplication → is_subapplication_in (tree_at sources unit) ≡ true
 subapplication_told sources unit kind = by (tree_at sources unit) kind

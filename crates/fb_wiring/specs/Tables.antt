@@ -184,3 +184,7 @@ is_system_tree (block_type d) = false
 is_system_tree (adapter_type d) = false
 is_system_tree (subapplication_type d) = false
 is_system_tree (system_configuration s) = true
+
+abbrev pub is_system_in : Option DeclTree → Bool
+is_system_in None = false
+is_system_in (Some tree) = is_system_tree tree

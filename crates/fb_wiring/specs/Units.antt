@@ -1,5 +1,5 @@
 -- The instances of a unit, and its flat network (IEC 61499-1, 5.4: subapplication types; 7: systems).
-use Rattle.std.specs.Prelude.{ℕ, ◌≡◌, ◌≤◌, ◌<◌, ◌⊎◌, Bool, true, false, List, [], ◌∷◌, Some, flat_map, length}
+use Rattle.std.specs.Prelude.{ℕ, ◌≡◌, ◌≤◌, ◌<◌, ◌⊎◌, Bool, true, false, List, [], ◌∷◌, Option, None, Some, flat_map, length}
 use Rattle.fb_tree.specs.Tree.{DeclTree, block_type, adapter_type, subapplication_type, system_configuration}
 use Rattle.fb_tree.specs.declared.kinds.UnitKind.TheVariants.{Subapplication, System}
 use Rattle.fb_iface.specs.Library.View.{Sources, tree_at}
@@ -26,6 +26,11 @@ has_net_tree (block_type d) = false
 has_net_tree (adapter_type d) = false
 has_net_tree (subapplication_type d) = true
 has_net_tree (system_configuration s) = true
+
+-- whether a unit with this tree, or with none, has a net
+abbrev pub has_net_in : Option DeclTree → Bool
+has_net_in None = false
+has_net_in (Some tree) = has_net_tree tree
 
 abbrev pub instances_in : List Application → List Instance
 instances_in applications = flat_map (λ a. a.network.instances) applications

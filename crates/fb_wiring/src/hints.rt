@@ -1,5 +1,5 @@
-//! Nets that are kept.
-ghost use Rattle.std.specs.Prelude.{◌≡◌, ℕ, List, Option, None, option_map, option_copied};
+//! Nets that are kept, and units that are known to be without faults.
+ghost use Rattle.std.specs.Prelude.{◌≡◌, ℕ, Bool, false, List, Option, None, option_map, option_copied};
 ghost use Rattle.std.specs.BTreeMap.{get};
 ghost use Rattle.fb_tree.specs.Text.Order.{name_cmp};
 ghost use Rattle.fb_network.specs.Ready as ready;
@@ -30,6 +30,37 @@ impl Hints for NoHints {
 
     fn net_of(&self, _name: &Name) -> Option<&Net> {
         None
+    }
+}
+
+/// Units that are known to be there without faults.
+pub trait Known {
+    ghost faultless: { Self → (List ℕ → Bool) };
+
+    /// Whether the unit of that name is known to be there without faults.
+    fn is_faultless(&self, name: &Name) -> bool
+        ensures { result ≡ faultless self.now name.now };
+}
+
+/// Kept nets beside which no unit is known to be without faults.
+#[derive(Clone, Copy)]
+pub struct NetsAlone<'a, H> {
+    pub hints: &'a H,
+}
+
+impl<H: Hints> Hints for NetsAlone<'_, H> {
+    ghost hints = { λ s name. H.hints s.hints.now name };
+
+    fn net_of(&self, name: &Name) -> Option<&Net> {
+        self.hints.net_of(name)
+    }
+}
+
+impl<H: Hints> Known for NetsAlone<'_, H> {
+    ghost faultless = { λ s name. false };
+
+    fn is_faultless(&self, _name: &Name) -> bool {
+        false
     }
 }
 

@@ -3,7 +3,7 @@ ghost use Rattle.std.specs.Prelude.{◌≡◌, ◌↔◌, IsTrue};
 ghost use Rattle.fb_iface.specs.Library.View.{tree_at};
 ghost use Rattle.fb_tree.specs.Tree.{decl_tree};
 ghost use Rattle.fb_wiring.specs.Tables.{is_subapplication_in, is_subapplication_tree, is_system_tree};
-ghost use Rattle.fb_wiring.specs.Units.{HasNet, has_net_tree};
+ghost use Rattle.fb_wiring.specs.Units.{HasNet, has_net_in, has_net_tree};
 
 use fb_iface::library::{View, tree_by_name};
 use fb_tree::Decl;
@@ -20,7 +20,8 @@ fn is_of_net(decl: &Decl) -> bool
 
 /// Whether the unit is a subapplication or a system.
 pub fn has_net<V: View>(view: &V, unit: &Name) -> bool
-    ensures { IsTrue result ↔ HasNet (V.sources view.now) unit.now }
+    ensures is { IsTrue result ↔ HasNet (V.sources view.now) unit.now }
+    ensures told { result ≡ has_net_in (tree_at (V.sources view.now) unit.now) }
 {
     match tree_by_name(view, unit) {
         Some(decl) => is_of_net(decl),

@@ -21,7 +21,7 @@ mod tables;
 
 pub use composed::{flat_of_applications, own_network};
 pub use flats::{add_flat, flat_of_type, is_missing};
-pub use hints::{Hints, KnownFlats, NoHints, is_known_whole, kept_count};
+pub use hints::{Hints, Known, KnownFlats, NetsAlone, NoHints, is_known_whole, kept_count};
 pub use kinds::{has_net, is_of_system, is_subapplication};
 pub use laws::networks_are_local;
 pub use loops::recursive;

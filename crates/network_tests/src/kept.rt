@@ -1,5 +1,5 @@
 //! The nets of units where the net of one unit is kept.
-ghost use Rattle.std.specs.Prelude.{◌≡◌, true, Some, IfOk};
+ghost use Rattle.std.specs.Prelude.{◌≡◌, true, false, Some, IfOk};
 ghost use Rattle.fb_library.specs.Texts.{sources_of};
 ghost use Rattle.fb_library.specs.View.{tree_at};
 ghost use Rattle.fb_flatten.specs.Net.{plain_net};
@@ -8,7 +8,7 @@ ghost use Rattle.network_tests.specs.Kept.{hint_of};
 
 use crate::nets::{ADAPTERS, B, CYCLE, FAULTY, TWO_APPLICATIONS, TWO_TARGETS, chain};
 use crate::told::{library_of, net_told, unit_net_told};
-use fb_flatten::{Hints, Net, is_of_net, net_of_unit, net_of_unit_with};
+use fb_flatten::{Hints, Known, Net, compute, has_net, net};
 use fb_library::Library;
 use fb_tree::text::{Name, same_name};
 use std::alloc::{AllocError, Global};
@@ -34,12 +34,20 @@ impl Hints for Kept {
     }
 }
 
+impl Known for Kept {
+    ghost faultless = { λ it name. false };
+
+    fn is_faultless(&self, _name: &Name) -> bool {
+        false
+    }
+}
+
 /// The net of a unit that has one, to be kept.
 fn keep(alloc: Global, library: &Library, unit: Name) -> Result<Kept, AllocError>
     requires { has_net_in (tree_at (sources_of library.now) unit) ≡ true }
     ensures { IfOk result (λ kept. net_at (sources_of library.now) kept.unit ≡ Some (plain_net kept.net)) }
 {
-    let net = net_of_unit(alloc, library, unit)?;
+    let net = net(alloc, library, unit)?;
     Ok(Kept { unit, net })
 }
 
@@ -48,7 +56,7 @@ fn kept_of(alloc: Global, library: &Library, unit: &str) -> Result<Kept, Fail>
     ensures { IfOk result (λ kept. net_at (sources_of library.now) kept.unit ≡ Some (plain_net kept.net)) }
 {
     let name = Name::read(unit)?;
-    if !is_of_net(library, &name) {
+    if !has_net(library, &name) {
         return Err(Fail::from("no net to keep"));
     }
     Ok(keep(alloc, library, name)?)
@@ -59,7 +67,7 @@ fn net_beside(alloc: Global, library: &Library, unit: Name, kept: &Kept) -> Resu
     requires net { has_net_in (tree_at (sources_of library.now) unit) ≡ true }
     requires kept { net_at (sources_of library.now) kept.now.unit ≡ Some (plain_net kept.now.net) }
 {
-    net_of_unit_with(alloc, library, unit, kept)
+    Ok(compute(alloc, library, unit, kept)?.net)
 }
 
 fn net_beside_told(
@@ -71,7 +79,7 @@ fn net_beside_told(
     requires { net_at (sources_of library.now) kept.now.unit ≡ Some (plain_net kept.now.net) }
 {
     let name = Name::read(unit)?;
-    if !is_of_net(library, &name) {
+    if !has_net(library, &name) {
         return Ok(String::from_str(alloc, "no net")?);
     }
     net_told(alloc, &net_beside(alloc, library, name, kept)?)

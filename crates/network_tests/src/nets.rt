@@ -1,6 +1,6 @@
 //! The nets of units.
-use crate::told::{library_of, names_told, net_told, put, unit_net_told};
-use fb_flatten::{all_far, is_of_net, net_of_unit};
+use crate::told::{between, library_of, name_net_told, names_told, net_told, put, unit_net_told};
+use fb_flatten::{Inner, NetsAlone, NoHints, all_far, compute, has_net};
 use fb_library::{Change, Library};
 use fb_tree::text::Name;
 use std::alloc::Global;
@@ -45,9 +45,10 @@ pub const CYCLE: &[&str] = &[
     "FUNCTION_BLOCK N FBS F:M; END_FBS END_FUNCTION_BLOCK",
 ];
 
-/// Units, one of them, all that it rests on, and its net.
+/// Units, one of them, all that it rests on, its net, and the units whose nets are composed on the way.
 type Row = (
     &'static [&'static str],
+    &'static str,
     &'static str,
     &'static str,
     &'static str,
@@ -59,28 +60,32 @@ const NETS: &[Row] = &[
         "S",
         "B S",
         "F:B; G:B; Event F.O TO G.I; Event I AT F.I; Event I AT G.I",
+        "",
     ),
     (
         TWO_TARGETS,
         "T",
         "B S T",
         "K:B; X.F:B; X.G:B; Event K.O TO X.F.I; Event K.O TO X.G.I; Event X.F.O TO X.G.I",
+        "S",
     ),
     (
         ADAPTERS,
         "S",
         "A K P S T",
         "G:K; H.F:P; Event G.Y.R TO H.F.X.R; Event H.F.X.Q TO G.Y.Q",
+        "T",
     ),
     (
         TWO_APPLICATIONS,
         "Z",
         "B C Z",
         "A2.F:B; A1.K:B; A1.G.F:B; Event A1.K.O TO A1.G.F.I",
+        "C",
     ),
-    (FAULTY, "S", "B BAD NO S", "blocked BAD NO S"),
-    (CYCLE, "S", "M N S", "recursive M N"),
-    (CYCLE, "M", "M N", "no net"),
+    (FAULTY, "S", "B BAD NO S", "blocked BAD NO S", ""),
+    (CYCLE, "S", "M N S", "recursive M N", ""),
+    (CYCLE, "M", "M N", "no net", ""),
 ];
 
 fn far_told(alloc: Global, library: &Library, unit: &str) -> Result<String, Fail> {
@@ -88,13 +93,42 @@ fn far_told(alloc: Global, library: &Library, unit: &str) -> Result<String, Fail
     names_told(alloc, names.as_slice())
 }
 
-/// The net of a unit, by the call for units that have one.
-fn own_net_told(alloc: Global, library: &Library, unit: &str) -> Result<String, Fail> {
-    let name = Name::read(unit)?;
-    if !is_of_net(library, &name) {
-        return unit_net_told(alloc, library, unit);
+/// The names of units, each of which has this net.
+fn inner_told(
+    rt: &impl Abort,
+    alloc: Global,
+    library: &Library,
+    inner: &[Inner],
+) -> Result<String, Fail> {
+    let mut told = String::new(alloc);
+    for it in inner {
+        let found = net_told(alloc, &it.net)?;
+        let own = name_net_told(alloc, library, it.unit)?;
+        assert_eq!(rt; found.as_str(), own.as_str(), "{}", it.unit);
+        let between = between(&told);
+        write!(told, "{between}{}", it.unit)?;
     }
-    net_told(alloc, &net_of_unit(alloc, library, name)?)
+    Ok(told)
+}
+
+/// Compares the net of a unit, as it is found with others on the way, and the names of these.
+fn compare_computed(
+    rt: &impl Abort,
+    alloc: Global,
+    library: &Library,
+    unit: &str,
+    (net, inner): (&str, &str),
+) -> Result<(), Fail> {
+    let name = Name::read(unit)?;
+    if !has_net(library, &name) {
+        return Ok(());
+    }
+    let known = NetsAlone { hints: &NoHints };
+    let computed = compute(alloc, library, name, &known)?;
+    assert_eq!(rt; net_told(alloc, &computed.net)?.as_str(), net, "{unit}");
+    let told = inner_told(rt, alloc, library, computed.inner.as_slice())?;
+    assert_eq!(rt; told.as_str(), inner, "{unit}");
+    Ok(())
 }
 
 /// Compares the net of a unit and all that it rests on.
@@ -103,7 +137,7 @@ fn compare(
     alloc: Global,
     library: &Library,
     unit: &str,
-    (far, net): (&str, &str),
+    (far, net, inner): (&str, &str, &str),
 ) -> Result<(), Fail> {
     assert_eq!(rt;
         unit_net_told(alloc, library, unit)?.as_str(),
@@ -111,8 +145,7 @@ fn compare(
         "{unit}"
     );
     assert_eq!(rt; far_told(alloc, library, unit)?.as_str(), far, "{unit}");
-    assert_eq!(rt; own_net_told(alloc, library, unit)?.as_str(), net, "{unit}");
-    Ok(())
+    compare_computed(rt, alloc, library, unit, (net, inner))
 }
 
 /// The same with a library of these texts.
@@ -121,15 +154,15 @@ fn compare_of(
     alloc: Global,
     texts: &[&str],
     unit: &str,
-    expected: (&str, &str),
+    expected: (&str, &str, &str),
 ) -> Result<(), Fail> {
     let library = library_of(alloc, texts)?;
     compare(rt, alloc, &library, unit, expected)
 }
 
 fn compare_rows(rt: &impl Abort, alloc: Global, rows: &[Row]) -> Result<(), Fail> {
-    for (texts, unit, far, net) in rows {
-        compare_of(rt, alloc, texts, unit, (far, net))?;
+    for (texts, unit, far, net, inner) in rows {
+        compare_of(rt, alloc, texts, unit, (far, net, inner))?;
     }
     Ok(())
 }

@@ -59,7 +59,7 @@ pub fn names_told(alloc: Global, names: &[Name]) -> Result<String, Fail> {
 }
 
 /// What comes before the next phrase.
-fn between(told: &String) -> &'static str {
+pub fn between(told: &String) -> &'static str {
     if told.is_empty() { "" } else { "; " }
 }
 
@@ -182,13 +182,17 @@ pub fn net_told(alloc: Global, net: &Net) -> Result<String, Fail> {
     }
 }
 
-/// The net of a unit.
-pub fn unit_net_told(alloc: Global, library: &Library, unit: &str) -> Result<String, Fail> {
-    let name = Name::read(unit)?;
+/// The net of the unit of that name.
+pub fn name_net_told(alloc: Global, library: &Library, name: Name) -> Result<String, Fail> {
     if !has_net(library, &name) {
         return Ok(String::from_str(alloc, "no net")?);
     }
     net_told(alloc, &net(alloc, library, name)?)
+}
+
+/// The same.
+pub fn unit_net_told(alloc: Global, library: &Library, unit: &str) -> Result<String, Fail> {
+    name_net_told(alloc, library, Name::read(unit)?)
 }
 
 /// What is misplaced.

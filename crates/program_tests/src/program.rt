@@ -358,7 +358,7 @@ const UNREAD: &[(ErrorKind, u8, &str)] = &[
         2,
         "bench61499: a word of the command line is not UTF-8\n",
     ),
-    (ErrorKind::OutOfMemory, 1, "bench61499: out of memory\n"),
+    (ErrorKind::OutOfMemory, 1, ""),
 ];
 
 fn is_unread(alloc: Global, kind: ErrorKind, status: u8, said: &str) -> bool {

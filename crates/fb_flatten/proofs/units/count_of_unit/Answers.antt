@@ -9,13 +9,10 @@ use Rattle.fb_flatten.proofs.units.count_of_unit.Goals as goal
 
 pub unwrap-decl-requires : goal.unwrap-decl-requires
 unwrap-decl-requires g c =
-    let t = sound_tree (c.requires.order.names.sound _ c.requires.order.own) in
+    let t = sound_tree c.requires.sound in
     some_of_map _ c.tree_by_name.result t.tree (c.tree_by_name.ensures ∙ t.present)
-
-pub counts_in_order-requires-clause-order : goal.counts_in_order-requires-clause-order
-counts_in_order-requires-clause-order g c = c.requires.order.names
 
 pub returns : goal.returns
 returns g c =
     let present : tree_at (g.V.View.sources c.args.view.now) c.args.unit.now ≡ Some (decl_tree c.unwrap-decl.result.now) = present_of _ c.tree_by_name.ensures c.unwrap-decl.ensures in
-    unit_counted (decl_tree c.unwrap-decl.result.now) c.in_ok-own.own.instances _ c.requires.order present c.in_ok-counts.ensures c.in_ok-own.ensures c.count_instances.ensures
+    unit_counted (decl_tree c.unwrap-decl.result.now) c.in_ok-own.own.instances _ c.requires.sound present c.requires.counted c.in_ok-own.ensures c.count_instances.ensures

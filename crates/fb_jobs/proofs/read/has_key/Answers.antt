@@ -15,7 +15,7 @@ unfolding has_key
 returns-in-Net c =
     let texts = c.args.library.now in
     let unit = c.args.key.unit in
-    c.is_of_net.ensures
+    c.has_net.ensures.told
     ∙ ap (λ (o : Option (List ℕ)). has_net_in (option_and_then tree_of o)) (get_source texts unit)
     ∙ sym (ap (λ (k : Kind). has_kind_at k (text_at texts unit)) c.in-Net.is)
 
@@ -24,6 +24,6 @@ unfolding has_key
 returns-in-Deploy c =
     let texts = c.args.library.now in
     let unit = c.args.key.unit in
-    c.is_of_plan.ensures
+    c.is_system.ensures.told
     ∙ ap (λ (o : Option (List ℕ)). has_plan_in (option_and_then tree_of o)) (get_source texts unit)
     ∙ sym (ap (λ (k : Kind). has_kind_at k (text_at texts unit)) c.in-Deploy.is)

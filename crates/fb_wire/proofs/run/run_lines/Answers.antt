@@ -1,4 +1,4 @@
-use Rattle.std.proofs.Common.{◌≡◌, ◌++◌, [], Ok, Err, append-nil, append_assoc, sym, ap, ◌∙◌, arith}
+use Rattle.std.proofs.Common.{◌≡◌, ◌++◌, [], Ok, Err, append-nil, append_assoc, sym, ap, ◌∙◌, arith, rules}
 use Rattle.std.proofs.KnownBytes.{Consumes-nil, Consumes-trans}
 use Rattle.fb_wire.specs.declared.end.RunEnd.TheVariants as end
 use Rattle.fb_wire.proofs.Ends.{not_failed}
@@ -51,6 +51,24 @@ loop-turn-preserved g c =
       λ was. c.take_turn.ensures.flushed (inv.7 was) written,
     )
 
-pub returns-clause-whole : goal.returns-clause-whole
-returns-clause-whole g c = λ is.
-    let other : end.TurnsOver ≡ end.End = is in absurd cc
+pub returns-in-Err-clause-shown : goal.returns-in-Err-clause-shown
+returns-in-Err-clause-shown g c =
+    let inv = c.loop-turn.invariant in
+    record {
+      whole = search rules;
+      turns_are = search rules;
+      all_turns = search rules;
+      read_failed = search rules;
+      flushed = search rules;
+      write_failed = search rules;
+    }
+
+pub returns-clause-shown : goal.returns-clause-shown
+returns-clause-shown g c = record {
+  whole = λ is. let other : end.TurnsOver ≡ end.End = is in absurd cc;
+  turns_are = search rules;
+  all_turns = search rules;
+  read_failed = search rules;
+  flushed = search rules;
+  write_failed = search rules;
+}

@@ -4,12 +4,12 @@ use Rattle.fb_entries.specs.Jobs.Keys.{has_key}
 use Rattle.fb_history.specs.Machine.{State, ToTake, reply, next}
 use Rattle.fb_history.specs.Story.{Story, state_of, start}
 use Rattle.fb_history.proofs.Least.{next_passes}
-use Rattle.fb_bench.proofs.Marks.{ready_has, all_kept}
+use Rattle.fb_bench.proofs.Marks.{ready_has, all_found, all_kept}
 use Rattle.fb_history.proofs.Steps.{take_some}
 use Rattle.fb_bench.proofs.bench.Bench.job_for.Goals as goal
 
-pub make-requires-clause-has : goal.make-requires-clause-has
-make-requires-clause-has c =
+pub for_kept-requires-clause-has : goal.for_kept-requires-clause-has
+for_kept-requires-clause-has c =
     let story : Story = record { origin = start c.self.inside.most_units; log = c.self.inside.history } in
     let s : State = state_of story in
     let key = c.args.key in
@@ -17,8 +17,11 @@ make-requires-clause-has c =
     let has = ready_has s key _ (c.self.invariant.agrees.each key) (next_passes s key some) in
     subst (λ units. has_key units key ≡ true) (sym c.self.invariant.agrees.units_are) has
 
-pub make-requires-clause-kept : goal.make-requires-clause-kept
-make-requires-clause-kept c = all_kept (c.self.invariant.agrees)
+pub for_kept-requires-clause-kept : goal.for_kept-requires-clause-kept
+for_kept-requires-clause-kept c = all_kept (c.self.invariant.agrees)
+
+pub for_kept-requires-clause-found : goal.for_kept-requires-clause-found
+for_kept-requires-clause-found c = all_found (c.self.invariant.agrees)
 
 pub returns-clause-job : goal.returns-clause-job
 returns-clause-job c =

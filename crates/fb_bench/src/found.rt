@@ -1,0 +1,37 @@
+//! Nets that were computed on the way to another value.
+ghost use Rattle.std.specs.Prelude.{◌≡◌, All, IfOk};
+ghost use Rattle.std.specs.BTreeMap as tree;
+ghost use Rattle.fb_entries.specs.Jobs.Hints.{IsNetOf};
+ghost use Rattle.fb_bench.specs.Founds.{KeepsAgreement};
+
+use fb_entries::jobs::{Hint, Key, Kind};
+use fb_entries::{Entry, keep_found};
+use std::alloc::{AllocError, Global};
+use std::collections::BTreeMap;
+
+/// Shares of the nets.
+pub(crate) fn shares_of(alloc: Global, found: &[Hint]) -> Result<Vec<Hint>, AllocError>
+    ensures { IfOk result (λ shares. shares.items ≡ found.now) }
+{
+    let mut shares = Vec::with_capacity(alloc, found.len())?;
+    for hint in found {
+        shares.push(Hint {
+            unit: hint.unit,
+            value: hint.value.clone()?,
+        })?;
+    }
+    Ok(shares)
+}
+
+/// Keeps each for its unit's key, if that is pending.
+pub(crate) fn keep_all(entries: &mut BTreeMap<Key, Entry>, found: Vec<Hint>)
+    ensures { KeepsAgreement found.items entries.old entries.new }
+{
+    for it in found {
+        let key = Key {
+            kind: Kind::Net,
+            unit: it.unit,
+        };
+        keep_found(entries, &key, it.value);
+    }
+}

@@ -1,0 +1,100 @@
+-- What is composed for a unit is, with its count, the net of its type.
+use Rattle.std.proofs.Common.{ℕ, ◌≡◌, ◌≤◌, arith, true, not, List, Option, Some, None, inl, refl, sym, ◌∙◌, ap, subst}
+use Rattle.std.proofs.lemmas.Bool.{false≢true}
+use Rattle.std.specs.Prelude.{Contains, ◌≢◌, is_none, option_map}
+use Rattle.std.specs.Option.{option_or}
+use Rattle.std.specs.BTreeMap.{is_at}
+use Rattle.fb_wiring.specs.Text.Order.{name_cmp}
+use Rattle.fb_wiring.specs.Tree.Mentions.{unit_kind_of}
+use Rattle.fb_wiring.specs.Tree.Tree.{DeclTree, block_type, adapter_type, subapplication_type, system_configuration}
+use Rattle.fb_wiring.specs.Tree.declared.kinds.UnitKind.TheVariants as kinds
+use Rattle.fb_wiring.specs.Library.View.{Sources, tree_at}
+use Rattle.fb_wiring.specs.Network.declared.count.TheConstants.{INSTANCE_LIMIT}
+use Rattle.fb_wiring.specs.Network.Plain.{PlainNetwork}
+use Rattle.fb_wiring.specs.Network.PlainFlat.{PlainFlat}
+use Rattle.fb_wiring.specs.Network.Instances.{Held, AreInstances}
+use Rattle.fb_wiring.specs.Network.FlatNet.{IsFlat}
+use Rattle.fb_wiring.specs.Network.Counts.{IsCounted}
+use Rattle.fb_wiring.specs.Network.Ready.{Nets}
+use Rattle.fb_wiring.specs.ByName.{declared, kind_at}
+use Rattle.fb_wiring.specs.Networks.{network_of}
+use Rattle.fb_wiring.specs.Units.{Holds, IsUnitFlat, IsWithinLimit, OfSubapplication}
+use Rattle.fb_wiring.proofs.KindLemmas.{subapplication_by_tree}
+use Rattle.fb_wiring.proofs.Network.Equals.{bytes_same}
+use Rattle.fb_flatten.specs.Hints.{count_of_hint}
+use Rattle.fb_flatten.specs.Inner.{IsCountedFlat, IsInnerNet}
+use Rattle.fb_flatten.specs.Net.{PlainNet, flat_net}
+use Rattle.fb_flatten.specs.Nets.{net_at}
+use Rattle.fb_flatten.specs.Tables.{AllCounted, AllFinished, AreMissing, IsSmallType, IsUnitOrder, is_missing, known_flats}
+use Rattle.fb_flatten.specs.declared.inner.Inner.{Inner}
+use Rattle.fb_flatten.proofs.ComputedNets.{net_at_is}
+use Rattle.fb_flatten.proofs.FlatsLemmas.{and_first, and_second}
+use Rattle.fb_flatten.proofs.HintLemmas.{no_flat}
+
+module _ (sources : Sources) (name : List ℕ) (kind : kind_at sources name ≡ Some kinds.Subapplication) where
+  -- the instances of the network of a subapplication are its own
+  type_holds : (network : PlainNetwork) (held : List Held) → declared sources name ≡ Some network → AreInstances (declared sources) network.instances held → Holds sources name held
+  type_holds network held d is = by (tree_at sources name) refl
+    where
+      by : (o : Option DeclTree) → tree_at sources name ≡ o → Holds sources name held
+      by None e = let two : kind_at sources name ≡ None = ap (option_map unit_kind_of) e in absurd (let no : ⊥ = cc in no)
+      by (Some (block_type t)) e = let two : kind_at sources name ≡ Some kinds.Block = ap (option_map unit_kind_of) e in absurd (let no : ⊥ = cc in no)
+      by (Some (adapter_type t)) e = let two : kind_at sources name ≡ Some kinds.Adapter = ap (option_map unit_kind_of) e in absurd (let no : ⊥ = cc in no)
+      by (Some (system_configuration t)) e = let two : kind_at sources name ≡ Some kinds.System = ap (option_map unit_kind_of) e in absurd (let no : ⊥ = cc in no)
+      by (Some (subapplication_type t)) e =
+          let there : declared sources name ≡ Some (network_of (subapplication_type t)) = ap (option_map network_of) e in
+          let same : network ≡ network_of (subapplication_type t) = cc in
+          record { tree = subapplication_type t; present = e; instances = subst (λ (n : PlainNetwork). AreInstances (declared sources) n.instances held) same is }
+
+  -- a type that is counted within the limit
+  small_type : {counts : List ℕ → Option ℕ} (count : ℕ) → IsCounted (declared sources) counts name → counts name ≡ Some count → count ≤ INSTANCE_LIMIT → IsSmallType (declared sources) name
+  small_type count c e le =
+      let found = c.found in
+      let same : c.count ≡ count = cc in
+      let is = c.counted.count_is in
+      record {
+        network = c.inner;
+        declared = c.declared;
+        held = c.counted.held;
+        instances = c.counted.instances;
+        within = omega (arith, same, is, le);
+      }
+
+  within_limit : {counts : List ℕ → Option ℕ} (count : ℕ) → IsCounted (declared sources) counts name → counts name ≡ Some count → count ≤ INSTANCE_LIMIT → IsWithinLimit sources name count
+  within_limit count c e le =
+      let found = c.found in
+      let same : c.count ≡ count = cc in
+      let is = c.counted.count_is in
+      record {
+        held = c.counted.held;
+        holds = type_holds c.inner c.counted.held c.declared c.counted.instances;
+        number = omega (arith, same, is, le);
+        within = omega (arith, same, is, le);
+      }
+
+module _ {sources : Sources} {hints : List ℕ → Option PlainNet} {unit : List ℕ} {order : List (List ℕ)} (o : IsUnitOrder sources hints unit order) where
+  apart : (name : List ℕ) → is_missing sources hints unit name ≡ true → name ≢ unit
+  apart name missing e =
+      false≢true
+      (ap not (sym (bytes_same unit)) ∙ ap (λ (n : List ℕ). not (is_at (name_cmp unit) n)) (sym e) ∙ and_first (not (is_at (name_cmp unit) name)) _ missing)
+
+  -- the flat network of a name, with its count, is the name's net
+  counted_net : (flats : Nets) (counts : List ℕ → Option ℕ) (name : List ℕ) (flat : PlainFlat) (count : ℕ) → AllCounted sources counts order → AllFinished sources (known_flats hints flats) unit order → Contains order name → is_missing sources hints unit name ≡ true → flats name ≡ Some flat → counts name ≡ Some count → count ≤ INSTANCE_LIMIT → net_at sources name ≡ Some (flat_net flat count)
+  counted_net flats counts name flat count counted finished c missing found number le =
+      let rest = and_second (not (is_at (name_cmp unit) name)) _ missing in
+      let unknown = and_first (is_none (count_of_hint (hints name))) _ rest in
+      let kind = subapplication_by_tree sources name (and_second (is_none (count_of_hint (hints name))) _ rest) in
+      let known = counted name c kind in
+      let f = finished name c (apart name missing) kind (small_type sources name kind count known number le) in
+      let composed : flats name ≡ Some f.net = sym (ap (λ (p : Option PlainFlat). option_or p (flats name)) (no_flat (hints name) unknown)) ∙ f.found in
+      let same : f.net ≡ flat = cc in
+      let is : IsUnitFlat sources name flat = OfSubapplication f.inner kind f.declared (subst (λ (p : PlainFlat). IsFlat (declared sources) f.inner p) same f.flat) in
+      (net_at_is sources name (flat_net flat count)).1 (inl kind, (o.names.sound name c, within_limit sources name kind count known number le, is))
+
+  pub inner_net : (flats : Nets) (counts : List ℕ → Option ℕ) → AllCounted sources counts order → AllFinished sources (known_flats hints flats) unit order → AreMissing sources hints unit order flats → (it : Inner) → IsCountedFlat flats counts it → IsInnerNet sources unit it
+  inner_net flats counts counted finished missing it is =
+      let m = missing it.unit is.flat is.found in
+      record {
+        below = o.below it.unit m.0;
+        net_is = counted_net flats counts it.unit is.flat is.count counted finished m.0 m.1 is.found is.counted is.within ∙ ap (λ (n : PlainNet). Some n) (sym is.net_is);
+      }

@@ -1,0 +1,48 @@
+-- The count tells whether there is a flat network.
+use Rattle.std.proofs.Common.{[], sym, subst}
+use Rattle.std.proofs.lemmas.List.Elements.{All-nil, All-same, All-weaker}
+use Rattle.std.specs.BTreeMap.{get}
+use Rattle.fb_wiring.proofs.FoundUnits.{not_too_large, too_large}
+use Rattle.fb_wiring.specs.Text.Order.{name_cmp}
+use Rattle.fb_wiring.specs.declared.nets.Net.{Net}
+use Rattle.fb_flatten.specs.Inner.{IsCountedFlat, IsInnerNet}
+use Rattle.fb_flatten.specs.Net.{IsNet, plain_net}
+use Rattle.fb_flatten.proofs.InnerNets.{inner_net}
+use Rattle.fb_flatten.proofs.computing.compute_in_order.Goals as goal
+
+pub counts_in_order-requires-clause-order : goal.counts_in_order-requires-clause-order
+counts_in_order-requires-clause-order g c = c.requires.order.names
+
+pub count_of_unit-requires : goal.count_of_unit-requires
+count_of_unit-requires g c = record {
+  sound = c.requires.order.names.sound _ c.requires.order.own;
+  counted = λ w m kind. c.in_ok-counts.ensures w (c.requires.order.mentions w m) kind;
+}
+
+pub returns-then-instances-gt-INSTANCE_LIMIT : goal.returns-then-instances-gt-INSTANCE_LIMIT
+returns-then-instances-gt-INSTANCE_LIMIT g c =
+    let sources = g.V.View.sources c.args.view.now in
+    let unit = c.args.unit.now in
+    record {
+      net =
+          subst (λ (n : Net). IsNet sources unit (plain_net n)) (sym c.alone.ensures.net)
+          (c.requires.order.names.sound _ c.requires.order.own, too_large c.in_ok-instances.ensures c.if-instances-gt-INSTANCE_LIMIT.true);
+      inner = All-same (IsInnerNet sources unit) c.alone.result.inner.items [] c.alone.ensures.inner (All-nil (IsInnerNet sources unit));
+    }
+
+pub flat_of_unit-requires-clause-small : goal.flat_of_unit-requires-clause-small
+flat_of_unit-requires-clause-small g c = (c.in_ok-instances.instances, not_too_large c.in_ok-instances.ensures c.if-instances-gt-INSTANCE_LIMIT.false)
+
+pub returns : goal.returns
+returns g c =
+    let sources = g.V.View.sources c.args.view.now in
+    let unit = c.args.unit.now in
+    let flats = get name_cmp c.in_ok-flat.field-0.flats in
+    let counts = get name_cmp c.in_ok-counts.counts in
+    record {
+      net = (c.requires.order.names.sound _ c.requires.order.own, not_too_large c.in_ok-instances.ensures c.if-instances-gt-INSTANCE_LIMIT.false, c.in_ok-flat.ensures.flat);
+      inner =
+          All-weaker (IsCountedFlat flats counts) (IsInnerNet sources unit)
+          (inner_net c.requires.order flats counts c.in_ok-counts.ensures c.in_ok-flat.ensures.finished c.in_ok-flat.ensures.missing)
+          c.in_ok-inner.inner.items c.in_ok-inner.ensures;
+    }

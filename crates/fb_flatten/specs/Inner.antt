@@ -1,0 +1,24 @@
+-- Nets of units that others rest on.
+use Rattle.std.specs.Prelude.{ℕ, ◌≡◌, ◌≤◌, List, Option, Some}
+use Rattle.fb_wiring.specs.Library.View.{Sources}
+use Rattle.fb_wiring.specs.Library.Rests.{Rests}
+use Rattle.fb_wiring.specs.Network.declared.count.TheConstants.{INSTANCE_LIMIT}
+use Rattle.fb_wiring.specs.Network.PlainFlat.{PlainFlat}
+use Rattle.fb_wiring.specs.Network.Ready.{Nets}
+use Rattle.fb_flatten.specs.Net.{flat_net, plain_net}
+use Rattle.fb_flatten.specs.Nets.{net_at}
+use Rattle.fb_flatten.specs.declared.inner.Inner.{Inner}
+
+-- the net of a unit that the unit rests on
+pub record IsInnerNet (sources : Sources) (unit : List ℕ) (it : Inner) : Type 0 where
+  pub below : Rests sources unit it.unit
+  pub net_is : net_at sources it.unit ≡ Some (plain_net it.net)
+
+-- a flat network of these, with a count within the limit
+pub record IsCountedFlat (flats : Nets) (counts : List ℕ → Option ℕ) (it : Inner) : Type 0 where
+  pub flat : PlainFlat
+  pub count : ℕ
+  pub found : flats it.unit ≡ Some flat
+  pub counted : counts it.unit ≡ Some count
+  pub within : count ≤ INSTANCE_LIMIT
+  pub net_is : plain_net it.net ≡ flat_net flat count

@@ -1,0 +1,98 @@
+//! The nets of units, with those that are found on the way.
+ghost use Rattle.std.specs.Prelude.{◌≡◌, true, All, [], IfOk, Some};
+ghost use Rattle.fb_wiring.specs.Library.View.{tree_at};
+ghost use Rattle.fb_wiring.specs.Units.{HasNet, has_net_in};
+ghost use Rattle.fb_flatten.specs.Hints.{AreFaultless, AreRightHints};
+ghost use Rattle.fb_flatten.specs.Inner.{IsInnerNet};
+ghost use Rattle.fb_flatten.specs.Net.{IsNet, plain_net};
+ghost use Rattle.fb_flatten.specs.Nets.{net_at};
+ghost use Rattle.fb_flatten.specs.Tables.{IsUnitOrder};
+
+use crate::blocking::{blocking, has_some};
+use crate::counts::counts_in_order;
+use crate::inner::{Inner, inner_nets};
+use crate::suspects::suspects;
+use crate::units::{Composed, count_of_unit, flat_of_unit};
+use fb_wiring::library::{View, far};
+use fb_wiring::plain::INSTANCE_LIMIT;
+use fb_wiring::text::Name;
+use fb_wiring::{Hints, Known, Net, Rest, inner_first, networks_of, recursive};
+use std::alloc::{AllocError, Global};
+
+/// The net of a unit, and nets of other units that were composed on the way.
+#[derive(Drop)]
+pub struct Computed {
+    pub net: Net,
+    pub inner: Vec<Inner>,
+}
+
+fn alone(alloc: Global, net: Net) -> Computed
+    ensures net { result.net ≡ net }
+    ensures inner { result.inner.items ≡ [] }
+{
+    Computed {
+        net,
+        inner: Vec::new(alloc),
+    }
+}
+
+/// The net of a unit, where the nets of some units are kept and some units are known to be there without faults, and nets of units that it
+/// rests on. Below a unit whose kept net tells that it is flat or too large nothing is looked at.
+pub fn compute<V: View, K: Hints + Known>(
+    alloc: Global,
+    view: &V,
+    unit: Name,
+    known: &K,
+) -> Result<Computed, AllocError>
+    requires net { has_net_in (tree_at (V.sources view.now) unit) ≡ true }
+    requires right { AreRightHints (V.sources view.now) (K.hints known.now) }
+    requires faultless { AreFaultless (V.sources view.now) (K.faultless known.now) }
+    ensures net { IfOk result (λ it. net_at (V.sources view.now) unit ≡ Some (plain_net it.net)) }
+    ensures inner { IfOk result (λ it. All (IsInnerNet (V.sources view.now) unit) it.inner.items) }
+{
+    let suspects = suspects(alloc, view, known, unit)?;
+    let found = blocking(alloc, view, known, suspects.as_slice())?;
+    if has_some(found.as_slice()) {
+        return Ok(alone(alloc, Net::Blocked(found)));
+    }
+    let rest = Rest {
+        view,
+        hints: known,
+        unit,
+    };
+    match inner_first(alloc, &rest, unit)? {
+        None => {
+            let names = far(alloc, view, unit)?;
+            let back = recursive(alloc, view, names.as_slice())?;
+            Ok(alone(alloc, Net::Recursive(back)))
+        }
+        Some(order) => compute_in_order(alloc, view, known, &unit, order.as_slice()),
+    }
+}
+
+/// The same where all that the unit rests on is without faults, and what is left to look at stands in an order with inner types first.
+fn compute_in_order<V: View, H: Hints>(
+    alloc: Global,
+    view: &V,
+    hints: &H,
+    unit: &Name,
+    order: &[Name],
+) -> Result<Computed, AllocError>
+    requires net { HasNet (V.sources view.now) unit.now }
+    requires order { IsUnitOrder (V.sources view.now) (H.hints hints.now) unit.now order.now }
+    requires right { AreRightHints (V.sources view.now) (H.hints hints.now) }
+    ensures net { IfOk result (λ it. IsNet (V.sources view.now) unit.now (plain_net it.net)) }
+    ensures inner { IfOk result
+        (λ it. All (IsInnerNet (V.sources view.now) unit.now) it.inner.items) }
+{
+    let table = networks_of(alloc, view, order)?;
+    let counts = counts_in_order(alloc, view, hints, &table, order)?;
+    let instances = count_of_unit(alloc, view, &counts, unit)?;
+    if instances > INSTANCE_LIMIT {
+        return Ok(alone(alloc, Net::TooLarge));
+    }
+    let Composed { flat, flats } = flat_of_unit(alloc, view, hints, &table, order, unit)?;
+    let inner = inner_nets(alloc, flats, &counts)?;
+    let net = Net::Flat { flat, instances };
+    Ok(Computed { net, inner })
+}

@@ -1,0 +1,38 @@
+//! The nets of units alone.
+ghost use Rattle.std.specs.Prelude.{◌≡◌, IfOk, Some};
+ghost use Rattle.fb_wiring.specs.Units.{HasNet};
+ghost use Rattle.fb_flatten.specs.Hints.{AreRightHints};
+ghost use Rattle.fb_flatten.specs.Net.{IsNet, plain_net};
+ghost use Rattle.fb_flatten.specs.Nets.{net_at};
+
+use crate::computing::{Computed, compute};
+use fb_wiring::library::View;
+use fb_wiring::text::Name;
+use fb_wiring::{Hints, Net, NetsAlone, NoHints};
+use std::alloc::{AllocError, Global};
+
+/// The flat network of a subapplication or a system, or the first reason why it has none: that it rests on units that are absent or have
+/// faults, that it rests on types that reach themselves, that it holds more than 4,096 instances.
+pub fn net<V: View>(alloc: Global, view: &V, unit: Name) -> Result<Net, AllocError>
+    requires { HasNet (V.sources view.now) unit }
+    ensures is { IfOk result (λ net. IsNet (V.sources view.now) unit (plain_net net)) }
+    ensures at { IfOk result (λ net. net_at (V.sources view.now) unit ≡ Some (plain_net net)) }
+{
+    net_with(alloc, view, unit, &NoHints)
+}
+
+/// The same, where the nets of some units are kept. Below a unit whose kept net tells that it is flat or too large nothing is looked at.
+pub fn net_with<V: View, H: Hints>(
+    alloc: Global,
+    view: &V,
+    unit: Name,
+    hints: &H,
+) -> Result<Net, AllocError>
+    requires net { HasNet (V.sources view.now) unit }
+    requires right { AreRightHints (V.sources view.now) (H.hints hints.now) }
+    ensures is { IfOk result (λ net. IsNet (V.sources view.now) unit (plain_net net)) }
+    ensures at { IfOk result (λ net. net_at (V.sources view.now) unit ≡ Some (plain_net net)) }
+{
+    let Computed { net, inner: _ } = compute(alloc, view, unit, &NetsAlone { hints })?;
+    Ok(net)
+}

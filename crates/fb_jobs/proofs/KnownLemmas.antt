@@ -1,0 +1,242 @@
+-- What a job knows beside its reads holds in them.
+use Rattle.std.proofs.Common.{◌≡◌, ◌⊎◌, inl, inr, ℕ, Bool, true, false, true≢false, cond, ◌||◌, is_none, is_some, List, [], ◌∷◌, ◌++◌, refl, sym, ap, subst, ◌∙◌, Option, Some, None, Contains}
+use Rattle.std.specs.Map.{lookup}
+use Rattle.std.specs.List.{list_any}
+use Rattle.std.specs.Option.{option_map}
+use Rattle.std.specs.FinMap.{get}
+use Rattle.std.specs.BTreeMap as tree
+use Rattle.std.specs.BTreeMap.{is_at}
+use Rattle.std.specs.BTreeSet as set
+use Rattle.std.specs.Ordering.{is_eq}
+use Rattle.std.specs.Cmp.Lexicographic.{nat_list_cmp_total}
+use Rattle.std.specs.FinMap.{slice_cmp-IsAntisymmetric, nat_cmp-IsAntisymmetric}
+use Rattle.std.specs.declared.sync.Arc.{Arc}
+use Rattle.std.specs.declared.alloc.Global.{Global}
+use Rattle.std.proofs.lemmas.List.Elements.{All-contains, Contains-append_cases, Contains-append_left, Contains-append_right}
+use Rattle.fb_text.specs.Order.{name_cmp}
+use Rattle.fb_text.proofs.OrderLemmas.{in_order-members}
+use Rattle.fb_text.proofs.Members.{contains_nothing, contains_cases, contains_here}
+use Rattle.fb_deploy.specs.Library.Texts.{Texts, sources_of, text_at}
+use Rattle.fb_deploy.specs.Library.View.{Sources, near_of, mentions_at}
+use Rattle.fb_deploy.specs.Library.Rests.{Rests, itself, through}
+use Rattle.fb_deploy.proofs.Library.Sources.{get_source}
+use Rattle.fb_deploy.proofs.Library.WalkLemmas.{has-Contains, Contains-has}
+use Rattle.fb_deploy.specs.Faults.Faults.{faults_of}
+use Rattle.fb_deploy.specs.Iface.declared.fault.Fault.{Fault}
+use Rattle.fb_deploy.specs.Flatten.Blocking.{is_blocking, is_some_fault}
+use Rattle.fb_deploy.specs.Flatten.Far.{far_of}
+use Rattle.fb_deploy.specs.Flatten.Hints.{AreFaultless, AreRightHints}
+use Rattle.fb_deploy.specs.Flatten.Net.{PlainNet, plain_net}
+use Rattle.fb_deploy.specs.Flatten.Nets.{net_at}
+use Rattle.fb_deploy.proofs.Flatten.FarNames.{far_is_all}
+use Rattle.fb_jobs.specs.declared.hints.Hint.{Hint}
+use Rattle.fb_jobs.specs.declared.key.Kind.{Kind}
+use Rattle.fb_jobs.specs.declared.key.Kind.TheVariants as kind
+use Rattle.fb_jobs.specs.declared.key.Key.{Key}
+use Rattle.fb_jobs.specs.declared.read.Read.{Read}
+use Rattle.fb_jobs.specs.declared.value.Value.{Value}
+use Rattle.fb_jobs.specs.declared.value.Value.TheVariants.{Faults, Net, Deploy}
+use Rattle.fb_jobs.specs.Hints.{AreChosen, AreHints, IsHint, net_key}
+use Rattle.fb_jobs.specs.Keys.{Finding, FaultsFound, NetFound, has_key, needs, needs_of, net_finding, scratch}
+use Rattle.fb_jobs.specs.Kept.{AreKept}
+use Rattle.fb_jobs.specs.Kinds.{needs_all}
+use Rattle.fb_jobs.specs.declared.known.Knowledge.{Knowledge}
+use Rattle.fb_jobs.specs.Known.{IsKnowledge, AddsFaultless, AddsNet, AreFaultlessAmong, AreNetsOf, AreWithoutFaults, IsKeptFaultless, IsNetOfUnit, IsOwnNet, IsThere, Nets, faults_key, hint_in, net_in}
+use Rattle.fb_jobs.specs.Reads.{Agree, Seen, is_among, read_names, read_texts, reads_for}
+use Rattle.fb_jobs.specs.Values.{all_seen, finding_of}
+use Rattle.fb_jobs.specs.Work.{IsOwnIn}
+use Rattle.fb_jobs.proofs.SameNeeds.{has_key_local, scratch_local, same_at, at_itself, unit_needed}
+use Rattle.fb_jobs.proofs.Currents.{agree_for, names_under}
+use Rattle.fb_jobs.proofs.HintLemmas.{chosen_hints, hints_stay, net_stays, rests_on}
+
+-- ---- nets by the names of their units
+
+net_found : (o : Option PlainNet) (net : PlainNet) → NetFound net ≡ net_finding o → o ≡ Some net
+net_found None net e = cc
+net_found (Some other) net e = cc
+
+value_right : (T : Texts) (name : List ℕ) (value : Value) (net : PlainNet) → finding_of value ≡ scratch T (net_key name) → net_in value ≡ Some net → net_at (sources_of T) name ≡ Some net
+unfolding scratch
+value_right T name (Faults faults) net is e = cc
+value_right T name (Net it) net is e = net_found (net_at (sources_of T) name) (plain_net it) is ∙ e
+value_right T name (Deploy deploy) net is e = cc
+
+hint_right : (T : Texts) (name : List ℕ) (o : Option (Arc Value Global)) (net : PlainNet) → ((value : Arc Value Global) → o ≡ Some value → finding_of value.value ≡ scratch T (net_key name)) → hint_in o ≡ Some net → net_at (sources_of T) name ≡ Some net
+hint_right T name None net holds e = cc
+hint_right T name (Some value) net holds e = value_right T name value.value net (holds value refl) e
+
+-- the nets of right hints are those of their units
+pub nets_right : (T : Texts) (key : Key) (hints : List Hint) (nets : Nets) → AreHints T key hints → AreNetsOf hints nets → AreRightHints (sources_of T) (λ name. hint_in (tree.get name_cmp nets name))
+nets_right T key hints nets right are name net e = hint_right T name (tree.get name_cmp nets name) net holds e
+  where
+    holds : (value : Arc Value Global) → tree.get name_cmp nets name ≡ Some value → finding_of value.value ≡ scratch T (net_key name)
+    holds value there =
+        let it = are name value there in
+        let is = All-contains (IsHint T key) hints it.0 right.each it.1 in
+        ap finding_of (sym it.3) ∙ is.net_is ∙ ap (λ n. scratch T (net_key n)) it.2
+
+no_entry : (nets : Nets) (name : List ℕ) (value : Arc Value Global) → nets.entries ≡ [] → tree.get name_cmp nets name ≡ Some value → ⊥
+no_entry nets name value empty there =
+    let none : tree.get name_cmp nets name ≡ None = ap (λ es. lookup (is_at (name_cmp name)) es) empty in cc
+
+pub no_nets : (nets : Nets) → nets.entries ≡ [] → AreNetsOf [] nets
+no_nets nets empty name value there = absurd (no_entry nets name value empty there)
+
+put_net : (hint : Hint) (name : List ℕ) (value put : Arc Value Global) (old new : Option (Arc Value Global)) (same : Bool) → is_eq (name_cmp hint.unit name) ≡ same → new ≡ cond same (Some put) old → put.value ≡ hint.value.value → new ≡ Some value → (old ≡ Some value) ⊎ ((hint.unit ≡ name) × (hint.value.value ≡ value.value))
+put_net hint name value put old new true is now had there =
+    let one : put ≡ value = cc in inr (same_at hint.unit name is, sym had ∙ ap (λ (it : Arc Value Global). it.value) one)
+put_net hint name value put old new false is now had there = inl (sym now ∙ there)
+
+pub adds_net : (hint : Hint) (put : Arc Value Global) (old new : Nets) → put.value ≡ hint.value.value → ((name : List ℕ) → tree.get name_cmp new name ≡ cond (is_eq (name_cmp hint.unit name)) (Some put) (tree.get name_cmp old name)) → AddsNet hint old new
+adds_net hint put old new had now name value there =
+    put_net hint name value put (tree.get name_cmp old name) (tree.get name_cmp new name) (is_eq (name_cmp hint.unit name)) refl (now name) had there
+
+earlier : (hints : List Hint) (hint it : Hint) → Contains hints it → Contains (hints ++ hint ∷ []) it
+earlier hints hint it there = Contains-append_left hints (hint ∷ []) it there
+
+pub one_more_net : (before now : List Hint) (hint : Hint) (old new : Nets) → now ≡ before ++ hint ∷ [] → AreNetsOf before old → AddsNet hint old new → AreNetsOf now new
+one_more_net before now hint old new more so_far adds name value there =
+    subst (λ hints. (it : Hint) × Contains hints it × (it.unit ≡ name) × (it.value.value ≡ value.value)) (sym more)
+    (elim (adds name value there) [
+      | inl was ↦ let it = so_far name value was in (it.0, earlier before hint it.0 it.1, it.2, it.3)
+      | inr is ↦ (hint, Contains-append_right before (hint ∷ []) hint (contains_here hint []), is.0, is.1)
+    ])
+
+-- ---- the own net
+
+pub own_stays : (T : Texts) (key : Key) (kept found : Key → Option Finding) (own : Option (Arc Value Global)) → AreKept T kept → AreKept T found → needs_all key.kind ≡ true → IsOwnNet kept found key.unit own → IsNetOfUnit (read_texts (reads_for T key)) key.unit own
+own_stays T key kept found own right right_found all is value there =
+    elim (is value there) [
+      | inl e ↦ right (net_key key.unit) (finding_of value.value) e
+      | inr e ↦ right_found (net_key key.unit) (finding_of value.value) e
+    ]
+    ∙ sym (net_stays T key key.unit all (unit_needed T key))
+
+value_in : (o : Option PlainNet) (value : Value) (net : PlainNet) → finding_of value ≡ net_finding o → net_in value ≡ Some net → o ≡ Some net
+value_in o (Faults faults) net is e = cc
+value_in o (Net it) net is e = net_found o (plain_net it) is ∙ e
+value_in o (Deploy deploy) net is e = cc
+
+pub own_right : (sources : Sources) (unit : List ℕ) (own : Option (Arc Value Global)) (net : PlainNet) → IsOwnIn sources unit own → hint_in own ≡ Some net → net_at sources unit ≡ Some net
+own_right sources unit None net is e = cc
+own_right sources unit (Some value) net is e = value_in (net_at sources unit) value.value net (is value refl) e
+
+pub own_in : (T : Texts) (unit : List ℕ) (own : Option (Arc Value Global)) → IsNetOfUnit T unit own → IsOwnIn (sources_of T) unit own
+unfolding scratch
+own_in T unit own is value there = is value there
+
+-- ---- units without faults
+
+near_far : (sources : Sources) (unit v : List ℕ) → Rests sources unit v → (n : List ℕ) → Contains (near_of sources v) n → Rests sources unit n
+near_far sources unit v r n c =
+    let listed = (in_order-members name_cmp nat_list_cmp_total (slice_cmp-IsAntisymmetric nat_cmp-IsAntisymmetric) (mentions_at sources v ++ v ∷ []) n).0 c in
+    by_case (Contains-append_cases (mentions_at sources v) (v ∷ []) n listed)
+  where
+    by_last : (v ≡ n) ⊎ Contains [] n → Rests sources unit n
+    by_last (inl e) = subst (λ (w : List ℕ). Rests sources unit w) e r
+    by_last (inr d) = absurd (contains_nothing n d)
+
+    by_case : Contains (mentions_at sources v) n ⊎ Contains (v ∷ []) n → Rests sources unit n
+    by_case (inl m) = rests_on r (through m itself)
+    by_case (inr d) = by_last (contains_cases v [] n d)
+
+near_within : (kind : Kind) (sources : Sources) (unit name n : List ℕ) → needs_all kind ≡ true → is_among name (needs_of kind sources unit) ≡ true → is_among n (near_of sources name) ≡ true → is_among n (needs_of kind sources unit) ≡ true
+near_within kind.Faults sources unit name n far first second = cc
+near_within kind.Net sources unit name n far first second =
+    has-Contains n (far_of sources unit) (((far_is_all sources unit).1 n).1 (near_far sources unit name (((far_is_all sources unit).1 name).0 (Contains-has name (far_of sources unit) first)) n (Contains-has n (near_of sources name) second)))
+near_within kind.Deploy sources unit name n far first second =
+    has-Contains n (far_of sources unit) (((far_is_all sources unit).1 n).1 (near_far sources unit name (((far_is_all sources unit).1 name).0 (Contains-has name (far_of sources unit) first)) n (Contains-has n (near_of sources name) second)))
+
+faults_needed : (T : Texts) (key : Key) (name n : List ℕ) → needs_all key.kind ≡ true → is_among name (needs T key) ≡ true → is_among n (needs T (faults_key name)) ≡ true → is_among n (needs T key) ≡ true
+unfolding needs
+faults_needed T key name n far first second = near_within key.kind (sources_of T) key.unit name n far first second
+
+pub faultless_stay : (T : Texts) (key : Key) (kept : Key → Option Finding) (units : set.BTreeSet (List ℕ)) → AreKept T kept → needs_all key.kind ≡ true → AreFaultlessAmong T kept (reads_for T key) units → AreWithoutFaults (read_texts (reads_for T key)) units
+faultless_stay T key kept units right all among name has =
+    let it = among name has in
+    let needed : is_among name (needs T key) ≡ true = ap (is_among name) (sym (names_under T (needs T key))) ∙ it.0 in
+    let read = read_texts (reads_for T key) in
+    let agree : Agree T read (needs T (faults_key name)) = λ n near. agree_for T key n (faults_needed T key name n all needed near) in
+    (has_key_local T read (faults_key name) agree ∙ it.1, scratch_local T read (faults_key name) agree ∙ sym (right (faults_key name) (FaultsFound []) it.2))
+
+-- gathered read by read
+no_member : (units : set.BTreeSet (List ℕ)) (name : List ℕ) → units.keys ≡ [] → set.contains name_cmp units name ≡ true → ⊥
+no_member units name empty has =
+    let none : set.contains name_cmp units name ≡ false = ap (λ ks. list_any (is_at (name_cmp name)) ks) empty in absurd (true≢false (sym has ∙ none))
+
+pub none_faultless : (T : Texts) (kept : Key → Option Finding) (reads : List Seen) (units : set.BTreeSet (List ℕ)) → units.keys ≡ [] → AreFaultlessAmong T kept reads units
+none_faultless T kept reads units empty name has = absurd (no_member units name empty has)
+
+or_first : (a b c : Bool) → (b ≡ true → c ≡ true) → (a || b) ≡ true → (a || c) ≡ true
+or_first true b c step e = refl
+or_first false b c step e = step e
+
+or_last : (a b : Bool) → b ≡ true → (a || b) ≡ true
+or_last true b e = refl
+or_last false b e = e
+
+among_more : (name : List ℕ) (reads : List Read) (read : Read) → is_among name (read_names (all_seen reads)) ≡ true → is_among name (read_names (all_seen (reads ++ read ∷ []))) ≡ true
+among_more name [] read e = cc
+among_more name (r ∷ reads) read e = or_first (is_at (name_cmp name) r.name) _ _ (among_more name reads read) e
+
+among_last : (reads : List Read) (read : Read) → is_among read.name (read_names (all_seen (reads ++ read ∷ []))) ≡ true
+among_last [] read = ap (λ b. b || false) (at_itself read.name)
+among_last (r ∷ reads) read = or_last (is_at (name_cmp read.name) r.name) _ (among_last reads read)
+
+pub one_more_faultless : (T : Texts) (kept : Key → Option Finding) (before now : List Read) (read : Read) (old new : set.BTreeSet (List ℕ)) → now ≡ before ++ read ∷ [] → AreFaultlessAmong T kept (all_seen before) old → AddsFaultless T kept read.name old new → AreFaultlessAmong T kept (all_seen now) new
+one_more_faultless T kept before now read old new more so_far adds name has =
+    subst (λ (reads : List Read). (is_among name (read_names (all_seen reads)) ≡ true) × IsThere T name × IsKeptFaultless kept name) (sym more)
+    (elim (adds name has) [
+      | inl was ↦ let it = so_far name was in (among_more name before read it.0, it.1, it.2)
+      | inr is ↦ (subst (λ n. is_among n (read_names (all_seen (before ++ read ∷ []))) ≡ true) (sym is.0) (among_last before read), is.1, is.2)
+    ])
+
+put_unit : (T : Texts) (kept : Key → Option Finding) (name other : List ℕ) (old new same : Bool) → is_at (name_cmp name) other ≡ same → new ≡ cond same true old → IsThere T name → IsKeptFaultless kept name → new ≡ true → (old ≡ true) ⊎ ((other ≡ name) × IsThere T other × IsKeptFaultless kept other)
+put_unit T kept name other old new true is now there none has =
+    let named : name ≡ other = same_at name other is in
+    inr (sym named, subst (IsThere T) named there, subst (IsKeptFaultless kept) named none)
+put_unit T kept name other old new false is now there none has = inl (sym now ∙ has)
+
+pub adds_unit : (T : Texts) (kept : Key → Option Finding) (name : List ℕ) (old new : set.BTreeSet (List ℕ)) → IsThere T name → IsKeptFaultless kept name → ((other : List ℕ) → set.contains name_cmp new other ≡ cond (is_at (name_cmp name) other) true (set.contains name_cmp old other)) → AddsFaultless T kept name old new
+adds_unit T kept name old new there none now other has =
+    put_unit T kept name other (set.contains name_cmp old other) (set.contains name_cmp new other) (is_at (name_cmp name) other) refl (now other) there none has
+
+unblocked : (T : Texts) (name : List ℕ) → IsThere T name → scratch T (faults_key name) ≡ FaultsFound [] → is_blocking (sources_of T) name ≡ false
+unfolding has_key scratch
+unblocked T name there none =
+    by (get (sources_of T) name) (sym (get_source T name)) (faults_of (sources_of T) name) none
+  where
+    by : (o : Option (List ℕ)) → text_at T name ≡ o → (found : List Fault) → FaultsFound found ≡ FaultsFound [] → (is_none o || is_some_fault found) ≡ false
+    by None e found none = let no : is_some (text_at T name) ≡ false = ap is_some e in absurd (true≢false (sym there ∙ no))
+    by (Some text) e [] none = refl
+    by (Some text) e (f ∷ fs) none = cc
+
+pub faultless_in : (T : Texts) (units : set.BTreeSet (List ℕ)) → AreWithoutFaults T units → AreFaultless (sources_of T) (λ name. set.contains name_cmp units name)
+faultless_in T units are name has = let it = are name has in unblocked T name it.0 it.1
+
+pub is_there : {A : Type 0} (T : Texts) (name : List ℕ) (o : Option A) (text : A → List ℕ) → is_some o ≡ true → option_map text o ≡ text_at T name → IsThere T name
+unfolding has_key
+is_there T name None text e same = cc
+is_there T name (Some x) text e same = ap is_some (sym same)
+
+pub no_units : (T : Texts) (units : set.BTreeSet (List ℕ)) → units.keys ≡ [] → AreWithoutFaults T units
+no_units T units empty name has = absurd (no_member units name empty has)
+
+pub hints_alone : (T : Texts) (key : Key) (hints : List Hint) (it : Knowledge) → AreHints T key hints → it.hints.items ≡ hints → it.own ≡ None → it.faultless.keys ≡ [] → IsKnowledge (read_texts (reads_for T key)) key it
+hints_alone T key hints it right is none empty = record {
+  hints_are = subst (AreHints (read_texts (reads_for T key)) key) (sym is) (hints_stay T key hints right);
+  own_is = λ value there. absurd (no_value it.own value none there);
+  faultless_are = no_units (read_texts (reads_for T key)) it.faultless empty;
+}
+  where
+    no_value : (o : Option (Arc Value Global)) (value : Arc Value Global) → o ≡ None → o ≡ Some value → ⊥
+    no_value None value none there = cc
+    no_value (Some v) value none there = cc
+
+-- what is kept of what the key needs
+pub kept_known : (T : Texts) (key : Key) (kept found : Key → Option Finding) (it : Knowledge) → AreKept T kept → AreKept T found → needs_all key.kind ≡ true → AreChosen T kept key.unit (reads_for T key) it.hints.items → IsOwnNet kept found key.unit it.own → AreFaultlessAmong T kept (reads_for T key) it.faultless → IsKnowledge (read_texts (reads_for T key)) key it
+kept_known T key kept found it right right_found all chosen own faultless = record {
+  hints_are = hints_stay T key it.hints.items (chosen_hints T kept key it.hints.items right all chosen);
+  own_is = own_stays T key kept found it.own right right_found all own;
+  faultless_are = faultless_stay T key kept it.faultless right all faultless;
+}

@@ -1,0 +1,91 @@
+-- What a job knows beside its reads and its hints.
+use Rattle.std.specs.Prelude.{◌≡◌, ◌⊎◌, ℕ, true, List, [], Option, Some, None, Contains}
+use Rattle.std.specs.BTreeMap as tree
+use Rattle.std.specs.BTreeSet as set
+use Rattle.std.specs.declared.sync.Arc.{Arc}
+use Rattle.std.specs.declared.alloc.Global.{Global}
+use Rattle.fb_text.specs.Order.{name_cmp}
+use Rattle.fb_deploy.specs.Library.Texts.{Texts}
+use Rattle.fb_deploy.specs.Flatten.Net.{PlainNet, plain_net}
+use Rattle.fb_jobs.specs.declared.hints.Hint.{Hint}
+use Rattle.fb_jobs.specs.declared.known.Knowledge.{Knowledge}
+use Rattle.fb_jobs.specs.declared.key.Kind.TheVariants as kind
+use Rattle.fb_jobs.specs.declared.key.Key.{Key}
+use Rattle.fb_jobs.specs.declared.value.Value.{Value}
+use Rattle.fb_jobs.specs.declared.value.Value.TheVariants.{Faults, Net, Deploy}
+use Rattle.fb_jobs.specs.Keys.{Finding, FaultsFound, has_key, scratch}
+use Rattle.fb_jobs.specs.Reads.{Seen, read_names, is_among}
+use Rattle.fb_jobs.specs.Hints.{AreHints, net_key}
+use Rattle.fb_jobs.specs.Values.{finding_of}
+
+-- ---- nets
+
+-- values by the names of their units
+abbrev pub Nets : Type 0
+Nets = tree.BTreeMap (List ℕ) (Arc Value Global)
+
+abbrev pub net_in : Value → Option PlainNet
+net_in (Faults faults) = None
+net_in (Net net) = Some (plain_net net)
+net_in (Deploy deploy) = None
+
+abbrev pub hint_in : Option (Arc Value Global) → Option PlainNet
+hint_in None = None
+hint_in (Some value) = net_in value.value
+
+-- each stands among the hints
+abbrev pub AreNetsOf : List Hint → Nets → Type 0
+AreNetsOf hints nets =
+    (name : List ℕ) (value : Arc Value Global) → tree.get name_cmp nets name ≡ Some value
+    → (hint : Hint) × Contains hints hint × (hint.unit ≡ name) × (hint.value.value ≡ value.value)
+
+-- nothing is added but the hint's
+abbrev pub AddsNet : Hint → Nets → Nets → Type 0
+AddsNet hint old new =
+    (name : List ℕ) (value : Arc Value Global) → tree.get name_cmp new name ≡ Some value
+    → (tree.get name_cmp old name ≡ Some value) ⊎ ((hint.unit ≡ name) × (hint.value.value ≡ value.value))
+
+-- the net of the unit that is kept, or that was found
+abbrev pub IsOwnNet : (Key → Option Finding) → (Key → Option Finding) → List ℕ → Option (Arc Value Global) → Type 0
+IsOwnNet kept found unit own =
+    (value : Arc Value Global) → own ≡ Some value
+    → (kept (net_key unit) ≡ Some (finding_of value.value)) ⊎ (found (net_key unit) ≡ Some (finding_of value.value))
+
+-- a value that is known is the net of the unit
+abbrev pub IsNetOfUnit : Texts → List ℕ → Option (Arc Value Global) → Type 0
+IsNetOfUnit texts unit own = (value : Arc Value Global) → own ≡ Some value → finding_of value.value ≡ scratch texts (net_key unit)
+
+-- ---- units without faults
+
+-- the key of a unit's faults
+abbrev pub faults_key : List ℕ → Key
+faults_key unit = record { kind = kind.Faults; unit = unit }
+
+abbrev pub IsKeptFaultless : (Key → Option Finding) → List ℕ → Type 0
+IsKeptFaultless kept unit = kept (faults_key unit) ≡ Some (FaultsFound [])
+
+-- the unit is there
+abbrev pub IsThere : Texts → List ℕ → Type 0
+IsThere texts unit = has_key texts (faults_key unit) ≡ true
+
+-- each is read, there, and kept without faults
+abbrev pub AreFaultlessAmong : Texts → (Key → Option Finding) → List Seen → set.BTreeSet (List ℕ) → Type 0
+AreFaultlessAmong texts kept reads units =
+    (name : List ℕ) → set.contains name_cmp units name ≡ true → (is_among name (read_names reads) ≡ true) × IsThere texts name × IsKeptFaultless kept name
+
+abbrev pub AddsFaultless : Texts → (Key → Option Finding) → List ℕ → set.BTreeSet (List ℕ) → set.BTreeSet (List ℕ) → Type 0
+AddsFaultless texts kept name old new =
+    (other : List ℕ) → set.contains name_cmp new other ≡ true
+    → (set.contains name_cmp old other ≡ true) ⊎ ((other ≡ name) × IsThere texts other × IsKeptFaultless kept other)
+
+-- each is there and has no faults
+abbrev pub AreWithoutFaults : Texts → set.BTreeSet (List ℕ) → Type 0
+AreWithoutFaults texts units =
+    (name : List ℕ) → set.contains name_cmp units name ≡ true → IsThere texts name × (scratch texts (faults_key name) ≡ FaultsFound [])
+
+-- ---- together
+
+pub record IsKnowledge (texts : Texts) (key : Key) (it : Knowledge) : Type 0 where
+  pub hints_are : AreHints texts key it.hints.items
+  pub own_is : IsNetOfUnit texts key.unit it.own
+  pub faultless_are : AreWithoutFaults texts it.faultless

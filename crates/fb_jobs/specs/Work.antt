@@ -1,0 +1,52 @@
+-- What a job computes: its value, and the nets of other units on the way.
+use Rattle.std.specs.Prelude.{◌≡◌, ℕ, Bool, true, false, List, [], Option, Some, All}
+use Rattle.std.specs.BTreeMap as tree
+use Rattle.std.specs.BTreeSet as set
+use Rattle.std.specs.declared.sync.Arc.{Arc}
+use Rattle.std.specs.declared.alloc.Global.{Global}
+use Rattle.fb_text.specs.Order.{name_cmp}
+use Rattle.fb_deploy.specs.Library.Rests.{Rests}
+use Rattle.fb_deploy.specs.Library.Texts.{Texts}
+use Rattle.fb_deploy.specs.Library.View.{Sources}
+use Rattle.fb_deploy.specs.Flatten.Net.{PlainNet}
+use Rattle.fb_deploy.specs.Flatten.Nets.{net_at}
+use Rattle.fb_jobs.specs.declared.hints.Hint.{Hint}
+use Rattle.fb_jobs.specs.declared.known.KnownNets.{KnownNets}
+use Rattle.fb_jobs.specs.declared.computed.Worked.{Worked}
+use Rattle.fb_jobs.specs.declared.key.Key.{Key}
+use Rattle.fb_jobs.specs.declared.key.Kind.{Kind}
+use Rattle.fb_jobs.specs.declared.value.Value.{Value}
+use Rattle.fb_jobs.specs.Hints.{IsNetOf}
+use Rattle.fb_jobs.specs.Keys.{needs, net_finding, scratch_of}
+use Rattle.fb_jobs.specs.Kinds.{needs_all}
+use Rattle.fb_jobs.specs.Known.{hint_in}
+use Rattle.fb_jobs.specs.Reads.{is_among}
+use Rattle.fb_jobs.specs.Values.{finding_of}
+
+-- what is known of nets, and of units without faults
+abbrev pub known_hints : KnownNets → List ℕ → Option PlainNet
+known_hints it name = hint_in (tree.get name_cmp it.nets.now name)
+
+abbrev pub known_faultless : KnownNets → List ℕ → Bool
+known_faultless it name = set.contains name_cmp it.faultless.now name
+
+-- a value that is known is the net of the unit
+abbrev pub IsOwnIn : Sources → List ℕ → Option (Arc Value Global) → Type 0
+IsOwnIn sources unit own = (value : Arc Value Global) → own ≡ Some value → finding_of value.value ≡ net_finding (net_at sources unit)
+
+-- the net of a unit that the first rests on
+pub record IsFoundIn (sources : Sources) (unit : List ℕ) (hint : Hint) : Type 0 where
+  pub below : Rests sources unit hint.unit
+  pub net_is : finding_of hint.value.value ≡ net_finding (net_at sources hint.unit)
+
+-- the value of the kind, and nets of what the unit rests on, none where not all of that is read
+pub record IsWork (kind : Kind) (sources : Sources) (unit : List ℕ) (worked : Worked) : Type 0 where
+  pub value_is : finding_of worked.value.value ≡ scratch_of kind sources unit
+  pub none : needs_all kind ≡ false → worked.found.items ≡ []
+  pub found_are : All (IsFoundIn sources unit) worked.found.items
+
+-- the net of a unit that the key needs with all that it rests on
+pub record IsFoundFor (texts : Texts) (key : Key) (hint : Hint) : Type 0 where
+  pub all : needs_all key.kind ≡ true
+  pub needed : is_among hint.unit (needs texts key) ≡ true
+  pub net_is : IsNetOf texts hint
