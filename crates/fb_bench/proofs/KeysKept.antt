@@ -1,5 +1,5 @@
 -- The keys that have entries are those of the texts, in order, and as many of the entries have no value as keys wait.
-use Rattle.std.proofs.Common.{◌≡◌, ℕ, ◌+◌, Bool, true, false, ◌&&◌, List, [], ◌∷◌, All, get_or, length, refl, sym, ap, subst, ◌∙◌, Option, Some, None, is_none, is_some, cond, count_by}
+use Rattle.std.proofs.Common.{◌≡◌, ℕ, ◌+◌, Bool, true, false, ◌&&◌, List, [], ◌∷◌, All, get_or, refl, sym, ap, subst, ◌∙◌, Option, Some, None, is_some, cond, count_by}
 use Rattle.std.specs.BTreeMap as tree
 use Rattle.std.specs.BTreeMap.{is_at}
 use Rattle.std.specs.BTreeSet as set

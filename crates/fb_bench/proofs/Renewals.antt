@@ -1,5 +1,5 @@
 -- What is kept after a commit that is done, and after one that found no memory.
-use Rattle.std.proofs.Common.{◌≡◌, ◌↔◌, ℕ, Bool, true, false, ◌||◌, ◌&&◌, not, List, map, filter, refl, sym, ap, ◌∙◌, subst, Option, Some, None, cond, is_none}
+use Rattle.std.proofs.Common.{◌≡◌, ℕ, Bool, true, false, ◌||◌, ◌&&◌, not, List, map, refl, sym, ap, ◌∙◌, subst, Option, Some, None, cond, is_none}
 use Rattle.std.specs.BTreeMap as tree
 use Rattle.std.specs.BTreeSet as set
 use Rattle.fb_text.proofs.Tests.{or_true, and_false}
@@ -13,17 +13,12 @@ use Rattle.fb_entries.specs.Jobs.Reads.{is_among}
 use Rattle.fb_entries.proofs.Jobs.SameNeeds.{has_key_local}
 use Rattle.fb_entries.specs.declared.entry.Entry.{Entry}
 use Rattle.fb_entries.specs.declared.renewal.Renewal.{Renewal}
-use Rattle.fb_entries.specs.Jobs.Kinds.{all_keys}
 use Rattle.fb_history.specs.Machine.{State, is_ready, after_done, reaches}
 use Rattle.fb_bench.specs.Kept.{EntryFits, Agrees}
 use Rattle.fb_entries.specs.Marking.{is_of, waiting_if}
 use Rattle.fb_entries.specs.Renew.{is_own, is_fresh, is_renewed, IsRenewal, HasRoom, IsTakenBack}
-use Rattle.fb_entries.specs.Index.Near.{Users}
-use Rattle.fb_entries.specs.Indexed.{IsIndexOf, IsReached}
 use Rattle.fb_entries.proofs.Jobs.KindLemmas.{in_all_keys}
-use Rattle.fb_entries.proofs.Members.{of_filtered}
 use Rattle.fb_bench.proofs.Renewing.{held_all_edited, agree_unreached, ScratchLocal, waiting_fits, kept_fits, gone_fits}
-use Rattle.fb_entries.proofs.Reached.{reached_by}
 
 -- ---- a key of no changed unit
 

@@ -1,12 +1,12 @@
 -- Nets that were computed on the way to another value.
-use Rattle.std.specs.Prelude.{◌≡◌, ℕ, List, None, All}
+use Rattle.std.specs.Prelude.{ℕ, List, All}
 use Rattle.std.specs.BTreeMap as tree
 use Rattle.std.specs.BTreeSet as set
 use Rattle.fb_entries.specs.Library.Texts.{Texts}
 use Rattle.fb_entries.specs.Jobs.declared.hints.Hint.{Hint}
 use Rattle.fb_entries.specs.Jobs.declared.key.Key.{Key}
 use Rattle.fb_entries.specs.Jobs.Hints.{IsNetOf}
-use Rattle.fb_entries.specs.Jobs.Reads.{PlainJob, IsRight, read_texts, stale}
+use Rattle.fb_entries.specs.Jobs.Reads.{PlainJob, read_texts}
 use Rattle.fb_entries.specs.Jobs.Work.{IsFoundFor}
 use Rattle.fb_entries.specs.declared.entry.Entry.{Entry}
 use Rattle.fb_history.specs.Machine.{State}

@@ -1,5 +1,5 @@
 -- As many as pass the test.
-use Rattle.std.proofs.Common.{◌∙◌, length, rules}
+use Rattle.std.proofs.Common.{◌∙◌, rules}
 use Rattle.std.specs.BTreeMap as tree
 use Rattle.std.proofs.lemmas.Iterator.Consumers.{count_from_yields_List, YieldsList-at, YieldsList-from_filter, YieldsList-from_rest}
 use Rattle.std.proofs.lemmas.List.Sums.{length-filter}
