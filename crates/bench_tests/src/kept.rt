@@ -1,6 +1,6 @@
 //! Which kept nets jobs take along.
 use crate::jobs::{bench_after, is_accepted, job_for, key_of};
-use crate::talk::talk;
+use crate::talk::{new_bench, talk};
 use fb_wire::bench::{Bench, Taken};
 use fb_wire::jobs::{Job, Key, Kind};
 use std::alloc::Global;
@@ -104,8 +104,9 @@ fn are_planned(alloc: Global, bench: &mut Bench) -> Result<bool, Fail> {
 }
 
 fn are_planned_after(alloc: Global, text: &str) -> Result<bool, Fail> {
-    let mut bench = bench_after(alloc, text)?;
-    are_planned(alloc, &mut bench)
+    let mut bench = new_bench(alloc, 8, 100)?;
+    let is_said = talk(alloc, &mut bench, 1, text)?.is_none();
+    Ok(is_said && are_planned(alloc, &mut bench)?)
 }
 
 #[test]
