@@ -31,7 +31,8 @@ const USER: &str = r#"
 < {"commit":1}
 "#;
 
-fn key_of(kind: Kind, unit: &str) -> Result<Key, Fail> {
+/// The key of this kind of a unit.
+pub(crate) fn key_of(kind: Kind, unit: &str) -> Result<Key, Fail> {
     let unit = Name::read(unit)?;
     Ok(Key { kind, unit })
 }
@@ -40,8 +41,8 @@ fn faults_of_a() -> Result<Key, Fail> {
     key_of(Kind::Faults, "A")
 }
 
-// A new workbench after a conversation.
-fn bench_after(alloc: Global, text: &str) -> Result<Bench, Fail> {
+/// A new workbench after a conversation.
+pub(crate) fn bench_after(alloc: Global, text: &str) -> Result<Bench, Fail> {
     let mut bench = new_bench(alloc, 4, 100)?;
     match talk(alloc, &mut bench, 1, text)? {
         None => Ok(bench),
@@ -431,7 +432,8 @@ fn takes_along(job: &Job, wanted: &[&str]) -> Result<bool, Fail> {
     Ok(job.nets().len() == wanted.len())
 }
 
-fn net_of(unit: &str) -> Result<Key, Fail> {
+/// The key of the net of a unit.
+pub(crate) fn net_of(unit: &str) -> Result<Key, Fail> {
     key_of(Kind::Net, unit)
 }
 
