@@ -5,6 +5,10 @@
 #[cfg(test)]
 mod calls;
 #[cfg(test)]
+mod cuts;
+#[cfg(test)]
+mod full;
+#[cfg(test)]
 mod jobs;
 #[cfg(test)]
 mod kept;
@@ -14,6 +18,8 @@ mod nets;
 mod plans;
 #[cfg(test)]
 mod refusals;
+#[cfg(test)]
+mod refused;
 #[cfg(test)]
 mod streams;
 #[cfg(test)]

@@ -13,6 +13,8 @@ mod parts;
 #[cfg(test)]
 mod readers;
 #[cfg(test)]
+mod refused;
+#[cfg(test)]
 mod tables;
 #[cfg(test)]
 mod tokens;
