@@ -4,6 +4,7 @@ ghost use Rattle.std.specs.Prelude.{◌≡◌, ◌≤◌, ◌<◌, [], true, fal
 use crate::talk::{new_bench, replies_in, replies_within, requests_in};
 use fb_wire::bench::Bench;
 use fb_wire::{Failed, IntoWrite, MemoryFeed, RunEnd, Sink, run_script};
+use refusing::{Refusals, refuse, report, was_refused};
 use std::alloc::Global;
 use std::io;
 use std::io::Write;
@@ -232,5 +233,78 @@ fn each_flush_fails(rt: HostRuntime) -> Result<(), Fail> {
         let is_whole = cut_at_write(&rt, rt.alloc(), requests.as_str(), &whole, weak)?;
         assert_eq!(rt; is_whole, flushes == 8);
     }
+    Ok(())
+}
+
+// How many calls are recorded where a run ends for want of memory behind so many replies: those of the next line may be, too.
+fn are_calls_of(calls: usize, lines: usize) -> bool {
+    match (CALLS.get(lines), CALLS.get(lines.saturating_add(1).min(8))) {
+        (Some(least), Some(most)) => *least <= calls && calls <= *most,
+        _ => false,
+    }
+}
+
+// A run of which the allocation of this number is refused. Whether it was, and whether the run ended for want of memory.
+fn cut_at_allocation(
+    rt: &impl Abort,
+    alloc: Global,
+    requests: &str,
+    whole: &Bench,
+    number: u32,
+) -> Result<(bool, bool), Fail> {
+    let mut bench = new_bench(alloc, 10, 1000)?;
+    let mut feed = MemoryFeed::new(requests.as_bytes(), 8192, u64::MAX);
+    let mut held = Vec::with_capacity(alloc, 4096)?;
+    let mut sink = IntoWrite::new(&mut held);
+    refuse(alloc, number);
+    let end = run_script(alloc, &mut feed, &mut sink, &mut bench, 1, 1_000_000);
+    let is_refused = was_refused(alloc);
+    let wanted = replies_in(alloc, LATE)?;
+    let is_memory = end == RunEnd::Memory && is_refused;
+    let is_whole = end == RunEnd::End && held.as_slice() == wanted.as_bytes();
+    assert!(rt; is_whole || is_memory, "at {number}");
+    assert!(rt;
+        wanted.as_bytes().starts_with(held.as_slice()),
+        "at {number}"
+    );
+    assert!(rt;
+        held.is_empty() || held.last() == Some(&b'\n'),
+        "at {number}"
+    );
+    assert!(rt;
+        are_calls_of(bench.len(), lines_in(held.as_slice())),
+        "at {number}"
+    );
+    assert!(rt; has_first(&bench, whole, bench.len()), "at {number}");
+    Ok((is_refused, is_memory))
+}
+
+fn cut_at_allocations(rt: &impl Abort, alloc: Global) -> Result<Refusals, Fail> {
+    let requests = requests_in(alloc, LATE)?;
+    let whole = whole_bench(alloc, requests.as_str())?;
+    let mut memory = 0u32;
+    for number in 1..100_000u32 {
+        let (is_refused, is_memory) = cut_at_allocation(
+            rt,
+            alloc,
+            requests.as_str(),
+            &whole,
+            number,
+        )?;
+        if !is_refused {
+            return Ok(Refusals {
+                allocations: number - 1,
+                memory,
+            });
+        }
+        memory = memory.saturating_add(u32::from(is_memory));
+    }
+    Err(Fail::from("ever more allocations"))
+}
+
+#[test]
+fn each_allocation_fails(rt: HostRuntime) -> Result<(), Fail> {
+    let found = cut_at_allocations(&rt, rt.alloc())?;
+    report(&rt, "run_script", " of a late result", found)?;
     Ok(())
 }

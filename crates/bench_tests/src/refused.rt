@@ -1,13 +1,13 @@
 //! The recorded calls, and the run of a job, of which each allocation is refused in turn.
 use crate::jobs::{bench_after, key_of};
-use crate::talk::{GOOD, run_over};
+use crate::talk::{GOOD, run_over, talk};
 use fb_bench::{Committed, Desk, DeskRefused, GivenBack, Refused, Solo};
 use fb_library::Change;
 use fb_library::parse::Source;
 use fb_text::Name;
 use fb_wire::bench::{Answered, Asked, Bench, Call, Delivered, Reply, Request, Shown, Taken};
 use fb_wire::jobs::{Finished, Job, Key, Kind};
-use refusing::{Trial, try_call};
+use refusing::{Refusals, Trial, refuse, report, try_call, was_refused};
 use std::alloc::{AllocError, Global};
 use std::io::Print;
 use std::test::Fail;
@@ -424,4 +424,103 @@ fn runs_of_jobs(rt: HostRuntime) -> Result<(), Fail> {
         NET_OF_KEPT,
     )?;
     try_call::<Runs>(&rt, alloc, "Job::run", " for a plan", PLAN)
+}
+
+// A subapplication of 4,096 blocks.
+fn crowd(alloc: Global) -> Result<String, AllocError> {
+    let mut text = String::from_str(alloc, "SUBAPPLICATION S FBS ")?;
+    for i in 0..4096u32 {
+        write!(text, "B{i}:T; ")?;
+    }
+    text.push_str("END_FBS END_SUBAPPLICATION")?;
+    Ok(text)
+}
+
+const TYPE: &str = r#"
+> {"op":"commit","changes":[{"put":"T","base":0,"text":"FUNCTION_BLOCK T END_FUNCTION_BLOCK"}]}
+< {"commit":1}
+> {"op":"work","turns":1}
+< {"accepted":1}
+"#;
+
+const JUDGED: &str = r#"
+> {"op":"work","turns":1}
+< {"accepted":1}
+"#;
+
+// No call but the run of a job comes to its 1,000th allocation.
+const LATE: u32 = 1000;
+
+// Whether a new unit is committed.
+fn is_put(alloc: Global, bench: &mut Bench, unit: &str, text: &str) -> Result<bool, Fail> {
+    let source = Source::read(alloc, Name::read(unit)?, text)?;
+    let changes = [Change::Put { base: 0, source }];
+    refuse(alloc, LATE);
+    let answer = bench.commit(1, &changes)?;
+    Ok(!was_refused(alloc) && matches!(answer, Committed::Done(_)))
+}
+
+// The job for the net of a unit whose faults are judged first.
+fn net_job(alloc: Global, bench: &mut Bench, hints: usize) -> Result<Job, Fail> {
+    if talk(alloc, bench, 1, JUDGED)?.is_some() {
+        return Err(Fail::from("another reply"));
+    }
+    refuse(alloc, LATE);
+    let job = job_of(bench)?;
+    if was_refused(alloc) || job.hints().len() != hints {
+        return Err(Fail::from("another job"));
+    }
+    Ok(job)
+}
+
+// Whether the run of a job finds no memory for its 1,000th allocation, where that is refused.
+fn lacks(alloc: Global, job: &Job) -> Result<bool, Fail> {
+    refuse(alloc, LATE);
+    let is_served = job.run(alloc).is_ok();
+    let is_refused = was_refused(alloc);
+    if is_served == is_refused {
+        return Err(Fail::from("another answer"));
+    }
+    Ok(is_refused)
+}
+
+fn is_taken_in(alloc: Global, bench: &mut Bench, job: &Job) -> Result<bool, Fail> {
+    let finished = job.run(alloc)?;
+    refuse(alloc, LATE);
+    let answer = bench.deliver(1, &finished)?;
+    Ok(!was_refused(alloc) && answer == Delivered::Accepted)
+}
+
+// The calls for a subapplication of 4,096 blocks and one that holds it. Whether the run for its net found no memory.
+fn crowd_lacks(alloc: Global) -> Result<bool, Fail> {
+    let mut bench = bench_after(alloc, TYPE)?;
+    let text = crowd(alloc)?;
+    if !is_put(alloc, &mut bench, "S", text.as_str())? {
+        return Err(Fail::from("S is not put"));
+    }
+    let job = net_job(alloc, &mut bench, 0)?;
+    let lacks = lacks(alloc, &job)?;
+    let is_taken_in = is_taken_in(alloc, &mut bench, &job)?;
+    let above = "SUBAPPLICATION R SUBAPPS X:S; END_SUBAPPS END_SUBAPPLICATION";
+    if !is_taken_in || !is_put(alloc, &mut bench, "R", above)? {
+        return Err(Fail::from("R is not put"));
+    }
+    let _job = net_job(alloc, &mut bench, 1)?;
+    Ok(lacks)
+}
+
+#[test]
+fn the_thousandth_allocation(rt: HostRuntime) -> Result<(), Fail> {
+    let found = u32::from(crowd_lacks(rt.alloc())?);
+    let refusals = Refusals {
+        allocations: found,
+        memory: found,
+    };
+    report(
+        &rt,
+        "Job::run",
+        " for 4,096 blocks, the 1,000th alone",
+        refusals,
+    )?;
+    Ok(())
 }

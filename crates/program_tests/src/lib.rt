@@ -6,4 +6,6 @@ mod peers;
 #[cfg(test)]
 mod program;
 #[cfg(test)]
+mod refused;
+#[cfg(test)]
 mod servers;
