@@ -5,10 +5,6 @@
 #[cfg(test)]
 mod calls;
 #[cfg(test)]
-mod cuts;
-#[cfg(test)]
-mod full;
-#[cfg(test)]
 mod jobs;
 #[cfg(test)]
 mod kept;
@@ -18,8 +14,6 @@ mod nets;
 mod plans;
 #[cfg(test)]
 mod refusals;
-#[cfg(test)]
-mod refused;
 #[cfg(test)]
 mod streams;
 #[cfg(test)]

@@ -8,11 +8,7 @@ mod closing;
 #[cfg(test)]
 mod desks;
 #[cfg(test)]
-mod full;
-#[cfg(test)]
 mod play;
-#[cfg(test)]
-mod refused;
 #[cfg(test)]
 mod setup;
 #[cfg(test)]

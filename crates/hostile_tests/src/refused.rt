@@ -1,6 +1,5 @@
 //! The recorded calls, and the run of a job, of which each allocation is refused in turn.
-use crate::jobs::{bench_after, key_of};
-use crate::talk::{GOOD, run_over, talk};
+use crate::talk::{bench_after, key_of, said, talk};
 use fb_bench::{Committed, Desk, DeskRefused, GivenBack, Refused, Solo};
 use fb_library::Change;
 use fb_library::parse::Source;
@@ -375,8 +374,7 @@ fn value_told(alloc: Global, row: JobRow, finished: &Finished) -> Result<String,
     if bench.deliver(1, finished)? != Delivered::Accepted {
         return Err(Fail::from("another delivery"));
     }
-    let run = run_over(alloc, &mut bench, 1, ask.as_bytes(), GOOD)?;
-    Ok(String::from_utf8(run.output)?)
+    said(alloc, &mut bench, 1, ask)
 }
 
 impl Trial for Runs {
@@ -462,7 +460,7 @@ fn is_put(alloc: Global, bench: &mut Bench, unit: &str, text: &str) -> Result<bo
 
 // The job for the net of a unit whose faults are judged first.
 fn net_job(alloc: Global, bench: &mut Bench, hints: usize) -> Result<Job, Fail> {
-    if talk(alloc, bench, 1, JUDGED)?.is_some() {
+    if !talk(alloc, bench, 1, JUDGED)? {
         return Err(Fail::from("another reply"));
     }
     refuse(alloc, LATE);

@@ -1,6 +1,8 @@
 //! The calls of a shared workbench, with the lock, without it and at a desk, of which each allocation is refused in turn.
-use crate::play::{Played, closed, is_accepted, is_without_faults, played_locked, played_shared};
-use crate::setup::{faults_of, new_locked, new_shared, pair, puts};
+use crate::setup::{
+    Played, closed, faults_of, is_accepted, new_locked, new_shared, pair, played_locked,
+    played_shared, puts,
+};
 use fb_jobs::{Finished, Job, Key};
 use fb_shared::bench::{Asked, Desk, DeskRefused, GivenBack, Limits, Reply};
 use fb_shared::library::Change;
@@ -485,7 +487,7 @@ impl<'a, R: Wait> Trial for SharedOver<'a, R> {
     type Setting = &'a R;
 
     fn new(alloc: Global, rt: &'a R) -> Result<SharedOver<'a, R>, Fail> {
-        let over = over_now(alloc, played_shared(rt, alloc, 100))?;
+        let over = over_now(alloc, played_shared(rt, alloc))?;
         Ok(SharedOver { rt, over })
     }
 
@@ -639,12 +641,6 @@ fn accepted(receipts: &[Receipt]) -> usize {
         .count()
 }
 
-// Whether the faults of a unit are known.
-fn is_known<R: Wait>(rt: &R, owner: &Shared, seat: &mut Seat, unit: &str) -> Result<bool, Fail> {
-    let asked = owner.ask(rt, seat, faults_of(unit).ok_or("a key")?)?;
-    Ok(is_without_faults(asked.reply()))
-}
-
 // Has a worker go on after it found no memory: the keys that are left are there to be taken.
 fn go_on<R: Wait>(
     rt: &R,
@@ -664,10 +660,7 @@ fn is_closed(
     (owner, first, second): (Shared, Seat, Seat),
     receipts: &[Receipt],
 ) -> bool {
-    match closed(alloc, owner, first, second, receipts) {
-        Some((records, _, _)) => records == receipts.len(),
-        None => false,
-    }
+    closed(alloc, owner, first, second, receipts) == Some(receipts.len())
 }
 
 // A worker that is refused the allocation of this number. Whether it was, and whether it found no memory.

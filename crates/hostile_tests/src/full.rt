@@ -1,12 +1,11 @@
 //! A full history, and results for a key that is gone.
-use crate::talk::{compare, new_bench};
+use crate::talk::{bench_after, key_of, new_bench};
 use fb_bench::Refused;
 use fb_library::Change;
 use fb_text::Name;
 use fb_wire::bench::{Bench, Limits, Shown, Taken};
 use fb_wire::jobs::{Finished, Key, Kind};
 use std::alloc::Global;
-use std::process::Abort;
 use std::test::Fail;
 
 // A subapplication whose name a block type takes over: its net's key is gone, and its faults have read another text.
@@ -27,31 +26,22 @@ const TAKEN_OVER: &str = r#"
 
 #[test]
 fn a_key_that_is_gone(rt: HostRuntime) -> Result<(), Fail> {
-    compare(&rt, rt.alloc(), &[("taken over", TAKEN_OVER)])
+    bench_after(rt.alloc(), TAKEN_OVER)?;
+    Ok(())
 }
 
+const PLAIN: &str = r#"
+> {"op":"commit","changes":[{"put":"A","base":0,"text":"FUNCTION_BLOCK A END_FUNCTION_BLOCK"}]}
+< {"commit":1}
+"#;
+
 fn faults_of(unit: &str) -> Result<Key, Fail> {
-    Ok(Key {
-        kind: Kind::Faults,
-        unit: Name::read(unit)?,
-    })
+    key_of(Kind::Faults, unit)
 }
 
 // A result of another workbench, for the faults of A.
 fn strange(alloc: Global) -> Result<Finished, Fail> {
-    let mut bench = new_bench(alloc, 4, 100)?;
-    let run = crate::talk::talk(
-        alloc,
-        &mut bench,
-        1,
-        r#"
-> {"op":"commit","changes":[{"put":"A","base":0,"text":"FUNCTION_BLOCK A END_FUNCTION_BLOCK"}]}
-< {"commit":1}
-"#,
-    )?;
-    if run.is_some() {
-        return Err(Fail::from("another reply"));
-    }
+    let mut bench = bench_after(alloc, PLAIN)?;
     match bench.take(1)? {
         Taken::Job(job) => Ok(job.run(alloc)?),
         Taken::Nothing => Err(Fail::from("no job")),

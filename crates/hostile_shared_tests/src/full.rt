@@ -1,6 +1,5 @@
 //! A shared workbench with a full history.
-use crate::play::played_shared;
-use crate::setup::{faults_of, new_shared, puts};
+use crate::setup::{faults_of, new_shared, played_shared, puts};
 use fb_jobs::Finished;
 use fb_shared::{Seat, Shared, SharedRefused};
 use std::alloc::Global;
@@ -53,7 +52,7 @@ fn refused_behind<R: Wait>(
     owner: &Shared,
     stranger: &mut Seat,
 ) -> Option<SharedRefused> {
-    let played = played_shared(rt, alloc, 100)?;
+    let played = played_shared(rt, alloc)?;
     stranger.show(played.receipts.get(1)?);
     owner.ask(rt, stranger, faults_of("A")?).err()
 }
