@@ -98,7 +98,7 @@ fn is_short(ended: &Ended) -> bool {
     let output = ended.output.as_slice();
     let is_front = OUTPUT.as_bytes().starts_with(output);
     let is_cut = !output.is_empty() && output.last() != Some(&b'\n');
-    let is_said = ended.errors.as_slice() == b"bench61499: out of memory\n";
+    let is_said = ended.errors.as_slice() == "bench61499: out of memory\n".as_bytes();
     let is_silent = ended.errors.is_empty() && output.is_empty();
     ended.status == 1 && is_front && !is_cut && (is_said || is_silent)
 }
