@@ -1,5 +1,5 @@
 -- A commit's answer, and what it leaves.
-use Rattle.std.proofs.Common.{◌≡◌, ℕ, ◌+◌, ◌<◌, ◌≤◌, Bool, true, false, List, [], ◌∷◌, map, length, refl, sym, ap, ◌∙◌, subst, Option, Some, None, cond, nat_lt, ◌==◌, arith, Vec}
+use Rattle.std.proofs.Common.{◌≡◌, ℕ, ◌+◌, ◌<◌, ◌≤◌, Bool, true, false, List, [], ◌∷◌, map, length, refl, sym, ap, ◌∙◌, subst, Option, Some, None, cond, nat_lt, ◌==◌, arith}
 use Rattle.std.proofs.lemmas.Bool.Decides.{nat_tests}
 use Rattle.std.specs.BTreeMap as tree
 use Rattle.std.specs.BTreeSet as set
@@ -14,19 +14,17 @@ use Rattle.fb_history.specs.declared.answers.Delivered.{Delivered}
 use Rattle.fb_history.specs.declared.answers.Delivered.TheVariants.{Accepted, NoSuchKey, NotPending, Stale}
 use Rattle.fb_history.specs.declared.answers.GivenBack.{GivenBack}
 use Rattle.fb_history.specs.declared.answers.GivenBack.TheVariants.{Returned, NothingOut}
-use Rattle.fb_history.specs.Machine.{after_give_back, give_back_answer, State, Call, ToCommit, ToTake, ToDeliver, ToGiveBack, ToAsk, OfCommit, reply, after, commit_answer, after_commit, after_take, after_deliver, deliver_answer, next, after_done, refusal, or_else, or_some, repeated_refusal, first_repeated, first_misfit, misfit, misfit_at, keys_of}
-use Rattle.fb_history.specs.Story.{Story, IsOrigin, opened, replay, calls_of, state_of}
+use Rattle.fb_history.specs.Machine.{after_give_back, give_back_answer, State, Call, ToCommit, ToTake, ToDeliver, ToGiveBack, ToAsk, OfCommit, reply, after, commit_answer, after_commit, after_take, after_deliver, deliver_answer, next, after_done, refusal, or_else, or_some, repeated_refusal, first_repeated, first_misfit, misfit, misfit_at}
+use Rattle.fb_history.specs.Story.{Story, opened, replay, calls_of, state_of}
 use Rattle.fb_bench.specs.Kept.{Agrees}
 use Rattle.fb_entries.specs.declared.renewal.Renewal.{Renewal}
 use Rattle.fb_bench.specs.Outcomes.{answer_at}
 use Rattle.fb_entries.specs.Marking.{is_of, waiting_if}
-use Rattle.fb_entries.specs.Renew.{IsRenewal, HasRoom, AreKeys, items_or}
-use Rattle.std.specs.declared.alloc.Global.{Global}
+use Rattle.fb_entries.specs.Renew.{IsRenewal, HasRoom}
 use Rattle.fb_history.proofs.Steps.{reply_commit, after_commit_is}
 use Rattle.fb_history.specs.Laws.{AgreeApartFrom}
 use Rattle.fb_bench.proofs.Renewing.{ScratchLocal, held_all_edited}
 use Rattle.fb_bench.proofs.Renewals.{agrees_done}
-use Rattle.fb_bench.proofs.KeysKept.{keys_after}
 
 -- ---- a refusal leaves the state
 
@@ -143,18 +141,11 @@ committed_is s made edits answer same is = after_commit_is s made ∙ (λ i. aft
 
 -- ---- what is kept after a commit that is done
 
-pub agrees_renewed : ScratchLocal → (n : ℕ) (edits : List Edit) (T U : Texts) (old_entries room_entries new_entries : tree.BTreeMap Key Entry) (old_ready room_ready new_ready old_waiting room_waiting new_waiting : set.BTreeSet Key) (s : State) (it : Renewal) → U ≡ all_edited (n + 1) edits T → Agrees T n old_entries old_ready old_waiting s → IsRenewal U (map unit_of edits) old_entries old_ready old_waiting it → HasRoom it old_entries room_entries old_ready room_ready old_waiting room_waiting → ((q : Key) → tree.get key_cmp new_entries q ≡ waiting_if (is_of q it.renewed.items) (cond (is_of q it.gone.items) None (tree.get key_cmp room_entries q))) → ((q : Key) → set.contains key_cmp new_ready q ≡ cond (is_of q it.gone.items) false (set.contains key_cmp room_ready q)) → ((q : Key) → set.contains key_cmp new_waiting q ≡ cond (is_of q it.gone.items) false (set.contains key_cmp room_waiting q)) → Agrees U (n + 1) new_entries new_ready new_waiting (after_done (n + 1) edits s)
-agrees_renewed law n edits T U old_entries room_entries new_entries old_ready room_ready new_ready old_waiting room_waiting new_waiting s it is agrees found room written ready waits =
+pub agrees_renewed : ScratchLocal → (n : ℕ) (edits : List Edit) (T U : Texts) (old_entries room_entries new_entries : tree.BTreeMap Key Entry) (old_ready room_ready new_ready : set.BTreeSet Key) (s : State) (it : Renewal) → U ≡ all_edited (n + 1) edits T → Agrees T n old_entries old_ready s → IsRenewal U (map unit_of edits) old_entries old_ready it → HasRoom it old_entries room_entries old_ready room_ready → ((q : Key) → tree.get key_cmp new_entries q ≡ waiting_if (is_of q it.renewed.items) (cond (is_of q it.gone.items) None (tree.get key_cmp room_entries q))) → ((q : Key) → set.contains key_cmp new_ready q ≡ cond (is_of q it.gone.items) false (set.contains key_cmp room_ready q)) → Agrees U (n + 1) new_entries new_ready (after_done (n + 1) edits s)
+agrees_renewed law n edits T U old_entries room_entries new_entries old_ready room_ready new_ready s it is agrees found room written ready =
     let units : U ≡ all_edited (n + 1) edits s.units = is ∙ ap (λ us. all_edited (n + 1) edits us) agrees.units_are in
-    subst (λ us. Agrees us (n + 1) new_entries new_ready new_waiting (after_done (n + 1) edits s)) (sym units)
-    (agrees_done law n edits T s it (n + 1) old_entries room_entries new_entries old_ready room_ready new_ready old_waiting room_waiting new_waiting agrees (subst (λ us. IsRenewal us (map unit_of edits) old_entries old_ready old_waiting it) units found) room written ready waits)
-
-pub keys_done : (n : ℕ) (edits : List Edit) (T U : Texts) (story : Story) (begins : IsOrigin story.origin) (old_entries : tree.BTreeMap Key Entry) (old_ready old_waiting : set.BTreeSet Key) (it : Renewal) (keys now : List Key) (made : Option (Vec Key Global)) → U ≡ all_edited (n + 1) edits T → Agrees T n old_entries old_ready old_waiting (state_of story) → IsRenewal U (map unit_of edits) old_entries old_ready old_waiting it → keys ≡ keys_of T → AreKeys U old_entries it.fresh.items it.gone.items made → now ≡ items_or made keys → now ≡ keys_of U
-keys_done n edits T U story begins old_entries old_ready old_waiting it keys now made is agrees found were are now_is =
-    let units : U ≡ all_edited (n + 1) edits (state_of story).units = is ∙ ap (λ us. all_edited (n + 1) edits us) agrees.units_are in
-    now_is
-    ∙ keys_after (n + 1) n edits T story begins old_entries old_ready old_waiting it keys made agrees (subst (λ us. IsRenewal us (map unit_of edits) old_entries old_ready old_waiting it) units found) were (subst (λ us. AreKeys us old_entries it.fresh.items it.gone.items made) units are)
-    ∙ ap keys_of (sym units)
+    subst (λ us. Agrees us (n + 1) new_entries new_ready (after_done (n + 1) edits s)) (sym units)
+    (agrees_done law n edits T s it (n + 1) old_entries room_entries new_entries old_ready room_ready new_ready agrees (subst (λ us. IsRenewal us (map unit_of edits) old_entries old_ready it) units found) room written ready)
 
 -- ---- a commit that nothing is against
 

@@ -1,5 +1,5 @@
 -- A workbench that has done nothing.
-use Rattle.std.proofs.Common.{◌≡◌, ℕ, false, List, [], refl, sym, ap, subst, arith}
+use Rattle.std.proofs.Common.{◌≡◌, ℕ, false, [], refl, sym, ap, subst, arith}
 use Rattle.std.specs.BTreeMap as tree
 use Rattle.std.specs.BTreeSet as set
 use Rattle.std.specs.Map.{lookup}
@@ -21,21 +21,20 @@ no_key : (key : Key) → has_key [] key ≡ false
 unfolding has_key
 no_key key = no_kind key.kind
 
-agrees_empty : (most : ℕ) (entries : tree.BTreeMap Key Entry) (ready waiting : set.BTreeSet Key) → entries.entries ≡ [] → ready.keys ≡ [] → waiting.keys ≡ [] → Agrees [] 0 entries ready waiting (opened (start most))
-agrees_empty most entries ready waiting no_entries no_keys none_wait = record {
+agrees_empty : (most : ℕ) (entries : tree.BTreeMap Key Entry) (ready : set.BTreeSet Key) → entries.entries ≡ [] → ready.keys ≡ [] → Agrees [] 0 entries ready (opened (start most))
+agrees_empty most entries ready no_entries no_keys = record {
   units_are = refl;
   commits_are = refl;
   each = λ key. subst (λ es. EntryFits (opened (start most)) key (lookup (is_at (key_cmp key)) es)) (sym no_entries) (no_key key, refl, refl);
   ready_are = λ key. ap (λ ks. list_any (is_at (key_cmp key)) ks) no_keys;
-  waiting_are = λ key. ap (λ ks. list_any (is_at (key_cmp key)) ks) none_wait;
 }
 
-kept_start : (most limit : ℕ) (entries : tree.BTreeMap Key Entry) (ready waiting : set.BTreeSet Key) (index : Users) → entries.entries ≡ [] → ready.keys ≡ [] → waiting.keys ≡ [] → index ≡ [] → IsKept [] 0 [] entries ready waiting index (record { origin = start most; log = record { limit = limit; records = [] } })
+kept_start : (most limit : ℕ) (entries : tree.BTreeMap Key Entry) (ready : set.BTreeSet Key) (index : Users) → entries.entries ≡ [] → ready.keys ≡ [] → index ≡ [] → IsKept [] 0 entries ready index (record { origin = start most; log = record { limit = limit; records = [] } })
 unfolding replay replies
-kept_start most limit entries ready waiting index no_entries no_keys none_wait empty = record { begins = begins_empty most; agrees = agrees_empty most entries ready waiting no_entries no_keys none_wait; replayed = refl; keys_are = refl; indexed = indexed_none [] index refl empty; few = omega arith }
+kept_start most limit entries ready index no_entries no_keys empty = record { begins = begins_empty most; agrees = agrees_empty most entries ready no_entries no_keys; replayed = refl; indexed = indexed_none [] index refl empty; few = omega arith }
 
-pub kept_empty : (most limit : ℕ) (units : Texts) (keys : List Key) (entries : tree.BTreeMap Key Entry) (ready waiting : set.BTreeSet Key) (index : Users) (log : Log) → units ≡ [] → keys ≡ [] → entries.entries ≡ [] → ready.keys ≡ [] → waiting.keys ≡ [] → index ≡ [] → log ≡ record { limit = limit; records = [] } → IsKept units 0 keys entries ready waiting index (record { origin = start most; log = log })
-kept_empty most limit units keys entries ready waiting index log no_units none no_entries no_keys none_wait empty is =
-    subst (λ l. IsKept units 0 keys entries ready waiting index (record { origin = start most; log = l })) (sym is)
-    (subst (λ us. IsKept us 0 keys entries ready waiting index (record { origin = start most; log = record { limit = limit; records = [] } })) (sym no_units)
-    (subst (λ ks. IsKept [] 0 ks entries ready waiting index (record { origin = start most; log = record { limit = limit; records = [] } })) (sym none) (kept_start most limit entries ready waiting index no_entries no_keys none_wait empty)))
+pub kept_empty : (most limit : ℕ) (units : Texts) (entries : tree.BTreeMap Key Entry) (ready : set.BTreeSet Key) (index : Users) (log : Log) → units ≡ [] → entries.entries ≡ [] → ready.keys ≡ [] → index ≡ [] → log ≡ record { limit = limit; records = [] } → IsKept units 0 entries ready index (record { origin = start most; log = log })
+kept_empty most limit units entries ready index log no_units no_entries no_keys empty is =
+    subst (λ l. IsKept units 0 entries ready index (record { origin = start most; log = l })) (sym is)
+    (subst (λ us. IsKept us 0 entries ready index (record { origin = start most; log = record { limit = limit; records = [] } })) (sym no_units)
+    (kept_start most limit entries ready index no_entries no_keys empty))

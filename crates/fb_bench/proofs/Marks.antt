@@ -41,12 +41,12 @@ entry_found s k None finding fits e = cc
 entry_found s k (Some it) finding fits e = kept_value s.units k it.found finding fits.4 e
 
 -- the values that are kept are those of the texts
-pub all_kept : {units : Texts} {commits : ℕ} {entries : tree.BTreeMap Key Entry} {ready waiting : set.BTreeSet Key} {s : State} → Agrees units commits entries ready waiting s → AreKept units (λ key. kept_in (tree.get key_cmp entries key))
+pub all_kept : {units : Texts} {commits : ℕ} {entries : tree.BTreeMap Key Entry} {ready : set.BTreeSet Key} {s : State} → Agrees units commits entries ready s → AreKept units (λ key. kept_in (tree.get key_cmp entries key))
 all_kept {entries = entries} {s = s} agrees k finding e =
     entry_kept s k (tree.get key_cmp entries k) finding (agrees.each k) e ∙ ap (λ texts. scratch texts k) (sym agrees.units_are)
 
 -- and so are those that were found
-pub all_found : {units : Texts} {commits : ℕ} {entries : tree.BTreeMap Key Entry} {ready waiting : set.BTreeSet Key} {s : State} → Agrees units commits entries ready waiting s → AreKept units (λ key. found_in (tree.get key_cmp entries key))
+pub all_found : {units : Texts} {commits : ℕ} {entries : tree.BTreeMap Key Entry} {ready : set.BTreeSet Key} {s : State} → Agrees units commits entries ready s → AreKept units (λ key. found_in (tree.get key_cmp entries key))
 all_found {entries = entries} {s = s} agrees k finding e =
     entry_found s k (tree.get key_cmp entries k) finding (agrees.each k) e ∙ ap (λ texts. scratch texts k) (sym agrees.units_are)
 
@@ -74,13 +74,12 @@ take_ready s k q true now same was = sym (ap (λ b. s.pending q && not (b || s.o
 take_ready s k q false now same was = was ∙ sym (ap (λ b. s.pending q && not (b || s.out q)) same)
 
 -- what is kept agrees after a key is handed out
-pub agrees_take : (units : Texts) (commits : ℕ) (es fs : tree.BTreeMap Key Entry) (rs ts ws : set.BTreeSet Key) (s : State) (k : Key) → Agrees units commits es rs ws s → is_ready s k ≡ true → ((q : Key) → tree.get key_cmp fs q ≡ cond (same_key k q) (option_map (λ (it : Entry). record it { out = true }) (tree.get key_cmp es q)) (tree.get key_cmp es q)) → ((q : Key) → set.contains key_cmp ts q ≡ cond (same_key k q) false (set.contains key_cmp rs q)) → Agrees units commits fs ts ws (after_take (Some k) s)
-agrees_take units commits es fs rs ts ws s k agrees ready marked left = record {
+pub agrees_take : (units : Texts) (commits : ℕ) (es fs : tree.BTreeMap Key Entry) (rs ts : set.BTreeSet Key) (s : State) (k : Key) → Agrees units commits es rs s → is_ready s k ≡ true → ((q : Key) → tree.get key_cmp fs q ≡ cond (same_key k q) (option_map (λ (it : Entry). record it { out = true }) (tree.get key_cmp es q)) (tree.get key_cmp es q)) → ((q : Key) → set.contains key_cmp ts q ≡ cond (same_key k q) false (set.contains key_cmp rs q)) → Agrees units commits fs ts (after_take (Some k) s)
+agrees_take units commits es fs rs ts s k agrees ready marked left = record {
   units_are = agrees.units_are;
   commits_are = agrees.commits_are;
   each = λ q. subst (λ o. EntryFits (after_take (Some k) s) q o) (sym (marked q)) (take_fits s k q (tree.get key_cmp es q) (same_key k q) refl ready (agrees.each q));
   ready_are = λ q. left q ∙ take_ready s k q (same_key k q) (set.contains key_cmp rs q) refl (agrees.ready_are q);
-  waiting_are = agrees.waiting_are;
 }
 
 -- ---- after a result that is accepted
@@ -96,17 +95,12 @@ pub deliver_ready : (s : State) (k q : Key) (b now : Bool) → same_key k q ≡ 
 deliver_ready s k q true now same was = sym (ap (λ b. (not b && s.pending q) && not (not b && s.out q)) same)
 deliver_ready s k q false now same was = was ∙ sym (ap (λ b. (not b && s.pending q) && not (not b && s.out q)) same)
 
-deliver_waits : (s : State) (k q : Key) (b now : Bool) → same_key k q ≡ b → now ≡ s.pending q → cond b false now ≡ removed s.pending k q
-deliver_waits s k q true now same was = sym (ap (λ b. not b && s.pending q) same)
-deliver_waits s k q false now same was = was ∙ sym (ap (λ b. not b && s.pending q) same)
-
-pub agrees_deliver : (units : Texts) (commits : ℕ) (es fs : tree.BTreeMap Key Entry) (rs ts ws xs : set.BTreeSet Key) (s : State) (k : Key) (v : Arc Value Global) → Agrees units commits es rs ws s → finding_of v.value ≡ scratch s.units k → ((q : Key) → tree.get key_cmp fs q ≡ cond (same_key k q) (option_map (with_value v) (tree.get key_cmp es q)) (tree.get key_cmp es q)) → ((q : Key) → set.contains key_cmp ts q ≡ cond (same_key k q) false (set.contains key_cmp rs q)) → ((q : Key) → set.contains key_cmp xs q ≡ cond (same_key k q) false (set.contains key_cmp ws q)) → Agrees units commits fs ts xs (after_deliver Accepted k s)
-agrees_deliver units commits es fs rs ts ws xs s k v agrees value marked left gone = record {
+pub agrees_deliver : (units : Texts) (commits : ℕ) (es fs : tree.BTreeMap Key Entry) (rs ts : set.BTreeSet Key) (s : State) (k : Key) (v : Arc Value Global) → Agrees units commits es rs s → finding_of v.value ≡ scratch s.units k → ((q : Key) → tree.get key_cmp fs q ≡ cond (same_key k q) (option_map (with_value v) (tree.get key_cmp es q)) (tree.get key_cmp es q)) → ((q : Key) → set.contains key_cmp ts q ≡ cond (same_key k q) false (set.contains key_cmp rs q)) → Agrees units commits fs ts (after_deliver Accepted k s)
+agrees_deliver units commits es fs rs ts s k v agrees value marked left = record {
   units_are = agrees.units_are;
   commits_are = agrees.commits_are;
   each = λ q. subst (λ o. EntryFits (after_deliver Accepted k s) q o) (sym (marked q)) (deliver_fits s k q (tree.get key_cmp es q) v (same_key k q) refl value (agrees.each q));
   ready_are = λ q. left q ∙ deliver_ready s k q (same_key k q) (set.contains key_cmp rs q) refl (agrees.ready_are q);
-  waiting_are = λ q. gone q ∙ deliver_waits s k q (same_key k q) (set.contains key_cmp ws q) refl (agrees.waiting_are q);
 }
 
 accepted_stale : (o : Option (List ℕ)) → Accepted ≡ unless_stale o → o ≡ None
@@ -151,22 +145,20 @@ return_kept s k q true now same kept was =
     was ∙ ap (λ p. p && not (s.out q)) none ∙ sym (ap (λ p. p && not (not (same_key k q) && s.out q)) none)
 return_kept s k q false now same kept was = was ∙ sym (ap (λ b. s.pending q && not (not b && s.out q)) same)
 
-pub agrees_return : (units : Texts) (commits : ℕ) (es fs : tree.BTreeMap Key Entry) (rs ts ws : set.BTreeSet Key) (s : State) (k : Key) → Agrees units commits es rs ws s → s.pending k ≡ true → ((q : Key) → tree.get key_cmp fs q ≡ cond (same_key k q) (option_map (λ (it : Entry). record it { out = false }) (tree.get key_cmp es q)) (tree.get key_cmp es q)) → ((q : Key) → set.contains key_cmp ts q ≡ cond (same_key k q) true (set.contains key_cmp rs q)) → Agrees units commits fs ts ws (returned s k)
-agrees_return units commits es fs rs ts ws s k agrees waits marked joined = record {
+pub agrees_return : (units : Texts) (commits : ℕ) (es fs : tree.BTreeMap Key Entry) (rs ts : set.BTreeSet Key) (s : State) (k : Key) → Agrees units commits es rs s → s.pending k ≡ true → ((q : Key) → tree.get key_cmp fs q ≡ cond (same_key k q) (option_map (λ (it : Entry). record it { out = false }) (tree.get key_cmp es q)) (tree.get key_cmp es q)) → ((q : Key) → set.contains key_cmp ts q ≡ cond (same_key k q) true (set.contains key_cmp rs q)) → Agrees units commits fs ts (returned s k)
+agrees_return units commits es fs rs ts s k agrees waits marked joined = record {
   units_are = agrees.units_are;
   commits_are = agrees.commits_are;
   each = λ q. subst (λ o. EntryFits (returned s k) q o) (sym (marked q)) (return_fits s k q (tree.get key_cmp es q) (same_key k q) refl (agrees.each q));
   ready_are = λ q. joined q ∙ return_ready s k q (same_key k q) (set.contains key_cmp rs q) refl waits (agrees.ready_are q);
-  waiting_are = agrees.waiting_are;
 }
 
-pub agrees_return_kept : (units : Texts) (commits : ℕ) (es fs : tree.BTreeMap Key Entry) (rs ws : set.BTreeSet Key) (s : State) (k : Key) → Agrees units commits es rs ws s → s.pending k ≡ false → ((q : Key) → tree.get key_cmp fs q ≡ cond (same_key k q) (option_map (λ (it : Entry). record it { out = false }) (tree.get key_cmp es q)) (tree.get key_cmp es q)) → Agrees units commits fs rs ws (returned s k)
-agrees_return_kept units commits es fs rs ws s k agrees kept marked = record {
+pub agrees_return_kept : (units : Texts) (commits : ℕ) (es fs : tree.BTreeMap Key Entry) (rs : set.BTreeSet Key) (s : State) (k : Key) → Agrees units commits es rs s → s.pending k ≡ false → ((q : Key) → tree.get key_cmp fs q ≡ cond (same_key k q) (option_map (λ (it : Entry). record it { out = false }) (tree.get key_cmp es q)) (tree.get key_cmp es q)) → Agrees units commits fs rs (returned s k)
+agrees_return_kept units commits es fs rs s k agrees kept marked = record {
   units_are = agrees.units_are;
   commits_are = agrees.commits_are;
   each = λ q. subst (λ o. EntryFits (returned s k) q o) (sym (marked q)) (return_fits s k q (tree.get key_cmp es q) (same_key k q) refl (agrees.each q));
   ready_are = λ q. return_kept s k q (same_key k q) (set.contains key_cmp rs q) refl kept (agrees.ready_are q);
-  waiting_are = agrees.waiting_are;
 }
 
 -- a key put among the ready ones and taken out again, which was not there
@@ -189,11 +181,10 @@ found_fits s k q (Some it) v true same value fits =
     (fits.0, fits.1, fits.2, fits.3, unless_scratch s.units q it.value v (value ∙ ap (λ x. scratch s.units x) (keys_equal k q same)))
 found_fits s k q o v false same value fits = fits
 
-pub agrees_found : (units : Texts) (commits : ℕ) (es fs : tree.BTreeMap Key Entry) (rs ws : set.BTreeSet Key) (s : State) (k : Key) (v : Arc Value Global) → Agrees units commits es rs ws s → finding_of v.value ≡ scratch s.units k → ((q : Key) → tree.get key_cmp fs q ≡ cond (same_key k q) (option_map (with_found v) (tree.get key_cmp es q)) (tree.get key_cmp es q)) → Agrees units commits fs rs ws s
-agrees_found units commits es fs rs ws s k v agrees value found = record {
+pub agrees_found : (units : Texts) (commits : ℕ) (es fs : tree.BTreeMap Key Entry) (rs : set.BTreeSet Key) (s : State) (k : Key) (v : Arc Value Global) → Agrees units commits es rs s → finding_of v.value ≡ scratch s.units k → ((q : Key) → tree.get key_cmp fs q ≡ cond (same_key k q) (option_map (with_found v) (tree.get key_cmp es q)) (tree.get key_cmp es q)) → Agrees units commits fs rs s
+agrees_found units commits es fs rs s k v agrees value found = record {
   units_are = agrees.units_are;
   commits_are = agrees.commits_are;
   each = λ q. subst (λ o. EntryFits s q o) (sym (found q)) (found_fits s k q (tree.get key_cmp es q) v (same_key k q) refl value (agrees.each q));
   ready_are = agrees.ready_are;
-  waiting_are = agrees.waiting_are;
 }

@@ -1,5 +1,5 @@
 -- What is kept after a commit that is done, and after one that found no memory.
-use Rattle.std.proofs.Common.{◌≡◌, ◌↔◌, ℕ, Bool, true, false, ◌||◌, ◌&&◌, not, List, map, filter, refl, sym, ap, ◌∙◌, subst, Option, Some, None, cond, is_none}
+use Rattle.std.proofs.Common.{◌≡◌, ℕ, Bool, true, false, ◌||◌, ◌&&◌, not, List, map, refl, sym, ap, ◌∙◌, subst, Option, Some, None, cond, is_none}
 use Rattle.std.specs.BTreeMap as tree
 use Rattle.std.specs.BTreeSet as set
 use Rattle.fb_text.proofs.Tests.{or_true, and_false}
@@ -13,17 +13,12 @@ use Rattle.fb_entries.specs.Jobs.Reads.{is_among}
 use Rattle.fb_entries.proofs.Jobs.SameNeeds.{has_key_local}
 use Rattle.fb_entries.specs.declared.entry.Entry.{Entry}
 use Rattle.fb_entries.specs.declared.renewal.Renewal.{Renewal}
-use Rattle.fb_entries.specs.Jobs.Kinds.{all_keys}
 use Rattle.fb_history.specs.Machine.{State, is_ready, after_done, reaches}
 use Rattle.fb_bench.specs.Kept.{EntryFits, Agrees}
 use Rattle.fb_entries.specs.Marking.{is_of, waiting_if}
 use Rattle.fb_entries.specs.Renew.{is_own, is_fresh, is_renewed, IsRenewal, HasRoom, IsTakenBack}
-use Rattle.fb_entries.specs.Index.Near.{Users}
-use Rattle.fb_entries.specs.Indexed.{IsIndexOf, IsReached}
 use Rattle.fb_entries.proofs.Jobs.KindLemmas.{in_all_keys}
-use Rattle.fb_entries.proofs.Members.{of_filtered}
 use Rattle.fb_bench.proofs.Renewing.{held_all_edited, agree_unreached, ScratchLocal, waiting_fits, kept_fits, gone_fits}
-use Rattle.fb_entries.proofs.Reached.{reached_by}
 
 -- ---- a key of no changed unit
 
@@ -105,40 +100,6 @@ absent_pending : (s : State) (q : Key) (o : Option Entry) → EntryFits s q o �
 absent_pending s q None fits none = fits.1
 absent_pending s q (Some it) fits none = let has : has_key s.units q ≡ true = fits.0 in cc
 
-waits_bits : (h' h own reach p : Bool) → (own ≡ false → h' ≡ h) → (h' ≡ true → h ≡ false → reach ≡ true) → (h ≡ false → p ≡ false) → cond (own && not h') false ((h' && reach) || p) ≡ (h' && ((p || not h) || reach))
-waits_bits true true true true true apart met gone = refl
-waits_bits true true true true false apart met gone = refl
-waits_bits true true true false true apart met gone = refl
-waits_bits true true true false false apart met gone = refl
-waits_bits true true false true true apart met gone = refl
-waits_bits true true false true false apart met gone = refl
-waits_bits true true false false true apart met gone = refl
-waits_bits true true false false false apart met gone = refl
-waits_bits true false true true true apart met gone = let no : true ≡ false = gone refl in cc
-waits_bits true false true true false apart met gone = refl
-waits_bits true false true false true apart met gone = let no : false ≡ true = met refl refl in cc
-waits_bits true false true false false apart met gone = let no : false ≡ true = met refl refl in cc
-waits_bits true false false true true apart met gone = let no : true ≡ false = apart refl in cc
-waits_bits true false false true false apart met gone = let no : true ≡ false = apart refl in cc
-waits_bits true false false false true apart met gone = let no : true ≡ false = apart refl in cc
-waits_bits true false false false false apart met gone = let no : true ≡ false = apart refl in cc
-waits_bits false true true true true apart met gone = refl
-waits_bits false true true true false apart met gone = refl
-waits_bits false true true false true apart met gone = refl
-waits_bits false true true false false apart met gone = refl
-waits_bits false true false true true apart met gone = let no : false ≡ true = apart refl in cc
-waits_bits false true false true false apart met gone = let no : false ≡ true = apart refl in cc
-waits_bits false true false false true apart met gone = let no : false ≡ true = apart refl in cc
-waits_bits false true false false false apart met gone = let no : false ≡ true = apart refl in cc
-waits_bits false false true true true apart met gone = let no : true ≡ false = gone refl in cc
-waits_bits false false true true false apart met gone = refl
-waits_bits false false true false true apart met gone = let no : true ≡ false = gone refl in cc
-waits_bits false false true false false apart met gone = refl
-waits_bits false false false true true apart met gone = let no : true ≡ false = gone refl in cc
-waits_bits false false false true false apart met gone = refl
-waits_bits false false false false true apart met gone = let no : true ≡ false = gone refl in cc
-waits_bits false false false false false apart met gone = refl
-
 ready_bits : (h' h own reach p o : Bool) → (own ≡ false → h' ≡ h) → (h' ≡ true → h ≡ false → reach ≡ true) → (h ≡ false → p ≡ false) → cond (own && not h') false ((h' && reach) || (p && not o)) ≡ ((h' && ((p || not h) || reach)) && not (((h' && h) && o) && not reach))
 ready_bits true true true true true true apart met gone = refl
 ready_bits true true true true true false apart met gone = refl
@@ -214,11 +175,11 @@ joined_bits false was = refl
 -- ---- all of it
 
 module _ (law : ScratchLocal) (commits : ℕ) (es : List Edit) (T : Texts) (s : State) (it : Renewal) where
-  module _ (commit : ℕ) (old_entries room_entries new_entries : tree.BTreeMap Key Entry) (old_ready room_ready new_ready old_waiting room_waiting new_waiting : set.BTreeSet Key) where
+  module _ (commit : ℕ) (old_entries room_entries new_entries : tree.BTreeMap Key Entry) (old_ready room_ready new_ready : set.BTreeSet Key) where
     abbrev Done : Type 0
-    Done = Agrees (all_edited commit es s.units) commit new_entries new_ready new_waiting (after_done commit es s)
+    Done = Agrees (all_edited commit es s.units) commit new_entries new_ready (after_done commit es s)
 
-    module _ (agrees : Agrees T commits old_entries old_ready old_waiting s) (is : IsRenewal (all_edited commit es s.units) (map unit_of es) old_entries old_ready old_waiting it) (room : HasRoom it old_entries room_entries old_ready room_ready old_waiting room_waiting) (q : Key) where
+    module _ (agrees : Agrees T commits old_entries old_ready s) (is : IsRenewal (all_edited commit es s.units) (map unit_of es) old_entries old_ready it) (room : HasRoom it old_entries room_entries old_ready room_ready) (q : Key) where
       abbrev units : Texts
       units = all_edited commit es s.units
 
@@ -242,21 +203,13 @@ module _ (law : ScratchLocal) (commits : ℕ) (es : List Edit) (T : Texts) (s : 
           ∙ (λ i. cond (is_own (map unit_of es) q && not (has_key units q)) false (is_renewed units (map unit_of es) q || agrees.ready_are q i))
           ∙ ready_bits (has_key units q) (has_key s.units q) (is_own (map unit_of es) q) (reaches (map unit_of es) units q) (s.pending q) (s.out q) (has_apart commit es s.units q) met (absent_pending s q (tree.get key_cmp old_entries q) (agrees.each q))
 
-      done_waits : set.contains key_cmp new_waiting q ≡ cond (is_of q it.gone.items) false (set.contains key_cmp room_waiting q) → set.contains key_cmp new_waiting q ≡ (after_done commit es s).pending q
-      done_waits left =
-          left
-          ∙ (λ i. cond (is.gone_are q i) false ((room.waits q ∙ ap (λ b. b || set.contains key_cmp old_waiting q) (is.unwaiting_are q) ∙ joined_bits (is_renewed units (map unit_of es) q) (set.contains key_cmp old_waiting q)) i))
-          ∙ (λ i. cond (is_own (map unit_of es) q && not (has_key units q)) false (is_renewed units (map unit_of es) q || agrees.waiting_are q i))
-          ∙ waits_bits (has_key units q) (has_key s.units q) (is_own (map unit_of es) q) (reaches (map unit_of es) units q) (s.pending q) (has_apart commit es s.units q) met (absent_pending s q (tree.get key_cmp old_entries q) (agrees.each q))
-
     -- what is kept agrees with the state after the commit
-    pub agrees_done : Agrees T commits old_entries old_ready old_waiting s → IsRenewal (all_edited commit es s.units) (map unit_of es) old_entries old_ready old_waiting it → HasRoom it old_entries room_entries old_ready room_ready old_waiting room_waiting → ((q : Key) → tree.get key_cmp new_entries q ≡ waiting_if (is_of q it.renewed.items) (cond (is_of q it.gone.items) None (tree.get key_cmp room_entries q))) → ((q : Key) → set.contains key_cmp new_ready q ≡ cond (is_of q it.gone.items) false (set.contains key_cmp room_ready q)) → ((q : Key) → set.contains key_cmp new_waiting q ≡ cond (is_of q it.gone.items) false (set.contains key_cmp room_waiting q)) → Done
-    agrees_done agrees is room written ready waits = record {
+    pub agrees_done : Agrees T commits old_entries old_ready s → IsRenewal (all_edited commit es s.units) (map unit_of es) old_entries old_ready it → HasRoom it old_entries room_entries old_ready room_ready → ((q : Key) → tree.get key_cmp new_entries q ≡ waiting_if (is_of q it.renewed.items) (cond (is_of q it.gone.items) None (tree.get key_cmp room_entries q))) → ((q : Key) → set.contains key_cmp new_ready q ≡ cond (is_of q it.gone.items) false (set.contains key_cmp room_ready q)) → Done
+    agrees_done agrees is room written ready = record {
       units_are = refl;
       commits_are = refl;
       each = λ q. done_entry agrees is room q (written q);
       ready_are = λ q. done_ready agrees is room q (ready q);
-      waiting_are = λ q. done_waits agrees is room q (waits q);
     }
 
 -- ---- where there was no memory
@@ -273,11 +226,10 @@ back_mark r true false is = refl
 back_mark r false was is = refl
 
 -- all is as it was
-pub agrees_back : (T U : Texts) (commits : ℕ) (names : List (List ℕ)) (old_entries room_entries : tree.BTreeMap Key Entry) (old_ready room_ready old_waiting room_waiting : set.BTreeSet Key) (s : State) (it : Renewal) → Agrees T commits old_entries old_ready old_waiting s → IsRenewal U names old_entries old_ready old_waiting it → IsTakenBack it old_entries room_entries old_ready room_ready old_waiting room_waiting → Agrees T commits room_entries room_ready room_waiting s
-agrees_back T U commits names old_entries room_entries old_ready room_ready old_waiting room_waiting s it agrees is back = record {
+pub agrees_back : (T U : Texts) (commits : ℕ) (names : List (List ℕ)) (old_entries room_entries : tree.BTreeMap Key Entry) (old_ready room_ready : set.BTreeSet Key) (s : State) (it : Renewal) → Agrees T commits old_entries old_ready s → IsRenewal U names old_entries old_ready it → IsTakenBack it old_entries room_entries old_ready room_ready → Agrees T commits room_entries room_ready s
+agrees_back T U commits names old_entries room_entries old_ready room_ready s it agrees is back = record {
   units_are = agrees.units_are;
   commits_are = agrees.commits_are;
   each = λ q. subst (λ o. EntryFits s q o) (sym (back.entries q ∙ back_entry (is_own names q && has_key U q) (is_of q it.fresh.items) (tree.get key_cmp old_entries q) (is.fresh_are q))) (agrees.each q);
   ready_are = λ q. back.readies q ∙ back_mark (is_renewed U names q) (is_of q it.unready.items) (set.contains key_cmp old_ready q) (is.unready_are q) ∙ agrees.ready_are q;
-  waiting_are = λ q. back.waits q ∙ back_mark (is_renewed U names q) (is_of q it.unwaiting.items) (set.contains key_cmp old_waiting q) (is.unwaiting_are q) ∙ agrees.waiting_are q;
 }

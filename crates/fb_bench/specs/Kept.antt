@@ -1,5 +1,5 @@
 -- What a workbench keeps beside its history agrees with where the history has led.
-use Rattle.std.specs.Prelude.{◌≡◌, ℕ, ◌≤◌, true, false, length, List, Option, Some, None, is_none}
+use Rattle.std.specs.Prelude.{◌≡◌, ℕ, ◌≤◌, true, false, length, Option, Some, None, is_none}
 use Rattle.std.specs.BTreeMap as tree
 use Rattle.std.specs.BTreeSet as set
 use Rattle.std.specs.declared.sync.Arc.{Arc}
@@ -10,7 +10,7 @@ use Rattle.fb_entries.specs.Jobs.declared.value.Value.{Value}
 use Rattle.fb_entries.specs.Jobs.Keys.{has_key, scratch}
 use Rattle.fb_entries.specs.Jobs.KeyOrder.{key_cmp}
 use Rattle.fb_entries.specs.Jobs.Values.{finding_of}
-use Rattle.fb_history.specs.Machine.{State, is_ready, keys_of}
+use Rattle.fb_history.specs.Machine.{State, is_ready}
 use Rattle.fb_history.specs.Story.{Story, IsOrigin, state_of, IsReplay}
 use Rattle.fb_entries.specs.declared.entries.Entries.{Entries}
 use Rattle.fb_entries.specs.declared.entry.Entry.{Entry}
@@ -29,22 +29,20 @@ EntryFits state key (Some it) =
     (has_key state.units key ≡ true) × (state.pending key ≡ is_none it.value) × (state.out key ≡ it.out) × IsScratch state.units key it.value × IsScratch state.units key it.found
 
 -- what is kept agrees with a state
-pub record Agrees (units : Texts) (commits : ℕ) (entries : tree.BTreeMap Key Entry) (ready waiting : set.BTreeSet Key) (state : State) : Type 0 where
+pub record Agrees (units : Texts) (commits : ℕ) (entries : tree.BTreeMap Key Entry) (ready : set.BTreeSet Key) (state : State) : Type 0 where
   pub units_are : units ≡ state.units
   pub commits_are : commits ≡ state.commits
   pub each : (key : Key) → EntryFits state key (tree.get key_cmp entries key)
   pub ready_are : (key : Key) → set.contains key_cmp ready key ≡ is_ready state key
-  pub waiting_are : (key : Key) → set.contains key_cmp waiting key ≡ state.pending key
 
 -- and so does the history: each stored answer is the machine's. The index is that of the texts
-pub record IsKept (units : Texts) (commits : ℕ) (keys : List Key) (entries : tree.BTreeMap Key Entry) (ready waiting : set.BTreeSet Key) (index : Users) (story : Story) : Type 0 where
+pub record IsKept (units : Texts) (commits : ℕ) (entries : tree.BTreeMap Key Entry) (ready : set.BTreeSet Key) (index : Users) (story : Story) : Type 0 where
   pub begins : IsOrigin story.origin
-  pub agrees : Agrees units commits entries ready waiting (state_of story)
+  pub agrees : Agrees units commits entries ready (state_of story)
   pub replayed : IsReplay story
-  pub keys_are : keys ≡ keys_of units
   pub indexed : IsIndexOf units index
   pub few : commits ≤ length story.log.records
 
 -- the same of all that is kept of the keys
 abbrev pub KeepsAll : Texts → ℕ → Entries → Users → Story → Type 0
-KeepsAll units commits it index story = IsKept units commits it.keys.items it.by_key it.ready it.waiting index story
+KeepsAll units commits it index story = IsKept units commits it.by_key it.ready index story

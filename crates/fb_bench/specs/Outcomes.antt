@@ -8,14 +8,14 @@ use Rattle.fb_bench.specs.declared.commit.Outcome.TheVariants.{Refused, Done}
 use Rattle.fb_entries.specs.declared.entries.Entries.{Entries}
 use Rattle.fb_entries.specs.Indexed.{IsIndexOf}
 use Rattle.fb_history.specs.Machine.{State, refusal, or_else, after_commit}
-use Rattle.fb_entries.specs.Found.{Alters, AreKeysAfter}
+use Rattle.fb_entries.specs.Found.{Alters}
 
 -- the answer to changes of these texts, where at most so many units may be and a good commit has this number
 abbrev pub answer_at : ℕ → ℕ → Texts → List Edit → Committed
 answer_at most_units number texts edits =
     or_else (refusal texts edits) (if nat_lt most_units (length (all_edited number edits texts)) then answer.TooManyUnits else answer.Done number)
 
--- A refusal, which leaves every state. Or the texts after the changes, with their index, what the changes alter, and their keys.
+-- A refusal, which leaves every state. Or the texts after the changes, with their index, and what the changes alter.
 abbrev pub IsOutcome : ℕ → ℕ → Texts → List Edit → Entries → Outcome → Type 0
 IsOutcome most_units number texts edits entries (Refused refused) =
     (refused ≡ answer_at most_units number texts edits) × ((state : State) → after_commit refused edits state ≡ state)
@@ -24,4 +24,3 @@ IsOutcome most_units number texts edits entries (Done library found) =
     × (library ≡ all_edited number edits texts)
     × IsIndexOf library found.index
     × Alters library (map unit_of edits) entries found.renewal
-    × AreKeysAfter library entries found.renewal found.keys

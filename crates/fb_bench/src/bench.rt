@@ -56,7 +56,7 @@ impl Bench {
     ghost use Rattle.fb_entries.specs.Jobs.Reads.{read_texts};
     ghost use Rattle.fb_entries.specs.Jobs.Values.{all_seen};
     ghost use Rattle.fb_history.specs.declared.answers.Delivered.TheVariants.{Accepted};
-    ghost use Rattle.fb_history.specs.Story.{IsOrigin, IsFull, new_story, state_of, reply_at, recorded, record_of, record_at, calls_of, IsReplay, AreTurns};
+    ghost use Rattle.fb_history.specs.Story.{IsOrigin, IsFull, new_story, state_of, reply_at, recorded, record_of, record_at, turns_of, calls_of, IsReplay, AreTurns};
     ghost use Rattle.fb_bench.specs.Records.{call_of, reply_of, shown_in, job_in, commit_of};
     ghost use Rattle.fb_bench.specs.Founds.{HasNetsOf};
     ghost use Rattle.fb_bench.specs.Refusals.{IsFullRefusal};
@@ -112,38 +112,46 @@ impl Bench {
         self.history.record(number)
     }
 
+    /// How many recorded calls the caller has made.
+    pub fn turns_of(&self, caller: u32) -> u64
+        ensures { result ≡ turns_of caller self.now.log.records }
+    {
+        self.history.turns_of(caller)
+    }
+
     /// How many keys the present texts have.
     pub fn key_count(&self) -> usize
         ensures { result ≡ length (keys_of (state_of self.now).units) }
     {
-        self.entries.keys.len()
+        self.entries.by_key.len()
     }
 
-    /// The key at a place, counted from 0, by kind and then by name.
+    /// The key at a place, counted from 0, by kind and then by name. It passes over those before it.
     pub fn key_at(&self, place: usize) -> Option<Key>
         ensures key { result ≡ slice_get (keys_of (state_of self.now).units) place }
         ensures ordered { IsStrictlySortedBy key_cmp (keys_of (state_of self.now).units) }
     {
-        self.entries.keys.get(place).copied()
+        self.entries.key_at(place)
     }
 
-    /// How many keys are pending.
+    /// How many keys are pending. It looks at each entry.
     pub fn pending_count(&self) -> usize
         ensures { result ≡ count_by (state_of self.now).pending
             (keys_of (state_of self.now).units) }
     {
-        self.entries.waiting.len()
+        self.entries.pending_count()
     }
 
-    /// What is known of a key.
-    fn shown(&self, key: &Key) -> Result<Asked, AllocError>
-        ensures { IfOk result (λ asked. shown_in asked ≡ shown (state_of self.now) key.now) }
+    /// What is known of a key: what is answered, and what is recorded.
+    fn shown(&self, key: &Key) -> Result<(Asked, Asked), AllocError>
+        ensures answer { IfOk result (λ made. shown_in made.0 ≡ shown (state_of self.now) key.now) }
+        ensures stored { IfOk result (λ made. shown_in made.1 ≡ shown (state_of self.now) key.now) }
     {
         match self.entries.by_key.get(key) {
-            None => Ok(Asked::NoSuchKey),
+            None => Ok((Asked::NoSuchKey, Asked::NoSuchKey)),
             Some(entry) => match &entry.value {
-                None => Ok(Asked::Pending),
-                Some(value) => Ok(Asked::Value(value.clone()?)),
+                None => Ok((Asked::Pending, Asked::Pending)),
+                Some(value) => Ok((Asked::Value(value.clone()?), Asked::Value(value.clone()?))),
             },
         }
     }
@@ -172,8 +180,7 @@ impl Bench {
         if self.history.is_full() {
             return Err(Refused::HistoryFull);
         }
-        let stored = self.shown(&key)?;
-        let answer = self.shown(&key)?;
+        let (answer, stored) = self.shown(&key)?;
         let share = self
             .history
             .push(caller, Call::Ask(key), Reply::Asking(stored))?;
@@ -431,7 +438,6 @@ impl Bench {
         keep(&mut self.entries.by_key, &key, value);
         keep_all(&mut self.entries.by_key, found);
         leave(&mut self.entries.ready, &key);
-        leave(&mut self.entries.waiting, &key);
         Ok(share)
     }
 

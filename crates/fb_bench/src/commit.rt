@@ -160,7 +160,6 @@ pub(crate) fn record_with_room(
     ensures share { IfOk result
         (λ it. it.value ≡ record_after history.old caller (call_of call) (reply_of answer)) }
     ensures unlogged { OnErr result (history.new ≡ history.old) }
-    ensures keys { entries.new.keys ≡ entries.old.keys }
 {
     entries.make_room(renewal)?;
     match history.push(caller, call, answer) {

@@ -1,7 +1,7 @@
 //! Nets that were computed on the way to another value.
-ghost use Rattle.std.specs.Prelude.{◌≡◌, All, IfOk};
-ghost use Rattle.std.specs.BTreeMap as tree;
+ghost use Rattle.std.specs.Prelude.{All, IfOk};
 ghost use Rattle.fb_entries.specs.Jobs.Hints.{IsNetOf};
+ghost use Rattle.fb_entries.specs.Library.Texts.{Texts};
 ghost use Rattle.fb_bench.specs.Founds.{KeepsAgreement};
 
 use fb_entries::jobs::{Hint, Key, Kind};
@@ -11,7 +11,8 @@ use std::collections::BTreeMap;
 
 /// Shares of the nets.
 pub(crate) fn shares_of(alloc: Global, found: &[Hint]) -> Result<Vec<Hint>, AllocError>
-    ensures { IfOk result (λ shares. shares.items ≡ found.now) }
+    ensures { IfOk result (λ shares. (texts : Texts) → All (IsNetOf texts) found.now
+        → All (IsNetOf texts) shares.items) }
 {
     let mut shares = Vec::with_capacity(alloc, found.len())?;
     for hint in found {

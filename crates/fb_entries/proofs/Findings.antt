@@ -1,5 +1,5 @@
 -- What is found before anything is changed, and room that is taken back.
-use Rattle.std.proofs.Common.{◌≡◌, ◌↔◌, ℕ, Bool, true, false, ◌||◌, ◌&&◌, not, List, filter, refl, sym, ap, ◌∙◌, Option, Some, None, cond, is_none}
+use Rattle.std.proofs.Common.{◌≡◌, ◌↔◌, ℕ, Bool, true, false, ◌||◌, ◌&&◌, not, List, filter, refl, sym, ap, ◌∙◌, Option, None, cond, is_none}
 use Rattle.std.specs.BTreeMap as tree
 use Rattle.std.specs.BTreeSet as set
 use Rattle.fb_text.proofs.Tests.{and_false}
@@ -28,9 +28,9 @@ and_found true true r same = same refl
 and_found false true r same = same refl
 and_found a false r same = and_false a
 
-module _ (U : Texts) (index : Users) (names : List (List ℕ)) (old_entries : tree.BTreeMap Key Entry) (old_ready old_waiting : set.BTreeSet Key) (it : Renewal) (own present reached : List Key) where
-  pub found : IsIndexOf U index → own ≡ all_keys names → present ≡ filter (has_key U) own → it.fresh.items ≡ filter (λ k. is_none (tree.get key_cmp old_entries k)) present → it.gone.items ≡ filter (λ k. not (has_key U k)) own → ((q : Key) → (is_of q reached ≡ true) ↔ IsReached index names q.kind q.unit) → it.renewed.items ≡ filter (has_key U) reached → it.unready.items ≡ filter (λ k. not (set.contains key_cmp old_ready k)) it.renewed.items → it.unwaiting.items ≡ filter (λ k. not (set.contains key_cmp old_waiting k)) it.renewed.items → IsRenewal U names old_entries old_ready old_waiting it
-  found indexed own_is present_is fresh_is gone_is reached_is renewed_is unready_is unwaiting_is =
+module _ (U : Texts) (index : Users) (names : List (List ℕ)) (old_entries : tree.BTreeMap Key Entry) (old_ready : set.BTreeSet Key) (it : Renewal) (own present reached : List Key) where
+  pub found : IsIndexOf U index → own ≡ all_keys names → present ≡ filter (has_key U) own → it.fresh.items ≡ filter (λ k. is_none (tree.get key_cmp old_entries k)) present → it.gone.items ≡ filter (λ k. not (has_key U k)) own → ((q : Key) → (is_of q reached ≡ true) ↔ IsReached index names q.kind q.unit) → it.renewed.items ≡ filter (has_key U) reached → it.unready.items ≡ filter (λ k. not (set.contains key_cmp old_ready k)) it.renewed.items → IsRenewal U names old_entries old_ready it
+  found indexed own_is present_is fresh_is gone_is reached_is renewed_is unready_is =
       let owns : (q : Key) → is_of q own ≡ is_own names q = λ q. ap (λ ks. is_of q ks) own_is in
       let alls : (q : Key) → is_of q it.renewed.items ≡ is_renewed U names q = λ q.
       ap (λ ks. is_of q ks) renewed_is ∙ of_filtered (has_key U) q reached
@@ -46,7 +46,6 @@ module _ (U : Texts) (index : Users) (names : List (List ℕ)) (old_entries : tr
         gone_are = λ q. ap (λ ks. is_of q ks) gone_is ∙ of_filtered (λ k. not (has_key U k)) q own ∙ ap (λ b. b && not (has_key U q)) (owns q);
         renewed_are = alls;
         unready_are = λ q. ap (λ ks. is_of q ks) unready_is ∙ of_filtered (λ k. not (set.contains key_cmp old_ready k)) q it.renewed.items ∙ ap (λ b. b && not (set.contains key_cmp old_ready q)) (alls q);
-        unwaiting_are = λ q. ap (λ ks. is_of q ks) unwaiting_is ∙ of_filtered (λ k. not (set.contains key_cmp old_waiting k)) q it.renewed.items ∙ ap (λ b. b && not (set.contains key_cmp old_waiting q)) (alls q);
       }
 
 -- ---- room that is taken back
@@ -60,9 +59,8 @@ room_mark true was now is = refl
 room_mark false was now is = is
 
 -- room that was made, and was taken back
-pub taken_back : (old_entries room_entries new_entries : tree.BTreeMap Key Entry) (old_ready room_ready new_ready old_waiting room_waiting new_waiting : set.BTreeSet Key) (it : Renewal) → HasRoom it old_entries room_entries old_ready room_ready old_waiting room_waiting → ((q : Key) → tree.get key_cmp new_entries q ≡ cond (is_of q it.fresh.items) None (tree.get key_cmp room_entries q)) → ((q : Key) → set.contains key_cmp new_ready q ≡ cond (is_of q it.unready.items) false (set.contains key_cmp room_ready q)) → ((q : Key) → set.contains key_cmp new_waiting q ≡ cond (is_of q it.unwaiting.items) false (set.contains key_cmp room_waiting q)) → IsTakenBack it old_entries new_entries old_ready new_ready old_waiting new_waiting
-taken_back old_entries room_entries new_entries old_ready room_ready new_ready old_waiting room_waiting new_waiting it room entries ready waits = record {
+pub taken_back : (old_entries room_entries new_entries : tree.BTreeMap Key Entry) (old_ready room_ready new_ready : set.BTreeSet Key) (it : Renewal) → HasRoom it old_entries room_entries old_ready room_ready → ((q : Key) → tree.get key_cmp new_entries q ≡ cond (is_of q it.fresh.items) None (tree.get key_cmp room_entries q)) → ((q : Key) → set.contains key_cmp new_ready q ≡ cond (is_of q it.unready.items) false (set.contains key_cmp room_ready q)) → IsTakenBack it old_entries new_entries old_ready new_ready
+taken_back old_entries room_entries new_entries old_ready room_ready new_ready it room entries ready = record {
   entries = λ q. entries q ∙ room_entry (is_of q it.fresh.items) (tree.get key_cmp room_entries q) (tree.get key_cmp old_entries q) (room.others q);
   readies = λ q. ready q ∙ room_mark (is_of q it.unready.items) (set.contains key_cmp old_ready q) (set.contains key_cmp room_ready q) (room.readies q);
-  waits = λ q. waits q ∙ room_mark (is_of q it.unwaiting.items) (set.contains key_cmp old_waiting q) (set.contains key_cmp room_waiting q) (room.waits q);
 }

@@ -1,6 +1,5 @@
 -- Keys among keys.
 use Rattle.std.proofs.Common.{◌≡◌, Bool, true, false, ◌||◌, ◌&&◌, List, [], ◌∷◌, ◌++◌, filter, refl, sym, ap, ◌∙◌, cond}
-use Rattle.std.specs.List.{list_any}
 use Rattle.fb_text.proofs.Tests.{or_false, and_false}
 use Rattle.std.proofs.lemmas.List.Folds.{list_any-append}
 use Rattle.std.proofs.lemmas.Cmp.{eq_by_cmp_equiv}

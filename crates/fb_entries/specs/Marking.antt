@@ -21,6 +21,10 @@ is_of key keys = list_any (same_key key) keys
 abbrev pub blank : Entry
 blank = record { value = None; out = false; found = None; former = None }
 
+-- an entry that has no value
+abbrev pub is_unkept : Entry → Bool
+is_unkept it = is_none it.value
+
 -- an entry with this handed-out mark
 abbrev pub with_out : Bool → Entry → Entry
 with_out out it = record it { out = out }

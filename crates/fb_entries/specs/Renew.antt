@@ -1,16 +1,13 @@
 -- What a commit does to the entries.
-use Rattle.std.specs.Prelude.{◌≡◌, ℕ, Bool, true, false, ◌&&◌, ◌||◌, not, List, [], Option, Some, None, is_none, if◌then◌else◌}
-use Rattle.std.specs.List.{list_any}
+use Rattle.std.specs.Prelude.{◌≡◌, ℕ, Bool, ◌&&◌, ◌||◌, not, List, None, is_none, if◌then◌else◌}
 use Rattle.std.specs.BTreeMap as tree
 use Rattle.std.specs.BTreeSet as set
-use Rattle.std.specs.declared.vec.Vec.{Vec}
-use Rattle.std.specs.declared.alloc.Global.{Global}
 use Rattle.fb_jobs.specs.declared.key.Key.{Key}
 use Rattle.fb_jobs.specs.Keys.{has_key}
 use Rattle.fb_jobs.specs.KeyOrder.{key_cmp}
 use Rattle.fb_index.specs.Library.Texts.{Texts}
 use Rattle.fb_jobs.specs.Kinds.{all_keys}
-use Rattle.fb_jobs.specs.Reach.{keys_of, reaches}
+use Rattle.fb_jobs.specs.Reach.{reaches}
 use Rattle.fb_entries.specs.Marking.{is_of, waiting_if, KeepsOtherEntries, HasEntries, LosesEntries, LosesKeys}
 use Rattle.fb_entries.specs.declared.entry.Entry.{Entry}
 use Rattle.fb_entries.specs.declared.renewal.Renewal.{Renewal}
@@ -28,40 +25,24 @@ abbrev pub is_renewed : Texts → List (List ℕ) → Key → Bool
 is_renewed texts changed key = has_key texts key && reaches changed texts key
 
 -- what is found before anything is changed
-pub record IsRenewal (texts : Texts) (changed : List (List ℕ)) (entries : tree.BTreeMap Key Entry) (ready waiting : set.BTreeSet Key) (it : Renewal) : Type 0 where
+pub record IsRenewal (texts : Texts) (changed : List (List ℕ)) (entries : tree.BTreeMap Key Entry) (ready : set.BTreeSet Key) (it : Renewal) : Type 0 where
   pub fresh_are : (key : Key) → is_of key it.fresh.items ≡ is_fresh texts changed entries key
   pub gone_are : (key : Key) → is_of key it.gone.items ≡ (is_own changed key && not (has_key texts key))
   pub renewed_are : (key : Key) → is_of key it.renewed.items ≡ is_renewed texts changed key
   pub unready_are : (key : Key) → is_of key it.unready.items ≡ (is_renewed texts changed key && not (set.contains key_cmp ready key))
-  pub unwaiting_are : (key : Key) → is_of key it.unwaiting.items ≡ (is_renewed texts changed key && not (set.contains key_cmp waiting key))
 
--- there is an entry for each new key, the keys have joined the sets, and all else is as it was
-pub record HasRoom (it : Renewal) (old new : tree.BTreeMap Key Entry) (ready ready' waiting waiting' : set.BTreeSet Key) : Type 0 where
+-- there is an entry for each new key, the keys have joined the set, and all else is as it was
+pub record HasRoom (it : Renewal) (old new : tree.BTreeMap Key Entry) (ready ready' : set.BTreeSet Key) : Type 0 where
   pub others : KeepsOtherEntries it.fresh.items old new
   pub there : HasEntries it.fresh.items new
   pub readies : (key : Key) → set.contains key_cmp ready' key ≡ (is_of key it.unready.items || set.contains key_cmp ready key)
-  pub waits : (key : Key) → set.contains key_cmp waiting' key ≡ (is_of key it.unwaiting.items || set.contains key_cmp waiting key)
 
 -- there is none of them
-pub record IsTakenBack (it : Renewal) (old new : tree.BTreeMap Key Entry) (ready ready' waiting waiting' : set.BTreeSet Key) : Type 0 where
+pub record IsTakenBack (it : Renewal) (old new : tree.BTreeMap Key Entry) (ready ready' : set.BTreeSet Key) : Type 0 where
   pub entries : LosesEntries it.fresh.items old new
   pub readies : LosesKeys it.unready.items ready ready'
-  pub waits : LosesKeys it.unwaiting.items waiting waiting'
 
 -- the gone keys have no entry any more, and the renewed ones wait for a result
 abbrev pub IsCarriedOut : Renewal → tree.BTreeMap Key Entry → tree.BTreeMap Key Entry → Type 0
 IsCarriedOut it old new =
     (key : Key) → tree.get key_cmp new key ≡ waiting_if (is_of key it.renewed.items) (if is_of key it.gone.items then None else tree.get key_cmp old key)
-
--- whether one of the keys has an entry
-abbrev pub have_entries : tree.BTreeMap Key Entry → List Key → Bool
-have_entries entries keys = list_any (λ key. not (is_none (tree.get key_cmp entries key))) keys
-
--- the keys of the texts, or nothing where no key is new and none that had an entry is gone
-abbrev pub AreKeys : Texts → tree.BTreeMap Key Entry → List Key → List Key → Option (Vec Key Global) → Type 0
-AreKeys texts entries fresh gone None = (fresh ≡ []) × (have_entries entries gone ≡ false)
-AreKeys texts entries fresh gone (Some keys) = keys.items ≡ keys_of texts
-
-abbrev pub items_or : Option (Vec Key Global) → List Key → List Key
-items_or None keys = keys
-items_or (Some others) keys = others.items

@@ -1,19 +1,19 @@
 //! What a workbench knows of its keys.
-ghost use Rattle.std.specs.Prelude.{◌≡◌, [], None, IfOk, OnOk, OnErr};
+ghost use Rattle.std.specs.Prelude.{◌≡◌, [], None, IfOk, OnOk, OnErr, count_by, slice_get};
 ghost use Rattle.std.specs.BTreeMap as tree;
 ghost use Rattle.fb_jobs.specs.KeyOrder.{key_cmp};
 ghost use Rattle.fb_entries.specs.Indexed.{IsIndexOf};
 ghost use Rattle.fb_jobs.specs.Reach.{AgreeApartFrom, first_repeated};
-ghost use Rattle.fb_entries.specs.Marking.{LosesEntries, LosesKeys};
-ghost use Rattle.fb_entries.specs.Found.{units_of, Alters, AreKeysAfter, MakesRoom, LosesRoom};
-ghost use Rattle.fb_entries.specs.Renew.{IsCarriedOut, items_or};
+ghost use Rattle.fb_entries.specs.Marking.{is_unkept, LosesEntries, LosesKeys};
+ghost use Rattle.fb_entries.specs.Found.{units_of, Alters, MakesRoom, LosesRoom};
+ghost use Rattle.fb_entries.specs.Renew.{IsCarriedOut};
 
 use crate::entry::Entry;
 use crate::keys::only_present;
 use crate::reach::{reached_keys, reindexed};
 use crate::renewal::{
-    Renewal, absent, changed_units, join_all, leave_all, not_in, put_blank, renew_all, replace,
-    take_out, without_entry,
+    Renewal, absent, changed_units, join_all, leave_all, not_in, put_blank, renew_all, take_out,
+    without_entry,
 };
 use fb_index::Index;
 use fb_index::library::{Change, Library};
@@ -23,16 +23,12 @@ use std::alloc::{AllocError, Global};
 use std::collections::{BTreeMap, BTreeSet};
 use std::sync::Arc;
 
-/// The keys of a library, what is kept of each, and which of them wait.
+/// The keys of a library, what is kept of each, and which of them can be taken.
 #[derive(Drop)]
 pub struct Entries {
-    /// The keys, in order.
-    pub keys: Vec<Key>,
     pub by_key: BTreeMap<Key, Entry>,
     /// The keys that are pending and not handed out.
     pub ready: BTreeSet<Key>,
-    /// The keys that are pending.
-    pub waiting: BTreeSet<Key>,
 }
 
 /// What a good commit leaves, found before anything is written.
@@ -41,24 +37,37 @@ pub struct Found {
     /// The index of the texts after the commit.
     pub index: Index,
     pub renewal: Renewal,
-    /// The keys after the commit, where they are others.
-    pub keys: Option<Vec<Key>>,
 }
 
 impl Entries {
     /// No keys.
     pub fn new(alloc: Global) -> Entries
-        ensures keys { result.keys.items ≡ [] }
         ensures entries { result.by_key.entries ≡ [] }
         ensures ready { result.ready.keys ≡ [] }
-        ensures waiting { result.waiting.keys ≡ [] }
     {
         Entries {
-            keys: Vec::new(alloc),
             by_key: BTreeMap::new(alloc),
             ready: BTreeSet::new(alloc),
-            waiting: BTreeSet::new(alloc),
         }
+    }
+
+    /// The key at a place, counted from 0. It passes over those before it.
+    pub fn key_at(&self, place: usize) -> Option<Key>
+        ensures key { result ≡ slice_get (tree.keys self.now.by_key) place }
+        ensures ordered { tree.IsOrdered key_cmp self.now.by_key }
+    {
+        self.by_key.keys().nth(place).copied()
+    }
+
+    /// How many keys are pending. It looks at each entry.
+    pub fn pending_count(&self) -> usize
+        ensures count { result ≡ count_by is_unkept (tree.values self.now.by_key) }
+        ensures ordered { tree.IsOrdered key_cmp self.now.by_key }
+    {
+        self.by_key
+            .values()
+            .filter(|entry| entry.value.is_none())
+            .count()
     }
 
     /// What the changes between two libraries leave; `index` is that of the library before.
@@ -76,18 +85,11 @@ impl Entries {
         ensures index { IfOk result (λ found. IsIndexOf after.now found.index) }
         ensures renewal { IfOk result
             (λ found. Alters after.now (units_of changes.now) self.now found.renewal) }
-        ensures keys { IfOk result
-            (λ found. AreKeysAfter after.now self.now found.renewal found.keys) }
     {
         let units = changed_units(alloc, changes)?;
         let index = reindexed(alloc, index, before, after, &units)?;
         let renewal = self.find(alloc, &index, after, &units)?;
-        let keys = renewal.keys(alloc, after, &self.by_key)?;
-        Ok(Found {
-            index,
-            renewal,
-            keys,
-        })
+        Ok(Found { index, renewal })
     }
 
     /// What changes of these units alter; `library` is the library after them, and `index` is that of its texts.
@@ -108,13 +110,11 @@ impl Entries {
         let reached = reached_keys(alloc, index, units)?;
         let renewed = only_present(alloc, library, &reached)?;
         let unready = not_in(alloc, &self.ready, &renewed)?;
-        let unwaiting = not_in(alloc, &self.waiting, &renewed)?;
         Ok(Renewal {
             fresh,
             gone,
             renewed,
             unready,
-            unwaiting,
         })
     }
 
@@ -122,13 +122,9 @@ impl Entries {
     pub fn make_room(&mut self, renewal: &Renewal) -> Result<(), AllocError>
         ensures ok { OnOk result (MakesRoom renewal.now self.old self.new) }
         ensures err { OnErr result (LosesRoom renewal.now self.old self.new) }
-        ensures keys { self.new.keys ≡ self.old.keys }
     {
         let is_made = put_blank(&mut self.by_key, &renewal.fresh).is_ok();
-        if is_made
-            && join_all(&mut self.ready, &renewal.unready).is_ok()
-            && join_all(&mut self.waiting, &renewal.unwaiting).is_ok()
-        {
+        if is_made && join_all(&mut self.ready, &renewal.unready).is_ok() {
             return Ok(());
         }
         self.take_back(renewal);
@@ -139,32 +135,21 @@ impl Entries {
     pub fn take_back(&mut self, renewal: &Renewal)
         ensures entries { LosesEntries renewal.now.fresh.items self.old.by_key self.new.by_key }
         ensures ready { LosesKeys renewal.now.unready.items self.old.ready self.new.ready }
-        ensures waiting { LosesKeys renewal.now.unwaiting.items self.old.waiting self.new.waiting }
-        ensures keys { self.new.keys ≡ self.old.keys }
     {
         take_out(&mut self.by_key, &renewal.fresh);
         leave_all(&mut self.ready, &renewal.unready);
-        leave_all(&mut self.waiting, &renewal.unwaiting);
     }
 
     /// Writes what was found, and gives the index back. Nothing here can fail.
     pub fn carry_out(&mut self, found: Found) -> Index
         ensures entries { IsCarriedOut found.renewal self.old.by_key self.new.by_key }
         ensures ready { LosesKeys found.renewal.gone.items self.old.ready self.new.ready }
-        ensures waiting { LosesKeys found.renewal.gone.items self.old.waiting self.new.waiting }
-        ensures keys { self.new.keys.items ≡ items_or found.keys self.old.keys.items }
         ensures index { result ≡ found.index }
     {
-        let Found {
-            index,
-            renewal,
-            keys,
-        } = found;
+        let Found { index, renewal } = found;
         take_out(&mut self.by_key, &renewal.gone);
         leave_all(&mut self.ready, &renewal.gone);
-        leave_all(&mut self.waiting, &renewal.gone);
         renew_all(&mut self.by_key, &renewal.renewed);
-        replace(&mut self.keys, keys);
         index
     }
 }

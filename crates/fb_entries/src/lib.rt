@@ -28,5 +28,7 @@ pub mod index {
 
 /// Of `fb_jobs`, for the crates above.
 pub mod jobs {
-    pub use fb_jobs::{Finished, Hint, Job, Key, Kind, Read, Value, current_nets, current_reads, locality};
+    pub use fb_jobs::{
+        Finished, Hint, Job, Key, Kind, Read, Value, current_nets, current_reads, locality,
+    };
 }

@@ -7,10 +7,8 @@ ghost use Rattle.fb_index.specs.Library.Changes.{edits_of};
 ghost use Rattle.fb_jobs.specs.Keys.{has_key};
 ghost use Rattle.fb_jobs.specs.KeyOrder.{key_cmp};
 ghost use Rattle.fb_entries.specs.Marking.{KeepsOtherEntries, HasEntries, LosesEntries, RenewsEntries, KeepsOtherKeys, HasKeys, LosesKeys};
-ghost use Rattle.fb_entries.specs.Renew.{AreKeys, have_entries, items_or};
 
 use crate::entry::{Entry, join, leave, renew};
-use crate::keys::present_keys;
 use fb_index::library::{Change, Library};
 use fb_jobs::{Key, has_key};
 use fb_text::Name;
@@ -24,10 +22,10 @@ pub struct Renewal {
     pub fresh: Vec<Key>,
     /// Keys of changed units that the new texts don't have.
     pub gone: Vec<Key>,
-    /// New and reached keys, which are to wait for a result, and which of them are to join the sets.
+    /// New and reached keys, which are to wait for a result.
     pub renewed: Vec<Key>,
+    /// Those of them that are to join the set of the keys that can be taken.
     pub unready: Vec<Key>,
-    pub unwaiting: Vec<Key>,
 }
 
 /// The units of the changes.
@@ -90,41 +88,6 @@ pub(crate) fn not_in(
         }
     }
     Ok(others)
-}
-
-/// Whether one of the keys has an entry.
-fn have_entries(entries: &BTreeMap<Key, Entry>, keys: &[Key]) -> bool
-    ensures { result ≡ have_entries entries.now keys.now }
-{
-    keys.iter().any(|key| entries.contains_key(key))
-}
-
-impl Renewal {
-    /// The keys of the library, where they are not those that have entries.
-    pub(crate) fn keys(
-        &self,
-        alloc: Global,
-        library: &Library,
-        entries: &BTreeMap<Key, Entry>,
-    ) -> Result<Option<Vec<Key>>, AllocError>
-        ensures { IfOk result
-            (λ keys. AreKeys library.now entries.now
-            self.now.fresh.items self.now.gone.items keys) }
-    {
-        if self.fresh.is_empty() && !have_entries(entries, &self.gone) {
-            return Ok(None);
-        }
-        Ok(Some(present_keys(alloc, library)?))
-    }
-}
-
-/// Puts other keys in the place of these, if there are others.
-pub(crate) fn replace(keys: &mut Vec<Key>, others: Option<Vec<Key>>)
-    ensures { keys.new.items ≡ items_or others keys.old.items }
-{
-    if let Some(others) = others {
-        *keys = others;
-    }
 }
 
 /// Makes an entry that waits for a result for each of these keys.

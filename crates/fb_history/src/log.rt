@@ -75,7 +75,7 @@ impl History {
     }
 
     /// How many recorded calls the caller has made.
-    fn turns_of(&self, caller: u32) -> u64
+    pub fn turns_of(&self, caller: u32) -> u64
         ensures count { result ≡ turns_of caller self.now.records }
     {
         match self.turns.get(&caller) {

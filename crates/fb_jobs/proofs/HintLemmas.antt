@@ -1,18 +1,18 @@
 -- What is kept is right in the reads of a job that needs all that its unit rests on.
-use Rattle.std.proofs.Common.{◌≡◌, ◌≢◌, ◌⊎◌, inl, inr, ℕ, Bool, true, false, cond, ◌&&◌, ◌||◌, not, is_some, List, [], ◌∷◌, ◌++◌, refl, sym, ap, subst, ◌∙◌, Option, Some, None, map, filter, All, Contains}
+use Rattle.std.proofs.Common.{arith, ◌≡◌, ◌≢◌, ℕ, Bool, true, false, cond, ◌&&◌, not, List, [], ◌∷◌, ◌++◌, refl, sym, ap, subst, ◌∙◌, Option, filter, All, Contains}
 use Rattle.std.specs.BTreeMap.{is_at}
 use Rattle.std.specs.List.{AllPairs, AllByRecursion}
 use Rattle.std.specs.List.Sorted.{IsStrictlySortedBy}
 use Rattle.std.specs.Option.{option_and_then}
 use Rattle.std.specs.declared.cmp.Ordering.TheVariants.{Less}
-use Rattle.std.proofs.lemmas.List.Elements.{All-nil, All-cons, All-push, All-contains, All-contains_itself, filter_passes, filter-append}
+use Rattle.std.proofs.lemmas.List.Elements.{All-nil, All-cons, All-push, All-contains, All-contains_itself, filter-append}
 use Rattle.std.proofs.lemmas.List.Kept.{AllPairs-cons, IsStrictlySortedBy-filter}
 use Rattle.std.proofs.lemmas.Cmp.{tied_itself}
 use Rattle.std.proofs.lemmas.List.{append-nil, map-append}
 use Rattle.fb_text.specs.Order.{name_cmp}
 use Rattle.fb_text.proofs.Members.{contains_map, passes_in_filter}
-use Rattle.fb_deploy.specs.Library.Texts.{Texts, sources_of, text_at}
-use Rattle.fb_deploy.specs.Library.View.{Sources, near_of, tree_of, tree_at}
+use Rattle.fb_deploy.specs.Library.Texts.{Texts, sources_of}
+use Rattle.fb_deploy.specs.Library.View.{Sources, tree_of}
 use Rattle.fb_deploy.specs.Library.Rests.{Rests, itself, through}
 use Rattle.fb_deploy.proofs.Library.Names.{name_total}
 use Rattle.fb_deploy.proofs.Library.Sources.{get_source}
@@ -24,14 +24,14 @@ use Rattle.fb_jobs.specs.declared.hints.Hint.{Hint}
 use Rattle.fb_jobs.specs.declared.key.Kind.{Kind}
 use Rattle.fb_jobs.specs.declared.key.Kind.TheVariants as kind
 use Rattle.fb_jobs.specs.declared.key.Key.{Key}
-use Rattle.fb_jobs.specs.Keys.{Finding, has_key, needs, needs_of, scratch}
+use Rattle.fb_jobs.specs.Keys.{Finding, needs, needs_of, scratch}
 use Rattle.fb_jobs.specs.Kept.{AreKept}
 use Rattle.fb_jobs.specs.Kinds.{needs_all}
-use Rattle.fb_jobs.specs.Reads.{Seen, is_among, read_names, read_texts, reads_for, Agree}
+use Rattle.fb_jobs.specs.Reads.{is_among, read_names, read_texts, reads_for}
 use Rattle.fb_jobs.specs.Values.{finding_of, all_seen}
-use Rattle.fb_jobs.specs.Hints.{AddsChosen, AreChosen, AreHints, IsHint, IsKeptHint, IsNetOf, is_chosen, is_other_subapplication, net_key, units_of}
+use Rattle.fb_jobs.specs.Hints.{AddsChosen, AreChosen, AreHints, IsHint, IsKeptHint, is_chosen, is_other_subapplication, net_key, units_of}
 use Rattle.fb_jobs.specs.declared.read.Read.{Read}
-use Rattle.fb_jobs.proofs.SameNeeds.{scratch_local, needs_local, needs_rise, same_at, at_itself}
+use Rattle.fb_jobs.proofs.SameNeeds.{scratch_local, needs_local, needs_rise}
 use Rattle.fb_jobs.proofs.Currents.{agree_for, names_under}
 
 pub rests_on : {sources : Sources} {a b c : List ℕ} → Rests sources a b → Rests sources b c → Rests sources a c
@@ -53,7 +53,6 @@ within_kind kind.Deploy sources unit name n far first second = far_within source
 pub net_needed : (T : Texts) (key : Key) (name n : List ℕ) → needs_all key.kind ≡ true → is_among name (needs T key) ≡ true → is_among n (needs T (net_key name)) ≡ true → is_among n (needs T key) ≡ true
 unfolding needs
 net_needed T key name n far first second = within_kind key.kind (sources_of T) key.unit name n far first second
-
 
 -- ---- in the reads it is as in the texts
 
@@ -78,7 +77,7 @@ none_left : (P : Hint → Type 0) (hints : List Hint) → hints ≡ [] → All P
 none_left P hints e = subst (All P) (sym e) (All-nil P)
 
 each_stays : (T : Texts) (key : Key) (hints : List Hint) (all : Bool) → needs_all key.kind ≡ all → (all ≡ false → hints ≡ []) → All (IsHint T key) hints → All (IsHint (read_texts (reads_for T key)) key) hints
-each_stays T key hints false is none each = none_left _ hints (none refl)
+each_stays T key hints false is none each = none_left (IsHint (read_texts (reads_for T key)) key) hints (none refl)
 each_stays T key hints true is none each = each_mapped hints each
   where
     each_mapped : (hints : List Hint) → All (IsHint T key) hints → All (IsHint (read_texts (reads_for T key)) key) hints
@@ -103,7 +102,7 @@ all_apart n hint (h ∷ hs) e below =
 
 units_apart : (hints : List Hint) → IsStrictlySortedBy name_cmp (units_of hints) → AllPairs (λ (a b : Hint). a.unit ≢ b.unit) hints
 unfolding IsStrictlySortedBy
-units_apart [] sorted = λ i j d first last. absurd (omega (last))
+units_apart [] sorted = λ i j d first last. absurd (omega (arith, last))
 units_apart (h ∷ hs) sorted = AllPairs-cons (λ (a b : Hint). a.unit ≢ b.unit) h hs (all_apart h.unit h hs refl sorted.0) (units_apart hs sorted.1)
 
 and_first : (a b : Bool) → (a && b) ≡ true → a ≡ true

@@ -1,7 +1,8 @@
 -- What a job knows beside its reads holds in them.
-use Rattle.std.proofs.Common.{◌≡◌, ◌⊎◌, inl, inr, ℕ, Bool, true, false, true≢false, cond, ◌||◌, is_none, is_some, List, [], ◌∷◌, ◌++◌, refl, sym, ap, subst, ◌∙◌, Option, Some, None, Contains, All}
+use Rattle.std.proofs.Common.{◌≡◌, ◌⊎◌, inl, inr, ℕ, Bool, true, false, true≢false, cond, ◌||◌, is_none, is_some, List, [], ◌∷◌, ◌++◌, refl, sym, ap, subst, ◌∙◌, Option, Some, None, Contains}
 use Rattle.std.specs.Map.{lookup}
 use Rattle.std.specs.List.{list_any}
+use Rattle.std.specs.Option.{option_map}
 use Rattle.std.specs.FinMap.{get}
 use Rattle.std.specs.BTreeMap as tree
 use Rattle.std.specs.BTreeMap.{is_at}
@@ -14,7 +15,7 @@ use Rattle.std.specs.declared.alloc.Global.{Global}
 use Rattle.std.proofs.lemmas.List.Elements.{All-contains, Contains-append_cases, Contains-append_left, Contains-append_right}
 use Rattle.fb_text.specs.Order.{name_cmp}
 use Rattle.fb_text.proofs.OrderLemmas.{in_order-members}
-use Rattle.fb_text.proofs.Members.{contains_nothing, contains_cases, contains_here, contains_later}
+use Rattle.fb_text.proofs.Members.{contains_nothing, contains_cases, contains_here}
 use Rattle.fb_deploy.specs.Library.Texts.{Texts, sources_of, text_at}
 use Rattle.fb_deploy.specs.Library.View.{Sources, near_of, mentions_at}
 use Rattle.fb_deploy.specs.Library.Rests.{Rests, itself, through}
@@ -35,13 +36,13 @@ use Rattle.fb_jobs.specs.declared.key.Key.{Key}
 use Rattle.fb_jobs.specs.declared.read.Read.{Read}
 use Rattle.fb_jobs.specs.declared.value.Value.{Value}
 use Rattle.fb_jobs.specs.declared.value.Value.TheVariants.{Faults, Net, Deploy}
-use Rattle.fb_jobs.specs.Hints.{AreChosen, AreHints, IsHint, IsNetOf, net_key}
+use Rattle.fb_jobs.specs.Hints.{AreChosen, AreHints, IsHint, net_key}
 use Rattle.fb_jobs.specs.Keys.{Finding, FaultsFound, NetFound, has_key, needs, needs_of, net_finding, scratch}
 use Rattle.fb_jobs.specs.Kept.{AreKept}
 use Rattle.fb_jobs.specs.Kinds.{needs_all}
 use Rattle.fb_jobs.specs.declared.known.Knowledge.{Knowledge}
 use Rattle.fb_jobs.specs.Known.{IsKnowledge, AddsFaultless, AddsNet, AreFaultlessAmong, AreNetsOf, AreWithoutFaults, IsKeptFaultless, IsNetOfUnit, IsOwnNet, IsThere, Nets, faults_key, hint_in, net_in}
-use Rattle.fb_jobs.specs.Reads.{Seen, is_among, read_names, read_texts, reads_for}
+use Rattle.fb_jobs.specs.Reads.{Agree, Seen, is_among, read_names, read_texts, reads_for}
 use Rattle.fb_jobs.specs.Values.{all_seen, finding_of}
 use Rattle.fb_jobs.specs.Work.{IsOwnIn}
 use Rattle.fb_jobs.proofs.SameNeeds.{has_key_local, scratch_local, same_at, at_itself, unit_needed}
@@ -97,8 +98,8 @@ pub one_more_net : (before now : List Hint) (hint : Hint) (old new : Nets) → n
 one_more_net before now hint old new more so_far adds name value there =
     subst (λ hints. (it : Hint) × Contains hints it × (it.unit ≡ name) × (it.value.value ≡ value.value)) (sym more)
     (elim (adds name value there) [
-      | inl was ↦ let it = so_far name value was in (it.0, (earlier before hint it.0 it.1, (it.2, it.3)))
-      | inr is ↦ (hint, (Contains-append_right before (hint ∷ []) hint (contains_here hint []), (is.0, is.1)))
+      | inl was ↦ let it = so_far name value was in (it.0, earlier before hint it.0 it.1, it.2, it.3)
+      | inr is ↦ (hint, Contains-append_right before (hint ∷ []) hint (contains_here hint []), is.0, is.1)
     ])
 
 -- ---- the own net
@@ -110,6 +111,15 @@ own_stays T key kept found own right right_found all is value there =
       | inr e ↦ right_found (net_key key.unit) (finding_of value.value) e
     ]
     ∙ sym (net_stays T key key.unit all (unit_needed T key))
+
+value_in : (o : Option PlainNet) (value : Value) (net : PlainNet) → finding_of value ≡ net_finding o → net_in value ≡ Some net → o ≡ Some net
+value_in o (Faults faults) net is e = cc
+value_in o (Net it) net is e = net_found o (plain_net it) is ∙ e
+value_in o (Deploy deploy) net is e = cc
+
+pub own_right : (sources : Sources) (unit : List ℕ) (own : Option (Arc Value Global)) (net : PlainNet) → IsOwnIn sources unit own → hint_in own ≡ Some net → net_at sources unit ≡ Some net
+own_right sources unit None net is e = cc
+own_right sources unit (Some value) net is e = value_in (net_at sources unit) value.value net (is value refl) e
 
 pub own_in : (T : Texts) (unit : List ℕ) (own : Option (Arc Value Global)) → IsNetOfUnit T unit own → IsOwnIn (sources_of T) unit own
 unfolding scratch
@@ -146,7 +156,7 @@ faultless_stay T key kept units right all among name has =
     let it = among name has in
     let needed : is_among name (needs T key) ≡ true = ap (is_among name) (sym (names_under T (needs T key))) ∙ it.0 in
     let read = read_texts (reads_for T key) in
-    let agree = λ n near. agree_for T key n (faults_needed T key name n all needed near) in
+    let agree : Agree T read (needs T (faults_key name)) = λ n near. agree_for T key n (faults_needed T key name n all needed near) in
     (has_key_local T read (faults_key name) agree ∙ it.1, scratch_local T read (faults_key name) agree ∙ sym (right (faults_key name) (FaultsFound []) it.2))
 
 -- gathered read by read
@@ -177,14 +187,14 @@ pub one_more_faultless : (T : Texts) (kept : Key → Option Finding) (before now
 one_more_faultless T kept before now read old new more so_far adds name has =
     subst (λ (reads : List Read). (is_among name (read_names (all_seen reads)) ≡ true) × IsThere T name × IsKeptFaultless kept name) (sym more)
     (elim (adds name has) [
-      | inl was ↦ let it = so_far name was in (among_more name before read it.0, (it.1, it.2))
-      | inr is ↦ (subst (λ n. is_among n (read_names (all_seen (before ++ read ∷ []))) ≡ true) (sym is.0) (among_last before read), (is.1, is.2))
+      | inl was ↦ let it = so_far name was in (among_more name before read it.0, it.1, it.2)
+      | inr is ↦ (subst (λ n. is_among n (read_names (all_seen (before ++ read ∷ []))) ≡ true) (sym is.0) (among_last before read), is.1, is.2)
     ])
 
 put_unit : (T : Texts) (kept : Key → Option Finding) (name other : List ℕ) (old new same : Bool) → is_at (name_cmp name) other ≡ same → new ≡ cond same true old → IsThere T name → IsKeptFaultless kept name → new ≡ true → (old ≡ true) ⊎ ((other ≡ name) × IsThere T other × IsKeptFaultless kept other)
 put_unit T kept name other old new true is now there none has =
     let named : name ≡ other = same_at name other is in
-    inr (sym named, (subst (IsThere T) named there, subst (IsKeptFaultless kept) named none))
+    inr (sym named, subst (IsThere T) named there, subst (IsKeptFaultless kept) named none)
 put_unit T kept name other old new false is now there none has = inl (sym now ∙ has)
 
 pub adds_unit : (T : Texts) (kept : Key → Option Finding) (name : List ℕ) (old new : set.BTreeSet (List ℕ)) → IsThere T name → IsKeptFaultless kept name → ((other : List ℕ) → set.contains name_cmp new other ≡ cond (is_at (name_cmp name) other) true (set.contains name_cmp old other)) → AddsFaultless T kept name old new
@@ -203,6 +213,11 @@ unblocked T name there none =
 
 pub faultless_in : (T : Texts) (units : set.BTreeSet (List ℕ)) → AreWithoutFaults T units → AreFaultless (sources_of T) (λ name. set.contains name_cmp units name)
 faultless_in T units are name has = let it = are name has in unblocked T name it.0 it.1
+
+pub is_there : {A : Type 0} (T : Texts) (name : List ℕ) (o : Option A) (text : A → List ℕ) → is_some o ≡ true → option_map text o ≡ text_at T name → IsThere T name
+unfolding has_key
+is_there T name None text e same = cc
+is_there T name (Some x) text e same = ap is_some (sym same)
 
 pub no_units : (T : Texts) (units : set.BTreeSet (List ℕ)) → units.keys ≡ [] → AreWithoutFaults T units
 no_units T units empty name has = absurd (no_member units name empty has)

@@ -1,8 +1,7 @@
 -- Nets that were found on the way.
-use Rattle.std.proofs.Common.{◌≡◌, ℕ, Bool, true, false, List, [], refl, sym, ap, subst, ◌∙◌, Option, Some, None, All}
+use Rattle.std.proofs.Common.{◌≡◌, ℕ, Bool, true, false, List, [], refl, sym, ap, subst, ◌∙◌, None, All, get_or}
 use Rattle.std.proofs.lemmas.List.Elements.{All-nil}
 use Rattle.fb_deploy.specs.Flatten.Far.{far_of}
-use Rattle.fb_deploy.specs.Flatten.Inner.{IsInnerNet}
 use Rattle.fb_deploy.specs.Flatten.Nets.{net_at}
 use Rattle.fb_deploy.specs.Library.Rests.{Rests}
 use Rattle.fb_deploy.specs.Library.Texts.{Texts, sources_of}
@@ -41,7 +40,7 @@ pub founds_for : (T : Texts) (key : Key) (found : List Hint) (all : Bool) → ne
 founds_for T key found false is none each = subst (All (IsFoundFor T key)) (sym (none refl)) (All-nil (IsFoundFor T key))
 founds_for T key found true is none each = λ k d below.
     let it = each k d below in
-    record { all = is; needed = rests_needed T key _ is it.below; net_is = net_of T _ it.net_is }
+    record { all = is; needed = rests_needed T key _ is it.below; net_is = net_of T (get_or found k d) it.net_is }
 
 -- is what the present texts give, where the reads are current
 pub nets_current : (T : Texts) (it : PlainJob) (hint : Hint) → IsRight it → stale T it.reads ≡ None → IsFoundFor (read_texts it.reads) it.key hint → IsNetOf T hint

@@ -17,7 +17,7 @@ use Rattle.fb_jobs.specs.declared.key.Key.{Key}
 use Rattle.fb_jobs.specs.declared.key.Kind.{Kind}
 use Rattle.fb_jobs.specs.declared.value.Value.{Value}
 use Rattle.fb_jobs.specs.Hints.{IsNetOf}
-use Rattle.fb_jobs.specs.Keys.{Finding, needs, net_finding, scratch_of}
+use Rattle.fb_jobs.specs.Keys.{needs, net_finding, scratch_of}
 use Rattle.fb_jobs.specs.Kinds.{needs_all}
 use Rattle.fb_jobs.specs.Known.{hint_in}
 use Rattle.fb_jobs.specs.Reads.{is_among}

@@ -10,7 +10,7 @@ ghost use Rattle.fb_deploy.specs.Plans.{has_plan_in};
 ghost use Rattle.fb_jobs.specs.Keys.{has_kind_at, scratch_of};
 ghost use Rattle.fb_jobs.specs.Values.{finding_of};
 ghost use Rattle.fb_jobs.specs.Work.{IsFoundIn, IsOwnIn, IsWork, known_faultless, known_hints};
-ghost use Rattle.fb_jobs.specs.declared.key.Kind.TheVariants.{Faults, Net, Deploy};
+ghost use Rattle.fb_jobs.specs.declared.key.Kind.TheVariants as kind;
 
 use crate::hints::Hint;
 use crate::key::{Key, Kind};
@@ -33,12 +33,16 @@ pub(crate) struct Worked {
 }
 
 /// The former value where the new one says the same, or else the new one.
-fn former_or(alloc: Global, former: &Option<Arc<Value>>, value: Value) -> Result<Arc<Value>, AllocError>
+fn former_or(
+    alloc: Global,
+    former: &Option<Arc<Value>>,
+    value: Value,
+) -> Result<Arc<Value>, AllocError>
     ensures { IfOk result (λ shared. finding_of shared.value ≡ finding_of value) }
 {
     match former {
         Some(former) if is_same_value(former, &value) => Ok(former.clone()?),
-        _ => Arc::new(alloc, value),
+        _ => Ok(Arc::new(alloc, value)?),
     }
 }
 
@@ -54,8 +58,8 @@ fn former_or_own(former: &Option<Arc<Value>>, own: &Arc<Value>) -> Result<Arc<Va
 
 /// The nets that were computed on the way, each shared.
 fn found_nets(alloc: Global, inner: Vec<Inner>) -> Result<Vec<Hint>, AllocError>
-    ensures { (sources : Sources) (unit : List ℕ) → All (IsInnerNet sources unit) inner.items
-        → IfOk result (λ found. All (IsFoundIn sources unit) found.items) }
+    ensures { IfOk result (λ found. (sources : Sources) (unit : List ℕ)
+        → All (IsInnerNet sources unit) inner.items → All (IsFoundIn sources unit) found.items) }
 {
     let mut found = Vec::new(alloc);
     for it in inner {
@@ -74,7 +78,7 @@ fn faults_work<V: View>(
     unit: &Name,
     former: &Option<Arc<Value>>,
 ) -> Result<Worked, AllocError>
-    ensures { IfOk result (IsWork Faults (V.sources view.now) unit.now) }
+    ensures { IfOk result (IsWork kind.Faults (V.sources view.now) unit.now) }
 {
     let found = faults(alloc, view, unit)?;
     Ok(Worked {
@@ -96,7 +100,7 @@ fn net_work<V: View>(
     requires right { AreRightHints (V.sources view.now) (known_hints known.now) }
     requires faultless { AreFaultless (V.sources view.now) (known_faultless known.now) }
     requires own { IsOwnIn (V.sources view.now) unit own.now }
-    ensures { IfOk result (IsWork Net (V.sources view.now) unit) }
+    ensures { IfOk result (IsWork kind.Net (V.sources view.now) unit) }
 {
     if let Some(own) = own {
         return Ok(Worked {
@@ -115,14 +119,14 @@ fn net_work<V: View>(
 fn plan_value<V: View>(
     alloc: Global,
     view: &V,
-    system: &Name,
+    system: Name,
     net: &Net,
     former: &Option<Arc<Value>>,
 ) -> Result<Arc<Value>, AllocError>
-    requires has { has_plan_in (tree_at (V.sources view.now) system.now) ≡ true }
-    requires net { net_at (V.sources view.now) system.now ≡ Some (plain_net net.now) }
+    requires has { has_plan_in (tree_at (V.sources view.now) system) ≡ true }
+    requires net { net_at (V.sources view.now) system ≡ Some (plain_net net.now) }
     ensures { IfOk result
-        (λ value. finding_of value.value ≡ scratch_of Deploy (V.sources view.now) system.now) }
+        (λ value. finding_of value.value ≡ scratch_of kind.Deploy (V.sources view.now) system) }
 {
     let deploy = plan_by_net(alloc, view, system, net)?;
     former_or(alloc, former, Value::Deploy(deploy))
@@ -141,17 +145,17 @@ fn plan_work<V: View>(
     requires right { AreRightHints (V.sources view.now) (known_hints known.now) }
     requires faultless { AreFaultless (V.sources view.now) (known_faultless known.now) }
     requires own { IsOwnIn (V.sources view.now) system own.now }
-    ensures { IfOk result (IsWork Deploy (V.sources view.now) system) }
+    ensures { IfOk result (IsWork kind.Deploy (V.sources view.now) system) }
 {
     if let Some(net) = own_net_in(own) {
         return Ok(Worked {
-            value: plan_value(alloc, view, &system, net, former)?,
+            value: plan_value(alloc, view, system, net, former)?,
             found: Vec::new(alloc),
         });
     }
     let Computed { net, inner } = compute(alloc, view, system, known)?;
     Ok(Worked {
-        value: plan_value(alloc, view, &system, &net, former)?,
+        value: plan_value(alloc, view, system, &net, former)?,
         found: found_nets(alloc, inner)?,
     })
 }

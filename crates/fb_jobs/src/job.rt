@@ -154,16 +154,12 @@ impl Job {
     pub fn run(&self, alloc: Global) -> Result<Finished, AllocError>
         ensures { IfOk result (λ finished. finished ≡ self.now) }
     {
-        let Knowledge {
-            hints,
-            own,
-            faultless,
-        } = &self.knowledge;
-        let nets = nets_of(alloc, hints)?;
+        let nets = nets_of(alloc, &self.knowledge.hints)?;
         let known = KnownNets {
             nets: &nets,
-            faultless,
+            faultless: &self.knowledge.faultless,
         };
+        let own = &self.knowledge.own;
         let work = work_of(alloc, self, self.key, &known, own, &self.former)?;
         let reads = self.reads.clone()?;
         let texts = self.texts.clone()?;

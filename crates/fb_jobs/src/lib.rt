@@ -20,7 +20,9 @@ pub use job::Job;
 pub use kept::Kept;
 pub use key::{Key, Kind};
 pub use kinds::{all_kinds, keys_by_name, keys_near_and_far};
-pub use laws::{current_nets, current_reads, kinds_in_order, least_stale, locality, needs_in_order};
+pub use laws::{
+    current_nets, current_reads, kinds_in_order, least_stale, locality, needs_in_order,
+};
 pub use read::{Read, TextRead, has_key};
 pub use reads::needed;
 pub use result::Finished;

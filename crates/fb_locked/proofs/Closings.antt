@@ -1,27 +1,16 @@
 -- Seats and receipts, one more at a time.
-use Rattle.std.proofs.Common.{◌≡◌, ◌≢◌, zero, suc, ◌==◌, ◌&&◌, ◌||◌, ℕ, ◌+◌, ◌-◌, ◌<◌, ◌≤◌, List, [], ◌∷◌, Bool, true, false, not, cond, Option, Some, None, IsSome, refl, ap, sym, ◌∙◌, subst, arith, length, take, get_or, set, All, Contains, min, add-zero, get_or-set_same, get_or-set_other}
+use Rattle.std.proofs.Common.{◌≡◌, ◌≢◌, zero, suc, ◌==◌, ◌&&◌, ◌||◌, ℕ, ◌+◌, ◌-◌, ◌<◌, ◌≤◌, List, [], ◌∷◌, Bool, true, false, not, cond, Option, Some, None, refl, ap, sym, ◌∙◌, subst, arith, length, take, get_or, set, min, add-zero, get_or-set_same, get_or-set_other}
 use Rattle.std.proofs.lemmas.Option.{slice_get_within}
 use Rattle.std.proofs.lemmas.Bool.{eqb-true, eq-eqb}
 use Rattle.std.proofs.lemmas.Bool.Decides.{nat_tests}
-use Rattle.std.proofs.lemmas.List.Elements.{All-cons, All-nil, All-from_recursion, All-more, All-weaker, Contains-append_right, All-contains}
-use Rattle.std.proofs.lemmas.List.Sums.{sum_by_more}
+use Rattle.std.proofs.lemmas.List.Elements.{All-more}
+use Rattle.std.proofs.lemmas.List.Sums.{sum_by_more, sum_by-cons}
 use Rattle.std.proofs.lemmas.List.Folds.{list_any_more}
-use Rattle.std.proofs.lemmas.Map.Keys.{sorted_head, sorted_tail}
-use Rattle.std.specs.Ordering.{nat_cmp}
-use Rattle.std.specs.declared.cmp.Ordering.TheVariants.{Less}
-use Rattle.std.specs.List.{find}
-use Rattle.std.specs.List.Sorted.{IsStrictlySortedBy}
-use Rattle.std.proofs.lemmas.Map.Lookups.{exact_unsigned}
-use Rattle.std.proofs.lemmas.Map.Views.{btree_map_contains_key_iff}
-use Rattle.std.specs.Cmp.{nat_cmp_total}
-use Rattle.std.specs.BTreeMap.{BTreeMap, get, keys, IsOrdered}
-use Rattle.fb_text.proofs.Tests.{not_false, not_true}
 use Rattle.fb_bench.specs.History.Story.{Record, turns_of, record_at}
-use Rattle.fb_locked.specs.Book.{IsBookOf, is_caller}
-use Rattle.fb_locked.specs.Seats.{Hall, SeatState, Claim}
+use Rattle.fb_locked.specs.Seats.{SeatState, Claim}
 use Rattle.fb_locked.specs.declared.close.CloseFault.{CloseFault}
 use Rattle.fb_locked.specs.declared.close.CloseFault.TheVariants.{SeatMissing, SeatDiffers, ReceiptDiffers, ReceiptTwice, Memory}
-use Rattle.fb_locked.specs.Closing.{IsLeast, lesser_of, has_seat, has_wrong_seat, times, AreReceiptsRight, IsReceiptRight, AreSeated, AreSeatsRight, IsReceiptFault, IsFirstFault}
+use Rattle.fb_locked.specs.Closing.{IsLeast, lesser_of, has_wrong_seat, has_number, times, AreReceiptsRight, IsReceiptRight, AreSeated, AreSeatsRight, IsReceiptFault, IsFirstFault}
 
 -- ---- the least that passes
 
@@ -33,46 +22,6 @@ least_more w w' None c true least more =
     ((more c ∙ grind (arith, nat_tests)), (λ p below. more p ∙ grind (arith, nat_tests, least p)))
 least_more w w' (Some o) c true least more =
     ((more (min c o) ∙ grind (arith, nat_tests, least.0)), (λ p below. more p ∙ grind (arith, nat_tests, least.1 p)))
-
--- ---- the first key that passes, of keys in order
-
-less_is : (x y : ℕ) → nat_cmp x y ≡ Less → x < y
-less_is x y e = grind (arith, nat_tests)
-
-none_at : (p : ℕ → Bool) (k : ℕ) (ks : List ℕ) (b : Bool) → p k ≡ b → (find p ks ≡ None → All (λ k. p k ≡ false) ks) → cond b (Some k) (find p ks) ≡ None → All (λ k. p k ≡ false) (k ∷ ks)
-none_at p k ks true is tail e = let bad : ⊥ = cc in absurd bad
-none_at p k ks false is tail e = All-cons (λ k. p k ≡ false) k ks is (tail e)
-
-pub find_none : (p : ℕ → Bool) (ks : List ℕ) → find p ks ≡ None → All (λ k. p k ≡ false) ks
-find_none p [] e = All-nil _
-find_none p (k ∷ ks) e = none_at p k ks (p k) refl (find_none p ks) e
-
-pub record IsFirst (p : ℕ → Bool) (ks : List ℕ) (c : ℕ) : Type 0 where
-  pub has : Contains ks c
-  pub passes : p c ≡ true
-  pub none : All (λ k. k < c → p k ≡ false) ks
-
-some_at : (p : ℕ → Bool) (k : ℕ) (ks : List ℕ) (c : ℕ) (b : Bool) → p k ≡ b → All (λ y. nat_cmp k y ≡ Less) ks → (find p ks ≡ Some c → IsFirst p ks c) → cond b (Some k) (find p ks) ≡ Some c → IsFirst p (k ∷ ks) c
-some_at p k ks c true is above tail e =
-    let same : k ≡ c = cc in record {
-      has = (0, omega arith, same);
-      passes = subst (λ (n : ℕ). p n ≡ true) same is;
-      none =
-          All-cons (λ n. n < c → p n ≡ false) k ks (λ lt. absurd (omega arith)) (
-          All-weaker (λ y. nat_cmp k y ≡ Less) (λ n. n < c → p n ≡ false) (λ y less lt. let up : k < y = less_is k y less in absurd (omega arith)) ks above
-          );
-    }
-some_at p k ks c false is above tail e =
-    let first : IsFirst p ks c = tail e in record {
-      has = Contains-append_right (k ∷ []) ks c first.has;
-      passes = first.passes;
-      none = All-cons (λ n. n < c → p n ≡ false) k ks (λ lt. is) first.none;
-    }
-
-pub find_some : (p : ℕ → Bool) (ks : List ℕ) (c : ℕ) → IsStrictlySortedBy nat_cmp ks → find p ks ≡ Some c → IsFirst p ks c
-find_some p [] c sorted e = let bad : ⊥ = cc in absurd bad
-find_some p (k ∷ ks) c sorted e =
-    some_at p k ks c (p k) refl (All-from_recursion (λ y. nat_cmp k y ≡ Less) ks (sorted_head nat_cmp k ks sorted)) (find_some p ks c (sorted_tail nat_cmp k ks sorted)) e
 
 -- ---- one more receipt
 
@@ -130,43 +79,32 @@ wrong_more es seats i s q lt is =
     rw (← is) (ap (λ b. has_wrong_seat es (take i seats) q || b) (wrong_same es s.caller q s.turns (s.caller == q) refl))
     )
 
--- ---- the callers are the book's keys
+-- ---- a number among receipts
 
-is_key : (b : Bool) (n : ℕ) (x : Option ℕ) → x ≡ cond b (Some n) None → IsSome x → b ≡ true
-is_key true n x e some = refl
-is_key false n x e some = subst IsSome e some
+times_cons : (n : ℕ) (c : Claim) (cs : List Claim) → times n (c ∷ cs) ≡ cond (c.number == n) 1 0 + times n cs
+times_cons n c cs = sum_by-cons (λ (x : Claim). cond (x.number == n) 1 0) c cs
 
-has_page : (b : Bool) (n : ℕ) (x : Option ℕ) → x ≡ cond b (Some n) None → b ≡ true → IsSome x
-has_page b n x e is = let e' : x ≡ Some n = e ∙ ap (λ (v : Bool). cond v (Some n) None) is in subst IsSome (sym e') refl
+none_at : (n : ℕ) (c : Claim) (cs : List Claim) (b : Bool) → c.number == n ≡ b → (b || has_number cs n) ≡ false → (has_number cs n ≡ false → times n cs ≡ 0) → times n (c ∷ cs) ≡ 0
+none_at n c cs true is none rest = let bad : true ≡ false = none in cc
+none_at n c cs false is none rest =
+    let here : ◌≡◌ {A = ℕ} (cond (c.number == n) 1 0) 0 = ap (λ (b : Bool). cond b 1 0) is in omega (arith, times_cons n c cs, here, rest none)
 
-pub caller_from_key : (book : BTreeMap ℕ ℕ) (callers : ℕ) (es : List Record) → IsBookOf book callers es → (q : ℕ) → Contains (keys book) q → is_caller callers es q ≡ true
-caller_from_key book callers es kept q among =
-    is_key (is_caller callers es q) (turns_of q es) (get nat_cmp book q) (kept.pages q) ((btree_map_contains_key_iff nat_cmp_total exact_unsigned book q).1 among)
+pub none_times : (n : ℕ) (rs : List Claim) → has_number rs n ≡ false → times n rs ≡ 0
+none_times n [] none = refl
+none_times n (c ∷ cs) none = none_at n c cs (c.number == n) refl none (none_times n cs)
 
-pub key_from_caller : (book : BTreeMap ℕ ℕ) (callers : ℕ) (es : List Record) → IsBookOf book callers es → (q : ℕ) → is_caller callers es q ≡ true → Contains (keys book) q
-key_from_caller book callers es kept q is =
-    (btree_map_contains_key_iff nat_cmp_total exact_unsigned book q).0 (has_page (is_caller callers es q) (turns_of q es) (get nat_cmp book q) (kept.pages q) is)
+some_at : (n : ℕ) (c : Claim) (cs : List Claim) (b : Bool) → c.number == n ≡ b → (b || has_number cs n) ≡ true → (has_number cs n ≡ true → 1 ≤ times n cs) → 1 ≤ times n (c ∷ cs)
+some_at n c cs true is some rest = let here : ◌≡◌ {A = ℕ} (cond (c.number == n) 1 0) 1 = ap (λ (b : Bool). cond b 1 0) is in omega (arith, times_cons n c cs, here)
+some_at n c cs false is some rest = omega (arith, times_cons n c cs, rest some)
 
-pub seated : (book : BTreeMap ℕ ℕ) (callers : ℕ) (es : List Record) (seats : List SeatState) → IsBookOf book callers es → find (λ q. not (has_seat seats q)) (keys book) ≡ None
-    → (q : ℕ) → is_caller callers es q ≡ true → has_seat seats q ≡ true
-seated book callers es seats kept none q is =
-    let P : ℕ → Type 0 = λ k. not (has_seat seats k) ≡ false in
-    not_false (has_seat seats q) (All-contains P (keys book) q (find_none (λ q. not (has_seat seats q)) (keys book) none) (key_from_caller book callers es kept q is))
-
-pub missing : (book : BTreeMap ℕ ℕ) (callers : ℕ) (es : List Record) (seats : List SeatState) (c : ℕ) → IsBookOf book callers es → IsOrdered nat_cmp book → find (λ q. not (has_seat seats q)) (keys book) ≡ Some c
-    → (is_caller callers es c ≡ true) × (has_seat seats c ≡ false) × ((p : ℕ) → p < c → is_caller callers es p ≡ true → has_seat seats p ≡ true)
-missing book callers es seats c kept ordered found =
-    let first = find_some (λ q. not (has_seat seats q)) (keys book) c ordered found in
-    let P : ℕ → Type 0 = λ k. k < c → not (has_seat seats k) ≡ false in (
-      caller_from_key book callers es kept c first.has,
-      not_true (has_seat seats c) first.passes,
-      (λ p below is. not_false (has_seat seats p) (All-contains P (keys book) p first.none (key_from_caller book callers es kept p is) below)),
-    )
+pub some_times : (n : ℕ) (rs : List Claim) → has_number rs n ≡ true → 1 ≤ times n rs
+some_times n [] some = let bad : false ≡ true = some in cc
+some_times n (c ∷ cs) some = some_at n c cs (c.number == n) refl some (some_times n cs)
 
 -- a fault of the receipts is the first one, where the seats are right
-pub receipt_fault : (hall : Hall) (seats : List SeatState) (rs : List Claim) (fault : CloseFault) → AreSeated hall seats → AreSeatsRight hall.bench.log.records seats → IsReceiptFault hall.bench.log.records rs fault → IsFirstFault hall seats rs fault
-receipt_fault hall seats rs (SeatMissing q) seated right never = absurd never
-receipt_fault hall seats rs (SeatDiffers q) seated right never = absurd never
-receipt_fault hall seats rs (ReceiptDiffers n) seated right first = (seated, right, first)
-receipt_fault hall seats rs (ReceiptTwice n) seated right first = (seated, right, first)
-receipt_fault hall seats rs Memory seated right first = (seated, right)
+pub receipt_fault : (callers : ℕ) (es : List Record) (seats : List SeatState) (rs : List Claim) (fault : CloseFault) → AreSeated callers es seats → AreSeatsRight es seats → IsReceiptFault es rs fault → IsFirstFault callers es seats rs fault
+receipt_fault callers es seats rs (SeatMissing q) seated right never = absurd never
+receipt_fault callers es seats rs (SeatDiffers q) seated right never = absurd never
+receipt_fault callers es seats rs (ReceiptDiffers n) seated right first = (seated, right, first)
+receipt_fault callers es seats rs (ReceiptTwice n) seated right first = (seated, right, first)
+receipt_fault callers es seats rs Memory seated right never = absurd never

@@ -1,4 +1,5 @@
-pub mod Books
 pub mod Closings
-pub mod Receipts
+pub mod EachCaller
+pub mod NextClaims
 pub mod Takes
+pub mod Works

@@ -1,7 +1,8 @@
 -- How a worker ends.
-use Rattle.std.specs.Prelude.{◌≡◌, ◌≢◌, ◌<◌, Option, Some, None, if◌then◌else◌}
+use Rattle.std.specs.Prelude.{◌≡◌, ◌≢◌, ◌<◌, ◌||◌, ◌⊎◌, List, Bool, true, length, nat_le, is_some, Option, Some, None, if◌then◌else◌}
 use Rattle.std.specs.Option.{option_map}
-use Rattle.fb_bench.specs.History.Machine.{ToTake, next, reply}
+use Rattle.fb_bench.specs.Jobs.Reads.{PlainJob}
+use Rattle.fb_bench.specs.History.Machine.{ToTake, ToDeliver, ToGiveBack, next, reply}
 use Rattle.fb_bench.specs.Requests.{job_of}
 use Rattle.fb_bench.specs.History.Story.{state_of}
 use Rattle.fb_locked.specs.declared.locked.SharedRefused.{SharedRefused}
@@ -10,8 +11,9 @@ use Rattle.fb_locked.specs.declared.look.WorkEnd.{WorkEnd}
 use Rattle.fb_locked.specs.declared.look.WorkEnd.TheVariants.{TurnsOver, Stopped, SeatDiffers, Behind, HistoryFull, Memory}
 use Rattle.fb_locked.specs.declared.look.Look.{Look}
 use Rattle.fb_locked.specs.declared.look.Look.TheVariants.{Ended, Nothing, Taken}
-use Rattle.fb_locked.specs.Seats.{Hall, SeatState, hall_after}
+use Rattle.fb_locked.specs.Seats.{Hall, SeatState, Claim, hall_after}
 use Rattle.fb_locked.specs.Refusals.{refusal_of}
+use Rattle.fb_locked.specs.Calls.{Keeps, Stays}
 
 -- a refusal under its name
 abbrev pub end_of : SharedRefused → WorkEnd
@@ -50,3 +52,20 @@ Looks hall seat (Ended end) hall' = EndsAs (end_before_take hall seat) end × (h
 Looks hall seat Nothing hall' = (end_before_take hall seat ≡ None) × (next (state_of hall.bench) ≡ None) × (hall' ≡ hall)
 Looks hall seat (Taken job) hall' =
     (end_before_take hall seat ≡ None) × (job_of (reply (state_of hall.bench) ToTake) ≡ Some job) × (hall' ≡ hall_after hall seat.caller ToTake)
+
+-- a worker that waits has to look again: it would end, or there is something to take
+abbrev pub calls_workers : Hall → Bool
+calls_workers hall = hall.stopped || (is_some (next (state_of hall.bench)) || nat_le hall.bench.log.limit (length hall.bench.log.records))
+
+-- Where memory was wanting, the key of the job is given back, or nothing changes where this is refused too. At another end nothing changes.
+abbrev pub GivesUp : WorkEnd → Hall → SeatState → PlainJob → List Claim → Hall → SeatState → List Claim → Type 0
+GivesUp Memory hall seat order old hall' seat' new = Keeps hall seat (ToGiveBack order.key) old hall' seat' new ⊎ Stays hall seat old hall' seat' new
+GivesUp end hall seat order old hall' seat' new = Stays hall seat old hall' seat' new
+
+-- What a worker does with a job that it holds, under the lock. Its result, if it has one, is delivered, and then the worker goes on, whether or not
+-- it was accepted. Where the delivery is refused it ends under the name of the first cause; where memory was wanting, for the result or for its
+-- delivery, for want of memory.
+abbrev pub SettlesJob : Hall → SeatState → PlainJob → Bool → Option WorkEnd → List Claim → Hall → SeatState → List Claim → Type 0
+SettlesJob hall seat order has_result None old hall' seat' new = (has_result ≡ true) × Keeps hall seat (ToDeliver order) old hall' seat' new
+SettlesJob hall seat order has_result (Some end) old hall' seat' new =
+    EndsAs (if has_result then option_map end_of (refusal_of hall seat) else None) end × GivesUp end hall seat order old hall' seat' new

@@ -4,7 +4,6 @@ pub mod Refusals
 pub mod Calls
 pub mod Ends
 pub mod Runs
-pub mod Looks
 pub mod Closing
 -- Of the crates below, for the crates above.
 pub use Rattle.fb_bench.specs.Parse as Parse

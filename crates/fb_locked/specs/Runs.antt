@@ -1,5 +1,5 @@
 -- Calls with one seat, one after another, and those that a worker makes.
-use Rattle.std.specs.Prelude.{◌≡◌, ℕ, ◌≤◌, ◌<◌, ◌++◌, [], ◌∷◌, List, Option, Some, None, length}
+use Rattle.std.specs.Prelude.{◌≡◌, ℕ, ◌≤◌, ◌++◌, [], ◌∷◌, List, Option, Some, None, length}
 use Rattle.fb_bench.specs.Jobs.Reads.{PlainJob}
 use Rattle.fb_bench.specs.History.Machine.{Call, ToCommit, ToTake, ToDeliver, ToGiveBack, ToAsk, Reply}
 use Rattle.fb_bench.specs.Requests.{job_of}
@@ -85,8 +85,8 @@ GoesOnWith hand (Some end) = EndsWith hand end
 abbrev pub Works : Hand → ℕ → SeatState → List Claim → List Claim → SeatState → Option WorkEnd → Type 0
 Works hand most seat old new after end = (now : Hand) × AddsWork hand most seat old new after now × GoesOnWith now end
 
--- What a look for a job adds: the receipt of the take where it takes one, with room for one more, and otherwise nothing.
-abbrev pub AddsLook : Look → ℕ → ℕ → SeatState → List Claim → List Claim → SeatState → Type 0
-AddsLook (Taken job) size room seat old new after = (size < room) × AddsWork Empty 1 seat old new after (Holds job)
-AddsLook Nothing size room seat old new after = (new ≡ old) × (after ≡ seat)
-AddsLook (Ended end) size room seat old new after = (new ≡ old) × (after ≡ seat)
+-- What a look for a job adds: the receipt of the take where it takes one, and otherwise nothing.
+abbrev pub AddsLook : Look → SeatState → List Claim → List Claim → SeatState → Type 0
+AddsLook (Taken job) seat old new after = AddsWork Empty 1 seat old new after (Holds job)
+AddsLook Nothing seat old new after = (new ≡ old) × (after ≡ seat)
+AddsLook (Ended end) seat old new after = (new ≡ old) × (after ≡ seat)

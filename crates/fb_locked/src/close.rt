@@ -1,24 +1,24 @@
 //! The end of the calls, by all seats and receipts.
-ghost use Rattle.std.specs.Prelude.{◌≡◌, not, false, ◌↔◌, length, replicate, IsTrue, find, IfErr, IfOk};
-ghost use Rattle.std.specs.BTreeMap.{keys, IsOrdered};
-ghost use Rattle.std.specs.Ordering.{nat_cmp};
+ghost use Rattle.std.specs.Prelude.{◌≡◌, IfErr, IfOk};
 ghost use Rattle.fb_locked.specs.Book.{IsBookOf};
-ghost use Rattle.fb_locked.specs.Closing.{has_seat, has_wrong_seat, IsLeast, IsReceiptRight, ChecksReceipts, AgreesWith, ChecksAll, IsFirstFault, lesser_of};
+ghost use Rattle.fb_locked.specs.Closing.{AgreesWith, ChecksAll, IsFirstFault};
 
-use crate::book;
+use crate::callers::{count_records, missing_seat, wrong_seat};
 use crate::locked::Locked;
+use crate::receipts::check_receipts;
 use crate::seat::{Receipt, Seat};
 use fb_bench::Bench;
-use std::alloc::{AllocError, Global};
+use std::alloc::Global;
 use std::collections::BTreeMap;
 
-/// Why seats and receipts do not fit a workbench.
+/// Why a workbench does not close.
 #[derive(Clone, Copy, PartialEq, Eq, Debug)]
 pub enum CloseFault {
     SeatMissing(u32),
     SeatDiffers(u32),
     ReceiptDiffers(u64),
     ReceiptTwice(u64),
+    /// All seats and receipts fit, and there is no room for the counts.
     Memory,
 }
 
@@ -45,122 +45,81 @@ impl Locked {
         seats: Vec<Seat>,
         receipts: &[Receipt],
     ) -> Result<Closed, NotClosed<Locked>>
-        ensures agrees { IfOk result (λ closed. AgreesWith self seats.items receipts.now) }
+        ensures agrees { IfOk result
+            (λ closed. AgreesWith self.callers self.bench.log.records seats.items receipts.now) }
         ensures bench { IfOk result (λ closed. closed.bench ≡ self.bench) }
         ensures counts { IfOk result
             (λ closed. IsBookOf closed.counts self.callers self.bench.log.records) }
 
         ensures fault { IfErr result
-            (λ refused. IsFirstFault self seats.items receipts.now refused.fault) }
+            (λ refused. IsFirstFault self.callers self.bench.log.records
+            seats.items receipts.now refused.fault) }
         ensures back { IfErr result
             (λ refused. (refused.owner ≡ self) × (refused.seats.items ≡ seats.items)) }
     {
-        if let Some(fault) = self.first_fault(alloc, &seats, receipts) {
-            return Err(NotClosed {
+        let callers = self.callers;
+        self.close_for(alloc, callers, seats, receipts)
+    }
+
+    /// Ends the calls, where seats were made for so many callers.
+    pub fn close_for(
+        self,
+        alloc: Global,
+        callers: u32,
+        seats: Vec<Seat>,
+        receipts: &[Receipt],
+    ) -> Result<Closed, NotClosed<Locked>>
+        ensures agrees { IfOk result
+            (λ closed. AgreesWith callers self.bench.log.records seats.items receipts.now) }
+        ensures bench { IfOk result (λ closed. closed.bench ≡ self.bench) }
+        ensures counts { IfOk result
+            (λ closed. IsBookOf closed.counts callers self.bench.log.records) }
+
+        ensures fault { IfErr result
+            (λ refused. IsFirstFault callers self.bench.log.records
+            seats.items receipts.now refused.fault) }
+        ensures back { IfErr result
+            (λ refused. (refused.owner ≡ self) × (refused.seats.items ≡ seats.items)) }
+    {
+        match check(alloc, &self.bench, callers, &seats, receipts) {
+            Ok(counts) => {
+                let Locked {
+                    bench,
+                    callers: _,
+                    stopped: _,
+                } = self;
+                Ok(Closed { bench, counts })
+            }
+            Err(fault) => Err(NotClosed {
                 fault,
                 owner: self,
                 seats,
-            });
-        }
-        let Locked {
-            bench,
-            callers: _,
-            book: counts,
-            stopped: _,
-        } = self;
-        Ok(Closed { bench, counts })
-    }
-
-    /// The first fault of seats and receipts, if there is one.
-    fn first_fault(&self, alloc: Global, seats: &[Seat], receipts: &[Receipt]) -> Option<CloseFault>
-        ensures { ChecksAll self.now seats.now receipts.now result }
-    {
-        if let Some(caller) = missing_seat(&self.book, seats) {
-            return Some(CloseFault::SeatMissing(caller));
-        }
-        if let Some(caller) = self.wrong_seat(seats) {
-            return Some(CloseFault::SeatDiffers(caller));
-        }
-        match check_receipts(alloc, &self.bench, receipts) {
-            Ok(()) => None,
-            Err(fault) => Some(fault),
+            }),
         }
     }
+}
 
-    /// The least caller with a seat that differs from the book.
-    fn wrong_seat(&self, seats: &[Seat]) -> Option<u32>
-        ensures { IsLeast (has_wrong_seat self.now.bench.log.records seats.now) result }
-    {
-        let mut least = None;
-        for seat in seats {
-            let wrong = self.book(seat.caller()) != seat.turns();
-            least = lesser(least, seat.caller(), wrong);
-        }
-        least
+/// The counts of the records, or what is first against them. Want of memory comes last.
+fn check(
+    alloc: Global,
+    bench: &Bench,
+    callers: u32,
+    seats: &[Seat],
+    receipts: &[Receipt],
+) -> Result<BTreeMap<u32, u64>, CloseFault>
+    ensures { ChecksAll callers bench.now.log.records seats.now receipts.now result }
+{
+    if let Some(caller) = missing_seat(bench, callers, seats) {
+        return Err(CloseFault::SeatMissing(caller));
     }
-}
-
-/// The caller, where it is wrong and below the one that was found, and else that one.
-fn lesser(least: Option<u32>, caller: u32, wrong: bool) -> Option<u32>
-    ensures { result ≡ lesser_of least caller wrong }
-{
-    match least {
-        _ if !wrong => least,
-        None => Some(caller),
-        Some(other) => Some(caller.min(other)),
+    if let Some(caller) = wrong_seat(bench, seats) {
+        return Err(CloseFault::SeatDiffers(caller));
     }
-}
-
-/// The first of the book's callers without a seat.
-fn missing_seat(book: &BTreeMap<u32, u64>, seats: &[Seat]) -> Option<u32>
-    ensures found { result ≡ find (λ q. not (has_seat seats.now q)) (keys book.now) }
-    ensures ordered { IsOrdered nat_cmp book.now }
-{
-    book.keys()
-        .copied()
-        .find(|caller| !is_seated(seats, *caller))
-}
-
-fn is_seated(seats: &[Seat], caller: u32) -> bool
-    ensures { result ≡ has_seat seats.now caller }
-{
-    seats.iter().any(|seat| seat.caller() == caller)
-}
-
-/// Whether each receipt is the record at its number, and none comes twice.
-fn check_receipts(alloc: Global, bench: &Bench, receipts: &[Receipt]) -> Result<(), CloseFault>
-    ensures { ChecksReceipts bench.now.log.records receipts.now result }
-{
-    let Ok(mut marks) = marks_for(alloc, bench) else {
-        return Err(CloseFault::Memory);
-    };
-    for receipt in receipts {
-        let number = receipt.number();
-        if !is_record(bench, receipt) {
-            return Err(CloseFault::ReceiptDiffers(number));
-        }
-        let at = (number - 1) as usize;
-        if marks[at] {
-            return Err(CloseFault::ReceiptTwice(number));
-        }
-        marks[at] = true;
+    if let Err(fault) = check_receipts(alloc, bench, receipts) {
+        return Err(fault);
     }
-    Ok(())
-}
-
-/// A mark for each record.
-fn marks_for(alloc: Global, bench: &Bench) -> Result<Vec<bool>, AllocError>
-    ensures { IfOk result (λ marks. marks.items ≡ replicate (length bench.now.log.records) false) }
-{
-    vec![in alloc; false; bench.len()]
-}
-
-/// Whether the receipt is the record at its number.
-fn is_record(bench: &Bench, receipt: &Receipt) -> bool
-    ensures { IsTrue result ↔ IsReceiptRight bench.now.log.records receipt.now }
-{
-    match bench.record(receipt.number) {
-        None => false,
-        Some(record) => record.is_same(&receipt.record),
+    match count_records(alloc, bench, callers) {
+        Ok(counts) => Ok(counts),
+        Err(_) => Err(CloseFault::Memory),
     }
 }

@@ -1,10 +1,11 @@
 //! What lies under the lock of a shared workbench, with its calls; the seats of its callers, and the receipts of their calls.
 #![tactic(auto)]
 
-mod book;
+mod callers;
 mod close;
 mod locked;
 mod look;
+mod receipts;
 mod seat;
 
 pub use close::{CloseFault, Closed, NotClosed};
@@ -30,6 +31,7 @@ pub mod jobs {
 /// Of `fb_bench`, for the crates above.
 pub mod bench {
     pub use fb_bench::{
-        Asked, Committed, Delivered, Desk, DeskRefused, GivenBack, Limits, Reply, Taken,
+        Answered, Asked, Call, Committed, Delivered, Desk, DeskRefused, GivenBack, Limits, Reply,
+        Request, Taken, TextChange, Wanted,
     };
 }

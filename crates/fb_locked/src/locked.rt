@@ -1,24 +1,19 @@
 //! What lies under the lock, and the calls on it.
-ghost use Rattle.std.specs.Prelude.{◌≡◌, [], true, false, IfOk, IfErr, IfSome, OnOk, OnErr, None, Some};
-ghost use Rattle.fb_bench.specs.History.Machine.{ToCommit, ToTake, ToDeliver, ToGiveBack, ToAsk, OfAsk};
-ghost use Rattle.fb_bench.specs.Records.{listed, shown_in};
+ghost use Rattle.std.specs.Prelude.{◌≡◌, true, false, IfOk, IfErr, OnOk, OnErr, None, Some};
+ghost use Rattle.fb_bench.specs.History.Machine.{ToCommit, ToTake, ToDeliver, ToGiveBack, ToAsk};
+ghost use Rattle.fb_bench.specs.Records.{listed};
 ghost use Rattle.fb_bench.specs.Requests.{call_for, reply_in, job_of};
 ghost use Rattle.fb_bench.specs.History.Story.{new_story, turns_of};
-ghost use Rattle.fb_locked.specs.Book.{IsBookOf, SeatFits};
-ghost use Rattle.fb_locked.specs.Calls.{Answers, Performs};
-ghost use Rattle.fb_locked.specs.Ends.{end_before_take, LookNames, Looks, NamesSeat};
-ghost use Rattle.fb_locked.specs.Refusals.{refusal_of, RefusedAs, IsRefusalOf};
-ghost use Rattle.fb_locked.specs.Looks.{LookAdds};
-ghost use Rattle.fb_locked.specs.Seats.{hall_after, next_claim, seat_after, AreFirstSeats, IsReceiptOf, IsAsked};
+ghost use Rattle.fb_locked.specs.Book.{SeatFits};
+ghost use Rattle.fb_locked.specs.Calls.{Answers, AnswersKept, Performs, PerformsKept};
+ghost use Rattle.fb_locked.specs.Refusals.{refusal_of, IsRefusalOf};
+ghost use Rattle.fb_locked.specs.Seats.{hall_after, next_claim, AreFirstSeats};
 
-use crate::book;
-use crate::look::{Look, WorkEnd};
 use crate::seat::{Receipt, Seat};
 use fb_bench::jobs::{Finished, Job, Key};
 use fb_bench::library::Change;
-use fb_bench::{Answered, Asked, Bench, Limits, Request, Taken};
+use fb_bench::{Answered, Bench, Limits, Request, Taken};
 use std::alloc::{AllocError, Global};
-use std::collections::BTreeMap;
 use std::marker::Model;
 
 /// Why a call is not recorded. It then changes nothing.
@@ -33,24 +28,21 @@ pub enum SharedRefused {
     Memory,
 }
 
-/// What lies under the lock: a workbench, a book with the number of calls of each caller, and the stop mark.
+/// What lies under the lock: a workbench, for how many callers seats were made, and the stop mark. The book of a caller is the
+/// number of its records.
 #[derive(Drop)]
 pub struct Locked {
     pub(crate) bench: Bench,
     pub(crate) callers: u32,
-    pub(crate) book: BTreeMap<u32, u64>,
     pub(crate) stopped: bool,
 }
 
 impl Model for Locked {
     ghost use Rattle.fb_locked.specs.Seats.{Hall};
-    ghost use Rattle.fb_locked.specs.Book.{IsBookOf};
 
     ghost Value = { Hall };
 
     ghost view = { λ it. record { bench = it.bench; callers = it.callers; stopped = it.stopped } };
-
-    ghost invariant = { λ it. IsBookOf it.book it.callers it.bench.log.records };
 }
 
 // Where a request is made, both types that it can lend are named: the check of loans has to have met them.
@@ -71,12 +63,10 @@ impl Locked {
         ensures seats { IfOk result (λ made. AreFirstSeats callers made.1.items) }
     {
         let bench = Bench::new(alloc, limits);
-        let book = open_book(alloc, callers)?;
         let seats = first_seats(alloc, callers)?;
         let locked = Locked {
             bench,
             callers,
-            book,
             stopped: false,
         };
         Ok((locked, seats))
@@ -93,7 +83,7 @@ impl Locked {
     pub fn book(&self, caller: u32) -> u64
         ensures { result ≡ turns_of caller self.now.bench.log.records }
     {
-        book::count(&self.book, caller)
+        self.bench.turns_of(caller)
     }
 
     /// Makes the workers stop.
@@ -101,52 +91,6 @@ impl Locked {
         ensures { self.new ≡ record self.old { stopped = true } }
     {
         self.stopped = true;
-    }
-
-    /// The first thing that ends a worker before it takes.
-    pub(crate) fn end_of_work(&self, seat: &Seat) -> Option<WorkEnd>
-        ensures first { result ≡ end_before_take self.now seat.now }
-        ensures names { IfSome result (NamesSeat seat.now) }
-    {
-        if self.stopped {
-            return Some(WorkEnd::Stopped);
-        }
-        match self.admit(seat) {
-            Ok(()) => None,
-            Err(refused) => Some(WorkEnd::of(refused)),
-        }
-    }
-
-    /// A look of a worker for a job, with room for two receipts where it takes one.
-    pub fn look(&mut self, seat: &mut Seat, receipts: &mut Vec<Receipt>) -> Look
-        ensures looks { Looks self.old seat.old result self.new }
-        ensures adds { LookAdds result seat.old receipts.old receipts.new seat.new }
-        ensures names { LookNames seat.new result }
-    {
-        if let Some(end) = self.end_of_work(seat) {
-            return Look::Ended(end);
-        }
-        if !self.bench.has_work() {
-            return Look::Nothing;
-        }
-        if receipts.reserve(2).is_err() {
-            return Look::Ended(WorkEnd::Memory);
-        }
-        match self.take(seat) {
-            Err(refused) => Look::Ended(WorkEnd::of(refused)),
-            Ok((receipt, job)) => {
-                receipts.push_reserved(receipt);
-                match job {
-                    Some(job) => Look::Taken(job),
-                    None => unreachable!(),
-                }
-            }
-        }
-    }
-
-    /// Whether a worker that waits has to look again.
-    pub fn calls_workers(&self) -> bool {
-        self.stopped || self.bench.has_work() || self.bench.is_full()
     }
 
     /// The first cause against a call with this seat.
@@ -173,22 +117,16 @@ impl Locked {
     }
 
     /// Makes a call with a seat, and gives its receipt and the answer.
-    pub(crate) fn perform(
+    pub fn perform(
         &mut self,
         seat: &mut Seat,
         request: &Request<'_>,
     ) -> Result<(Receipt, Answered), SharedRefused>
-        ensures admitted { OnOk result (refusal_of self.old seat.old ≡ None) }
-        ensures step { IfOk result
-            (λ made. self.new ≡ hall_after self.old seat.old.caller (call_for request.now)) }
-        ensures receipt { IfOk result
-            (λ made. made.0 ≡ next_claim self.old seat.old.caller (call_for request.now)) }
+        ensures performs { Performs self.old seat.old (call_for request.now)
+            (λ made. made.0) result self.new seat.new }
+        ensures answers { Answers seat.old (call_for request.now)
+            (λ made. made.0) result seat.new }
         ensures answer { IfOk result (λ made. reply_in made.1 ≡ made.0.entry.reply) }
-        ensures seat { IfOk result (λ made. seat.new ≡ seat_after seat.old made.0) }
-        ensures fits { IfOk result (λ made. IsReceiptOf seat.old (call_for request.now) made.0) }
-        ensures refusals { IfErr result (RefusedAs (refusal_of self.old seat.old)) }
-        ensures cause { IfErr result (IsRefusalOf seat.old) }
-        ensures refused { OnErr result ((self.new ≡ self.old) × (seat.new ≡ seat.old)) }
     {
         self.admit(seat)?;
         let Ok((receipt, answer)) = self.make_call(seat.caller(), request) else {
@@ -199,7 +137,7 @@ impl Locked {
         Ok((receipt, answer))
     }
 
-    /// Makes a call of this caller, and counts it in the book.
+    /// Makes a call of this caller.
     fn make_call(
         &mut self,
         caller: u32,
@@ -211,18 +149,34 @@ impl Locked {
         ensures answer { IfOk result (λ made. reply_in made.1 ≡ made.0.entry.reply) }
         ensures err { OnErr result (self.new ≡ self.old) }
     {
-        let fresh = book::open_page(&mut self.book, caller)?;
         match self.bench.perform(caller, request) {
             Ok((record, answer)) => {
-                book::write_page(&mut self.book, caller, record.turn());
                 let number = self.bench.len() as u64;
                 Ok((Receipt { number, record }, answer))
             }
-            Err(_) => {
-                book::undo_page(&mut self.book, caller, fresh);
-                Err(AllocError)
-            }
+            Err(_) => Err(AllocError),
         }
+    }
+
+    /// As `perform`, with its receipt behind those that are kept. Want of room for it refuses the call where nothing else does.
+    pub fn perform_kept(
+        &mut self,
+        seat: &mut Seat,
+        receipts: &mut Vec<Receipt>,
+        request: &Request<'_>,
+    ) -> Result<Answered, SharedRefused>
+        ensures performs { PerformsKept self.old seat.old (call_for request.now) result
+            receipts.old.items self.new seat.new receipts.new.items }
+        ensures answers { AnswersKept seat.old (call_for request.now) result
+            receipts.old.items seat.new receipts.new.items }
+    {
+        if receipts.reserve(1).is_err() {
+            self.admit(seat)?;
+            return Err(SharedRefused::Memory);
+        }
+        let (receipt, answer) = self.perform(seat, request)?;
+        receipts.push_reserved(receipt);
+        Ok(answer)
     }
 
     /// Changes the texts, or says what is first against it.
@@ -281,20 +235,9 @@ impl Locked {
             (λ claim. claim) result self.new seat.new }
         ensures answers { Answers seat.old (ToAsk key) (λ claim. claim) result seat.new }
     {
-        Ok(self.ask_with(seat, key)?.0)
-    }
-
-    /// As `ask`, with an answer that is the caller's own.
-    pub fn ask_with(&mut self, seat: &mut Seat, key: Key) -> Result<(Receipt, Asked), SharedRefused>
-        ensures performs { Performs self.old seat.old (ToAsk key)
-            (λ made. made.0) result self.new seat.new }
-        ensures answers { Answers seat.old (ToAsk key) (λ made. made.0) result seat.new }
-        ensures asked { IfOk result (λ made. OfAsk (shown_in made.1) ≡ made.0.entry.reply) }
-    {
         let _changes: &[Change] = &[];
         let _finished: Option<&Finished> = None;
-        let (receipt, answer) = self.perform(seat, &Request::Ask(key))?;
-        Ok((receipt, asked_from(answer)))
+        Ok(self.perform(seat, &Request::Ask(key))?.0)
     }
 }
 
@@ -306,29 +249,6 @@ pub(crate) fn job_from(answer: Answered) -> Option<Job>
         Answered::Take(Taken::Job(job)) => Some(job),
         _ => None,
     }
-}
-
-/// The answer to a question.
-fn asked_from(answer: Answered) -> Asked
-    requires { IsAsked (reply_in answer) }
-    ensures { OfAsk (shown_in result) ≡ reply_in answer }
-{
-    match answer {
-        Answered::Ask(asked) => asked,
-        Answered::Commit(_) | Answered::Take(_) | Answered::Deliver(_) | Answered::GiveBack(_) =>
-            unreachable!(),
-    }
-}
-
-/// The book in which each of the first callers has an empty page.
-fn open_book(alloc: Global, callers: u32) -> Result<BTreeMap<u32, u64>, AllocError>
-    ensures { IfOk result (λ book. IsBookOf book callers []) }
-{
-    let mut book = BTreeMap::new(alloc);
-    for index in 0..callers {
-        book::open_page(&mut book, index + 1)?;
-    }
-    Ok(book)
 }
 
 fn first_seats(alloc: Global, callers: u32) -> Result<Vec<Seat>, AllocError>

@@ -1,9 +1,15 @@
-//! What a look of a worker for a job finds, and why workers end.
-ghost use Rattle.std.specs.Prelude.{◌≡◌};
-ghost use Rattle.fb_locked.specs.Ends.{end_of};
+//! Workers under the lock: what a look for a job finds, how a job is settled, and why a worker ends.
+ghost use Rattle.std.specs.Prelude.{◌≡◌, ◌+◌, IfSome, Some, None, is_some};
+ghost use Rattle.fb_bench.specs.Requests.{job_of};
+ghost use Rattle.fb_locked.specs.Ends.{end_of, end_before_take, calls_workers, GivesUp, LookNames, Looks, NamesSeat, SettlesJob};
+ghost use Rattle.fb_locked.specs.Runs.{AddsLook, Holds, Works};
+ghost use Rattle.fb_locked.specs.declared.look.WorkEnd.TheVariants.{Memory};
 
-use crate::locked::SharedRefused;
-use fb_bench::jobs::Job;
+use crate::locked::{Locked, SharedRefused, job_from};
+use crate::seat::{Receipt, Seat};
+use fb_bench::Request;
+use fb_bench::jobs::{Finished, Job};
+use fb_bench::library::Change;
 
 /// Why a worker ended.
 #[derive(Clone, Copy, PartialEq, Eq, Debug)]
@@ -40,4 +46,94 @@ pub enum Look {
     Ended(WorkEnd),
     Nothing,
     Taken(Job),
+}
+
+impl Locked {
+    /// The first thing that ends a worker before it takes.
+    fn end_of_work(&self, seat: &Seat) -> Option<WorkEnd>
+        ensures first { result ≡ end_before_take self.now seat.now }
+        ensures names { IfSome result (NamesSeat seat.now) }
+    {
+        if self.stopped {
+            return Some(WorkEnd::Stopped);
+        }
+        match self.admit(seat) {
+            Ok(()) => None,
+            Err(refused) => Some(WorkEnd::of(refused)),
+        }
+    }
+
+    /// A look of a worker for a job. Where it takes one, there is room for the receipt by which that is settled.
+    pub fn look(&mut self, seat: &mut Seat, receipts: &mut Vec<Receipt>) -> Look
+        ensures looks { Looks self.old seat.old result self.new }
+        ensures adds { AddsLook result seat.old receipts.old.items receipts.new.items seat.new }
+        ensures names { LookNames seat.new result }
+    {
+        let _changes: &[Change] = &[];
+        let _finished: Option<&Finished> = None;
+        if let Some(end) = self.end_of_work(seat) {
+            return Look::Ended(end);
+        }
+        if !self.bench.has_work() {
+            return Look::Nothing;
+        }
+        if receipts.reserve(2).is_err() {
+            return Look::Ended(WorkEnd::Memory);
+        }
+        match self.perform_kept(seat, receipts, &Request::Take) {
+            Err(refused) => Look::Ended(WorkEnd::of(refused)),
+            Ok(answer) => match job_from(answer) {
+                Some(job) => Look::Taken(job),
+                None => unreachable!(),
+            },
+        }
+    }
+
+    /// Settles a job that was taken: its result is delivered, or its key given back where there is no result, or no memory to
+    /// deliver it. It tells what ends the worker; a result that is not accepted does not.
+    pub fn settle(
+        &mut self,
+        seat: &mut Seat,
+        receipts: &mut Vec<Receipt>,
+        job: &Job,
+        finished: Option<&Finished>,
+    ) -> Option<WorkEnd>
+        requires { IfSome finished (λ it. it.now ≡ job.now) }
+        ensures settles { SettlesJob self.old seat.old job.now (is_some finished.entry) result
+            receipts.old.items self.new seat.new receipts.new.items }
+        ensures works { Works (Holds job.now) 1
+            seat.old receipts.old.items receipts.new.items seat.new result }
+        ensures names { IfSome result (NamesSeat seat.new) }
+    {
+        let _changes: &[Change] = &[];
+        match finished {
+            None => Some(self.give_up(seat, receipts, job)),
+            Some(finished) => match self.perform_kept(seat, receipts, &Request::Deliver(finished)) {
+                Ok(_) => None,
+                Err(SharedRefused::Memory) => Some(self.give_up(seat, receipts, job)),
+                Err(refused) => Some(WorkEnd::of(refused)),
+            },
+        }
+    }
+
+    /// Gives the key of a job back, if it can.
+    fn give_up(&mut self, seat: &mut Seat, receipts: &mut Vec<Receipt>, job: &Job) -> WorkEnd
+        ensures end { result ≡ Memory }
+        ensures gives { GivesUp Memory self.old seat.old job.now
+            receipts.old.items self.new seat.new receipts.new.items }
+        ensures works { Works (Holds job.now) 1
+            seat.old receipts.old.items receipts.new.items seat.new (Some Memory) }
+    {
+        let _changes: &[Change] = &[];
+        let _finished: Option<&Finished> = None;
+        let _answer = self.perform_kept(seat, receipts, &Request::GiveBack(job.key()));
+        WorkEnd::Memory
+    }
+
+    /// Whether a worker that waits has to look again.
+    pub fn calls_workers(&self) -> bool
+        ensures { result ≡ calls_workers self.now }
+    {
+        self.stopped || self.bench.has_work() || self.bench.is_full()
+    }
 }

@@ -5,12 +5,12 @@ use Rattle.std.proofs.lemmas.Bool.Decides.{nat_tests}
 use Rattle.std.proofs.lemmas.List.Elements.{All-weaker, All-push, recursion_from_All}
 use Rattle.std.proofs.lemmas.List.Sums.{sum_by-append, sum_by-cons}
 use Rattle.std.specs.List.{list_any, AllByRecursion}
-use Rattle.fb_wire.specs.History.Story.{turns_of}
+use Rattle.fb_wire.specs.History.Story.{Record, turns_of}
 use Rattle.fb_shared.specs.Locked.Book.{is_caller}
-use Rattle.fb_shared.specs.Locked.Closing.{AgreesWith, receipts_of}
+use Rattle.fb_shared.specs.Locked.Closing.{AgreesWith, has_seat, receipts_of}
 use Rattle.fb_shared.specs.Locked.Runs.{IsRun, Works, Empty}
 use Rattle.fb_shared.specs.Locked.declared.look.WorkEnd.{WorkEnd}
-use Rattle.fb_shared.specs.Locked.Seats.{Hall, SeatState, Claim, seat_after}
+use Rattle.fb_shared.specs.Locked.Seats.{SeatState, Claim, seat_after}
 use Rattle.fb_serve.specs.Shown.{IsNew, IsShown, AreShown, ShowsAll}
 
 -- 1 for a receipt of this caller
@@ -84,11 +84,16 @@ caller_shown t q rs (s ∷ ss) any none shown =
 none_fewer : (t k : ℕ) → nat_lt 0 t ≡ false → t ≤ k
 none_fewer t k none = grind (arith, nat_tests)
 
-pub all_shown : (hall : Hall) (seats : List SeatState) (receipts : List Claim) → AgreesWith hall seats receipts → AreShown receipts seats → ShowsAll hall.bench.log.records receipts
-all_shown hall seats receipts agrees shown = (agrees.shown, λ q. by_calls q (nat_lt 0 (turns_of q hall.bench.log.records)) refl)
+seated : (is has : Bool) → is && not has ≡ false → is ≡ true → has ≡ true
+seated is true none caller = refl
+seated true false none caller = let bad : true ≡ false = none in cc
+seated false false none caller = cc
+
+pub all_shown : (callers : ℕ) (records : List Record) (seats : List SeatState) (receipts : List Claim) → AgreesWith callers records seats receipts → AreShown receipts seats → ShowsAll records receipts
+all_shown callers records seats receipts agrees shown = (agrees.shown, λ q. by_calls q (nat_lt 0 (turns_of q records)) refl)
   where
-    by_calls : (q : ℕ) (b : Bool) → nat_lt 0 (turns_of q hall.bench.log.records) ≡ b → turns_of q hall.bench.log.records ≤ receipts_of q receipts
-    by_calls q false is = none_fewer (turns_of q hall.bench.log.records) (receipts_of q receipts) is
+    by_calls : (q : ℕ) (b : Bool) → nat_lt 0 (turns_of q records) ≡ b → turns_of q records ≤ receipts_of q receipts
+    by_calls q false is = none_fewer (turns_of q records) (receipts_of q receipts) is
     by_calls q true is =
-        let caller : is_caller hall.callers hall.bench.log.records q ≡ true = or_true (nat_lt 0 q && nat_le q hall.callers) _ is in
-        caller_shown (turns_of q hall.bench.log.records) q receipts seats (agrees.seated q caller) (agrees.turns q) (recursion_from_All (IsShown receipts) seats shown)
+        let caller : is_caller callers records q ≡ true = or_true (nat_lt 0 q && nat_le q callers) _ is in
+        caller_shown (turns_of q records) q receipts seats (seated (is_caller callers records q) (has_seat seats q) (agrees.seated q) caller) (agrees.turns q) (recursion_from_All (IsShown receipts) seats shown)

@@ -1,5 +1,5 @@
 //! The server, on the listener that it is given.
-ghost use Rattle.std.specs.Prelude.{◌≡◌, ◌≤◌, ℕ, All, IfOk, true, false};
+ghost use Rattle.std.specs.Prelude.{◌≡◌, ◌+◌, ◌≤◌, All, IfOk, true, false};
 ghost use Rattle.fb_shared.specs.Locked.Book.{IsBookOf};
 ghost use Rattle.fb_serve.specs.Lines.{SaysLines};
 ghost use Rattle.fb_serve.specs.Shown.{IsNew, ShowsAll};
@@ -60,8 +60,8 @@ pub fn serve_sessions<R: Threads + Wait + Sync, E: Write>(
     ensures all { IfOk result
         (λ served. ShowsAll served.closed.bench.log.records served.receipts.items) }
     ensures counts { IfOk result
-        (λ served. (callers : ℕ)
-        × IsBookOf served.closed.counts callers served.closed.bench.log.records) }
+        (λ served. IsBookOf served.closed.counts (numbers.sessions + numbers.workers)
+        served.closed.bench.log.records) }
 {
     let callers = u32::from(numbers.sessions) + u32::from(numbers.workers);
     let (shared, mut seats) = Shared::new(alloc, numbers.limits, callers)?;
@@ -91,8 +91,8 @@ fn close(alloc: Global, shared: Shared, gathered: Gathered) -> Result<Served, No
     ensures all { IfOk result
         (λ served. ShowsAll served.closed.bench.log.records served.receipts.items) }
     ensures counts { IfOk result
-        (λ served. (callers : ℕ)
-        × IsBookOf served.closed.counts callers served.closed.bench.log.records) }
+        (λ served. IsBookOf served.closed.counts shared.callers
+        served.closed.bench.log.records) }
 {
     let Gathered {
         seats,

@@ -46,9 +46,19 @@ pub fn run_session<R: Wait, F: Feed, S: Sink>(
         (record { left = F.left reader.new; reads = F.reads reader.new; read_has_failed = F.has_failed reader.new;
             is_flushed = S.is_flushed writer.new; write_has_failed = S.has_failed writer.new }) }
 {
-    let mut desk = Seated::new(rt, shared, seat, Vec::new(alloc));
+    let mut desk = Seated {
+        rt,
+        shared,
+        seat,
+        receipts: Vec::new(alloc),
+    };
     let end = run_lines(alloc, reader, writer, &mut desk, turns);
-    let (seat, receipts) = desk.into_parts();
+    let Seated {
+        rt: _,
+        shared: _,
+        seat,
+        receipts,
+    } = desk;
     Session {
         end,
         seat,

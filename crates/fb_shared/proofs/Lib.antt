@@ -1,4 +1,2 @@
-pub mod Works
 pub mod Histories
 pub mod Crossing
-pub mod Desks

@@ -1,5 +1,5 @@
 -- A shared workbench as the desk of one seat. Nothing is known of the workbench but what the seat and its receipts tell.
-use Rattle.std.specs.Prelude.{◌≡◌, ◌++◌, ◌∷◌, [], List}
+use Rattle.std.specs.Prelude.{◌≡◌, ◌++◌, ◌∷◌, [], List, ℕ}
 use Rattle.fb_locked.specs.History.Machine.{Call}
 use Rattle.fb_locked.specs.Bench.Calls.{Answer, Replied, FullHistory, BehindHistory}
 use Rattle.fb_locked.specs.Bench.declared.desk.DeskRefused.{DeskRefused}
@@ -7,6 +7,10 @@ use Rattle.fb_locked.specs.Bench.declared.desk.DeskRefused.TheVariants as desk
 use Rattle.fb_locked.specs.declared.locked.SharedRefused.{SharedRefused}
 use Rattle.fb_locked.specs.declared.locked.SharedRefused.TheVariants.{SeatDiffers, Behind, HistoryFull, Memory}
 use Rattle.fb_locked.specs.Seats.{SeatState, Claim, IsReceiptOf, seat_after}
+
+-- a workbench behind its lock: for how many callers seats were made. What lies there is known to nobody without the lock
+pub record Sharing : Type 0 where
+  pub callers : ℕ
 
 -- a seat with the receipts of its calls
 pub record Sitter : Type 0 where

@@ -1,25 +1,29 @@
 //! A shared workbench as the desk of one seat.
-ghost use Rattle.std.specs.Prelude.{◌≡◌};
-ghost use Rattle.fb_locked.specs.History.Machine.{OfCommit, OfDeliver, OfGiveBack};
-ghost use Rattle.fb_locked.specs.Bench.Records.{job_in};
-ghost use Rattle.fb_locked.specs.Seats.{IsCommitted, IsDelivered, IsReturned};
-ghost use Rattle.fb_shared.specs.Sitting.{desk_refused};
+ghost use Rattle.std.specs.Prelude.{◌≡◌, IfOk};
+ghost use Rattle.fb_locked.specs.Bench.Calls.{Serves};
+ghost use Rattle.fb_locked.specs.Bench.Records.{job_in, shown_in};
+ghost use Rattle.fb_locked.specs.Bench.Requests.{call_for, reply_in};
+ghost use Rattle.fb_locked.specs.History.Machine.{OfCommit, OfTake, OfDeliver, OfGiveBack, OfAsk};
+ghost use Rattle.fb_locked.specs.Seats.{Fits, IsCommitted, IsTaken, IsDelivered, IsReturned, IsAsked};
+ghost use Rattle.fb_shared.specs.Sitting.{desk_refused, SitterStep};
 
 use crate::shared::Shared;
-use fb_locked::bench::{Asked, Committed, Delivered, Desk, DeskRefused, GivenBack, Reply, Taken};
-use fb_locked::jobs::{Finished, Job, Key};
+use fb_locked::bench::{
+    Answered, Asked, Committed, Delivered, Desk, DeskRefused, GivenBack, Request, Taken,
+};
+use fb_locked::jobs::{Finished, Key};
 use fb_locked::library::Change;
 use fb_locked::{Receipt, Seat, SharedRefused};
 use std::marker::Model;
 use std::sync::Wait;
 
-/// A shared workbench as the desk of one seat. It keeps the receipts of the calls that are answered.
+/// A shared workbench as the desk of one seat. Each call that is answered adds its receipt behind those that there are.
 #[derive(Drop)]
 pub struct Seated<'a, R: Wait> {
-    rt: &'a R,
-    shared: &'a Shared,
-    seat: Seat,
-    receipts: Vec<Receipt>,
+    pub rt: &'a R,
+    pub shared: &'a Shared,
+    pub seat: Seat,
+    pub receipts: Vec<Receipt>,
 }
 
 impl<'a, R: Wait> Model for Seated<'a, R> {
@@ -28,34 +32,6 @@ impl<'a, R: Wait> Model for Seated<'a, R> {
     ghost Value = { Sitter };
 
     ghost view = { λ it. record { seat = it.seat; receipts = it.receipts.items } };
-}
-
-impl<'a, R: Wait> Seated<'a, R> {
-    /// The desk of this seat. New receipts come behind those that there are.
-    pub fn new(rt: &'a R, shared: &'a Shared, seat: Seat, receipts: Vec<Receipt>) -> Seated<'a, R>
-        ensures { result ≡ record { seat = seat; receipts = receipts.items } }
-    {
-        Seated {
-            rt,
-            shared,
-            seat,
-            receipts,
-        }
-    }
-
-    /// The seat, and the receipts of all calls that were answered.
-    pub fn into_parts(self) -> (Seat, Vec<Receipt>)
-        ensures seat { result.0 ≡ self.entry.seat }
-        ensures receipts { result.1.items ≡ self.entry.receipts }
-    {
-        let Seated {
-            rt: _,
-            shared: _,
-            seat,
-            receipts,
-        } = self;
-        (seat, receipts)
-    }
 }
 
 /// Why a call is refused, as a desk says it.
@@ -70,122 +46,112 @@ fn desk_refused(refused: SharedRefused) -> DeskRefused
 }
 
 /// The answer to a commit.
-fn committed_in(receipt: &Receipt) -> Committed
-    requires { IsCommitted receipt.now.entry.reply }
-    ensures { OfCommit result ≡ receipt.now.entry.reply }
+fn committed_from(answer: Answered) -> Committed
+    requires { IsCommitted (reply_in answer) }
+    ensures { OfCommit result ≡ reply_in answer }
 {
-    match receipt.reply() {
-        Reply::Committing(answer) => **answer,
-        Reply::Taking(_) | Reply::Delivering(_) | Reply::GivingBack(_) | Reply::Asking(_) =>
+    match answer {
+        Answered::Commit(committed) => committed,
+        Answered::Take(_) | Answered::Deliver(_) | Answered::GiveBack(_) | Answered::Ask(_) =>
+            unreachable!(),
+    }
+}
+
+/// The answer to a take.
+fn taken_from(answer: Answered) -> Taken
+    requires { IsTaken (reply_in answer) }
+    ensures { OfTake (job_in result) ≡ reply_in answer }
+{
+    match answer {
+        Answered::Take(taken) => taken,
+        Answered::Commit(_) | Answered::Deliver(_) | Answered::GiveBack(_) | Answered::Ask(_) =>
             unreachable!(),
     }
 }
 
 /// The answer to a delivery.
-fn delivered_in(receipt: &Receipt) -> Delivered
-    requires { IsDelivered receipt.now.entry.reply }
-    ensures { OfDeliver result ≡ receipt.now.entry.reply }
+fn delivered_from(answer: Answered) -> Delivered
+    requires { IsDelivered (reply_in answer) }
+    ensures { OfDeliver result ≡ reply_in answer }
 {
-    match receipt.reply() {
-        Reply::Delivering(None) => Delivered::Accepted,
-        Reply::Delivering(Some(refused)) => **refused,
-        Reply::Committing(_) | Reply::Taking(_) | Reply::GivingBack(_) | Reply::Asking(_) =>
+    match answer {
+        Answered::Deliver(delivered) => delivered,
+        Answered::Commit(_) | Answered::Take(_) | Answered::GiveBack(_) | Answered::Ask(_) =>
             unreachable!(),
     }
 }
 
 /// The answer to a key that is given back.
-fn returned_in(receipt: &Receipt) -> GivenBack
-    requires { IsReturned receipt.now.entry.reply }
-    ensures { OfGiveBack result ≡ receipt.now.entry.reply }
+fn returned_from(answer: Answered) -> GivenBack
+    requires { IsReturned (reply_in answer) }
+    ensures { OfGiveBack result ≡ reply_in answer }
 {
-    match receipt.reply() {
-        Reply::GivingBack(answer) => *answer,
-        Reply::Committing(_) | Reply::Taking(_) | Reply::Delivering(_) | Reply::Asking(_) =>
+    match answer {
+        Answered::GiveBack(returned) => returned,
+        Answered::Commit(_) | Answered::Take(_) | Answered::Deliver(_) | Answered::Ask(_) =>
             unreachable!(),
     }
 }
 
+/// The answer to a question.
+fn asked_from(answer: Answered) -> Asked
+    requires { IsAsked (reply_in answer) }
+    ensures { OfAsk (shown_in result) ≡ reply_in answer }
+{
+    match answer {
+        Answered::Ask(asked) => asked,
+        Answered::Commit(_) | Answered::Take(_) | Answered::Deliver(_) | Answered::GiveBack(_) =>
+            unreachable!(),
+    }
+}
+
+impl<R: Wait> Seated<'_, R> {
+    /// Makes a call, and keeps its receipt.
+    fn call(&mut self, request: &Request<'_>) -> Result<Answered, DeskRefused>
+        ensures serves { Serves SitterStep self.old (call_for request.now) reply_in result self.new }
+        ensures fits { IfOk result (λ answer. Fits (call_for request.now) (reply_in answer)) }
+    {
+        let answer = self
+            .shared
+            .perform_kept(self.rt, &mut self.seat, &mut self.receipts, request);
+        match answer {
+            Ok(answer) => Ok(answer),
+            Err(refused) => Err(desk_refused(refused)),
+        }
+    }
+}
+
+// Where a request is made, both types that it can lend are named: the check of loans has to have met them.
 impl<R: Wait> Desk for Seated<'_, R> {
     ghost use Rattle.fb_shared.specs.Sitting.{SitterStep};
 
     ghost step = { SitterStep };
 
     fn commit(&mut self, changes: &[Change]) -> Result<Committed, DeskRefused> {
-        if self.receipts.reserve(1).is_err() {
-            return Err(DeskRefused::Memory);
-        }
-        match self.shared.commit(self.rt, &mut self.seat, changes) {
-            Ok(receipt) => {
-                let answer = committed_in(&receipt);
-                self.receipts.push_reserved(receipt);
-                Ok(answer)
-            }
-            Err(refused) => Err(desk_refused(refused)),
-        }
+        let _finished: Option<&Finished> = None;
+        Ok(committed_from(self.call(&Request::Commit(changes))?))
     }
 
     fn take(&mut self) -> Result<Taken, DeskRefused> {
-        if self.receipts.reserve(1).is_err() {
-            return Err(DeskRefused::Memory);
-        }
-        match self.shared.take(self.rt, &mut self.seat) {
-            Ok((receipt, job)) => {
-                self.receipts.push_reserved(receipt);
-                Ok(taken_from(job))
-            }
-            Err(refused) => Err(desk_refused(refused)),
-        }
+        let _changes: &[Change] = &[];
+        let _finished: Option<&Finished> = None;
+        Ok(taken_from(self.call(&Request::Take)?))
     }
 
     fn deliver(&mut self, finished: &Finished) -> Result<Delivered, DeskRefused> {
-        if self.receipts.reserve(1).is_err() {
-            return Err(DeskRefused::Memory);
-        }
-        match self.shared.deliver(self.rt, &mut self.seat, finished) {
-            Ok(receipt) => {
-                let answer = delivered_in(&receipt);
-                self.receipts.push_reserved(receipt);
-                Ok(answer)
-            }
-            Err(refused) => Err(desk_refused(refused)),
-        }
+        let _changes: &[Change] = &[];
+        Ok(delivered_from(self.call(&Request::Deliver(finished))?))
     }
 
     fn give_back(&mut self, key: Key) -> Result<GivenBack, DeskRefused> {
-        if self.receipts.reserve(1).is_err() {
-            return Err(DeskRefused::Memory);
-        }
-        match self.shared.give_back(self.rt, &mut self.seat, key) {
-            Ok(receipt) => {
-                let answer = returned_in(&receipt);
-                self.receipts.push_reserved(receipt);
-                Ok(answer)
-            }
-            Err(refused) => Err(desk_refused(refused)),
-        }
+        let _changes: &[Change] = &[];
+        let _finished: Option<&Finished> = None;
+        Ok(returned_from(self.call(&Request::GiveBack(key))?))
     }
 
     fn ask(&mut self, key: Key) -> Result<Asked, DeskRefused> {
-        if self.receipts.reserve(1).is_err() {
-            return Err(DeskRefused::Memory);
-        }
-        match self.shared.ask_with(self.rt, &mut self.seat, key) {
-            Ok((receipt, asked)) => {
-                self.receipts.push_reserved(receipt);
-                Ok(asked)
-            }
-            Err(refused) => Err(desk_refused(refused)),
-        }
-    }
-}
-
-/// A job that is handed out, or nothing to do.
-fn taken_from(job: Option<Job>) -> Taken
-    ensures { job_in result ≡ job }
-{
-    match job {
-        Some(job) => Taken::Job(job),
-        None => Taken::Nothing,
+        let _changes: &[Change] = &[];
+        let _finished: Option<&Finished> = None;
+        Ok(asked_from(self.call(&Request::Ask(key))?))
     }
 }

@@ -1,24 +1,34 @@
 //! The workbench that threads share, behind its lock.
 ghost use Rattle.std.specs.Prelude.{◌≡◌, IfOk, IfErr};
-ghost use Rattle.fb_locked.specs.History.Machine.{ToCommit, ToTake, ToDeliver, ToGiveBack, ToAsk, OfAsk};
-ghost use Rattle.fb_locked.specs.Bench.Records.{listed, shown_in};
-ghost use Rattle.fb_locked.specs.Bench.Requests.{job_of};
-ghost use Rattle.fb_locked.specs.Calls.{Answers};
-ghost use Rattle.fb_locked.specs.Closing.{IsCloseOf};
+ghost use Rattle.fb_locked.specs.History.Machine.{ToCommit, ToTake, ToDeliver, ToGiveBack, ToAsk};
+ghost use Rattle.fb_locked.specs.Bench.Records.{listed};
+ghost use Rattle.fb_locked.specs.Bench.Requests.{call_for, job_of};
+ghost use Rattle.fb_locked.specs.Calls.{Answers, AnswersKept};
+ghost use Rattle.fb_locked.specs.Closing.{IsCloseOf, IsFaultOf};
 ghost use Rattle.fb_locked.specs.Seats.{AreFirstSeats};
 
-use fb_locked::bench::{Asked, Limits};
+use fb_locked::bench::{Answered, Limits, Request};
 use fb_locked::jobs::{Finished, Job, Key};
 use fb_locked::library::Change;
 use fb_locked::{Closed, Locked, NotClosed, Receipt, Seat, SharedRefused};
 use std::alloc::{AllocError, Global};
+use std::marker::Model;
 use std::sync::{Condvar, Mutex, Wait};
 
-/// A workbench that threads share. Each call holds the lock once.
+/// A workbench that threads share. Each call holds the lock once. For how many callers seats were made stands beside the lock.
 #[derive(Drop)]
 pub struct Shared {
     pub(crate) state: Mutex<Locked>,
+    pub(crate) callers: u32,
     pub(crate) changed: Condvar,
+}
+
+impl Model for Shared {
+    ghost use Rattle.fb_shared.specs.Sitting.{Sharing};
+
+    ghost Value = { Sharing };
+
+    ghost view = { λ it. record { callers = it.callers } };
 }
 
 impl Shared {
@@ -28,18 +38,20 @@ impl Shared {
         limits: Limits,
         callers: u32,
     ) -> Result<(Shared, Vec<Seat>), AllocError>
-        ensures { IfOk result (λ made. AreFirstSeats callers made.1.items) }
+        ensures callers { IfOk result (λ made. made.0 ≡ record { callers = callers }) }
+        ensures seats { IfOk result (λ made. AreFirstSeats callers made.1.items) }
     {
         let (locked, seats) = Locked::new(alloc, limits, callers)?;
         let shared = Shared {
             state: Mutex::new(locked),
+            callers,
             changed: Condvar::new(),
         };
         Ok((shared, seats))
     }
 
     /// Wakes the workers that wait, where there is something for them.
-    fn wake(&self, locked: &Locked) {
+    pub(crate) fn wake(&self, locked: &Locked) {
         if locked.calls_workers() {
             self.changed.notify_all();
         }
@@ -110,21 +122,25 @@ impl Shared {
     pub fn ask<R: Wait>(&self, rt: &R, seat: &mut Seat, key: Key) -> Result<Receipt, SharedRefused>
         ensures { Answers seat.old (ToAsk key) (λ claim. claim) result seat.new }
     {
-        Ok(self.ask_with(rt, seat, key)?.0)
+        let mut state = self.state.lock(rt);
+        let answer = state.ask(seat, key);
+        self.wake(&state);
+        answer
     }
 
-    /// As `ask`, with an answer that is the caller's own.
-    pub(crate) fn ask_with<R: Wait>(
+    /// Makes a call, and keeps its receipt behind the others.
+    pub(crate) fn perform_kept<R: Wait>(
         &self,
         rt: &R,
         seat: &mut Seat,
-        key: Key,
-    ) -> Result<(Receipt, Asked), SharedRefused>
-        ensures answers { Answers seat.old (ToAsk key) (λ made. made.0) result seat.new }
-        ensures asked { IfOk result (λ made. OfAsk (shown_in made.1) ≡ made.0.entry.reply) }
+        receipts: &mut Vec<Receipt>,
+        request: &Request<'_>,
+    ) -> Result<Answered, SharedRefused>
+        ensures { AnswersKept seat.old (call_for request.now) result
+            receipts.old.items seat.new receipts.new.items }
     {
         let mut state = self.state.lock(rt);
-        let answer = state.ask_with(seat, key);
+        let answer = state.perform_kept(seat, receipts, request);
         self.wake(&state);
         answer
     }
@@ -143,11 +159,22 @@ impl Shared {
         receipts: &[Receipt],
     ) -> Result<Closed, NotClosed<Shared>>
         ensures closed { IfOk result
-            (λ closed. IsCloseOf seats.items receipts.now closed.bench closed.counts) }
-        ensures back { IfErr result (λ refused. refused.seats.items ≡ seats.items) }
+            (λ closed. IsCloseOf self.callers
+            seats.items receipts.now closed.bench closed.counts) }
+        ensures fault { IfErr result
+            (λ refused. IsFaultOf self.callers seats.items receipts.now refused.fault) }
+        ensures back { IfErr result
+            (λ refused. (refused.owner ≡ self) × (refused.seats.items ≡ seats.items)) }
     {
-        let Shared { state, changed } = self;
-        match state.into_inner().close(alloc, seats, receipts) {
+        let Shared {
+            state,
+            callers,
+            changed,
+        } = self;
+        match state
+            .into_inner()
+            .close_for(alloc, callers, seats, receipts)
+        {
             Ok(closed) => Ok(closed),
             Err(
                 NotClosed {
@@ -159,6 +186,7 @@ impl Shared {
                 fault,
                 owner: Shared {
                     state: Mutex::new(owner),
+                    callers,
                     changed,
                 },
                 seats,

@@ -1,13 +1,12 @@
 //! Workers, which take jobs, run them and deliver the results.
-ghost use Rattle.std.specs.Prelude.{◌≡◌, ◌*◌, ◌<◌, IfOk, IfSome, Some, vec_len, vec_capacity};
+ghost use Rattle.std.specs.Prelude.{◌≡◌, ◌*◌, IfOk, IfSome, Some};
 ghost use Rattle.fb_locked.specs.Ends.{NamesSeat, LookNames};
-ghost use Rattle.fb_locked.specs.Runs.{Works, Empty, Holds};
-ghost use Rattle.fb_locked.specs.Looks.{LookAdds};
-ghost use Rattle.fb_locked.specs.declared.look.WorkEnd.TheVariants.{TurnsOver, Memory};
+ghost use Rattle.fb_locked.specs.Runs.{AddsLook, Works, Empty, Holds};
+ghost use Rattle.fb_locked.specs.declared.look.WorkEnd.TheVariants.{TurnsOver};
 
 use crate::shared::Shared;
 use fb_locked::jobs::{Finished, Job};
-use fb_locked::{Look, Receipt, Seat, SharedRefused, WorkEnd};
+use fb_locked::{Look, Receipt, Seat, WorkEnd};
 use std::alloc::{AllocError, Global};
 use std::sync::Wait;
 
@@ -75,7 +74,7 @@ fn work_turn<R: Wait, G: Gate>(
 
 /// Takes a job under one hold of the lock; where there is none, it waits for a change.
 fn take_job<R: Wait>(rt: &R, shared: &Shared, seat: &mut Seat, receipts: &mut Vec<Receipt>) -> Look
-    ensures adds { LookAdds result seat.old receipts.old receipts.new seat.new }
+    ensures adds { AddsLook result seat.old receipts.old.items receipts.new.items seat.new }
     ensures names { LookNames seat.new result }
 {
     let mut state = shared.state.lock(rt);
@@ -86,7 +85,7 @@ fn take_job<R: Wait>(rt: &R, shared: &Shared, seat: &mut Seat, receipts: &mut Ve
     look
 }
 
-/// Runs a job that was taken, and delivers its result; where memory is wanting, it gives the key back.
+/// Runs a job that was taken, with no lock held, and settles it under another hold.
 fn finish<R: Wait, G: Gate>(
     rt: &R,
     alloc: Global,
@@ -96,42 +95,32 @@ fn finish<R: Wait, G: Gate>(
     gate: &G,
     job: &Job,
 ) -> Option<WorkEnd>
-    requires { vec_len receipts.old < vec_capacity receipts.old }
     ensures works { Works (Holds job.now) 1
         seat.old receipts.old.items receipts.new.items seat.new result }
     ensures names { IfSome result (NamesSeat seat.new) }
 {
-    let worker = seat.caller();
-    let Ok(finished) = gate.run(alloc, worker, job) else {
-        give_back(rt, shared, seat, receipts, job);
-        return Some(WorkEnd::Memory);
-    };
-    match shared.deliver(rt, seat, &finished) {
-        Ok(receipt) => {
-            receipts.push_reserved(receipt);
-            None
-        }
-        Err(SharedRefused::Memory) => {
-            give_back(rt, shared, seat, receipts, job);
-            Some(WorkEnd::Memory)
-        }
-        Err(refused) => Some(WorkEnd::of(refused)),
+    match gate.run(alloc, seat.caller(), job) {
+        Ok(finished) => settle(rt, shared, seat, receipts, job, Some(&finished)),
+        Err(_) => settle(rt, shared, seat, receipts, job, None),
     }
 }
 
-/// Gives the key of a job back, if it can.
-fn give_back<R: Wait>(
+/// Delivers a result, or gives the key of the job back where there is none, or no memory for it.
+fn settle<R: Wait>(
     rt: &R,
     shared: &Shared,
     seat: &mut Seat,
     receipts: &mut Vec<Receipt>,
     job: &Job,
-)
-    requires { vec_len receipts.old < vec_capacity receipts.old }
-    ensures { Works (Holds job.now) 1 seat.old receipts.old.items receipts.new.items seat.new
-        (Some Memory) }
+    finished: Option<&Finished>,
+) -> Option<WorkEnd>
+    requires { IfSome finished (λ it. it.now ≡ job.now) }
+    ensures works { Works (Holds job.now) 1
+        seat.old receipts.old.items receipts.new.items seat.new result }
+    ensures names { IfSome result (NamesSeat seat.new) }
 {
-    if let Ok(receipt) = shared.give_back(rt, seat, job.key()) {
-        receipts.push_reserved(receipt);
-    }
+    let mut state = shared.state.lock(rt);
+    let end = state.settle(seat, receipts, job, finished);
+    shared.wake(&state);
+    end
 }

@@ -1,8 +1,9 @@
 //! Seats and receipts with which a workbench does not close.
 use crate::play::{Counts, Played, counts_in, played_locked, played_shared};
-use crate::setup::{faults_of, new_locked, new_shared, pair};
-use fb_shared::{CloseFault, NotClosed, Receipt, Seat, Shared};
+use crate::setup::{faults_of, new_locked, new_shared, pair, puts};
+use fb_shared::{CloseFault, NotClosed, Plain, Receipt, Seat, Shared, WorkEnd, work_on};
 use std::alloc::Global;
+use std::sync::Wait;
 use std::test::Fail;
 
 // what refuses the first two attempts to close, and the counts of the third
@@ -86,6 +87,37 @@ fn seats_that_do_not_fit(rt: HostRuntime) -> Result<(), Fail> {
     let attempts = close_with_seats(alloc, played, stranger);
     let faults = (CloseFault::SeatMissing(2), CloseFault::SeatDiffers(2));
     assert_eq!(rt; attempts, Some((faults.0, faults.1, Some((6, 1, 5)))));
+    Ok(())
+}
+
+// closes with the first seat alone, which is refused, and works on then
+fn work_after_refusal<R: Wait>(
+    rt: &R,
+    alloc: Global,
+    shared: Shared,
+    first: Seat,
+    second: &mut Seat,
+) -> Option<(CloseFault, WorkEnd, usize)> {
+    let NotClosed { fault, owner, .. } = with_one_seat(alloc, shared, first, &[])?;
+    let mut receipts = Vec::new(alloc);
+    let end = work_on(rt, alloc, &owner, second, &mut receipts, &Plain, 1);
+    Some((fault, end, receipts.len()))
+}
+
+// the same after a change
+fn work_after_change<R: Wait>(rt: &R, alloc: Global) -> Option<(CloseFault, WorkEnd, usize)> {
+    let changes = puts(alloc, &["A"])?;
+    let (shared, mut first, mut second) = new_shared(alloc, 1000)?;
+    shared.commit(rt, &mut first, &changes).ok()?;
+    work_after_refusal(rt, alloc, shared, first, &mut second)
+}
+
+// The seat of a caller that has made no call is missing too, and workers are not stopped then.
+#[test]
+fn a_silent_seat_that_is_missing(rt: HostRuntime) -> Result<(), Fail> {
+    let worked = work_after_change(&rt, rt.alloc());
+    let missing = CloseFault::SeatMissing(2);
+    assert_eq!(rt; worked, Some((missing, WorkEnd::TurnsOver, 2)));
     Ok(())
 }
 

@@ -1,9 +1,11 @@
 //! A shared workbench as the desk of one seat.
-use crate::play::closed;
+use crate::play::{Played, closed, played_shared};
 use crate::setup::{faults_of, new_shared, puts};
-use fb_shared::Seated;
+use fb_jobs::Finished;
 use fb_shared::bench::{Asked, Committed, Delivered, Desk, DeskRefused, GivenBack, Taken};
+use fb_shared::{Receipt, Seat, Seated, Shared};
 use std::alloc::Global;
+use std::sync::Wait;
 use std::test::Fail;
 
 // takes a job, runs it and delivers the result
@@ -45,12 +47,100 @@ fn answers_at<D: Desk>(alloc: Global, desk: &mut D) -> Option<(bool, DeskRefused
 fn a_desk_keeps_its_receipts(rt: HostRuntime) -> Result<(), Fail> {
     let alloc: Global = rt.alloc();
     let (shared, first, second) = new_shared(alloc, 5).ok_or("a workbench")?;
-    let mut desk = Seated::new(&rt, &shared, first, Vec::new(alloc));
+    let mut desk = Seated {
+        rt: &rt,
+        shared: &shared,
+        seat: first,
+        receipts: Vec::new(alloc),
+    };
     let answers = answers_at(alloc, &mut desk);
-    let (first, receipts) = desk.into_parts();
+    let Seated {
+        rt: _,
+        shared: _,
+        seat: first,
+        receipts,
+    } = desk;
     let count = receipts.len();
     let counts = closed(alloc, shared, first, second, &receipts);
     assert_eq!(rt; answers, Some((true, DeskRefused::HistoryFull)));
     assert_eq!(rt; (count, counts), (5, Some((5, 5, 0))));
+    Ok(())
+}
+
+// Why each of the five calls is refused.
+type Refusals = [Option<DeskRefused>; 5];
+
+// the five calls at a desk
+fn refusals_at<D: Desk>(alloc: Global, desk: &mut D, finished: &Finished) -> Option<Refusals> {
+    let changes = puts(alloc, &["B"])?;
+    let key = faults_of("A")?;
+    Some([
+        desk.commit(&changes).err(),
+        desk.take().err(),
+        desk.deliver(finished).err(),
+        desk.give_back(key).err(),
+        desk.ask(key).err(),
+    ])
+}
+
+// the five calls at a desk with this seat, and whether it keeps no receipt
+fn refusals_of<R: Wait>(
+    rt: &R,
+    alloc: Global,
+    shared: &Shared,
+    seat: Seat,
+    finished: &Finished,
+) -> Option<(Refusals, bool)> {
+    let mut desk = Seated {
+        rt,
+        shared,
+        seat,
+        receipts: Vec::new(alloc),
+    };
+    let refusals = refusals_at(alloc, &mut desk, finished)?;
+    Some((refusals, desk.receipts.is_empty()))
+}
+
+// a result of a workbench of its own
+fn some_result<R: Wait>(rt: &R, alloc: Global) -> Option<Finished> {
+    let (shared, mut first, _second) = new_shared(alloc, 5)?;
+    let changes = puts(alloc, &["A"])?;
+    shared.commit(rt, &mut first, &changes).ok()?;
+    let (_receipt, job) = shared.take(rt, &mut first).ok()?;
+    job?.run(alloc).ok()
+}
+
+// a seat of a new workbench that was shown this receipt
+fn shown(alloc: Global, receipts: &[Receipt]) -> Option<(Shared, Seat)> {
+    let (fresh, mut seat, _other) = new_shared(alloc, 6)?;
+    seat.show(receipts.get(4)?);
+    Some((fresh, seat))
+}
+
+// what desks say where the history is full, where the seat has seen more than there is, and where it differs
+fn desk_refusals<R: Wait>(rt: &R, alloc: Global) -> Option<[(Refusals, bool); 3]> {
+    let finished = some_result(rt, alloc)?;
+    let Played {
+        owner,
+        first,
+        second,
+        receipts,
+    } = played_shared(rt, alloc, 6)?;
+    let (fresh, stranger) = shown(alloc, &receipts)?;
+    let full = refusals_of(rt, alloc, &owner, first, &finished)?;
+    let behind = refusals_of(rt, alloc, &fresh, stranger, &finished)?;
+    Some([
+        full,
+        behind,
+        refusals_of(rt, alloc, &fresh, second, &finished)?,
+    ])
+}
+
+#[test]
+fn calls_that_a_desk_refuses(rt: HostRuntime) -> Result<(), Fail> {
+    let refusals = desk_refusals(&rt, rt.alloc());
+    let full = ([Some(DeskRefused::HistoryFull); 5], true);
+    let behind = ([Some(DeskRefused::Behind); 5], true);
+    assert_eq!(rt; refusals, Some([full, behind, behind]));
     Ok(())
 }

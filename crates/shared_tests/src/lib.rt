@@ -8,10 +8,14 @@ mod closing;
 #[cfg(test)]
 mod desks;
 #[cfg(test)]
+mod gates;
+#[cfg(test)]
 mod play;
 #[cfg(test)]
 mod setup;
 #[cfg(test)]
 mod threads;
+#[cfg(test)]
+mod waiting;
 #[cfg(test)]
 mod workers;

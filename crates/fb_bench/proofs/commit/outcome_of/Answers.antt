@@ -36,5 +36,4 @@ returns c =
       c.in_ok-after.ensures,
       c.in_ok-found.ensures.index,
       c.in_ok-found.ensures.renewal,
-      c.in_ok-found.ensures.keys,
     )

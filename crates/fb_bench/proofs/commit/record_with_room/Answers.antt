@@ -7,4 +7,4 @@ returns-in-Err-clause-back c =
     let old = c.args.entries.now in
     let room = c.make_room.new.self in
     let back = c.take_back.new.self in
-    taken_back old.by_key room.by_key back.by_key old.ready room.ready back.ready old.waiting room.waiting back.waiting c.args.renewal.now c.in_ok-make_room.ensures.ok c.take_back.ensures.entries c.take_back.ensures.ready c.take_back.ensures.waiting
+    taken_back old.by_key room.by_key back.by_key old.ready room.ready back.ready c.args.renewal.now c.in_ok-make_room.ensures.ok c.take_back.ensures.entries c.take_back.ensures.ready

@@ -1,5 +1,4 @@
 use Rattle.std.specs.Prelude.{ℕ, All}
-use Rattle.std.specs.BTreeMap as tree
 use Rattle.std.specs.BTreeSet as set
 use Rattle.fb_entries.specs.Library.Texts.{Texts}
 use Rattle.fb_entries.specs.Jobs.declared.key.Key.{Key}
@@ -10,5 +9,5 @@ use Rattle.fb_bench.proofs.found.keep_all.Given as goal
 
 abbrev pub invariant-loop-it : goal.invariant-loop-it
 invariant-loop-it l =
-    (units : Texts) (commits : ℕ) (ready waiting : set.BTreeSet Key) (state : State)
-    → Agrees units commits l.initial.entries ready waiting state → All (IsNetOf state.units) l.initial.found.items → Agrees units commits l.entries ready waiting state
+    (units : Texts) (commits : ℕ) (ready : set.BTreeSet Key) (state : State)
+    → Agrees units commits l.initial.entries ready state → All (IsNetOf state.units) l.fn.found.items → Agrees units commits l.entries ready state

@@ -1,9 +1,9 @@
 -- One net more.
-use Rattle.std.proofs.Common.{◌≡◌, sym, ap, subst, ◌∙◌, length, All}
+use Rattle.std.proofs.Common.{sym, ap, subst, ◌∙◌, length, All}
 use Rattle.std.specs.Prelude.{Contains}
 use Rattle.std.proofs.lemmas.Iterator.Adapters.{YieldsList-from_vec}
 use Rattle.std.proofs.lemmas.Iterator.Consumers.{YieldsList-turn}
-use Rattle.std.proofs.lemmas.List.Elements.{All-contains, All-nil, All-push, Contains-get_or}
+use Rattle.std.proofs.lemmas.List.Elements.{All-contains, All-push, Contains-get_or}
 use Rattle.fb_deploy.specs.Flatten.Inner.{IsInnerNet}
 use Rattle.fb_deploy.specs.Flatten.declared.inner.Inner.{Inner}
 use Rattle.fb_jobs.specs.Keys.{net_finding}

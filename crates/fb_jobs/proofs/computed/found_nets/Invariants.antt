@@ -5,4 +5,4 @@ use Rattle.fb_jobs.specs.Work.{IsFoundIn}
 use Rattle.fb_jobs.proofs.computed.found_nets.Given as goal
 
 abbrev pub invariant-loop-it : goal.invariant-loop-it
-invariant-loop-it l = (sources : Sources) (unit : List ℕ) → All (IsInnerNet sources unit) l.initial.inner.items → All (IsFoundIn sources unit) l.found.items
+invariant-loop-it l = (sources : Sources) (unit : List ℕ) → All (IsInnerNet sources unit) l.fn.inner.items → All (IsFoundIn sources unit) l.found.items

@@ -1,8 +1,6 @@
 use Rattle.std.proofs.Common.{List, subst}
-use Rattle.fb_wire.specs.History.Story.{Story}
 use Rattle.fb_shared.specs.Locked.Closing.{AgreesWith}
 use Rattle.fb_shared.specs.Locked.Seats.{Claim}
-use Rattle.fb_serve.specs.Shown.{ShowsAll}
 use Rattle.fb_serve.proofs.Counts.{all_shown}
 use Rattle.fb_serve.proofs.server.close.Goals as goal
 
@@ -11,5 +9,6 @@ returns-in-Ok-clause-all c =
     let closed = c.in-Ok.ensures.closed in
     let seats = c.args.gathered.seats.items in
     let receipts = c.args.gathered.receipts.items in
-    let agrees = subst (λ (l : List Claim). AgreesWith closed.0 seats l) c.deref.ensures.value closed.2 in
-    subst (λ (s : Story). ShowsAll s.log.records receipts) closed.1 (all_shown closed.0 seats receipts agrees c.args.gathered.shown)
+    let records = c.in-Ok.closed.bench.log.records in
+    let agrees = subst (λ (l : List Claim). AgreesWith c.args.shared.callers records seats l) c.deref.ensures.value closed.0 in
+    all_shown c.args.shared.callers records seats receipts agrees c.args.gathered.shown

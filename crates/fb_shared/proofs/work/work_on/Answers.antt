@@ -1,6 +1,6 @@
 use Rattle.std.proofs.Common.{arith, ◌*◌, ◌+◌}
 use Rattle.fb_locked.specs.Runs.{Empty}
-use Rattle.fb_shared.proofs.Works.{adds_none, adds_turn, adds_whole_turn, adds_fewer}
+use Rattle.fb_locked.proofs.Works.{adds_none, adds_turn, adds_whole_turn, adds_fewer}
 use Rattle.fb_shared.proofs.work.work_on.Goals as goal
 
 pub looks-init : goal.looks-init

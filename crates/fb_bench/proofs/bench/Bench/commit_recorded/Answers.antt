@@ -6,12 +6,11 @@ use Rattle.fb_history.specs.declared.answers.Committed.TheVariants.{Done}
 use Rattle.fb_history.specs.Machine.{State, ToCommit, commit_answer, reply}
 use Rattle.fb_history.specs.Story.{Story, state_of, recorded, record_of, start}
 use Rattle.fb_bench.specs.Records.{listed, text_edits}
-use Rattle.fb_entries.specs.Renew.{items_or}
 use Rattle.fb_bench.specs.Kept.{Agrees, IsKept}
 use Rattle.fb_entries.specs.Indexed.{IsIndexOf}
 use Rattle.fb_bench.proofs.Keeping.{kept_pushed}
 use Rattle.fb_history.proofs.Steps.{story_pushed, share_pushed}
-use Rattle.fb_bench.proofs.Committing.{answer_kept, commits_is, committed_is, agrees_renewed, keys_done}
+use Rattle.fb_bench.proofs.Committing.{answer_kept, commits_is, committed_is, agrees_renewed}
 use Rattle.fb_bench.proofs.Renewals.{agrees_back}
 use Rattle.fb_bench.proofs.bench.Bench.commit_recorded.Goals as goal
 
@@ -29,9 +28,9 @@ invariant_of-self-in-Refused c =
     let copied : made ≡ edits = c.in_ok-of_changes.ensures in
     let refused = rw c.in-Refused.is at c.in_ok-outcome.ensures in
     let answer : c.in-Refused.refused ≡ commit_answer s edits = refused.0 ∙ answer_kept story c.self.inside.library c.self.inside.commits edits c.self.invariant.agrees.units_are c.self.invariant.agrees.commits_are in
-    kept_pushed _ _ _ _ _ _ _ story _ c.args.caller (ToCommit made) _ c.self.invariant.begins c.in_ok-share-in-Refused.ensures.ok (c.in_ok-stored-in-Refused.ensures ∙ commits_is s made edits c.in-Refused.refused copied answer)
-    (subst (λ t. Agrees c.self.inside.library c.self.inside.commits c.self.inside.entries.by_key c.self.inside.entries.ready c.self.inside.entries.waiting t) (sym (committed_is s made edits c.in-Refused.refused copied answer ∙ refused.1 s)) c.self.invariant.agrees)
-    c.self.invariant.replayed c.self.invariant.keys_are c.self.invariant.indexed (omega (arith, c.self.invariant.few))
+    kept_pushed _ _ _ _ _ story _ c.args.caller (ToCommit made) _ c.self.invariant.begins c.in_ok-share-in-Refused.ensures.ok (c.in_ok-stored-in-Refused.ensures ∙ commits_is s made edits c.in-Refused.refused copied answer)
+    (subst (λ t. Agrees c.self.inside.library c.self.inside.commits c.self.inside.entries.by_key c.self.inside.entries.ready t) (sym (committed_is s made edits c.in-Refused.refused copied answer ∙ refused.1 s)) c.self.invariant.agrees)
+    c.self.invariant.replayed c.self.invariant.indexed (omega (arith, c.self.invariant.few))
 
 pub returns-in_ok-share-in-Refused : goal.returns-in_ok-share-in-Refused
 returns-in_ok-share-in-Refused c =
@@ -58,12 +57,11 @@ invariant_of-self-in_err-share-in-Done c =
     let done = rw c.in-Done.is at c.in_ok-outcome.ensures in
     let old = c.self.inside.entries in
     let new = c.record_with_room.new.entries in
-    subst (λ l. IsKept c.self.inside.library c.self.inside.commits new.keys.items new.by_key new.ready new.waiting c.self.inside.index (record { origin = start c.self.inside.most_units; log = l })) (sym c.in_err-share-in-Done.ensures.unlogged)
+    subst (λ l. IsKept c.self.inside.library c.self.inside.commits new.by_key new.ready c.self.inside.index (record { origin = start c.self.inside.most_units; log = l })) (sym c.in_err-share-in-Done.ensures.unlogged)
     (record {
       begins = kept.begins;
-      agrees = agrees_back c.self.inside.library c.in-Done.library c.self.inside.commits (map unit_of (edits_of c.first_changes-changes.result.now)) old.by_key new.by_key old.ready new.ready old.waiting new.waiting (state_of story) c.in-Done.found.renewal kept.agrees done.3 c.in_err-share-in-Done.ensures.back;
+      agrees = agrees_back c.self.inside.library c.in-Done.library c.self.inside.commits (map unit_of (edits_of c.first_changes-changes.result.now)) old.by_key new.by_key old.ready new.ready (state_of story) c.in-Done.found.renewal kept.agrees done.3 c.in_err-share-in-Done.ensures.back;
       replayed = kept.replayed;
-      keys_are = ap (λ ks. ks.items) c.record_with_room.ensures.keys ∙ kept.keys_are;
       indexed = kept.indexed;
       few = kept.few;
     })
@@ -83,11 +81,10 @@ invariant_of-self-in-Done c =
     let old = c.self.inside.entries in
     let room = c.record_with_room.new.entries in
     let new = c.carry_out.new.self in
-    kept_pushed _ _ _ _ _ _ _ story _ c.args.caller (ToCommit made) _ c.self.invariant.begins c.in_ok-share-in-Done.ensures.logged (c.in_ok-stored-in-Done.ensures ∙ commits_is s made edits (Done number) copied answer)
-    (subst (λ t. Agrees c.in-Done.library number new.by_key new.ready new.waiting t) (sym (committed_is s made edits (Done number) copied answer))
-    (agrees_renewed c.locality.ensures.value c.self.inside.commits edits c.self.inside.library c.in-Done.library old.by_key room.by_key new.by_key old.ready room.ready new.ready old.waiting room.waiting new.waiting s it done.1 agrees done.3 c.in_ok-share-in-Done.ensures.room c.carry_out.ensures.entries c.carry_out.ensures.ready c.carry_out.ensures.waiting))
+    kept_pushed _ _ _ _ _ story _ c.args.caller (ToCommit made) _ c.self.invariant.begins c.in_ok-share-in-Done.ensures.logged (c.in_ok-stored-in-Done.ensures ∙ commits_is s made edits (Done number) copied answer)
+    (subst (λ t. Agrees c.in-Done.library number new.by_key new.ready t) (sym (committed_is s made edits (Done number) copied answer))
+    (agrees_renewed c.locality.ensures.value c.self.inside.commits edits c.self.inside.library c.in-Done.library old.by_key room.by_key new.by_key old.ready room.ready new.ready s it done.1 agrees done.3 c.in_ok-share-in-Done.ensures.room c.carry_out.ensures.entries c.carry_out.ensures.ready))
     c.self.invariant.replayed
-    (keys_done c.self.inside.commits edits c.self.inside.library c.in-Done.library story c.self.invariant.begins old.by_key old.ready old.waiting it old.keys.items new.keys.items c.in-Done.found.keys done.1 agrees done.3 c.self.invariant.keys_are done.4 (c.carry_out.ensures.keys ∙ ap (λ ks. items_or c.in-Done.found.keys ks.items) c.record_with_room.ensures.keys))
     (subst (λ it. IsIndexOf c.in-Done.library it) (sym c.carry_out.ensures.index) done.2)
     (omega (arith, c.self.invariant.few))
 

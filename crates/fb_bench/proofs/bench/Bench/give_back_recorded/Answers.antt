@@ -12,9 +12,9 @@ invariant_of-self-then-not-is_out c =
     let story : Story = record { origin = start c.self.inside.most_units; log = c.self.inside.history } in
     let s : State = state_of story in
     let free : s.out c.args.key ≡ false = ap (λ st. (state_of st).out c.args.key) c.self.view_is ∙ search rules in
-    kept_pushed _ _ _ _ _ _ _ story _ c.args.caller (ToGiveBack c.args.key) _ c.self.invariant.begins c.in_ok-share.ensures.ok (nothing_out s c.args.key free)
-    (subst (λ t. Agrees c.self.inside.library c.self.inside.commits c.self.inside.entries.by_key c.self.inside.entries.ready c.self.inside.entries.waiting t) (sym (after_nothing_out s c.args.key free)) c.self.invariant.agrees)
-    c.self.invariant.replayed c.self.invariant.keys_are c.self.invariant.indexed (omega (arith, c.self.invariant.few))
+    kept_pushed _ _ _ _ _ story _ c.args.caller (ToGiveBack c.args.key) _ c.self.invariant.begins c.in_ok-share.ensures.ok (nothing_out s c.args.key free)
+    (subst (λ t. Agrees c.self.inside.library c.self.inside.commits c.self.inside.entries.by_key c.self.inside.entries.ready t) (sym (after_nothing_out s c.args.key free)) c.self.invariant.agrees)
+    c.self.invariant.replayed c.self.invariant.indexed (omega (arith, c.self.invariant.few))
 
 pub returns-then-not-is_out-clause-step : goal.returns-then-not-is_out-clause-step
 returns-then-not-is_out-clause-step c =

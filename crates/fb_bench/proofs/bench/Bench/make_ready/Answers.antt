@@ -17,11 +17,9 @@ invariant_of-self c =
         units_are = agrees.units_are;
         commits_are = agrees.commits_are;
         each = agrees.each;
-        waiting_are = agrees.waiting_are;
         ready_are = λ key. c.in_err-join.ensures.err key ∙ agrees.ready_are key;
       };
       replayed = c.self.invariant.replayed;
-      keys_are = c.self.invariant.keys_are;
       indexed = c.self.invariant.indexed;
       few = c.self.invariant.few;
     }
@@ -33,10 +31,10 @@ invariant_of-self-in-Ok c =
     let key = c.args.key.now in
     let out : s.out key ≡ true = ap (λ st. (state_of st).out key) c.self.view_is ∙ c.requires.out in
     let waits : s.pending key ≡ true = ap (λ st. (state_of st).pending key) c.self.view_is ∙ c.requires.waits in
-    kept_pushed _ _ _ _ _ _ _ story _ c.args.caller (ToGiveBack key) _ c.self.invariant.begins c.in-Ok.ensures.ok (out_returned s key out)
-    (subst (λ t. Agrees c.self.inside.library c.self.inside.commits c.mark_out.new.entries c.join.new.keys c.self.inside.entries.waiting t) (sym (after_returned s key out))
-    (agrees_return _ _ c.self.inside.entries.by_key _ c.self.inside.entries.ready _ c.self.inside.entries.waiting s key c.self.invariant.agrees waits c.mark_out.ensures c.in_ok-join.ensures.ok))
-    c.self.invariant.replayed c.self.invariant.keys_are c.self.invariant.indexed (omega (arith, c.self.invariant.few))
+    kept_pushed _ _ _ _ _ story _ c.args.caller (ToGiveBack key) _ c.self.invariant.begins c.in-Ok.ensures.ok (out_returned s key out)
+    (subst (λ t. Agrees c.self.inside.library c.self.inside.commits c.mark_out.new.entries c.join.new.keys t) (sym (after_returned s key out))
+    (agrees_return _ _ c.self.inside.entries.by_key _ c.self.inside.entries.ready _ s key c.self.invariant.agrees waits c.mark_out.ensures c.in_ok-join.ensures.ok))
+    c.self.invariant.replayed c.self.invariant.indexed (omega (arith, c.self.invariant.few))
 
 pub returns-in-Ok : goal.returns-in-Ok
 returns-in-Ok c =
@@ -57,18 +55,16 @@ invariant_of-self-in-Err c =
     let key = c.args.key.now in
     let out : s.out key ≡ true = ap (λ st. (state_of st).out key) c.self.view_is ∙ c.requires.out in
     let agrees = c.self.invariant.agrees in
-    subst (λ l. IsKept c.self.inside.library c.self.inside.commits c.self.inside.entries.keys.items c.self.inside.entries.by_key c.leave.new.keys c.self.inside.entries.waiting c.self.inside.index (record { origin = start c.self.inside.most_units; log = l })) (sym c.in-Err.ensures.err)
+    subst (λ l. IsKept c.self.inside.library c.self.inside.commits c.self.inside.entries.by_key c.leave.new.keys c.self.inside.index (record { origin = start c.self.inside.most_units; log = l })) (sym c.in-Err.ensures.err)
     (record {
       begins = c.self.invariant.begins;
       agrees = record {
         units_are = agrees.units_are;
         commits_are = agrees.commits_are;
         each = agrees.each;
-        waiting_are = agrees.waiting_are;
         ready_are = put_and_taken c.self.inside.entries.ready c.join.new.keys c.leave.new.keys s key out agrees.ready_are c.in_ok-join.ensures.ok c.leave.ensures;
       };
       replayed = c.self.invariant.replayed;
-      keys_are = c.self.invariant.keys_are;
       indexed = c.self.invariant.indexed;
       few = c.self.invariant.few;
     })

@@ -1,5 +1,5 @@
 -- What the key needs of the library it needs of the reads too.
-use Rattle.std.proofs.Common.{sym, ap, subst}
+use Rattle.std.proofs.Common.{sym, subst}
 use Rattle.fb_jobs.specs.Reads.{IsRight}
 use Rattle.fb_jobs.proofs.Currents.{right_for}
 use Rattle.fb_jobs.proofs.job.Job.for_kept.Goals as goal

@@ -1,5 +1,7 @@
 -- What the key needs of the library it needs of the reads too.
-use Rattle.std.proofs.Common.{sym, ap, subst}
+use Rattle.std.proofs.Common.{sym, ap, subst, Vec}
+use Rattle.std.specs.declared.alloc.Global.{Global}
+use Rattle.fb_jobs.specs.declared.hints.Hint.{Hint}
 use Rattle.fb_jobs.specs.Known.{IsKnowledge}
 use Rattle.fb_jobs.specs.Reads.{IsRight, read_texts}
 use Rattle.fb_jobs.proofs.KnownLemmas.{hints_alone}
@@ -13,4 +15,4 @@ of_reads-requires-clause-right c =
 pub of_reads-requires-clause-known : goal.of_reads-requires-clause-known
 of_reads-requires-clause-known c =
     subst (λ reads. IsKnowledge (read_texts reads) c.args.key c.of_hints-knowledge.result) (sym c.in_ok-reads.ensures.seen)
-    (hints_alone c.args.library.now c.args.key c.args.hints.items c.of_hints-knowledge.result c.requires.hints c.of_hints-knowledge.ensures.hints c.of_hints-knowledge.ensures.own c.of_hints-knowledge.ensures.faultless)
+    (hints_alone c.args.library.now c.args.key c.args.hints.items c.of_hints-knowledge.result c.requires.hints (ap (λ (v : Vec Hint Global). v.items) c.of_hints-knowledge.ensures.hints) c.of_hints-knowledge.ensures.own c.of_hints-knowledge.ensures.faultless)

@@ -1,6 +1,0 @@
-use Rattle.std.proofs.Common.{take}
-use Rattle.fb_locked.specs.Closing.{IsLeast, has_wrong_seat}
-use Rattle.fb_locked.proofs.locked.Locked.wrong_seat.Given as goal
-
-abbrev pub invariant-loop-seat : goal.invariant-loop-seat
-invariant-loop-seat l = IsLeast (has_wrong_seat l.self.bench.log.records (take l.seat-index l.seats)) l.least

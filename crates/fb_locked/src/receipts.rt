@@ -1,0 +1,83 @@
+//! Receipts against the records of a workbench.
+ghost use Rattle.std.specs.Prelude.{◌≡◌, ◌↔◌, false, length, replicate, IfOk, IsTrue};
+ghost use Rattle.fb_locked.specs.Closing.{IsReceiptRight, ChecksReceipts, has_number};
+
+use crate::close::CloseFault;
+use crate::seat::Receipt;
+use fb_bench::Bench;
+use std::alloc::{AllocError, Global};
+
+/// Whether each receipt is the record at its number, and none comes twice.
+pub(crate) fn check_receipts(
+    alloc: Global,
+    bench: &Bench,
+    receipts: &[Receipt],
+) -> Result<(), CloseFault>
+    ensures { ChecksReceipts bench.now.log.records receipts.now result }
+{
+    match marks_for(alloc, bench) {
+        Ok(marks) => check_by_marks(bench, receipts, marks),
+        Err(_) => check_by_pairs(bench, receipts),
+    }
+}
+
+/// A mark for each record.
+fn marks_for(alloc: Global, bench: &Bench) -> Result<Vec<bool>, AllocError>
+    ensures { IfOk result (λ marks. marks.items ≡ replicate (length bench.now.log.records) false) }
+{
+    vec![in alloc; false; bench.len()]
+}
+
+/// Checks with a mark for each record, none of which is set.
+fn check_by_marks(bench: &Bench, receipts: &[Receipt], marks: Vec<bool>) -> Result<(), CloseFault>
+    requires { marks.items ≡ replicate (length bench.now.log.records) false }
+    ensures { ChecksReceipts bench.now.log.records receipts.now result }
+{
+    let mut marks = marks;
+    for receipt in receipts {
+        let number = receipt.number();
+        if !is_record(bench, receipt) {
+            return Err(CloseFault::ReceiptDiffers(number));
+        }
+        let at = (number - 1) as usize;
+        if marks[at] {
+            return Err(CloseFault::ReceiptTwice(number));
+        }
+        marks[at] = true;
+    }
+    Ok(())
+}
+
+/// Checks with no memory: each receipt is compared with those before it.
+fn check_by_pairs(bench: &Bench, receipts: &[Receipt]) -> Result<(), CloseFault>
+    ensures { ChecksReceipts bench.now.log.records receipts.now result }
+{
+    for place in 0..receipts.len() {
+        let receipt = &receipts[place];
+        let number = receipt.number();
+        if !is_record(bench, receipt) {
+            return Err(CloseFault::ReceiptDiffers(number));
+        }
+        if is_among(&receipts[..place], number) {
+            return Err(CloseFault::ReceiptTwice(number));
+        }
+    }
+    Ok(())
+}
+
+/// Whether one of the receipts has this number.
+fn is_among(receipts: &[Receipt], number: u64) -> bool
+    ensures { result ≡ has_number receipts.now number }
+{
+    receipts.iter().any(|receipt| receipt.number() == number)
+}
+
+/// Whether the receipt is the record at its number.
+fn is_record(bench: &Bench, receipt: &Receipt) -> bool
+    ensures { IsTrue result ↔ IsReceiptRight bench.now.log.records receipt.now }
+{
+    match bench.record(receipt.number) {
+        None => false,
+        Some(record) => record.is_same(&receipt.record),
+    }
+}

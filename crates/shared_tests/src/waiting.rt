@@ -1,0 +1,156 @@
+//! Workers that wait for something to do, each beside a thread that brings it.
+use crate::setup::{faults_of, puts};
+use fb_jobs::{Finished, Job};
+use fb_shared::bench::Limits;
+use fb_shared::{Gate, Plain, Seat, Shared, WorkEnd, work_on};
+use std::alloc::{AllocError, Global};
+use std::hint::spin_loop;
+use std::sync::Wait;
+use std::sync::atomic::{AtomicU64, Ordering};
+use std::test::Fail;
+use std::thread::join;
+
+// Counts the jobs that were run, and the workers that have ended.
+#[derive(Drop)]
+struct Counted {
+    run: AtomicU64,
+    ended: AtomicU64,
+}
+
+impl Gate for Counted {
+    fn run(&self, alloc: Global, worker: u32, job: &Job) -> Result<Finished, AllocError> {
+        let finished = Plain.run(alloc, worker, job);
+        self.run.fetch_add(1, Ordering::SeqCst);
+        finished
+    }
+}
+
+fn new_count() -> Counted {
+    Counted {
+        run: AtomicU64::new(0),
+        ended: AtomicU64::new(0),
+    }
+}
+
+const MOST_LOOKS: u64 = 2_000_000_000;
+
+// looks until the count is reached; false where it is out of looks
+fn is_reached(count: &AtomicU64, least: u64) -> bool {
+    for _ in 0..MOST_LOOKS {
+        if count.load(Ordering::SeqCst) >= least {
+            return true;
+        }
+        spin_loop();
+    }
+    false
+}
+
+// lets some time pass, in which a worker comes to wait
+fn pause() {
+    for _ in 0..200_000 {
+        spin_loop();
+    }
+}
+
+// how a worker ends with so many turns as it will ever need, and how many receipts it then has
+fn work<R: Wait>(
+    rt: &R,
+    alloc: Global,
+    shared: &Shared,
+    mut seat: Seat,
+    gate: &Counted,
+) -> (WorkEnd, usize) {
+    let mut receipts = Vec::new(alloc);
+    let end = work_on(rt, alloc, shared, &mut seat, &mut receipts, gate, 1_000_000);
+    gate.ended.store(1, Ordering::SeqCst);
+    (end, receipts.len())
+}
+
+// a workbench with room for so many records, and the seats of its two callers
+fn room_for(alloc: Global, history: u64) -> Option<(Shared, Seat, Seat)> {
+    let (shared, mut seats) = Shared::new(alloc, Limits::new(16, history)?, 2).ok()?;
+    let second = seats.pop()?;
+    let first = seats.pop()?;
+    Some((shared, first, second))
+}
+
+const UNITS: [&str; 8] = ["A", "B", "C", "D", "E", "F", "G", "H"];
+
+// puts one unit after another, each when the job of the one before was run and the worker waits again
+fn put_in_turn<R: Wait>(
+    rt: &R,
+    alloc: Global,
+    shared: &Shared,
+    seat: &mut Seat,
+    gate: &Counted,
+) -> Option<()> {
+    let mut run = 0;
+    for unit in UNITS.iter() {
+        pause();
+        let changes = puts(alloc, &[*unit])?;
+        shared.commit(rt, seat, &changes).ok()?;
+        run += 1;
+        if !is_reached(&gate.run, run) {
+            return None;
+        }
+    }
+    Some(())
+}
+
+// the same, and the stop
+fn put_and_stop<R: Wait>(
+    rt: &R,
+    alloc: Global,
+    shared: &Shared,
+    mut seat: Seat,
+    gate: &Counted,
+) -> bool {
+    let put = put_in_turn(rt, alloc, shared, &mut seat, gate);
+    shared.stop(rt);
+    put.is_some()
+}
+
+#[test]
+fn a_worker_goes_on_until_the_stop(rt: HostRuntime) -> Result<(), Fail> {
+    let alloc: Global = rt.alloc();
+    let (shared, first, second) = room_for(alloc, 1000).ok_or("a workbench")?;
+    let gate = new_count();
+    let (worked, is_put) = join(
+        &rt,
+        || work(&rt, alloc, &shared, second, &gate),
+        || put_and_stop(&rt, alloc, &shared, first, &gate),
+    );
+    assert_eq!(rt; (worked, is_put), ((WorkEnd::Stopped, 16), true));
+    Ok(())
+}
+
+// fills a history of three records
+fn fill<R: Wait>(rt: &R, shared: &Shared, seat: &mut Seat) -> Option<()> {
+    for _ in 0..3 {
+        shared.ask(rt, seat, faults_of("X")?).ok()?;
+    }
+    Some(())
+}
+
+// fills the history while the worker waits, and stops it where it does not end by itself
+fn fill_and_wait<R: Wait>(rt: &R, shared: &Shared, mut seat: Seat, gate: &Counted) -> bool {
+    pause();
+    let filled = fill(rt, shared, &mut seat);
+    let is_over = is_reached(&gate.ended, 1);
+    shared.stop(rt);
+    is_over && filled.is_some()
+}
+
+#[test]
+fn a_full_history_ends_a_worker_that_waits(rt: HostRuntime) -> Result<(), Fail> {
+    let alloc: Global = rt.alloc();
+    let (shared, first, second) = room_for(alloc, 3).ok_or("a workbench")?;
+    let gate = new_count();
+    let (worked, is_over) = join(
+        &rt,
+        || work(&rt, alloc, &shared, second, &gate),
+        || fill_and_wait(&rt, &shared, first, &gate),
+    );
+    assert_eq!(rt; (worked, is_over), ((WorkEnd::HistoryFull, 0), true));
+    Ok(())
+}
