@@ -32,16 +32,15 @@ fn refused<R: Wait>(
     seat: &mut Seat,
     finished: &Finished,
 ) -> Option<Refused> {
-    let key = faults_of("A")?;
     let committed = owner.commit(rt, seat, &puts(alloc, &["A"])?);
     let committed = beside(committed, seat);
     let taken = owner.take(rt, seat);
     let taken = beside(taken, seat);
     let delivered = owner.deliver(rt, seat, finished);
     let delivered = beside(delivered, seat);
-    let returned = owner.give_back(rt, seat, key);
+    let returned = owner.give_back(rt, seat, faults_of("A")?);
     let returned = beside(returned, seat);
-    let asked = owner.ask(rt, seat, key);
+    let asked = owner.ask(rt, seat, faults_of("A")?);
     Some([committed, taken, delivered, returned, beside(asked, seat)])
 }
 

@@ -72,14 +72,12 @@ fn refusals(
     changes: &[Change],
     finished: &Finished,
 ) -> Result<[Option<Refused>; 5], Fail> {
-    let key = faults_of("A")?;
-    Ok([
-        bench.commit(1, changes).err(),
-        bench.take(2).err(),
-        bench.deliver(3, finished).err(),
-        bench.give_back(1, key).err(),
-        bench.ask(2, key).err(),
-    ])
+    let committed = bench.commit(1, changes).err();
+    let taken = bench.take(2).err();
+    let delivered = bench.deliver(3, finished).err();
+    let returned = bench.give_back(1, faults_of("A")?).err();
+    let asked = bench.ask(2, faults_of("A")?).err();
+    Ok([committed, taken, delivered, returned, asked])
 }
 
 #[test]
