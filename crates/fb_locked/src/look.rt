@@ -109,7 +109,10 @@ impl Locked {
         match finished {
             None => Some(self.give_up(seat, receipts, job)),
             Some(finished) => match self.perform_kept(seat, receipts, &Request::Deliver(finished)) {
-                Ok(_) => None,
+                Ok(answer) => {
+                    drop(answer);
+                    None
+                }
                 Err(SharedRefused::Memory) => Some(self.give_up(seat, receipts, job)),
                 Err(refused) => Some(WorkEnd::of(refused)),
             },

@@ -41,10 +41,20 @@ pub fn run_session<R: Wait, F: Feed, S: Sink>(
     // The receipts are of calls with this seat, one after another.
     ensures run { IsRun seat result.receipts.items result.seat }
     ensures shown { ShowsEnd result.end turns
-        (record { left = F.left reader.old; reads = F.reads reader.old; read_has_failed = F.has_failed reader.old;
-            is_flushed = S.is_flushed writer.old; write_has_failed = S.has_failed writer.old })
-        (record { left = F.left reader.new; reads = F.reads reader.new; read_has_failed = F.has_failed reader.new;
-            is_flushed = S.is_flushed writer.new; write_has_failed = S.has_failed writer.new }) }
+        (record {
+          left = F.left reader.old;
+          reads = F.reads reader.old;
+          read_has_failed = F.has_failed reader.old;
+          is_flushed = S.is_flushed writer.old;
+          write_has_failed = S.has_failed writer.old;
+        })
+        (record {
+          left = F.left reader.new;
+          reads = F.reads reader.new;
+          read_has_failed = F.has_failed reader.new;
+          is_flushed = S.is_flushed writer.new;
+          write_has_failed = S.has_failed writer.new;
+        }) }
 {
     let mut desk = Seated {
         rt,

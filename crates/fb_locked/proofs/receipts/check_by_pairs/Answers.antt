@@ -10,8 +10,7 @@ returns-then-is_among c =
     let rs = c.args.receipts.now in
     let r = c.index-receipts-place.result in
     let right : IsReceiptRight c.args.bench.now.log.records r = c.is_record.ensures.0 c.if-not-is_record.false in
-    let some : 1 ≤ times c.number-number.result (take i rs) = some_times c.number-number.result (take i rs) (sym c.is_among.ensures ∙ c.if-is_among.true) in
-    (
+    let some : 1 ≤ times c.number-number.result (take i rs) = some_times c.number-number.result (take i rs) (sym c.is_among.ensures ∙ c.if-is_among.true) in (
       i,
       (
         c.loop-place.invariant,

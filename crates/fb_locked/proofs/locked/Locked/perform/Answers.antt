@@ -7,8 +7,7 @@ use Rattle.fb_locked.proofs.locked.Locked.perform.Goals as goal
 
 pub returns-clause-answers : goal.returns-clause-answers
 returns-clause-answers c =
-    let call = call_for c.args.request.now in
-    (
+    let call = call_for c.args.request.now in (
       answered c.args.self.now c.args.seat.now call _ (c.in-Ok.ensures.receipt ∙ ap (λ caller. next_claim c.args.self.now caller call) c.caller.ensures) c.in_ok-admit.ensures.fits.0 c.in_ok-admit.ensures.fits.1,
       search rules,
     )
