@@ -333,9 +333,19 @@ impl<'a, R: Wait> Trial for OfSeated<'a, R> {
             return true;
         };
         let receipts = replace(&mut self.receipts, Vec::new(alloc));
-        let mut desk = Seated::new(self.rt, &self.owner, seat, receipts);
+        let mut desk = Seated {
+            rt: self.rt,
+            shared: &self.owner,
+            seat,
+            receipts,
+        };
         let made = made_at(self.which, &mut desk, &self.given);
-        let (seat, receipts) = desk.into_parts();
+        let Seated {
+            rt: _,
+            shared: _,
+            seat,
+            receipts,
+        } = desk;
         self.seat = Some(seat);
         self.receipts = receipts;
         !matches!(made, Err(DeskRefused::Memory))
