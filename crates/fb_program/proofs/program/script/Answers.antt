@@ -1,4 +1,4 @@
-use Rattle.std.proofs.Common.{◌≡◌, ◌∙◌, None, refl, arith}
+use Rattle.std.proofs.Common.{◌≡◌, ◌∙◌, None, refl, sym, arith}
 use Rattle.fb_wire.specs.Faults.{fault_of}
 use Rattle.fb_wire.specs.declared.end.RunEnd.{RunEnd}
 use Rattle.fb_wire.specs.declared.end.RunEnd.TheVariants as end
@@ -15,10 +15,10 @@ ended end.Memory e = cc
 pub returns-in-None-clause-said : goal.returns-in-None-clause-said
 returns-in-None-clause-said g c =
     let t = c.run_new-end.ensures.said in
-    (t.0, t.1, t.2, t.3, (λ zero. t.4.1 (ended _ (c.in-None.is ∙ c.fault_of.ensures)), λ one. absurd (omega (arith, one))))
+    (t.0, t.1, t.2, t.3, (λ zero. t.4.1 (ended _ (sym c.in-None.is ∙ c.fault_of.ensures)), λ one. absurd (omega (arith, one))))
 
 pub returns-in-None-clause-whole : goal.returns-in-None-clause-whole
-returns-in-None-clause-whole g c = λ zero. c.run_new-end.ensures.whole (ended _ (c.in-None.is ∙ c.fault_of.ensures))
+returns-in-None-clause-whole g c = λ zero. c.run_new-end.ensures.whole (ended _ (sym c.in-None.is ∙ c.fault_of.ensures))
 
 pub returns-in-Some-clause-said : goal.returns-in-Some-clause-said
 returns-in-Some-clause-said g c =
