@@ -41,27 +41,58 @@ pub fn run_session<R: Wait, F: Feed, S: Sink>(
     // The receipts are of calls with this seat, one after another.
     ensures run { IsRun seat result.receipts.items result.seat }
     ensures shown { ShowsEnd result.end turns
-        (record { left = F.left reader.old; reads = F.reads reader.old; read_has_failed = F.has_failed reader.old;
-            is_flushed = S.is_flushed writer.old; write_has_failed = S.has_failed writer.old })
-        (record { left = F.left reader.new; reads = F.reads reader.new; read_has_failed = F.has_failed reader.new;
-            is_flushed = S.is_flushed writer.new; write_has_failed = S.has_failed writer.new }) }
+        (record {
+          left = F.left reader.old;
+          reads = F.reads reader.old;
+          read_has_failed = F.has_failed reader.old;
+          is_flushed = S.is_flushed writer.old;
+          write_has_failed = S.has_failed writer.old;
+        })
+        (record {
+          left = F.left reader.new;
+          reads = F.reads reader.new;
+          read_has_failed = F.has_failed reader.new;
+          is_flushed = S.is_flushed writer.new;
+          write_has_failed = S.has_failed writer.new;
+        }) }
 {
-    let mut desk = Seated {
+    let mut desk = desk_of(rt, shared, seat, Vec::new(alloc));
+    let end = run_lines(alloc, reader, writer, &mut desk, turns);
+    let (seat, receipts) = parts_of(desk);
+    Session {
+        end,
+        seat,
+        receipts,
+    }
+}
+
+/// The desk of this seat.
+fn desk_of<'a, R: Wait>(
+    rt: &'a R,
+    shared: &'a Shared,
+    seat: Seat,
+    receipts: Vec<Receipt>,
+) -> Seated<'a, R>
+    ensures { result ≡ record { seat = seat; receipts = receipts.items } }
+{
+    Seated {
         rt,
         shared,
         seat,
-        receipts: Vec::new(alloc),
-    };
-    let end = run_lines(alloc, reader, writer, &mut desk, turns);
+        receipts,
+    }
+}
+
+/// The seat of a desk, and the receipts of its calls.
+fn parts_of<R: Wait>(desk: Seated<'_, R>) -> (Seat, Vec<Receipt>)
+    ensures seat { result.0 ≡ desk.seat }
+    ensures receipts { result.1.items ≡ desk.receipts }
+{
     let Seated {
         rt: _,
         shared: _,
         seat,
         receipts,
     } = desk;
-    Session {
-        end,
-        seat,
-        receipts,
-    }
+    (seat, receipts)
 }
