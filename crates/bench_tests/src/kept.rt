@@ -77,7 +77,8 @@ fn are_kept(alloc: Global, bench: &mut Bench) -> Result<bool, Fail> {
     let is_judged = is_worked_with(alloc, bench, faults, &[])?;
     let is_worked = is_worked_with(alloc, bench, net_of("OUTER")?, &["INNER", "MID"])?;
     let is_said = talk(alloc, bench, 1, CHANGED)?.is_none();
-    let are_alone = is_next_alone(bench, net_of("INNER")?)? && is_next_alone(bench, net_of("MID")?)?;
+    let are_alone = is_next_alone(bench, net_of("INNER")?)?
+        && is_next_alone(bench, net_of("MID")?)?;
     Ok(is_judged && is_worked && is_said && are_alone)
 }
 

@@ -56,43 +56,22 @@ pub fn run_session<R: Wait, F: Feed, S: Sink>(
           write_has_failed = S.has_failed writer.new;
         }) }
 {
-    let mut desk = desk_of(rt, shared, seat, Vec::new(alloc));
-    let end = run_lines(alloc, reader, writer, &mut desk, turns);
-    let (seat, receipts) = parts_of(desk);
-    Session {
-        end,
-        seat,
-        receipts,
-    }
-}
-
-/// The desk of this seat.
-fn desk_of<'a, R: Wait>(
-    rt: &'a R,
-    shared: &'a Shared,
-    seat: Seat,
-    receipts: Vec<Receipt>,
-) -> Seated<'a, R>
-    ensures { result ≡ record { seat = seat; receipts = receipts.items } }
-{
-    Seated {
+    let mut desk = Seated {
         rt,
         shared,
         seat,
-        receipts,
-    }
-}
-
-/// The seat of a desk, and the receipts of its calls.
-fn parts_of<R: Wait>(desk: Seated<'_, R>) -> (Seat, Vec<Receipt>)
-    ensures seat { result.0 ≡ desk.seat }
-    ensures receipts { result.1.items ≡ desk.receipts }
-{
+        receipts: Vec::new(alloc),
+    };
+    let end = run_lines(alloc, reader, writer, &mut desk, turns);
     let Seated {
         rt: _,
         shared: _,
         seat,
         receipts,
     } = desk;
-    (seat, receipts)
+    Session {
+        end,
+        seat,
+        receipts,
+    }
 }

@@ -95,10 +95,20 @@ pub fn run_lines<F: Feed, S: Sink, D: Desk>(
         × (S.held writer.new ≡ S.held writer.old ++ out)
         × Stands result bytes pairs out }
     ensures shown { ShowsEnd result turns
-        (record { left = F.left reader.old; reads = F.reads reader.old; read_has_failed = F.has_failed reader.old;
-            is_flushed = S.is_flushed writer.old; write_has_failed = S.has_failed writer.old })
-        (record { left = F.left reader.new; reads = F.reads reader.new; read_has_failed = F.has_failed reader.new;
-            is_flushed = S.is_flushed writer.new; write_has_failed = S.has_failed writer.new }) }
+        (record {
+          left = F.left reader.old;
+          reads = F.reads reader.old;
+          read_has_failed = F.has_failed reader.old;
+          is_flushed = S.is_flushed writer.old;
+          write_has_failed = S.has_failed writer.old;
+        })
+        (record {
+          left = F.left reader.new;
+          reads = F.reads reader.new;
+          read_has_failed = F.has_failed reader.new;
+          is_flushed = S.is_flushed writer.new;
+          write_has_failed = S.has_failed writer.new;
+        }) }
 {
     let mut talk = Conversation::new(alloc);
     let mut buffer = [0; READ_SIZE];
@@ -129,10 +139,20 @@ fn run_solo<F: Feed, S: Sink>(
         × SaysBy result solo.old.caller solo.old.bench.now bytes out solo.new.bench.now }
     ensures same_reference { solo.new.bench.ghost_name ≡ solo.old.bench.ghost_name }
     ensures shown { ShowsEnd result turns
-        (record { left = F.left reader.old; reads = F.reads reader.old; read_has_failed = F.has_failed reader.old;
-            is_flushed = S.is_flushed writer.old; write_has_failed = S.has_failed writer.old })
-        (record { left = F.left reader.new; reads = F.reads reader.new; read_has_failed = F.has_failed reader.new;
-            is_flushed = S.is_flushed writer.new; write_has_failed = S.has_failed writer.new }) }
+        (record {
+          left = F.left reader.old;
+          reads = F.reads reader.old;
+          read_has_failed = F.has_failed reader.old;
+          is_flushed = S.is_flushed writer.old;
+          write_has_failed = S.has_failed writer.old;
+        })
+        (record {
+          left = F.left reader.new;
+          reads = F.reads reader.new;
+          read_has_failed = F.has_failed reader.new;
+          is_flushed = S.is_flushed writer.new;
+          write_has_failed = S.has_failed writer.new;
+        }) }
 {
     run_lines(alloc, reader, writer, solo, turns)
 }
@@ -157,10 +177,20 @@ pub fn run_script<F: Feed, S: Sink>(
         × Stands result bytes pairs out
         × SaysBy result caller bench.old bytes out bench.new }
     ensures shown { ShowsEnd result turns
-        (record { left = F.left reader.old; reads = F.reads reader.old; read_has_failed = F.has_failed reader.old;
-            is_flushed = S.is_flushed writer.old; write_has_failed = S.has_failed writer.old })
-        (record { left = F.left reader.new; reads = F.reads reader.new; read_has_failed = F.has_failed reader.new;
-            is_flushed = S.is_flushed writer.new; write_has_failed = S.has_failed writer.new }) }
+        (record {
+          left = F.left reader.old;
+          reads = F.reads reader.old;
+          read_has_failed = F.has_failed reader.old;
+          is_flushed = S.is_flushed writer.old;
+          write_has_failed = S.has_failed writer.old;
+        })
+        (record {
+          left = F.left reader.new;
+          reads = F.reads reader.new;
+          read_has_failed = F.has_failed reader.new;
+          is_flushed = S.is_flushed writer.new;
+          write_has_failed = S.has_failed writer.new;
+        }) }
 {
     let mut solo = Solo::new(bench, caller);
     run_solo(alloc, reader, writer, &mut solo, turns)

@@ -31,6 +31,6 @@ pub returns-in-Flat : goal.returns-in-Flat
 returns-in-Flat g c =
     let sources = g.V.View.sources c.args.view.now in
     let planned =
-        plan_by sources c.args.system (plain_net c.args.net.now) c.requires.system c.requires.net
-        ∙ ap (λ (n : Net). Some (planned_by sources c.args.system (plain_net n))) c.in-Flat.is in
+    plan_by sources c.args.system (plain_net c.args.net.now) c.requires.system c.requires.net
+    ∙ ap (λ (n : Net). Some (planned_by sources c.args.system (plain_net n))) c.in-Flat.is in
     IfOk-weaker c.plan_flat.result _ _ (λ deploy is. planned ∙ ap (λ (p : PlainDeploy). Some p) (sym is)) c.plan_flat.ensures

@@ -30,13 +30,13 @@ returns g c =
     let table = get name_cmp c.args.table.now in
     let nets = known_flats (g.H.Hints.hints c.args.hints.now) (get name_cmp c.in_ok-flats.flats) in
     let is : IsUnitFlat sources unit c.if-is_of_system.flat =
-        elim c.if-is_of_system.branch [
-          | then-is_of_system+in_ok-found+in_ok-flat w ↦
-              subst (IsUnitFlat sources unit) (sym w.flat-is)
-              (flat_of_system_is c.requires.order c.requires.table nets (decl_tree c.unwrap-decl.result.now) present (sym c.is_of_system.ensures ∙ w.if-is_of_system.true) c.in_ok-flats.ensures.finished c.requires.small
-              (subst (λ (l : List Application). AreComposedTogether table nets l w.in_ok-flat.flat) (w.as_slice.ensures.value ∙ w.in_ok-found.ensures) w.in_ok-flat.ensures))
-          | else-is_of_system+in_ok-flat-2 w ↦
-              subst (IsUnitFlat sources unit) (sym w.flat-is)
-              (flat_of_type_is c.requires.order c.requires.table (decl_tree c.unwrap-decl.result.now) c.requires.net present (sym c.is_of_system.ensures ∙ w.if-is_of_system.false) c.in_ok-flats.ensures.finished c.requires.small w.in_ok-flat-2.ensures)
-        ] in
+    elim c.if-is_of_system.branch [
+      | then-is_of_system+in_ok-found+in_ok-flat w ↦
+          subst (IsUnitFlat sources unit) (sym w.flat-is)
+          (flat_of_system_is c.requires.order c.requires.table nets (decl_tree c.unwrap-decl.result.now) present (sym c.is_of_system.ensures ∙ w.if-is_of_system.true) c.in_ok-flats.ensures.finished c.requires.small
+          (subst (λ (l : List Application). AreComposedTogether table nets l w.in_ok-flat.flat) (w.as_slice.ensures.value ∙ w.in_ok-found.ensures) w.in_ok-flat.ensures))
+      | else-is_of_system+in_ok-flat-2 w ↦
+          subst (IsUnitFlat sources unit) (sym w.flat-is)
+          (flat_of_type_is c.requires.order c.requires.table (decl_tree c.unwrap-decl.result.now) c.requires.net present (sym c.is_of_system.ensures ∙ w.if-is_of_system.false) c.in_ok-flats.ensures.finished c.requires.small w.in_ok-flat-2.ensures)
+    ] in
     record { flat = is; finished = c.in_ok-flats.ensures.finished; missing = c.in_ok-flats.ensures.missing }
