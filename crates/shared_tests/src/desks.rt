@@ -67,38 +67,37 @@ fn a_desk_keeps_its_receipts(rt: HostRuntime) -> Result<(), Fail> {
     Ok(())
 }
 
-// Why each of the five calls is refused.
-type Refusals = [Option<DeskRefused>; 5];
-
-// the five calls at a desk
-fn refusals_at<D: Desk>(alloc: Global, desk: &mut D, finished: &Finished) -> Option<Refusals> {
+// why the five calls are refused at a desk, if each is for the same cause
+fn refusal_at<D: Desk>(alloc: Global, desk: &mut D, finished: &Finished) -> Option<DeskRefused> {
     let changes = puts(alloc, &["B"])?;
-    let key = faults_of("A")?;
-    Some([
-        desk.commit(&changes).err(),
-        desk.take().err(),
-        desk.deliver(finished).err(),
-        desk.give_back(key).err(),
-        desk.ask(key).err(),
-    ])
+    let commit = desk.commit(&changes).err()?;
+    let take = desk.take().err()?;
+    let deliver = desk.deliver(finished).err()?;
+    let give_back = desk.give_back(faults_of("A")?).err()?;
+    let ask = desk.ask(faults_of("A")?).err()?;
+    let is_one = take == commit && deliver == commit && give_back == commit && ask == commit;
+    is_one.then_some(commit)
 }
 
-// the five calls at a desk with this seat, and whether it keeps no receipt
-fn refusals_of<R: Wait>(
+// Why the five calls are refused, and whether no receipt is kept.
+type Refusal = (DeskRefused, bool);
+
+// the five calls at a desk with this seat
+fn refusal_of<R: Wait>(
     rt: &R,
     alloc: Global,
     shared: &Shared,
     seat: Seat,
     finished: &Finished,
-) -> Option<(Refusals, bool)> {
+) -> Option<Refusal> {
     let mut desk = Seated {
         rt,
         shared,
         seat,
         receipts: Vec::new(alloc),
     };
-    let refusals = refusals_at(alloc, &mut desk, finished)?;
-    Some((refusals, desk.receipts.is_empty()))
+    let refused = refusal_at(alloc, &mut desk, finished)?;
+    Some((refused, desk.receipts.is_empty()))
 }
 
 // a result of a workbench of its own
@@ -110,15 +109,28 @@ fn some_result<R: Wait>(rt: &R, alloc: Global) -> Option<Finished> {
     job?.run(alloc).ok()
 }
 
-// a seat of a new workbench that was shown this receipt
+// a seat of a new workbench that was shown the fifth receipt
 fn shown(alloc: Global, receipts: &[Receipt]) -> Option<(Shared, Seat)> {
     let (fresh, mut seat, _other) = new_shared(alloc, 6)?;
     seat.show(receipts.get(4)?);
     Some((fresh, seat))
 }
 
-// what desks say where the history is full, where the seat has seen more than there is, and where it differs
-fn desk_refusals<R: Wait>(rt: &R, alloc: Global) -> Option<[(Refusals, bool); 3]> {
+// what desks say where the seat has seen more than there is, and where it differs
+fn refusals_elsewhere<R: Wait>(
+    rt: &R,
+    alloc: Global,
+    receipts: &[Receipt],
+    second: Seat,
+    finished: &Finished,
+) -> Option<(Refusal, Refusal)> {
+    let (fresh, stranger) = shown(alloc, receipts)?;
+    let behind = refusal_of(rt, alloc, &fresh, stranger, finished)?;
+    Some((behind, refusal_of(rt, alloc, &fresh, second, finished)?))
+}
+
+// what desks say where the history is full, and in these two cases
+fn desk_refusals<R: Wait>(rt: &R, alloc: Global) -> Option<(Refusal, (Refusal, Refusal))> {
     let finished = some_result(rt, alloc)?;
     let Played {
         owner,
@@ -126,21 +138,16 @@ fn desk_refusals<R: Wait>(rt: &R, alloc: Global) -> Option<[(Refusals, bool); 3]
         second,
         receipts,
     } = played_shared(rt, alloc, 6)?;
-    let (fresh, stranger) = shown(alloc, &receipts)?;
-    let full = refusals_of(rt, alloc, &owner, first, &finished)?;
-    let behind = refusals_of(rt, alloc, &fresh, stranger, &finished)?;
-    Some([
-        full,
-        behind,
-        refusals_of(rt, alloc, &fresh, second, &finished)?,
-    ])
+    let full = refusal_of(rt, alloc, &owner, first, &finished)?;
+    let elsewhere = refusals_elsewhere(rt, alloc, &receipts, second, &finished)?;
+    Some((full, elsewhere))
 }
 
 #[test]
 fn calls_that_a_desk_refuses(rt: HostRuntime) -> Result<(), Fail> {
     let refusals = desk_refusals(&rt, rt.alloc());
-    let full = ([Some(DeskRefused::HistoryFull); 5], true);
-    let behind = ([Some(DeskRefused::Behind); 5], true);
-    assert_eq!(rt; refusals, Some([full, behind, behind]));
+    let full = (DeskRefused::HistoryFull, true);
+    let behind = (DeskRefused::Behind, true);
+    assert_eq!(rt; refusals, Some((full, (behind, behind))));
     Ok(())
 }
