@@ -34,10 +34,10 @@ fn new_count() -> Counted {
 
 const MOST_LOOKS: u64 = 2_000_000_000;
 
-// looks until the count is reached; false where it is out of looks
-fn is_reached(count: &AtomicU64, least: u64) -> bool {
+// looks until the count is another one; false where it is out of looks
+fn is_changed(count: &AtomicU64, before: u64) -> bool {
     for _ in 0..MOST_LOOKS {
-        if count.load(Ordering::SeqCst) >= least {
+        if count.load(Ordering::SeqCst) != before {
             return true;
         }
         spin_loop();
@@ -84,13 +84,12 @@ fn put_in_turn<R: Wait>(
     seat: &mut Seat,
     gate: &Counted,
 ) -> Option<()> {
-    let mut run = 0;
     for unit in UNITS.iter() {
         pause();
+        let run = gate.run.load(Ordering::SeqCst);
         let changes = puts(alloc, &[*unit])?;
         shared.commit(rt, seat, &changes).ok()?;
-        run += 1;
-        if !is_reached(&gate.run, run) {
+        if !is_changed(&gate.run, run) {
             return None;
         }
     }
@@ -136,7 +135,7 @@ fn fill<R: Wait>(rt: &R, shared: &Shared, seat: &mut Seat) -> Option<()> {
 fn fill_and_wait<R: Wait>(rt: &R, shared: &Shared, mut seat: Seat, gate: &Counted) -> bool {
     pause();
     let filled = fill(rt, shared, &mut seat);
-    let is_over = is_reached(&gate.ended, 1);
+    let is_over = is_changed(&gate.ended, 0);
     shared.stop(rt);
     is_over && filled.is_some()
 }
