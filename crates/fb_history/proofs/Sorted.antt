@@ -129,7 +129,3 @@ rise_story story begins = rise_replay (opened story.origin) (calls_of story.log)
 -- the keys of every workbench rise
 pub keys_rise : (story : Story) → IsOrigin story.origin → IsStrictlySortedBy key_cmp (keys_of (state_of story).units)
 keys_rise story begins = keys_sorted (state_of story).units (rise_story story begins)
-
--- and so they do after one more commit
-pub keys_rise_done : (commit : ℕ) (edits : List Edit) (story : Story) → IsOrigin story.origin → IsStrictlySortedBy key_cmp (keys_of (all_edited commit edits (state_of story).units))
-keys_rise_done commit edits story begins = keys_sorted (all_edited commit edits (state_of story).units) (rise_all_edited commit edits (state_of story).units (rise_story story begins))
