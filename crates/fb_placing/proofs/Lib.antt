@@ -6,6 +6,7 @@ pub mod NearestLemmas
 pub mod NameLemmas
 pub mod ListLemmas
 pub mod PathNameLemmas
+pub mod InstanceLemmas
 pub mod StandingLemmas
 pub mod StandingLocal
 pub mod HomesLocal

@@ -4,6 +4,7 @@ pub mod Fronts
 pub mod Systems
 pub mod Mappings
 pub mod Standing
+pub mod Tables
 pub mod Homes
 pub mod Cuts
 pub mod Laws

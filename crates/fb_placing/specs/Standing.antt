@@ -24,7 +24,7 @@ pub record PlainStanding : Type 0 where
 
 -- the same without where it lies in memory
 abbrev pub plain_standing : Standing → PlainStanding
-plain_standing s = record { unit = s.unit; instance = instance_tree s.instance.now }
+plain_standing s = record { unit = s.unit.now; instance = instance_tree s.instance.now }
 
 -- the instances of a subapplication type; nothing is placed inside other types
 abbrev pub inner_instances : Option DeclTree → List InstanceTree
@@ -34,7 +34,15 @@ inner_instances (Some (adapter_type d)) = []
 inner_instances (Some (subapplication_type d)) = d.network.instances
 inner_instances (Some (system_configuration s)) = []
 
--- the instance of that name, the first one
+-- the instance of that name among these, the first one
+abbrev pub instance_called : List InstanceTree → List ℕ → Option InstanceTree
+instance_called instances name = first_at (λ i. i.name.name) (λ i. i) instances name
+
+-- an instance, which the unit declares
+abbrev pub standing_in : List ℕ → InstanceTree → PlainStanding
+standing_in unit i = record { unit = unit; instance = i }
+
+-- the same of the instance of that name, the first one
 abbrev pub standing_among : List ℕ → List InstanceTree → List ℕ → Option PlainStanding
 standing_among unit instances name = first_at (λ i. i.name.name) (λ i. record { unit = unit; instance = i }) instances name
 

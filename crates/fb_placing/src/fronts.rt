@@ -13,13 +13,17 @@ use std::collections::BTreeMap;
 pub type PathTable = BTreeMap<String, Path>;
 
 /// Adds what a text stands for, where it stands for nothing yet.
-pub(crate) fn add_first(table: &mut PathTable, text: String, path: Path) -> Result<(), AllocError>
+pub(crate) fn add_first<X: Drop>(
+    table: &mut BTreeMap<String, X>,
+    text: String,
+    value: X,
+) -> Result<(), AllocError>
     ensures { OnOk result ((q : List ℕ) → get_by_text table.new q
         ≡ option_or (get_by_text table.old q)
-        (if bytes_eq (string_bytes text) q then Some path else None)) }
+        (if bytes_eq (string_bytes text) q then Some value else None)) }
 {
     if !table.contains_key(text.as_str()) {
-        table.insert(text, path)?;
+        table.insert(text, value)?;
     }
     Ok(())
 }

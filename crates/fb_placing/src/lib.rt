@@ -14,6 +14,7 @@ mod orders;
 mod resources;
 mod sorted;
 mod standing;
+mod tables;
 mod written;
 
 pub use command::Command;
@@ -23,7 +24,7 @@ pub use fronts::{PathTable, nearest};
 pub use homes::{Home, Homes, Misplaced, homes_of};
 pub use laws::homes_are_nearest;
 pub use resources::ResourcePlan;
-pub use standing::{Standing, path_names, standing_at};
+pub use standing::path_names;
 
 /// Of `fb_network`, for the crates above.
 pub mod plain {

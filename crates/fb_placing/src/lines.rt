@@ -1,20 +1,22 @@
 //! Commands in the order of the places that they are about.
 ghost use Rattle.std.specs.Prelude.{◌≡◌, ◌++◌, IfOk, OnOk, map, Some, refl};
-ghost use Rattle.std.specs.BTreeMap.{get_by_text};
+ghost use Rattle.std.specs.BTreeMap.{get, get_by_text};
 ghost use Rattle.std.specs.List.{filter_map, flat_map};
 ghost use Rattle.std.specs.Ordering.{eq_by_cmp, as_partial_cmp};
 ghost use Rattle.std.specs.Cmp.{eq_by_cmp_equiv, partial_equiv_from_equiv, partial_order_from_total};
-ghost use Rattle.fb_tree.specs.Text.Order.{in_order};
+ghost use Rattle.fb_tree.specs.Text.Order.{in_order, name_cmp};
 ghost use Rattle.fb_tree.specs.Tree.{parameter_tree};
 ghost use Rattle.fb_netcheck.specs.Library.View.{tree_at};
 ghost use Rattle.fb_placing.specs.Standing.{plain_standing};
 ghost use Rattle.fb_placing.specs.Systems.{applications_in};
 ghost use Rattle.fb_placing.specs.Lines.{create_line, create_lines, home_lines, line_cmp, line_cmp_total, lines_at, write_line, write_lines};
+ghost use Rattle.fb_placing.specs.Tables.{AreApplications, AreUnits};
 
 use crate::command::Command;
 use crate::fronts::PathTable;
 use crate::homes::Home;
 use crate::standing::{Standing, path_names, standing_at};
+use crate::tables::{Applications, Units, applications_in};
 use crate::written::written;
 use fb_netcheck::library::View;
 use fb_netcheck::text_by_name;
@@ -23,6 +25,7 @@ use fb_tree::Parameter;
 use fb_tree::text::Name;
 use std::alloc::{AllocError, Global};
 use std::cmp::Ordering;
+use std::collections::BTreeMap;
 
 /// A command, the place that it is about, and the resource that it is for. Lines are ordered by the bytes of their places.
 #[derive(Debug, Drop)]
@@ -184,24 +187,31 @@ fn push_lines_of<V: View>(
         ≡ lines.old.items
         ++ lines_at (V.sources view.now) home.now (Some (plain_standing it.now))) }
 {
-    let text = text_by_name(view, &it.unit);
+    let text = text_by_name(view, it.unit);
     push_write_lines(alloc, text, home, it.instance.parameters.as_slice(), lines)
 }
 
 /// Adds the commands that set the parameters of a block.
-fn push_home_lines<V: View>(
+fn push_home_lines<'a, V: View>(
     alloc: Global,
-    view: &V,
-    system: &Name,
+    view: &'a V,
+    system: &'a Name,
     home: &Home,
+    applications: &Applications<'a>,
+    units: &mut Units<'a>,
     lines: &mut Vec<Line>,
 ) -> Result<(), AllocError>
-    ensures { OnOk result (lines.new.items ≡ lines.old.items
+    requires applications { AreApplications
+        (applications_in (tree_at (V.sources view.now) system.now))
+        (get_by_text applications.now) }
+    requires units { AreUnits (V.sources view.now) (get name_cmp units.old) }
+    ensures right { OnOk result (AreUnits (V.sources view.now) (get name_cmp units.new)) }
+    ensures lines { OnOk result (lines.new.items ≡ lines.old.items
         ++ home_lines (V.sources view.now) system.now
         (applications_in (tree_at (V.sources view.now) system.now)) home.now) }
 {
     let names = path_names(alloc, home.path.as_str())?;
-    match standing_at(view, system, names.as_slice()) {
+    match standing_at(alloc, view, system, &names, applications, units)? {
         Some(it) => push_lines_of(alloc, view, home, &it, lines),
         None => Ok(()),
     }
@@ -219,9 +229,19 @@ fn all_home_lines<V: View>(
         (home_lines (V.sources view.now) system.now
         (applications_in (tree_at (V.sources view.now) system.now))) homes.now) }
 {
+    let applications = applications_in(alloc, view, system)?;
+    let mut units = BTreeMap::new(alloc);
     let mut lines = Vec::new(alloc);
     for home in homes {
-        push_home_lines(alloc, view, system, home, &mut lines)?;
+        push_home_lines(
+            alloc,
+            view,
+            system,
+            home,
+            &applications,
+            &mut units,
+            &mut lines,
+        )?;
     }
     Ok(lines)
 }

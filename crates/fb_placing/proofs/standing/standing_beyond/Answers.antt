@@ -1,9 +1,13 @@
-use Rattle.std.proofs.Common.{sym, ◌∙◌}
+-- Nothing stands under the next name.
+use Rattle.std.proofs.Common.{sym, ◌∙◌, ap}
+use Rattle.std.specs.Prelude.{option_map}
 use Rattle.fb_placing.specs.Standing.{plain_standing}
 use Rattle.fb_placing.proofs.StandingLemmas.{beyond_stops}
 use Rattle.fb_placing.proofs.standing.standing_beyond.Goals as goal
 
-pub returns-in-None : goal.returns-in-None
-returns-in-None g c =
-    let stops = beyond_stops (g.V.View.sources c.args.view.now) c.args.names.now c.loop-name.name-index _ (plain_standing c.loop-name.found) c.loop-name-test.true (sym c.in-None.ensures) in
-    sym (c.loop-name.invariant ∙ stops)
+pub returns-in-None-clause-found : goal.returns-in-None-clause-found
+returns-in-None-clause-found g c =
+    let sources = g.V.View.sources c.args.view.now in
+    let nothing = sym c.in_ok-inner.ensures.found ∙ ap (option_map plain_standing) c.in-None.is in
+    sym (c.loop-name.invariant.leads
+    ∙ beyond_stops sources c.args.names.now c.loop-name.name-index _ (plain_standing c.loop-name.found) c.loop-name-test.true nothing)

@@ -1,0 +1,33 @@
+-- Tables of instances by their names.
+use Rattle.std.specs.Prelude.{ℕ, ◌≡◌, List, Option, Some, String, option_map}
+use Rattle.std.specs.BTreeMap.{BTreeMap, get_by_text}
+use Rattle.std.specs.Borrow.{Bor}
+use Rattle.std.specs.declared.alloc.Global.{Global}
+use Rattle.fb_tree.specs.Tree.{ApplicationTree, InstanceTree, instance_tree}
+use Rattle.fb_tree.specs.declared.network.Instance.{Instance}
+use Rattle.fb_netcheck.specs.Library.View.{Sources, tree_at}
+use Rattle.fb_placing.specs.Firsts.{first_at}
+use Rattle.fb_placing.specs.Standing.{inner_instances, instance_called}
+
+abbrev pub Instances : Type 0
+Instances = BTreeMap (String Global) (Bor Instance)
+
+-- the instance that a table has under a name
+abbrev pub instance_at : Instances → List ℕ → Option InstanceTree
+instance_at table name = option_map (λ i. instance_tree i.now) (get_by_text table name)
+
+-- the instances of the application of that name by their names, of the first application
+abbrev pub instances_called : List ApplicationTree → List ℕ → Option (List ℕ → Option InstanceTree)
+instances_called applications name =
+    first_at (λ a. a.name.name) (λ a. instance_called a.network.instances) applications name
+
+-- under the name of each application stands a table of its instances
+abbrev pub AreApplications : List ApplicationTree → (List ℕ → Option Instances) → Type 0
+AreApplications applications table =
+    (name : List ℕ) → option_map instance_at (table name) ≡ instances_called applications name
+
+-- what stands under the name of a unit is a table of its instances
+abbrev pub AreUnits : Sources → (List ℕ → Option Instances) → Type 0
+AreUnits sources units =
+    (unit : List ℕ) (table : Instances) → units unit ≡ Some table
+    → instance_at table ≡ instance_called (inner_instances (tree_at sources unit))
