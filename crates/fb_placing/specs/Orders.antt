@@ -23,9 +23,13 @@ connection_text from to = codes "CREATE CONNECTION " ++ from ++ 32 ∷ to
 abbrev pub link_resource : (List ℕ → Option (List ℕ)) → Link → Option (List ℕ)
 link_resource homes link = if same_home (nearest homes link.from) (nearest homes link.to) then nearest homes link.from else None
 
+-- the command that joins the ends of a link on a resource
+abbrev pub order_on : Option (List ℕ) → Link → Option Order
+order_on resource link = option_map (λ r. record { resource = r; command = connection_text link.from link.to }) resource
+
 -- the command that joins the ends of a link within a resource
 abbrev pub connection_order : (List ℕ → Option (List ℕ)) → Link → Option Order
-connection_order homes link = option_map (λ r. record { resource = r; command = connection_text link.from link.to }) (link_resource homes link)
+connection_order homes link = order_on (link_resource homes link) link
 
 abbrev pub connection_orders : (List ℕ → Option (List ℕ)) → List Link → List Order
 connection_orders homes links = filter_map (connection_order homes) links

@@ -4,7 +4,6 @@ ghost use Rattle.fb_netcheck.specs.Library.View.{tree_at};
 ghost use Rattle.fb_placing.specs.Cuts.{cuts_of, home_at};
 ghost use Rattle.fb_placing.specs.Commands.{commands_in};
 
-use crate::cuts::{cuts_of, home_table};
 use crate::homes::Home;
 use crate::orders::orders_of;
 use crate::resources::{ResourcePlan, resource_plans, resources_of};
@@ -34,10 +33,9 @@ pub fn commands_of<V: View>(
         ≡ commands_in (V.sources view.now) system.now
         (tree_at (V.sources view.now) system.now) flat.now homes.now) }
 {
-    let table = home_table(alloc, homes)?;
-    let cuts = cuts_of(alloc, &table, flat.links())?;
     let names = resources_of(alloc, view, system)?;
-    let orders = orders_of(alloc, view, system, names.as_slice(), flat, homes, &table)?;
+    let mut cuts = Vec::new(alloc);
+    let orders = orders_of(alloc, view, system, &names, flat, homes, &mut cuts)?;
     let resources = resource_plans(alloc, orders, names)?;
     Ok(Commands { cuts, resources })
 }

@@ -41,6 +41,17 @@ pub fn is_cut(table: &PathTable, link: &Link) -> bool
     !same_home(from, to)
 }
 
+/// The same link again.
+pub(crate) fn link_copy(link: &Link) -> Result<Link, AllocError>
+    ensures { IfOk result (λ copy. copy ≡ link.now) }
+{
+    Ok(Link {
+        sort: link.sort,
+        from: link.from.copy()?,
+        to: link.to.copy()?,
+    })
+}
+
 /// The links whose two homes differ, in the order of the links.
 pub fn cuts_of(alloc: Global, table: &PathTable, links: &[Link]) -> Result<Vec<Link>, AllocError>
     ensures { IfOk result (λ cuts. cuts.items ≡ cuts_of (get_by_text table.now) links.now) }
@@ -48,11 +59,7 @@ pub fn cuts_of(alloc: Global, table: &PathTable, links: &[Link]) -> Result<Vec<L
     let mut cuts = Vec::new(alloc);
     for link in links {
         if is_cut(table, link) {
-            cuts.push(Link {
-                sort: link.sort,
-                from: link.from.copy()?,
-                to: link.to.copy()?,
-            })?;
+            cuts.push(link_copy(link)?)?;
         }
     }
     Ok(cuts)

@@ -1,13 +1,14 @@
 //! The commands of a system, each with the resource that it is for.
-ghost use Rattle.std.specs.Prelude.{◌≡◌, ◌++◌, IfOk, OnOk, map, option_copied};
+ghost use Rattle.std.specs.Prelude.{◌≡◌, [], ◌∷◌, ◌++◌, IfOk, OnOk, map, option_copied};
 ghost use Rattle.std.specs.BTreeMap.{get_by_text};
 ghost use Rattle.fb_netcheck.specs.Library.View.{tree_at};
-ghost use Rattle.fb_placing.specs.Cuts.{home_at};
+ghost use Rattle.std.specs.List.{cons_option};
+ghost use Rattle.fb_placing.specs.Cuts.{cuts_of, home_at};
 ghost use Rattle.fb_placing.specs.Systems.{applications_in};
-ghost use Rattle.fb_placing.specs.Orders.{connection_order, connection_orders, line_order, link_resource, orders_of, start_order};
+ghost use Rattle.fb_placing.specs.Orders.{connection_orders, connection_text, line_order, order_on, orders_of, start_order};
 
 use crate::command::Command;
-use crate::cuts::is_cut;
+use crate::cuts::{home_table, link_copy, same_home};
 use crate::fronts::{PathTable, nearest};
 use crate::homes::Home;
 use crate::lines::{Line, create_lines, write_lines};
@@ -36,48 +37,72 @@ fn push_line_orders(lines: Vec<Line>, orders: &mut Vec<Order>) -> Result<(), All
     Ok(())
 }
 
-/// The resource on which both ends of a link stand.
-fn link_resource<'a>(homes: &'a PathTable, link: &Link) -> Option<&'a Path>
-    ensures { option_copied result ≡ link_resource (get_by_text homes.now) link.now }
+/// The command that joins the ends of a link, which both stand on the resource.
+fn connection_order(alloc: Global, link: &Link, resource: &Path) -> Result<Order, AllocError>
+    ensures { IfOk result (λ order. order ≡ record {
+      resource = resource.now;
+      command = connection_text link.now.from link.now.to;
+    }) }
 {
-    if is_cut(homes, link) {
-        return None;
-    }
-    nearest(homes, link.from.as_str())
+    let from = link.from.as_str();
+    let command = Command::of_two(alloc, "CREATE CONNECTION ", from, link.to.as_str())?;
+    let resource = resource.copy()?;
+    Ok(Order { resource, command })
 }
 
-/// The command that joins the ends of a link within a resource.
-fn connection_order(
+/// Adds the command that joins the ends of a link, if it is not cut.
+fn push_connection_order(
+    alloc: Global,
+    resource: Option<&Path>,
+    link: &Link,
+    orders: &mut Vec<Order>,
+) -> Result<(), AllocError>
+    ensures { OnOk result (orders.new.items ≡ orders.old.items
+        ++ cons_option (order_on (option_copied resource.entry) link.now) []) }
+{
+    if let Some(resource) = resource {
+        orders.push(connection_order(alloc, link, resource)?)?;
+    }
+    Ok(())
+}
+
+/// Adds a link to those that are cut, or the command that joins its ends.
+fn push_link(
     alloc: Global,
     homes: &PathTable,
     link: &Link,
-) -> Result<Option<Order>, AllocError>
-    ensures { IfOk result (λ order. order ≡ connection_order (get_by_text homes.now) link.now) }
+    cuts: &mut Vec<Link>,
+    orders: &mut Vec<Order>,
+) -> Result<(), AllocError>
+    ensures cuts { OnOk result
+        (cuts.new.items ≡ cuts.old.items ++ cuts_of (get_by_text homes.now) (link.now ∷ [])) }
+    ensures orders { OnOk result (orders.new.items
+        ≡ orders.old.items ++ connection_orders (get_by_text homes.now) (link.now ∷ [])) }
 {
-    match link_resource(homes, link) {
-        Some(resource) => {
-            let from = link.from.as_str();
-            let command = Command::of_two(alloc, "CREATE CONNECTION ", from, link.to.as_str())?;
-            let resource = resource.copy()?;
-            Ok(Some(Order { resource, command }))
-        }
-        None => Ok(None),
+    let from = nearest(homes, link.from.as_str());
+    if same_home(from, nearest(homes, link.to.as_str())) {
+        push_connection_order(alloc, from, link, orders)
+    } else {
+        cuts.push(link_copy(link)?)?;
+        Ok(())
     }
 }
 
-fn push_connection_orders(
+/// Adds the links that are cut, and the commands that join the ends of the others.
+fn push_links(
     alloc: Global,
     homes: &PathTable,
     links: &[Link],
+    cuts: &mut Vec<Link>,
     orders: &mut Vec<Order>,
 ) -> Result<(), AllocError>
-    ensures { OnOk result (orders.new.items
+    ensures cuts { OnOk result
+        (cuts.new.items ≡ cuts.old.items ++ cuts_of (get_by_text homes.now) links.now) }
+    ensures orders { OnOk result (orders.new.items
         ≡ orders.old.items ++ connection_orders (get_by_text homes.now) links.now) }
 {
     for link in links {
-        if let Some(order) = connection_order(alloc, homes, link)? {
-            orders.push(order)?;
-        }
+        push_link(alloc, homes, link, cuts, orders)?;
     }
     Ok(())
 }
@@ -105,7 +130,8 @@ fn push_start_orders(
     Ok(())
 }
 
-/// All commands: blocks are made first, then parameters are set, then connections are made, then resources are started.
+/// All commands: blocks are made first, then parameters are set, then connections are made, then resources are started. Adds the links
+/// that are cut.
 pub(crate) fn orders_of<V: View>(
     alloc: Global,
     view: &V,
@@ -113,17 +139,19 @@ pub(crate) fn orders_of<V: View>(
     resources: &[Path],
     flat: &Flat,
     homes: &[Home],
-    table: &PathTable,
+    cuts: &mut Vec<Link>,
 ) -> Result<Vec<Order>, AllocError>
-    requires { get_by_text table.now ≡ home_at homes.now }
-    ensures { IfOk result (λ orders. orders.items ≡ orders_of (V.sources view.now) system.now
+    ensures cuts { OnOk result
+        (cuts.new.items ≡ cuts.old.items ++ cuts_of (home_at homes.now) flat.now.links) }
+    ensures orders { IfOk result (λ orders. orders.items ≡ orders_of (V.sources view.now) system.now
         (applications_in (tree_at (V.sources view.now) system.now))
         resources.now flat.now homes.now) }
 {
+    let table = &home_table(alloc, homes)?;
     let mut orders = Vec::new(alloc);
     push_line_orders(create_lines(alloc, table, flat.blocks())?, &mut orders)?;
     push_line_orders(write_lines(alloc, view, system, homes)?, &mut orders)?;
-    push_connection_orders(alloc, table, flat.links(), &mut orders)?;
+    push_links(alloc, table, flat.links(), cuts, &mut orders)?;
     push_start_orders(alloc, resources, &mut orders)?;
     Ok(orders)
 }

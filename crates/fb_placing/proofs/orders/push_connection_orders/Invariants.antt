@@ -1,7 +1,0 @@
-use Rattle.std.proofs.Common.{◌≡◌, ◌++◌, take}
-use Rattle.std.specs.BTreeMap.{get_by_text}
-use Rattle.fb_placing.specs.Orders.{connection_orders}
-use Rattle.fb_placing.proofs.orders.push_connection_orders.Given as goal
-
-abbrev pub invariant-loop-link : goal.invariant-loop-link
-invariant-loop-link l = l.orders.items ≡ l.fn.orders.items ++ connection_orders (get_by_text l.homes) (take l.link-index l.links)
