@@ -70,8 +70,8 @@ impl Ord for Link {
 
     fn cmp(&self, other: &Link) -> Ordering {
         let sorts = sort_number(self.sort).cmp(&sort_number(other.sort));
-        let froms = self.from.cmp(&other.from);
-        sorts.then(froms.then(self.to.cmp(&other.to)))
+        let froms = sorts.then_with(|| self.from.cmp(&other.from));
+        froms.then_with(|| self.to.cmp(&other.to))
     }
 }
 
@@ -110,8 +110,8 @@ impl Ord for Border {
 
     fn cmp(&self, other: &Border) -> Ordering {
         let sorts = sort_number(self.sort).cmp(&sort_number(other.sort));
-        let ports = self.port.cmp(&other.port);
-        sorts.then(ports.then(self.place.cmp(&other.place)))
+        let ports = sorts.then_with(|| self.port.cmp(&other.port));
+        ports.then_with(|| self.place.cmp(&other.place))
     }
 }
 

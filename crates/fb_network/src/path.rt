@@ -68,6 +68,14 @@ impl Path {
         Ok(Path { text })
     }
 
+    /// The text of the path, which is given away.
+    pub fn into_string(self) -> String
+        ensures { string_bytes result ≡ self }
+    {
+        let Path { text } = self;
+        text
+    }
+
     pub fn as_str(&self) -> &str
         ensures { result.now ≡ self.now }
     {

@@ -13,3 +13,4 @@ pub mod HomesLocal
 pub mod LineLemmas
 pub mod LinesLocal
 pub mod StepLemmas
+pub mod GroupLemmas

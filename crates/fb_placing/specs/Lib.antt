@@ -13,6 +13,7 @@ pub mod Lines
 pub mod Orders
 pub mod PlainResource
 pub mod Resources
+pub mod Groups
 pub mod Commands
 -- Of the crates below, for the crates above.
 pub use Rattle.fb_tree.specs as Tree

@@ -29,7 +29,9 @@ impl Command {
     pub(crate) fn of(alloc: Global, word: &str, text: &str) -> Result<Command, AllocError>
         ensures { IfOk result (λ command. command ≡ word.now ++ text.now) }
     {
-        let mut command = String::from_str(alloc, word)?;
+        let room = word.len().saturating_add(text.len());
+        let mut command = String::with_capacity(alloc, room)?;
+        command.push_str(word)?;
         command.push_str(text)?;
         Ok(Command { text: command })
     }
@@ -43,7 +45,9 @@ impl Command {
     ) -> Result<Command, AllocError>
         ensures { IfOk result (λ command. command ≡ word.now ++ first.now ++ 32 ∷ second.now) }
     {
-        let mut command = String::from_str(alloc, word)?;
+        let texts = first.len() + 1 + second.len();
+        let mut command = String::with_capacity(alloc, word.len().saturating_add(texts))?;
+        command.push_str(word)?;
         command.push_str(first)?;
         command.push(' ')?;
         command.push_str(second)?;

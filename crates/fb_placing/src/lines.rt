@@ -70,8 +70,8 @@ impl Ord for Line {
 
     fn cmp(&self, other: &Line) -> Ordering {
         let places = self.place.cmp(&other.place);
-        let commands = self.command.cmp(&other.command);
-        places.then(commands.then(self.resource.cmp(&other.resource)))
+        let commands = places.then_with(|| self.command.cmp(&other.command));
+        commands.then_with(|| self.resource.cmp(&other.resource))
     }
 }
 
@@ -187,8 +187,11 @@ fn push_lines_of<V: View>(
         ≡ lines.old.items
         ++ lines_at (V.sources view.now) home.now (Some (plain_standing it.now))) }
 {
-    let text = text_by_name(view, it.unit);
-    push_write_lines(alloc, text, home, it.instance.parameters.as_slice(), lines)
+    let parameters = it.instance.parameters.as_slice();
+    if parameters.is_empty() {
+        return Ok(());
+    }
+    push_write_lines(alloc, text_by_name(view, it.unit), home, parameters, lines)
 }
 
 /// Adds the commands that set the parameters of a block.

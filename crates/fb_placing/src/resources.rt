@@ -1,11 +1,14 @@
 //! The resources of a system, and the commands of each.
-ghost use Rattle.std.specs.Prelude.{◌≡◌, ◌++◌, ℕ, List, [], map, IfOk, OnOk};
+ghost use Rattle.std.specs.Prelude.{◌≡◌, ◌++◌, ℕ, List, [], map, IfOk, None, OnOk, find, option_copied, unwrap_or};
 ghost use Rattle.std.specs.BTreeMap.{get_by_text};
+ghost use Rattle.std.specs.Map.{update};
 ghost use Rattle.std.specs.Option.{option_map_or};
+ghost use Rattle.std.specs.Str.{bytes_eq};
 ghost use Rattle.fb_tree.specs.Tree.{device_tree, resource_tree};
 ghost use Rattle.fb_netcheck.specs.Library.View.{tree_at};
 ghost use Rattle.fb_network.specs.Places.{dotted};
 ghost use Rattle.fb_placing.specs.Systems.{devices_in};
+ghost use Rattle.fb_placing.specs.Groups.{AreHeld, planned};
 ghost use Rattle.fb_placing.specs.Resources.{commands_for, resource_plans, resources_of};
 
 use crate::command::Command;
@@ -112,7 +115,7 @@ fn grouped(alloc: Global, orders: Vec<Order>) -> Result<Groups, AllocError>
 {
     let mut groups: Groups = BTreeMap::new(alloc);
     for order in orders {
-        let name = String::from_str(alloc, order.resource.as_str())?;
+        let name = order.resource.into_string();
         groups.entry(name)?.or_default().push(order.command)?;
     }
     Ok(groups)
@@ -128,14 +131,46 @@ fn copies(alloc: Global, commands: &[Command]) -> Result<Vec<Command>, AllocErro
     Ok(copies)
 }
 
-/// The commands for a resource.
-fn commands_for(alloc: Global, groups: &Groups, resource: &Path) -> Result<Vec<Command>, AllocError>
-    ensures { IfOk result (λ commands. commands.items
-        ≡ option_map_or (λ g. g.items) (get_by_text groups.now resource.now) []) }
+/// The first of these plans that has the name.
+fn plan_called<'a>(plans: &'a [ResourcePlan], name: &Path) -> Option<&'a ResourcePlan>
+    ensures { option_copied result ≡ find (λ p. bytes_eq p.name name.now) plans.now }
 {
-    match groups.get(resource.as_str()) {
-        Some(commands) => copies(alloc, commands.as_slice()),
+    plans
+        .iter()
+        .find(|plan| plan.name().as_str() == name.as_str())
+}
+
+/// The commands of the first of these plans that has the name.
+fn earlier_commands(
+    alloc: Global,
+    plans: &[ResourcePlan],
+    name: &Path,
+) -> Result<Vec<Command>, AllocError>
+    ensures { IfOk result
+        (λ commands. commands.items ≡ unwrap_or (planned plans.now name.now) []) }
+{
+    match plan_called(plans, name) {
+        Some(plan) => copies(alloc, plan.commands()),
         None => Ok(Vec::new(alloc)),
+    }
+}
+
+/// The commands for a resource: its group, which is taken out, or where an earlier resource of the same name has it, a copy.
+fn commands_for(
+    alloc: Global,
+    groups: &mut Groups,
+    plans: &[ResourcePlan],
+    resource: &Path,
+) -> Result<Vec<Command>, AllocError>
+    ensures commands { (of : List ℕ → List (List ℕ))
+        → AreHeld of (λ g. g.items) (get_by_text groups.old) plans.now
+        → IfOk result (λ commands. commands.items ≡ of resource.now) }
+    ensures taken { (q : List ℕ) → get_by_text groups.new q
+        ≡ update bytes_eq (get_by_text groups.old) resource.now None q }
+{
+    match groups.remove(resource.as_str()) {
+        Some(commands) => Ok(commands),
+        None => earlier_commands(alloc, plans, resource),
     }
 }
 
@@ -147,10 +182,10 @@ pub(crate) fn resource_plans(
 ) -> Result<Vec<ResourcePlan>, AllocError>
     ensures { IfOk result (λ plans. plans.items ≡ resource_plans orders.items resources.items) }
 {
-    let groups = grouped(alloc, orders)?;
+    let mut groups = grouped(alloc, orders)?;
     let mut plans = Vec::new(alloc);
     for name in resources {
-        let commands = commands_for(alloc, &groups, &name)?;
+        let commands = commands_for(alloc, &mut groups, &plans, &name)?;
         plans.push(ResourcePlan { name, commands })?;
     }
     Ok(plans)

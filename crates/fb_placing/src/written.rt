@@ -34,7 +34,7 @@ fn joined(alloc: Global, text: &str, tokens: &[Token]) -> Result<String, AllocEr
     requires { All (λ t. LiesIn text.now t.span) tokens.now }
     ensures { IfOk result (λ told. string_bytes told ≡ flat_map (token_text text.now) tokens.now) }
 {
-    let mut told = String::new(alloc);
+    let mut told = String::with_capacity(alloc, text.len())?;
     for token in tokens {
         told.push_str(token.text(text))?;
     }
