@@ -6,7 +6,6 @@ pub mod AdapterLemmas
 pub mod Composing
 pub mod BlockLemmas
 pub mod InOrder
-pub mod Counting
 pub mod SameSorted
 pub mod OneFlat
 pub mod Tables

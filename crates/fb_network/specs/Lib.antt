@@ -17,5 +17,4 @@ pub mod Composed
 pub mod Ready
 pub mod Ordered
 pub mod Part
-pub mod Counts
 pub mod SystemFlat

@@ -12,7 +12,6 @@ mod count;
 mod flat;
 mod flat_network;
 mod in_order;
-mod instances;
 mod laws;
 mod links;
 mod look_up;
@@ -27,7 +26,6 @@ pub use count::INSTANCE_LIMIT;
 pub use flat::{Border, Flat, FlatBlock, Link};
 pub use flat_network::{compose, compose_by_part};
 pub use in_order::compose_in_order;
-pub use instances::count_instances;
 pub use laws::{chains_are_composed, flat_is_one, system_is_one};
 pub use look_up::{Nets, Networks};
 pub use network::{

@@ -27,8 +27,8 @@ system_applications sources unit tree present = ap (option_map applications_of) 
 pub too_large : {sources : Sources} {unit : List ℕ} {count : ℕ} → IsUnitCount sources unit count → INSTANCE_LIMIT < count → IsTooLarge sources unit
 too_large c lt = record { held = c.held; holds = c.holds; more = let e = c.count_is in omega (arith, e, lt) }
 
-pub not_too_large : {sources : Sources} {unit : List ℕ} {count : ℕ} → IsUnitCount sources unit count → count ≤ INSTANCE_LIMIT → IsWithinLimit sources unit count
-not_too_large c le = record { held = c.held; holds = c.holds; number = let e = c.count_is in omega (arith, e, le); within = let e = c.count_is in omega (arith, e, le) }
+pub not_too_large : {sources : Sources} {unit : List ℕ} {count : ℕ} → IsUnitCount sources unit count → count ≤ INSTANCE_LIMIT → IsWithinLimit sources unit
+not_too_large c le = record { held = c.held; holds = c.holds; within = let e = c.count_is in omega (arith, e, le) }
 
 -- the instances of a unit that is no system are those of its network
 pub own_of_type : (tree : DeclTree) → is_system_tree tree ≡ false → (network_of tree).instances ≡ own_instances tree

@@ -16,6 +16,7 @@ pub mod FoundUnits
 pub mod KindLemmas
 pub mod LeftLemmas
 pub mod TableLemmas
+pub mod Counting
 -- Of the crates below, for the crates above.
 pub use Rattle.fb_tree.proofs.Text as Text
 pub use Rattle.fb_iface.proofs.Parse as Parse

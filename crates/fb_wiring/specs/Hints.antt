@@ -1,10 +1,9 @@
 -- Nets that are kept from before.
-use Rattle.std.specs.Prelude.{ℕ, ◌+◌, Bool, true, false, ◌||◌, is_none, List, Option, Some, None}
+use Rattle.std.specs.Prelude.{ℕ, Bool, true, false, not, ◌||◌, List, Option, Some, None}
 use Rattle.std.specs.BTreeMap.{is_at}
 use Rattle.std.specs.FinMap.{retain_keys}
 use Rattle.fb_tree.specs.Text.Order.{name_cmp}
 use Rattle.fb_iface.specs.Library.View.{Sources}
-use Rattle.fb_network.specs.declared.count.TheConstants.{INSTANCE_LIMIT}
 use Rattle.fb_network.specs.PlainFlat.{PlainFlat}
 use Rattle.fb_wiring.specs.Net.{PlainNet, blocked, recursive, too_large, flat_net}
 
@@ -13,7 +12,7 @@ abbrev pub flat_of_net : PlainNet → Option PlainFlat
 flat_of_net (blocked names) = None
 flat_of_net (recursive names) = None
 flat_of_net too_large = None
-flat_of_net (flat_net flat instances) = Some flat
+flat_of_net (flat_net flat) = Some flat
 
 abbrev pub flat_of_hint : Option PlainNet → Option PlainFlat
 flat_of_hint None = None
@@ -24,26 +23,27 @@ abbrev pub is_whole_net : PlainNet → Bool
 is_whole_net (blocked names) = false
 is_whole_net (recursive names) = true
 is_whole_net too_large = true
-is_whole_net (flat_net flat instances) = true
+is_whole_net (flat_net flat) = true
 
 abbrev pub is_whole_hint : Option PlainNet → Bool
 is_whole_hint None = false
 is_whole_hint (Some net) = is_whole_net net
 
--- how many instances a unit of that net holds at all depths, up to one past the limit
-abbrev pub count_of_net : PlainNet → Option ℕ
-count_of_net (blocked names) = None
-count_of_net (recursive names) = None
-count_of_net too_large = Some (INSTANCE_LIMIT + 1)
-count_of_net (flat_net flat instances) = Some instances
+-- the net of a unit of which none of what it rests on reaches itself either
+abbrev pub is_sound_net : PlainNet → Bool
+is_sound_net (blocked names) = false
+is_sound_net (recursive names) = false
+is_sound_net too_large = true
+is_sound_net (flat_net flat) = true
 
-abbrev pub count_of_hint : Option PlainNet → Option ℕ
-count_of_hint None = None
-count_of_hint (Some net) = count_of_net net
+abbrev pub is_sound_hint : Option PlainNet → Bool
+is_sound_hint None = false
+is_sound_hint (Some net) = is_sound_net net
 
--- whether the text of the name has to be looked at for the unit: its net is not kept with a count, or the name is the unit
+-- whether the text of the name has to be looked at for the unit: its kept net, if there is one, does not tell that it is sound, or the
+-- name is the unit
 abbrev pub is_left : (List ℕ → Option PlainNet) → List ℕ → List ℕ → Bool
-is_left hints unit name = is_at (name_cmp unit) name || is_none (count_of_hint (hints name))
+is_left hints unit name = is_at (name_cmp unit) name || not (is_sound_hint (hints name))
 
 -- the texts that have to be looked at
 abbrev pub left_of : (List ℕ → Option PlainNet) → Sources → List ℕ → Sources

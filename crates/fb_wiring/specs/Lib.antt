@@ -12,6 +12,7 @@ pub mod LocalOrder
 pub mod Units
 pub mod Net
 pub mod Hints
+pub mod Counts
 pub mod Tables
 -- Of the crates below, for the crates above.
 pub use Rattle.fb_tree.specs.Text as Text

@@ -4,16 +4,16 @@ use Rattle.fb_network.specs.PlainFlat.{PlainFlat}
 use Rattle.fb_wiring.specs.declared.nets.Net.{Net}
 use Rattle.fb_wiring.specs.declared.nets.Net.TheVariants.{Blocked, Recursive, TooLarge, Flat}
 
--- a net in plain; a flat network stands with the number of instances of all depths
+-- a net in plain
 pub data PlainNet : Type 0 where
   blocked : List (List ℕ) → PlainNet
   recursive : List (List ℕ) → PlainNet
   too_large : PlainNet
-  flat_net : PlainFlat → ℕ → PlainNet
+  flat_net : PlainFlat → PlainNet
 
 -- a net without where it lies in memory
 abbrev pub plain_net : Net → PlainNet
 plain_net (Blocked names) = blocked names.items
 plain_net (Recursive names) = recursive names.items
 plain_net TooLarge = too_large
-plain_net (Flat flat instances) = flat_net flat instances
+plain_net (Flat flat) = flat_net flat

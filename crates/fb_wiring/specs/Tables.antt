@@ -1,5 +1,5 @@
 -- Networks, counts and flat networks of the names of an order.
-use Rattle.std.specs.Prelude.{ℕ, ◌≡◌, ◌≢◌, ◌≤◌, ◌+◌, Bool, true, false, not, ◌&&◌, is_none, List, Option, Some, None, Contains, length, min}
+use Rattle.std.specs.Prelude.{ℕ, ◌≡◌, ◌≢◌, ◌≤◌, ◌+◌, Bool, true, false, not, ◌&&◌, List, Option, Some, None, Contains, length, min}
 use Rattle.std.specs.Option.{option_or}
 use Rattle.std.specs.BTreeMap.{is_at}
 use Rattle.fb_tree.specs.Text.Order.{name_cmp}
@@ -13,17 +13,16 @@ use Rattle.fb_network.specs.PlainFlat.{PlainFlat}
 use Rattle.fb_network.specs.Network.{View}
 use Rattle.fb_network.specs.Instances.{Held, AreInstances}
 use Rattle.fb_network.specs.Clean.{IsCleanThroughout}
-use Rattle.fb_network.specs.Count.{IsCount}
-use Rattle.fb_network.specs.Counts.{IsCounted, AreCounted}
+use Rattle.fb_wiring.specs.Counts.{IsCounted}
 use Rattle.fb_network.specs.Part.{IsFlatInWhole, SameAdapters}
 use Rattle.fb_network.specs.Ready.{Nets, IsFinished, AreFinished}
 use Rattle.fb_network.specs.SystemFlat.{IsSystemFlat}
 use Rattle.fb_network.specs.declared.application.FlatApplication.{FlatApplication}
 use Rattle.fb_wiring.specs.ByName.{declared, kind_at}
 use Rattle.fb_wiring.specs.declared.systems.Application.{Application}
-use Rattle.fb_wiring.specs.Hints.{count_of_hint, flat_of_hint}
+use Rattle.fb_wiring.specs.Hints.{flat_of_hint, is_sound_hint}
 use Rattle.fb_wiring.specs.Net.{PlainNet}
-use Rattle.fb_wiring.specs.Units.{AreFlatApplications, Holds, IsFlatApplication, IsWithinLimit}
+use Rattle.fb_wiring.specs.Units.{AreFlatApplications, Holds, IsFlatApplication}
 
 -- ---- networks
 
@@ -64,30 +63,6 @@ abbrev pub AllCounted : Sources → (List ℕ → Option ℕ) → List (List ℕ
 AllCounted sources counts names =
     (name : List ℕ) → Contains names name → kind_at sources name ≡ Some kinds.Subapplication → IsCounted (declared sources) counts name
 
--- The instances of the type can be counted: its kept net has their number, or the table has its network, and the types of its subapplication
--- instances are counted.
-pub record IsCountable (view table : View) (kept : Option ℕ) (counts : List ℕ → Option ℕ) (name : List ℕ) : Type 0 where
-  pub network : PlainNetwork
-  pub declared : view name ≡ Some network
-  pub there : table name ≡ Some network
-  pub known : (count : ℕ) → kept ≡ Some count → IsCount view network.instances count
-  pub counted : kept ≡ None → AreCounted view network.instances counts
-
--- the number of instances of the type, where those of its inner types are counted
-abbrev pub IsCountByTable : View → (List ℕ → Option ℕ) → List ℕ → ℕ → Type 0
-IsCountByTable table counts name count =
-    (view : View) (network : PlainNetwork)
-    → table name ≡ Some network → AreCounted view network.instances counts → IsCount view network.instances count
-
--- the same where the type can be counted
-abbrev pub IsTypeCount : View → Option ℕ → (List ℕ → Option ℕ) → List ℕ → ℕ → Type 0
-IsTypeCount table kept counts name count =
-    (view : View) (can : IsCountable view table kept counts name) → IsCount view can.network.instances count
-
--- the name is counted in the new ones in each view in which it can be
-abbrev pub IsCountedWhereKnown : View → Option ℕ → (List ℕ → Option ℕ) → (List ℕ → Option ℕ) → List ℕ → Type 0
-IsCountedWhereKnown table kept old new name = (view : View) → IsCountable view table kept old name → IsCounted view new name
-
 -- each other name has what it had
 abbrev pub SameOthers : {X : Type 0} → (List ℕ → Option X) → (List ℕ → Option X) → List ℕ → Type 0
 SameOthers old new name = (other : List ℕ) → other ≢ name → new other ≡ old other
@@ -105,10 +80,6 @@ pub record IsSmallType (view : View) (name : List ℕ) : Type 0 where
   pub held : List Held
   pub instances : AreInstances view network.instances held
   pub within : length held ≤ INSTANCE_LIMIT
-
--- so does the unit
-abbrev pub IsSmall : Sources → List ℕ → Type 0
-IsSmall sources name = (instances : ℕ) × IsWithinLimit sources name instances
 
 -- ---- flat networks
 
@@ -148,7 +119,7 @@ is_subapplication_in (Some tree) = is_subapplication_tree tree
 -- whether the flat network of the name is to be composed for the unit: that of a subapplication below the unit whose kept net does not tell
 abbrev pub is_missing : Sources → (List ℕ → Option PlainNet) → List ℕ → List ℕ → Bool
 is_missing sources hints unit name =
-    not (is_at (name_cmp unit) name) && (is_none (count_of_hint (hints name)) && is_subapplication_in (tree_at sources name))
+    not (is_at (name_cmp unit) name) && (not (is_sound_hint (hints name)) && is_subapplication_in (tree_at sources name))
 
 -- the network can be composed by the table: it has the adapters, the network is clean throughout, and its inner types are finished
 pub record IsComposable (table whole : View) (nets : Nets) (network : PlainNetwork) : Type 0 where

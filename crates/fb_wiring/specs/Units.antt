@@ -54,11 +54,10 @@ pub record IsTooLarge (sources : Sources) (unit : List ℕ) : Type 0 where
   pub holds : Holds sources unit held
   pub more : INSTANCE_LIMIT < length held
 
--- that many instances, no more than the limit
-pub record IsWithinLimit (sources : Sources) (unit : List ℕ) (instances : ℕ) : Type 0 where
+-- no more instances than the limit
+pub record IsWithinLimit (sources : Sources) (unit : List ℕ) : Type 0 where
   pub held : List Held
   pub holds : Holds sources unit held
-  pub number : instances ≡ length held
   pub within : length held ≤ INSTANCE_LIMIT
 
 -- under the name of the application stands the flat network of its network

@@ -3,12 +3,12 @@ ghost use Rattle.std.specs.Prelude.{◌≡◌, ℕ, Bool, false, List, Option, N
 ghost use Rattle.std.specs.BTreeMap.{get};
 ghost use Rattle.fb_tree.specs.Text.Order.{name_cmp};
 ghost use Rattle.fb_network.specs.Ready as ready;
-ghost use Rattle.fb_wiring.specs.Hints.{count_of_hint, flat_of_hint, is_whole_hint};
+ghost use Rattle.fb_wiring.specs.Hints.{flat_of_hint, is_sound_hint, is_whole_hint};
 ghost use Rattle.fb_wiring.specs.Net.{PlainNet, plain_net};
 ghost use Rattle.fb_wiring.specs.Tables.{known_flats};
 
 use crate::nets::Net;
-use fb_network::{Flat, INSTANCE_LIMIT, Nets};
+use fb_network::{Flat, Nets};
 use fb_tree::text::Name;
 use std::collections::BTreeMap;
 
@@ -68,7 +68,7 @@ fn kept_flat<'a, H: Hints>(hints: &'a H, name: &Name) -> Option<&'a Flat>
     ensures { option_copied result ≡ flat_of_hint (H.hints hints.now name.now) }
 {
     match hints.net_of(name) {
-        Some(Net::Flat { flat, .. }) => Some(flat),
+        Some(Net::Flat(flat)) => Some(flat),
         _ => None,
     }
 }
@@ -96,18 +96,17 @@ pub fn is_known_whole<H: Hints>(hints: &H, name: &Name) -> bool
     ensures { result ≡ is_whole_hint (H.hints hints.now name.now) }
 {
     match hints.net_of(name) {
-        Some(Net::Recursive(_) | Net::TooLarge | Net::Flat { .. }) => true,
+        Some(Net::Recursive(_) | Net::TooLarge | Net::Flat(_)) => true,
         Some(Net::Blocked(_)) | None => false,
     }
 }
 
-/// How many instances the unit holds at all depths, up to one past the limit, where its kept net tells.
-pub fn kept_count<H: Hints>(hints: &H, name: &Name) -> Option<u32>
-    ensures { result ≡ count_of_hint (H.hints hints.now name.now) }
+/// Whether the kept net of the unit tells that all that it rests on is present, without faults and does not reach itself.
+pub fn is_known_sound<H: Hints>(hints: &H, name: &Name) -> bool
+    ensures { result ≡ is_sound_hint (H.hints hints.now name.now) }
 {
     match hints.net_of(name) {
-        Some(Net::Flat { instances, .. }) => Some(*instances),
-        Some(Net::TooLarge) => Some(INSTANCE_LIMIT + 1),
-        Some(Net::Blocked(_) | Net::Recursive(_)) | None => None,
+        Some(Net::TooLarge | Net::Flat(_)) => true,
+        Some(Net::Blocked(_) | Net::Recursive(_)) | None => false,
     }
 }

@@ -3,6 +3,7 @@
 #![tactic(auto)]
 
 mod composed;
+mod counts;
 mod cycles;
 mod flats;
 mod graph;
@@ -19,9 +20,10 @@ mod search;
 mod systems;
 mod tables;
 
-pub use composed::{flat_of_applications, own_network};
+pub use composed::flat_of_applications;
+pub use counts::{Counts, add_count, count_of_unit};
 pub use flats::{add_flat, flat_of_type, is_missing};
-pub use hints::{Hints, Known, KnownFlats, NetsAlone, NoHints, is_known_whole, kept_count};
+pub use hints::{Hints, Known, KnownFlats, NetsAlone, NoHints, is_known_sound, is_known_whole};
 pub use kinds::{has_net, is_of_system, is_subapplication};
 pub use laws::networks_are_local;
 pub use loops::recursive;
@@ -31,7 +33,7 @@ pub use order_laws::{ordered_is_not_recursive, recursion_is_local};
 pub use rest::Rest;
 pub use search::inner_first;
 pub use systems::{Application, applications};
-pub use tables::{Counts, Table, add_count, networks_of};
+pub use tables::{Table, networks_of};
 
 /// Of `fb_text`, for the crates above.
 pub mod text {
@@ -57,5 +59,5 @@ pub mod iface {
 
 /// Of `fb_network`, for the crates above.
 pub mod plain {
-    pub use fb_network::{Flat, INSTANCE_LIMIT, count_instances};
+    pub use fb_network::{Flat, INSTANCE_LIMIT};
 }

@@ -11,6 +11,5 @@ pub enum Net {
     Recursive(Vec<Name>),
     /// More instances than the limit.
     TooLarge,
-    /// The flat network, and how many instances the unit holds at all depths.
-    Flat { flat: Flat, instances: u32 },
+    Flat(Flat),
 }

@@ -1,23 +1,18 @@
-//! Networks and counts of types.
-ghost use Rattle.std.specs.Prelude.{◌≡◌, true, is_some, IfOk, OnOk};
+//! Networks of types.
+ghost use Rattle.std.specs.Prelude.{IfOk, OnOk};
 ghost use Rattle.std.specs.BTreeMap.{get};
 ghost use Rattle.fb_tree.specs.Text.Order.{name_cmp};
-ghost use Rattle.fb_wiring.specs.Hints.{count_of_hint};
-ghost use Rattle.fb_wiring.specs.Tables.{Grows, Has, HasAdapter, HasAdapters, HasType, IsCountByTable, IsCountedWhereKnown, IsTable, IsTrue, IsTypeCount, SameOthers};
+ghost use Rattle.fb_wiring.specs.Tables.{Grows, Has, HasAdapter, HasAdapters, HasType, IsTable, IsTrue};
 
-use crate::hints::{Hints, kept_count};
 use crate::networks::network;
 use fb_iface::library::{View, tree_by_name};
-use fb_network::{Network, Port, count_instances};
+use fb_network::{Network, Port};
 use fb_tree::text::Name;
 use std::alloc::{AllocError, Global};
 use std::collections::BTreeMap;
 
 /// Networks by the names of their types.
 pub type Table = BTreeMap<Name, Network>;
-
-/// How many instances types hold, by their names.
-pub type Counts = BTreeMap<Name, u32>;
 
 /// Adds the network of an adapter that is not there.
 fn add_adapter<V: View>(
@@ -108,44 +103,4 @@ pub fn networks_of<V: View>(alloc: Global, view: &V, names: &[Name]) -> Result<T
         add_type(alloc, view, &mut table, name)?;
     }
     Ok(table)
-}
-
-/// How many instances a type holds, by the counts of its inner types.
-fn count_by_table(table: &Table, counts: &Counts, name: &Name) -> u32
-    requires { is_some (get name_cmp table.now name.now) ≡ true }
-    ensures { IsCountByTable (get name_cmp table.now) (get name_cmp counts.now) name.now result }
-{
-    let network = table.get(name).unwrap();
-    count_instances(counts, network)
-}
-
-/// The same where its net may be kept.
-fn count_of_type<H: Hints>(hints: &H, table: &Table, counts: &Counts, name: &Name) -> u32
-    requires { is_some (get name_cmp table.now name.now) ≡ true }
-    ensures { IsTypeCount (get name_cmp table.now) (count_of_hint (H.hints hints.now name.now))
-        (get name_cmp counts.now) name.now result }
-{
-    match kept_count(hints, name) {
-        Some(count) => count,
-        None => count_by_table(table, counts, name),
-    }
-}
-
-/// Adds how many instances a type holds.
-pub fn add_count<H: Hints>(
-    hints: &H,
-    table: &Table,
-    counts: &mut Counts,
-    name: &Name,
-) -> Result<(), AllocError>
-    requires { is_some (get name_cmp table.now name.now) ≡ true }
-    ensures others { OnOk result
-        (SameOthers (get name_cmp counts.old) (get name_cmp counts.new) name.now) }
-    ensures counted { OnOk result
-        (IsCountedWhereKnown (get name_cmp table.now) (count_of_hint (H.hints hints.now name.now))
-        (get name_cmp counts.old) (get name_cmp counts.new) name.now) }
-{
-    let count = count_of_type(hints, table, counts, name);
-    counts.insert(*name, count)?;
-    Ok(())
 }
