@@ -42,7 +42,7 @@ module _ (a b : Sources) (system : List ℕ) (agree : AgreeFar system a b) where
   planned_same (blocked names) = refl
   planned_same (recursive names) = refl
   planned_same too_large = refl
-  planned_same (flat_net flat instances) = with_homes_same flat (homes_of a system flat.blocks) ∙ ap (with_homes b system flat) (homes_same a b system agree flat.blocks)
+  planned_same (flat_net flat) = with_homes_same flat (homes_of a system flat.blocks) ∙ ap (with_homes b system flat) (homes_same a b system agree flat.blocks)
 
 pub plan_local : PlanIsLocal
 plan_local a b system agree plan p = record {

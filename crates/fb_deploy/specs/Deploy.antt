@@ -45,7 +45,7 @@ abbrev pub planned_by : Sources → List ℕ → PlainNet → PlainDeploy
 planned_by sources system (blocked names) = stopped (blocked names)
 planned_by sources system (recursive names) = stopped (recursive names)
 planned_by sources system too_large = stopped too_large
-planned_by sources system (flat_net flat instances) = flat_plan sources system flat
+planned_by sources system (flat_net flat) = flat_plan sources system flat
 
 -- the plan of a system: its net where that is not flat, what is misplaced if anything is, or its cut links and the commands of each
 -- resource

@@ -92,7 +92,7 @@ pub fn plan_by_net<V: View>(
             Ok(Deploy::Stopped(Net::Recursive(names)))
         }
         Net::TooLarge => Ok(Deploy::Stopped(Net::TooLarge)),
-        Net::Flat { flat, .. } => plan_flat(alloc, view, &system, flat),
+        Net::Flat(flat) => plan_flat(alloc, view, &system, flat),
     }
 }
 

@@ -150,9 +150,9 @@ module _ (sources : Sources) (unit : List ℕ) where
   sized_is : (held : List Held) (flat : PlainFlat) → IsSound sources unit → Holds sources unit held → IsUnitFlat sources unit flat → IsNet sources unit (sized_net held flat)
   sized_is held flat sound holds is = by (nat_lt INSTANCE_LIMIT (length held)) refl
     where
-      by : (b : Bool) → nat_lt INSTANCE_LIMIT (length held) ≡ b → IsNet sources unit (cond b too_large (flat_net flat (length held)))
+      by : (b : Bool) → nat_lt INSTANCE_LIMIT (length held) ≡ b → IsNet sources unit (cond b too_large (flat_net flat))
       by true e = (sound, record { held = held; holds = holds; more = grind (arith, nat_tests) })
-      by false e = (sound, record { held = held; holds = holds; number = refl; within = grind (arith, nat_tests) }, is)
+      by false e = (sound, record { held = held; holds = holds; within = grind (arith, nat_tests) }, is)
 
   finite_is : (tree : DeclTree) → tree_at sources unit ≡ Some tree → has_net_tree tree ≡ true → IsSound sources unit → IsNet sources unit (finite_net (length (far_of sources unit)) sources tree)
   finite_is tree present has sound = sized_is _ _ sound (unit_held tree present sound) (unit_flat tree present has sound)

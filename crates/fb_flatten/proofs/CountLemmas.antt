@@ -1,21 +1,22 @@
 -- One more name of an order is counted.
 use Rattle.std.proofs.Common.{ℕ, ◌≡◌, ◌<◌, ◌≤◌, suc, Bool, true, false, arith, length, is_some, ◌+◌, List, [], ◌∷◌, ◌++◌, Option, Some, ◌⊎◌, inl, inr, refl, sym, ◌∙◌, ap, subst, take, get_or, length-append}
 use Rattle.std.proofs.lemmas.Bool.{false≢true}
-use Rattle.std.proofs.lemmas.List.{length-map}
+use Rattle.std.proofs.lemmas.List.{get_or_default, length-map}
 use Rattle.std.proofs.lemmas.List.Elements.{Contains-push_cases}
 use Rattle.std.specs.Prelude.{Contains, map, option_map}
 use Rattle.std.specs.BTreeMap.{is_at}
 use Rattle.fb_wiring.specs.Text.Order.{name_cmp}
 use Rattle.fb_wiring.specs.Tree.Tree.{DeclTree, block_type, adapter_type, subapplication_type, system_configuration}
 use Rattle.fb_wiring.specs.Tree.declared.kinds.UnitKind.TheVariants as kinds
+use Rattle.fb_wiring.specs.Tree.Mentions.{unit_kind_of}
 use Rattle.fb_wiring.specs.Library.View.{Sources, mentions_at, tree_at}
+use Rattle.fb_wiring.specs.Library.Rests.{itself, through}
 use Rattle.fb_wiring.specs.Network.declared.count.TheConstants.{INSTANCE_LIMIT}
 use Rattle.fb_wiring.specs.Network.declared.network.InstanceKind.TheVariants.{Subapplication}
 use Rattle.fb_wiring.specs.Network.declared.network.Instance.{Instance}
 use Rattle.fb_wiring.specs.Network.Plain.{PlainNetwork}
 use Rattle.fb_wiring.specs.Network.Network.{View}
 use Rattle.fb_wiring.specs.Network.Instances.{Held, held_within, AreInstances, NoInstance, ThenBlock, ThenSubapplication}
-use Rattle.fb_wiring.specs.Network.Count.{IsCount}
 use Rattle.fb_wiring.specs.ByName.{declared, kind_at}
 use Rattle.fb_flatten.specs.Clean.{wanted_kind}
 use Rattle.fb_wiring.specs.Networks.{network_of}
@@ -24,16 +25,15 @@ use Rattle.fb_wiring.specs.declared.systems.Application.{Application}
 use Rattle.fb_wiring.proofs.Text.Members.{contains_cases, contains_nothing, origin_in_flat_map}
 use Rattle.fb_flatten.proofs.CleanUnits.{applications_clean, networks_clean}
 use Rattle.fb_wiring.proofs.Network.Equals.{same_bytes, at_not}
-use Rattle.fb_wiring.specs.Network.Counts.{IsCounted, AreCounted}
-use Rattle.fb_flatten.specs.Hints.{AreRightHints, count_of_hint}
+use Rattle.fb_wiring.specs.Counts.{IsCounted, AreCounted, CountsAll, HasCount}
+use Rattle.fb_wiring.specs.Order.{IsOrdered}
 use Rattle.fb_flatten.specs.Net.{PlainNet, IsSound}
-use Rattle.fb_flatten.specs.Tables.{AllCounted, IsCountable, IsSmallType, IsSoundOrder, IsTable, IsUnitCount, SameOthers, is_subapplication_in}
+use Rattle.fb_flatten.specs.Tables.{AllCounted, AreCountedBelow, IsSmallType, IsSoundOrder, IsTable, IsUnitCount, SameOthers, is_subapplication_in}
 use Rattle.fb_wiring.specs.Units.{own_instances}
 use Rattle.fb_flatten.proofs.ComputedNets.{unit_faultless}
-use Rattle.fb_flatten.proofs.HintLemmas.{kept_counted}
 use Rattle.fb_wiring.proofs.KindLemmas.{subapplication_told}
-use Rattle.fb_flatten.proofs.MentionLemmas.{declared_within, own_within}
-use Rattle.fb_flatten.proofs.SoundLemmas.{sound_network}
+use Rattle.fb_flatten.proofs.MentionLemmas.{own_within}
+use Rattle.fb_flatten.proofs.SoundLemmas.{sound_network, sound_tree}
 
 -- ---- kinds
 
@@ -86,37 +86,32 @@ module _ {sources : Sources} {hints : List ℕ → Option PlainNet} {table : Vie
       let it = sound_network (names.sound name c) in
       ap is_some ((t.types name c).network it.network it.is_declared)
 
-  -- the next name can be counted
-  pub countable : {counts : List ℕ → Option ℕ} (i : ℕ) (name : List ℕ) → AreRightHints sources hints → i < length order → name ≡ get_or order i name → AllCounted sources counts (take i order) → kind_at sources name ≡ Some kinds.Subapplication → IsCountable (declared sources) table (count_of_hint (hints name)) counts name
-  countable i name right lt e all kind =
-      let c : Contains order name = (i, lt, sym e) in
-      let it = sound_network (names.sound name c) in
-      record {
-        network = it.network;
-        declared = it.is_declared;
-        there = (t.types name c).network it.network it.is_declared;
-        known = kept_counted sources name kind it.network it.is_declared hints right;
-        counted = λ unknown j h k.
-            all j.type_name
-            (names.inner_first i name j.type_name lt e unknown ((declared_within sources name it.network it.is_declared).types j h))
-            (inner_kind sources name it.network (names.sound name c) it.is_declared j h k);
-      }
+-- the types of the instances of a sound unit are counted where the names that it mentions are
+own_counted : {sources : Sources} {counts : List ℕ → Option ℕ} (unit : List ℕ) (tree : DeclTree) → IsSound sources unit → tree_at sources unit ≡ Some tree → ((w : List ℕ) → Contains (mentions_at sources unit) w → kind_at sources w ≡ Some kinds.Subapplication → IsCounted (declared sources) counts w) → AreCounted (declared sources) (own_instances tree) counts
+own_counted {sources = sources} unit tree sound present mentioned i c k = mentioned i.type_name (own_within sources unit tree present i c) (own_kind sources unit tree sound present i c k)
 
--- the unit is counted by the counts of its inner types
-pub unit_counted : {sources : Sources} {unit : List ℕ} {counts : List ℕ → Option ℕ} (tree : DeclTree) (instances : List Instance) (count : ℕ) → IsSound sources unit → tree_at sources unit ≡ Some tree → AllCounted sources counts (mentions_at sources unit) → instances ≡ own_instances tree → ((view : View) → AreCounted view instances counts → IsCount view instances count) → IsUnitCount sources unit count
-unit_counted {sources = sources} {unit = unit} tree instances count sound present all same counted =
-    record {
-      held = c.held;
-      holds = record { tree = tree; present = present; instances = subst (λ (l : List Instance). AreInstances (declared sources) l c.held) same c.instances };
-      count_is = c.count_is;
-    }
-  where
-    own : (i : Instance) → Contains instances i → Contains (own_instances tree) i
-    own i h = subst (λ (l : List Instance). Contains l i) same h
+type_counted : (sources : Sources) {old new : List ℕ → Option ℕ} (name : List ℕ) (tree : DeclTree) → kind_at sources name ≡ Some kinds.Subapplication → tree_at sources name ≡ Some tree → AreCounted (declared sources) (own_instances tree) old → HasCount old new tree name → IsCounted (declared sources) new name
+type_counted sources name (block_type d) kind present all has = let two : kind_at sources name ≡ Some kinds.Block = ap (option_map unit_kind_of) present in absurd (let no : ⊥ = cc in no)
+type_counted sources name (adapter_type d) kind present all has = let two : kind_at sources name ≡ Some kinds.Adapter = ap (option_map unit_kind_of) present in absurd (let no : ⊥ = cc in no)
+type_counted sources name (system_configuration s) kind present all has = let two : kind_at sources name ≡ Some kinds.System = ap (option_map unit_kind_of) present in absurd (let no : ⊥ = cc in no)
+type_counted sources name (subapplication_type d) kind present all has =
+    record { inner = network_of (subapplication_type d); declared = ap (option_map network_of) present; count = has.count; found = has.found; counted = has.counted (declared sources) all }
 
-    c : IsCount (declared sources) instances count
-    c = counted (declared sources)
-        (λ i h k. all i.type_name (own_within sources unit tree present i (own i h)) (own_kind sources unit tree sound present i (own i h) k))
+-- the next name of an order is counted by the counts of those before it
+pub next_counted : {sources : Sources} {order : List (List ℕ)} {old new : List ℕ → Option ℕ} (i : ℕ) (name : List ℕ) → IsOrdered sources order → IsSound sources name → i < length order → name ≡ get_or order i name → AllCounted sources old (take i order) → ((tree : DeclTree) → tree_at sources name ≡ Some tree → HasCount old new tree name) → kind_at sources name ≡ Some kinds.Subapplication → IsCounted (declared sources) new name
+next_counted {sources = sources} {order = order} i name ordered sound lt e all has kind =
+    let t = sound_tree sound in
+    let place : name ≡ get_or order i [] = e ∙ get_or_default order i name [] lt in
+    type_counted sources name t.tree kind t.present
+    (own_counted name t.tree sound t.present
+    (λ w m. all w (ordered.inner_first i lt w (subst (λ (n : List ℕ). Contains (mentions_at sources n) w) place m))))
+    (has t.tree t.present)
+
+-- the unit is counted by the counts of what it rests on
+pub unit_counted : {sources : Sources} {unit : List ℕ} {counts : List ℕ → Option ℕ} (tree : DeclTree) (count : ℕ) → IsSound sources unit → tree_at sources unit ≡ Some tree → AreCountedBelow sources counts unit → CountsAll counts (own_instances tree) count → IsUnitCount sources unit count
+unit_counted {sources = sources} {unit = unit} tree count sound present below counted =
+    let c = counted (declared sources) (own_counted unit tree sound present (λ w m. below w (through m itself))) in
+    record { held = c.held; holds = record { tree = tree; present = present; instances = c.instances }; count_is = c.count_is }
 
 -- ---- sizes
 

@@ -2,7 +2,7 @@
 use Rattle.std.proofs.Common.{ℕ, zero, suc, ◌≡◌, ◌<◌, Bool, true, false, not, ◌&&◌, List, [], ◌∷◌, ◌++◌, Option, Some, ◌⊎◌, inl, inr, refl, sym, ◌∙◌, ap, subst, take, get_or, length}
 use Rattle.std.proofs.lemmas.Bool.{false≢true}
 use Rattle.std.proofs.lemmas.List.Elements.{Contains-push_cases}
-use Rattle.std.specs.Prelude.{Contains, ◌≢◌, is_none, option_map}
+use Rattle.std.specs.Prelude.{Contains, ◌≢◌, option_map}
 use Rattle.std.specs.Option.{option_or}
 use Rattle.std.specs.BTreeMap.{is_at}
 use Rattle.fb_wiring.proofs.Text.Tests.{by_bool}
@@ -25,13 +25,13 @@ use Rattle.fb_wiring.specs.Networks.{network_of}
 use Rattle.fb_wiring.proofs.Text.Members.{contains_cases, contains_here, contains_later, contains_nothing}
 use Rattle.fb_wiring.proofs.Network.Equals.{same_bytes, not_at, at_not}
 use Rattle.fb_wiring.specs.Network.Ready.{Nets, IsFinished, AreFinished}
-use Rattle.fb_flatten.specs.Hints.{AreRightHints, count_of_hint, flat_of_hint}
+use Rattle.fb_flatten.specs.Hints.{AreRightHints, flat_of_hint, is_sound_hint}
 use Rattle.fb_flatten.specs.Net.{PlainNet}
-use Rattle.fb_flatten.specs.Tables.{AllFinished, AreComposedTogether, AreMissing, IsAdded, IsComposed, IsSmall, IsSmallType, IsTable, IsUnitOrder, SameOthers, is_missing, is_subapplication_in, is_system_tree, known_flats}
-use Rattle.fb_wiring.specs.Units.{HasNet, IsUnitFlat, OfSubapplication, OfSystem, own_instances}
+use Rattle.fb_flatten.specs.Tables.{AllFinished, AreComposedTogether, AreMissing, IsAdded, IsComposed, IsSmallType, IsTable, IsUnitOrder, SameOthers, is_missing, is_subapplication_in, is_system_tree, known_flats}
+use Rattle.fb_wiring.specs.Units.{HasNet, IsUnitFlat, IsWithinLimit, OfSubapplication, OfSystem, own_instances}
 use Rattle.fb_flatten.proofs.ComposeLemmas.{application_composable, type_composable}
 use Rattle.fb_flatten.proofs.CountLemmas.{inner_kind, inner_small, own_kind}
-use Rattle.fb_flatten.proofs.HintLemmas.{kept_finished, no_flat, none_of}
+use Rattle.fb_flatten.proofs.HintLemmas.{kept_finished, no_flat, not_of_not}
 use Rattle.fb_wiring.proofs.KindLemmas.{subapplication_told}
 use Rattle.fb_flatten.proofs.MentionLemmas.{declared_within, own_within}
 use Rattle.fb_flatten.proofs.SoundLemmas.{not_mentioned, sound_network}
@@ -97,15 +97,15 @@ module _ (sources : Sources) (hints : List ℕ → Option PlainNet) (unit : List
   pub finished_skip : (composed : Nets) → AreRightHints sources hints → is_missing sources hints unit name ≡ false → AllFinished sources (known_flats hints composed) unit names → AllFinished sources (known_flats hints composed) unit (names ++ name ∷ [])
   finished_skip composed right here all q c other kind small = by_case (Contains-push_cases names name q c)
     where
-      told : (n : List ℕ) → n ≢ unit → kind_at sources n ≡ Some kinds.Subapplication → is_missing sources hints unit n ≡ false → is_none (count_of_hint (hints n)) ≡ false
-      told n apart k here_false = by_bool (is_none (count_of_hint (hints n)))
-          (λ t. absurd
+      told : (n : List ℕ) → n ≢ unit → kind_at sources n ≡ Some kinds.Subapplication → is_missing sources hints unit n ≡ false → is_sound_hint (hints n) ≡ true
+      told n apart k here_false = by_bool (is_sound_hint (hints n))
+          (λ t. t)
+          (λ f. absurd
           (false≢true
           (sym here_false
-          ∙ ap (λ b. not b && (is_none (count_of_hint (hints n)) && is_subapplication_in (tree_at sources n))) (not_at unit n apart)
-          ∙ ap (λ b. b && is_subapplication_in (tree_at sources n)) t
+          ∙ ap (λ b. not b && (not (is_sound_hint (hints n)) && is_subapplication_in (tree_at sources n))) (not_at unit n apart)
+          ∙ ap (λ b. not b && is_subapplication_in (tree_at sources n)) f
           ∙ subapplication_told sources n k)))
-          (λ f. f)
 
       by_case : Contains names q ⊎ (name ≡ q) → IsFinished (declared sources) (known_flats hints composed) q
       by_case (inl h) = all q h other kind small
@@ -129,7 +129,7 @@ module _ {sources : Sources} {hints : List ℕ → Option PlainNet} {table : Vie
   -- what is composed of the next name that is missing is its flat network
   pub added_finished : (old new : Nets) (i : ℕ) (name : List ℕ) → i < length order → name ≡ get_or order i name → is_missing sources hints unit name ≡ true → AllFinished sources (known_flats hints old) unit (take i order) → IsAdded table (known_flats hints old) new name → IsSmallType (declared sources) name → IsFinished (declared sources) (known_flats hints new) name
   added_finished old new i name lt e missing all added small =
-      let unknown = and_first (is_none (count_of_hint (hints name))) _ (and_second (not (is_at (name_cmp unit) name)) _ missing) in
+      let unknown = not_of_not (is_sound_hint (hints name)) (and_first (not (is_sound_hint (hints name))) _ (and_second (not (is_at (name_cmp unit) name)) _ missing)) in
       let c : Contains order name = (i, lt, sym e) in
       let it = sound_network (o.names.sound name c) in
       let made = added.composed in
@@ -137,7 +137,7 @@ module _ {sources : Sources} {hints : List ℕ → Option PlainNet} {table : Vie
       let has = (t.types name c).network it.network it.is_declared in
       let same : it.network ≡ made.network = cc in
       let d : declared sources name ≡ Some made.network = it.is_declared ∙ ap (λ (n : PlainNetwork). Some n) same in
-      let first : (w : List ℕ) → Contains (mentions_at sources name) w → Contains (take i order) w = λ w m. o.names.inner_first i name w lt e (none_of (count_of_hint (hints name)) unknown) m in
+      let first : (w : List ℕ) → Contains (mentions_at sources name) w → Contains (take i order) w = λ w m. o.names.inner_first i name w lt e unknown m in
       let finished = inner_finished (known_flats hints old) (take i order) name made.network c d all first small in
       let fit = type_composable o.names t name made.network c there (λ j h. in_take i order j.type_name (first j.type_name ((declared_within sources name made.network d).types j h))) finished in
       record {
@@ -150,17 +150,16 @@ module _ {sources : Sources} {hints : List ℕ → Option PlainNet} {table : Vie
 
   -- ---- the unit
 
-  own_finished : (nets : Nets) (tree : DeclTree) → tree_at sources unit ≡ Some tree → AllFinished sources nets unit order → IsSmall sources unit → (i : Instance) → Contains (own_instances tree) i → i.kind ≡ Subapplication → IsFinished (declared sources) nets i.type_name
+  own_finished : (nets : Nets) (tree : DeclTree) → tree_at sources unit ≡ Some tree → AllFinished sources nets unit order → IsWithinLimit sources unit → (i : Instance) → Contains (own_instances tree) i → i.kind ≡ Subapplication → IsFinished (declared sources) nets i.type_name
   own_finished nets tree present all small i c k =
       let m = own_within sources unit tree present i c in
-      let few = small.1 in
-      let other = few.holds.present in
-      let same : few.holds.tree ≡ tree = cc in
-      let instances = subst (λ (d : DeclTree). AreInstances (declared sources) (own_instances d) few.held) same few.holds.instances in
-      all i.type_name (o.mentions i.type_name m) (apart unit i.type_name o.own m) (own_kind sources unit tree (o.names.sound unit o.own) present i c k) (inner_small i instances few.within c k)
+      let other = small.holds.present in
+      let same : small.holds.tree ≡ tree = cc in
+      let instances = subst (λ (d : DeclTree). AreInstances (declared sources) (own_instances d) small.held) same small.holds.instances in
+      all i.type_name (o.mentions i.type_name m) (apart unit i.type_name o.own m) (own_kind sources unit tree (o.names.sound unit o.own) present i c k) (inner_small i instances small.within c k)
 
   -- what is composed of a type that has a net, which is a subapplication
-  pub flat_of_type_is : {nets : Nets} {flat : PlainFlat} (tree : DeclTree) → HasNet sources unit → tree_at sources unit ≡ Some tree → is_system_tree tree ≡ false → AllFinished sources nets unit order → IsSmall sources unit → IsComposed table nets unit flat → IsUnitFlat sources unit flat
+  pub flat_of_type_is : {nets : Nets} {flat : PlainFlat} (tree : DeclTree) → HasNet sources unit → tree_at sources unit ≡ Some tree → is_system_tree tree ≡ false → AllFinished sources nets unit order → IsWithinLimit sources unit → IsComposed table nets unit flat → IsUnitFlat sources unit flat
   flat_of_type_is {nets = nets} {flat = flat} tree net present no_system all small made = by_kind net
     where
       own_declared : declared sources unit ≡ Some (network_of tree)
@@ -193,7 +192,7 @@ module _ {sources : Sources} {hints : List ℕ → Option PlainNet} {table : Vie
       by_kind (inr k) = absurd (not_system tree no_system (sym (ap (option_map unit_kind_of) present) ∙ k))
 
   -- what is composed of the applications of a system
-  pub flat_of_system_is : (nets : Nets) {flat : PlainFlat} (tree : DeclTree) → tree_at sources unit ≡ Some tree → is_system_tree tree ≡ true → AllFinished sources nets unit order → IsSmall sources unit → AreComposedTogether table nets (applications_of tree) flat → IsUnitFlat sources unit flat
+  pub flat_of_system_is : (nets : Nets) {flat : PlainFlat} (tree : DeclTree) → tree_at sources unit ≡ Some tree → is_system_tree tree ≡ true → AllFinished sources nets unit order → IsWithinLimit sources unit → AreComposedTogether table nets (applications_of tree) flat → IsUnitFlat sources unit flat
   flat_of_system_is nets tree present system all small together =
       let f = together (declared sources) (λ a c. application_composable o.names t unit tree o.own o.mentions present a c (λ i h k. own_finished nets tree present all small i (own_of_application tree a i c h) k)) in
       OfSystem (applications_of tree) f.flats kind (system_applications sources unit tree present) f.each f.joined

@@ -1,25 +1,23 @@
 -- What kept nets tell of their units.
-use Rattle.std.proofs.Common.{ℕ, ◌≡◌, ◌+◌, Bool, true, false, arith, length, List, Option, Some, None, refl, sym, ap, subst}
+use Rattle.std.proofs.Common.{ℕ, ◌≡◌, Bool, true, false, not, arith, length, List, Option, Some, None, refl, sym, ap, subst}
 use Rattle.std.proofs.lemmas.Bool.{false≢true}
-use Rattle.std.specs.Prelude.{option_map, is_none}
+use Rattle.std.specs.Prelude.{option_map}
 use Rattle.std.specs.Option.{option_or}
 use Rattle.fb_wiring.specs.Tree.Mentions.{unit_kind_of}
 use Rattle.fb_wiring.specs.Tree.Tree.{DeclTree, block_type, adapter_type, subapplication_type, system_configuration}
 use Rattle.fb_wiring.specs.Tree.declared.kinds.UnitKind.TheVariants as kinds
 use Rattle.fb_wiring.specs.Library.View.{Sources, tree_at}
 use Rattle.fb_wiring.specs.Library.Rests.{itself}
-use Rattle.fb_wiring.specs.Network.declared.count.TheConstants.{INSTANCE_LIMIT}
 use Rattle.fb_wiring.specs.Network.Plain.{PlainNetwork}
 use Rattle.fb_wiring.specs.Network.PlainFlat.{PlainFlat}
 use Rattle.fb_wiring.specs.Network.Instances.{Held, AreInstances}
-use Rattle.fb_wiring.specs.Network.Count.{IsCount}
 use Rattle.fb_wiring.proofs.Text.Members.{contains_nothing}
 use Rattle.fb_wiring.specs.ByName.{declared, kind_at}
 use Rattle.fb_wiring.specs.Networks.{network_of}
 use Rattle.fb_wiring.specs.Network.Ready.{Nets, IsFinished}
 use Rattle.fb_wiring.proofs.Network.BlockLemmas.{same_instances}
 use Rattle.fb_flatten.specs.Blocking.{is_blocking}
-use Rattle.fb_flatten.specs.Hints.{AreRightHints, count_of_hint, count_of_net, flat_of_hint, is_whole_hint, is_whole_net}
+use Rattle.fb_flatten.specs.Hints.{AreRightHints, flat_of_hint, is_sound_hint, is_sound_net, is_whole_hint, is_whole_net}
 use Rattle.fb_flatten.specs.Net.{PlainNet, blocked, recursive, too_large, flat_net, IsNet, IsWhole}
 use Rattle.fb_flatten.specs.Tables.{IsSmallType, known_flats}
 use Rattle.fb_wiring.specs.Units.{IsTooLarge, IsUnitFlat, OfSubapplication, OfSystem, own_instances}
@@ -38,7 +36,7 @@ whole_net : (sources : Sources) (name : List ℕ) (net : PlainNet) → IsNet sou
 whole_net sources name (blocked names) is e = absurd (let no : ⊥ = cc in no)
 whole_net sources name (recursive names) is e = is.0
 whole_net sources name too_large is e = is.0.whole
-whole_net sources name (flat_net flat instances) is e = is.0.whole
+whole_net sources name (flat_net flat) is e = is.0.whole
 
 -- a unit of which the kept net tells it is whole
 pub whole_hint : (sources : Sources) (hints : List ℕ → Option PlainNet) (name : List ℕ) → AreRightHints sources hints → is_whole_hint (hints name) ≡ true → IsWhole sources name
@@ -54,17 +52,21 @@ known_whole sources hints name right known = not_blocking sources name (whole_hi
 
 -- ---- instances and flat networks
 
--- a net without a count is not flat
-pub no_flat : (o : Option PlainNet) → is_none (count_of_hint o) ≡ true → flat_of_hint o ≡ None
+-- a net that does not tell that its unit is sound is not flat
+pub no_flat : (o : Option PlainNet) → is_sound_hint o ≡ false → flat_of_hint o ≡ None
 no_flat None e = refl
 no_flat (Some (blocked names)) e = refl
 no_flat (Some (recursive names)) e = refl
-no_flat (Some too_large) e = absurd (false≢true e)
-no_flat (Some (flat_net flat instances)) e = absurd (false≢true e)
+no_flat (Some too_large) e = absurd (false≢true (sym e))
+no_flat (Some (flat_net flat)) e = absurd (false≢true (sym e))
 
-pub none_of : {X : Type 0} (o : Option X) → is_none o ≡ true → o ≡ None
-none_of None e = refl
-none_of (Some x) e = absurd (false≢true e)
+pub is_of_not : (b : Bool) → not b ≡ false → b ≡ true
+is_of_not true e = refl
+is_of_not false e = absurd (false≢true (sym e))
+
+pub not_of_not : (b : Bool) → not b ≡ true → b ≡ false
+not_of_not true e = absurd (false≢true e)
+not_of_not false e = refl
 
 module _ (sources : Sources) (name : List ℕ) (kind : kind_at sources name ≡ Some kinds.Subapplication) (network : PlainNetwork) (there : declared sources name ≡ Some network) where
   -- the instances of a subapplication are those of its network
@@ -76,24 +78,6 @@ module _ (sources : Sources) (name : List ℕ) (kind : kind_at sources name ≡ 
       let found : declared sources name ≡ Some (network_of (subapplication_type d)) = ap (option_map network_of) present in
       let same : network_of (subapplication_type d) ≡ network = cc in
       subst (λ (n : PlainNetwork). AreInstances (declared sources) n.instances held) same is
-
-  count_net : (net : PlainNet) (count : ℕ) → IsNet sources name net → count_of_net net ≡ Some count → IsCount (declared sources) network.instances count
-  count_net (blocked names) count is e = absurd (let no : ⊥ = cc in no)
-  count_net (recursive names) count is e = absurd (let no : ⊥ = cc in no)
-  count_net too_large count is e =
-      let large = is.1 in
-      record {
-        held = large.held;
-        instances = of_type large.held large.holds.tree large.holds.present large.holds.instances;
-        count_is = let same : INSTANCE_LIMIT + 1 ≡ count = cc in let more = large.more in omega (arith, same, more);
-      }
-  count_net (flat_net flat instances) count is e =
-      let few = is.1 in
-      record {
-        held = few.held;
-        instances = of_type few.held few.holds.tree few.holds.present few.holds.instances;
-        count_is = let same : instances ≡ count = cc in let number = few.number in let within = few.within in omega (arith, same, number, within);
-      }
 
   not_large : IsTooLarge sources name → IsSmallType (declared sources) name → ⊥
   not_large large small =
@@ -111,24 +95,16 @@ module _ (sources : Sources) (name : List ℕ) (kind : kind_at sources name ≡ 
   finished_unit nets flat found (OfSystem applications flats k at each joined) = let two = kind in absurd (let no : ⊥ = cc in no)
 
   module _ (hints : List ℕ → Option PlainNet) (right : AreRightHints sources hints) where
-    -- the count of a kept net is right
-    pub kept_counted : (count : ℕ) → count_of_hint (hints name) ≡ Some count → IsCount (declared sources) network.instances count
-    kept_counted count known = by (hints name) refl known
-      where
-        by : (o : Option PlainNet) → hints name ≡ o → count_of_hint o ≡ Some count → IsCount (declared sources) network.instances count
-        by None e k = absurd (let no : ⊥ = cc in no)
-        by (Some net) e k = count_net net count ((net_at_is sources name net).0 (right name net e)).1 k
-
-    -- a kept net that tells the count of a type that is not too large is flat
-    pub kept_finished : (composed : Nets) → is_none (count_of_hint (hints name)) ≡ false → IsSmallType (declared sources) name → IsFinished (declared sources) (known_flats hints composed) name
+    -- a kept net that tells that its unit is sound is flat where that is not too large
+    pub kept_finished : (composed : Nets) → is_sound_hint (hints name) ≡ true → IsSmallType (declared sources) name → IsFinished (declared sources) (known_flats hints composed) name
     kept_finished composed known small = by (hints name) refl known
       where
-        by_net : (net : PlainNet) → hints name ≡ Some net → IsNet sources name net → is_none (count_of_net net) ≡ false → IsFinished (declared sources) (known_flats hints composed) name
-        by_net (blocked names) e is k = absurd (false≢true (sym k))
-        by_net (recursive names) e is k = absurd (false≢true (sym k))
+        by_net : (net : PlainNet) → hints name ≡ Some net → IsNet sources name net → is_sound_net net ≡ true → IsFinished (declared sources) (known_flats hints composed) name
+        by_net (blocked names) e is k = absurd (false≢true k)
+        by_net (recursive names) e is k = absurd (false≢true k)
         by_net too_large e is k = absurd (not_large is.1 small)
-        by_net (flat_net flat instances) e is k = finished_unit (known_flats hints composed) flat (ap (λ (o : Option PlainNet). option_or (flat_of_hint o) (composed name)) e) is.2
+        by_net (flat_net flat) e is k = finished_unit (known_flats hints composed) flat (ap (λ (o : Option PlainNet). option_or (flat_of_hint o) (composed name)) e) is.2
 
-        by : (o : Option PlainNet) → hints name ≡ o → is_none (count_of_hint o) ≡ false → IsFinished (declared sources) (known_flats hints composed) name
-        by None e k = absurd (false≢true (sym k))
+        by : (o : Option PlainNet) → hints name ≡ o → is_sound_hint o ≡ true → IsFinished (declared sources) (known_flats hints composed) name
+        by None e k = absurd (false≢true k)
         by (Some net) e k = by_net net e ((net_at_is sources name net).0 (right name net e)).1 k

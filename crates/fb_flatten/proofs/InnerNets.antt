@@ -1,7 +1,7 @@
--- What is composed for a unit is, with its count, the net of its type.
+-- What is composed for a unit is the net of its type, where that is counted within the limit.
 use Rattle.std.proofs.Common.{ℕ, ◌≡◌, ◌≤◌, arith, true, not, List, Option, Some, None, inl, refl, sym, ◌∙◌, ap, subst}
 use Rattle.std.proofs.lemmas.Bool.{false≢true}
-use Rattle.std.specs.Prelude.{Contains, ◌≢◌, is_none, option_map}
+use Rattle.std.specs.Prelude.{Contains, ◌≢◌, option_map}
 use Rattle.std.specs.Option.{option_or}
 use Rattle.std.specs.BTreeMap.{is_at}
 use Rattle.fb_wiring.specs.Text.Order.{name_cmp}
@@ -14,22 +14,22 @@ use Rattle.fb_wiring.specs.Network.Plain.{PlainNetwork}
 use Rattle.fb_wiring.specs.Network.PlainFlat.{PlainFlat}
 use Rattle.fb_wiring.specs.Network.Instances.{Held, AreInstances}
 use Rattle.fb_wiring.specs.Network.FlatNet.{IsFlat}
-use Rattle.fb_wiring.specs.Network.Counts.{IsCounted}
+use Rattle.fb_wiring.specs.Counts.{IsCounted}
 use Rattle.fb_wiring.specs.Network.Ready.{Nets}
 use Rattle.fb_wiring.specs.ByName.{declared, kind_at}
 use Rattle.fb_wiring.specs.Networks.{network_of}
 use Rattle.fb_wiring.specs.Units.{Holds, IsUnitFlat, IsWithinLimit, OfSubapplication}
 use Rattle.fb_wiring.proofs.KindLemmas.{subapplication_by_tree}
 use Rattle.fb_wiring.proofs.Network.Equals.{bytes_same}
-use Rattle.fb_flatten.specs.Hints.{count_of_hint}
-use Rattle.fb_flatten.specs.Inner.{IsCountedFlat, IsInnerNet}
+use Rattle.fb_flatten.specs.Hints.{is_sound_hint}
+use Rattle.fb_flatten.specs.Inner.{IsCountedFlat, IsCountedWithin, IsInnerNet}
 use Rattle.fb_flatten.specs.Net.{PlainNet, flat_net}
 use Rattle.fb_flatten.specs.Nets.{net_at}
-use Rattle.fb_flatten.specs.Tables.{AllCounted, AllFinished, AreMissing, IsSmallType, IsUnitOrder, is_missing, known_flats}
+use Rattle.fb_flatten.specs.Tables.{AllFinished, AreCountedBelow, AreMissing, IsSmallType, IsUnitOrder, is_missing, known_flats}
 use Rattle.fb_flatten.specs.declared.inner.Inner.{Inner}
 use Rattle.fb_flatten.proofs.ComputedNets.{net_at_is}
 use Rattle.fb_flatten.proofs.FlatsLemmas.{and_first, and_second}
-use Rattle.fb_flatten.proofs.HintLemmas.{no_flat}
+use Rattle.fb_flatten.proofs.HintLemmas.{no_flat, not_of_not}
 
 module _ (sources : Sources) (name : List ℕ) (kind : kind_at sources name ≡ Some kinds.Subapplication) where
   -- the instances of the network of a subapplication are its own
@@ -60,7 +60,7 @@ module _ (sources : Sources) (name : List ℕ) (kind : kind_at sources name ≡ 
         within = omega (arith, same, is, le);
       }
 
-  within_limit : {counts : List ℕ → Option ℕ} (count : ℕ) → IsCounted (declared sources) counts name → counts name ≡ Some count → count ≤ INSTANCE_LIMIT → IsWithinLimit sources name count
+  within_limit : {counts : List ℕ → Option ℕ} (count : ℕ) → IsCounted (declared sources) counts name → counts name ≡ Some count → count ≤ INSTANCE_LIMIT → IsWithinLimit sources name
   within_limit count c e le =
       let found = c.found in
       let same : c.count ≡ count = cc in
@@ -68,7 +68,6 @@ module _ (sources : Sources) (name : List ℕ) (kind : kind_at sources name ≡ 
       record {
         held = c.counted.held;
         holds = type_holds c.inner c.counted.held c.declared c.counted.instances;
-        number = omega (arith, same, is, le);
         within = omega (arith, same, is, le);
       }
 
@@ -78,23 +77,23 @@ module _ {sources : Sources} {hints : List ℕ → Option PlainNet} {unit : List
       false≢true
       (ap not (sym (bytes_same unit)) ∙ ap (λ (n : List ℕ). not (is_at (name_cmp unit) n)) (sym e) ∙ and_first (not (is_at (name_cmp unit) name)) _ missing)
 
-  -- the flat network of a name, with its count, is the name's net
-  counted_net : (flats : Nets) (counts : List ℕ → Option ℕ) (name : List ℕ) (flat : PlainFlat) (count : ℕ) → AllCounted sources counts order → AllFinished sources (known_flats hints flats) unit order → Contains order name → is_missing sources hints unit name ≡ true → flats name ≡ Some flat → counts name ≡ Some count → count ≤ INSTANCE_LIMIT → net_at sources name ≡ Some (flat_net flat count)
-  counted_net flats counts name flat count counted finished c missing found number le =
+  -- the flat network of a name that is counted within the limit is the name's net
+  counted_net : (flats : Nets) (counts : List ℕ → Option ℕ) (name : List ℕ) (flat : PlainFlat) → AreCountedBelow sources counts unit → AllFinished sources (known_flats hints flats) unit order → Contains order name → is_missing sources hints unit name ≡ true → flats name ≡ Some flat → IsCountedWithin counts name → net_at sources name ≡ Some (flat_net flat)
+  counted_net flats counts name flat counted finished c missing found small =
       let rest = and_second (not (is_at (name_cmp unit) name)) _ missing in
-      let unknown = and_first (is_none (count_of_hint (hints name))) _ rest in
-      let kind = subapplication_by_tree sources name (and_second (is_none (count_of_hint (hints name))) _ rest) in
-      let known = counted name c kind in
-      let f = finished name c (apart name missing) kind (small_type sources name kind count known number le) in
+      let unknown = not_of_not (is_sound_hint (hints name)) (and_first (not (is_sound_hint (hints name))) _ rest) in
+      let kind = subapplication_by_tree sources name (and_second (not (is_sound_hint (hints name))) _ rest) in
+      let known = counted name (o.below name c) kind in
+      let f = finished name c (apart name missing) kind (small_type sources name kind small.count known small.counted small.within) in
       let composed : flats name ≡ Some f.net = sym (ap (λ (p : Option PlainFlat). option_or p (flats name)) (no_flat (hints name) unknown)) ∙ f.found in
       let same : f.net ≡ flat = cc in
       let is : IsUnitFlat sources name flat = OfSubapplication f.inner kind f.declared (subst (λ (p : PlainFlat). IsFlat (declared sources) f.inner p) same f.flat) in
-      (net_at_is sources name (flat_net flat count)).1 (inl kind, (o.names.sound name c, within_limit sources name kind count known number le, is))
+      (net_at_is sources name (flat_net flat)).1 (inl kind, (o.names.sound name c, within_limit sources name kind small.count known small.counted small.within, is))
 
-  pub inner_net : (flats : Nets) (counts : List ℕ → Option ℕ) → AllCounted sources counts order → AllFinished sources (known_flats hints flats) unit order → AreMissing sources hints unit order flats → (it : Inner) → IsCountedFlat flats counts it → IsInnerNet sources unit it
+  pub inner_net : (flats : Nets) (counts : List ℕ → Option ℕ) → AreCountedBelow sources counts unit → AllFinished sources (known_flats hints flats) unit order → AreMissing sources hints unit order flats → (it : Inner) → IsCountedFlat flats counts it → IsInnerNet sources unit it
   inner_net flats counts counted finished missing it is =
       let m = missing it.unit is.flat is.found in
       record {
         below = o.below it.unit m.0;
-        net_is = counted_net flats counts it.unit is.flat is.count counted finished m.0 m.1 is.found is.counted is.within ∙ ap (λ (n : PlainNet). Some n) (sym is.net_is);
+        net_is = counted_net flats counts it.unit is.flat counted finished m.0 m.1 is.found is.small ∙ ap (λ (n : PlainNet). Some n) (sym is.net_is);
       }

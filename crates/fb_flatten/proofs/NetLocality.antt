@@ -102,8 +102,8 @@ module _ (a b : Sources) (unit : List ℕ) (agree : AgreeFar unit a b) where
   large_there : IsTooLarge a unit → IsTooLarge b unit
   large_there t = record { held = t.held; holds = holds_there t.held t.holds; more = t.more }
 
-  within_there : (instances : ℕ) → IsWithinLimit a unit instances → IsWithinLimit b unit instances
-  within_there instances t = record { held = t.held; holds = holds_there t.held t.holds; number = t.number; within = t.within }
+  within_there : IsWithinLimit a unit → IsWithinLimit b unit
+  within_there t = record { held = t.held; holds = holds_there t.held t.holds; within = t.within }
 
   flats_there : {applications : List Application} {flats : List FlatApplication} → ((x : Application) → Contains applications x → Within (Rests a unit) x.network) → AreFlatApplications (declared a) applications flats → AreFlatApplications (declared b) applications flats
   flats_there within NoApplication = NoApplication
@@ -130,7 +130,7 @@ module _ (a b : Sources) (unit : List ℕ) (agree : AgreeFar unit a b) where
   there (blocked names) p = (blocking_those_there names p.0, p.1)
   there (recursive names) p = (blocking_those_there [] p.0, recursive_those_there names p.1, p.2)
   there too_large p = (sound_there p.0, large_there p.1)
-  there (flat_net flat instances) p = (sound_there p.0, within_there instances p.1, unit_flat_there flat p.2)
+  there (flat_net flat) p = (sound_there p.0, within_there p.1, unit_flat_there flat p.2)
 
 pub net_local : NetIsLocal
 net_local a b unit agree net p = there a b unit agree net p

@@ -31,15 +31,12 @@ same_held {sources = sources} {h = h} p q =
     let same : p.tree ≡ q.tree = cc in
     same_instances (subst (λ (t : DeclTree). AreInstances (declared sources) (own_instances t) h) same p.instances) q.instances
 
-not_both_sizes : {sources : Sources} {unit : List ℕ} {instances : ℕ} → IsTooLarge sources unit → IsWithinLimit sources unit instances → ⊥
+not_both_sizes : {sources : Sources} {unit : List ℕ} → IsTooLarge sources unit → IsWithinLimit sources unit → ⊥
 not_both_sizes p q =
     let same = ap (λ (l : List Held). length l) (same_held p.holds q.holds) in
     let more = p.more in
     let within = q.within in
     omega (arith, same, more, within)
-
-same_number : {sources : Sources} {unit : List ℕ} {m n : ℕ} → IsWithinLimit sources unit m → IsWithinLimit sources unit n → m ≡ n
-same_number p q = p.number ∙ ap (λ (l : List Held). length l) (same_held p.holds q.holds) ∙ sym q.number
 
 same_applications : {view : View} {applications : List Application} {fs gs : List FlatApplication} → AreFlatApplications view applications fs → AreFlatApplications view applications gs → fs ≡ gs
 same_applications NoApplication NoApplication = refl
@@ -72,22 +69,19 @@ one : (sources : Sources) (unit : List ℕ) (a b : PlainNet) → IsNet sources u
 one sources unit (blocked xs) (blocked ys) p q = ap blocked (same_names xs ys p.0 q.0)
 one sources unit (blocked xs) (recursive ys) p q = absurd (p.1 (same_names xs [] p.0 q.0))
 one sources unit (blocked xs) too_large p q = absurd (p.1 (same_names xs [] p.0 q.0.whole))
-one sources unit (blocked xs) (flat_net g n) p q = absurd (p.1 (same_names xs [] p.0 q.0.whole))
+one sources unit (blocked xs) (flat_net g) p q = absurd (p.1 (same_names xs [] p.0 q.0.whole))
 one sources unit (recursive xs) (blocked ys) p q = absurd (q.1 (same_names ys [] q.0 p.0))
 one sources unit (recursive xs) (recursive ys) p q = ap recursive (same_names xs ys p.1 q.1)
 one sources unit (recursive xs) too_large p q = absurd (p.2 (same_names xs [] p.1 q.0.finite))
-one sources unit (recursive xs) (flat_net g n) p q = absurd (p.2 (same_names xs [] p.1 q.0.finite))
+one sources unit (recursive xs) (flat_net g) p q = absurd (p.2 (same_names xs [] p.1 q.0.finite))
 one sources unit too_large (blocked ys) p q = absurd (q.1 (same_names ys [] q.0 p.0.whole))
 one sources unit too_large (recursive ys) p q = absurd (q.2 (same_names ys [] q.1 p.0.finite))
 one sources unit too_large too_large p q = refl
-one sources unit too_large (flat_net g n) p q = absurd (not_both_sizes p.1 q.1)
-one sources unit (flat_net f m) (blocked ys) p q = absurd (q.1 (same_names ys [] q.0 p.0.whole))
-one sources unit (flat_net f m) (recursive ys) p q = absurd (q.2 (same_names ys [] q.1 p.0.finite))
-one sources unit (flat_net f m) too_large p q = absurd (not_both_sizes q.1 p.1)
-one sources unit (flat_net f m) (flat_net g n) p q =
-    let flats = same_unit_flat f g p.2 q.2 in
-    let numbers = same_number p.1 q.1 in
-    λ i. flat_net (flats i) (numbers i)
+one sources unit too_large (flat_net g) p q = absurd (not_both_sizes p.1 q.1)
+one sources unit (flat_net f) (blocked ys) p q = absurd (q.1 (same_names ys [] q.0 p.0.whole))
+one sources unit (flat_net f) (recursive ys) p q = absurd (q.2 (same_names ys [] q.1 p.0.finite))
+one sources unit (flat_net f) too_large p q = absurd (not_both_sizes q.1 p.1)
+one sources unit (flat_net f) (flat_net g) p q = ap flat_net (same_unit_flat f g p.2 q.2)
 
 pub one_net_only : OneNet
 one_net_only = one

@@ -1,7 +1,7 @@
 -- Nets that are kept from before.
 use Rattle.std.specs.Prelude.{◌≡◌, ℕ, Bool, true, false, List, Option, Some}
 use Rattle.fb_wiring.specs.Library.View.{Sources}
-pub use Rattle.fb_wiring.specs.Hints.{flat_of_net, flat_of_hint, is_whole_net, is_whole_hint, count_of_net, count_of_hint, is_left, left_of}
+pub use Rattle.fb_wiring.specs.Hints.{flat_of_net, flat_of_hint, is_whole_net, is_whole_hint, is_sound_net, is_sound_hint, is_left, left_of}
 use Rattle.fb_flatten.specs.Blocking.{is_blocking}
 use Rattle.fb_flatten.specs.Net.{PlainNet}
 use Rattle.fb_flatten.specs.Nets.{net_at}

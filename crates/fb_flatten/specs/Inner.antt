@@ -14,11 +14,15 @@ pub record IsInnerNet (sources : Sources) (unit : List ℕ) (it : Inner) : Type 
   pub below : Rests sources unit it.unit
   pub net_is : net_at sources it.unit ≡ Some (plain_net it.net)
 
--- a flat network of these, with a count within the limit
+-- the type is counted within the limit
+pub record IsCountedWithin (counts : List ℕ → Option ℕ) (name : List ℕ) : Type 0 where
+  pub count : ℕ
+  pub counted : counts name ≡ Some count
+  pub within : count ≤ INSTANCE_LIMIT
+
+-- a flat network of these, of a type that is counted within the limit
 pub record IsCountedFlat (flats : Nets) (counts : List ℕ → Option ℕ) (it : Inner) : Type 0 where
   pub flat : PlainFlat
-  pub count : ℕ
   pub found : flats it.unit ≡ Some flat
-  pub counted : counts it.unit ≡ Some count
-  pub within : count ≤ INSTANCE_LIMIT
-  pub net_is : plain_net it.net ≡ flat_net flat count
+  pub small : IsCountedWithin counts it.unit
+  pub net_is : plain_net it.net ≡ flat_net flat

@@ -17,13 +17,13 @@ pub record IsSound (sources : Sources) (unit : List ℕ) : Type 0 where
   pub finite : AreThose sources unit (IsRecursive sources) []
 
 -- The first of these that applies: the names that the unit rests on that are absent or have faults, if any; those that reach
--- themselves, if any; too many instances; the flat network, with the number of instances.
+-- themselves, if any; too many instances; the flat network.
 abbrev pub IsNet : Sources → List ℕ → PlainNet → Type 0
 IsNet sources unit (blocked names) = AreThose sources unit (IsBlocking sources) names × (names ≢ [])
 IsNet sources unit (recursive names) = IsWhole sources unit × AreThose sources unit (IsRecursive sources) names × (names ≢ [])
 IsNet sources unit too_large = IsSound sources unit × IsTooLarge sources unit
-IsNet sources unit (flat_net flat instances) = IsSound sources unit × IsWithinLimit sources unit instances × IsUnitFlat sources unit flat
+IsNet sources unit (flat_net flat) = IsSound sources unit × IsWithinLimit sources unit × IsUnitFlat sources unit flat
 
 -- the unit has this flat network
 abbrev pub HasFlat : Sources → List ℕ → PlainFlat → Type 0
-HasFlat sources unit flat = (instances : ℕ) × IsNet sources unit (flat_net flat instances)
+HasFlat sources unit flat = IsNet sources unit (flat_net flat)

@@ -93,7 +93,7 @@ abbrev pub is_recursive : Sources → List ℕ → Bool
 is_recursive sources name = list_any (λ inner. has_name (far_of sources inner) name) (mentions_at sources name)
 
 abbrev pub sized_net : List Held → PlainFlat → PlainNet
-sized_net held flat = if nat_lt INSTANCE_LIMIT (length held) then too_large else flat_net flat (length held)
+sized_net held flat = if nat_lt INSTANCE_LIMIT (length held) then too_large else flat_net flat
 
 -- the net of a unit that rests on no recursive type, and so on none through more depths than it rests on names
 abbrev pub finite_net : ℕ → Sources → DeclTree → PlainNet

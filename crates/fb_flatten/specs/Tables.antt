@@ -1,19 +1,22 @@
 -- Orders of names, and what is found by tables.
-use Rattle.std.specs.Prelude.{◌≡◌, ℕ, ◌<◌, true, List, Option, None, Some, Contains, length, take, slice_index_or}
+use Rattle.std.specs.Prelude.{◌≡◌, ℕ, ◌<◌, true, false, List, Option, Some, Contains, length, take, slice_index_or}
+use Rattle.fb_wiring.specs.Tree.declared.kinds.UnitKind.TheVariants as kinds
 use Rattle.fb_wiring.specs.Library.View.{Sources, mentions_at}
 use Rattle.fb_wiring.specs.Library.Rests.{Rests}
-pub use Rattle.fb_wiring.specs.Tables.{IsTrue, Has, HasAdapter, HasAdapters, Grows, HasType, IsTable, AllCounted, IsCountable, IsCountByTable, IsTypeCount, IsCountedWhereKnown, SameOthers, IsUnitCount, IsSmallType, IsSmall, known_flats, IsComposed, IsAdded, AllFinished, is_subapplication_tree, is_subapplication_in, is_missing, IsComposable, AreComposable, IsComposedApplication, AreComposedApplications, IsFlatTogether, AreComposedTogether, is_system_tree, is_system_in}
+pub use Rattle.fb_wiring.specs.Tables.{IsTrue, Has, HasAdapter, HasAdapters, Grows, HasType, IsTable, AllCounted, SameOthers, IsUnitCount, IsSmallType, known_flats, IsComposed, IsAdded, AllFinished, is_subapplication_tree, is_subapplication_in, is_missing, IsComposable, AreComposable, IsComposedApplication, AreComposedApplications, IsFlatTogether, AreComposedTogether, is_system_tree, is_system_in}
 use Rattle.fb_wiring.specs.Network.PlainFlat.{PlainFlat}
 use Rattle.fb_wiring.specs.Network.Ready.{Nets}
-use Rattle.fb_flatten.specs.Hints.{count_of_hint}
+use Rattle.fb_wiring.specs.Counts.{IsCounted}
+use Rattle.fb_wiring.specs.ByName.{declared, kind_at}
+use Rattle.fb_flatten.specs.Hints.{is_sound_hint}
 use Rattle.fb_flatten.specs.Net.{PlainNet, IsSound}
 
--- Names with inner types first, as far as kept nets do not count their instances. All that each name rests on is present, without faults and
--- does not reach itself.
+-- Names with inner types first, as far as kept nets do not tell that they are sound. All that each name rests on is present, without faults
+-- and does not reach itself.
 pub record IsSoundOrder (sources : Sources) (hints : List ℕ → Option PlainNet) (order : List (List ℕ)) : Type 0 where
   pub inner_first :
       (k : ℕ) (name w : List ℕ)
-      → k < length order → name ≡ slice_index_or order k name → count_of_hint (hints name) ≡ None → Contains (mentions_at sources name) w
+      → k < length order → name ≡ slice_index_or order k name → is_sound_hint (hints name) ≡ false → Contains (mentions_at sources name) w
       → Contains (take k order) w
   pub sound : (name : List ℕ) → Contains order name → IsSound sources name
 
@@ -29,3 +32,9 @@ abbrev pub AreMissing : Sources → (List ℕ → Option PlainNet) → List ℕ 
 AreMissing sources hints unit order composed =
     (name : List ℕ) (flat : PlainFlat)
     → composed name ≡ Some flat → Contains order name × (is_missing sources hints unit name ≡ true)
+
+-- the subapplications that the unit rests on are counted
+abbrev pub AreCountedBelow : Sources → (List ℕ → Option ℕ) → List ℕ → Type 0
+AreCountedBelow sources counts unit =
+    (name : List ℕ)
+    → Rests sources unit name → kind_at sources name ≡ Some kinds.Subapplication → IsCounted (declared sources) counts name

@@ -9,10 +9,10 @@ ghost use Rattle.fb_flatten.specs.Nets.{net_at};
 ghost use Rattle.fb_flatten.specs.Tables.{IsUnitOrder};
 
 use crate::blocking::{blocking, has_some};
-use crate::counts::counts_in_order;
+use crate::counts::counts_below;
 use crate::inner::{Inner, inner_nets};
 use crate::suspects::suspects;
-use crate::units::{Composed, count_of_unit, flat_of_unit};
+use crate::units::{Composed, flat_of_unit, instances_of_unit};
 use fb_wiring::library::{View, far};
 use fb_wiring::plain::INSTANCE_LIMIT;
 use fb_wiring::text::Name;
@@ -37,7 +37,7 @@ fn alone(alloc: Global, net: Net) -> Computed
 }
 
 /// The net of a unit, where the nets of some units are kept and some units are known to be there without faults, and nets of units that it
-/// rests on. Below a unit whose kept net tells that it is flat or too large nothing is looked at.
+/// rests on. Of what a unit rests on whose kept net tells that it is flat or too large nothing is judged or composed.
 pub fn compute<V: View, K: Hints + Known>(
     alloc: Global,
     view: &V,
@@ -85,14 +85,14 @@ fn compute_in_order<V: View, H: Hints>(
     ensures inner { IfOk result
         (λ it. All (IsInnerNet (V.sources view.now) unit.now) it.inner.items) }
 {
-    let table = networks_of(alloc, view, order)?;
-    let counts = counts_in_order(alloc, view, hints, &table, order)?;
-    let instances = count_of_unit(alloc, view, &counts, unit)?;
+    let counts = counts_below(alloc, view, unit)?;
+    let instances = instances_of_unit(view, &counts, unit);
     if instances > INSTANCE_LIMIT {
         return Ok(alone(alloc, Net::TooLarge));
     }
+    let table = networks_of(alloc, view, order)?;
     let Composed { flat, flats } = flat_of_unit(alloc, view, hints, &table, order, unit)?;
     let inner = inner_nets(alloc, flats, &counts)?;
-    let net = Net::Flat { flat, instances };
+    let net = Net::Flat(flat);
     Ok(Computed { net, inner })
 }

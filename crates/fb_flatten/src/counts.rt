@@ -1,35 +1,43 @@
-//! Counts of types whose inner types come first in an order.
-ghost use Rattle.std.specs.Prelude.{IfOk};
+//! Counts of what a unit rests on.
+ghost use Rattle.std.specs.Prelude.{ℕ, List, Contains, IfOk};
 ghost use Rattle.std.specs.BTreeMap.{get};
+ghost use Rattle.fb_wiring.specs.Order.{IsOrdered};
 ghost use Rattle.fb_wiring.specs.Text.Order.{name_cmp};
-ghost use Rattle.fb_flatten.specs.Hints.{AreRightHints};
-ghost use Rattle.fb_flatten.specs.Tables.{AllCounted, IsSoundOrder, IsTable};
+ghost use Rattle.fb_flatten.specs.Net.{IsSound};
+ghost use Rattle.fb_flatten.specs.Tables.{AllCounted, AreCountedBelow};
 
 use fb_wiring::library::View;
 use fb_wiring::text::Name;
-use fb_wiring::{Counts, Hints, Table, add_count, is_subapplication};
+use fb_wiring::{Counts, add_count, inner_first, is_subapplication};
 use std::alloc::{AllocError, Global};
 use std::collections::BTreeMap;
 
 /// How many instances each subapplication of the order holds.
-pub(crate) fn counts_in_order<V: View, H: Hints>(
-    alloc: Global,
-    view: &V,
-    hints: &H,
-    table: &Table,
-    order: &[Name],
-) -> Result<Counts, AllocError>
-    requires order { IsSoundOrder (V.sources view.now) (H.hints hints.now) order.now }
-    requires table { IsTable (V.sources view.now) (get name_cmp table.now) order.now }
-    requires right { AreRightHints (V.sources view.now) (H.hints hints.now) }
+fn counts_in_order<V: View>(alloc: Global, view: &V, order: &[Name]) -> Result<Counts, AllocError>
+    requires order { IsOrdered (V.sources view.now) order.now }
+    requires sound { (name : List ℕ) → Contains order.now name → IsSound (V.sources view.now) name }
     ensures { IfOk result
         (λ counts. AllCounted (V.sources view.now) (get name_cmp counts) order.now) }
 {
     let mut counts = BTreeMap::new(alloc);
     for name in order {
         if is_subapplication(view, name) {
-            add_count(hints, table, &mut counts, name)?;
+            add_count(view, &mut counts, name)?;
         }
     }
     Ok(counts)
+}
+
+/// How many instances each subapplication holds that the unit rests on, itself included.
+pub(crate) fn counts_below<V: View>(
+    alloc: Global,
+    view: &V,
+    unit: &Name,
+) -> Result<Counts, AllocError>
+    requires { IsSound (V.sources view.now) unit.now }
+    ensures { IfOk result
+        (λ counts. AreCountedBelow (V.sources view.now) (get name_cmp counts) unit.now) }
+{
+    let order = inner_first(alloc, view, *unit)?.unwrap();
+    counts_in_order(alloc, view, order.as_slice())
 }

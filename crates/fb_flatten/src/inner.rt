@@ -1,9 +1,8 @@
 //! Nets of units that others rest on.
-ghost use Rattle.std.specs.Prelude.{◌≡◌, ◌≤◌, All, IfOk, IfSome, Some};
+ghost use Rattle.std.specs.Prelude.{◌≡◌, true, All, IfOk};
 ghost use Rattle.std.specs.BTreeMap.{get};
-ghost use Rattle.fb_wiring.specs.Network.declared.count.TheConstants as limits;
 ghost use Rattle.fb_wiring.specs.Text.Order.{name_cmp};
-ghost use Rattle.fb_flatten.specs.Inner.{IsCountedFlat};
+ghost use Rattle.fb_flatten.specs.Inner.{IsCountedFlat, IsCountedWithin};
 
 use fb_wiring::plain::{Flat, INSTANCE_LIMIT};
 use fb_wiring::text::Name;
@@ -18,14 +17,13 @@ pub struct Inner {
     pub net: Net,
 }
 
-/// How many instances a type holds, if these are no more than the limit.
-fn count_within(counts: &Counts, name: &Name) -> Option<u32>
-    ensures { IfSome result (λ count. (get name_cmp counts.now name.now ≡ Some count)
-        × (count ≤ limits.INSTANCE_LIMIT)) }
+/// Whether a type is counted, and holds no more instances than the limit.
+fn is_within(counts: &Counts, name: &Name) -> bool
+    ensures { result ≡ true → IsCountedWithin (get name_cmp counts.now) name.now }
 {
     match counts.get(name) {
-        Some(count) if *count <= INSTANCE_LIMIT => Some(*count),
-        _ => None,
+        Some(count) => *count <= INSTANCE_LIMIT,
+        None => false,
     }
 }
 
@@ -40,8 +38,8 @@ pub(crate) fn inner_nets(
 {
     let mut nets = Vec::new(alloc);
     for (unit, flat) in flats {
-        if let Some(instances) = count_within(counts, &unit) {
-            let net = Net::Flat { flat, instances };
+        if is_within(counts, &unit) {
+            let net = Net::Flat(flat);
             nets.push(Inner { unit, net })?;
         }
     }

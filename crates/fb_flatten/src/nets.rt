@@ -21,7 +21,8 @@ pub fn net<V: View>(alloc: Global, view: &V, unit: Name) -> Result<Net, AllocErr
     net_with(alloc, view, unit, &NoHints)
 }
 
-/// The same, where the nets of some units are kept. Below a unit whose kept net tells that it is flat or too large nothing is looked at.
+/// The same, where the nets of some units are kept. Of what a unit rests on whose kept net tells that it is flat or too large nothing is
+/// judged or composed.
 pub fn net_with<V: View, H: Hints>(
     alloc: Global,
     view: &V,

@@ -1,39 +1,31 @@
 //! The instances and the flat networks of units whose inner types come first in an order.
 ghost use Rattle.std.specs.Prelude.{IfOk};
 ghost use Rattle.std.specs.BTreeMap.{get};
-ghost use Rattle.fb_wiring.specs.Library.View.{mentions_at};
 ghost use Rattle.fb_wiring.specs.Text.Order.{name_cmp};
-ghost use Rattle.fb_wiring.specs.Units.{HasNet, IsUnitFlat};
+ghost use Rattle.fb_wiring.specs.Units.{HasNet, IsUnitFlat, IsWithinLimit};
 ghost use Rattle.fb_flatten.specs.Hints.{AreRightHints};
 ghost use Rattle.fb_flatten.specs.Net.{IsSound};
-ghost use Rattle.fb_flatten.specs.Tables.{AllCounted, AllFinished, AreMissing, IsSmall, IsTable, IsUnitCount, IsUnitOrder, known_flats};
+ghost use Rattle.fb_flatten.specs.Tables.{AllFinished, AreCountedBelow, AreMissing, IsTable, IsUnitCount, IsUnitOrder, known_flats};
 
 use crate::flats::missing_flats;
 use fb_wiring::library::{View, tree_by_name};
-use fb_wiring::plain::{Flat, count_instances};
+use fb_wiring::plain::Flat;
 use fb_wiring::text::Name;
 use fb_wiring::{
-    Counts, Hints, KnownFlats, Table, applications, flat_of_applications, flat_of_type,
-    is_of_system, own_network,
+    Counts, Hints, KnownFlats, Table, applications, count_of_unit, flat_of_applications,
+    flat_of_type, is_of_system,
 };
 use std::alloc::{AllocError, Global};
 use std::collections::BTreeMap;
 
-/// How many instances a unit holds at all depths, up to one past the limit, by the counts of the types that it mentions.
-pub(crate) fn count_of_unit<V: View>(
-    alloc: Global,
-    view: &V,
-    counts: &Counts,
-    unit: &Name,
-) -> Result<u32, AllocError>
+/// How many instances a unit holds at all depths, up to one past the limit, by the counts of what it rests on.
+pub(crate) fn instances_of_unit<V: View>(view: &V, counts: &Counts, unit: &Name) -> u32
     requires sound { IsSound (V.sources view.now) unit.now }
-    requires counted { AllCounted (V.sources view.now) (get name_cmp counts.now)
-        (mentions_at (V.sources view.now) unit.now) }
-    ensures { IfOk result (IsUnitCount (V.sources view.now) unit.now) }
+    requires counted { AreCountedBelow (V.sources view.now) (get name_cmp counts.now) unit.now }
+    ensures { IsUnitCount (V.sources view.now) unit.now result }
 {
     let decl = tree_by_name(view, unit).unwrap();
-    let own = own_network(alloc, decl)?;
-    Ok(count_instances(counts, &own))
+    count_of_unit(counts, decl)
 }
 
 /// A flat network, and those that were composed for it, by the names of their types.
@@ -56,7 +48,7 @@ pub(crate) fn flat_of_unit<V: View, H: Hints>(
     requires order { IsUnitOrder (V.sources view.now) (H.hints hints.now) unit.now order.now }
     requires table { IsTable (V.sources view.now) (get name_cmp table.now) order.now }
     requires right { AreRightHints (V.sources view.now) (H.hints hints.now) }
-    requires small { IsSmall (V.sources view.now) unit.now }
+    requires small { IsWithinLimit (V.sources view.now) unit.now }
     ensures flat { IfOk result (λ it. IsUnitFlat (V.sources view.now) unit.now it.flat) }
     ensures finished { IfOk result (λ it.
         AllFinished (V.sources view.now)

@@ -13,7 +13,7 @@ module _ (a b : Sources) (system : List ℕ) (agree : AgreeFar system a b) where
   placed_same (blocked names) = refl
   placed_same (recursive names) = refl
   placed_same too_large = refl
-  placed_same (flat_net flat instances) = ap (with_cuts flat.links) (homes_same a b system agree flat.blocks)
+  placed_same (flat_net flat) = ap (with_cuts flat.links) (homes_same a b system agree flat.blocks)
 
 pub place_local : PlaceIsLocal
 place_local a b system agree placed p = record {

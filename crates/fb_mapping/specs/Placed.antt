@@ -41,7 +41,7 @@ abbrev pub placed_by : Sources → List ℕ → PlainNet → PlainPlaced
 placed_by sources system (blocked names) = stopped (blocked names)
 placed_by sources system (recursive names) = stopped (recursive names)
 placed_by sources system too_large = stopped too_large
-placed_by sources system (flat_net flat instances) = flat_placed sources system flat
+placed_by sources system (flat_net flat) = flat_placed sources system flat
 
 -- the placement of a system: its net where that is not flat, what is misplaced if anything is, or the homes of its blocks and the links
 -- between blocks with different homes

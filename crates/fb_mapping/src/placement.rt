@@ -47,7 +47,7 @@ pub fn place<V: View>(alloc: Global, view: &V, system: Name) -> Result<Placed, A
     ensures { IfOk result (λ placed. IsPlaced (V.sources view.now) system (plain_placed placed)) }
 {
     match net(alloc, view, system)? {
-        Net::Flat { flat, .. } => place_flat(alloc, view, &system, &flat),
+        Net::Flat(flat) => place_flat(alloc, view, &system, &flat),
         stopped => Ok(Placed::Stopped(stopped)),
     }
 }

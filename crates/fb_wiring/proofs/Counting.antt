@@ -106,7 +106,7 @@ module _ (counts : List ℕ → Option ℕ) where
       subst (λ (l : List Instance). CountsAll counts l m) (sym (joined list))
       (λ view all.
       on view (instances_in list) (λ i h k. all i (Contains-append_right (instances_in list) a.network.instances i h) k)
-          (before view (λ i h k. all i (Contains-append_left (instances_in list) a.network.instances i h) k)))
+      (before view (λ i h k. all i (Contains-append_left (instances_in list) a.network.instances i h) k)))
     where
       joined : (xs : List Application) → instances_in (xs ++ a ∷ []) ≡ instances_in xs ++ a.network.instances
       joined [] = append-nil a.network.instances

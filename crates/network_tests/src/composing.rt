@@ -7,7 +7,7 @@ ghost use Rattle.network_tests.specs.Border.{inner};
 use crate::told::flat_told;
 use fb_network::{
     Border, Connection, End, Flat, FlatApplication, FlatBlock, Instance, InstanceKind, Link,
-    Network, Path, Port, compose, compose_in_order, count_instances, join,
+    Network, Path, Port, compose, compose_in_order, join,
 };
 use fb_tree::text::Name;
 use fb_tree::{Side, Sort};
@@ -93,14 +93,6 @@ fn a_network_of_nothing_is_flat(rt: HostRuntime) -> Result<(), Fail> {
     let nothing = Network::new(Vec::new(alloc), Vec::new(alloc), Vec::new(alloc));
     let flat = compose(alloc, &types, &nothing, &nets)?;
     compare(&rt, alloc, &flat, "")
-}
-
-#[test]
-fn a_network_of_nothing_has_no_instances(rt: HostRuntime) {
-    let alloc = rt.alloc();
-    let counts: BTreeMap<Name, u32> = BTreeMap::new(alloc);
-    let nothing = Network::new(Vec::new(alloc), Vec::new(alloc), Vec::new(alloc));
-    assert_eq!(rt; count_instances(&counts, &nothing), 0);
 }
 
 /// Compares the flat network of one whose event input is joined to that of its block.

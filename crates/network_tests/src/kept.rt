@@ -112,7 +112,7 @@ fn sort_of(net: &Net) -> &'static str {
         Net::Blocked(_) => "blocked",
         Net::Recursive(_) => "recursive",
         Net::TooLarge => "too large",
-        Net::Flat { .. } => "flat",
+        Net::Flat(_) => "flat",
     }
 }
 

@@ -178,7 +178,7 @@ pub fn net_told(alloc: Global, net: &Net) -> Result<String, Fail> {
         Net::Blocked(names) => names_behind(alloc, "blocked", names.as_slice()),
         Net::Recursive(names) => names_behind(alloc, "recursive", names.as_slice()),
         Net::TooLarge => Ok(String::from_str(alloc, "too large")?),
-        Net::Flat { flat, .. } => flat_told(alloc, flat),
+        Net::Flat(flat) => flat_told(alloc, flat),
     }
 }
 

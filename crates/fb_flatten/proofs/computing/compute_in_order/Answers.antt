@@ -10,14 +10,11 @@ use Rattle.fb_flatten.specs.Net.{IsNet, plain_net}
 use Rattle.fb_flatten.proofs.InnerNets.{inner_net}
 use Rattle.fb_flatten.proofs.computing.compute_in_order.Goals as goal
 
-pub counts_in_order-requires-clause-order : goal.counts_in_order-requires-clause-order
-counts_in_order-requires-clause-order g c = c.requires.order.names
+pub counts_below-requires : goal.counts_below-requires
+counts_below-requires g c = c.requires.order.names.sound _ c.requires.order.own
 
-pub count_of_unit-requires : goal.count_of_unit-requires
-count_of_unit-requires g c = record {
-  sound = c.requires.order.names.sound _ c.requires.order.own;
-  counted = λ w m kind. c.in_ok-counts.ensures w (c.requires.order.mentions w m) kind;
-}
+pub instances_of_unit-instances-requires-clause-sound : goal.instances_of_unit-instances-requires-clause-sound
+instances_of_unit-instances-requires-clause-sound g c = c.requires.order.names.sound _ c.requires.order.own
 
 pub returns-then-instances-gt-INSTANCE_LIMIT : goal.returns-then-instances-gt-INSTANCE_LIMIT
 returns-then-instances-gt-INSTANCE_LIMIT g c =
@@ -26,12 +23,12 @@ returns-then-instances-gt-INSTANCE_LIMIT g c =
     record {
       net =
           subst (λ (n : Net). IsNet sources unit (plain_net n)) (sym c.alone.ensures.net)
-          (c.requires.order.names.sound _ c.requires.order.own, too_large c.in_ok-instances.ensures c.if-instances-gt-INSTANCE_LIMIT.true);
+          (c.requires.order.names.sound _ c.requires.order.own, too_large c.instances_of_unit-instances.ensures c.if-instances-gt-INSTANCE_LIMIT.true);
       inner = All-same (IsInnerNet sources unit) c.alone.result.inner.items [] c.alone.ensures.inner (All-nil (IsInnerNet sources unit));
     }
 
 pub flat_of_unit-requires-clause-small : goal.flat_of_unit-requires-clause-small
-flat_of_unit-requires-clause-small g c = (c.in_ok-instances.instances, not_too_large c.in_ok-instances.ensures c.if-instances-gt-INSTANCE_LIMIT.false)
+flat_of_unit-requires-clause-small g c = not_too_large c.instances_of_unit-instances.ensures c.if-instances-gt-INSTANCE_LIMIT.false
 
 pub returns : goal.returns
 returns g c =
@@ -40,7 +37,7 @@ returns g c =
     let flats = get name_cmp c.in_ok-flat.field-0.flats in
     let counts = get name_cmp c.in_ok-counts.counts in
     record {
-      net = (c.requires.order.names.sound _ c.requires.order.own, not_too_large c.in_ok-instances.ensures c.if-instances-gt-INSTANCE_LIMIT.false, c.in_ok-flat.ensures.flat);
+      net = (c.requires.order.names.sound _ c.requires.order.own, not_too_large c.instances_of_unit-instances.ensures c.if-instances-gt-INSTANCE_LIMIT.false, c.in_ok-flat.ensures.flat);
       inner =
           All-weaker (IsCountedFlat flats counts) (IsInnerNet sources unit)
           (inner_net c.requires.order flats counts c.in_ok-counts.ensures c.in_ok-flat.ensures.finished c.in_ok-flat.ensures.missing)

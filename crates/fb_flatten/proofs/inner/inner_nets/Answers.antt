@@ -16,13 +16,11 @@ pub loop-unit-preserved-in-Continue-1 : goal.loop-unit-preserved-in-Continue-1
 loop-unit-preserved-in-Continue-1 c =
     let flats = get name_cmp c.args.flats in
     let counts = get name_cmp c.args.counts.now in
-    let it : Inner = record { unit = c.in-Some.unit; net = Flat c.in-Some.flat c.in-Some-count_within.instances } in
+    let it : Inner = record { unit = c.in-Some.unit; net = Flat c.in-Some.flat } in
     let gives = c.into_iter-unit-iterator.ensures.into_iter_gives in
     let turn =
     btree_map_turn (λ (p : List ℕ × PlainFlat). p) c.loop-unit.yielded c.into_iter-unit-iterator.result c.loop-unit.unit-iterator c.next.new.self c.next.result (c.in-Some.unit, c.in-Some.flat)
     c.loop-unit.yielded_by c.in-Some.is c.next.ensures.steps nat_list_cmp_total c.args.flats gives.0 gives.5 in
-    let known = c.in-Some-count_within.ensures in
-    let new : IsCountedFlat flats counts it =
-    record { flat = c.in-Some.flat; count = c.in-Some-count_within.instances; found = turn.1; counted = known.0; within = known.1; net_is = refl } in
+    let new : IsCountedFlat flats counts it = record { flat = c.in-Some.flat; found = turn.1; small = c.is_within.ensures c.if-is_within.true; net_is = refl } in
     subst (λ (l : List Inner). All (IsCountedFlat flats counts) l) (sym c.in_ok-push.ensures.items)
     (All-push (IsCountedFlat flats counts) c.loop-unit.nets.items it c.loop-unit.invariant new)
