@@ -100,8 +100,8 @@ module _ (sources : Sources) (system : List ℕ) (flat : PlainFlat) where
           plan = (plan_at_is sources system (planned cuts resources)).1 (
             is,
             record {
-              net = flat_net flat net.0;
-              is_net = net.1;
+              net = flat_net flat;
+              is_net = net;
               plan_is = sym (ap (λ (found : List Misplaced). with_homes sources system flat (unless_faulty found (homes_in sources system flat))) nothing);
             },
           );

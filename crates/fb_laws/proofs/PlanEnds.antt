@@ -220,4 +220,4 @@ unit_fronts sources unit flat (OfSubapplication network kind there net) link c =
 unit_fronts sources unit flat (OfSystem applications flats kind there are net) link c = system_fronts are net link c
 
 pub net_fronts : (sources : Sources) (unit : List ℕ) (flat : PlainFlat) → HasFlat sources unit flat → (link : Link) → Contains flat.links link → HasFront flat.blocks link.from × HasFront flat.blocks link.to
-net_fronts sources unit flat is link c = unit_fronts sources unit flat is.1.2 link c
+net_fronts sources unit flat is link c = unit_fronts sources unit flat is.2 link c

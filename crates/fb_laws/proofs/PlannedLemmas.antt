@@ -67,7 +67,7 @@ known sources system flat cuts resources p = by (misplaced sources system (tree_
     both = (plan_at_is sources system (planned cuts resources)).0 p.plan
 
     whole : planned cuts resources ≡ with_homes sources system flat (unless_faulty (misplaced sources system (tree_at sources system) flat.blocks) (homes_in sources system flat))
-    whole = both.1.plan_is ∙ ap (planned_by sources system) (one_net_only sources system both.1.net (flat_net flat p.is_flat.0) both.1.is_net p.is_flat.1)
+    whole = both.1.plan_is ∙ ap (planned_by sources system) (one_net_only sources system both.1.net (flat_net flat) both.1.is_net p.is_flat)
 
     by_home : misplaced sources system (tree_at sources system) flat.blocks ≡ [] → (b : FlatBlock) → Contains flat.blocks b → (o : Option (List ℕ)) → nearest (mapped sources system) b.path ≡ o → HasHome (mapped sources system) b
     by_home nothing b c None e = absurd (is_unmapped sources system flat.blocks b c e nothing)
@@ -89,7 +89,7 @@ unit_sorted sources unit flat (OfSubapplication network kind there net) = net.li
 unit_sorted sources unit flat (OfSystem applications flats kind there are net) = net.links_sorted
 
 pub links_sorted : (sources : Sources) (unit : List ℕ) (flat : PlainFlat) → HasFlat sources unit flat → IsStrictlySortedBy link_cmp flat.links
-links_sorted sources unit flat is = unit_sorted sources unit flat is.1.2
+links_sorted sources unit flat is = unit_sorted sources unit flat is.2
 
 -- where the ends of links stand
 module _ (sources : Sources) (system : List ℕ) (flat : PlainFlat) (all : (b : FlatBlock) → Contains flat.blocks b → HasHome (mapped sources system) b) where
