@@ -1,6 +1,5 @@
 -- One more name of an order is counted.
 use Rattle.std.proofs.Common.{ℕ, ◌≡◌, ◌<◌, ◌≤◌, suc, Bool, true, false, arith, length, is_some, ◌+◌, List, [], ◌∷◌, ◌++◌, Option, Some, ◌⊎◌, inl, inr, refl, sym, ◌∙◌, ap, subst, take, get_or, length-append}
-use Rattle.std.proofs.lemmas.Bool.{false≢true}
 use Rattle.std.proofs.lemmas.List.{get_or_default, length-map}
 use Rattle.std.proofs.lemmas.List.Elements.{Contains-push_cases}
 use Rattle.std.specs.Prelude.{Contains, map, option_map}
@@ -28,7 +27,7 @@ use Rattle.fb_wiring.proofs.Network.Equals.{same_bytes, at_not}
 use Rattle.fb_wiring.specs.Counts.{IsCounted, AreCounted, CountsAll, HasCount}
 use Rattle.fb_wiring.specs.Order.{IsOrdered}
 use Rattle.fb_flatten.specs.Net.{PlainNet, IsSound}
-use Rattle.fb_flatten.specs.Tables.{AllCounted, AreCountedBelow, IsSmallType, IsSoundOrder, IsTable, IsUnitCount, SameOthers, is_subapplication_in}
+use Rattle.fb_flatten.specs.Tables.{AllCounted, AreCountedBelow, IsSmallType, IsSoundOrder, IsTable, IsUnitCount, SameOthers, is_subapplication_in, is_subapplication_tree}
 use Rattle.fb_wiring.specs.Units.{own_instances}
 use Rattle.fb_flatten.proofs.ComputedNets.{unit_faultless}
 use Rattle.fb_wiring.proofs.KindLemmas.{subapplication_told}
@@ -71,14 +70,6 @@ counted_more sources old new names name all others one q c k = by_test (is_at (n
     by_test false e (inl d) = let f = all q d k in record { inner = f.inner; declared = f.declared; count = f.count; found = others q (at_not name q e) ∙ f.found; counted = f.counted }
     by_test false e (inr s) = absurd (at_not name q e (sym s))
 
--- a further name that is no subapplication
-pub counted_skip : (sources : Sources) (counts : List ℕ → Option ℕ) (names : List (List ℕ)) (name : List ℕ) → AllCounted sources counts names → is_subapplication_in (tree_at sources name) ≡ false → AllCounted sources counts (names ++ name ∷ [])
-counted_skip sources counts names name all other q c k = by_case (Contains-push_cases names name q c)
-  where
-    by_case : Contains names q ⊎ (name ≡ q) → IsCounted (declared sources) counts q
-    by_case (inl h) = all q h k
-    by_case (inr s) = absurd (false≢true (sym other ∙ subapplication_told sources name (ap (kind_at sources) s ∙ k)))
-
 module _ {sources : Sources} {hints : List ℕ → Option PlainNet} {table : View} {order : List (List ℕ)} (names : IsSoundOrder sources hints order) (t : IsTable sources table order) where
   -- the table has each name of the order
   pub in_table : (name : List ℕ) → Contains order name → is_some (table name) ≡ true
@@ -98,14 +89,14 @@ type_counted sources name (subapplication_type d) kind present all has =
     record { inner = network_of (subapplication_type d); declared = ap (option_map network_of) present; count = has.count; found = has.found; counted = has.counted (declared sources) all }
 
 -- the next name of an order is counted by the counts of those before it
-pub next_counted : {sources : Sources} {order : List (List ℕ)} {old new : List ℕ → Option ℕ} (i : ℕ) (name : List ℕ) → IsOrdered sources order → IsSound sources name → i < length order → name ≡ get_or order i name → AllCounted sources old (take i order) → ((tree : DeclTree) → tree_at sources name ≡ Some tree → HasCount old new tree name) → kind_at sources name ≡ Some kinds.Subapplication → IsCounted (declared sources) new name
+pub next_counted : {sources : Sources} {order : List (List ℕ)} {old new : List ℕ → Option ℕ} (i : ℕ) (name : List ℕ) → IsOrdered sources order → IsSound sources name → i < length order → name ≡ get_or order i name → AllCounted sources old (take i order) → ((tree : DeclTree) → tree_at sources name ≡ Some tree → is_subapplication_tree tree ≡ true → HasCount old new tree name) → kind_at sources name ≡ Some kinds.Subapplication → IsCounted (declared sources) new name
 next_counted {sources = sources} {order = order} i name ordered sound lt e all has kind =
     let t = sound_tree sound in
     let place : name ≡ get_or order i [] = e ∙ get_or_default order i name [] lt in
     type_counted sources name t.tree kind t.present
     (own_counted name t.tree sound t.present
     (λ w m. all w (ordered.inner_first i lt w (subst (λ (n : List ℕ). Contains (mentions_at sources n) w) place m))))
-    (has t.tree t.present)
+    (has t.tree t.present (sym (ap is_subapplication_in t.present) ∙ subapplication_told sources name kind))
 
 -- the unit is counted by the counts of what it rests on
 pub unit_counted : {sources : Sources} {unit : List ℕ} {counts : List ℕ → Option ℕ} (tree : DeclTree) (count : ℕ) → IsSound sources unit → tree_at sources unit ≡ Some tree → AreCountedBelow sources counts unit → CountsAll counts (own_instances tree) count → IsUnitCount sources unit count

@@ -8,7 +8,7 @@ ghost use Rattle.fb_flatten.specs.Tables.{AllCounted, AreCountedBelow};
 
 use fb_wiring::library::View;
 use fb_wiring::text::Name;
-use fb_wiring::{Counts, add_count, inner_first, is_subapplication};
+use fb_wiring::{Counts, add_count, inner_first};
 use std::alloc::{AllocError, Global};
 use std::collections::BTreeMap;
 
@@ -21,9 +21,7 @@ fn counts_in_order<V: View>(alloc: Global, view: &V, order: &[Name]) -> Result<C
 {
     let mut counts = BTreeMap::new(alloc);
     for name in order {
-        if is_subapplication(view, name) {
-            add_count(view, &mut counts, name)?;
-        }
+        add_count(view, &mut counts, name)?;
     }
     Ok(counts)
 }

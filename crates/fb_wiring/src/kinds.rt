@@ -39,7 +39,7 @@ pub fn is_of_system(decl: &Decl) -> bool
     }
 }
 
-fn is_of_subapplication(decl: &Decl) -> bool
+pub(crate) fn is_of_subapplication(decl: &Decl) -> bool
     ensures { result ≡ is_subapplication_tree (decl_tree decl.now) }
 {
     match decl {
