@@ -49,7 +49,7 @@ abbrev pub net_said : PlainNet → Data
 net_said (blocked names) = object (member (codes "blocked") (array (name_items names)) no_members)
 net_said (recursive names) = object (member (codes "recursive") (array (name_items names)) no_members)
 net_said too_large = string (codes "too_large")
-net_said (flat_net flat instances) = flat_said flat
+net_said (flat_net flat) = flat_said flat
 
 abbrev pub net_found : PlainNet → Data
 net_found net = object (member (codes "net") (net_said net) no_members)

@@ -65,7 +65,7 @@ impl ToJson for Net {
             Net::Blocked(names) => write_one_list(out, "blocked", names),
             Net::Recursive(names) => write_one_list(out, "recursive", names),
             Net::TooLarge => out.string("too_large"),
-            Net::Flat { flat, .. } => write_flat(out, flat),
+            Net::Flat(flat) => write_flat(out, flat),
         }
     }
 }
