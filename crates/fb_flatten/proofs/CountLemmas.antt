@@ -9,7 +9,6 @@ use Rattle.fb_wiring.specs.Tree.Tree.{DeclTree, block_type, adapter_type, subapp
 use Rattle.fb_wiring.specs.Tree.declared.kinds.UnitKind.TheVariants as kinds
 use Rattle.fb_wiring.specs.Tree.Mentions.{unit_kind_of}
 use Rattle.fb_wiring.specs.Library.View.{Sources, mentions_at, tree_at}
-use Rattle.fb_wiring.specs.Library.Rests.{itself, through}
 use Rattle.fb_wiring.specs.Network.declared.count.TheConstants.{INSTANCE_LIMIT}
 use Rattle.fb_wiring.specs.Network.declared.network.InstanceKind.TheVariants.{Subapplication}
 use Rattle.fb_wiring.specs.Network.declared.network.Instance.{Instance}
@@ -26,11 +25,14 @@ use Rattle.fb_flatten.proofs.CleanUnits.{applications_clean, networks_clean}
 use Rattle.fb_wiring.proofs.Network.Equals.{same_bytes, at_not}
 use Rattle.fb_wiring.specs.Counts.{IsCounted, AreCounted, CountsAll, HasCount}
 use Rattle.fb_wiring.specs.Order.{IsOrdered}
+use Rattle.fb_wiring.specs.Holders.{holders_of, is_holder}
+use Rattle.fb_wiring.proofs.LeftLemmas.{get_holder}
+use Rattle.fb_flatten.proofs.KeptLemmas.{mentioned}
 use Rattle.fb_flatten.specs.Net.{PlainNet, IsSound}
-use Rattle.fb_flatten.specs.Tables.{AllCounted, AreCountedBelow, IsSmallType, IsSoundOrder, IsTable, IsUnitCount, SameOthers, is_subapplication_in, is_subapplication_tree}
-use Rattle.fb_wiring.specs.Units.{own_instances}
-use Rattle.fb_flatten.proofs.ComputedNets.{unit_faultless}
-use Rattle.fb_wiring.proofs.KindLemmas.{subapplication_told}
+use Rattle.fb_flatten.specs.Tables.{AllCounted, AreRightCounts, IsSmallType, IsSoundOrder, IsTable, IsUnitCount, SameOthers, is_subapplication_in, is_subapplication_tree}
+use Rattle.fb_wiring.specs.Units.{has_net_in, own_instances}
+use Rattle.fb_flatten.proofs.ComputedNets.{has_by_text, unit_faultless}
+use Rattle.fb_wiring.proofs.KindLemmas.{subapplication_by_tree, subapplication_told}
 use Rattle.fb_flatten.proofs.MentionLemmas.{own_within}
 use Rattle.fb_flatten.proofs.SoundLemmas.{sound_network, sound_tree}
 
@@ -55,6 +57,11 @@ pub own_kind : (sources : Sources) (unit : List ℕ) (tree : DeclTree) → IsSou
 own_kind sources unit tree sound present i c k = own_wanted sources unit tree sound present i c ∙ ap (λ kind. Some (wanted_kind kind)) k
 
 -- ---- counts
+
+-- the subapplications among these names are counted, and each count is right
+pub record AreSoFar (sources : Sources) (names : List (List ℕ)) (counts : List ℕ → Option ℕ) : Type 0 where
+  pub all : AllCounted sources counts names
+  pub right : AreRightCounts sources counts
 
 pub counted_nothing : (sources : Sources) (counts : List ℕ → Option ℕ) → AllCounted sources counts []
 counted_nothing sources counts name c k = absurd (contains_nothing name c)
@@ -88,20 +95,42 @@ type_counted sources name (system_configuration s) kind present all has = let tw
 type_counted sources name (subapplication_type d) kind present all has =
     record { inner = network_of (subapplication_type d); declared = ap (option_map network_of) present; count = has.count; found = has.found; counted = has.counted (declared sources) all }
 
+-- a unit with instances that count has all its mentions among such units
+pub holder_mention : (sources : Sources) (name w : List ℕ) → has_net_in (tree_at sources name) ≡ true → Contains (mentions_at sources name) w → Contains (mentions_at (holders_of sources) name) w
+holder_mention sources name w = mentioned sources (holders_of sources) (is_holder sources) (get_holder sources) name w
+
 -- the next name of an order is counted by the counts of those before it
-pub next_counted : {sources : Sources} {order : List (List ℕ)} {old new : List ℕ → Option ℕ} (i : ℕ) (name : List ℕ) → IsOrdered sources order → IsSound sources name → i < length order → name ≡ get_or order i name → AllCounted sources old (take i order) → ((tree : DeclTree) → tree_at sources name ≡ Some tree → is_subapplication_tree tree ≡ true → HasCount old new tree name) → kind_at sources name ≡ Some kinds.Subapplication → IsCounted (declared sources) new name
+pub next_counted : {sources : Sources} {order : List (List ℕ)} {old new : List ℕ → Option ℕ} (i : ℕ) (name : List ℕ) → IsOrdered (holders_of sources) order → IsSound sources name → i < length order → name ≡ get_or order i name → AllCounted sources old (take i order) → ((tree : DeclTree) → tree_at sources name ≡ Some tree → is_subapplication_tree tree ≡ true → HasCount old new tree name) → kind_at sources name ≡ Some kinds.Subapplication → IsCounted (declared sources) new name
 next_counted {sources = sources} {order = order} i name ordered sound lt e all has kind =
     let t = sound_tree sound in
     let place : name ≡ get_or order i [] = e ∙ get_or_default order i name [] lt in
+    let holds = (has_by_text sources name).1 (inl kind) in
     type_counted sources name t.tree kind t.present
     (own_counted name t.tree sound t.present
-    (λ w m. all w (ordered.inner_first i lt w (subst (λ (n : List ℕ). Contains (mentions_at sources n) w) place m))))
+    (λ w m. all w (ordered.inner_first i lt w (subst (λ (n : List ℕ). Contains (mentions_at (holders_of sources) n) w) place (holder_mention sources name w holds m)))))
     (has t.tree t.present (sym (ap is_subapplication_in t.present) ∙ subapplication_told sources name kind))
 
--- the unit is counted by the counts of what it rests on
-pub unit_counted : {sources : Sources} {unit : List ℕ} {counts : List ℕ → Option ℕ} (tree : DeclTree) (count : ℕ) → IsSound sources unit → tree_at sources unit ≡ Some tree → AreCountedBelow sources counts unit → CountsAll counts (own_instances tree) count → IsUnitCount sources unit count
-unit_counted {sources = sources} {unit = unit} tree count sound present below counted =
-    let c = counted (declared sources) (own_counted unit tree sound present (λ w m. below w (through m itself))) in
+counted_still : {view : View} {old new : List ℕ → Option ℕ} (name : List ℕ) → new name ≡ old name → IsCounted view old name → IsCounted view new name
+counted_still name e f = record { inner = f.inner; declared = f.declared; count = f.count; found = e ∙ f.found; counted = f.counted }
+
+-- counts stay right with a further one
+pub right_more : (sources : Sources) (old new : List ℕ → Option ℕ) (name : List ℕ) → AreRightCounts sources old → SameOthers old new name → (is_subapplication_in (tree_at sources name) ≡ false → new name ≡ old name) → (kind_at sources name ≡ Some kinds.Subapplication → IsCounted (declared sources) new name) → AreRightCounts sources new
+right_more sources old new name right others kept one q count found = by_test (is_at (name_cmp name) q) refl
+  where
+    by_kind : (b : Bool) → is_subapplication_in (tree_at sources name) ≡ b → new name ≡ Some count → IsCounted (declared sources) new name
+    by_kind true t e = one (subapplication_by_tree sources name t)
+    by_kind false t e = counted_still name (kept t) (right name count (sym (kept t) ∙ e))
+
+    by_test : (b : Bool) → is_at (name_cmp name) q ≡ b → IsCounted (declared sources) new q
+    by_test true t =
+        let same = same_bytes name q t in
+        subst (λ (n : List ℕ). IsCounted (declared sources) new n) same (by_kind (is_subapplication_in (tree_at sources name)) refl (ap new same ∙ found))
+    by_test false t = let e = others q (at_not name q t) in counted_still q e (right q count (sym e ∙ found))
+
+-- the unit is counted by the counts of what it mentions
+pub unit_counted : {sources : Sources} {unit : List ℕ} {counts : List ℕ → Option ℕ} (tree : DeclTree) (count : ℕ) → IsSound sources unit → tree_at sources unit ≡ Some tree → AllCounted sources counts (mentions_at sources unit) → CountsAll counts (own_instances tree) count → IsUnitCount sources unit count
+unit_counted {sources = sources} {unit = unit} tree count sound present all counted =
+    let c = counted (declared sources) (own_counted unit tree sound present all) in
     record { held = c.held; holds = record { tree = tree; present = present; instances = c.instances }; count_is = c.count_is }
 
 -- ---- sizes

@@ -25,7 +25,7 @@ use Rattle.fb_flatten.specs.Hints.{is_sound_hint}
 use Rattle.fb_flatten.specs.Inner.{IsCountedFlat, IsCountedWithin, IsInnerNet}
 use Rattle.fb_flatten.specs.Net.{PlainNet, flat_net}
 use Rattle.fb_flatten.specs.Nets.{net_at}
-use Rattle.fb_flatten.specs.Tables.{AllFinished, AreCountedBelow, AreMissing, IsSmallType, IsUnitOrder, is_missing, known_flats}
+use Rattle.fb_flatten.specs.Tables.{AllFinished, AreRightCounts, AreMissing, IsSmallType, IsUnitOrder, is_missing, known_flats}
 use Rattle.fb_flatten.specs.declared.inner.Inner.{Inner}
 use Rattle.fb_flatten.proofs.ComputedNets.{net_at_is}
 use Rattle.fb_flatten.proofs.FlatsLemmas.{and_first, and_second}
@@ -78,22 +78,22 @@ module _ {sources : Sources} {hints : List ℕ → Option PlainNet} {unit : List
       (ap not (sym (bytes_same unit)) ∙ ap (λ (n : List ℕ). not (is_at (name_cmp unit) n)) (sym e) ∙ and_first (not (is_at (name_cmp unit) name)) _ missing)
 
   -- the flat network of a name that is counted within the limit is the name's net
-  counted_net : (flats : Nets) (counts : List ℕ → Option ℕ) (name : List ℕ) (flat : PlainFlat) → AreCountedBelow sources counts unit → AllFinished sources (known_flats hints flats) unit order → Contains order name → is_missing sources hints unit name ≡ true → flats name ≡ Some flat → IsCountedWithin counts name → net_at sources name ≡ Some (flat_net flat)
-  counted_net flats counts name flat counted finished c missing found small =
+  counted_net : (flats : Nets) (counts : List ℕ → Option ℕ) (name : List ℕ) (flat : PlainFlat) → AreRightCounts sources counts → AllFinished sources (known_flats hints flats) unit order → Contains order name → is_missing sources hints unit name ≡ true → flats name ≡ Some flat → IsCountedWithin counts name → net_at sources name ≡ Some (flat_net flat)
+  counted_net flats counts name flat right finished c missing found small =
       let rest = and_second (not (is_at (name_cmp unit) name)) _ missing in
       let unknown = not_of_not (is_sound_hint (hints name)) (and_first (not (is_sound_hint (hints name))) _ rest) in
       let kind = subapplication_by_tree sources name (and_second (not (is_sound_hint (hints name))) _ rest) in
-      let known = counted name (o.below name c) kind in
+      let known = right name small.count small.counted in
       let f = finished name c (apart name missing) kind (small_type sources name kind small.count known small.counted small.within) in
       let composed : flats name ≡ Some f.net = sym (ap (λ (p : Option PlainFlat). option_or p (flats name)) (no_flat (hints name) unknown)) ∙ f.found in
       let same : f.net ≡ flat = cc in
       let is : IsUnitFlat sources name flat = OfSubapplication f.inner kind f.declared (subst (λ (p : PlainFlat). IsFlat (declared sources) f.inner p) same f.flat) in
       (net_at_is sources name (flat_net flat)).1 (inl kind, (o.names.sound name c, within_limit sources name kind small.count known small.counted small.within, is))
 
-  pub inner_net : (flats : Nets) (counts : List ℕ → Option ℕ) → AreCountedBelow sources counts unit → AllFinished sources (known_flats hints flats) unit order → AreMissing sources hints unit order flats → (it : Inner) → IsCountedFlat flats counts it → IsInnerNet sources unit it
-  inner_net flats counts counted finished missing it is =
+  pub inner_net : (flats : Nets) (counts : List ℕ → Option ℕ) → AreRightCounts sources counts → AllFinished sources (known_flats hints flats) unit order → AreMissing sources hints unit order flats → (it : Inner) → IsCountedFlat flats counts it → IsInnerNet sources unit it
+  inner_net flats counts right finished missing it is =
       let m = missing it.unit is.flat is.found in
       record {
         below = o.below it.unit m.0;
-        net_is = counted_net flats counts it.unit is.flat counted finished m.0 m.1 is.found is.small ∙ ap (λ (n : PlainNet). Some n) (sym is.net_is);
+        net_is = counted_net flats counts it.unit is.flat right finished m.0 m.1 is.found is.small ∙ ap (λ (n : PlainNet). Some n) (sym is.net_is);
       }

@@ -19,6 +19,7 @@ pub mod ComputedFlats
 pub mod ComputedNets
 pub mod HintLemmas
 pub mod SoundLemmas
+pub mod KeptLemmas
 pub mod RestLemmas
 pub mod CountLemmas
 pub mod ComposeLemmas

@@ -4,11 +4,10 @@ use Rattle.std.proofs.lemmas.Bool.{false≢true, or_right}
 use Rattle.std.proofs.lemmas.List.{get_or_default}
 use Rattle.std.specs.Prelude.{Contains, ◌↔◌}
 use Rattle.std.specs.BTreeMap.{is_at}
-use Rattle.std.specs.Option.{option_and_then}
 use Rattle.std.specs.FinMap.{get}
 use Rattle.fb_wiring.proofs.Text.Tests.{by_bool}
 use Rattle.fb_wiring.specs.Text.Order.{name_cmp}
-use Rattle.fb_wiring.specs.Library.View.{Sources, tree_of, mentions_at, mentions_in}
+use Rattle.fb_wiring.specs.Library.View.{Sources, mentions_at}
 use Rattle.fb_wiring.specs.Library.Rests.{Rests, itself, through}
 use Rattle.fb_wiring.proofs.Text.Members.{contains_nothing}
 use Rattle.fb_wiring.specs.Order.{IsOrdered}
@@ -22,6 +21,7 @@ use Rattle.fb_flatten.specs.Tables.{IsUnitOrder}
 use Rattle.fb_flatten.proofs.ComputedNets.{net_at_is}
 use Rattle.fb_flatten.proofs.Depths.{rests_of_reach}
 use Rattle.fb_flatten.proofs.HintLemmas.{is_of_not}
+use Rattle.fb_flatten.proofs.KeptLemmas.{mentioned, reaches_within, rests_within}
 use Rattle.fb_flatten.proofs.SoundLemmas.{sound_below, sound_where}
 
 or_false : (a b : Bool) → (a || b) ≡ false → b ≡ false
@@ -46,29 +46,12 @@ module _ (hints : List ℕ → Option PlainNet) (sources : Sources) (unit : List
   abbrev left : Sources
   left = left_of hints sources unit
 
-  mentions_by : (n : List ℕ) (b : Bool) → is_left hints unit n ≡ b → mentions_at left n ≡ mentions_in (option_and_then tree_of (cond b (get sources n) None))
-  mentions_by n b e = ap (λ o. mentions_in (option_and_then tree_of o)) (get_left hints sources unit n ∙ ap (λ c. cond c (get sources n) None) e)
-
-  mentioned : (n w : List ℕ) → is_left hints unit n ≡ true → Contains (mentions_at sources n) w → Contains (mentions_at left n) w
-  mentioned n w t m = subst (λ (l : List (List ℕ)). Contains l w) (sym (mentions_by n true t)) m
-
-  mentioned_within : (n w : List ℕ) → Contains (mentions_at left n) w → Contains (mentions_at sources n) w
-  mentioned_within n w m =
-      by_bool (is_left hints unit n)
-      (λ t. subst (λ (l : List (List ℕ)). Contains l w) (mentions_by n true t) m)
-      (λ f. absurd (contains_nothing w (subst (λ (l : List (List ℕ)). Contains l w) (mentions_by n false f) m)))
-
-  rests_within : {u v : List ℕ} → Rests left u v → Rests sources u v
-  rests_within itself = itself
-  rests_within {u} (through {w = w} m r) = through (mentioned_within u w m) (rests_within r)
-
-  reaches_within : {u v : List ℕ} → Reaches left u v → Reaches sources u v
-  reaches_within {u} {v} (directly m) = directly (mentioned_within u v m)
-  reaches_within {u} (onward {w = w} m r) = onward (mentioned_within u w m) (reaches_within r)
+  abbrev left_is : (n : List ℕ) → get left n ≡ cond (is_left hints unit n) (get sources n) None
+  left_is = get_left hints sources unit
 
   -- a cycle among what is left is one of all
   pub recursive_within : RestsOnRecursive left unit → RestsOnRecursive sources unit
-  recursive_within r = (r.0, (rests_within r.1.0, reaches_within r.1.1))
+  recursive_within r = (r.0, (rests_within sources left (is_left hints unit) left_is r.1.0, reaches_within sources left (is_left hints unit) left_is r.1.1))
 
   module _ (right : AreRightHints sources hints) where
     settled_finite : (n v : List ℕ) → is_left hints unit n ≡ false → Rests sources n v → IsRecursive sources v → ⊥
@@ -80,27 +63,27 @@ module _ (hints : List ℕ → Option PlainNet) (sources : Sources) (unit : List
     rests_left itself rec = itself
     rests_left {u} {v} (through {w = w} m r) rec =
         by_bool (is_left hints unit u)
-        (λ t. through (mentioned u w t m) (rests_left r rec))
+        (λ t. through (mentioned sources left (is_left hints unit) left_is u w t m) (rests_left r rec))
         (λ f. absurd (settled_finite u v f (through m r) rec))
 
     reaches_left : {u v : List ℕ} → Reaches sources u v → IsRecursive sources v → Reaches left u v
     reaches_left {u} {v} (directly m) rec =
         by_bool (is_left hints unit u)
-        (λ t. directly (mentioned u v t m))
+        (λ t. directly (mentioned sources left (is_left hints unit) left_is u v t m))
         (λ f. absurd (settled_finite u v f (through m itself) rec))
     reaches_left {u} {v} (onward {w = w} m r) rec =
         by_bool (is_left hints unit u)
-        (λ t. onward (mentioned u w t m) (reaches_left r rec))
+        (λ t. onward (mentioned sources left (is_left hints unit) left_is u w t m) (reaches_left r rec))
         (λ f. absurd (settled_finite u v f (through m (rests_of_reach r)) rec))
 
     -- an order of what is left, where none blocks
     pub unit_order : (order : List (List ℕ)) → IsWhole sources unit → IsOrdered left order → ((v : List ℕ) → Contains order v ↔ Rests left unit v) → IsUnitOrder sources hints unit order
     unit_order order none ordered whole =
         record {
-          names = record { inner_first = inner; sound = λ name c. sound_below sound name (rests_within ((whole name).0 c)) };
+          names = record { inner_first = inner; sound = λ name c. sound_below sound name (rests_within sources left (is_left hints unit) left_is ((whole name).0 c)) };
           own = (whole unit).1 itself;
-          mentions = λ w m. (whole w).1 (through (mentioned unit w unit_left m) itself);
-          below = λ name c. rests_within ((whole name).0 c);
+          mentions = λ w m. (whole w).1 (through (mentioned sources left (is_left hints unit) left_is unit w unit_left m) itself);
+          below = λ name c. rests_within sources left (is_left hints unit) left_is ((whole name).0 c);
         }
       where
         unit_left : is_left hints unit unit ≡ true
@@ -112,5 +95,5 @@ module _ (hints : List ℕ → Option PlainNet) (sources : Sources) (unit : List
         inner : (k : ℕ) (name w : List ℕ) → k < length order → name ≡ get_or order k name → is_sound_hint (hints name) ≡ false → Contains (mentions_at sources name) w → Contains (take k order) w
         inner k name w lt e unknown m =
             let place : name ≡ get_or order k [] = e ∙ get_or_default order k name [] lt in
-            let there = mentioned name w (or_right (is_at (name_cmp unit) name) _ (ap not unknown)) m in
+            let there = mentioned sources left (is_left hints unit) left_is name w (or_right (is_at (name_cmp unit) name) _ (ap not unknown)) m in
             ordered.inner_first k lt w (subst (λ (n : List ℕ). Contains (mentions_at left n) w) place there)

@@ -1,13 +1,12 @@
 -- Orders of names, and what is found by tables.
 use Rattle.std.specs.Prelude.{◌≡◌, ℕ, ◌<◌, true, false, List, Option, Some, Contains, length, take, slice_index_or}
-use Rattle.fb_wiring.specs.Tree.declared.kinds.UnitKind.TheVariants as kinds
 use Rattle.fb_wiring.specs.Library.View.{Sources, mentions_at}
 use Rattle.fb_wiring.specs.Library.Rests.{Rests}
 pub use Rattle.fb_wiring.specs.Tables.{IsTrue, Has, HasAdapter, HasAdapters, Grows, HasType, IsTable, AllCounted, SameOthers, IsUnitCount, IsSmallType, known_flats, IsComposed, IsAdded, AllFinished, is_subapplication_tree, is_subapplication_in, is_missing, IsComposable, AreComposable, IsComposedApplication, AreComposedApplications, IsFlatTogether, AreComposedTogether, is_system_tree, is_system_in}
 use Rattle.fb_wiring.specs.Network.PlainFlat.{PlainFlat}
 use Rattle.fb_wiring.specs.Network.Ready.{Nets}
 use Rattle.fb_wiring.specs.Counts.{IsCounted}
-use Rattle.fb_wiring.specs.ByName.{declared, kind_at}
+use Rattle.fb_wiring.specs.ByName.{declared}
 use Rattle.fb_flatten.specs.Hints.{is_sound_hint}
 use Rattle.fb_flatten.specs.Net.{PlainNet, IsSound}
 
@@ -33,8 +32,6 @@ AreMissing sources hints unit order composed =
     (name : List ℕ) (flat : PlainFlat)
     → composed name ≡ Some flat → Contains order name × (is_missing sources hints unit name ≡ true)
 
--- the subapplications that the unit rests on are counted
-abbrev pub AreCountedBelow : Sources → (List ℕ → Option ℕ) → List ℕ → Type 0
-AreCountedBelow sources counts unit =
-    (name : List ℕ)
-    → Rests sources unit name → kind_at sources name ≡ Some kinds.Subapplication → IsCounted (declared sources) counts name
+-- each count is that of the type under whose name it stands
+abbrev pub AreRightCounts : Sources → (List ℕ → Option ℕ) → Type 0
+AreRightCounts sources counts = (name : List ℕ) (count : ℕ) → counts name ≡ Some count → IsCounted (declared sources) counts name

@@ -1,23 +1,28 @@
 //! Counts of what a unit rests on.
 ghost use Rattle.std.specs.Prelude.{ℕ, List, Contains, IfOk};
 ghost use Rattle.std.specs.BTreeMap.{get};
+ghost use Rattle.fb_wiring.specs.Holders.{holders_of};
+ghost use Rattle.fb_wiring.specs.Library.View.{mentions_at};
 ghost use Rattle.fb_wiring.specs.Order.{IsOrdered};
 ghost use Rattle.fb_wiring.specs.Text.Order.{name_cmp};
+ghost use Rattle.fb_wiring.specs.Units.{HasNet};
 ghost use Rattle.fb_flatten.specs.Net.{IsSound};
-ghost use Rattle.fb_flatten.specs.Tables.{AllCounted, AreCountedBelow};
+ghost use Rattle.fb_flatten.specs.Tables.{AllCounted, AreRightCounts};
 
 use fb_wiring::library::View;
 use fb_wiring::text::Name;
-use fb_wiring::{Counts, add_count, inner_first};
+use fb_wiring::{Counts, Holders, add_count, inner_first};
 use std::alloc::{AllocError, Global};
 use std::collections::BTreeMap;
 
 /// How many instances each subapplication of the order holds.
 fn counts_in_order<V: View>(alloc: Global, view: &V, order: &[Name]) -> Result<Counts, AllocError>
-    requires order { IsOrdered (V.sources view.now) order.now }
+    requires order { IsOrdered (holders_of (V.sources view.now)) order.now }
     requires sound { (name : List ℕ) → Contains order.now name → IsSound (V.sources view.now) name }
-    ensures { IfOk result
+    ensures all { IfOk result
         (λ counts. AllCounted (V.sources view.now) (get name_cmp counts) order.now) }
+    ensures right { IfOk result
+        (λ counts. AreRightCounts (V.sources view.now) (get name_cmp counts)) }
 {
     let mut counts = BTreeMap::new(alloc);
     for name in order {
@@ -26,16 +31,21 @@ fn counts_in_order<V: View>(alloc: Global, view: &V, order: &[Name]) -> Result<C
     Ok(counts)
 }
 
-/// How many instances each subapplication holds that the unit rests on, itself included.
+/// How many instances each subapplication holds that the unit mentions, and each below these.
 pub(crate) fn counts_below<V: View>(
     alloc: Global,
     view: &V,
     unit: &Name,
 ) -> Result<Counts, AllocError>
-    requires { IsSound (V.sources view.now) unit.now }
-    ensures { IfOk result
-        (λ counts. AreCountedBelow (V.sources view.now) (get name_cmp counts) unit.now) }
+    requires net { HasNet (V.sources view.now) unit.now }
+    requires sound { IsSound (V.sources view.now) unit.now }
+    ensures own { IfOk result (λ counts.
+        AllCounted (V.sources view.now) (get name_cmp counts)
+        (mentions_at (V.sources view.now) unit.now)) }
+    ensures right { IfOk result
+        (λ counts. AreRightCounts (V.sources view.now) (get name_cmp counts)) }
 {
-    let order = inner_first(alloc, view, *unit)?.unwrap();
+    let holders = Holders { view };
+    let order = inner_first(alloc, &holders, *unit)?.unwrap();
     counts_in_order(alloc, view, order.as_slice())
 }

@@ -13,6 +13,7 @@ pub mod Units
 pub mod Net
 pub mod Hints
 pub mod Counts
+pub mod Holders
 pub mod Tables
 -- Of the crates below, for the crates above.
 pub use Rattle.fb_tree.specs.Text as Text

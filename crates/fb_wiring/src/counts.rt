@@ -1,5 +1,5 @@
 //! How many instances units hold, counted by their declarations.
-ghost use Rattle.std.specs.Prelude.{◌≡◌, ◌+◌, true, min, unwrap_or, OnOk, Some, map};
+ghost use Rattle.std.specs.Prelude.{◌≡◌, ◌+◌, true, false, min, unwrap_or, OnOk, Some, map};
 ghost use Rattle.std.specs.BTreeMap.{get};
 ghost use Rattle.fb_iface.specs.Library.View.{tree_at};
 ghost use Rattle.fb_network.specs.declared.count.TheConstants as limits;
@@ -8,7 +8,7 @@ ghost use Rattle.fb_tree.specs.Tree.{DeclTree, application_tree, decl_tree, inst
 ghost use Rattle.fb_wiring.specs.Applications.{plain_application};
 ghost use Rattle.fb_wiring.specs.Counts.{CountsAll, CountsOn, HasCount, counted_with, plain_instances};
 ghost use Rattle.fb_wiring.specs.Networks.{plain_instance};
-ghost use Rattle.fb_wiring.specs.Tables.{SameOthers, is_subapplication_tree};
+ghost use Rattle.fb_wiring.specs.Tables.{SameOthers, is_subapplication_in, is_subapplication_tree};
 ghost use Rattle.fb_wiring.specs.Units.{instances_in, own_instances};
 
 use crate::kinds::is_of_subapplication;
@@ -96,6 +96,9 @@ pub fn count_of_unit(counts: &Counts, decl: &Decl) -> u32
 pub fn add_count<V: View>(view: &V, counts: &mut Counts, name: &Name) -> Result<(), AllocError>
     ensures others { OnOk result
         (SameOthers (get name_cmp counts.old) (get name_cmp counts.new) name.now) }
+    ensures kept { OnOk result
+        (is_subapplication_in (tree_at (V.sources view.now) name.now) ≡ false
+        → get name_cmp counts.new name.now ≡ get name_cmp counts.old name.now) }
     ensures counted { OnOk result
         ((tree : DeclTree) → tree_at (V.sources view.now) name.now ≡ Some tree
         → is_subapplication_tree tree ≡ true

@@ -10,8 +10,8 @@ use Rattle.fb_flatten.specs.Net.{IsNet, plain_net}
 use Rattle.fb_flatten.proofs.InnerNets.{inner_net}
 use Rattle.fb_flatten.proofs.computing.compute_in_order.Goals as goal
 
-pub counts_below-requires : goal.counts_below-requires
-counts_below-requires g c = c.requires.order.names.sound _ c.requires.order.own
+pub counts_below-requires-clause-sound : goal.counts_below-requires-clause-sound
+counts_below-requires-clause-sound g c = c.requires.order.names.sound _ c.requires.order.own
 
 pub instances_of_unit-instances-requires-clause-sound : goal.instances_of_unit-instances-requires-clause-sound
 instances_of_unit-instances-requires-clause-sound g c = c.requires.order.names.sound _ c.requires.order.own
@@ -40,6 +40,6 @@ returns g c =
       net = (c.requires.order.names.sound _ c.requires.order.own, not_too_large c.instances_of_unit-instances.ensures c.if-instances-gt-INSTANCE_LIMIT.false, c.in_ok-flat.ensures.flat);
       inner =
           All-weaker (IsCountedFlat flats counts) (IsInnerNet sources unit)
-          (inner_net c.requires.order flats counts c.in_ok-counts.ensures c.in_ok-flat.ensures.finished c.in_ok-flat.ensures.missing)
+          (inner_net c.requires.order flats counts c.in_ok-counts.ensures.right c.in_ok-flat.ensures.finished c.in_ok-flat.ensures.missing)
           c.in_ok-inner.inner.items c.in_ok-inner.ensures;
     }

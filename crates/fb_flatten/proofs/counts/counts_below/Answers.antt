@@ -2,8 +2,16 @@
 use Rattle.std.proofs.Common.{◌≡◌, ℕ, true, false, List, Option, Some, None, is_some, refl, subst, sym}
 use Rattle.std.proofs.lemmas.Result.{IfOk-weaker}
 use Rattle.std.specs.Prelude.{Contains}
+use Rattle.fb_wiring.specs.Holders.{holders_of, is_holder}
+use Rattle.fb_wiring.specs.Library.Rests.{Rests, itself, through}
+use Rattle.fb_wiring.specs.Library.View.{Sources}
 use Rattle.fb_wiring.specs.Order.{IsOrdered}
+use Rattle.fb_wiring.specs.Reaches.{Reaches}
+use Rattle.fb_wiring.proofs.LeftLemmas.{get_holder}
 use Rattle.fb_wiring.proofs.Text.Members.{contains_nothing}
+use Rattle.fb_flatten.proofs.ComputedNets.{has_by_text}
+use Rattle.fb_flatten.proofs.CountLemmas.{holder_mention}
+use Rattle.fb_flatten.proofs.KeptLemmas.{reaches_within, rests_within}
 use Rattle.fb_flatten.proofs.SoundLemmas.{sound_below}
 use Rattle.fb_flatten.proofs.counts.counts_below.Goals as goal
 
@@ -11,22 +19,43 @@ some_of : {X : Type 0} (o : Option X) → (is_some o ≡ false → ⊥) → is_s
 some_of None h = absurd (h refl)
 some_of (Some x) h = refl
 
+-- what rests on what among units with instances that count does so among all
+module _ (sources : Sources) where
+  within : {u v : List ℕ} → Rests (holders_of sources) u v → Rests sources u v
+  within r = rests_within sources (holders_of sources) (is_holder sources) (get_holder sources) r
+
+  round : {u v : List ℕ} → Reaches (holders_of sources) u v → Reaches sources u v
+  round r = reaches_within sources (holders_of sources) (is_holder sources) (get_holder sources) r
+
 pub unwrap-order-requires : goal.unwrap-order-requires
 unwrap-order-requires g c =
+    let sources = g.V.View.sources c.args.view.now in
     some_of c.in_ok-inner_first.field-0
-    (λ none. let r = c.in_ok-inner_first.ensures.recursive.0 none in contains_nothing r.0 ((c.requires.finite.members r.0).1 r.1))
+    (λ none.
+    let r = c.in_ok-inner_first.ensures.recursive.0 none in
+    contains_nothing r.0 ((c.requires.sound.finite.members r.0).1 (within sources r.1.0, round sources r.1.1)))
 
 pub counts_in_order-requires : goal.counts_in_order-requires
 counts_in_order-requires g c =
+    let sources = g.V.View.sources c.args.view.now in
     let whole = rw c.unwrap-order.ensures at c.in_ok-inner_first.ensures.whole in
     record {
-      order = subst (IsOrdered (g.V.View.sources c.args.view.now)) (sym c.as_slice.ensures.value) (rw c.unwrap-order.ensures at c.in_ok-inner_first.ensures.ordered);
-      sound = λ name h. sound_below c.requires name ((whole name).0 (subst (λ (l : List (List ℕ)). Contains l name) c.as_slice.ensures.value h));
+      order = subst (IsOrdered (holders_of sources)) (sym c.as_slice.ensures.value) (rw c.unwrap-order.ensures at c.in_ok-inner_first.ensures.ordered);
+      sound = λ name h. sound_below c.requires.sound name (within sources ((whole name).0 (subst (λ (l : List (List ℕ)). Contains l name) c.as_slice.ensures.value h)));
     }
 
 pub returns : goal.returns
 returns g c =
+    let sources = g.V.View.sources c.args.view.now in
+    let unit = c.args.unit.now in
     let whole = rw c.unwrap-order.ensures at c.in_ok-inner_first.ensures.whole in
-    IfOk-weaker c.counts_in_order.result _ _
-    (λ counts all name r kind. all name (subst (λ (l : List (List ℕ)). Contains l name) (sym c.as_slice.ensures.value) ((whole name).1 r)) kind)
-    c.counts_in_order.ensures
+    let holds = (has_by_text sources unit).1 c.requires.net in
+    record {
+      own =
+          IfOk-weaker c.counts_in_order.result _ _
+          (λ counts all w m kind.
+          all w
+          (subst (λ (l : List (List ℕ)). Contains l w) (sym c.as_slice.ensures.value) ((whole w).1 (through (holder_mention sources unit w holds m) itself))) kind)
+          c.counts_in_order.ensures.all;
+      right = c.counts_in_order.ensures.right;
+    }
