@@ -5,12 +5,17 @@ use Rattle.std.specs.BTreeSet as set
 use Rattle.fb_entries.specs.Library.Texts.{Texts}
 use Rattle.fb_entries.specs.Jobs.declared.hints.Hint.{Hint}
 use Rattle.fb_entries.specs.Jobs.declared.key.Key.{Key}
+use Rattle.fb_entries.specs.Jobs.declared.value.Value.{Value}
 use Rattle.fb_entries.specs.Jobs.Hints.{IsNetOf}
 use Rattle.fb_entries.specs.Jobs.Reads.{PlainJob, read_texts}
 use Rattle.fb_entries.specs.Jobs.Work.{IsFoundFor}
 use Rattle.fb_entries.specs.declared.entry.Entry.{Entry}
 use Rattle.fb_history.specs.Machine.{State}
 use Rattle.fb_bench.specs.Kept.{Agrees}
+
+-- the unit and the value of a net, whoever shares it
+abbrev pub said : Hint → List ℕ × Value
+said hint = (hint.unit, hint.value.value)
 
 -- entries that agree with a state of which each of these is a net agree with it still
 abbrev pub KeepsAgreement : List Hint → tree.BTreeMap Key Entry → tree.BTreeMap Key Entry → Type 0

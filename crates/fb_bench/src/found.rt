@@ -1,8 +1,6 @@
 //! Nets that were computed on the way to another value.
-ghost use Rattle.std.specs.Prelude.{All, IfOk};
-ghost use Rattle.fb_entries.specs.Jobs.Hints.{IsNetOf};
-ghost use Rattle.fb_entries.specs.Library.Texts.{Texts};
-ghost use Rattle.fb_bench.specs.Founds.{KeepsAgreement};
+ghost use Rattle.std.specs.Prelude.{◌≡◌, IfOk, map};
+ghost use Rattle.fb_bench.specs.Founds.{KeepsAgreement, said};
 
 use fb_entries::jobs::{Hint, Key, Kind};
 use fb_entries::{Entry, keep_found};
@@ -11,8 +9,7 @@ use std::collections::BTreeMap;
 
 /// Shares of the nets.
 pub(crate) fn shares_of(alloc: Global, found: &[Hint]) -> Result<Vec<Hint>, AllocError>
-    ensures { IfOk result (λ shares. (texts : Texts) → All (IsNetOf texts) found.now
-        → All (IsNetOf texts) shares.items) }
+    ensures { IfOk result (λ shares. map said shares.items ≡ map said found.now) }
 {
     let mut shares = Vec::with_capacity(alloc, found.len())?;
     for hint in found {

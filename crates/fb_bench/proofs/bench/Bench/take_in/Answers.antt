@@ -22,7 +22,7 @@ invariant_of-self-2 c =
     let accepted : Accepted ≡ deliver_answer s now = c.requires.accepted ∙ ap (λ st. deliver_answer (state_of st) now) (sym c.self.view_is) in
     let law : scratch s.units now.key ≡ _ = ap (λ st. scratch (state_of st).units now.key) c.self.view_is ∙ c.requires.value in
     let nets : HasNetsOf s.units now = subst (λ st. HasNetsOf (state_of st).units now) (sym c.self.view_is) c.requires.nets in
-    let rights = c.in_ok-found.ensures s.units (founds_right s.units now c.found.result.now nets c.found.ensures) in
+    let rights = founds_right s.units now c.found.result.now c.in_ok-found.found.items nets c.in_ok-found.ensures c.found.ensures in
     let cloned : c.in_ok-value.value.value ≡ c.value.result.now.value = search rules in
     let value : finding_of c.in_ok-value.value.value ≡ scratch s.units c.key-key.result = ap finding_of cloned ∙ c.value.ensures ∙ sym law ∙ ap (λ k. scratch s.units k) (sym c.key-key.ensures) in
     kept_pushed _ _ _ _ _ story _ c.args.caller (ToDeliver now) _ c.self.invariant.begins (c.in_ok-share.ensures.ok ∙ ap (λ call. logged c.self.inside.history c.args.caller call (OfDeliver Accepted)) c.requires.call) (delivers_is s now now Accepted refl accepted)
