@@ -1,5 +1,5 @@
 -- The callers of a workbench, one more at a time: whose seats are missing, and how many records each has.
-use Rattle.std.proofs.Common.{◌≡◌, ◌==◌, ◌&&◌, ◌||◌, ℕ, ◌+◌, ◌<◌, ◌≤◌, ◌⊎◌, inl, inr, zero, List, [], Bool, true, false, not, cond, Option, Some, None, refl, ap, sym, ◌∙◌, arith, nat_lt, nat_le, length, take, get_or, add-zero, slice_get, suc}
+use Rattle.std.proofs.Common.{◌≡◌, ◌==◌, ◌&&◌, ◌||◌, ℕ, ◌+◌, ◌<◌, ◌≤◌, ◌⊎◌, inl, inr, zero, List, Bool, true, false, not, cond, Option, Some, None, refl, ap, sym, ◌∙◌, arith, nat_lt, nat_le, length, take, get_or, slice_get, suc}
 use Rattle.std.proofs.lemmas.Bool.{eqb-true}
 use Rattle.std.proofs.lemmas.Bool.Decides.{nat_tests}
 use Rattle.std.proofs.lemmas.List.Sums.{sum_by_more}
@@ -22,18 +22,6 @@ record_there es (suc p) one within none = by (slice_get_cases es p).1
     by (inr past) = omega (arith, past.0, within)
 
 -- ---- one caller more
-
-caller_last : (n q : ℕ) → (nat_lt 0 q && nat_le q (n + 1)) ≡ ((nat_lt 0 q && nat_le q n) || n + 1 == q)
-caller_last n q = grind (arith, nat_tests)
-
-or_false : (a b : Bool) → ((a || b) || false) ≡ ((a || false) || b)
-or_false true true = refl
-or_false true false = refl
-or_false false true = refl
-or_false false false = refl
-
-caller_first : (n q : ℕ) → is_caller (n + 1) [] q ≡ (is_caller n [] q || n + 1 == q)
-caller_first n q = ap (λ b. b || false) (caller_last n q) ∙ or_false (nat_lt 0 q && nat_le q n) (n + 1 == q)
 
 turned : (first : Bool) (t : ℕ) (b : Bool) → (first || nat_lt 0 (t + cond b 1 0)) ≡ ((first || nat_lt 0 t) || b)
 turned true t true = refl
@@ -68,11 +56,6 @@ unseated_at : (a' a b h h' : Bool) → a' ≡ (a || b) → (b ≡ true → h ≡
 unseated_at a' a true h h' is same = ap (λ x. x && not h) is ∙ (unseated a true h ∙ ap (λ y. (a && not h) || not y) (same refl))
 unseated_at a' a false h h' is same = ap (λ x. x && not h) is ∙ unseated a false h
 
-pub missing_first_more : (n : ℕ) (seats : List SeatState) (q : ℕ) → is_missing (n + 1) [] seats q ≡ (is_missing n [] seats q || (n + 1 == q && not (has_seat seats (n + 1))))
-missing_first_more n seats q =
-    unseated_at (is_caller (n + 1) [] q) (is_caller n [] q) (n + 1 == q) (has_seat seats q) (has_seat seats (n + 1)) (caller_first n q)
-    (λ same. ap (has_seat seats) (sym (eqb-true (n + 1) q same)))
-
 pub missing_more : (callers : ℕ) (es : List Record) (seats : List SeatState) (i q : ℕ) (e : Record) → record_at es (i + 1) ≡ Some e
     → is_missing callers (take (i + 1) es) seats q ≡ (is_missing callers (take i es) seats q || (e.caller == q && not (has_seat seats e.caller)))
 missing_more callers es seats i q e is =
@@ -86,13 +69,6 @@ counted_at a' true true t t' old new is same was now = now ∙ (ap Some (same re
 counted_at a' false true t t' old new is same was now = now ∙ (ap Some (same refl) ∙ ap (λ (x : Bool). cond x (Some t) None) (sym is))
 counted_at a' true false t t' old new is same was now = now ∙ (was ∙ ap (λ (x : Bool). cond x (Some t) None) (sym is))
 counted_at a' false false t t' old new is same was now = now ∙ (was ∙ ap (λ (x : Bool). cond x (Some t) None) (sym is))
-
-pub counted_first_more : (n q : ℕ) (es : List Record) (old new : Option ℕ) → old ≡ cond (is_caller n [] q) (Some (turns_of q es)) None → new ≡ cond (n + 1 == q) (Some (turns_of (n + 1) es)) old
-    → new ≡ cond (is_caller (n + 1) [] q) (Some (turns_of q es)) None
-counted_first_more n q es old new was now =
-    counted_at (is_caller (n + 1) [] q) (is_caller n [] q) (n + 1 == q) (turns_of q es) (turns_of (n + 1) es) old new (caller_first n q)
-    (λ same. ap (λ k. turns_of k es) (eqb-true (n + 1) q same))
-    was now
 
 pub counted_more : (callers : ℕ) (es : List Record) (i q : ℕ) (e : Record) (old new : Option ℕ) → record_at es (i + 1) ≡ Some e → old ≡ cond (is_caller callers (take i es) q) (Some (turns_of q es)) None
     → new ≡ cond (e.caller == q) (Some (turns_of e.caller es)) old → new ≡ cond (is_caller callers (take (i + 1) es) q) (Some (turns_of q es)) None

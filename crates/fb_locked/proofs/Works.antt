@@ -1,7 +1,7 @@
 -- Calls of a worker, one list after another.
-use Rattle.std.proofs.Common.{◌≡◌, ℕ, ◌+◌, ◌*◌, ◌≤◌, ◌⊎◌, inl, inr, List, [], ◌∷◌, ◌++◌, Option, Some, None, Result, Ok, Err, option_map, sym, ap, ◌∙◌, subst, arith, append_assoc, append-nil, length-append, refl}
+use Rattle.std.proofs.Common.{◌≡◌, ℕ, ◌+◌, ◌*◌, ◌≤◌, inr, List, [], ◌∷◌, ◌++◌, Option, Some, None, Result, Ok, Err, option_map, sym, ap, ◌∙◌, subst, arith, append_assoc, append-nil, length-append, refl}
 use Rattle.fb_bench.specs.Jobs.Reads.{PlainJob}
-use Rattle.fb_bench.specs.History.Machine.{Call, ToDeliver, ToGiveBack}
+use Rattle.fb_bench.specs.History.Machine.{Call, ToGiveBack}
 use Rattle.fb_bench.specs.declared.answers.Answered.{Answered}
 use Rattle.fb_locked.specs.declared.locked.SharedRefused.{SharedRefused}
 use Rattle.fb_locked.specs.declared.locked.SharedRefused.TheVariants as refused
@@ -80,10 +80,6 @@ refusal_names seat refused.Memory named = tt
 
 -- ---- how a job is settled
 
--- its result is delivered
-pub delivers : (order : PlainJob) (seat after : SeatState) (old new : List Claim) (answer : Answered) → AnswersKept seat (ToDeliver order) (Ok answer) old after new → Works (Holds order) 1 seat old new after None
-delivers order seat after old new answer kept = (Empty, adds_call (Holds order) seat after old new (ToDeliver order) kept.0 kept.2 refl kept.1 kept.4, refl)
-
 -- its key is given back, if it can be
 pub gives_up : (order : PlainJob) (seat after : SeatState) (old new : List Claim) (answer : Result Answered SharedRefused) → AnswersKept seat (ToGiveBack order.key) answer old after new → Works (Holds order) 1 seat old new after (Some Memory)
 gives_up order seat after old new (Ok answer) kept = (Gave, adds_call (Holds order) seat after old new (ToGiveBack order.key) kept.0 kept.2 refl kept.1 kept.4, refl)
@@ -106,14 +102,3 @@ stays_gives (refused.SeatDiffers turns book) hall hall' seat seat' order old new
 stays_gives (refused.Behind seen len) hall hall' seat seat' order old new stays = stays
 stays_gives refused.HistoryFull hall hall' seat seat' order old new stays = stays
 stays_gives refused.Memory hall hall' seat seat' order old new stays = inr stays
-
--- where nothing has changed before
-pub works_from : (order : PlainJob) (seat seat1 after : SeatState) (old old1 new : List Claim) (end : Option WorkEnd) → seat1 ≡ seat → old1 ≡ old → Works (Holds order) 1 seat1 old1 new after end → Works (Holds order) 1 seat old new after end
-works_from order seat seat1 after old old1 new end seats olds works =
-    subst (λ (s : SeatState). Works (Holds order) 1 s old new after end) seats (subst (λ (l : List Claim). Works (Holds order) 1 seat1 l new after end) olds works)
-
-pub gives_from : (hall hall1 hall' : Hall) (seat seat1 seat' : SeatState) (order : PlainJob) (old old1 new : List Claim) → Stays hall seat old hall1 seat1 old1 → GivesUp Memory hall1 seat1 order old1 hall' seat' new → GivesUp Memory hall seat order old hall' seat' new
-gives_from hall hall1 hall' seat seat1 seat' order old old1 new stays gives =
-    subst (λ (h : Hall). GivesUp Memory h seat order old hall' seat' new) stays.0 (
-    subst (λ (s : SeatState). GivesUp Memory hall1 s order old hall' seat' new) stays.1 (subst (λ (l : List Claim). GivesUp Memory hall1 seat1 order l hall' seat' new) stays.2 gives)
-    )

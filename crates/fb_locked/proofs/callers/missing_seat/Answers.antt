@@ -1,7 +1,7 @@
-use Rattle.std.proofs.Common.{◌≡◌, ◌==◌, ◌&&◌, ◌||◌, ◌∙◌, ℕ, Bool, List, not, ap, sym, subst, arith, take, length}
+use Rattle.std.proofs.Common.{◌≡◌, ◌∙◌, ℕ, List, ap, subst, arith, take, length}
 use Rattle.std.proofs.Math.Seq.{take-length}
 use Rattle.fb_bench.specs.History.Story.{Record}
-use Rattle.fb_locked.specs.Closing.{IsLeast, is_missing, has_seat}
+use Rattle.fb_locked.specs.Closing.{IsLeast, is_missing}
 use Rattle.fb_locked.proofs.Closings.{least_more}
 use Rattle.fb_locked.proofs.EachCaller.{missing_more}
 use Rattle.fb_locked.proofs.callers.missing_seat.Goals as goal
