@@ -26,7 +26,7 @@ use Rattle.fb_bench.specs.Kept.{EntryFits, Agrees}
 use Rattle.fb_entries.specs.Marking.{is_of, is_unkept}
 use Rattle.fb_entries.proofs.Jobs.Order.{key_total, same_keys}
 use Rattle.fb_history.proofs.Least.{key_named}
-use Rattle.fb_entries.proofs.Members.{of_filtered}
+use Rattle.fb_entries.proofs.Jobs.Members.{of_filtered}
 use Rattle.fb_history.proofs.Sorted.{keys_rise}
 
 -- ---- two rising lists with the same keys are the same

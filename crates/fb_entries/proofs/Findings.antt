@@ -15,7 +15,7 @@ use Rattle.fb_entries.specs.Marking.{is_of}
 use Rattle.fb_entries.specs.Renew.{is_own, is_renewed, IsRenewal, HasRoom, IsTakenBack}
 use Rattle.fb_index.specs.Near.{Users}
 use Rattle.fb_entries.specs.Indexed.{IsIndexOf, IsReached}
-use Rattle.fb_entries.proofs.Members.{of_filtered}
+use Rattle.fb_jobs.proofs.Members.{of_filtered}
 use Rattle.fb_entries.proofs.Reached.{reached_by}
 
 same_truth : (a b : Bool) → (a ≡ true → b ≡ true) → (b ≡ true → a ≡ true) → a ≡ b

@@ -5,7 +5,7 @@ use Rattle.fb_jobs.specs.declared.key.Key.{Key}
 use Rattle.fb_jobs.specs.KeyOrder.{same_key}
 use Rattle.fb_entries.specs.declared.entry.Entry.{Entry}
 use Rattle.fb_entries.specs.Marking.{is_of, waiting_if}
-use Rattle.fb_entries.proofs.Members.{of_more, of_both}
+use Rattle.fb_jobs.proofs.Members.{of_more, of_both}
 
 pub of_now : (q k : Key) (before now : List Key) → now ≡ before ++ k ∷ [] → is_of q now ≡ (is_of q before || same_key k q)
 of_now q k before now more = ap (λ ks. is_of q ks) more ∙ of_more q k before

@@ -1,5 +1,4 @@
 pub mod Writes
-pub mod Members
 pub mod KeySteps
 pub mod Again
 pub mod Indexing

@@ -2,6 +2,7 @@ pub mod Alike
 pub mod KeyLemmas
 pub mod KindLemmas
 pub mod Order
+pub mod Members
 pub mod SameNeeds
 pub mod Sources
 pub mod Currents

@@ -36,7 +36,7 @@ pub mod parse {
 
 /// Of `fb_library`, for the crates above.
 pub mod library {
-    pub use fb_deploy::library::Change;
+    pub use fb_deploy::library::{Change, Library};
 }
 
 /// Of `fb_iface`, for the crates above.

@@ -1,12 +1,15 @@
 -- Keys among keys.
 use Rattle.std.proofs.Common.{◌≡◌, Bool, true, false, ◌||◌, ◌&&◌, List, [], ◌∷◌, ◌++◌, filter, refl, sym, ap, ◌∙◌, cond}
 use Rattle.fb_text.proofs.Tests.{or_false, and_false}
+use Rattle.std.specs.List.{list_any}
 use Rattle.std.proofs.lemmas.List.Folds.{list_any-append}
 use Rattle.std.proofs.lemmas.Cmp.{eq_by_cmp_equiv}
 use Rattle.fb_jobs.specs.declared.key.Key.{Key}
 use Rattle.fb_jobs.specs.KeyOrder.{same_key}
-use Rattle.fb_entries.specs.Marking.{is_of}
 use Rattle.fb_jobs.proofs.Order.{key_total, keys_equal}
+
+abbrev is_of : Key → List Key → Bool
+is_of key keys = list_any (same_key key) keys
 
 same_flips : (a b : Key) → same_key a b ≡ same_key b a
 same_flips a b = (eq_by_cmp_equiv key_total).symm a b
