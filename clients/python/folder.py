@@ -1,0 +1,91 @@
+"""A folder of units that is looked at again and again: what its files are as units, and which of them have changed."""
+from __future__ import annotations
+
+from dataclasses import dataclass
+from pathlib import Path
+
+from tokens import declared_name
+from units import Misuse, Unit, find_files, read_text, stand_in_name
+
+Stamp = tuple[int, int]
+
+
+@dataclass(frozen=True)
+class _File:
+    stamp: Stamp
+    text: str | None
+    declares: str | None
+    problem: str = ""
+
+
+class Folder:
+    """The `*.fb` files of folders as units, by their declarations.
+
+    Files that can be no unit are `problems`, and so are files that declare the unit of another one. A text that declares nothing is the unit
+    that it was, or one that is named by its file.
+    """
+
+    def __init__(self, paths: list[Path]):
+        self._paths = paths
+        self._files: dict[Path, _File] = {}
+        self._names: dict[Path, str] = {}
+        self._looked = False
+        self.units: dict[str, Unit] = {}
+        self.problems: tuple[str, ...] = ()
+
+    def look(self) -> bool:
+        """Reads the files that have changed, and tells whether any had.
+
+        Raises `Misuse` where a folder is not there at the first look; later that is a problem, and the units stay.
+        """
+        try:
+            found = find_files(self._paths)
+        except Misuse as error:
+            if not self._looked:
+                raise
+            self.problems = (f"{error}; what was read before is shown",)
+            return False
+        self._looked = True
+        files: dict[Path, _File] = {}
+        for file in found:
+            if stamp := _stamp(file):
+                known = self._files.get(file)
+                files[file] = known if known and known.stamp == stamp else _read(file, stamp)
+        if files == self._files:
+            return False
+        self._files = files
+        self._name_all()
+        return True
+
+    def _name_all(self) -> None:
+        owners: dict[str, Path] = {}
+        problems = [it.problem for it in self._files.values() if it.problem]
+        for file, it in self._files.items():
+            if it.declares in owners:
+                problems.append(f"{owners[it.declares]} and {file} both declare the unit {it.declares}; the first one counts")
+            elif it.declares:
+                owners[it.declares] = file
+        for file, it in self._files.items():
+            if it.text is not None and not it.declares:
+                former = self._names.get(file)
+                name = former if former and former not in owners else stand_in_name(file, owners)
+                owners[name] = file
+        self._names = {file: name for name, file in owners.items()}
+        self.units = {name: Unit(name, file, self._files[file].text or "") for name, file in owners.items()}
+        self.problems = tuple(problems)
+
+
+def _stamp(file: Path) -> Stamp | None:
+    try:
+        state = file.stat()
+    except OSError:
+        return None
+    return state.st_mtime_ns, state.st_size
+
+
+def _read(file: Path, stamp: Stamp) -> _File:
+    try:
+        text = read_text(file)
+    except Misuse as error:
+        return _File(stamp, None, None, str(error))
+    return _File(stamp, text, declared_name(text))
