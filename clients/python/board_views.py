@@ -77,7 +77,10 @@ class _Shown:
         return {"code": fault.code, "line": line, "column": column, "explanation": self._explainer.explain(fault)}
 
     def lines(self) -> list[list[View | str]]:
-        """The lines, each a list of pieces: words alone, or with a class and the numbers of the faults at them."""
+        """The lines, each a list of pieces: words alone, or with a class and the numbers of the faults at them.
+
+        What is behind the last line end is left out where it is empty.
+        """
         content = self._places.encoded
         classes = dict(_classes(self._tokens, content))
         stops = sorted({0, len(content), *(it for span in self._spans for it in (span.start, span.end)), *classes})
@@ -91,7 +94,7 @@ class _Shown:
                 present.append(starts.pop(0))
             present = [it for it in present if self._spans[it].end > start]
             self._add(lines, content[start:end].decode(errors="replace"), kind, present)
-        return lines
+        return lines[:-1] if len(lines) > 1 and not lines[-1] else lines
 
     @staticmethod
     def _add(lines: list[list[View | str]], words: str, kind: str, faults: list[int]) -> None:
@@ -100,8 +103,12 @@ class _Shown:
         for at, part in enumerate([first, *more]):
             if at:
                 lines.append([])
-            if part:
-                lines[-1].append({"words": part, "kind": kind, "faults": list(faults)} if kind or faults else part)
+            if kind or faults:
+                lines[-1] += [{"words": part, "kind": kind, "faults": list(faults)}] * bool(part)
+            elif lines[-1] and isinstance(lines[-1][-1], str):
+                lines[-1][-1] += part
+            else:
+                lines[-1] += [part] * bool(part)
 
 
 def _classes(of: list[Token], content: bytes) -> Iterator[tuple[int, str]]:

@@ -12,7 +12,7 @@ from math import sqrt
 Size = tuple[float, float]
 Edge = tuple[int, int]
 
-ASPECT = 1.6
+ASPECT = 1.25
 _SWEEPS = 4
 
 
@@ -130,19 +130,18 @@ class _Part:
     def _place(self, columns: list[list[int]]) -> None:
         """Places the columns in rows: in as many as make the whole about as wide as a screen."""
         widths = [max(self._sizes[it][0] for it in column) for column in columns]
-        height = max(self._height(column) for column in columns)
+        heights = [self._height(column) for column in columns]
         whole = sum(widths) + self._gaps.across * (len(widths) - 1)
-        rows = max(1, round(sqrt(whole / (ASPECT * (height + 2 * self._gaps.down)))))
-        limit = max(whole / rows, *widths) if rows > 1 else whole
-        row: list[list[int]] = []
-        left = 0.0
-        for column, width in zip(columns, widths):
-            if row and left + width > limit + 1:
-                self._place_row(row)
-                row, left = [], 0.0
-            row.append(column)
-            left += width + self._gaps.across
-        self._place_row(row)
+        most = 2 + round(2 * sqrt(whole / (ASPECT * (max(heights) + self._gaps.down))))
+        splits = [list(_rows(widths, max(whole / count, *widths), self._gaps.across)) for count in range(1, most + 1)]
+        for begin, end in min(splits, key=lambda split: self._extent(split, widths, heights)):
+            self._place_row(columns[begin:end])
+
+    def _extent(self, rows: list[tuple[int, int]], widths: list[float], heights: list[float]) -> float:
+        """How small a whole of these rows has to be drawn to be seen on a screen."""
+        width = max(sum(widths[begin:end]) + self._gaps.across * (end - begin - 1) for begin, end in rows)
+        height = sum(max(heights[begin:end]) + 2 * self._gaps.down for begin, end in rows)
+        return max(width / ASPECT, height)
 
     def _height(self, column: list[int]) -> float:
         return sum(self._sizes[it][1] for it in column) + self._gaps.down * (len(column) - 1)
@@ -180,6 +179,17 @@ class _Part:
         pulls = [want - top for want, top in zip(wanted, tops) if want is not None]
         shift = sum(pulls) / len(pulls) if pulls else -self._height(column) / 2
         return [top + shift for top in tops]
+
+
+def _rows(widths: list[float], limit: float, gap: float) -> Iterator[tuple[int, int]]:
+    """Breaks columns of these widths into rows that are not wider than the limit: the first of each and the one behind its last."""
+    begin, left = 0, 0.0
+    for at, width in enumerate(widths):
+        if at > begin and left + width > limit:
+            yield begin, at
+            begin, left = at, 0.0
+        left += width + gap
+    yield begin, len(widths)
 
 
 def _without_cycles(members: list[int], ahead: list[list[int]]) -> dict[int, list[int]]:
