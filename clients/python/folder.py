@@ -1,6 +1,8 @@
 """A folder of units that is looked at again and again: what its files are as units, and which of them have changed."""
 from __future__ import annotations
 
+import os
+from collections.abc import Iterable, Iterator
 from dataclasses import dataclass
 from pathlib import Path
 
@@ -29,6 +31,7 @@ class Folder:
         self._paths = paths
         self._files: dict[Path, _File] = {}
         self._names: dict[Path, str] = {}
+        self._stamps: dict[str, Stamp | None] = {}
         self._looked = False
         self.units: dict[str, Unit] = {}
         self.problems: tuple[str, ...] = ()
@@ -36,16 +39,20 @@ class Folder:
     def look(self) -> bool:
         """Reads the files that have changed, and tells whether any had.
 
-        Raises `Misuse` where a folder is not there at the first look; later that is a problem, and the units stay.
+        Raises `Misuse` where a folder is not there at the first look; later that is a problem, and the units stay. A look that finds nothing
+        new is cheap.
         """
+        stamps = dict(_stamps(self._paths))
+        if self._looked and stamps == self._stamps:
+            return False
         try:
             found = find_files(self._paths)
         except Misuse as error:
             if not self._looked:
                 raise
             self.problems = (f"{error}; what was read before is shown",)
-            return False
-        self._looked = True
+            return True
+        self._looked, self._stamps = True, stamps
         files: dict[Path, _File] = {}
         for file in found:
             if stamp := _stamp(file):
@@ -75,7 +82,23 @@ class Folder:
         self.problems = tuple(problems)
 
 
-def _stamp(file: Path) -> Stamp | None:
+def _stamps(paths: Iterable[str | Path]) -> Iterator[tuple[str, Stamp | None]]:
+    """The state of each file that can be a unit, as the folders tell it; of a folder that can't be read, that it can't."""
+    for path in paths:
+        try:
+            with os.scandir(path) as entries:
+                for entry in entries:
+                    if entry.is_dir(follow_symlinks=False):
+                        yield from _stamps([entry.path])
+                    elif entry.name.endswith(".fb"):
+                        yield entry.path, _stamp(entry)
+        except NotADirectoryError:
+            yield str(path), _stamp(Path(path))
+        except OSError:
+            yield str(path), None
+
+
+def _stamp(file: Path | os.DirEntry[str]) -> Stamp | None:
     try:
         state = file.stat()
     except OSError:

@@ -7,6 +7,7 @@ from __future__ import annotations
 
 from collections.abc import Iterable, Iterator, Sequence
 from dataclasses import dataclass
+from itertools import accumulate
 from math import sqrt
 
 Size = tuple[float, float]
@@ -14,6 +15,7 @@ Edge = tuple[int, int]
 
 ASPECT = 1.25
 _SWEEPS = 4
+_TRIES = 40
 
 
 @dataclass(frozen=True)
@@ -131,9 +133,9 @@ class _Part:
         """Places the columns in rows: in as many as make the whole about as wide as a screen."""
         widths = [max(self._sizes[it][0] for it in column) for column in columns]
         heights = [self._height(column) for column in columns]
-        whole = sum(widths) + self._gaps.across * (len(widths) - 1)
-        most = 2 + round(2 * sqrt(whole / (ASPECT * (max(heights) + self._gaps.down))))
-        splits = [list(_rows(widths, max(whole / count, *widths), self._gaps.across)) for count in range(1, most + 1)]
+        ends = list(accumulate(width + self._gaps.across for width in widths))
+        limits = ends[:: -(-len(ends) // _TRIES)] + ends[-1:]
+        splits = [list(_rows(widths, max(limit - self._gaps.across, *widths, 0), self._gaps.across)) for limit in limits]
         for begin, end in min(splits, key=lambda split: self._extent(split, widths, heights)):
             self._place_row(columns[begin:end])
 
@@ -185,7 +187,7 @@ def _rows(widths: list[float], limit: float, gap: float) -> Iterator[tuple[int, 
     """Breaks columns of these widths into rows that are not wider than the limit: the first of each and the one behind its last."""
     begin, left = 0, 0.0
     for at, width in enumerate(widths):
-        if at > begin and left + width > limit:
+        if at > begin and left + width > limit + 0.5:
             yield begin, at
             begin, left = at, 0.0
         left += width + gap
@@ -234,6 +236,9 @@ def _sort_all(layers: list[list[int]], neighbours: dict[int, list[int]]) -> None
     """Sorts each layer by the mean place of its neighbours in the layers before it."""
     place: dict[int, float] = {}
     for layer in layers:
+        if len(layer) == 1:
+            place[layer[0]] = 0.5
+            continue
         old = {index: at / len(layer) for at, index in enumerate(layer)}
         mean = {}
         for index in layer:

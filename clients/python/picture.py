@@ -3,6 +3,7 @@ from __future__ import annotations
 
 from collections.abc import Mapping
 from dataclasses import dataclass
+from functools import cached_property
 from itertools import zip_longest
 from typing import Any
 
@@ -36,7 +37,7 @@ class _Shape:
     home: str = ""
     left: bool | None = None
 
-    @property
+    @cached_property
     def size(self) -> Size:
         if self.left is not None:
             return len(self.name) * _WIDE + 28, TAG_HEIGHT
