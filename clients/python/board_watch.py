@@ -188,13 +188,16 @@ class SharedWatch(Asking):
 
     def start(self) -> None:
         self.board.add(self._units)
-        self._read_files()
+        if self._folder:
+            self._folder.look()
+            self._take_files(self._folder)
 
     def step(self) -> float:
         if not self.board.has_viewers():
             self.is_there()
             return HEARTBEAT
-        self._read_files()
+        if self._folder and self._folder.look():
+            self._take_files(self._folder)
         self._look()
         self._ask_faults()
         all_there = self.ask_wishes() and not self._waiting
@@ -210,15 +213,13 @@ class SharedWatch(Asking):
             case Blocked(units) | Recursive(units):
                 self.board.add(units)
 
-    def _read_files(self) -> None:
-        if not self._folder or not self._folder.look():
-            return
+    def _take_files(self, folder: Folder) -> None:
         rows = self.board.rows()
-        sources = {name: source_of(unit) for name, unit in self._folder.units.items()}
+        sources = {name: source_of(unit) for name, unit in folder.units.items()}
         known = {name for name, row in rows.items() if row.source}
         read = {name: it for name, it in sources.items() if name not in rows or not same(rows[name].source, it)}
         self.board.read({**read, **dict.fromkeys(known - sources.keys())})
-        self.board.tell_problems(self._folder.problems)
+        self.board.tell_problems(folder.problems)
 
     def _look(self) -> None:
         """Looks which units others have changed."""

@@ -3,6 +3,7 @@ from __future__ import annotations
 
 import json
 import subprocess
+import time
 from collections.abc import Callable, Iterator
 from contextlib import contextmanager
 from http.client import HTTPConnection, HTTPResponse
@@ -11,6 +12,9 @@ from typing import Any
 from urllib.parse import urlencode, urlsplit
 
 from support import CLIENTS, workbench
+
+PATIENCE = 60
+"""Seconds after which something does not come any more."""
 
 
 @contextmanager
@@ -44,8 +48,8 @@ class Address:
         connection.close()
         return status, content
 
-    def json(self, path: str, **query: str) -> Any:
-        status, content = self.request(f"{path}?{urlencode(query)}")
+    def json(self, page: str, **query: str) -> Any:
+        status, content = self.request(f"{page}?{urlencode(query)}")
         if status != 200:
             raise AssertionError((status, content))
         return json.loads(content)
@@ -95,9 +99,13 @@ class Viewer:
         self.ended, self.problems = news["ended"], news["problems"]
 
     def until(self, condition: Callable[[Viewer], object]) -> Viewer:
-        """Waits for events until a condition holds."""
-        self.take() if not self.about else None
+        """Waits for events until a condition holds. An event comes every few seconds, be there news or not."""
+        latest = time.monotonic() + PATIENCE
+        if not self.about:
+            self.take()
         while not condition(self):
+            if time.monotonic() > latest:
+                raise AssertionError(f"it did not come: {self.units} {self.changes} {self.answers} {self.problems}")
             self.take()
         return self
 
