@@ -11,6 +11,7 @@ import secrets
 from dataclasses import asdict
 from http import HTTPStatus
 from http.server import BaseHTTPRequestHandler, ThreadingHTTPServer
+from math import inf, nan
 from pathlib import Path
 from typing import Any
 from urllib.parse import parse_qsl, urlsplit
@@ -124,8 +125,9 @@ class _Handler(BaseHTTPRequestHandler):
             self._send_json(unit_view(self.server.board, row))
 
     def _net(self, query: dict[str, str]) -> None:
-        unit, board = words(query, "name")[0].upper(), self.server.board
-        self._send_json(net_view(board, unit, board.wish(("net", unit)), board.wish(("deploy", unit))))
+        (name, aspect), board = words(query, "name", "aspect"), self.server.board
+        unit, wanted = name.upper(), aspect_in(aspect)
+        self._send_json(net_view(board, unit, board.wish(("net", unit)), board.wish(("deploy", unit)), wanted))
 
     def _plan(self, query: dict[str, str]) -> None:
         unit, board = words(query, "name")[0].upper(), self.server.board
@@ -246,6 +248,17 @@ def number_in(word: str, least: int) -> int:
     if number < least or number >= 2**53:
         raise BadRequest(f"{word!r} is no number of a change")
     return number
+
+
+def aspect_in(word: str) -> float:
+    """How many times as wide as it is tall a window is, within reason. Raises `BadRequest`."""
+    try:
+        aspect = float(word)
+    except ValueError:
+        aspect = nan
+    if not 0 < aspect < inf:
+        raise BadRequest(f"{word!r} is no aspect of a window")
+    return min(max(aspect, 0.2), 5.0)
 
 
 def name_in(body: bytes) -> str:

@@ -38,7 +38,7 @@ def unit_view(board: Board, row: Row) -> View:
         bare = [{"code": it.code, "start": it.start, "end": it.end} for it in faults]
         return {**view, "file": "", "lines": None, "faults": bare}
     fits = all(it.end <= len(text.encode()) for it in faults)
-    shown = _Shown(text, faults if fits else (), Names(board.rows()))
+    shown = _Shown(text, faults if fits else (), Names(it.unit for it in board.rows().values() if it.revision))
     unplaced = [] if fits else [{"code": it.code, "start": it.start, "end": it.end} for it in faults]
     return {**view, "file": str(row.source.file), "lines": shown.lines(), "faults": shown.faults() + unplaced, "fits": fits}
 
@@ -139,11 +139,14 @@ def _class(token: Token) -> str:
 # A network
 
 
-def net_view(board: Board, unit: str, net: Answer, deploy: Answer) -> View:
-    """The network of a unit as a picture, or why there is none."""
+def net_view(board: Board, unit: str, net: Answer, deploy: Answer, aspect: float) -> View:
+    """The network of a unit as a picture, for a window so many times as wide as it is tall, or why there is none.
+
+    It is not shown before it is known by which resources it is to be drawn.
+    """
     plan = deploy.value if isinstance(deploy.value, (Plan, Faulty)) else None
-    if isinstance(net.value, Flat):
-        picture = Picture(unit, board.texts(), net.value, plan).view()
+    if isinstance(net.value, Flat) and deploy.value:
+        picture = Picture(unit, board.texts(), net.value, plan, aspect).view()
         return {"unit": unit, "state": "flat", "current": net.current, "serial": max(net.serial, deploy.serial), **picture, "misplaced": _misplaced(plan)}
     return {"unit": unit, "current": net.current, "serial": max(net.serial, deploy.serial), **_no_net(board, net.value)}
 

@@ -19,8 +19,9 @@ LOOK_AT_FILES = 1.0
 """Seconds between two looks at the files, and more where a look takes long."""
 LOOK_AT_UNITS = 1.0
 """Seconds between two looks at the revisions of a workbench that serves, and more where a look is many calls."""
-CALLS_A_SECOND = 50
-"""Recorded calls, at most, for looks that find nothing."""
+CALLS_A_SECOND, IDLE_CALLS_A_SECOND = 50, 10
+"""Recorded calls, at most, for looks at revisions: within a minute after a change, and later."""
+IDLE_AFTER = 60.0
 SWEEP = 50
 """Units, at most, that are asked again in one look, though nothing tells that a change has reached them."""
 SHORT_PAUSE = 0.05
@@ -185,6 +186,7 @@ class SharedWatch(Asking):
         self._waiting: set[str] = set()
         self._sweep: list[str] = []
         self._pause = SHORT_PAUSE
+        self._last_change = time.monotonic()
 
     def start(self) -> None:
         self.board.add(self._units)
@@ -202,7 +204,9 @@ class SharedWatch(Asking):
         self._ask_faults()
         all_there = self.ask_wishes() and not self._waiting
         self._pause = LOOK_AT_UNITS if all_there else min(2 * self._pause, LOOK_AT_UNITS)
-        return max(self._pause, len(self._known) / CHANGES_LIMIT / CALLS_A_SECOND)
+        is_idle = time.monotonic() - self._last_change > IDLE_AFTER
+        calls = -(-len(self._known) // CHANGES_LIMIT)
+        return max(self._pause, calls / (IDLE_CALLS_A_SECOND if is_idle else CALLS_A_SECOND))
 
     def _answered(self, key: Key, value: Value | None) -> None:
         """Takes a net or a plan, and looks at the units that it names from now on."""
@@ -231,7 +235,7 @@ class SharedWatch(Asking):
         self._known.update(changed)
         if not changed and not new:
             return
-        self._pause = SHORT_PAUSE
+        self._pause, self._last_change = SHORT_PAUSE, time.monotonic()
         self.board.seen({unit: self._known[unit] for unit in changed.keys() | new})
         present = {unit for unit, revision in self._known.items() if revision}
         reached = self.mentions.reached(changed.keys() | new, rows.values())

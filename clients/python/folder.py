@@ -37,7 +37,7 @@ class Folder:
         self.problems: tuple[str, ...] = ()
 
     def look(self) -> bool:
-        """Reads the files that have changed, and tells whether any had.
+        """Reads the files that have changed, and tells whether there is anything new.
 
         Raises `Misuse` where a folder is not there at the first look; later that is a problem, and the units stay. A look that finds nothing
         new is cheap.
@@ -50,19 +50,19 @@ class Folder:
         except Misuse as error:
             if not self._looked:
                 raise
-            self.problems = (f"{error}; what was read before is shown",)
+            self._stamps, self.problems = stamps, (f"{error}; what was read before is shown",)
             return True
         self._looked, self._stamps = True, stamps
-        files: dict[Path, _File] = {}
+        self._files = dict(self._read_all(found))
+        self._name_all()
+        return True
+
+    def _read_all(self, found: list[Path]) -> Iterator[tuple[Path, _File]]:
+        """The files, each read again only where it has changed."""
         for file in found:
             if stamp := _stamp(file):
                 known = self._files.get(file)
-                files[file] = known if known and known.stamp == stamp else _read(file, stamp)
-        if files == self._files:
-            return False
-        self._files = files
-        self._name_all()
-        return True
+                yield file, known if known and known.stamp == stamp else _read(file, stamp)
 
     def _name_all(self) -> None:
         owners: dict[str, Path] = {}

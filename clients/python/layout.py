@@ -1,7 +1,7 @@
 """A layered layout of a network: what goes from left to right leads from one column to a later one.
 
 Rectangles that are joined stand together; what has no end in common stands apart. Nothing overlaps. Columns that would be too tall are broken
-into several, and a long row of columns into rows, so that the whole is about as wide as a screen.
+into several, and a long row of columns into rows, so that the whole is about of the shape that is wanted.
 """
 from __future__ import annotations
 
@@ -13,9 +13,9 @@ from math import sqrt
 Size = tuple[float, float]
 Edge = tuple[int, int]
 
-ASPECT = 1.25
 _SWEEPS = 4
 _TRIES = 40
+_TALL = 1.6
 
 
 @dataclass(frozen=True)
@@ -35,14 +35,17 @@ class Layout:
     height: float
 
 
-def layered(sizes: Sequence[Size], edges: Iterable[Edge], gaps: Gaps = Gaps()) -> Layout:
-    """Lays out rectangles of these sizes; edges are pairs of their indices, from the source to the destination."""
+def layered(sizes: Sequence[Size], edges: Iterable[Edge], aspect: float, gaps: Gaps = Gaps()) -> Layout:
+    """Lays out rectangles of these sizes; edges are pairs of their indices, from the source to the destination.
+
+    The whole is to be `aspect` times as wide as it is tall, as far as that can be.
+    """
     ahead: list[list[int]] = [[] for _ in sizes]
     for source, destination in dict.fromkeys(edges):
         if source != destination:
             ahead[source].append(destination)
-    parts = [_Part(members, sizes, ahead, gaps) for members in _components(ahead)]
-    places, width, height = _packed([(part.width, part.height) for part in parts], gaps)
+    parts = [_Part(members, sizes, ahead, aspect, gaps) for members in _components(ahead)]
+    places, width, height = _packed([(part.width, part.height) for part in parts], aspect, gaps)
     corners: list[tuple[float, float]] = [(0.0, 0.0)] * len(sizes)
     for part, (left, top) in zip(parts, places):
         for index, (x, y) in part.corners.items():
@@ -70,10 +73,10 @@ def _components(ahead: list[list[int]]) -> list[list[int]]:
     return found
 
 
-def _packed(sizes: list[Size], gaps: Gaps) -> tuple[list[tuple[float, float]], float, float]:
-    """Places rectangles in rows, tall ones first, in a width that makes the whole about as wide as a screen."""
+def _packed(sizes: list[Size], aspect: float, gaps: Gaps) -> tuple[list[tuple[float, float]], float, float]:
+    """Places rectangles in rows, tall ones first."""
     area = sum((width + gaps.across) * (height + gaps.down) for width, height in sizes)
-    limit = max([sqrt(area * ASPECT), *(width for width, _ in sizes)])
+    limit = max([sqrt(area * aspect), *(width for width, _ in sizes)])
     places: list[tuple[float, float]] = [(0.0, 0.0)] * len(sizes)
     left = top = row = widest = 0.0
     for index in sorted(range(len(sizes)), key=lambda it: -sizes[it][1]):
@@ -89,8 +92,8 @@ def _packed(sizes: list[Size], gaps: Gaps) -> tuple[list[tuple[float, float]], f
 class _Part:
     """The layout of rectangles that are joined."""
 
-    def __init__(self, members: list[int], sizes: Sequence[Size], ahead: list[list[int]], gaps: Gaps):
-        self._sizes, self._gaps = sizes, gaps
+    def __init__(self, members: list[int], sizes: Sequence[Size], ahead: list[list[int]], aspect: float, gaps: Gaps):
+        self._sizes, self._aspect, self._gaps = sizes, aspect, gaps
         self._ahead = _without_cycles(members, ahead)
         self._behind: dict[int, list[int]] = {it: [] for it in members}
         for source, its in self._ahead.items():
@@ -117,7 +120,7 @@ class _Part:
     def _columns(self, layers: list[list[int]]) -> Iterator[list[int]]:
         """The layers, broken where they are taller than the whole should be."""
         room = sum((self._sizes[it][0] + self._gaps.across) * (self._sizes[it][1] + self._gaps.down) for layer in layers for it in layer)
-        limit = sqrt(room / ASPECT)
+        limit = _TALL * sqrt(room / self._aspect)
         for layer in layers:
             column: list[int] = []
             height = 0.0
@@ -130,7 +133,7 @@ class _Part:
             yield column
 
     def _place(self, columns: list[list[int]]) -> None:
-        """Places the columns in rows: in as many as make the whole about as wide as a screen."""
+        """Places the columns in rows: in as many as make the whole about of the shape that is wanted."""
         widths = [max(self._sizes[it][0] for it in column) for column in columns]
         heights = [self._height(column) for column in columns]
         ends = list(accumulate(width + self._gaps.across for width in widths))
@@ -140,10 +143,10 @@ class _Part:
             self._place_row(columns[begin:end])
 
     def _extent(self, rows: list[tuple[int, int]], widths: list[float], heights: list[float]) -> float:
-        """How small a whole of these rows has to be drawn to be seen on a screen."""
+        """How tall a window of the wanted shape has to be for these rows."""
         width = max(sum(widths[begin:end]) + self._gaps.across * (end - begin - 1) for begin, end in rows)
         height = sum(max(heights[begin:end]) + 2 * self._gaps.down for begin, end in rows)
-        return max(width / ASPECT, height)
+        return max(width / self._aspect, height)
 
     def _height(self, column: list[int]) -> float:
         return sum(self._sizes[it][1] for it in column) + self._gaps.down * (len(column) - 1)

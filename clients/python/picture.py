@@ -8,7 +8,7 @@ from itertools import zip_longest
 from typing import Any
 
 from bench61499 import Deploy, Flat, Plan, Sort
-from layout import Edge, Gaps, Size, layered
+from layout import Edge, Gaps, Layout, Size, layered
 from network import Box, End, Network, Port, homes
 
 HEAD = 42
@@ -47,9 +47,13 @@ class _Shape:
 
 
 class Picture:
-    """The picture of a network. `deploy` tells the resources and the cut links of a system that has a plan."""
+    """The picture of a network, for a window that is `aspect` times as wide as it is tall.
 
-    def __init__(self, unit: str, texts: Mapping[str, str], net: Flat, deploy: Deploy | None):
+    `deploy` tells the resources and the cut links of a system that has a plan.
+    """
+
+    def __init__(self, unit: str, texts: Mapping[str, str], net: Flat, deploy: Deploy | None, aspect: float):
+        self._aspect = aspect
         self._network = Network(unit, texts, net)
         self._plan = deploy if isinstance(deploy, Plan) else None
         placed = homes(deploy)
@@ -103,7 +107,7 @@ class Picture:
         sizes = [self._outer(group, layouts[group].width, layouts[group].height) for group in groups]
         home = {at: number for number, group in enumerate(groups) for at in members[group]}
         between = [(home[one], home[other]) for one, other in edges]
-        whole = layered(sizes, between, Gaps(120, 60))
+        whole = layered(sizes, between, self._aspect, Gaps(120, 60))
         corners: list[Corner] = [(0.0, 0.0)] * len(self._shapes)
         for group, (left, top), size in zip(groups, whole.corners, sizes):
             inner_left, inner_top = (left + PAD, top + 2 * PAD) if group else (left, top)
@@ -113,10 +117,10 @@ class Picture:
                 corners[at] = (inner_left + x, inner_top + y)
         return corners, whole.width, whole.height
 
-    def _laid_out(self, members: list[int], edges: list[Edge]):
+    def _laid_out(self, members: list[int], edges: list[Edge]) -> Layout:
         number = {at: it for it, at in enumerate(members)}
         inner = [(number[one], number[other]) for one, other in edges if one in number and other in number]
-        return layered([self._shapes[at].size for at in members], inner)
+        return layered([self._shapes[at].size for at in members], inner, self._aspect)
 
     @staticmethod
     def _outer(group: str, width: float, height: float) -> Size:

@@ -183,7 +183,7 @@ class AnswersTest(BoardTest):
             self.edit("PLANT.fb", "LINE.PANEL ON", "LINE.LAMP ON")
             viewer.until(lambda it: it.answers["deploy", "PLANT"][0] > plan["serial"])
             self.assertEqual(at.json("/plan", name="PLANT")["misplaced"], [["UNMAPPED", "LINE.PANEL"], ["NO_SUCH_BLOCK", "LINE.LAMP"]])
-            self.assertEqual(at.json("/net", name="PLANT")["state"], "flat")
+            self.assertEqual(at.json("/net", name="PLANT", aspect="1")["state"], "flat")
 
     def test_why_there_is_none(self) -> None:
         self.copy_conveyor()
@@ -210,9 +210,10 @@ class AnswersTest(BoardTest):
     def known(self, at: Address, viewer, path: str, unit: str) -> dict:
         """The answer, once it is known."""
         kind = {"/net": "net", "/plan": "deploy"}[path]
-        at.json(path, name=unit)
+        query = {"name": unit, "aspect": "1.5"} if kind == "net" else {"name": unit}
+        at.json(path, **query)
         viewer.until(lambda it: it.answers.get((kind, unit), (0, False))[1])
-        return at.json(path, name=unit)
+        return at.json(path, **query)
 
 
 class SharedTest(BoardTest):
@@ -267,7 +268,7 @@ class SharedTest(BoardTest):
             unit = at.json("/unit", name="PLANT")
             self.assertEqual((unit["lines"], unit["faults"]), (None, []))
             self.assertIn("The workbench gives no texts back", unit["note"])
-            at.json("/net", name="PLANT")
+            at.json("/net", name="PLANT", aspect="1")
             viewer.settled(4)  # The types of its blocks are looked at too.
             self.assertEqual(viewer.units.keys(), {"PLANT", "FEEDER", "LAMP", "LIFTER"})
             self.engineer.commit([Put("LAMP", self.engineer.revision("LAMP"), WRONG.replace("BLOCK A", "BLOCK LAMP"))])
@@ -327,7 +328,7 @@ class SharedTest(BoardTest):
 class RefusalsTest(BoardTest):
     """What a board does not answer."""
 
-    PATHS = ("/", "/events", "/unit?name=LAMP", "/net?name=PLANT", "/plan?name=PLANT", "/instance?name=PLANT&path=LINE.PANEL")
+    PATHS = ("/", "/events", "/unit?name=LAMP", "/net?name=PLANT&aspect=1", "/plan?name=PLANT", "/instance?name=PLANT&path=LINE.PANEL")
 
     def test_other_hosts(self) -> None:
         at = self.conveyor()
@@ -369,7 +370,8 @@ class RefusalsTest(BoardTest):
     def test_bad_queries(self) -> None:
         at = self.conveyor()
         for path in (
-            "/unit", "/unit?", "/unit?name", "/unit?name=", "/unit?name=A&name=B", "/unit?name=A&more=B", "/unit?other=A", "/unit?name=%ff", "/net",
+            "/unit", "/unit?", "/unit?name", "/unit?name=", "/unit?name=A&name=B", "/unit?name=A&more=B", "/unit?other=A", "/unit?name=%ff", "/net", "/net?name=PLANT",
+            "/net?name=PLANT&aspect=x", "/net?name=PLANT&aspect=nan", "/net?name=PLANT&aspect=0", "/net?name=PLANT&aspect=-1",
             "/plan?", "/instance?name=A", "/events?change=x", "/events?change=-2", "/events?change=9007199254740992", "/events?other=1", "/?a=b",
             "/unit?" + "&".join(f"a{at}=1" for at in range(9)),
         ):
