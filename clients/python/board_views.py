@@ -11,10 +11,15 @@ from bench61499 import (
 from board_state import Answer, Board, NoEntry, Row
 from explain import Explainer, Names
 from picture import Picture
-from tokens import RESERVED, Token, declared_kind, tokens
+from tokens import RESERVED, Token, declarations, declared_kind, tokens
 
 FAULTS_SHOWN = 500
 """Faults of one unit that are shown with their explanations."""
+
+# Faults of a name that is in none of these sections.
+_UNKNOWN_IN = {
+    "STATE_UNKNOWN": ("EC_STATES",), "ALGORITHM_UNKNOWN": ("ALGORITHM",), "VARIABLE_UNKNOWN": ("VAR", "VAR_INPUT", "VAR_OUTPUT"),
+}
 
 View = dict[str, Any]
 
@@ -37,10 +42,22 @@ def unit_view(board: Board, row: Row) -> View:
     if text is None:
         bare = [{"code": it.code, "start": it.start, "end": it.end} for it in faults]
         return {**view, "file": "", "lines": None, "faults": bare}
-    fits = all(it.end <= len(text.encode()) for it in faults)
+    fits = all(_fits(text, faults))
     shown = _Shown(text, faults if fits else (), Names(it.unit for it in board.rows().values() if it.revision))
     unplaced = [] if fits else [{"code": it.code, "start": it.start, "end": it.end} for it in faults]
     return {**view, "file": str(row.source.file), "lines": shown.lines(), "faults": shown.faults() + unplaced, "fits": fits}
+
+
+def _fits(text: str, faults: tuple[Fault, ...]) -> Iterator[bool]:
+    """Whether each fault can be one of this text, as far as its place and the names that are declared tell."""
+    its = list(tokens(text))
+    starts, ends = {it.start: it for it in its}, {it.end for it in its}
+    declared = {(name.upper, section) for name, section in declarations(its)}
+    for fault in faults:
+        first = starts.get(fault.start)
+        at_end = fault.start == fault.end == len(text.encode())
+        is_there = any((first.upper, section) in declared for section in _UNKNOWN_IN.get(fault.code, ())) if first else False
+        yield at_end or (first is not None and fault.end in ends and not (is_there and fault.end == first.end))
 
 
 def _note(board: Board, row: Row) -> str:

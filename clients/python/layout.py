@@ -20,10 +20,11 @@ _TALL = 1.6
 
 @dataclass(frozen=True)
 class Gaps:
-    """The room between two columns, and between two rectangles one above the other."""
+    """The room between two columns, and between two rectangles one above the other. A row narrower than `unbroken` stays one row."""
 
     across: float = 90
     down: float = 28
+    unbroken: float = 900
 
 
 @dataclass(frozen=True)
@@ -137,7 +138,7 @@ class _Part:
         widths = [max(self._sizes[it][0] for it in column) for column in columns]
         heights = [self._height(column) for column in columns]
         ends = list(accumulate(width + self._gaps.across for width in widths))
-        limits = ends[:: -(-len(ends) // _TRIES)] + ends[-1:]
+        limits = [it for it in ends[:: -(-len(ends) // _TRIES)] if it > self._gaps.unbroken] + ends[-1:]
         splits = [list(_rows(widths, max(limit - self._gaps.across, *widths, 0), self._gaps.across)) for limit in limits]
         for begin, end in min(splits, key=lambda split: self._extent(split, widths, heights)):
             self._place_row(columns[begin:end])

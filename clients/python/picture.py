@@ -107,7 +107,7 @@ class Picture:
         sizes = [self._outer(group, layouts[group].width, layouts[group].height) for group in groups]
         home = {at: number for number, group in enumerate(groups) for at in members[group]}
         between = [(home[one], home[other]) for one, other in edges]
-        whole = layered(sizes, between, self._aspect, Gaps(120, 60))
+        whole = layered(sizes, between, self._aspect, Gaps(120, 60, unbroken=0))
         corners: list[Corner] = [(0.0, 0.0)] * len(self._shapes)
         for group, (left, top), size in zip(groups, whole.corners, sizes):
             inner_left, inner_top = (left + PAD, top + 2 * PAD) if group else (left, top)

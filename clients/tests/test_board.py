@@ -290,6 +290,21 @@ class SharedTest(BoardTest):
             viewer.until(lambda it: at.json("/unit", name="A")["fits"])
         self.assertEqual(at.json("/unit", name="A")["faults"][0]["column"], 37)
 
+    def test_a_fault_that_can_not_be_one_of_the_file(self) -> None:
+        at = self.shared("--files", ".")
+        with at.viewer() as viewer:
+            viewer.until(lambda it: it.states() == {"absent"})
+            self.check()
+            viewer.settled(6)
+            base = self.engineer.revision("FEEDER")
+            self.engineer.commit([Put("FEEDER", base, (CONVEYOR / "FEEDER.fb").read_text().replace("DONE TO IDLE", "DONE TO IDEL"))])
+            viewer.until(lambda it: it.state("FEEDER") == "faulty")
+            unit = at.json("/unit", name="FEEDER")
+            self.assertEqual((unit["fits"], [it["code"] for it in unit["faults"]], "line" in unit["faults"][0]), (False, ["STATE_UNKNOWN"], False))
+            self.edit("FEEDER.fb", "DONE TO IDLE", "DONE TO IDEL")
+            viewer.until(lambda it: at.json("/unit", name="FEEDER")["fits"])
+        self.assertEqual(at.json("/unit", name="FEEDER")["faults"][0]["line"], 19)
+
     def test_units_that_are_asked_for(self) -> None:
         at = self.shared()
         with at.viewer() as viewer:
@@ -311,10 +326,6 @@ class SharedTest(BoardTest):
         self.assertEqual(at.request("/unit?name=B")[0], 404)
 
     def test_the_end_of_the_workbench(self) -> None:
-        with serving(sessions=1) as port, board("--connect", f":{port}", "--unit", "A") as at:
-            with at.viewer() as viewer:
-                viewer.until(lambda it: it.state("A") == "absent")
-        # The workbench has ended, and the board with it.
         with serving(sessions=1) as port:
             at = self.start("--connect", f":{port}", "--unit", "A")
             with at.viewer() as viewer:
@@ -323,6 +334,13 @@ class SharedTest(BoardTest):
             viewer.until(lambda it: it.ended)
             self.assertIn(f"127.0.0.1:{port}", viewer.ended)
             self.assertEqual(viewer.state("A"), "absent")
+
+    def test_a_full_history(self) -> None:
+        with serving(1, "--history", "5") as port:
+            at = self.start("--connect", f":{port}", "--unit", "A")
+            with at.viewer() as viewer:
+                viewer.until(lambda it: it.ended)
+        self.assertEqual(viewer.ended, "the workbench has recorded as many calls as it was started for; start it afresh, or with a higher --history")
 
 
 class RefusalsTest(BoardTest):

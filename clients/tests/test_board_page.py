@@ -132,6 +132,16 @@ class UnitsTest(PageTest):
             self.assertIn("so its text can't be shown", self.words("#note"))
             self.assertRegex(self.words("#changes"), r"^LAMP new, revision 1\n\d\d:\d\d:\d\d, another session$")
 
+    def test_a_page_that_is_not_seen_rests(self) -> None:
+        self.see_conveyor()
+        hide = "(Object.defineProperty(document, 'hidden', { value: %s, configurable: true }), document.dispatchEvent(new Event('visibilitychange')))"
+        self.browser.value(hide % "true")
+        self.assertEqual(self.browser.value("[board.connected, board.events]"), [False, None])
+        self.edit("LAMP.fb", "SHOW WITH VALUE", "SHOW WITH VALUES")
+        self.browser.value(hide % "false")
+        self.browser.until("board.units.get('LAMP').state === 'faulty'")
+        self.assertRegex(self.words("#changes"), "^LAMP revision 1 → 2")
+
 
 class NetworkTest(PageTest):
     def see_network(self, unit: str = "PLANT") -> None:

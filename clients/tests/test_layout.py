@@ -8,7 +8,7 @@ from support import CLIENTS  # noqa: F401
 
 from layout import Gaps, layered
 
-GAPS = Gaps(across=50, down=10)
+GAPS = Gaps(across=50, down=10, unbroken=150)
 
 
 class LayoutTest(unittest.TestCase):
@@ -32,7 +32,9 @@ class LayoutTest(unittest.TestCase):
         self.assertEqual(self.laid_out([(30, 20)] * 3, [(2, 1), (1, 0), (1, 0)], aspect=5), [(160, 0, 190, 20), (80, 0, 110, 20), (0, 0, 30, 20)])
 
     def test_a_row_in_a_narrow_window(self):
-        self.assertEqual(self.laid_out([(30, 20)] * 3, [(0, 1), (1, 2)], aspect=0.2), [(0, 0, 30, 20), (0, 40, 30, 60), (0, 80, 30, 100)])
+        chain = [(0, 1), (1, 2), (2, 3)]
+        self.assertEqual(self.laid_out([(30, 20)] * 4, chain, aspect=0.2), [(0, 0, 30, 20), (80, 0, 110, 20), (0, 40, 30, 60), (80, 40, 110, 60)])
+        self.assertEqual(self.laid_out([(30, 20)] * 2, chain[:1], aspect=0.2), [(0, 0, 30, 20), (80, 0, 110, 20)])
 
     def test_sources_stand_left(self):
         sizes = [(30, 20)] * 7
