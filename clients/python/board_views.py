@@ -38,14 +38,13 @@ def unit_view(board: Board, row: Row) -> View:
     """A unit with its text in lines, each of pieces, and its faults."""
     text = row.source.text if row.source else None
     faults = (row.faults or ())[:FAULTS_SHOWN]
-    view = {"unit": row.unit, "revision": row.revision, "state": row.state, "count": len(row.faults or ()), "note": _note(board, row)}
+    bare = [{"code": it.code, "start": it.start, "end": it.end} for it in faults]
+    view = {"unit": row.unit, "revision": row.revision, "state": row.state, "count": len(row.faults or ())}
     if text is None:
-        bare = [{"code": it.code, "start": it.start, "end": it.end} for it in faults]
-        return {**view, "file": "", "lines": None, "faults": bare}
+        return {**view, "lines": None, "faults": bare, "note": _note(board, row, False)}
     fits = all(_fits(text, faults))
     shown = _Shown(text, faults if fits else (), Names(it.unit for it in board.rows().values() if it.revision))
-    unplaced = [] if fits else [{"code": it.code, "start": it.start, "end": it.end} for it in faults]
-    return {**view, "file": str(row.source.file), "lines": shown.lines(), "faults": shown.faults() + unplaced, "fits": fits}
+    return {**view, "lines": shown.lines(), "faults": shown.faults() if fits else bare, "note": _note(board, row, fits)}
 
 
 def _fits(text: str, faults: tuple[Fault, ...]) -> Iterator[bool]:
@@ -60,12 +59,14 @@ def _fits(text: str, faults: tuple[Fault, ...]) -> Iterator[bool]:
         yield at_end or (first is not None and fault.end in ends and not (is_there and fault.end == first.end))
 
 
-def _note(board: Board, row: Row) -> str:
+def _note(board: Board, row: Row, fits: bool) -> str:
     """What is to be known of the text that is shown, in one sentence."""
     if not board.shared:
         return ""
     if not row.source:
         return "The workbench gives no texts back, and no file of this unit was named with --files, so its text can't be shown."
+    if not fits:
+        return "The workbench has another text than this file: its faults do not fit here, and are told by their bytes."
     if row.revision and row.source.revision != row.revision:
         return f"This is the text of the file as it was read before revision {row.revision} came, and may be another one."
     return "This is the text of the file. The workbench gives no texts back, so whether it has this one is not known."

@@ -46,7 +46,7 @@ class Folder:
         if self._looked and stamps == self._stamps:
             return False
         try:
-            found = find_files(self._paths)
+            found = list(self._files) if self._are_there(stamps) else find_files(self._paths)
         except Misuse as error:
             if not self._looked:
                 raise
@@ -56,6 +56,10 @@ class Folder:
         self._files = dict(self._read_all(found))
         self._name_all()
         return True
+
+    def _are_there(self, stamps: dict[str, Stamp | None]) -> bool:
+        """Whether the files are those that were there before: to list them takes longer."""
+        return stamps.keys() == self._stamps.keys() and None not in (*stamps.values(), *self._stamps.values())
 
     def _read_all(self, found: list[Path]) -> Iterator[tuple[Path, _File]]:
         """The files, each read again only where it has changed."""

@@ -19,6 +19,8 @@ MARKUP = """FUNCTION_BLOCK A (* <script>alert(1)</script> *)
   EVENT_INPUT E WITH X; END_EVENT
 END_FUNCTION_BLOCK
 """
+ANOTHER = "The workbench has another text than this file: its faults do not fit here, and are told by their bytes."
+UNSURE = "This is the text of the file. The workbench gives no texts back, so whether it has this one is not known."
 
 
 class BoardTest(InFolder):
@@ -247,7 +249,7 @@ class SharedTest(BoardTest):
             self.engineer.commit([Remove("FEEDER", number)])
             viewer.until(lambda it: it.state("FEEDER") == "absent" and it.state("STATION") == "faulty")
             unit = at.json("/unit", name="FEEDER")
-        self.assertEqual((unit["state"], unit["file"]), ("absent", "FEEDER.fb"))
+        self.assertEqual((unit["state"], viewer.units["FEEDER"]["file"]), ("absent", "FEEDER.fb"))
 
     def test_the_board_changes_nothing(self) -> None:
         self.check()
@@ -284,11 +286,14 @@ class SharedTest(BoardTest):
             self.engineer.commit([Put("A", 0, WRONG)])
             viewer.until(lambda it: it.state("A") == "faulty")
             unit = at.json("/unit", name="A")
-            self.assertIn("as it was read before revision 1 came", unit["note"])
-            self.assertEqual((unit["fits"], unit["faults"]), (False, [{"code": "WITH_UNKNOWN", "start": 36, "end": 37}]))
+            self.assertEqual((unit["note"], unit["faults"]), (ANOTHER, [{"code": "WITH_UNKNOWN", "start": 36, "end": 37}]))
             self.write("A.fb", WRONG)
-            viewer.until(lambda it: at.json("/unit", name="A")["fits"])
-        self.assertEqual(at.json("/unit", name="A")["faults"][0]["column"], 37)
+            viewer.until(lambda it: at.json("/unit", name="A")["note"] != ANOTHER)
+            unit = at.json("/unit", name="A")
+            self.assertEqual((unit["note"], unit["faults"][0]["column"]), (UNSURE, 37))
+            self.engineer.commit([Put("A", 1, WRONG)])
+            viewer.until(lambda it: it.units["A"]["revision"] == 2)
+        self.assertEqual(at.json("/unit", name="A")["note"], "This is the text of the file as it was read before revision 2 came, and may be another one.")
 
     def test_a_fault_that_can_not_be_one_of_the_file(self) -> None:
         at = self.shared("--files", ".")
@@ -300,9 +305,9 @@ class SharedTest(BoardTest):
             self.engineer.commit([Put("FEEDER", base, (CONVEYOR / "FEEDER.fb").read_text().replace("DONE TO IDLE", "DONE TO IDEL"))])
             viewer.until(lambda it: it.state("FEEDER") == "faulty")
             unit = at.json("/unit", name="FEEDER")
-            self.assertEqual((unit["fits"], [it["code"] for it in unit["faults"]], "line" in unit["faults"][0]), (False, ["STATE_UNKNOWN"], False))
+            self.assertEqual((unit["note"], [it["code"] for it in unit["faults"]], "line" in unit["faults"][0]), (ANOTHER, ["STATE_UNKNOWN"], False))
             self.edit("FEEDER.fb", "DONE TO IDLE", "DONE TO IDEL")
-            viewer.until(lambda it: at.json("/unit", name="FEEDER")["fits"])
+            viewer.until(lambda it: at.json("/unit", name="FEEDER")["note"] != ANOTHER)
         self.assertEqual(at.json("/unit", name="FEEDER")["faults"][0]["line"], 19)
 
     def test_units_that_are_asked_for(self) -> None:

@@ -8,7 +8,7 @@ from pathlib import Path
 
 from boards import Address
 from browser import Browser
-from support import serving
+from support import CONVEYOR, serving
 from test_board import MARKUP, BoardTest
 
 from bench61499 import Put, Session
@@ -279,18 +279,21 @@ class EverybodyTest(PageTest):
 
 class PictureTest(PageTest):
     def test_the_picture_of_the_document(self) -> None:
-        """What the picture shows: the network of the conveyor's plant, a block of it that is chosen, and a change."""
-        at = self.conveyor()
+        """The network of the conveyor's plant with a block that is chosen, a unit with a fault, and two changes."""
+        for file in CONVEYOR.glob("*.fb"):
+            self.write(f"plant/{file.name}", file.read_bytes())
+        at = self.start("plant")
         self.browser.devtools("Emulation.setDeviceMetricsOverride", width=1360, height=765, deviceScaleFactor=1, mobile=False)
         self.see(at, 6, "#PLANT/network")
-        self.edit("LAMP.fb", "SHOW WITH VALUE", "SHOW WITH VALUES")
-        self.browser.until("board.units.get('LAMP').state === 'faulty' && board.units.get('PLANT').state === 'fine'")
-        self.edit("LAMP.fb", "SHOW WITH VALUES", "SHOW WITH VALUE")
-        self.browser.until(f"{SETTLED}6 && count().faults === 0 && network?.canvas.isConnected && network.scale > 0")
+        self.write("plant/PUSHER.fb", "FUNCTION_BLOCK PUSHER\n  EVENT_INPUT PUSH WITH FORCE; END_EVENT\nEND_FUNCTION_BLOCK\n")
+        self.browser.until("board.units.get('PUSHER')?.state === 'faulty'")
+        self.edit("plant/FEEDER.fb", "LOAD > 0 AND", "LOAD > 1 AND")
+        self.browser.until("board.changes.length === 2 && count().pending === 0 && network?.canvas.isConnected && network.scale > 0")
         self.browser.value("network.choose(network.blocks.find((it) => it.path === 'LINE.SECOND.LIFT'), false)")
         self.browser.until("document.querySelector('.block h3') && !network.planned")
         self.assertEqual(self.words(".block h3"), "LINE.SECOND.LIFT")
-        self.assertEqual(self.browser.value("board.changes.map((it) => it.unit)"), ["LAMP", "LAMP"])
+        self.assertEqual(self.words("#counts").split(), "7 units 1 fault in 1 unit 0 pending".split())
+        self.assertEqual(self.browser.value("board.changes.map((it) => `${it.unit} ${it.old} ${it.new}`)"), ["PUSHER 0 2", "FEEDER 1 3"])
         if PICTURE:
             self.browser.picture(Path(PICTURE))
 
