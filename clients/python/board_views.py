@@ -42,7 +42,7 @@ def unit_view(board: Board, row: Row) -> View:
     view = {"unit": row.unit, "revision": row.revision, "state": row.state, "count": len(row.faults or ())}
     if text is None:
         return {**view, "lines": None, "faults": bare, "note": _note(board, row, False)}
-    fits = all(_fits(text, faults))
+    fits = not board.shared or not faults or all(_fits(text, faults))
     shown = _Shown(text, faults if fits else (), Names(it.unit for it in board.rows().values() if it.revision))
     return {**view, "lines": shown.lines(), "faults": shown.faults() if fits else bare, "note": _note(board, row, fits)}
 
@@ -82,10 +82,11 @@ class _Shown:
     """A text in pieces: cut where a line, a word of the language, a comment or a fault begins or ends."""
 
     def __init__(self, text: str, faults: tuple[Fault, ...], names: Names):
-        self._places, self._explainer = Places(text), Explainer(text, names)
+        self._places = Places(text)
         self._faults = faults
+        self._explainer = Explainer(text if faults else "", names)
         self._spans = [_Span(*self._explainer.span(it)) for it in faults]
-        self._tokens = list(tokens(text))
+        self._classes = dict(_changes(_classes(list(tokens(text)), self._places.encoded)))
 
     def faults(self) -> list[View]:
         return [self._fault(fault, span) for fault, span in zip(self._faults, self._spans)]
@@ -100,14 +101,13 @@ class _Shown:
         What is behind the last line end is left out where it is empty.
         """
         content = self._places.encoded
-        classes = dict(_classes(self._tokens, content))
-        stops = sorted({0, len(content), *(it for span in self._spans for it in (span.start, span.end)), *classes})
+        stops = sorted({0, len(content), *(it for span in self._spans for it in (span.start, span.end)), *self._classes})
         starts = sorted(range(len(self._spans)), key=lambda it: self._spans[it].start)
         lines: list[list[View | str]] = [[]]
         present: list[int] = []
         kind = ""
         for start, end in zip(stops, stops[1:]):
-            kind = classes.get(start, kind)
+            kind = self._classes.get(start, kind)
             while starts and self._spans[starts[0]].start <= start:
                 present.append(starts.pop(0))
             present = [it for it in present if self._spans[it].end > start]
@@ -139,6 +139,15 @@ def _classes(of: list[Token], content: bytes) -> Iterator[tuple[int, str]]:
         end = token.end
     if end < len(content):
         yield end, _gap(content[end:])
+
+
+def _changes(classes: Iterator[tuple[int, str]]) -> Iterator[tuple[int, str]]:
+    """The places where something else begins."""
+    before = ""
+    for place, kind in classes:
+        if kind != before:
+            yield place, kind
+        before = kind
 
 
 def _gap(between: bytes) -> str:
