@@ -40,7 +40,7 @@ class Browser:
         wanted = {"capabilities": {"alwaysMatch": {"goog:chromeOptions": options, "goog:loggingPrefs": {"browser": "ALL"}}}}
         self._session = ""
         self._session = f"/session/{self._do('POST', '/session', wanted)['sessionId']}"
-        self._do("POST", "/timeouts", {"script": 30_000})
+        self.patience(30)
         self.devtools("Emulation.setDeviceMetricsOverride", width=width, height=height, deviceScaleFactor=1, mobile=False)
 
     def close(self) -> None:
@@ -63,6 +63,10 @@ class Browser:
 
     def devtools(self, command: str, **words: Any) -> Any:
         return self._do("POST", "/goog/cdp/execute", {"cmd": command, "params": words})
+
+    def patience(self, seconds: int) -> None:
+        """How long `until` waits before it gives up."""
+        self._do("POST", "/timeouts", {"script": 1000 * seconds})
 
     def value(self, expression: str) -> Any:
         return self._do("POST", "/execute/sync", {"script": f"return ({expression})", "args": []})
