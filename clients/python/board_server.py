@@ -191,10 +191,10 @@ class _Handler(BaseHTTPRequestHandler):
     # How it is sent
 
     def _send_event(self, told: dict[str, Any]) -> None:
-        self.wfile.write(f"data: {as_json(told)}\n\n".encode())
+        self.wfile.write(b"data: " + as_json(told) + b"\n\n")
 
     def _send_json(self, value: Any) -> None:
-        self._send(as_json(value).encode(), "application/json", {})
+        self._send(as_json(value), "application/json", {})
 
     def _send(self, content: bytes, kind: str, headers: dict[str, str], status: HTTPStatus = HTTPStatus.OK) -> None:
         self._send_head(kind, {**headers, "Content-Length": str(len(content))}, status)
@@ -227,8 +227,9 @@ class _Handler(BaseHTTPRequestHandler):
         """Requests are not told to the user."""
 
 
-def as_json(value: Any) -> str:
-    return json.dumps(value, ensure_ascii=False, separators=(",", ":"))
+def as_json(value: Any) -> bytes:
+    """JSON on one line. Bytes of a file's name that are not UTF-8 become question marks."""
+    return json.dumps(value, ensure_ascii=False, separators=(",", ":")).encode(errors="replace")
 
 
 def words(query: dict[str, str], *names: str) -> list[str]:

@@ -106,13 +106,15 @@ class Board:
 
     # For the thread that asks the workbench
 
-    def add(self, units: Iterable[str]) -> None:
-        """Adds units that are not on the board."""
-        new = set(units) - self.rows().keys()
-        if new:
-            with self._news():
-                for unit in new:
-                    self._set(Row(unit))
+    def add(self, units: Iterable[str]) -> bool:
+        """Adds units that are not on the board, and tells whether there were any."""
+        with self._changed:
+            new = set(units) - self._rows.keys()
+            if new:
+                with self._news():
+                    for unit in new:
+                        self._set(Row(unit))
+            return bool(new)
 
     def read(self, sources: Mapping[str, Source | None]) -> None:
         """Takes texts that were read; None for a text that is gone."""
@@ -262,8 +264,7 @@ class Board:
 
     def look_at(self, unit: str) -> bool:
         """Adds a unit, and tells whether it is new."""
-        is_new = self.row(unit) is None
-        self.add([unit])
+        is_new = self.add([unit])
         with self._changed:
             self._wish()
         return is_new

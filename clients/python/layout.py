@@ -105,11 +105,17 @@ class _Part:
         self._place(list(self._columns(self._layers(members))))
 
     def _layers(self, members: list[int]) -> list[list[int]]:
-        """Each rectangle as far right as its longest way from one without sources, ordered so that few edges cross."""
+        """Each rectangle as far right as its longest way from one without sources, and those just left of what they lead to.
+
+        Each layer is ordered so that few edges cross.
+        """
         rank = dict.fromkeys(members, 0)
         for source in _sources_first(members, self._ahead, self._behind):
             for destination in self._ahead[source]:
                 rank[destination] = max(rank[destination], rank[source] + 1)
+        for source, its in self._ahead.items():
+            if its and not self._behind[source]:
+                rank[source] = min(rank[it] for it in its) - 1
         layers: list[list[int]] = [[] for _ in range(max(rank.values()) + 1)]
         for index in members:
             layers[rank[index]].append(index)

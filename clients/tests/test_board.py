@@ -1,16 +1,20 @@
 """board: what it answers to browsers, and what it refuses."""
 from __future__ import annotations
 
+import os
 import signal
 import subprocess
 import unittest
 from http.client import HTTPConnection
 from pathlib import Path
+from unittest import mock
 
 from boards import Address, board
 from support import CONVEYOR, InFolder, free_port, run, serving, workbench
 
 from bench61499 import Put, Remove, Session
+from board_state import Board
+from board_watch import HEARTBEAT, SharedWatch
 
 STATES = {"FEEDER", "HANDOVER", "LAMP", "LIFTER", "PLANT", "STATION"}
 WRONG = "FUNCTION_BLOCK A EVENT_INPUT E WITH X; END_EVENT END_FUNCTION_BLOCK"
@@ -97,6 +101,18 @@ class FolderTest(BoardTest):
             viewer.until(lambda it: it.state("SECOND") == "faulty" and not it.problems)
             self.write("SECOND.fb", "3 4")
             viewer.until(lambda it: it.units["SECOND"]["revision"] == 3)
+
+    def test_names_that_are_not_utf_8(self) -> None:
+        folder = os.path.join(os.fsencode(self.folder), b"plant \xff")
+        os.mkdir(folder)
+        with open(os.path.join(folder, b"\xfe.fb"), "w") as file:
+            file.write(WRONG)
+        at = self.start(os.fsdecode(b"plant \xff"))
+        self.assertEqual(at.line, f"the board of plant ? is at {at.url}\n")
+        with at.viewer() as viewer:
+            viewer.settled(1)
+        self.assertEqual(viewer.units["A"]["file"], "plant ?/?.fb")
+        self.assertEqual(at.json("/unit", name="A")["faults"][0]["code"], "WITH_UNKNOWN")
 
     def test_words_that_make_no_sense(self) -> None:
         self.copy_conveyor()
@@ -346,6 +362,22 @@ class SharedTest(BoardTest):
             with at.viewer() as viewer:
                 viewer.until(lambda it: it.ended)
         self.assertEqual(viewer.ended, "the workbench has recorded as many calls as it was started for; start it afresh, or with a higher --history")
+
+    def test_calls_are_few(self) -> None:
+        """Looks at revisions cost one recorded call for 16 units, and are rarer where that is many and where nothing changes."""
+        board_of_many = Board("many", shared=True)
+        watch = SharedWatch(board_of_many, self.engineer, None, [f"U{at}" for at in range(1_600)])
+        watch.start()
+        self.assertEqual((watch.step(), board_of_many.news(0, None).calls), (HEARTBEAT, 0))
+        with board_of_many.viewer():
+            self.assertEqual((watch.step(), board_of_many.news(0, None).calls), (100 / 50, 100))
+            with mock.patch("board_watch.IDLE_AFTER", -1):
+                self.assertEqual((watch.step(), board_of_many.news(0, None).calls), (100 / 10, 200))
+            self.engineer.commit([Put("U7", 0, WRONG)])
+            self.assertLessEqual(watch.step(), 100 / 50)
+            # One more call for the unit that has changed, and one for its faults.
+            self.assertEqual(board_of_many.news(0, None).calls, 302)
+        self.assertEqual(watch.step(), HEARTBEAT)
 
 
 class RefusalsTest(BoardTest):

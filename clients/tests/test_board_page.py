@@ -130,6 +130,7 @@ class UnitsTest(PageTest):
             self.browser.until("document.querySelector('.faults')")
             self.assertEqual(self.words(".faults").split("\n"), ["39–40", "WITH_UNKNOWN", "bytes of a text that is not here"])
             self.assertIn("so its text can't be shown", self.words("#note"))
+            self.assertRegex(self.words("#changes-note"), r"This board has made \d+ recorded calls\.$")
             self.assertRegex(self.words("#changes"), r"^LAMP new, revision 1\n\d\d:\d\d:\d\d, another session$")
 
     def test_a_page_that_is_not_seen_rests(self) -> None:
