@@ -155,13 +155,17 @@ class Board:
                     self._set(replace(self._rows[unit], faults=its))
 
     def answered(self, key: Key, value: Value | None) -> None:
-        """Takes a net or a plan, None while it is pending."""
-        known = self._answers.get(key, Answer())
-        if value is None:
-            return
-        with self._news():
-            serial = known.serial if value == known.value else self._version
-            self._answers[key] = Answer(value, True, serial, self._version)
+        """Takes a net or a plan, None while it is pending: then the last one is shown, as one that is computed again."""
+        with self._changed:
+            known = self._answers.get(key, Answer())
+            current = value is not None
+            if current == known.current and value in (known.value, None):
+                return
+            with self._news():
+                if value is None or value == known.value:
+                    self._answers[key] = replace(known, current=current, version=self._version)
+                else:
+                    self._answers[key] = Answer(value, True, self._version, self._version)
 
     def count_calls(self, calls: int) -> None:
         """Adds recorded calls that the board has made. They alone wake nobody."""
@@ -190,6 +194,11 @@ class Board:
         """The nets and plans that are looked at and not known."""
         with self._changed:
             return [key for key, answer in self._answers.items() if not answer.current]
+
+    def wishes(self) -> list[Key]:
+        """All nets and plans that are looked at."""
+        with self._changed:
+            return list(self._answers)
 
     def has_viewers(self) -> bool:
         with self._changed:

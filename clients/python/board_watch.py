@@ -22,8 +22,9 @@ LOOK_AT_UNITS = 1.0
 CALLS_A_SECOND, IDLE_CALLS_A_SECOND = 50, 10
 """Recorded calls, at most, for looks at revisions: within a minute after a change, and later."""
 IDLE_AFTER = 60.0
-SWEEP = 50
-"""Units, at most, that are asked again in one look, though nothing tells that a change has reached them."""
+SWEEP, ROUND = 50, 5
+"""Units, at most, that are asked again in one look, though nothing tells that a change has reached them: after a change, and always, in
+turn, as a change of a unit that the board does not know can have reached them."""
 SHORT_PAUSE = 0.05
 """Seconds between two questions for what somebody else is computing; each further pause is twice as long."""
 HEARTBEAT = 3.0
@@ -87,9 +88,9 @@ class Asking:
         except Refused:
             return
 
-    def ask_wishes(self) -> bool:
-        """Asks for the nets and plans that browsers look at, and tells whether all are there."""
-        wishes = self.board.open_wishes()
+    def ask_wishes(self, again: bool = False) -> bool:
+        """Asks for the nets and plans that browsers look at, where they are not known or `again`, and tells whether all are there."""
+        wishes = self.board.wishes() if again else self.board.open_wishes()
         values = {key: self._value(key) for key in wishes}
         for key, value in values.items():
             self._answered(key, value)
@@ -185,6 +186,7 @@ class SharedWatch(Asking):
         self._known: dict[str, int] = {}
         self._waiting: set[str] = set()
         self._sweep: list[str] = []
+        self._round: list[str] = []
         self._pause = SHORT_PAUSE
         self._last_change = time.monotonic()
 
@@ -201,8 +203,9 @@ class SharedWatch(Asking):
         if self._folder and self._folder.look():
             self._take_files(self._folder)
         self._look()
+        again = not self._round
         self._ask_faults()
-        all_there = self.ask_wishes() and not self._waiting
+        all_there = self.ask_wishes(again) and not self._waiting
         self._pause = LOOK_AT_UNITS if all_there else min(2 * self._pause, LOOK_AT_UNITS)
         is_idle = time.monotonic() - self._last_change > IDLE_AFTER
         calls = -(-len(self._known) // CHANGES_LIMIT)
@@ -244,8 +247,10 @@ class SharedWatch(Asking):
 
     def _ask_faults(self) -> None:
         """Asks for the faults of the units that a change can have reached, and for some of the others."""
-        asked = [*sorted(self._waiting), *self._sweep[:SWEEP]]
-        del self._sweep[:SWEEP]
+        if not self._round:
+            self._round = sorted(unit for unit, revision in self._known.items() if revision)
+        asked = dict.fromkeys([*sorted(self._waiting), *self._sweep[:SWEEP], *self._round[:ROUND]])
+        del self._sweep[:SWEEP], self._round[:ROUND]
         found = {}
         for unit in asked:
             self.board.count_calls(1)

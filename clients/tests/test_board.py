@@ -294,6 +294,21 @@ class SharedTest(BoardTest):
             unit = at.json("/unit", name="LAMP")
         self.assertEqual((unit["lines"], unit["faults"]), (None, [{"code": "WITH_UNKNOWN", "start": 39, "end": 40}]))
 
+    def test_a_change_of_a_unit_that_the_board_does_not_know(self) -> None:
+        self.check()
+        at = self.shared("--unit", "PLANT")
+        with at.viewer() as viewer:
+            viewer.settled(1)
+            at.json("/net", name="PLANT", aspect="1")
+            viewer.until(lambda it: it.answers.get(("net", "PLANT"), (0, False))[1])
+            serial = viewer.answers["net", "PLANT"][0]
+            text = (CONVEYOR / "STATION.fb").read_text()
+            number = self.engineer.commit([Put("STATION", self.engineer.revision("STATION"), text.replace("LIFT : LIFTER;", "LIFT : LIFTER; SPARE : LIFTER;"))])
+            viewer.until(lambda it: it.answers["net", "PLANT"][1] and it.answers["net", "PLANT"][0] > serial)
+            self.engineer.commit([Remove("STATION", number)])
+            viewer.until(lambda it: it.state("PLANT") == "faulty")
+            self.assertNotIn("STATION", {it["unit"] for it in viewer.changes})
+
     def test_a_text_that_is_another_one(self) -> None:
         self.write("A.fb", "FUNCTION_BLOCK A END_FUNCTION_BLOCK")
         at = self.shared("--files", "A.fb")
