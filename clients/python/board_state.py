@@ -9,7 +9,7 @@ from contextlib import contextmanager
 from dataclasses import dataclass, replace
 from pathlib import Path
 
-from bench61499 import Deploy, Fault, Kind, Net
+from bench61499 import Deploy, Fault, Flat, Kind, Net
 
 CHANGES_KEPT = 10_000
 """Changes that are told to a page which lost its connection for a while."""
@@ -68,13 +68,15 @@ class Change:
 class Answer:
     """What is known of a net or a plan: the last value, if any, and whether it is `current` or computed again.
 
-    `serial` is the version in which the value came, `version` that of the last change of anything.
+    `serial` is the version in which the value came, or one of the `texts` that it is drawn with; `version` is that of the last change of
+    anything.
     """
 
     value: Value | None = None
     current: bool = False
     serial: int = 0
     version: int = 0
+    texts: tuple[str, ...] = ()
 
 
 @dataclass(frozen=True)
@@ -158,14 +160,22 @@ class Board:
         """Takes a net or a plan, None while it is pending: then the last one is shown, as one that is computed again."""
         with self._changed:
             known = self._answers.get(key, Answer())
-            current = value is not None
-            if current == known.current and value in (known.value, None):
+            texts = known.texts if value is None else self._drawn_with(key, value)
+            is_same = (value is None or value == known.value) and texts == known.texts
+            if is_same and known.current == (value is not None):
                 return
             with self._news():
-                if value is None or value == known.value:
-                    self._answers[key] = replace(known, current=current, version=self._version)
+                if is_same:
+                    self._answers[key] = replace(known, current=value is not None, version=self._version)
                 else:
-                    self._answers[key] = Answer(value, True, self._version, self._version)
+                    self._answers[key] = Answer(value, True, self._version, self._version, texts)
+
+    def _drawn_with(self, key: Key, value: Value) -> tuple[str, ...]:
+        """The texts that tell the ports in the picture of a network, as far as they are known."""
+        if not isinstance(value, Flat):
+            return ()
+        rows = (self._rows.get(unit) for unit in dict.fromkeys([key[1], *(block.type for block in value.blocks)]))
+        return tuple(row.source.text for row in rows if row and row.source)
 
     def count_calls(self, calls: int) -> None:
         """Adds recorded calls that the board has made. They alone wake nobody."""

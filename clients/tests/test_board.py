@@ -185,6 +185,18 @@ class AnswersTest(BoardTest):
             ("LIFT", "TOTAL", "data", "", False, "forth"),
         })
 
+    def test_a_port_that_nothing_leads_to(self) -> None:
+        at = self.conveyor()
+        with at.viewer() as viewer:
+            viewer.settled(6)
+            before = self.known(at, viewer, "/net", "STATION")
+            self.edit("LIFTER.fb", "EVENT_INPUT STOP;", "EVENT_INPUT STOP; PAUSE;")
+            viewer.until(lambda it: it.answers["net", "STATION"][0] > before["serial"])
+            after = at.json("/net", name="STATION", aspect="1.5")
+        shape = after["boxes"][1][8]
+        self.assertEqual(after["rows"][shape][:2], [["event", "STOP", "LIFTED"], ["event", "PAUSE", ""]])
+        self.assertNotIn(["event", "PAUSE", ""], before["rows"][before["boxes"][1][8]])
+
     def test_a_system(self) -> None:
         at = self.conveyor()
         with at.viewer() as viewer:
