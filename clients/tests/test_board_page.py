@@ -249,6 +249,37 @@ class EverybodyTest(PageTest):
         self.browser.press("Escape")
         self.browser.until("!document.getElementById('help').open")
 
+    def test_single_keys(self) -> None:
+        self.copy_conveyor()
+        self.edit("FEEDER.fb", "DONE TO IDLE", "DONE TO IDEL")
+        at = self.start(".")
+        self.see(at, 6)
+        focus = "document.activeElement.id || document.activeElement.className"
+        for key, wanted in (("u", "units"), ("c", "changes"), ("v", "panel")):
+            self.browser.press(key)
+            self.assertEqual(self.browser.value(focus), wanted)
+        self.browser.press("f")
+        self.until_words("mark", "IDEL")
+        self.browser.press("e")
+        self.assertEqual(self.browser.value(focus), "link fault")
+        self.assertEqual(self.browser.value("document.querySelector('.l.at').dataset.line"), "19")
+        self.browser.value("(document.activeElement.blur(), $('single').click())")
+        self.browser.press("u", "/")
+        self.assertEqual(self.browser.value("document.activeElement.tagName"), "BODY")
+        self.browser.value("location.reload()")
+        self.browser.until(f"{SETTLED}6")
+        self.assertFalse(self.browser.value("$('single').checked"))
+
+    def test_enter_in_the_picture(self) -> None:
+        self.see_conveyor("#PLANT/network")
+        self.browser.until("network?.scale > 0")
+        self.browser.press("v", "Right", "-")
+        self.assertEqual(self.browser.value("network.chosen.path"), "LINE.FIRST.BELT")
+        self.assertLess(self.browser.value("network.scale"), 1.25)
+        self.browser.press("Enter")
+        self.browser.until("document.querySelector('.text')")
+        self.assertEqual(self.words("#unit"), "FEEDER")
+
     def test_tab_reaches_all_and_is_seen(self) -> None:
         self.see_conveyor("#PLANT/network")
         self.browser.until("network?.scale > 0")
