@@ -8,7 +8,7 @@ from itertools import zip_longest
 from typing import Any
 
 from bench61499 import Deploy, Flat, Plan, Sort
-from layout import Edge, Gaps, Layout, Size, layered
+from layers import Edge, Gaps, Layout, Size, layered
 from network import Box, End, Network, Port, homes
 
 HEAD = 42

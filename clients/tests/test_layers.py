@@ -6,7 +6,7 @@ import unittest
 
 from support import CLIENTS  # noqa: F401
 
-from layout import Gaps, layered
+from layers import Gaps, layered
 
 GAPS = Gaps(across=50, down=10, unbroken=150)
 
