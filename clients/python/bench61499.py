@@ -21,7 +21,7 @@ import socket
 import subprocess
 import time
 from bisect import bisect_right
-from collections.abc import Callable, Iterable, Iterator
+from collections.abc import Callable, Iterable, Iterator, Mapping
 from dataclasses import dataclass
 from os import PathLike, fspath
 from typing import Any, BinaryIO, Literal, TypeVar, cast
@@ -538,6 +538,32 @@ class Session:
         except NoSuchUnit:
             return 0
         raise AssertionError("a removal of a revision that no unit has was not refused")
+
+    def changed(self, known: Mapping[str, int]) -> dict[str, int]:
+        """The present revisions of those of these units that are not as `known` says; 0 is for a unit that is not there.
+
+        As `revision`, for many units at once: one recorded call for each 16 of them, and one more for each that has changed.
+        """
+        found: dict[str, int] = {}
+        units = list(known)
+        for at in range(0, len(units), CHANGES_LIMIT):
+            self._find_changed({unit: known[unit] for unit in units[at : at + CHANGES_LIMIT]}, found)
+        return found
+
+    def _find_changed(self, known: dict[str, int], found: dict[str, int]) -> None:
+        """Of at most 16 units. The last change of the commit is refused whatever is there, so that none is ever made."""
+        *front, last = known
+        while True:
+            known.update((unit, found[unit]) for unit in front if unit in found)
+            changes = [Remove(unit, known[unit]) if known[unit] else Put(unit, 0, "") for unit in front]
+            try:
+                self.commit([*changes, Remove(last, _NO_REVISION)])
+            except (StaleBase, NoSuchUnit) as refusal:
+                unit, current = refusal.unit, refusal.current if isinstance(refusal, StaleBase) else 0
+                if current != known[unit]:
+                    found[unit] = current
+                if unit == last:
+                    return
 
     def ask(self, kind: Kind, unit: str) -> Any:
         """What `faults`, `net` or `deploy` give. Raises `NoSuchKey`."""
