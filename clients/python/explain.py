@@ -6,7 +6,7 @@ from collections.abc import Iterable, Iterator
 from difflib import get_close_matches
 
 from bench61499 import NAME_LIMIT, Fault
-from tokens import RESERVED, Token, declarations, tokens
+from tokens import RESERVED, Token, declarations, spelled, tokens
 
 _SECTIONS = frozenset(
     """EVENT_INPUT EVENT_OUTPUT VAR VAR_INPUT VAR_OUTPUT PLUGS SOCKETS FBS SUBAPPS EVENT_CONNECTIONS DATA_CONNECTIONS ADAPTER_CONNECTIONS
@@ -108,13 +108,8 @@ class Explainer:
         return _asked(self._names(*sections).near(words))
 
     def _spelled(self, begin: int, end: int) -> str:
-        """Tokens as they are written, without comments, on one line, and without blanks round a point."""
-        spelled = ""
-        for index in range(begin, end):
-            token, before = self._tokens[index], self._tokens[index - 1]
-            apart = index > begin and before.end < token.start and "." not in (token.words, before.words)
-            spelled += " " * apart + token.words
-        return _one_line(spelled)
+        """Tokens in one line of their own."""
+        return _one_line(spelled(self._tokens[begin:end]))
 
     def _is_guard(self, at: int) -> bool:
         """Whether the guard of a transition begins at `at`, behind `[`, `&` or `AND`, and not a subscript in one."""
