@@ -50,6 +50,7 @@ ENDS = {
 }
 """The word that ends what a word begins."""
 _BOUNDARIES = frozenset([*ENDS, *ENDS.values()])
+_WITH_WORDS = frozenset([TYPE, ALGORITHM, APPLICATION, DEVICE, RESOURCE])
 _LEVELS = {**dict.fromkeys(KINDS, 0), "APPLICATION": 1, "DEVICE": 1, "RESOURCE": 2}
 _STATEMENT_ENDS = ("END_IF", "END_CASE", "END_FOR", "END_WHILE", "END_REPEAT")
 _STATEMENTS = ("IF", "CASE", "FOR", "WHILE", "REPEAT", "EXIT", "RETURN", "ELSIF", "ELSE", "UNTIL", *_STATEMENT_ENDS)
@@ -98,18 +99,21 @@ class Use(NamedTuple):
 
 @dataclass(slots=True)
 class Declaration:
-    """A declared name. `section` is the word that begins its section; `type` and `value` are as written; `last` is the end of the whole."""
+    """A declared name at `start` to `end`, in a declaration from `begin` to `last`.
+
+    `section` is the word that begins its section; `type`, `value` and `companions`, the names behind WITH, are as written.
+    """
 
     key: Key
     section: str
     words: str
     start: int
     end: int
+    begin: int
+    last: int
     type: str = ""
     value: str = ""
     companions: tuple[str, ...] = ()
-    """The names behind WITH."""
-    last: int = 0
 
 
 @dataclass
@@ -264,8 +268,13 @@ class Reader:
         token = self._name(None)
         if not token:
             return None
-        scope = self._scope() if space in (INSTANCE, RESOURCE) else ""
-        made = Declaration(Key(self._unit.name, space, scope, token.upper), self._section, token.words, token.start, token.end, last=token.end)
+        key = Key(self._unit.name, space, self._scope() if space in (INSTANCE, RESOURCE) else "", token.upper)
+        return self._add(key, token)
+
+    def _add(self, key: Key, token: Token) -> Declaration:
+        """A declaration that begins with its name, or with the word before it where each has a word of its own."""
+        begin = self._tokens[self._at - 2] if key.space in _WITH_WORDS else token
+        made = Declaration(key, self._section, token.words, token.start, token.end, begin.start, token.end)
         self._unit.declared.append(made)
         return made
 
@@ -304,9 +313,7 @@ class Reader:
         self._is_inside = self._is_over()
         if token := self._name(None):
             self._unit.name = token.upper
-            key = Key(token.upper, TYPE, "", token.upper)
-            self._unit.declared.append(Declaration(key, self._section, token.words, token.start, token.end))
-            self._open.append(self._unit.declared[0])
+            self._open.append(self._add(Key(token.upper, TYPE, "", token.upper), token))
 
     def _events(self) -> None:
         self._items(self._event)

@@ -19,7 +19,7 @@ def position(places: Places, place: int) -> Position:
     """Where a place, in bytes of UTF-8, is for an editor."""
     line, column = places.line_column(place)
     before = places.line(line)[: column - 1]
-    return {"line": line - 1, "character": len(before) if before.isascii() else _units(before)}
+    return {"line": line - 1, "character": len(before) if before.isascii() else units(before)}
 
 
 def range_of(places: Places, start: int, end: int) -> Range:
@@ -60,12 +60,13 @@ def _unit_at(text: str, starts: list[int], at: Position) -> int:
     if number < 0 or at["character"] < 0:
         raise ValueError(f"no position {at}")
     if number >= len(starts):
-        return _units(text)
+        return units(text)
     line = _LINE_END.split(text[starts[number] :], 1)[0]
-    return _units(text[: starts[number]]) + min(at["character"], _units(line))
+    return units(text[: starts[number]]) + min(at["character"], units(line))
 
 
-def _units(text: str) -> int:
+def units(text: str) -> int:
+    """UTF-16 code units of a text."""
     return len(_encoded(text)) // _UNIT
 
 
