@@ -38,7 +38,7 @@ class Candidate:
     detail: str = ""
 
 
-_TYPE_KINDS = {"PLUGS": "ADAPTER", "SOCKETS": "ADAPTER", "FBS": "FUNCTION_BLOCK", "SUBAPPS": "SUBAPPLICATION"}
+TYPE_KINDS = {"PLUGS": "ADAPTER", "SOCKETS": "ADAPTER", "FBS": "FUNCTION_BLOCK", "SUBAPPS": "SUBAPPLICATION"}
 _TYPE_ITEMS = {"ADAPTER": ItemKind.INTERFACE, "FUNCTION_BLOCK": ItemKind.CLASS, "SUBAPPLICATION": ItemKind.MODULE}
 _DATA_TYPES = (
     *("BOOL", "SINT", "INT", "DINT", "LINT", "USINT", "UINT", "UDINT", "ULINT", "BYTE", "WORD", "DWORD", "LWORD", "REAL", "LREAL"),
@@ -48,9 +48,9 @@ _INPUTS = {EVENT: ("EVENT_INPUT",), VARIABLE: ("VAR_INPUT",), INSTANCE: ("SOCKET
 _OUTPUTS = {EVENT: ("EVENT_OUTPUT",), VARIABLE: ("VAR_OUTPUT",), INSTANCE: ("PLUGS",)}
 _OWN = {SOURCE: _INPUTS, DESTINATION: _OUTPUTS}
 """The own ports that a source and a destination may be."""
-_ACROSS = {SOURCE: _OUTPUTS, DESTINATION: _INPUTS}
+ACROSS = {SOURCE: _OUTPUTS, DESTINATION: _INPUTS}
 """The same of the ports of an instance, which are seen from outside."""
-_PORTS = {"PLUGS": _OWN, "SOCKETS": _ACROSS, "FBS": _ACROSS, "SUBAPPS": _ACROSS}
+_PORTS = {"PLUGS": _OWN, "SOCKETS": ACROSS, "FBS": ACROSS, "SUBAPPS": ACROSS}
 """By the section of an instance: the sections of its type that have what a source and a destination may be."""
 _ITEMS = {
     EVENT: ItemKind.EVENT,
@@ -94,20 +94,20 @@ def _front(text: Text, place: int) -> str | None:
 def named(plant: Plant, unit: Unit, wanted: Wanted) -> Iterator[Candidate]:
     """The names that are wanted at a place of a unit."""
     if wanted.space == TYPE:
-        kind = _TYPE_KINDS[wanted.section]
+        kind = TYPE_KINDS[wanted.section]
         yield from (Candidate(name, _TYPE_ITEMS[kind]) for name in sorted(plant.kinds(kind)) if name != unit.name)
     elif wanted.space == DATA_TYPE:
         yield from (Candidate(name, ItemKind.STRUCT) for name in _DATA_TYPES)
         yield Candidate("ARRAY", ItemKind.KEYWORD)
     else:
-        yield from (_candidate(it) for it in _declared(plant, unit, wanted))
+        yield from (_candidate(it) for it in declared(plant, unit, wanted))
 
 
 def _candidate(it: Declaration) -> Candidate:
     return Candidate(it.words, _ITEMS[it.key.space], f"{it.section} : {it.type}" if it.type else it.section)
 
 
-def _declared(plant: Plant, unit: Unit, wanted: Wanted) -> Iterable[Declaration]:
+def declared(plant: Plant, unit: Unit, wanted: Wanted) -> Iterable[Declaration]:
     """The declarations whose names are wanted."""
     if wanted.section == PARAMETERS:
         its = plant.unit(wanted.owner)
@@ -119,7 +119,8 @@ def _declared(plant: Plant, unit: Unit, wanted: Wanted) -> Iterable[Declaration]
     if wanted.space in _SECTIONS:
         return unit.of(_SECTIONS[wanted.space])
     if wanted.path:
-        return _ports(plant, unit, wanted)
+        its = plant.unit(_type_of(unit, wanted))
+        return its.of(*port_sections(unit, wanted)) if its else ()
     return [*_own(unit, wanted), *_leading(unit, wanted)]
 
 
@@ -138,26 +139,26 @@ def _inside(plant: Plant, instance: Declaration | None, path: tuple[str, ...]) -
     return _inside(plant, its.instance("", path[0]), path[1:]) if path else its.of("FBS", "SUBAPPS")
 
 
-def _ports(plant: Plant, unit: Unit, wanted: Wanted) -> Iterable[Declaration]:
-    """The ports of an instance."""
+def _type_of(unit: Unit, wanted: Wanted) -> str:
     instance = unit.instance(wanted.scope, wanted.path[0])
-    its = plant.unit(instance.type.upper()) if instance else None
-    if not instance or not its:
+    return instance.type.upper() if instance else ""
+
+
+def port_sections(unit: Unit, wanted: Wanted) -> tuple[str, ...]:
+    """The sections that may have a wanted port: of the type of the instance before it, or of the unit itself."""
+    if not wanted.path:
+        return () if wanted.scope else _OWN[wanted.side][wanted.space]
+    instance = unit.instance(wanted.scope, wanted.path[0])
+    if not instance:
         return ()
-    sides = _PORTS[instance.section]
-    sections = sides[wanted.side][wanted.space] if wanted.side else ("VAR_INPUT", "VAR_OUTPUT")
-    return its.of(*sections)
+    return _PORTS[instance.section][wanted.side][wanted.space] if wanted.side else ("VAR_INPUT", "VAR_OUTPUT")
 
 
 def _own(unit: Unit, wanted: Wanted) -> Iterable[Declaration]:
     """The events, variables, plugs and sockets of the unit itself."""
     if wanted.section in ("EVENT_INPUT", "EVENT_OUTPUT"):
         return unit.of(wanted.section.replace("EVENT", "VAR"))
-    if wanted.scope:
-        return ()
-    if wanted.side:
-        return unit.of(*_OWN[wanted.side][wanted.space])
-    return unit.of("VAR_INPUT", "VAR_OUTPUT", "VAR")
+    return unit.of(*(port_sections(unit, wanted) if wanted.side else ("VAR_INPUT", "VAR_OUTPUT", "VAR")))
 
 
 def _leading(unit: Unit, wanted: Wanted) -> Iterable[Declaration]:

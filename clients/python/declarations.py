@@ -399,7 +399,8 @@ class Reader:
         is_path = follower is not None and follower.words == "."
         first = self._name(Wanted(INSTANCE if is_path else space, self._section, self._scope(), side=side))
         if first and self._skip("."):
-            self._name(Wanted(space, self._section, self._scope(), (first.upper,), side=side))
+            port = self._name(Wanted(space, self._section, self._scope(), (first.upper,), side=side))
+            return first if port or not self._is_over() else None
         return first
 
     # Charts and algorithms

@@ -10,7 +10,7 @@ from plant import Plant, Text
 from tokens import Token, pieces
 
 _INTERFACE = (*EVENT_SECTIONS, *DATA_SECTIONS, *ADAPTER_SECTIONS)
-_WHAT = {
+WHAT = {
     **dict(zip(KINDS, ("function block", "adapter", "subapplication", "system"))),
     "EVENT_INPUT": "event input",
     "EVENT_OUTPUT": "event output",
@@ -47,8 +47,7 @@ def described(plant: Plant, key: Key) -> str | None:
 
 def _line(it: Declaration, unit: Unit) -> str:
     """A declaration in one line."""
-    where = "" if it.key.space == TYPE else f" of {it.key.scope or unit.name}"
-    return f"{_WHAT[it.section]} {_spelled(it)}{where}"
+    return f"{WHAT[it.section]} of {it.key.scope or unit.name}: {_spelled(it)}"
 
 
 def _spelled(it: Declaration) -> str:

@@ -73,9 +73,9 @@ def location(text: Text, start: int, end: int) -> dict[str, Any]:
     return {"uri": text.uri, "range": text.range(start, end)}
 
 
-def definitions(plant: Plant, found: Found) -> list[dict[str, Any]]:
+def definitions(plant: Plant, key: Key) -> list[dict[str, Any]]:
     """Where a name is declared."""
-    return [location(text, it.start, it.end) for text, it in plant.declarations(found.key)]
+    return [location(text, it.start, it.end) for text, it in plant.declarations(key)]
 
 
 def references(plant: Plant, key: Key, with_declaration: bool) -> list[dict[str, Any]]:

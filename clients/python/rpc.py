@@ -11,6 +11,10 @@ INVALID_REQUEST = -32600
 METHOD_NOT_FOUND = -32601
 INVALID_PARAMS = -32602
 NOT_INITIALIZED = -32002
+REQUEST_FAILED = -32803
+
+ERROR, WARNING = 1, 2
+"""How bad it is what is told or shown."""
 
 
 class BadMessage(Exception):
@@ -45,3 +49,13 @@ def write_message(stream: BinaryIO, message: Message) -> None:
     content = json.dumps({"jsonrpc": "2.0", **message}, ensure_ascii=False, separators=(",", ":")).encode(errors="replace")
     stream.write(b"Content-Length: %d\r\n\r\n%b" % (len(content), content))
     stream.flush()
+
+
+def tell(severity: int, words: str) -> Message:
+    """The message that an editor shows to its user."""
+    return {"method": "window/showMessage", "params": {"type": severity, "message": f"bench61499: {words}"}}
+
+
+def failure(code: int, message: str) -> Message:
+    """The part of an answer that tells why there is none."""
+    return {"error": {"code": code, "message": message}}

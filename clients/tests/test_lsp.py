@@ -104,8 +104,8 @@ class LifeTest(LspTest):
         editor = self.editor()
         self.assertEqual(editor.request("shutdown")["error"]["code"], -32002)
         capabilities = editor.start()["result"]["capabilities"]
-        self.assertEqual(capabilities["textDocumentSync"]["change"], 1)
-        self.assertEqual(editor.request("textDocument/hover")["error"]["code"], -32601)
+        self.assertEqual(capabilities["textDocumentSync"]["change"], 2)
+        self.assertEqual(editor.request("textDocument/willSaveWaitUntil")["error"]["code"], -32601)
         editor.notify("$/setTrace", value="off")
         self.assertEqual(editor.request("initialize")["error"]["code"], -32600)
         self.assertEqual(editor.request("shutdown")["result"], None)
