@@ -61,13 +61,19 @@ _BEFORE_STATEMENTS = frozenset([";", ":", "ST", "THEN", "ELSE", "DO", "REPEAT", 
 class Key(NamedTuple):
     """What a name stands for: the unit that declares it, its name space, the application or device it is in, and the name; in upper case.
 
-    The unit is empty where nothing tells whose name it is: that of a port whose instance is not declared, or of a data type.
+    The unit is empty where nothing tells whose name it is: that of a port whose instance is not declared, or of a data type. A second
+    application or device of a name is a scope of its own.
     """
 
     unit: str
     space: str
     scope: str
     name: str
+
+    @property
+    def owner(self) -> str:
+        """The application, the device or the unit that has the name."""
+        return self.scope.partition("#")[0] or self.unit
 
 
 class Wanted(NamedTuple):
@@ -97,6 +103,15 @@ class Use(NamedTuple):
     walk: tuple[str, ...] = ()
 
 
+class Connection(NamedTuple):
+    """A connection of a network: its space, and the names of its ends, one or two each; no destination where that is not written yet."""
+
+    space: str
+    scope: str
+    source: tuple[Use, ...]
+    destination: tuple[Use, ...]
+
+
 @dataclass(slots=True)
 class Declaration:
     """A declared name at `start` to `end`, in a declaration from `begin` to `last`.
@@ -124,6 +139,7 @@ class Unit:
     name: str = NAMELESS
     declared: list[Declaration] = field(default_factory=list)
     uses: list[Use] = field(default_factory=list)
+    connections: list[Connection] = field(default_factory=list)
     wanted: list[Wanted] = field(default_factory=list)
     words: list[str] = field(default_factory=list)
 
@@ -164,7 +180,9 @@ class Reader:
         self._unit = Unit()
         self._section = ""
         self._open: list[Declaration] = []
+        self._scope = ""
         self._used: list[tuple[Wanted, Token]] = []
+        self._connected: list[tuple[str, str, int, int, int]] = []
         self._is_inside = False
 
     def read(self) -> Unit:
@@ -180,7 +198,9 @@ class Reader:
         if not self._is_inside:
             self._expect_parts()
         self._leave("")
-        unit.uses = [self._use(wanted, token) for wanted, token in self._used]
+        uses = unit.uses = [self._use(wanted, token) for wanted, token in self._used]
+        for space, scope, begin, middle, end in self._connected:
+            unit.connections.append(Connection(space, scope, tuple(uses[begin:middle]), tuple(uses[middle:end])))
         return unit
 
     # Tokens
@@ -268,7 +288,7 @@ class Reader:
         token = self._name(None)
         if not token:
             return None
-        key = Key(self._unit.name, space, self._scope() if space in (INSTANCE, RESOURCE) else "", token.upper)
+        key = Key(self._unit.name, space, self._scope if space in (INSTANCE, RESOURCE) else "", token.upper)
         return self._add(key, token)
 
     def _add(self, key: Key, token: Token) -> Declaration:
@@ -284,20 +304,22 @@ class Reader:
         for it in those:
             it.last = self._tokens[end - 1].end
 
-    def _scope(self) -> str:
-        """The application or device that this is in."""
-        return next((it.key.name for it in self._open if _LEVELS[it.section] == 1), "")
-
     def _enter(self, made: Declaration | None) -> None:
-        if made:
-            self._leave(self._section)
-            self._open.append(made)
+        if not made:
+            return
+        self._leave(self._section)
+        self._open.append(made)
+        if _LEVELS[self._section] == 1:
+            number = sum(it.key == made.key for it in self._unit.declared)
+            self._scope = made.key.name if number == 1 else f"{made.key.name}#{number}"
 
     def _leave(self, word: str) -> None:
         """Leaves what a word ends, or what can't go on where the word begins the like."""
         level = _LEVELS.get(word.removeprefix("END_"), 0 if not word else len(_LEVELS))
         while self._open and _LEVELS[self._open[-1].section] >= level:
             self._open.pop().last = self._tokens[self._at - 1].end
+        if level <= 1:
+            self._scope = ""
 
     def _expect_parts(self) -> None:
         if self._tokens and not self._open:
@@ -390,16 +412,23 @@ class Reader:
         self._skip(")")
 
     def _connections(self) -> None:
-        space = CONNECTION_SECTIONS[self._section]
-        self._items(lambda: self._end(space, SOURCE) and self._skip("TO") and self._end(space, DESTINATION))
+        self._items(self._connection)
+
+    def _connection(self) -> None:
+        space, begin = CONNECTION_SECTIONS[self._section], len(self._used)
+        if self._end(space, SOURCE):
+            middle = len(self._used)
+            if self._skip("TO"):
+                self._end(space, DESTINATION)
+            self._connected.append((space, self._scope, begin, middle, len(self._used)))
 
     def _end(self, space: str, side: str) -> Token | None:
         """A name, or two with a point between them: an end of a connection, an event of a chart, a variable."""
         follower = self._tokens[self._at + 1] if self._at + 1 < len(self._tokens) else None
         is_path = follower is not None and follower.words == "."
-        first = self._name(Wanted(INSTANCE if is_path else space, self._section, self._scope(), side=side))
+        first = self._name(Wanted(INSTANCE if is_path else space, self._section, self._scope, side=side))
         if first and self._skip("."):
-            port = self._name(Wanted(space, self._section, self._scope(), (first.upper,), side=side))
+            port = self._name(Wanted(space, self._section, self._scope, (first.upper,), side=side))
             return first if port or not self._is_over() else None
         return first
 
@@ -441,8 +470,9 @@ class Reader:
         while not self._is_over() and not self._is_boundary():
             if stop and self._is(stop):
                 return
-            if not self._end(VARIABLE, ""):
-                self._at += 1
+            begin = self._at
+            self._end(VARIABLE, "")
+            self._at += self._at == begin
         if self._is_over():
             self._expect_in_expression(not stop)
 

@@ -5,7 +5,7 @@ from collections.abc import Iterator
 from dataclasses import dataclass
 
 from completion import ACROSS, TYPE_KINDS, declared, port_sections
-from declarations import CONNECTION_SECTIONS, DESTINATION, ENDS, EVENT, INSTANCE, TYPE, Key, Use, Wanted, read
+from declarations import CONNECTION_SECTIONS, ENDS, EVENT, INSTANCE, TYPE, Key, Use, Wanted, read
 from explain import Names
 from hover import WHAT
 from nesting import Nesting
@@ -116,14 +116,12 @@ def _port(plant: Plant, wrong: Wrong) -> str | None:
 
 def _other_end(wrong: Wrong) -> Use | None:
     """The name of the port at the other end of the connection that a wrong one is an end of."""
-    uses, at = wrong.text.unit.uses, wrong.at
-    if wrong.wanted.section not in CONNECTION_SECTIONS:
-        return None
-    if wrong.wanted.side == DESTINATION:
-        before = at - 1 - len(wrong.wanted.path)
-        return uses[before] if before >= 0 else None
-    behind = at + 1 + (at + 1 < len(uses) and _point_follows(wrong.text, uses[at + 1]))
-    return uses[behind] if behind < len(uses) else None
+    for it in wrong.text.unit.connections:
+        if wrong.use in it.source:
+            return it.destination[-1] if it.destination else None
+        if wrong.use in it.destination:
+            return it.source[-1]
+    return None
 
 
 def _missing_instance(plant: Plant, wrong: Wrong) -> Iterator[Fix]:

@@ -38,16 +38,16 @@ def described(plant: Plant, key: Key) -> str | None:
     comments = Comments(text)
     if key.space == TYPE:
         return "\n".join(_interface(text.unit, it, comments))
-    lines = [_line(it, text.unit), *comments.of(it)]
+    lines = [_line(it), *comments.of(it)]
     of = next(iter(plant.declaring(it.type.upper())), None) if key.space == INSTANCE else None
     if of:
         lines += ["", *_interface(of.unit, of.unit.declared[0], Comments(of))]
     return "\n".join(lines)
 
 
-def _line(it: Declaration, unit: Unit) -> str:
+def _line(it: Declaration) -> str:
     """A declaration in one line."""
-    return f"{WHAT[it.section]} of {it.key.scope or unit.name}: {_spelled(it)}"
+    return f"{WHAT[it.section]} of {it.key.owner}: {_spelled(it)}"
 
 
 def _spelled(it: Declaration) -> str:

@@ -5,7 +5,7 @@ from dataclasses import dataclass
 from enum import IntEnum
 from typing import Any
 
-from declarations import APPLICATION, DEVICE, RESOURCE, TYPE, Declaration, Key, Use
+from declarations import APPLICATION, DEVICE, TYPE, Declaration, Key, Use
 from plant import Plant, Text
 from positions import Range
 
@@ -94,13 +94,14 @@ def highlights(plant: Plant, text: Text, key: Key) -> list[dict[str, Range]]:
 def outline(text: Text) -> list[dict[str, Any]]:
     """The unit with what it declares; instances stand in their application, resources in their device."""
     tops: list[dict[str, Any]] = []
-    owners: dict[tuple[str, str], dict[str, Any]] = {}
+    open_ones: list[tuple[Declaration, list[dict[str, Any]]]] = []
     for it in text.unit.declared:
-        shown, space = _symbol(text, it), it.key.space
-        owner = owners.get((DEVICE if space == RESOURCE else APPLICATION, it.key.scope)) or owners.get((TYPE, text.unit.name))
-        (owner["children"] if owner else tops).append(shown)
-        if space in (TYPE, APPLICATION, DEVICE):
-            owners[space, it.key.name] = shown
+        while open_ones and open_ones[-1][0].last <= it.begin:
+            open_ones.pop()
+        shown = _symbol(text, it)
+        (open_ones[-1][1] if open_ones else tops).append(shown)
+        if it.key.space in (TYPE, APPLICATION, DEVICE):
+            open_ones.append((it, shown["children"]))
     return tops
 
 

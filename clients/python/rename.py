@@ -61,7 +61,7 @@ def _check_free(plant: Plant, key: Key, name: str) -> None:
     upper = name.upper()
     new = key._replace(name=upper, unit=upper if key.space == TYPE else key.unit)
     if taken := plant.declaration(new):
-        where = "there is a unit" if key.space == TYPE else f"{key.scope or key.unit} has the {key.space}"
+        where = "there is a unit" if key.space == TYPE else f"{key.owner} has the {key.space}"
         raise CantRename(f"{where} {taken.words} already")
     for text, _ in plant.uses(new):
         raise CantRename(f"{text.unit.name} uses the {key.space} {upper} already, though nothing declares it")
