@@ -2,6 +2,8 @@
 from __future__ import annotations
 
 from collections.abc import Callable
+from concurrent.futures import Future, ThreadPoolExecutor
+from dataclasses import dataclass, field
 from pathlib import Path
 from typing import Any
 
@@ -15,7 +17,8 @@ from shared import SharedTexts
 from tokens import declaration, declared_name
 from units import Misuse, find_files, read_text, stand_in_name
 
-JOBS_AT_ONCE = 50
+MOST_JOBS = 16
+"""Jobs that are asked for at once. It begins with one, as faults come first, and networks are not wanted here."""
 TEXTS_AT_ONCE = 50
 SHORT_PAUSE = 0.05
 """Seconds between two questions for faults that somebody else is computing."""
@@ -23,15 +26,24 @@ LOOK_AGAIN = 5.0
 """Seconds between two looks at what others have changed in a shared workbench."""
 
 
+@dataclass
+class Changes:
+    """Texts by their units, and units that are to go."""
+
+    put: dict[str, str] = field(default_factory=dict)
+    removed: list[str] = field(default_factory=list)
+
+
 class Checking:
     """The documents of an editor, the files of its folders, and the workbench that finds their faults.
 
-    The editor changes documents at once. When no message is waiting, `step` brings the workbench up to date, has some jobs done, and
-    shows what is settled. `plant` has all texts as they are now.
+    The editor changes documents at once. When no message is waiting, `step` begins to bring the workbench up to date and to have jobs done
+    in a thread of their own, so that no request waits for it; then `wake` is called, and the next `step` shows what is settled. `plant` has
+    all texts as they are now.
     """
 
-    def __init__(self, open_workbench: Callable[[], Session], shared: bool, send: Callable[[Message], None]):
-        self._open_workbench, self._shared, self._send = open_workbench, shared, send
+    def __init__(self, open_workbench: Callable[[], Session], shared: bool, send: Callable[[Message], None], wake: Callable[[], None]):
+        self._open_workbench, self._shared, self._send, self._wake = open_workbench, shared, send, wake
         self.folders: list[Path] = []
         self.documents: dict[Path, Document] = {}
         self.plant = Plant()
@@ -42,10 +54,17 @@ class Checking:
         self._waiting: set[Path] = set()
         self._pending = False
         self._pause = 0.0
+        self._jobs = 1
+        self._thread = ThreadPoolExecutor(1)
+        self._task: Future[int] | None = None
 
     def patience(self) -> float | None:
         """How long to wait for a message before the next step; None where there is nothing to do without one."""
-        if self._changed or not self.plant.is_read():
+        if not self.plant.is_read():
+            return 0
+        if self._task:
+            return None
+        if self._changed:
             return 0
         if self._waiting:
             return self._pause
@@ -77,10 +96,10 @@ class Checking:
         self._take(path)
 
     def close(self) -> None:
-        """Ends the workbench."""
+        """Ends the workbench, with what it is doing."""
         if self._texts:
             self._texts.session.close()
-        self._texts = None
+        self._texts = self._task = None
 
     # Files
 
@@ -137,42 +156,45 @@ class Checking:
 
     def step(self) -> None:
         """What can be done without a message."""
-        if self._texts:
-            if not self._changed and not self._waiting and self.plant.is_read():
-                self._waiting |= self.documents.keys()
+        if not self._texts:
+            self._changed.clear()
+        elif not self._task or self._task.done():
             try:
                 self._settle_some(self._texts)
             except WorkbenchError as error:
                 self._lose(error)
-        else:
-            self._changed.clear()
         self.plant.refresh(TEXTS_AT_ONCE)
 
     def _settle_some(self, texts: SharedTexts) -> None:
-        if self._changed:
-            self._pending = True
-        while self._changed:
-            self._bring(texts)
-            self._waiting |= self.documents.keys()
-        if self._pending:
-            done = texts.session.work(JOBS_AT_ONCE)
-            self._pause = 0 if done == JOBS_AT_ONCE else SHORT_PAUSE
+        """Shows what the last task has settled, and begins the next one: at once, or after a pause where others have the jobs in hand."""
+        has_paused = self._task is None
+        if self._task:
+            task, self._task = self._task, None
+            self._pause = 0 if task.result() == self._jobs else SHORT_PAUSE
+            self._jobs = min(2 * self._jobs, MOST_JOBS)
+        if not self._changed:
+            self._waiting |= self.documents.keys() if has_paused else set()
+            self._show_settled(texts)
+        if self._changed or self._pending and (has_paused or not self._pause):
+            self._begin(texts)
+
+    def _show_settled(self, texts: SharedTexts) -> None:
         self._pending = False
         for path in sorted(self._waiting):
             self._show(texts, path, self.documents[path])
 
-    def _bring(self, texts: SharedTexts) -> None:
-        """Brings the texts that have changed into the workbench: those of documents in one commit, and those of files in others."""
+    def _begin(self, texts: SharedTexts) -> None:
+        """Has the texts that have changed brought into the workbench: those of documents in one commit, and those of files in others."""
+        if self._changed:
+            self._jobs, self._waiting = 1, set(self.documents)
         taken, self._changed = sorted(self._changed.items()), {}
-        for of_documents, bring in ((True, texts.replace), (False, texts.offer)):
-            put: dict[str, str] = {}
-            removed: list[str] = []
-            for path, source in taken:
-                if (path in self.documents) == of_documents:
-                    self._place(path, source, put, removed)
-            bring(put, removed)
+        of_documents, of_files = Changes(), Changes()
+        for path, source in taken:
+            self._place(path, source, of_documents if path in self.documents else of_files)
+        self._task = self._thread.submit(bring, texts, of_documents, of_files, self._jobs)
+        self._task.add_done_callback(lambda _: self._wake())
 
-    def _place(self, path: Path, source: Source | None, put: dict[str, str], removed: list[str]) -> None:
+    def _place(self, path: Path, source: Source | None, changes: Changes) -> None:
         """Finds which unit a text is, and adds what that changes."""
         document, known = self.documents.get(path), self._sources.pop(path, None)
         former = known.unit if known else None
@@ -182,9 +204,9 @@ class Checking:
             self._sources[path] = source
         if source and source.unit and source.text is not None:
             self._owners[source.unit] = path
-            put[source.unit] = source.text
+            changes.put[source.unit] = source.text
         if former and (not source or source.unit != former):
-            removed.append(former)
+            changes.removed.append(former)
             for it in [it for it in self._sources.values() if it.text is not None and it.unit is None]:
                 self._changed[it.file] = it
         if document:
@@ -251,6 +273,13 @@ class Checking:
 
     def _tell(self, severity: int, words: str) -> None:
         self._send(tell(severity, words))
+
+
+def bring(texts: SharedTexts, of_documents: Changes, of_files: Changes, jobs: int) -> int:
+    """Makes the changes in the workbench and has so many jobs done; gives how many there were."""
+    texts.replace(of_documents.put, of_documents.removed)
+    texts.offer(of_files.put, of_files.removed)
+    return texts.session.work(jobs)
 
 
 def diagnostic(places: Places, start: int, end: int, message: str, code: str | None = None) -> Diagnostic:

@@ -19,11 +19,14 @@ _NO_SENSE = (KeyError, TypeError, IndexError, AttributeError, ValueError)
 
 
 class Server:
-    """Takes the messages of an editor. Documents change at once; requests are answered by the texts as they are then."""
+    """Takes the messages of an editor. Documents change at once; requests are answered by the texts as they are then.
 
-    def __init__(self, open_workbench: Callable[[], Session], shared: bool, send: Callable[[Message], None]):
+    `wake` is called, in another thread, when there is something for the next `step`.
+    """
+
+    def __init__(self, open_workbench: Callable[[], Session], shared: bool, send: Callable[[Message], None], wake: Callable[[], None]):
         self._send = send
-        self._checking = Checking(open_workbench, shared, send)
+        self._checking = Checking(open_workbench, shared, send, wake)
         self._answers = Answers(self._checking.plant, self._shown)
         self._initialized = self._shut_down = False
         self.status: int | None = None
