@@ -109,13 +109,15 @@ class Plant:
     def declaration(self, key: Key) -> Declaration | None:
         return next((found for _, found in self.declarations(key)), None)
 
+    def texts_of(self, unit: str) -> list[Text]:
+        """The texts that may use a name of a unit: those that mention it, and those with paths deep into others."""
+        return [self._texts[file] for file in sorted(self._using.get(unit, set()) | self._walking, key=str)]
+
     def uses(self, key: Key) -> Iterator[tuple[Text, Use]]:
         """All uses of what a name stands for, by file."""
-        files = self._using.get(key.unit, set()) | (self._walking if key.space == INSTANCE else set())
-        for file in sorted(files, key=str):
-            text = self._texts[file]
+        for text in self.texts_of(key.unit):
             found = list(text.unit.by_key.get(key, ()))
-            if file in self._walking:
+            if key.space == INSTANCE and text.file in self._walking:
                 found += [use for use in text.unit.uses if use.walk and self.key(use) == key]
             yield from ((text, use) for use in found)
 

@@ -1,10 +1,9 @@
 """Another name for what a name stands for, in all units at once."""
 from __future__ import annotations
 
-from dataclasses import dataclass
 from typing import Any
 
-from bench61499 import CHANGES_LIMIT, NAME_LIMIT
+from bench61499 import CHANGES_LIMIT, NAME_LIMIT, TEXT_LIMIT
 from declarations import TYPE, Key
 from navigation import Found, references
 from plant import Plant
@@ -40,9 +39,19 @@ def renamed(plant: Plant, found: Found | None, name: str) -> dict[str, Any]:
     changes: dict[str, list[dict[str, Any]]] = {}
     for it in references(plant, key, with_declaration=True):
         changes.setdefault(it["uri"], []).append({"range": it["range"], "newText": name})
-    if len(changes) > CHANGES_LIMIT:
-        raise CantRename(f"{key.name} stands in {len(changes):,} units, and one commit changes at most {CHANGES_LIMIT}")
+    _check_size(plant, key, name, changes)
     return {"changes": changes}
+
+
+def _check_size(plant: Plant, key: Key, name: str, changes: dict[str, list[dict[str, Any]]]) -> None:
+    """The workbench has to take it in one commit. A type is removed and put, which is one change more."""
+    needed = len(changes) + (key.space == TYPE)
+    if needed > CHANGES_LIMIT:
+        raise CantRename(f"{key.name} stands in {len(changes):,} units. This takes {needed:,} changes, and a commit has at most {CHANGES_LIMIT}")
+    for text in plant.texts_of(key.unit):
+        grown = len(text.places.encoded) + len(changes.get(text.uri, ())) * (len(name) - len(key.name))
+        if grown > TEXT_LIMIT:
+            raise CantRename(f"{text.unit.name} would have {grown:,} bytes, and the text of a unit has at most {TEXT_LIMIT:,}")
 
 
 def _check_name(name: str) -> None:

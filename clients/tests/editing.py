@@ -7,7 +7,15 @@ from typing import Any
 
 from support import CLIENTS, InFolder, workbench
 
+from positions import changed
 from rpc import read_message, write_message
+
+
+def edited(text: str, edits: list[dict]) -> str:
+    """The text after edits of ranges, which are all of the text before."""
+    for it in sorted(edits, key=lambda it: (it["range"]["start"]["line"], it["range"]["start"]["character"]), reverse=True):
+        text = changed(text, {"range": it["range"], "text": it["newText"]})
+    return text
 
 
 class Editor:
@@ -102,5 +110,5 @@ class LspTest(InFolder):
 
     def started(self) -> Editor:
         editor = self.editor()
-        editor.start(self.folder)
+        self.capabilities = editor.start(self.folder)["result"]["capabilities"]
         return editor
