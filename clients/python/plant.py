@@ -110,8 +110,9 @@ class Plant:
         return next((found for _, found in self.declarations(key)), None)
 
     def texts_of(self, unit: str) -> list[Text]:
-        """The texts that may use a name of a unit: those that mention it, and those with paths deep into others."""
-        return [self._texts[file] for file in sorted(self._using.get(unit, set()) | self._walking, key=str)]
+        """The texts that may have a name of a unit: its own, those that mention it, and those with paths deep into others."""
+        files = self._declaring.get(unit, set()) | self._using.get(unit, set()) | self._walking
+        return [self._texts[file] for file in sorted(files, key=str)]
 
     def uses(self, key: Key) -> Iterator[tuple[Text, Use]]:
         """All uses of what a name stands for, by file."""

@@ -2,6 +2,7 @@
 from __future__ import annotations
 
 import subprocess
+import threading
 from pathlib import Path
 from typing import Any
 
@@ -19,16 +20,22 @@ def edited(text: str, edits: list[dict]) -> str:
 
 
 class Editor:
-    """An editor with one language server. It keeps what the server shows: diagnostics by file, and messages to the user."""
+    """An editor with one language server. It keeps what the server shows: diagnostics by file, and messages to the user.
 
-    def __init__(self, *words: object):
+    Where what a test waits for doesn't come, the server is killed after `patience` seconds, and the test fails.
+    """
+
+    def __init__(self, *words: object, patience: float = 120):
         self.process = subprocess.Popen([CLIENTS / "lsp", *map(str, words)], stdin=subprocess.PIPE, stdout=subprocess.PIPE)
+        self._watch = threading.Timer(patience, self.process.kill)
+        self._watch.start()
         self.shown: dict[str, list] = {}
         self.versions: dict[str, int] = {}
         self.messages: list[str] = []
         self._number = 0
 
     def close(self) -> None:
+        self._watch.cancel()
         self.process.stdin.close()
         self.process.wait(10)
         self.process.stdout.close()

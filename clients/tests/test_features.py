@@ -65,7 +65,7 @@ class NavigationTest(ConveyorTest):
         self.assertEqual(self.definition("STATION", "LIFT.TOTAL", 5), ["LIFTER.fb:6: VAR_OUTPUT |TOTAL| : INT; END_VAR"])
         self.assertEqual(self.definition("STATION", "LIFT.TOTAL"), ["STATION.fb:9: |LIFT| : LIFTER;"])
         self.assertEqual(self.definition("FEEDER", "MOVING TO"), ["FEEDER.fb:11: |MOVING| : WEIGH;"])
-        self.assertEqual(self.definition("FEEDER", "TALLY ->"), ["FEEDER.fb:28: ALGORITHM |TALLY| IN ST: COUNT := COUNT + 1; END_ALGORITHM"])
+        self.assertEqual(self.definition("FEEDER", "TALLY ->"), ["FEEDER.fb:29: ALGORITHM |TALLY| IN ST: COUNT := COUNT + 1; END_ALGORITHM"])
         self.assertEqual(self.definition("FEEDER", "NEXT.TAKEN", 5), ["HANDOVER.fb:4: EVENT_INPUT |TAKEN|; END_EVENT"])
         self.assertEqual(self.definition("FEEDER", "LAST[COUNT", 5), ["FEEDER.fb:6: VAR_OUTPUT |COUNT| : UINT := 0; END_VAR"])
         self.assertEqual(self.definition("PLANT", "SOUTH.SCREEN", 6), ["PLANT.fb:18: RESOURCE |SCREEN| : EMBEDDED END_RESOURCE"])
@@ -92,7 +92,7 @@ class NavigationTest(ConveyorTest):
         expected = [
             "FEEDER.fb:12: OFFERING : OFFER -> |NEXT|.OFFER;",
             "FEEDER.fb:18: OFFERING TO DONE := |NEXT|.TAKEN;",
-            "FEEDER.fb:26: |NEXT|.WEIGHT := LOAD;",
+            "FEEDER.fb:27: |NEXT|.WEIGHT := LOAD;",
             "STATION.fb:21: ADAPTER_CONNECTIONS BELT.|NEXT| TO LIFT.BEFORE; END_CONNECTIONS",
         ]
         self.assertEqual(self.shown(found), expected)
@@ -103,7 +103,7 @@ class NavigationTest(ConveyorTest):
         found = self.ask("references", "FEEDER", "NEXT.WEIGHT", 5, context={"includeDeclaration": True})
         expected = [
             "HANDOVER.fb:5: VAR_OUTPUT |WEIGHT| : INT; END_VAR",
-            "FEEDER.fb:26: NEXT.|WEIGHT| := LOAD;",
+            "FEEDER.fb:27: NEXT.|WEIGHT| := LOAD;",
             "HANDOVER.fb:3: EVENT_OUTPUT OFFER WITH |WEIGHT|; END_EVENT",
             "LIFTER.fb:17: ALGORITHM LIFT IN ST: TOTAL := TOTAL + BEFORE.|WEIGHT| * FACTOR; END_ALGORITHM",
         ]
@@ -153,8 +153,8 @@ PLANT (SYSTEM) 3 2-25
 
     def test_a_block(self):
         found = list(self.lines(self.server.ask("documentSymbol", self.file("FEEDER"))))
-        self.assertEqual(found[:3], ["FEEDER (FUNCTION_BLOCK) 5 2-29", "  START (EVENT_INPUT) 24 3-3", "  SEEN (EVENT_INPUT) 24 3-3"])
-        self.assertEqual(found[-4:], ["  DONE (EC_STATES) 22 13-13", "  WEIGH (ALGORITHM : ST) 6 20-23", "  OFFER (ALGORITHM : ST) 6 24-27", "  TALLY (ALGORITHM : ST) 6 28-28"])
+        self.assertEqual(found[:3], ["FEEDER (FUNCTION_BLOCK) 5 2-30", "  START (EVENT_INPUT) 24 3-3", "  SEEN (EVENT_INPUT) 24 3-3"])
+        self.assertEqual(found[-4:], ["  DONE (EC_STATES) 22 13-13", "  WEIGH (ALGORITHM : ST) 6 21-24", "  OFFER (ALGORITHM : ST) 6 25-28", "  TALLY (ALGORITHM : ST) 6 29-29"])
 
     def test_units(self):
         self.assertEqual(self.units("fe"), ["FEEDER", "LIFTER"])
@@ -243,7 +243,7 @@ class CompletionTest(ConveyorTest):
 
     def test_ports(self):
         self.check("STATION", "START TO BELT.", "START", "SEEN")
-        self.check("STATION", "LIFT.LIFTED TO", "READY", "BELT", "LIFT")
+        self.check("STATION", "LIFT.LIFTED TO ", "READY", "BELT", "LIFT")
         self.check("STATION", "STOP TO LIFT.STOP;\n    LIFT.", "LIFTED")
         self.check("STATION", "LIFT.TOTAL TO TO", "TOTAL", "BELT", "LIFT")
         self.check("STATION", "LOAD TO BELT.LO", "LIMIT", "LOAD")
@@ -371,7 +371,7 @@ class RenameTest(ConveyorTest):
     def test_a_text_that_would_be_too_long(self):
         text = f"FUNCTION_BLOCK LONG VAR {' ' * 65_480} END_VAR END_FUNCTION_BLOCK"
         self.server.open(self.write("LONG.fb", text))
-        long = "LONG would have 65,564 bytes, and the text of a unit has at most 65,536"
+        long = "LONG would have 65,573 bytes, and the text of a unit has at most 65,536"
         self.assertEqual(self.refused("rename", "LONG", "LONG", newName="L" * 46), long)
 
 
@@ -439,7 +439,7 @@ class TextsTest(ConveyorTest):
     def test_changes_of_ranges(self):
         file = self.write("a.fb", "")
         self.server.open(file, "(* 𝄞 *) FUNCTION_BLOCK A END_FUNCTION_BLOCK")
-        behind = {"line": 0, "character": 24}
+        behind = {"line": 0, "character": 25}
         self.server.make_changes(
             file,
             {"range": {"start": behind, "end": behind}, "text": " EVENT_INPUT\r\nE WITH 𝄞;"},
@@ -478,7 +478,7 @@ class TextsTest(ConveyorTest):
             ("END_FUNCTION_BLOCK", "keyword"),
         ]
         self.assertEqual(found, expected)
-        line = {"start": {"line": 1, "character": 26}, "end": {"line": 1, "character": 37}}
+        line = {"start": {"line": 1, "character": 25}, "end": {"line": 1, "character": 37}}
         data = self.server.ask("semanticTokens/range", file, range=line)["data"]
         self.assertEqual(self.colours(text, data), expected[4:8])
 
