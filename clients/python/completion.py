@@ -2,8 +2,8 @@
 from __future__ import annotations
 
 from collections.abc import Iterable, Iterator
-from dataclasses import dataclass
 from enum import IntEnum
+from typing import NamedTuple
 
 from declarations import (
     ALGORITHM, APPLICATION, CONNECTION_SECTIONS, DATA_TYPE, DESTINATION, DEVICE, EVENT, INSTANCE, PARAMETERS, RESOURCE, SOURCE, STATE, TYPE,
@@ -29,8 +29,7 @@ class ItemKind(IntEnum):
     EVENT = 23
 
 
-@dataclass(frozen=True)
-class Candidate:
+class Candidate(NamedTuple):
     """A name or a word that may stand at a place."""
 
     words: str

@@ -158,6 +158,10 @@ class Unit:
             found[use.key].append(use)
         return dict(found)
 
+    def prepare(self) -> None:
+        """Has the tables made now, and not when somebody asks."""
+        self.first, self.by_key
+
     def of(self, *sections: str, scope: str = "") -> Iterator[Declaration]:
         """What is declared in these sections, first declarations alone."""
         return (it for it in self.first.values() if it.section in sections and it.key.scope == scope)

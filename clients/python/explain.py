@@ -4,6 +4,7 @@ from __future__ import annotations
 from bisect import bisect_left
 from collections.abc import Iterable, Iterator
 from difflib import get_close_matches
+from heapq import nlargest
 
 from bench61499 import NAME_LIMIT, Fault
 from tokens import RESERVED, Token, declarations, spelled, tokens
@@ -28,6 +29,8 @@ _PORTS = {
 }
 _COMPARISONS = frozenset(["=", "<>", "<", ">", "<=", ">="])
 _LONGEST = 60
+_COMPARED = 100
+"""Names that are compared in full with a wrong one."""
 
 
 class Names:
@@ -44,9 +47,15 @@ class Names:
     def near(self, words: str) -> str | None:
         """The nearest name, as it is written, if any is near."""
         if words not in self._known and len(self._known) < 50:
-            near = get_close_matches(words.upper(), self._names, 1, self._nearness)
+            near = get_close_matches(words.upper(), self._alike(words.upper()), 1, self._nearness)
             self._known[words] = self._names[near[0]] if near else None
         return self._known.get(words)
+
+    def _alike(self, words: str) -> Iterable[str]:
+        """All names where they are few; of many those that begin and end most like the words, as the full comparison takes long."""
+        if len(self._names) <= _COMPARED:
+            return self._names
+        return nlargest(_COMPARED, self._names, key=lambda name: _common(words, name) + _common(words[::-1], name[::-1]))
 
 
 class Explainer:
@@ -295,6 +304,11 @@ def _one_line(words: str) -> str:
     """Words in a line of their own: cut where they are many, and what can't be seen by its number."""
     joined = "".join(it if it.isprintable() else f"U+{ord(it):04X}" for it in " ".join(words.split()))
     return joined if len(joined) <= _LONGEST else f"{joined[:_LONGEST]}…"
+
+
+def _common(one: str, other: str) -> int:
+    """How many characters two words have in common from their first on."""
+    return next((at for at, (left, right) in enumerate(zip(one, other)) if left != right), min(len(one), len(other)))
 
 
 def _listed(words: tuple[str, ...]) -> str:

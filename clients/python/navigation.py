@@ -70,7 +70,8 @@ def name_at(plant: Plant, text: Text, place: int) -> Found | None:
 
 
 def location(text: Text, start: int, end: int) -> dict[str, Any]:
-    return {"uri": text.uri, "range": text.range(start, end)}
+    """Where a name stands."""
+    return {"uri": text.uri, "range": text.name_range(start, end)}
 
 
 def definitions(plant: Plant, key: Key) -> list[dict[str, Any]]:
@@ -88,7 +89,7 @@ def highlights(plant: Plant, text: Text, key: Key) -> list[dict[str, Range]]:
     """The declaration and the uses of a name in one text."""
     places = [(it.start, it.end) for it in text.unit.declared if it.key == key]
     places += [(use.start, use.end) for use in text.unit.uses if plant.key(use) == key]
-    return [{"range": text.range(*it)} for it in places]
+    return [{"range": text.name_range(*it)} for it in places]
 
 
 def outline(text: Text) -> list[dict[str, Any]]:
@@ -111,7 +112,7 @@ def _symbol(text: Text, it: Declaration) -> dict[str, Any]:
         "detail": f"{it.section} : {it.type}" if it.type else it.section,
         "kind": SYMBOL_KINDS[it.section],
         "range": text.range(it.begin, it.last),
-        "selectionRange": text.range(it.start, it.end),
+        "selectionRange": text.name_range(it.start, it.end),
         "children": [],
     }
 
@@ -119,15 +120,11 @@ def _symbol(text: Text, it: Declaration) -> dict[str, Any]:
 def units_named(plant: Plant, query: str) -> list[dict[str, Any]]:
     """The units of the folder whose names have the letters of the query in their order; those that begin with it first."""
     wanted = query.upper()
-    found = [it for it in plant.texts() if it.unit.kind and _has_letters(it.unit.name, wanted)]
+    found = [it for it in plant.texts() if it.head and _has_letters(it.unit.name, wanted)]
     found.sort(key=lambda it: (not it.unit.name.startswith(wanted), wanted not in it.unit.name, it.unit.name))
-    return [
-        {"name": it.unit.name, "kind": SYMBOL_KINDS[it.unit.kind], "location": location(it, head.start, head.end)}
-        for it in found
-        for head in it.unit.declared[:1]
-    ]
+    return [{"name": it.unit.name, "kind": SYMBOL_KINDS[it.unit.kind], "location": {"uri": it.uri, "range": it.head}} for it in found]
 
 
 def _has_letters(name: str, wanted: str) -> bool:
-    rest = iter(name)
-    return all(letter in rest for letter in wanted)
+    at = -1
+    return all((at := name.find(letter, at + 1)) >= 0 for letter in wanted)

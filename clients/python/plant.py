@@ -8,7 +8,7 @@ from pathlib import Path
 
 from bench61499 import Places
 from declarations import INSTANCE, Declaration, Key, Unit, Use, read
-from positions import Range, range_of
+from positions import Range, range_of, range_of_name
 
 
 class Text:
@@ -30,8 +30,22 @@ class Text:
     def places(self) -> Places:
         return Places(self.text)
 
+    @cached_property
+    def head(self) -> Range | None:
+        """Where the name of the unit is declared."""
+        its = self.unit.declared[:1] if self.unit.kind else []
+        return self.name_range(its[0].start, its[0].end) if its else None
+
+    def prepare(self) -> None:
+        """Has all that is made of the text made now, and not when somebody asks."""
+        self.unit.prepare()
+        self.uri, self.head
+
     def range(self, start: int, end: int) -> Range:
         return range_of(self.places, start, end)
+
+    def name_range(self, start: int, end: int) -> Range:
+        return range_of_name(self.places, start, end)
 
 
 class Plant:
@@ -71,6 +85,7 @@ class Plant:
         self._walking.discard(file)
 
     def _index(self, text: Text) -> None:
+        text.prepare()
         unit, file = text.unit, text.file
         used = {use.key.unit for use in unit.uses}
         self._declaring[unit.name].add(file)
@@ -86,7 +101,8 @@ class Plant:
         return self._texts.get(file)
 
     def texts(self) -> Iterable[Text]:
-        return (self._texts[file] for file in sorted(self._names, key=str) if file in self._texts)
+        """All of them, in no order."""
+        return self._texts.values()
 
     def declaring(self, name: str) -> list[Text]:
         """The texts that declare a unit: one, or more where the user has not seen to it yet."""

@@ -18,12 +18,17 @@ _UNIT = 2
 def position(places: Places, place: int) -> Position:
     """Where a place, in bytes of UTF-8, is for an editor."""
     line, column = places.line_column(place)
-    before = places.line(line)[: column - 1]
-    return {"line": line - 1, "character": len(before) if before.isascii() else units(before)}
+    return {"line": line - 1, "character": column - 1 if places.is_plain else units(places.line(line)[: column - 1])}
 
 
 def range_of(places: Places, start: int, end: int) -> Range:
     return {"start": position(places, start), "end": position(places, end)}
+
+
+def range_of_name(places: Places, start: int, end: int) -> Range:
+    """The same of a name, which stands in one line and has characters of one byte and one unit alone."""
+    begin = position(places, start)
+    return {"start": begin, "end": {"line": begin["line"], "character": begin["character"] + end - start}}
 
 
 def place(places: Places, at: Position) -> int:
