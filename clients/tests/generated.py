@@ -10,7 +10,9 @@ from itertools import islice
 
 from support import CLIENTS, workbench
 
-from bench61499 import Fault, Flat, Net, NoSuchKey, Put, Remove, Session
+from bench61499 import Fault, Flat, Net, NoSuchKey, Put, Remove, Session, batches
+
+from tokens import tokens
 
 sys.path.append(str(CLIENTS.parent / "oracle"))
 
@@ -47,11 +49,17 @@ def sound_libraries(seed: int) -> Iterator[dict[str, str]]:
 
 
 @cache
-def checked(units: int) -> tuple[Library, ...]:
-    """Libraries of so many units or some more, half of these with faults, and what the workbench finds of them."""
+def checked() -> tuple[Library, ...]:
+    """Libraries of 2,000 units, half of these with faults, and what the workbench finds of them."""
     with Session.script(workbench()) as session:
-        its = [*so_many(faulty_libraries(1), units // 2), *so_many(sound_libraries(1), units // 2)]
+        its = [*so_many(faulty_libraries(1), 1000), *so_many(sound_libraries(1), 1000)]
         return tuple(Library(texts, faults_of(session, texts), nets_of(session, texts)) for texts in its)
+
+
+def at_tokens(text: str, faults: tuple[Fault, ...]) -> list[tuple[str, int, int]]:
+    """Faults with the numbers of the first token at them and of the first behind."""
+    starts = [it.start for it in tokens(text)]
+    return [(it.code, sum(start < it.start for start in starts), sum(start < it.end for start in starts)) for it in faults]
 
 
 def so_many(libraries: Iterable[dict[str, str]], units: int) -> Iterator[dict[str, str]]:
@@ -66,7 +74,8 @@ def faults_of(session: Session, texts: dict[str, str]) -> dict[str, tuple[Fault,
     """The faults of these texts, which the workbench gets in the place of all that this session has put."""
     known = session.revisions
     changes = [Remove(name, revision) for name, revision in known.items() if name not in texts]
-    session.commit(changes + [Put(name, known.get(name, 0), text) for name, text in texts.items()])
+    for batch in batches([*changes, *(Put(name, known.get(name, 0), text) for name, text in texts.items())]):
+        session.commit(batch)
     return session.settle()
 
 

@@ -5,7 +5,6 @@ from generated import Library, checked, faulty_libraries, so_many, sound_librari
 
 from declarations import ALGORITHM, EVENT, INSTANCE, STATE, TYPE, VARIABLE, Unit, read
 
-UNITS = 2000
 KINDS = {"PLUGS": "ADAPTER", "SOCKETS": "ADAPTER", "FBS": "FUNCTION_BLOCK", "SUBAPPS": "SUBAPPLICATION"}
 SORTS = {EVENT: "event", VARIABLE: "data", INSTANCE: "adapter"}
 ENDS = {"PORT_UNKNOWN", "PORT_SIDE", "DATA_TYPE", "SECOND_SOURCE", "SECOND_ADAPTER"}
@@ -16,7 +15,7 @@ class FaultsTest(unittest.TestCase):
 
     def each_unit(self):
         """The texts that are not broken: their library, name and text, and what was read."""
-        for library in checked(UNITS):
+        for library in checked():
             for name, text in library.texts.items():
                 if not library.codes(name) & {"SYNTAX", "NAME_DIFFERS"}:
                     yield library, name, read(text)
@@ -74,7 +73,7 @@ class NetsTest(unittest.TestCase):
 
     def test_networks(self):
         count = 0
-        for library in checked(UNITS):
+        for library in checked():
             units = {name: read(text) for name, text in library.texts.items()}
             for name, net in library.flat():
                 made = Network(units, name)

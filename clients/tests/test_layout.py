@@ -1,11 +1,10 @@
 """The layout of texts: no token changes, and so no fault."""
 import unittest
 
-from generated import checked, faults_of, faulty_libraries, so_many
+from generated import at_tokens, checked, faults_of, faulty_libraries, so_many
 from support import CONVEYOR, workbench
-from test_declarations import UNITS
 
-from bench61499 import Fault, Session
+from bench61499 import Session
 from layout import applied, formatted
 from tokens import pieces, tokens
 
@@ -16,16 +15,16 @@ def laid_out(text: str) -> str:
 
 class FaultsTest(unittest.TestCase):
     def test_the_same_faults(self):
-        """Of 1,000 units, most of them with faults: the same codes at the same tokens."""
+        """Of 2,000 units, half of them with faults: the same codes at the same tokens."""
         count = 0
         with Session.script(workbench()) as session:
-            for library in checked(UNITS)[: UNITS // 2]:
+            for library in checked():
                 new = {name: laid_out(text) for name, text in library.texts.items()}
                 faults = faults_of(session, new)
                 for name, text in library.texts.items():
-                    self.assertEqual(places(new[name], faults[name]), places(text, library.faults[name]), text)
+                    self.assertEqual(at_tokens(new[name], faults[name]), at_tokens(text, library.faults[name]), text)
                     count += new[name] != text
-        self.assertGreater(count, 900)
+        self.assertGreater(count, 1800)
 
     def test_the_same_words(self):
         for texts in so_many(faulty_libraries(5), 1000):
@@ -34,12 +33,6 @@ class FaultsTest(unittest.TestCase):
                 comments, after = ([it.words.rstrip() for it in pieces(of) if it.kind == "comment"] for of in (text, laid_out(text)))
                 self.assertEqual(after, comments)
                 self.assertEqual(formatted(laid_out(text)), [], text)
-
-
-def places(text: str, faults: tuple[Fault, ...]) -> list[tuple[str, int, int]]:
-    """Faults with the numbers of the first token at them and of the first behind."""
-    starts = [it.start for it in tokens(text)]
-    return [(it.code, sum(start < it.start for start in starts), sum(start < it.end for start in starts)) for it in faults]
 
 
 class LinesTest(unittest.TestCase):
