@@ -432,6 +432,10 @@ class _Connection:
             raise ConnectionEnded(f"the connection to {self._address} ended: {error.strerror or error}") from error
 
     def close(self) -> None:
+        try:
+            self._socket.shutdown(socket.SHUT_RDWR)  # It wakes a thread that waits for a reply.
+        except OSError:
+            pass  # The other side has hung up.
         self._reader.close()
         self._socket.close()
 

@@ -1,6 +1,7 @@
 """What is between the texts of an editor and a workbench: the one is brought into the other, and faults are shown."""
 from __future__ import annotations
 
+import time
 from collections.abc import Callable
 from concurrent.futures import Future, ThreadPoolExecutor
 from dataclasses import dataclass, field
@@ -24,6 +25,8 @@ SHORT_PAUSE = 0.05
 """Seconds between two questions for faults that somebody else is computing."""
 LOOK_AGAIN = 5.0
 """Seconds between two looks at what others have changed in a shared workbench."""
+LONGEST_HOLD = 2.0
+"""Seconds that changes wait for others that belong to the same edit."""
 
 
 @dataclass
@@ -51,6 +54,8 @@ class Checking:
         self._sources: dict[Path, Source] = {}
         self._owners: dict[str, Path] = {}
         self._changed: dict[Path, Source | None] = {}
+        self._expected: dict[Path, str] = {}
+        self._held_until = 0.0
         self._waiting: set[Path] = set()
         self._pending = False
         self._pause = 0.0
@@ -62,10 +67,10 @@ class Checking:
         """How long to wait for a message before the next step; None where there is nothing to do without one."""
         if not self.plant.is_read():
             return 0
-        if self._task:
+        if self._task and not self._task.done():
             return None
-        if self._changed:
-            return 0
+        if self._changed or self._task:
+            return self._hold()
         if self._waiting:
             return self._pause
         return LOOK_AGAIN if self._shared and self.documents else None
@@ -95,6 +100,14 @@ class Checking:
         self._publish(document, [])
         self._take(path)
 
+    def expect(self, texts: dict[Path, str]) -> None:
+        """Tells that the editor is going to give files these texts by one edit: then the workbench gets them by one commit."""
+        self._expected, self._held_until = texts, time.monotonic() + LONGEST_HOLD
+
+    def _hold(self) -> float:
+        """How long changes wait yet for the rest of an edit."""
+        return max(0.0, self._held_until - time.monotonic()) if self._expected else 0
+
     def close(self) -> None:
         """Ends the workbench, with what it is doing."""
         if self._texts:
@@ -119,6 +132,8 @@ class Checking:
         """Takes in the text of a document, or of a file that is not open; the workbench gets it with the next step."""
         source, document = self._read(path), self.documents.get(path)
         self._changed[path] = source
+        if source and source.text is not None and source.text == self._expected.get(path):
+            del self._expected[path]
         self.plant.put(path, source.text if source else None, document.uri if document else None)
 
     def _read(self, path: Path) -> Source | None:
@@ -158,7 +173,7 @@ class Checking:
         """What can be done without a message."""
         if not self._texts:
             self._changed.clear()
-        elif not self._task or self._task.done():
+        elif (not self._task or self._task.done()) and not self._hold():
             try:
                 self._settle_some(self._texts)
             except WorkbenchError as error:
@@ -185,6 +200,7 @@ class Checking:
 
     def _begin(self, texts: SharedTexts) -> None:
         """Has the texts that have changed brought into the workbench: those of documents in one commit, and those of files in others."""
+        self._expected = {}
         if self._changed:
             self._jobs, self._waiting = 1, set(self.documents)
         taken, self._changed = sorted(self._changed.items()), {}
@@ -268,6 +284,8 @@ class Checking:
         return diagnostic(Places(text), name.start, name.end, f"{owner} declares the unit {name.upper} too; a unit has one text")
 
     def _explained(self, text: str, faults: tuple[Fault, ...]) -> list[Diagnostic]:
+        if not faults:
+            return []
         explainer, places = Explainer(text, Names(self._owners)), Places(text)
         return [diagnostic(places, *explainer.span(it), explainer.explain(it), it.code) for it in faults]
 

@@ -54,6 +54,13 @@ def changed(text: str, change: dict[str, Any]) -> str:
     return joined.decode("utf-16-le", "surrogatepass")
 
 
+def edited(text: str, edits: list[dict[str, Any]]) -> str:
+    """The text after edits of ranges that don't overlap, which are all ranges of the text before."""
+    for it in sorted(edits, key=lambda it: (it["range"]["start"]["line"], it["range"]["start"]["character"]), reverse=True):
+        text = changed(text, {"range": it["range"], "text": it["newText"]})
+    return text
+
+
 def sound(text: str) -> str:
     """A text without the halves of characters that UTF-8 can't spell; the columns stay."""
     return _HALF.sub("\ufffd", text)

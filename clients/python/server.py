@@ -9,6 +9,7 @@ from answers import CAPABILITIES, Answers, CantAnswer
 from bench61499 import Session
 from checking import Checking
 from documents import Diagnostic, path_of
+from positions import edited
 from rename import CantRename
 from rpc import (
     ERROR, INVALID_PARAMS, INVALID_REQUEST, METHOD_NOT_FOUND, NOT_INITIALIZED, REQUEST_FAILED, Message, failure, tell,
@@ -70,11 +71,21 @@ class Server:
         if method not in Answers.METHODS and method != "workspace/symbol":
             return failure(METHOD_NOT_FOUND, f"there is no method {method} here")
         try:
-            return {"result": self._answers.answer(method, params)}
+            result = self._answers.answer(method, params)
+            if method == "textDocument/rename" and result:
+                self._expect(result["changes"])
+            return {"result": result}
         except (CantRename, CantAnswer) as error:
             return failure(REQUEST_FAILED, str(error))
         except _NO_SENSE as error:
             return failure(INVALID_PARAMS, f"{method} makes no sense: {error!r}")
+
+    def _expect(self, changes: dict[str, Any]) -> None:
+        """The texts that the editor is going to have after an edit, where they are other than now."""
+        texts = {path_of(uri): edits for uri, edits in changes.items()}
+        now = {path: text.text for path in texts if (text := self._checking.plant.text(path))}
+        after = {path: edited(text, texts[path]) for path, text in now.items()}
+        self._checking.expect({path: text for path, text in after.items() if text != now[path]})
 
     def _initialize(self, params: Any) -> Message:
         try:

@@ -8,15 +8,7 @@ from typing import Any
 
 from support import CLIENTS, InFolder, workbench
 
-from positions import changed
 from rpc import read_message, write_message
-
-
-def edited(text: str, edits: list[dict]) -> str:
-    """The text after edits of ranges, which are all of the text before."""
-    for it in sorted(edits, key=lambda it: (it["range"]["start"]["line"], it["range"]["start"]["character"]), reverse=True):
-        text = changed(text, {"range": it["range"], "text": it["newText"]})
-    return text
 
 
 class Editor:

@@ -4,11 +4,11 @@ from __future__ import annotations
 import unittest
 from pathlib import Path
 
-from editing import Editor, LspTest, edited
+from editing import Editor, LspTest
 
 from bench61499 import Places
 from declarations import PARTS
-from positions import place, position
+from positions import edited, place, position
 
 
 class ConveyorTest(LspTest):

@@ -6,6 +6,9 @@ import unittest
 from editing import LspTest
 from support import free_port, serving, workbench
 
+from bench61499 import Session
+from positions import edited
+
 GOOD = "FUNCTION_BLOCK A END_FUNCTION_BLOCK"
 BAD = "FUNCTION_BLOCK A EVENT_INPUT E WITH X; END_EVENT END_FUNCTION_BLOCK"
 
@@ -201,6 +204,27 @@ class SharedTest(LspTest):
             self.assertRegex(one.await_message(), "A was changed by somebody else, at revision 2. The text in this editor replaces that")
             one.close()
             other.close()
+
+    def test_a_rename_is_one_commit(self):
+        """Though the editor sends the change of one unit some time before that of the other."""
+        self.copy_conveyor()
+        texts = {self.folder / "FEEDER.fb": ("WITH LIMIT", "WITH LIMITS"), self.folder / "STATION.fb": ("LIFT.STOP", "LIFT.HALT")}
+        with serving(sessions=2) as port, Session.connect("127.0.0.1", port) as other:
+            editor = self.editor("--connect", f":{port}")
+            editor.start(self.folder)
+            for file, mistake in texts.items():
+                file.write_text(file.read_text().replace(*mistake))
+                editor.open(file)
+            editor.await_codes(FEEDER=["WITH_UNKNOWN"], STATION=["PORT_UNKNOWN"])
+            edit = editor.ask("rename", self.folder / "FEEDER.fb", position={"line": 2, "character": 15}, newName="BEGIN")
+            for file in texts:
+                editor.change(file, edited(file.read_text(), edit["changes"][file.as_uri()]))
+                for _ in range(5):
+                    editor.ask("foldingRange", file)
+            editor.await_codes(FEEDER=["WITH_UNKNOWN"], STATION=["PORT_UNKNOWN"])
+            self.assertEqual(other.revision("FEEDER"), other.revision("STATION"))
+            self.assertGreater(other.revision("FEEDER"), other.revision("LIFTER"))
+            editor.close()
 
     def test_what_others_put_is_not_shown_here(self):
         file = self.write("a.fb", GOOD)

@@ -4,7 +4,6 @@ import unittest
 from collections import Counter
 from pathlib import Path
 
-from editing import edited
 from generated import Library, at_tokens, checked, faults_of
 from support import workbench
 
@@ -12,6 +11,7 @@ from bench61499 import Session
 from declarations import NAMELESS, TYPE
 from navigation import Found
 from plant import Plant
+from positions import edited
 from rename import CantRename, renamed
 
 NEW = "Renamed_1"
