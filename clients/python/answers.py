@@ -16,7 +16,7 @@ from layout import Edit, applied, formatted
 from navigation import Found, definitions, highlights, name_at, outline, references, units_named
 from plant import Plant, Text
 from positions import Position, place
-from rename import CantRename, check_target, renamed
+from rename import check_target, renamed
 
 CAPABILITIES = {
     "positionEncoding": "utf-16",

@@ -7,9 +7,10 @@ from typing import NamedTuple
 
 from declarations import (
     ALGORITHM, APPLICATION, CONNECTION_SECTIONS, DATA_TYPE, DESTINATION, DEVICE, EVENT, INSTANCE, PARAMETERS, RESOURCE, SOURCE, STATE, TYPE,
-    VARIABLE, Declaration, Key, Unit, Wanted, read,
+    VARIABLE, Declaration, Unit, Wanted,
 )
 from plant import Plant, Text
+from reader import read
 from tokens import pieces
 
 

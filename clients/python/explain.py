@@ -4,10 +4,13 @@ from __future__ import annotations
 from bisect import bisect_left
 from collections.abc import Iterable, Iterator
 from difflib import get_close_matches
+from functools import cached_property
 from heapq import nlargest
 
 from bench61499 import NAME_LIMIT, Fault
-from tokens import RESERVED, Token, declarations, spelled, tokens
+from declarations import Unit
+from reader import read
+from tokens import RESERVED, Token, spelled, tokens
 
 _SECTIONS = frozenset(
     """EVENT_INPUT EVENT_OUTPUT VAR VAR_INPUT VAR_OUTPUT PLUGS SOCKETS FBS SUBAPPS EVENT_CONNECTIONS DATA_CONNECTIONS ADAPTER_CONNECTIONS
@@ -62,11 +65,16 @@ class Explainer:
     """Explains the faults of one text. `units` are the names, in upper case, of the units that are known to be in the workbench."""
 
     def __init__(self, text: str, units: Names = Names()):
+        self._text = text
         self._tokens = list(tokens(text))
         self._starts = [token.start for token in self._tokens]
         self._sections = list(_sections(self._tokens))
         self._units = units
         self._declared: dict[tuple[str, ...], Names] = {}
+
+    @cached_property
+    def _unit(self) -> Unit:
+        return read(self._text)
 
     def span(self, fault: Fault) -> tuple[int, int]:
         """Where to show a fault: its place, or the last token where its place is the bare end of the text."""
@@ -108,7 +116,7 @@ class Explainer:
     def _names(self, *sections: str) -> Names:
         """The names that are declared in these sections."""
         if sections not in self._declared:
-            names = (name.words for name, section in declarations(self._tokens) if section in sections)
+            names = (it.words for it in self._unit.declared if it.section in sections)
             self._declared[sections] = Names(names, nearness=0.6)
         return self._declared[sections]
 

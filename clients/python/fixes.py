@@ -5,11 +5,12 @@ from collections.abc import Iterator
 from dataclasses import dataclass
 
 from completion import ACROSS, TYPE_KINDS, declared, port_sections
-from declarations import CONNECTION_SECTIONS, ENDS, EVENT, INSTANCE, TYPE, Key, Use, Wanted, read
+from declarations import CONNECTION_SECTIONS, ENDS, EVENT, INSTANCE, TYPE, Key, Use, Wanted
 from explain import Names
 from hover import WHAT
 from nesting import Nesting
 from plant import Plant, Text
+from reader import read
 from tokens import pieces
 
 _MOST_TYPES = 5

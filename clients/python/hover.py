@@ -4,12 +4,11 @@ from __future__ import annotations
 from collections.abc import Iterator
 
 from declarations import (
-    ADAPTER_SECTIONS, ALGORITHM, DATA_SECTIONS, EVENT_SECTIONS, INSTANCE, KINDS, STATE, TYPE, VARIABLE, Declaration, Key, Unit,
+    ALGORITHM, INSTANCE, INTERFACE, KINDS, STATE, TYPE, VARIABLE, Declaration, Key, Unit,
 )
 from plant import Plant, Text
 from tokens import Token, pieces
 
-_INTERFACE = (*EVENT_SECTIONS, *DATA_SECTIONS, *ADAPTER_SECTIONS)
 WHAT = {
     **dict(zip(KINDS, ("function block", "adapter", "subapplication", "system"))),
     "EVENT_INPUT": "event input",
@@ -70,7 +69,7 @@ def _interface(unit: Unit, head: Declaration, comments: Comments) -> Iterator[st
     """The ports of a type, section by section, each with its comment."""
     yield f"{head.section} {head.words}"
     yield from comments.of(head)
-    for section in _INTERFACE:
+    for section in INTERFACE:
         ports = list(unit.of(section))
         if ports:
             yield f"  {section}"

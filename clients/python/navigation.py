@@ -1,6 +1,7 @@
 """What a text consists of, and where the names of a plant are declared and used."""
 from __future__ import annotations
 
+import re
 from dataclasses import dataclass
 from enum import IntEnum
 from typing import Any
@@ -120,11 +121,7 @@ def _symbol(text: Text, it: Declaration) -> dict[str, Any]:
 def units_named(plant: Plant, query: str) -> list[dict[str, Any]]:
     """The units of the folder whose names have the letters of the query in their order; those that begin with it first."""
     wanted = query.upper()
-    found = [it for it in plant.texts() if it.head and _has_letters(it.unit.name, wanted)]
+    letters = re.compile(".*".join(map(re.escape, wanted)))
+    found = [it for it in plant.texts() if it.head and letters.search(it.unit.name)]
     found.sort(key=lambda it: (not it.unit.name.startswith(wanted), wanted not in it.unit.name, it.unit.name))
     return [{"name": it.unit.name, "kind": SYMBOL_KINDS[it.unit.kind], "location": {"uri": it.uri, "range": it.head}} for it in found]
-
-
-def _has_letters(name: str, wanted: str) -> bool:
-    at = -1
-    return all((at := name.find(letter, at + 1)) >= 0 for letter in wanted)

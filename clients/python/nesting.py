@@ -3,17 +3,10 @@ from __future__ import annotations
 
 from collections.abc import Sequence
 
-from declarations import ENDS
+from declarations import ENDS, LEVELS, STATEMENTS
 from tokens import Token
 
-_STATEMENT_ENDS = {word: f"END_{word}" for word in ("IF", "CASE", "FOR", "WHILE", "REPEAT")}
-_ENDS = {**ENDS, **_STATEMENT_ENDS}
-_LEVELS = {
-    **dict.fromkeys(("FUNCTION_BLOCK", "ADAPTER", "SUBAPPLICATION", "SYSTEM"), 0),
-    "APPLICATION": 1,
-    "DEVICE": 1,
-    "RESOURCE": 2,
-}
+_ENDS = {**ENDS, **{word: f"END_{word}" for word in STATEMENTS}}
 _SECTION, _STATEMENT = 3, 4
 _BETWEEN = frozenset(["ELSE", "ELSIF", "UNTIL"])
 """Words that stand as deep as the word that begins their statement."""
@@ -73,4 +66,4 @@ class Nesting:
 
 
 def _level(word: str) -> int:
-    return _LEVELS.get(word, _STATEMENT if word in _STATEMENT_ENDS else _SECTION)
+    return LEVELS.get(word, _STATEMENT if word in STATEMENTS else _SECTION)

@@ -7,8 +7,9 @@ from functools import cached_property
 from pathlib import Path
 
 from bench61499 import Places
-from declarations import INSTANCE, Declaration, Key, Unit, Use, read
+from declarations import INSTANCE, Declaration, Key, Unit, Use
 from positions import Range, range_of, range_of_name
+from reader import read
 
 
 class Text:

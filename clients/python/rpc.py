@@ -21,11 +21,8 @@ class BadMessage(Exception):
     """A message that is no JSON object."""
 
 
-def read_message(stream: BinaryIO) -> Message | None:
-    """The next message; None at the end of the stream, or where what comes has no length and nothing more can be read.
-
-    Raises `BadMessage`, after which the next message can be read.
-    """
+def read_content(stream: BinaryIO) -> bytes | None:
+    """The bytes of the next message; None at the end of the stream, or where what comes has no length and nothing more can be read."""
     length = None
     while (header := stream.readline().strip()) or length is None:
         name, colon, value = header.partition(b":")
@@ -34,7 +31,13 @@ def read_message(stream: BinaryIO) -> Message | None:
         if name.strip().lower() == b"content-length" and value.strip().isdigit():
             length = int(value)
     content = stream.read(length)
-    if len(content) < length:
+    return content if len(content) == length else None
+
+
+def read_message(stream: BinaryIO) -> Message | None:
+    """The next message; None where there is none any more. Raises `BadMessage`, after which the next message can be read."""
+    content = read_content(stream)
+    if content is None:
         return None
     try:
         message = json.loads(content)

@@ -2,7 +2,7 @@
 from __future__ import annotations
 
 import re
-from collections.abc import Iterable, Iterator, Sequence
+from collections.abc import Iterator, Sequence
 from typing import NamedTuple
 
 from bench61499 import NAME_LIMIT
@@ -31,8 +31,6 @@ RESERVED = frozenset(
     WITH TO ARRAY OF IF THEN ELSIF ELSE END_IF CASE END_CASE FOR BY DO END_FOR WHILE END_WHILE REPEAT UNTIL END_REPEAT EXIT RETURN
     AND OR XOR NOT MOD TRUE FALSE""".split()
 )
-PORT_SECTIONS = frozenset(["EVENT_INPUT", "EVENT_OUTPUT", "VAR_INPUT", "VAR_OUTPUT", "PLUGS", "SOCKETS"])
-DECLARING = PORT_SECTIONS | {"VAR", "FBS", "SUBAPPS", "EC_STATES", "ALGORITHM"}
 
 
 class Token(NamedTuple):
@@ -91,24 +89,3 @@ def declared_kind(text: str) -> str | None:
     """The first word of a text in upper case: FUNCTION_BLOCK, ADAPTER, SUBAPPLICATION, SYSTEM, or what stands there instead."""
     first = next(tokens(text), None)
     return first.upper if first else None
-
-
-def declarations(of: Iterable[Token]) -> Iterator[tuple[Token, str]]:
-    """The names that are declared in sections and as algorithms, each with the word that begins the section, in upper case."""
-    section, naming = "", False
-    for token in of:
-        if token.upper in DECLARING:
-            section, naming = token.upper, True
-        elif token.upper in RESERVED - {"WITH", "ARRAY", "OF", "TRUE", "FALSE"}:
-            section = ""
-        elif section and token.words == ";":
-            naming = True
-        elif token.upper in ("WITH", ":", "IN"):
-            naming = False
-        elif section and naming and token.kind == "word":
-            yield token, section
-
-
-def ports(text: str) -> list[tuple[str, str]]:
-    """The ports of a unit in the order of its text, each with the word that begins its section, all in upper case."""
-    return [(name.upper, section) for name, section in declarations(tokens(text)) if section in PORT_SECTIONS]

@@ -3,7 +3,8 @@ import unittest
 
 from generated import Library, checked, faulty_libraries, so_many, sound_libraries
 
-from declarations import ALGORITHM, EVENT, INSTANCE, STATE, TYPE, VARIABLE, Unit, read
+from declarations import ALGORITHM, EVENT, INSTANCE, STATE, TYPE, VARIABLE, Unit
+from reader import ports, read
 
 KINDS = {"PLUGS": "ADAPTER", "SOCKETS": "ADAPTER", "FBS": "FUNCTION_BLOCK", "SUBAPPS": "SUBAPPLICATION"}
 SORTS = {EVENT: "event", VARIABLE: "data", INSTANCE: "adapter"}
@@ -190,6 +191,14 @@ class BrokenTest(unittest.TestCase):
         self.assertEqual(found, expected)
         connections = [[use.key.name for use in (*it.source, *it.destination)] for it in unit.connections]
         self.assertEqual(connections, [["ONE"], ["OTHER", "X", "LAST", "X"], ["LAST"]])
+
+
+class PortsTest(unittest.TestCase):
+    def test_ports(self):
+        text = """FUNCTION_BLOCK A EVENT_INPUT E: T WITH X, Y; F; END_EVENT VAR_OUTPUT P, Q : ARRAY [0..1] OF INT := [A, 1]; R : INT; END_VAR
+            VAR V : INT; END_VAR PLUGS N : T; END_PLUGS END_FUNCTION_BLOCK"""
+        expected = [("E", "EVENT_INPUT"), ("F", "EVENT_INPUT"), *((name, "VAR_OUTPUT") for name in "PQR"), ("N", "PLUGS")]
+        self.assertEqual(ports(text), expected)
 
 
 def undeclared(unit: Unit, space: str):
