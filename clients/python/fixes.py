@@ -70,22 +70,22 @@ def _wrong(plant: Plant, text: Text, start: int, end: int) -> Wrong | None:
         if start <= use.start and use.end <= end:
             wanted = read(text.places.words(0, use.start)).wanted
             wrong = Wrong(text, at, wanted[0]) if wanted else None
-            if wrong and use.key.name not in map(str.upper, _names(plant, wrong)):
+            if wrong and (use.key.space == TYPE or use.key.name not in map(str.upper, _names(plant, wrong))):
                 return wrong
     return None
 
 
 def _names(plant: Plant, wrong: Wrong) -> list[str]:
-    """The names that may stand where the wrong one stands."""
-    unit, wanted = wrong.text.unit, wrong.wanted
-    if wanted.space == TYPE:
-        return sorted(plant.kinds(TYPE_KINDS[wanted.section]))
-    return [it.words for it in declared(plant, unit, wanted) if it.key.space == wrong.use.key.space]
+    """The declared names that may stand where the wrong one stands."""
+    return [it.words for it in declared(plant, wrong.text.unit, wrong.wanted) if it.key.space == wrong.use.key.space]
 
 
 def _nearest(plant: Plant, wrong: Wrong) -> Iterator[Fix]:
-    names = Names(_names(plant, wrong), nearness=0.8 if wrong.wanted.space == TYPE else 0.6)
-    if near := names.near(wrong.name):
+    if wrong.wanted.space == TYPE:
+        near = plant.near(TYPE_KINDS[wrong.wanted.section], wrong.name)
+    else:
+        near = Names(_names(plant, wrong), nearness=0.6).near(wrong.name)
+    if near:
         yield Fix(f"Change {wrong.name} to {near}", wrong.text, wrong.use.start, wrong.use.end, near)
 
 

@@ -83,7 +83,7 @@ def definitions(plant: Plant, key: Key) -> list[dict[str, Any]]:
 def references(plant: Plant, key: Key, with_declaration: bool) -> list[dict[str, Any]]:
     """All uses of a name in all units, perhaps with its declarations before them."""
     declared = [location(text, it.start, it.end) for text, it in plant.declarations(key)] if with_declaration else []
-    return declared + [location(text, use.start, use.end) for text, use in plant.uses(key)]
+    return declared + [location(text, use.start, use.end) for text, uses in plant.uses(key) for use in uses]
 
 
 def highlights(plant: Plant, text: Text, key: Key) -> list[dict[str, Range]]:

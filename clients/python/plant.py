@@ -1,6 +1,7 @@
 """The units of a folder: each text is read once after it has changed, and found by the names that it declares and uses."""
 from __future__ import annotations
 
+import gc
 from collections import defaultdict
 from collections.abc import Iterable, Iterator
 from functools import cached_property
@@ -8,6 +9,7 @@ from pathlib import Path
 
 from bench61499 import Places
 from declarations import INSTANCE, Declaration, Key, Unit, Use
+from explain import Names
 from positions import Range, range_of, range_of_name
 from reader import read
 
@@ -59,6 +61,8 @@ class Plant:
         self._declaring: defaultdict[str, set[Path]] = defaultdict(set)
         self._using: defaultdict[str, set[Path]] = defaultdict(set)
         self._walking: set[Path] = set()
+        self._frozen = 50
+        self._near: dict[str, tuple[frozenset[str], Names]] = {}
 
     def put(self, file: Path, text: str | None, uri: str | None = None) -> None:
         """Gives a file a text; None takes it away."""
@@ -78,6 +82,13 @@ class Plant:
             self._forget(file)
             if text := self._texts.get(file):
                 self._index(text)
+        if self.is_read() and len(self._names) >= 2 * self._frozen:
+            self._freeze()
+
+    def _freeze(self) -> None:
+        """Tells the garbage collector to pass over what is there, which otherwise takes a third of a second in a large plant."""
+        self._frozen = max(100, len(self._names))
+        gc.freeze()
 
     def _forget(self, file: Path) -> None:
         for name in self._names.pop(file, ()):
@@ -113,6 +124,13 @@ class Plant:
         its = self.declaring(name)
         return its[0].unit if its else None
 
+    def near(self, kind: str, words: str) -> str | None:
+        """The unit of a kind with the name that is nearest to a wrong one. It is looked for once, until a unit comes or goes."""
+        names = frozenset(self.kinds(kind))
+        if self._near.get(kind, (None,))[0] != names:
+            self._near[kind] = names, Names(names, nearness=0.8)
+        return self._near[kind][1].near(words)
+
     def kinds(self, kind: str) -> Iterator[str]:
         """The names of all units of a kind."""
         return (text.unit.name for text in self._texts.values() if text.unit.kind == kind)
@@ -131,13 +149,14 @@ class Plant:
         files = self._declaring.get(unit, set()) | self._using.get(unit, set()) | self._walking
         return [self._texts[file] for file in sorted(files, key=str)]
 
-    def uses(self, key: Key) -> Iterator[tuple[Text, Use]]:
-        """All uses of what a name stands for, by file."""
+    def uses(self, key: Key) -> Iterator[tuple[Text, list[Use]]]:
+        """All uses of what a name stands for, by text."""
         for text in self.texts_of(key.unit):
-            found = list(text.unit.by_key.get(key, ()))
+            found = text.unit.by_key.get(key, [])
             if key.space == INSTANCE and text.file in self._walking:
-                found += [use for use in text.unit.uses if use.walk and self.key(use) == key]
-            yield from ((text, use) for use in found)
+                found = found + [use for use in text.unit.uses if use.walk and self.key(use) == key]
+            if found:
+                yield text, found
 
     def key(self, use: Use) -> Key:
         """What a used name stands for, also where only other units tell."""

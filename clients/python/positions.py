@@ -27,8 +27,9 @@ def range_of(places: Places, start: int, end: int) -> Range:
 
 def range_of_name(places: Places, start: int, end: int) -> Range:
     """The same of a name, which stands in one line and has characters of one byte and one unit alone."""
-    begin = position(places, start)
-    return {"start": begin, "end": {"line": begin["line"], "character": begin["character"] + end - start}}
+    line, column = places.line_column(start)
+    character = column - 1 if places.is_plain else position(places, start)["character"]
+    return {"start": {"line": line - 1, "character": character}, "end": {"line": line - 1, "character": character + end - start}}
 
 
 def place(places: Places, at: Position) -> int:

@@ -49,7 +49,8 @@ def read_message(stream: BinaryIO) -> Message | None:
 
 
 def write_message(stream: BinaryIO, message: Message) -> None:
-    content = json.dumps({"jsonrpc": "2.0", **message}, ensure_ascii=False, separators=(",", ":")).encode(errors="replace")
+    words = json.dumps({"jsonrpc": "2.0", **message}, ensure_ascii=False, check_circular=False, separators=(",", ":"))
+    content = words.encode(errors="replace")
     stream.write(b"Content-Length: %d\r\n\r\n%b" % (len(content), content))
     stream.flush()
 
