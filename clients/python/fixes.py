@@ -154,7 +154,8 @@ def added(text: Text, section: str, item: str, application: str = "") -> tuple[i
     its = [it for it in pieces(text.text) if it.kind != "comment"]
     head = text.unit.declared[0]
     if application:
-        head = next(it for it in text.unit.declared if it.section == "APPLICATION" and it.key.name == application)
+        name, _, number = application.partition("#")
+        head = [it for it in text.unit.declared if it.section == "APPLICATION" and it.key.name == name][int(number or 1) - 1]
     for begin, end in Nesting(its).pairs:
         if its[begin].upper == section and head.begin <= its[begin].start < head.last:
             return _at_end(text, its[end].start, item)

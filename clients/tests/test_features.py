@@ -154,11 +154,12 @@ PLANT (SYSTEM) 3 2-25
     def test_a_block(self):
         found = list(self.lines(self.server.ask("documentSymbol", self.file("FEEDER"))))
         self.assertEqual(found[:3], ["FEEDER (FUNCTION_BLOCK) 5 2-30", "  START (EVENT_INPUT) 24 3-3", "  SEEN (EVENT_INPUT) 24 3-3"])
-        self.assertEqual(found[-4:], ["  DONE (EC_STATES) 22 13-13", "  WEIGH (ALGORITHM : ST) 6 21-24", "  OFFER (ALGORITHM : ST) 6 25-28", "  TALLY (ALGORITHM : ST) 6 29-29"])
+        algorithms = ["  WEIGH (ALGORITHM : ST) 6 21-24", "  OFFER (ALGORITHM : ST) 6 25-28", "  TALLY (ALGORITHM : ST) 6 29-29"]
+        self.assertEqual(found[-4:], ["  DONE (EC_STATES) 22 13-13", *algorithms])
 
     def test_units(self):
         self.assertEqual(self.units("fe"), ["FEEDER", "LIFTER"])
-        self.assertEqual(self.units("lt"), ["PLANT", "LIFTER"][::-1])
+        self.assertEqual(self.units("lt"), ["LIFTER", "PLANT"])
         self.assertEqual(self.units(""), ["FEEDER", "HANDOVER", "LAMP", "LIFTER", "PLANT", "STATION"])
         self.assertEqual(self.units("nothing"), [])
 
@@ -428,11 +429,17 @@ class FixTest(ConveyorTest):
         found = self.fixes("STATION", "LOAD TO BELT.LOAD", "LOAD TO LIFT.WIDTH", code="PORT_UNKNOWN")
         self.assertEqual(found, {"Declare the data input WIDTH in LIFTER": ["VAR_INPUT FACTOR : INT := 1; WIDTH : INT; END_VAR"]})
 
-    def test_a_section_that_is_not_there_yet(self):
+    def test_a_data_output(self):
         found = self.fixes("PLANT", "FIRST.TOTAL TO", "FIRST.WIDTH TO", code="PORT_UNKNOWN")
         self.assertEqual(found, {"Declare the data output WIDTH in STATION": ["VAR_OUTPUT TOTAL : INT; WIDTH : INT; END_VAR"]})
         found = self.fixes("PLANT", "FIRST.WIDTH TO SECOND.LOAD", "SECOND.TOTAL TO PANEL.WIDTH", code="PORT_UNKNOWN")
-        self.assertEqual(found["Declare the data input WIDTH in LAMP"][0], "VAR_INPUT VALUE : INT; TEXT : STRING[20] := 'ready'; DELAY : TIME := T#0s; WIDTH : INT; END_VAR")
+        declared = "VAR_INPUT VALUE : INT; TEXT : STRING[20] := 'ready'; DELAY : TIME := T#0s; WIDTH : INT; END_VAR"
+        self.assertEqual(found["Declare the data input WIDTH in LAMP"], [declared])
+
+    def test_a_section_that_is_not_there_yet(self):
+        more = "TO PANEL.SHOW; PANEL.SHOWN TO FIRST.STOP"
+        found = self.fixes("PLANT", "TO PANEL.SHOW", more, code="PORT_UNKNOWN")
+        self.assertEqual(found, {"Declare the event output SHOWN in LAMP": ["EVENT_OUTPUT SHOWN; END_EVENT"]})
 
 
 class TextsTest(ConveyorTest):

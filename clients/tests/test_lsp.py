@@ -168,7 +168,9 @@ class TroubleTest(LspTest):
     def test_no_workbench(self):
         editor = self.editor("--connect", f"127.0.0.1:{free_port()}")
         editor.start(self.folder)
-        editor.open(self.write("a.fb", GOOD))
+        file = self.write("a.fb", GOOD)
+        editor.open(file)
+        self.assertEqual(editor.ask("documentSymbol", file)[0]["name"], "A")
         self.assertRegex(editor.await_message(), "^bench61499: no workbench at .*: nobody serves there, or .* The next save tries again.$")
         self.assertEqual(editor.request("shutdown")["result"], None)
 
