@@ -207,6 +207,8 @@ class Checking:
         of_documents, of_files = Changes(), Changes()
         for path, source in taken:
             self._place(path, source, of_documents if path in self.documents else of_files)
+        if of_documents.removed or of_files.removed:
+            self._changed |= {it.file: it for it in self._sources.values() if it.text is not None and it.unit is None}
         self._task = self._thread.submit(bring, texts, of_documents, of_files, self._jobs)
         self._task.add_done_callback(lambda _: self._wake())
 
@@ -223,8 +225,6 @@ class Checking:
             changes.put[source.unit] = source.text
         if former and (not source or source.unit != former):
             changes.removed.append(former)
-            for it in [it for it in self._sources.values() if it.text is not None and it.unit is None]:
-                self._changed[it.file] = it
         if document:
             document.shown, document.faults = None, ()
 

@@ -1,12 +1,14 @@
 """lsp: its messages, by pipe, as an editor sends and reads them."""
 from __future__ import annotations
 
+import threading
 import unittest
 
 from editing import LspTest
-from support import free_port, serving, workbench
+from support import InFolder, free_port, serving, workbench
 
 from bench61499 import Session
+from checking import Checking
 from positions import edited
 
 GOOD = "FUNCTION_BLOCK A END_FUNCTION_BLOCK"
@@ -162,6 +164,40 @@ class DocumentsTest(LspTest):
         while editor.versions.get("a.fb") != 199 or not editor.shown["a.fb"]:
             editor.read()
         self.assertEqual(editor.codes("a.fb"), ["WITH_UNKNOWN"])
+
+
+class CheckingTest(InFolder):
+    """What is between the editor and the workbench, without messages: all changes are there before a step is made."""
+
+    def setUp(self) -> None:
+        super().setUp()
+        self.woken = threading.Event()
+        self.shown: dict[str, list[str]] = {}
+        self.checking = Checking(lambda: Session.script(workbench()), False, self.keep, self.woken.set)
+        self.addCleanup(self.checking.close)
+
+    def keep(self, message: dict) -> None:
+        if message["method"] == "textDocument/publishDiagnostics":
+            its = message["params"]["diagnostics"]
+            self.shown[message["params"]["uri"]] = [it.get("code", it["message"]) for it in its]
+
+    def step_until(self, expected: dict[str, list[str]]) -> None:
+        for _ in range(50):
+            if self.shown == expected:
+                return
+            self.woken.wait(self.checking.patience() or 0.1)
+            self.woken.clear()
+            self.checking.step()
+        self.assertEqual(self.shown, expected)
+
+    def test_a_double_that_changes_with_the_other(self):
+        one, other = (self.write(f"{name}.fb", GOOD).as_uri() for name in ("one", "other"))
+        for uri in (one, other):
+            self.checking.open(uri, 1, GOOD)
+        self.step_until({one: [], other: ["one.fb declares the unit A too; a unit has one text"]})
+        self.checking.change(one, 2, [{"text": GOOD.replace(" A ", " C ")}])
+        self.checking.change(other, 2, [{"text": BAD}])
+        self.step_until({one: [], other: ["WITH_UNKNOWN"]})
 
 
 class TroubleTest(LspTest):
