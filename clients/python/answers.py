@@ -53,7 +53,8 @@ class Answers:
 
     def answer(self, method: str, params: Any) -> Any:
         """Raises `CantAnswer`, and `KeyError`, `TypeError` and the like where the parameters make no sense."""
-        self._plant.refresh()
+        if method not in self._OF_ONE_TEXT:
+            self._plant.refresh()
         if method == "workspace/symbol":
             return units_named(self._plant, params["query"])
         path = path_of(params["textDocument"]["uri"])
@@ -158,3 +159,8 @@ class Answers:
         "textDocument/formatting": _format,
         "textDocument/rangeFormatting": _format,
     }
+    _OF_ONE_TEXT = frozenset(
+        f"textDocument/{it}"
+        for it in ("documentSymbol", "semanticTokens/full", "semanticTokens/range", "foldingRange", "formatting", "rangeFormatting")
+    )
+    """What is answered by the text alone, so that it needs no wait for the texts of a whole folder."""
