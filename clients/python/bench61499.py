@@ -432,6 +432,10 @@ class _Connection:
             raise ConnectionEnded(f"the connection to {self._address} ended: {error.strerror or error}") from error
 
     def close(self) -> None:
+        try:
+            self._socket.shutdown(socket.SHUT_RDWR)  # It wakes a thread that waits for a reply.
+        except OSError:
+            pass  # The other side has hung up.
         self._reader.close()
         self._socket.close()
 
@@ -664,6 +668,8 @@ class Places:
         ends = [(it.start(), it.end()) for it in self._LINE_END.finditer(self.encoded)]
         self._starts = [0, *(end for _, end in ends)]
         self._ends = [*(start for start, _ in ends), len(self.encoded)]
+        self.is_plain = self.encoded.isascii()
+        """Whether each character is one byte."""
 
     def line_count(self) -> int:
         """The number of lines; a text that ends with a line end has an empty last one."""
@@ -680,8 +686,9 @@ class Places:
         if not 0 <= place <= len(self.encoded):
             raise ValueError(f"no byte {place} in a text of {len(self.encoded)}")
         line = bisect_right(self._starts, place)
-        before = self.encoded[self._starts[line - 1] : place]
-        return line, len(before.decode(errors="ignore")) + 1
+        start = self._starts[line - 1]
+        before = place - start if self.is_plain else len(self.encoded[start:place].decode(errors="ignore"))
+        return line, before + 1
 
     def place(self, line: int, column: int) -> int:
         """The place of a line and a column; the column behind the last character is one too. Raises `ValueError` for others."""

@@ -11,7 +11,8 @@ from bench61499 import (
 from board_state import Answer, Board, NoEntry, Row
 from explain import Explainer, Names
 from picture import Picture
-from tokens import RESERVED, Token, declarations, declared_kind, tokens
+from reader import read
+from tokens import RESERVED, Token, declared_kind, tokens
 
 FAULTS_SHOWN = 500
 """Faults of one unit that are shown with their explanations."""
@@ -51,7 +52,7 @@ def _fits(text: str, faults: tuple[Fault, ...]) -> Iterator[bool]:
     """Whether each fault can be one of this text, as far as its place and the names that are declared tell."""
     its = list(tokens(text))
     starts, ends = {it.start: it for it in its}, {it.end for it in its}
-    declared = {(name.upper, section) for name, section in declarations(its)}
+    declared = {(it.words.upper(), it.section) for it in read(text).declared}
     for fault in faults:
         first = starts.get(fault.start)
         at_end = fault.start == fault.end == len(text.encode())

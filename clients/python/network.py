@@ -5,7 +5,7 @@ from collections.abc import Iterator, Mapping
 from dataclasses import dataclass, field
 
 from bench61499 import Block, Border, Deploy, Flat, Link, Plan, Sort
-from tokens import ports
+from reader import ports
 
 SORTS: dict[str, Sort] = {
     **dict.fromkeys(["EVENT_INPUT", "EVENT_OUTPUT"], "event"),
