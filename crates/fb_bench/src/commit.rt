@@ -152,7 +152,7 @@ pub(crate) fn record_with_room(
     call: Call,
     answer: Reply,
 ) -> Result<Arc<Record>, AllocError>
-    requires { length history.old.records < history.old.limit }
+    requires { length history.old.log.records < history.old.log.limit }
     ensures room { OnOk result (MakesRoom renewal.now entries.old entries.new) }
     ensures back { OnErr result (LosesRoom renewal.now entries.old entries.new) }
     ensures logged { OnOk result

@@ -1,5 +1,5 @@
 -- What small steps write to entries and to sets of keys.
-use Rattle.std.specs.Prelude.{◌≡◌, Bool, true, false, List, Option, Some, None, is_none, if◌then◌else◌}
+use Rattle.std.specs.Prelude.{◌≡◌, Bool, true, false, List, map, filter, Option, Some, None, is_none, if◌then◌else◌}
 use Rattle.std.specs.List.{list_any}
 use Rattle.std.specs.Option.{option_map, option_or}
 use Rattle.std.specs.BTreeMap as tree
@@ -24,6 +24,14 @@ blank = record { value = None; out = false; found = None; former = None }
 -- an entry that has no value
 abbrev pub is_unkept : Entry → Bool
 is_unkept it = is_none it.value
+
+-- an entry that is handed out
+abbrev pub is_handed_out : Entry → Bool
+is_handed_out it = it.out
+
+-- the keys whose entries pass, in order
+abbrev pub keys_with : (Entry → Bool) → tree.BTreeMap Key Entry → List Key
+keys_with passes entries = map (λ (e : Key × Entry). e.0) (filter (λ (e : Key × Entry). passes e.1) entries.entries)
 
 -- an entry with this handed-out mark
 abbrev pub with_out : Bool → Entry → Entry

@@ -38,6 +38,12 @@ checking limits story =
     if nat_lt limits.units (length (state_of story).units) then OverUnits (length (state_of story).units)
     else (if nat_lt (last_number story + limits.history) (2 ^ 64) then KeptUpTo (last_number story) else OverNumbers)
 
+-- the story after a checkpoint that comes to this
+abbrev pub story_checked : Checking → Bounds → Story → Story
+story_checked (KeptUpTo before) limits story = checkpointed limits story
+story_checked (OverUnits count) limits story = story
+story_checked OverNumbers limits story = story
+
 -- The answer says what the checkpoint comes to. Memory may want where nothing else is against it
 abbrev pub ChecksAs : Checking → Result ℕ CheckpointRefused → Type 0
 ChecksAs (KeptUpTo before) (Ok answer) = answer ≡ before

@@ -6,7 +6,7 @@ use crate::start::Start;
 use fb_jobs::Key;
 use fb_jobs::library::Library;
 use std::alloc::{AllocError, Global};
-use std::collections::{BTreeMap, BTreeSet};
+use std::collections::BTreeMap;
 use std::marker::Model;
 use std::sync::Arc;
 
@@ -38,7 +38,7 @@ impl History {
     ghost use Rattle.std.specs.Prelude.{◌≡◌, ◌+◌, ◌^◌, ◌<◌, ◌≤◌, ◌↔◌, IsTrue, OnOk, OnErr, IfOk, length};
     ghost use Rattle.std.specs.Option.{option_map};
     ghost use Rattle.fb_history.specs.Checkpoints.{restarted};
-    ghost use Rattle.fb_history.specs.Story.{all_turns, last_number, logged, new_story, record_after, record_numbered, AreTurns, IsFull};
+    ghost use Rattle.fb_history.specs.Story.{all_turns, last_number, logged, new_story, pages_after, record_after, record_numbered, AreTurns, IsFull};
     ghost use Rattle.fb_history.specs.Records.{call_of, reply_of};
 
     /// A history of no calls.
@@ -120,6 +120,13 @@ impl History {
         self.turns.get(&caller).copied().unwrap_or(0)
     }
 
+    /// How many calls each caller has made, those before the start included, by rising caller.
+    pub fn pages(&self) -> &BTreeMap<u32, u64>
+        ensures { result.now.entries ≡ pages_after self.now.origin.pages self.now.log.records }
+    {
+        &self.turns
+    }
+
     /// Adds a record at the end, and gives a share of it.
     pub fn push(&mut self, caller: u32, call: Call, reply: Reply) -> Result<Arc<Record>, AllocError>
         requires { length self.old.log.records < self.old.log.limit }
@@ -155,13 +162,13 @@ impl History {
         limits: Limits,
         library: Library,
         commits: u64,
-        pending: BTreeSet<Key>,
-        out: BTreeSet<Key>,
+        pending: Vec<Key>,
+        out: Vec<Key>,
     ) -> Result<u64, AllocError>
         requires { last_number self.old + limits.history < 2 ^ 64 }
         ensures before { IfOk result (λ before. before ≡ last_number self.old) }
         ensures ok { OnOk result
-            (self.new ≡ restarted limits library commits pending.keys out.keys self.old) }
+            (self.new ≡ restarted limits library commits pending.items out.items self.old) }
         ensures err { OnErr result (self.new ≡ self.old) }
     {
         let before = self.last_number();

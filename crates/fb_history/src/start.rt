@@ -1,9 +1,12 @@
 //! What a history begins from.
+ghost use Rattle.std.specs.Prelude.{◌≡◌};
+ghost use Rattle.std.specs.List.{list_any};
+ghost use Rattle.fb_jobs.specs.KeyOrder.{same_key};
 
 use fb_jobs::Key;
 use fb_jobs::library::Library;
 use std::alloc::Global;
-use std::collections::{BTreeMap, BTreeSet};
+use std::collections::BTreeMap;
 use std::marker::Model;
 
 /// What a history begins from: a state, and how many calls of each caller came before. It holds the texts that it began with until it is
@@ -13,8 +16,8 @@ pub struct Start {
     pub(crate) most_units: u64,
     pub(crate) library: Library,
     pub(crate) commits: u64,
-    pub(crate) pending: BTreeSet<Key>,
-    pub(crate) out: BTreeSet<Key>,
+    pub(crate) pending: Vec<Key>,
+    pub(crate) out: Vec<Key>,
     pub(crate) before: u64,
     pub(crate) calls: BTreeMap<u32, u64>,
 }
@@ -24,7 +27,7 @@ impl Model for Start {
 
     ghost Value = { Origin };
 
-    ghost view = { λ it. record { most_units = it.most_units; units = it.library; commits = it.commits; pending = it.pending.keys; out = it.out.keys; before = it.before; pages = it.calls.entries } };
+    ghost view = { λ it. record { most_units = it.most_units; units = it.library; commits = it.commits; pending = it.pending.items; out = it.out.items; before = it.before; pages = it.calls.entries } };
 }
 
 impl Start {
@@ -39,8 +42,8 @@ impl Start {
             most_units,
             library: Library::new(alloc),
             commits: 0,
-            pending: BTreeSet::new(alloc),
-            out: BTreeSet::new(alloc),
+            pending: Vec::new(alloc),
+            out: Vec::new(alloc),
             before: 0,
             calls: BTreeMap::new(alloc),
         }
@@ -60,18 +63,18 @@ impl Start {
         self.commits
     }
 
-    /// Whether the key was pending.
+    /// Whether the key was pending. It looks at the pending keys one after another.
     pub fn is_pending(&self, key: &Key) -> bool
         ensures { result ≡ (opened self.now).pending key.now }
     {
-        self.pending.contains(key)
+        is_among(&self.pending, key)
     }
 
-    /// Whether the key was handed out.
+    /// Whether the key was handed out. It looks at those that were, one after another.
     pub fn is_out(&self, key: &Key) -> bool
         ensures { result ≡ (opened self.now).out key.now }
     {
-        self.out.contains(key)
+        is_among(&self.out, key)
     }
 
     /// How many calls the caller had made.
@@ -80,4 +83,15 @@ impl Start {
     {
         self.calls.get(&caller).copied().unwrap_or(0)
     }
+}
+
+fn is_among(keys: &[Key], key: &Key) -> bool
+    ensures { result ≡ list_any (same_key key.now) keys.now }
+{
+    for other in keys {
+        if key == other {
+            return true;
+        }
+    }
+    false
 }

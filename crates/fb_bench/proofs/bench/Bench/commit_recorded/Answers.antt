@@ -4,7 +4,7 @@ use Rattle.fb_entries.specs.Library.Texts.{Edit, unit_of}
 use Rattle.fb_entries.specs.Library.Changes.{edits_of}
 use Rattle.fb_history.specs.declared.answers.Committed.TheVariants.{Done}
 use Rattle.fb_history.specs.Machine.{State, ToCommit, commit_answer, reply}
-use Rattle.fb_history.specs.Story.{Story, state_of, recorded, record_of, start}
+use Rattle.fb_history.specs.Story.{Story, state_of, recorded, record_of}
 use Rattle.fb_bench.specs.Records.{listed, text_edits}
 use Rattle.fb_bench.specs.Kept.{Agrees, IsKept}
 use Rattle.fb_entries.specs.Indexed.{IsIndexOf}
@@ -21,7 +21,7 @@ overflow_add-number c =
 
 pub invariant_of-self-in-Refused : goal.invariant_of-self-in-Refused
 invariant_of-self-in-Refused c =
-    let story : Story = record { origin = start c.self.inside.most_units; log = c.self.inside.history } in
+    let story : Story = c.self.inside.history in
     let s : State = state_of story in
     let made : List Edit = text_edits c.in_ok-of_changes.field-0.items in
     let edits : List Edit = edits_of c.first_changes-changes.result.now in
@@ -34,7 +34,7 @@ invariant_of-self-in-Refused c =
 
 pub returns-in_ok-share-in-Refused : goal.returns-in_ok-share-in-Refused
 returns-in_ok-share-in-Refused c =
-    let story : Story = record { origin = start c.self.inside.most_units; log = c.self.inside.history } in
+    let story : Story = c.self.inside.history in
     let s : State = state_of story in
     let made : List Edit = text_edits c.in_ok-of_changes.field-0.items in
     let edits : List Edit = edits_of c.first_changes-changes.result.now in
@@ -52,12 +52,12 @@ returns-in_ok-share-in-Refused c =
 
 pub invariant_of-self-in_err-share-in-Done : goal.invariant_of-self-in_err-share-in-Done
 invariant_of-self-in_err-share-in-Done c =
-    let story : Story = record { origin = start c.self.inside.most_units; log = c.self.inside.history } in
+    let story : Story = c.self.inside.history in
     let kept = c.self.invariant in
     let done = rw c.in-Done.is at c.in_ok-outcome.ensures in
     let old = c.self.inside.entries in
     let new = c.record_with_room.new.entries in
-    subst (λ l. IsKept c.self.inside.library c.self.inside.commits new.by_key new.ready c.self.inside.index (record { origin = start c.self.inside.most_units; log = l })) (sym c.in_err-share-in-Done.ensures.unlogged)
+    subst (λ l. IsKept c.self.inside.library c.self.inside.commits new.by_key new.ready c.self.inside.index l) (sym c.in_err-share-in-Done.ensures.unlogged)
     (record {
       begins = kept.begins;
       agrees = agrees_back c.self.inside.library c.in-Done.library c.self.inside.commits (map unit_of (edits_of c.first_changes-changes.result.now)) old.by_key new.by_key old.ready new.ready (state_of story) c.in-Done.found.renewal kept.agrees done.3 c.in_err-share-in-Done.ensures.back;
@@ -68,7 +68,7 @@ invariant_of-self-in_err-share-in-Done c =
 
 pub invariant_of-self-in-Done : goal.invariant_of-self-in-Done
 invariant_of-self-in-Done c =
-    let story : Story = record { origin = start c.self.inside.most_units; log = c.self.inside.history } in
+    let story : Story = c.self.inside.history in
     let s : State = state_of story in
     let made : List Edit = text_edits c.in_ok-of_changes.field-0.items in
     let edits : List Edit = edits_of c.first_changes-changes.result.now in
@@ -90,7 +90,7 @@ invariant_of-self-in-Done c =
 
 pub returns-in_ok-share-in-Done : goal.returns-in_ok-share-in-Done
 returns-in_ok-share-in-Done c =
-    let story : Story = record { origin = start c.self.inside.most_units; log = c.self.inside.history } in
+    let story : Story = c.self.inside.history in
     let s : State = state_of story in
     let made : List Edit = text_edits c.in_ok-of_changes.field-0.items in
     let edits : List Edit = edits_of c.first_changes-changes.result.now in

@@ -1,7 +1,7 @@
 -- A key that is given back is ready again if it waits for a result.
 use Rattle.std.proofs.Common.{◌≡◌, true, sym, ap, subst, ◌∙◌, arith}
 use Rattle.fb_history.specs.Machine.{State, ToGiveBack}
-use Rattle.fb_history.specs.Story.{Story, state_of, start}
+use Rattle.fb_history.specs.Story.{Story, state_of}
 use Rattle.fb_bench.specs.Kept.{Agrees, IsKept}
 use Rattle.fb_bench.proofs.Marks.{agrees_return, put_and_taken}
 use Rattle.fb_bench.proofs.Keeping.{kept_pushed}
@@ -26,7 +26,7 @@ invariant_of-self c =
 
 pub invariant_of-self-in-Ok : goal.invariant_of-self-in-Ok
 invariant_of-self-in-Ok c =
-    let story : Story = record { origin = start c.self.inside.most_units; log = c.self.inside.history } in
+    let story : Story = c.self.inside.history in
     let s : State = state_of story in
     let key = c.args.key.now in
     let out : s.out key ≡ true = ap (λ st. (state_of st).out key) c.self.view_is ∙ c.requires.out in
@@ -38,7 +38,7 @@ invariant_of-self-in-Ok c =
 
 pub returns-in-Ok : goal.returns-in-Ok
 returns-in-Ok c =
-    let story : Story = record { origin = start c.self.inside.most_units; log = c.self.inside.history } in
+    let story : Story = c.self.inside.history in
     let s : State = state_of story in
     let key = c.args.key.now in
     let out : s.out key ≡ true = ap (λ st. (state_of st).out key) c.self.view_is ∙ c.requires.out in
@@ -50,12 +50,12 @@ returns-in-Ok c =
 
 pub invariant_of-self-in-Err : goal.invariant_of-self-in-Err
 invariant_of-self-in-Err c =
-    let story : Story = record { origin = start c.self.inside.most_units; log = c.self.inside.history } in
+    let story : Story = c.self.inside.history in
     let s : State = state_of story in
     let key = c.args.key.now in
     let out : s.out key ≡ true = ap (λ st. (state_of st).out key) c.self.view_is ∙ c.requires.out in
     let agrees = c.self.invariant.agrees in
-    subst (λ l. IsKept c.self.inside.library c.self.inside.commits c.self.inside.entries.by_key c.leave.new.keys c.self.inside.index (record { origin = start c.self.inside.most_units; log = l })) (sym c.in-Err.ensures.err)
+    subst (λ l. IsKept c.self.inside.library c.self.inside.commits c.self.inside.entries.by_key c.leave.new.keys c.self.inside.index l) (sym c.in-Err.ensures.err)
     (record {
       begins = c.self.invariant.begins;
       agrees = record {

@@ -29,5 +29,5 @@ returns-clause-ok c =
     let all : c.in_ok-calls.calls.entries ≡ pages_after c.self.inside.start.pages records = same ∙ c.self.invariant.pages_are in
     let story : Story = record { origin = c.self.inside.start; log = record { limit = c.self.inside.limit; records = records } } in
     let last : c.last_number-before.result ≡ last_number story = c.last_number-before.ensures.last ∙ ap last_number (sym c.self.view_is) in
-    (λ i. record { origin = record { most_units = c.args.limits.units; units = c.args.library; commits = c.args.commits; pending = c.args.pending.keys; out = c.args.out.keys; before = last i; pages = all i }; log = record { limit = c.args.limits.history; records = records_in (c.new.ensures.items i) } })
-    ∙ ap (λ st. restarted c.args.limits c.args.library c.args.commits c.args.pending.keys c.args.out.keys st) c.self.view_is
+    (λ i. record { origin = record { most_units = c.args.limits.units; units = c.args.library; commits = c.args.commits; pending = c.args.pending.items; out = c.args.out.items; before = last i; pages = all i }; log = record { limit = c.args.limits.history; records = records_in (c.new.ensures.items i) } })
+    ∙ ap (λ st. restarted c.args.limits c.args.library c.args.commits c.args.pending.items c.args.out.items st) c.self.view_is
