@@ -15,7 +15,7 @@ use fb_entries::library::{Change, Library};
 use fb_entries::{Entries, Marks, join, keep, leave, mark_out};
 use fb_history::{
     Asked, Call, CheckpointRefused, Committed, Delivered, GivenBack, History, Limits, Record,
-    Refused, Reply, Start, TextChange,
+    Refused, Reply, Start,
 };
 use fb_text::Name;
 use std::alloc::{AllocError, Global};
@@ -171,17 +171,24 @@ impl Bench {
         self.entries.pending_count()
     }
 
-    /// What is known of a key: what is answered, and what is recorded.
-    fn shown(&self, key: &Key) -> Result<(Asked, Asked), AllocError>
-        ensures answer { IfOk result (λ made. shown_in made.0 ≡ shown (state_of self.now) key.now) }
-        ensures stored { IfOk result (λ made. shown_in made.1 ≡ shown (state_of self.now) key.now) }
+    /// What is known of a key: what is answered, and what is recorded, with a share of the key.
+    fn shown(&self, key: Key) -> Result<(Asked, Asked, Arc<Key>), AllocError>
+        ensures answer { IfOk result (λ made. shown_in made.0 ≡ shown (state_of self.now) key) }
+        ensures stored { IfOk result (λ made. shown_in made.1 ≡ shown (state_of self.now) key) }
+        ensures key { IfOk result (λ made. made.2.value ≡ key) }
     {
-        match self.entries.by_key.get(key) {
-            None => Ok((Asked::NoSuchKey, Asked::NoSuchKey)),
-            Some(entry) => match &entry.value {
-                None => Ok((Asked::Pending, Asked::Pending)),
-                Some(value) => Ok((Asked::Value(value.clone()?), Asked::Value(value.clone()?))),
-            },
+        let Some(entry) = self.entries.by_key.get(&key) else {
+            let own = Arc::new(self.alloc, key)?;
+            return Ok((Asked::NoSuchKey, Asked::NoSuchKey, own));
+        };
+        let shared = entry.share_of(self.alloc, key)?;
+        match &entry.value {
+            None => Ok((Asked::Pending, Asked::Pending, shared)),
+            Some(value) => {
+                let answer = value.clone()?;
+                let stored = value.clone()?;
+                Ok((Asked::Value(answer), Asked::Value(stored), shared))
+            }
         }
     }
 
@@ -209,10 +216,10 @@ impl Bench {
         if self.history.is_full() {
             return Err(Refused::HistoryFull);
         }
-        let (answer, stored) = self.shown(&key)?;
+        let (answer, stored, shared) = self.shown(key)?;
         let share = self
             .history
-            .push(caller, Call::Ask(key), Reply::Asking(stored))?;
+            .push(caller, Call::Ask(shared), Reply::Asking(stored))?;
         Ok((answer, share))
     }
 
@@ -359,7 +366,7 @@ impl Bench {
         }
         let number = self.commits + 1;
         let changes = first_changes(changes);
-        let call = Call::Commit(TextChange::of_changes(self.alloc, changes)?);
+        let call = Call::of_commit(self.alloc, changes)?;
         let outcome = outcome_of(
             self.alloc,
             self.history.most_units(),
@@ -378,6 +385,7 @@ impl Bench {
             Outcome::Done { library, found } => {
                 let stored = Reply::of_commit(self.alloc, Committed::Done(number))?;
                 let share = record_with_room(
+                    self.alloc,
                     &mut self.entries,
                     &mut self.history,
                     &found.renewal,
@@ -490,6 +498,17 @@ impl Bench {
         }
     }
 
+    /// The call that gives a key back, as it is recorded.
+    fn giving_back(&self, key: Key) -> Result<Call, AllocError>
+        ensures { IfOk result (λ call. call_of call ≡ ToGiveBack key) }
+    {
+        let shared = match self.entries.by_key.get(&key) {
+            None => Arc::new(self.alloc, key)?,
+            Some(entry) => entry.share_of(self.alloc, key)?,
+        };
+        Ok(Call::GiveBack(shared))
+    }
+
     /// Clears the mark that a key is handed out.
     pub fn give_back(&mut self, caller: u32, key: Key) -> Result<GivenBack, Refused>
         ensures step { OnOk result (self.new ≡ recorded self.old caller (ToGiveBack key)) }
@@ -520,8 +539,9 @@ impl Bench {
             return Err(Refused::HistoryFull);
         }
         if !self.is_out(&key) {
+            let call = self.giving_back(key)?;
             let answer = Reply::GivingBack(GivenBack::NothingOut);
-            let share = self.history.push(caller, Call::GiveBack(key), answer)?;
+            let share = self.history.push(caller, call, answer)?;
             return Ok((GivenBack::NothingOut, share));
         }
         let share = if self.waits(&key) {
@@ -542,9 +562,10 @@ impl Bench {
             (λ it. it.value ≡ record_of self.old caller (ToGiveBack key.now)) }
         ensures err { OnErr result (self.new ≡ self.old) }
     {
+        let call = self.giving_back(*key)?;
         join(&mut self.entries.ready, key)?;
         let answer = Reply::GivingBack(GivenBack::Returned);
-        match self.history.push(caller, Call::GiveBack(*key), answer) {
+        match self.history.push(caller, call, answer) {
             Ok(share) => {
                 mark_out(&mut self.entries.by_key, key, false);
                 Ok(share)
@@ -566,8 +587,9 @@ impl Bench {
             (λ it. it.value ≡ record_of self.old caller (ToGiveBack key.now)) }
         ensures err { OnErr result (self.new ≡ self.old) }
     {
+        let call = self.giving_back(*key)?;
         let answer = Reply::GivingBack(GivenBack::Returned);
-        let share = self.history.push(caller, Call::GiveBack(*key), answer)?;
+        let share = self.history.push(caller, call, answer)?;
         mark_out(&mut self.entries.by_key, key, false);
         Ok(share)
     }

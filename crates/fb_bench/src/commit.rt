@@ -145,6 +145,7 @@ pub(crate) fn outcome_of(
 
 /// Records a commit that is done, with room for the entries and marks that it brings, or leaves all as it was.
 pub(crate) fn record_with_room(
+    alloc: Global,
     entries: &mut Entries,
     history: &mut History,
     renewal: &Renewal,
@@ -161,7 +162,7 @@ pub(crate) fn record_with_room(
         (λ it. it.value ≡ record_after history.old caller (call_of call) (reply_of answer)) }
     ensures unlogged { OnErr result (history.new ≡ history.old) }
 {
-    entries.make_room(renewal)?;
+    entries.make_room(alloc, renewal)?;
     match history.push(caller, call, answer) {
         Ok(share) => Ok(share),
         Err(error) => {

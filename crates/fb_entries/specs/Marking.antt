@@ -18,8 +18,8 @@ is_of key keys = list_any (same_key key) keys
 -- ---- entries
 
 -- an entry that waits for a result
-abbrev pub blank : Entry
-blank = record { value = None; out = false; found = None; former = None }
+abbrev pub blank : Arc Key Global → Entry
+blank key = record { key = key; value = None; out = false; found = None; former = None }
 
 -- an entry that has no value
 abbrev pub is_unkept : Entry → Bool
@@ -39,7 +39,7 @@ with_out out it = record it { out = out }
 
 -- an entry that is not handed out, with this value, and with nothing from before
 abbrev pub with_value : Arc Value Global → Entry → Entry
-with_value value it = record { value = Some value; out = false; found = None; former = None }
+with_value value it = record it { value = Some value; out = false; found = None; former = None }
 
 -- what was found for an entry that has no value
 abbrev pub unless_kept : Option (Arc Value Global) → Arc Value Global → Option (Arc Value Global)
@@ -52,7 +52,7 @@ with_found found it = record it { found = unless_kept it.value found }
 
 -- an entry that waits for a result again: what was found for it is gone, and the value that it had last is the former one
 abbrev pub waiting : Entry → Entry
-waiting it = record { value = None; out = false; found = None; former = option_or it.value it.former }
+waiting it = record it { value = None; out = false; found = None; former = option_or it.value it.former }
 
 -- the entry of a key that is to wait for a result or not
 abbrev pub waiting_if : Bool → Option Entry → Option Entry

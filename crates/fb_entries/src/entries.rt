@@ -147,11 +147,11 @@ impl Entries {
     }
 
     /// Makes room for new entries and marks, or leaves all as it was.
-    pub fn make_room(&mut self, renewal: &Renewal) -> Result<(), AllocError>
+    pub fn make_room(&mut self, alloc: Global, renewal: &Renewal) -> Result<(), AllocError>
         ensures ok { OnOk result (MakesRoom renewal.now self.old self.new) }
         ensures err { OnErr result (LosesRoom renewal.now self.old self.new) }
     {
-        let is_made = put_blank(&mut self.by_key, &renewal.fresh).is_ok();
+        let is_made = put_blank(alloc, &mut self.by_key, &renewal.fresh).is_ok();
         if is_made && join_all(&mut self.ready, &renewal.unready).is_ok() {
             return Ok(());
         }

@@ -1,8 +1,8 @@
 //! The records of a history. They keep texts, and no trees.
 ghost use Rattle.std.specs.Prelude.{◌≡◌, IfOk};
 ghost use Rattle.fb_jobs.specs.Library.Changes.{edit_of, edits_of};
-ghost use Rattle.fb_history.specs.Machine.{OfCommit, OfDeliver};
-ghost use Rattle.fb_history.specs.Records.{text_edit, text_edits, reply_of};
+ghost use Rattle.fb_history.specs.Machine.{ToCommit, OfCommit, OfDeliver};
+ghost use Rattle.fb_history.specs.Records.{call_of, text_edit, text_edits, reply_of};
 
 use crate::answers::{Asked, Committed, Delivered, GivenBack};
 use crate::same::{is_same_call, is_same_reply};
@@ -55,7 +55,7 @@ impl TextChange {
     }
 
     /// The changes as they are recorded, sharing their texts.
-    pub fn of_changes(alloc: Global, changes: &[Change]) -> Result<Vec<TextChange>, AllocError>
+    fn of_changes(alloc: Global, changes: &[Change]) -> Result<Vec<TextChange>, AllocError>
         ensures { IfOk result (λ made. text_edits made.items ≡ edits_of changes.now) }
     {
         let mut made = Vec::with_capacity(alloc, changes.len())?;
@@ -66,14 +66,24 @@ impl TextChange {
     }
 }
 
-/// A recorded call. It has room for a key, since most calls ask; what is larger stands in a box.
+/// A recorded call, in 16 bytes: what is larger stands in a box, or is shared with what the workbench keeps of the key.
 #[derive(Drop)]
 pub enum Call {
-    Commit(Vec<TextChange>),
+    Commit(Box<Vec<TextChange>>),
     Take,
     Deliver(Box<Wanted>),
-    GiveBack(Key),
-    Ask(Key),
+    GiveBack(Arc<Key>),
+    Ask(Arc<Key>),
+}
+
+impl Call {
+    /// A commit of these changes.
+    pub fn of_commit(alloc: Global, changes: &[Change]) -> Result<Call, AllocError>
+        ensures { IfOk result (λ it. call_of it ≡ ToCommit (edits_of changes.now)) }
+    {
+        let changes = TextChange::of_changes(alloc, changes)?;
+        Ok(Call::Commit(Box::new(alloc, changes)?))
+    }
 }
 
 /// The answer to a recorded call. What is large stands in a box.

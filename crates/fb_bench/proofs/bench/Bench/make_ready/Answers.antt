@@ -1,7 +1,8 @@
 -- A key that is given back is ready again if it waits for a result.
 use Rattle.std.proofs.Common.{◌≡◌, true, sym, ap, subst, ◌∙◌, arith}
-use Rattle.fb_history.specs.Machine.{State, ToGiveBack}
-use Rattle.fb_history.specs.Story.{Story, state_of}
+use Rattle.fb_history.specs.Machine.{State, ToGiveBack, OfGiveBack}
+use Rattle.fb_history.specs.declared.answers.GivenBack.TheVariants.{Returned}
+use Rattle.fb_history.specs.Story.{Story, logged, record_after, state_of}
 use Rattle.fb_bench.specs.Kept.{Agrees, IsKept}
 use Rattle.fb_bench.proofs.Marks.{agrees_return, put_and_taken}
 use Rattle.fb_bench.proofs.Keeping.{kept_pushed}
@@ -31,7 +32,7 @@ invariant_of-self-in-Ok c =
     let key = c.args.key.now in
     let out : s.out key ≡ true = ap (λ st. (state_of st).out key) c.self.view_is ∙ c.requires.out in
     let waits : s.pending key ≡ true = ap (λ st. (state_of st).pending key) c.self.view_is ∙ c.requires.waits in
-    kept_pushed _ _ _ _ _ story _ c.args.caller (ToGiveBack key) _ c.self.invariant.begins c.in-Ok.ensures.ok (out_returned s key out)
+    kept_pushed _ _ _ _ _ story _ c.args.caller (ToGiveBack key) _ c.self.invariant.begins (c.in-Ok.ensures.ok ∙ ap (λ it. logged story c.args.caller it (OfGiveBack Returned)) c.in_ok-call.ensures) (out_returned s key out)
     (subst (λ t. Agrees c.self.inside.library c.self.inside.commits c.mark_out.new.entries c.join.new.keys t) (sym (after_returned s key out))
     (agrees_return _ _ c.self.inside.entries.by_key _ c.self.inside.entries.ready _ s key c.self.invariant.agrees waits c.mark_out.ensures c.in_ok-join.ensures.ok))
     c.self.invariant.replayed c.self.invariant.indexed (omega (arith, c.self.invariant.few))
@@ -43,8 +44,8 @@ returns-in-Ok c =
     let key = c.args.key.now in
     let out : s.out key ≡ true = ap (λ st. (state_of st).out key) c.self.view_is ∙ c.requires.out in
     record {
-      step = story_pushed story _ _ c.args.caller (ToGiveBack key) _ c.self.view_is c.in-Ok.ensures.ok (out_returned s key out);
-      share = share_pushed story _ _ c.args.caller (ToGiveBack key) _ c.self.view_is c.in-Ok.ensures.share (out_returned s key out);
+      step = story_pushed story _ _ c.args.caller (ToGiveBack key) _ c.self.view_is (c.in-Ok.ensures.ok ∙ ap (λ it. logged story c.args.caller it (OfGiveBack Returned)) c.in_ok-call.ensures) (out_returned s key out);
+      share = share_pushed story _ _ c.args.caller (ToGiveBack key) _ c.self.view_is (c.in-Ok.ensures.share ∙ ap (λ it. record_after story c.args.caller it (OfGiveBack Returned)) c.in_ok-call.ensures) (out_returned s key out);
       err = tt;
     }
 
