@@ -171,7 +171,9 @@ module _ (story : Story) (caller : ℕ) (rs : List Claim) (right : AllByRecursio
   missing : (n : ℕ) → is_own caller (record_numbered story n) ≡ true → times n rs ≡ 0 → (bound : ℕ) → n ≤ bound → sum_by (up_to caller bound) rs + 1 ≤ turns_to story caller bound
   missing n own none zero le =
       let first : n ≡ 0 = omega (arith, le) in
-      let bad : false ≡ true = subst (λ (k : ℕ). is_own caller (record_numbered story k) ≡ true) first own in
+      let here : is_own caller (record_numbered story 0) ≡ true = subst (λ (k : ℕ). is_own caller (record_numbered story k) ≡ true) first own in
+      let place : 0 - story.origin.before ≡ 0 = omega arith in
+      let bad : false ≡ true = subst (λ (k : ℕ). is_own caller (record_at story.log.records k) ≡ true) place here in
       absurd (let no : ⊥ = cc in no)
   missing n own none (suc bound) le =
       elim (eq-or-lt_of_le le) as (λ _. sum_by (up_to caller (suc bound)) rs + 1 ≤ turns_to story caller (suc bound)) [

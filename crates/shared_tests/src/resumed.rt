@@ -1,8 +1,6 @@
 //! A workbench that comes under a lock with the calls that it has: after a checkpoint and without one.
-use crate::play::{
-    Counts, Played, closed, closed_locked, is_without_faults, played_shared,
-};
-use crate::setup::{faults_of, new_shared, pair};
+use crate::play::{Counts, Played, closed, closed_locked, is_without_faults, played_shared};
+use crate::setup::{both_of, faults_of, new_shared, pair};
 use fb_shared::bench::{Bench, Limits, Start};
 use fb_shared::{CloseFault, Locked, Receipt, ResumeFault, Seat, Shared, SharedRefused};
 use std::alloc::Global;
@@ -37,7 +35,12 @@ fn has_no_records(bench: &Bench) -> bool {
 
 // how many commits were good, and how many calls the callers 1 to 3 had made
 fn counts_at(start: &Start) -> (u64, u64, u64, u64) {
-    (start.commits(), start.turns(1), start.turns(2), start.turns(3))
+    (
+        start.commits(),
+        start.turns(1),
+        start.turns(2),
+        start.turns(3),
+    )
 }
 
 // whether the faults of A were known there: neither pending nor handed out
@@ -85,23 +88,24 @@ fn asked_by_nobody(alloc: Global) -> Option<Bench> {
 fn caller_0_never_gets_a_seat(rt: HostRuntime) -> Result<(), Fail> {
     let bench = asked_by_nobody(rt.alloc()).ok_or("a workbench")?;
     let nobody = ResumeFault::CallersFew(0);
-    assert_eq!(rt; refused_resumes(rt.alloc(), bench, 2), Some((nobody, nobody, 1)));
+    assert_eq!(rt;
+        refused_resumes(rt.alloc(), bench, 2),
+        Some((nobody, nobody, 1))
+    );
     Ok(())
 }
 
 // a shared workbench with the calls that it has, and its two seats
 fn resumed_shared(alloc: Global, bench: Bench) -> Option<(Shared, Seat, Seat)> {
-    let (shared, mut seats) = Shared::resume(alloc, bench, 2).ok()?;
-    let second = seats.pop()?;
-    let first = seats.pop()?;
+    let (shared, seats) = Shared::resume(alloc, bench, 2).ok()?;
+    let (first, second) = both_of(seats)?;
     Some((shared, first, second))
 }
 
 // the same with no lock
 fn resumed_locked(alloc: Global, bench: Bench) -> Option<(Locked, Seat, Seat)> {
-    let (locked, mut seats) = Locked::resume(alloc, bench, 2).ok()?;
-    let second = seats.pop()?;
-    let first = seats.pop()?;
+    let (locked, seats) = Locked::resume(alloc, bench, 2).ok()?;
+    let (first, second) = both_of(seats)?;
     Some((locked, first, second))
 }
 
@@ -119,10 +123,7 @@ fn is_next(receipt: &Receipt) -> bool {
 }
 
 // the receipt of the next call, as a list
-fn next_alone(
-    alloc: Global,
-    answer: Result<Receipt, SharedRefused>,
-) -> Option<Vec<Receipt>> {
+fn next_alone(alloc: Global, answer: Result<Receipt, SharedRefused>) -> Option<Vec<Receipt>> {
     let receipt = answer.ok()?;
     if !is_next(&receipt) {
         return None;
@@ -156,7 +157,10 @@ fn goes_on_locked(alloc: Global, bench: Bench) -> Option<((Row, Row), Option<Cou
 fn numbers_and_turns_go_on_under_the_lock(rt: HostRuntime) -> Result<(), Fail> {
     let (bench, _receipts) = kept_bench(&rt, rt.alloc()).ok_or("a workbench")?;
     let rows = ((1, 1, 6), (2, 5, 6));
-    assert_eq!(rt; goes_on_shared(&rt, rt.alloc(), bench), Some((rows, Some((1, 2, 5)))));
+    assert_eq!(rt;
+        goes_on_shared(&rt, rt.alloc(), bench),
+        Some((rows, Some((1, 2, 5))))
+    );
     Ok(())
 }
 
@@ -164,7 +168,10 @@ fn numbers_and_turns_go_on_under_the_lock(rt: HostRuntime) -> Result<(), Fail> {
 fn numbers_and_turns_go_on_with_no_lock(rt: HostRuntime) -> Result<(), Fail> {
     let (bench, _receipts) = kept_bench(&rt, rt.alloc()).ok_or("a workbench")?;
     let rows = ((1, 1, 6), (2, 5, 6));
-    assert_eq!(rt; goes_on_locked(rt.alloc(), bench), Some((rows, Some((1, 2, 5)))));
+    assert_eq!(rt;
+        goes_on_locked(rt.alloc(), bench),
+        Some((rows, Some((1, 2, 5))))
+    );
     Ok(())
 }
 
@@ -180,19 +187,19 @@ fn last_alone(alloc: Global, receipts: Vec<Receipt>) -> Option<Vec<Receipt>> {
 fn fault_of_last(alloc: Global, bench: Bench, receipts: Vec<Receipt>) -> Option<CloseFault> {
     let (shared, first, second) = resumed_shared(alloc, bench)?;
     let last = last_alone(alloc, receipts)?;
-    let refused = shared.close(alloc, pair(alloc, first, second)?, &last).err()?;
+    let refused = shared
+        .close(alloc, pair(alloc, first, second)?, &last)
+        .err()?;
     Some(refused.fault)
 }
 
 // the same with no lock
-fn fault_of_last_locked(
-    alloc: Global,
-    bench: Bench,
-    receipts: Vec<Receipt>,
-) -> Option<CloseFault> {
+fn fault_of_last_locked(alloc: Global, bench: Bench, receipts: Vec<Receipt>) -> Option<CloseFault> {
     let (locked, first, second) = resumed_locked(alloc, bench)?;
     let last = last_alone(alloc, receipts)?;
-    let refused = locked.close(alloc, pair(alloc, first, second)?, &last).err()?;
+    let refused = locked
+        .close(alloc, pair(alloc, first, second)?, &last)
+        .err()?;
     Some(refused.fault)
 }
 
@@ -223,7 +230,10 @@ fn old_receipts_are_right_without_a_checkpoint(rt: HostRuntime) -> Result<(), Fa
     let (bench, receipts) = played_bench(&rt, rt.alloc()).ok_or("a workbench")?;
     let (other, others) = played_bench(&rt, rt.alloc()).ok_or("a workbench")?;
     assert_eq!(rt; counts_with(rt.alloc(), bench, &receipts), Some((6, 1, 5)));
-    assert_eq!(rt; counts_with_locked(rt.alloc(), other, &others), Some((6, 1, 5)));
+    assert_eq!(rt;
+        counts_with_locked(rt.alloc(), other, &others),
+        Some((6, 1, 5))
+    );
     Ok(())
 }
 
