@@ -44,7 +44,7 @@ impl Entry {
         if *self.key == key {
             self.key.clone()
         } else {
-            Arc::new(alloc, key)
+            Ok(Arc::new(alloc, key)?)
         }
     }
 }

@@ -50,6 +50,11 @@ own_turn records it =
 abbrev pub TurnsFrom : List (ℕ × ℕ) → List Record → Type 0
 TurnsFrom pages records = (place : ℕ) (it : Record) → record_at records place ≡ Some it → it.turn ≡ on_page pages it.caller + turns_of it.caller (take place records)
 
+-- none of no records
+pub turns_none : (pages : List (ℕ × ℕ)) → TurnsFrom pages []
+turns_none pages zero it at = cc
+turns_none pages (suc place) it at = cc
+
 turn_at : (pages : List (ℕ × ℕ)) (records : List Record) (it : Record) → TurnsFrom pages records → it.turn ≡ on_page pages it.caller + turns_of it.caller records + 1 → (place : ℕ) (found : Record) → AtPlace records it place → slice_get (records ++ it ∷ []) place ≡ Some found → found.turn ≡ on_page pages found.caller + turns_of found.caller (take (suc place) (records ++ it ∷ []))
 turn_at pages records it so_far turn place found (inl (same, front)) at = so_far (suc place) found (sym same ∙ at) ∙ ap (λ rs. on_page pages found.caller + turns_of found.caller rs) (sym front)
 turn_at pages records it so_far turn place found (inr (inl (here, front))) at =

@@ -1,7 +1,7 @@
 -- A history that begins anew where it has led to.
-use Rattle.std.proofs.Common.{◌≡◌, ℕ, ◌+◌, ◌-◌, ◌≤◌, Bool, true, false, ◌||◌, ◌&&◌, not, List, [], ◌∷◌, filter, length, Option, Some, None, refl, sym, ap, ◌∙◌, subst, cond, arith, zero, suc}
+use Rattle.std.proofs.Common.{◌≡◌, ℕ, ◌-◌, Bool, true, false, ◌||◌, ◌&&◌, not, List, [], ◌∷◌, filter, map, Option, Some, None, refl, sym, ap, ◌∙◌, subst, arith, zero, suc}
 use Rattle.std.specs.List.{list_any}
-use Rattle.fb_jobs.specs.Library.Texts.{Edit}
+use Rattle.fb_jobs.specs.Library.Texts.{Edit, all_edited, unit_of}
 use Rattle.fb_jobs.specs.declared.key.Key.{Key}
 use Rattle.fb_jobs.specs.Keys.{has_key}
 use Rattle.fb_jobs.specs.KeyOrder.{same_key}
@@ -14,9 +14,9 @@ use Rattle.fb_history.specs.declared.answers.Delivered.{Delivered}
 use Rattle.fb_history.specs.declared.answers.Delivered.TheVariants.{Accepted, NoSuchKey, NotPending, Stale}
 use Rattle.fb_history.specs.declared.answers.GivenBack.{GivenBack}
 use Rattle.fb_history.specs.declared.answers.GivenBack.TheVariants.{Returned, NothingOut}
-use Rattle.fb_history.specs.Machine.{State, Call, ToCommit, ToTake, ToDeliver, ToGiveBack, ToAsk, commit_answer, after_commit, next, after_take, deliver_answer, after_deliver, give_back_answer, after_give_back, after, keys_of, removed, added}
+use Rattle.fb_history.specs.Machine.{State, Call, ToCommit, ToTake, ToDeliver, ToGiveBack, ToAsk, commit_answer, after_commit, next, after_take, deliver_answer, after_deliver, give_back_answer, after_give_back, after, keys_of, reaches}
 use Rattle.fb_history.specs.Limits.{Bounds}
-use Rattle.fb_history.specs.Story.{Story, Origin, IsOrigin, Record, opened, replay, calls_of, state_of, all_turns, last_number, on_page, pages_after, record_at, record_numbered}
+use Rattle.fb_history.specs.Story.{Story, IsOrigin, opened, replay, calls_of, state_of, last_number, pages_after, record_at}
 use Rattle.fb_history.specs.Checkpoints.{checkpointed, IsUnseen, AreOne, NumbersGoOn}
 use Rattle.fb_history.proofs.Least.{next_passes, of_keys}
 use Rattle.fb_history.proofs.Pages.{on_all}
@@ -27,14 +27,15 @@ use Rattle.fb_history.proofs.Sorted.{rise_story}
 abbrev IsWithin : State → Type 0
 IsWithin s = (key : Key) → has_key s.units key ≡ false → (s.pending key ≡ false) × (s.out key ≡ false)
 
-and_left : (a b : Bool) → a ≡ false → (a && b) ≡ false
-and_left a b none = ap (λ x. x && b) none
-
 and_right : (a b : Bool) → b ≡ false → (a && b) ≡ false
 and_right a b none = ap (λ x. a && x) none ∙ and_false a
 
 within_commit : (answer : Committed) (edits : List Edit) (s : State) → IsWithin s → IsWithin (after_commit answer edits s)
-within_commit (Done commit) edits s within = λ key none. (and_left _ _ none, and_left _ _ none)
+within_commit (Done commit) edits s within =
+    λ key none. (
+      ap (λ b. b && ((s.pending key || not (has_key s.units key)) || reaches (map unit_of edits) (all_edited commit edits s.units) key)) none,
+      ap (λ b. ((b && has_key s.units key) && s.out key) && not (reaches (map unit_of edits) (all_edited commit edits s.units) key)) none,
+    )
 within_commit NoChange edits s within = within
 within_commit TooManyChanges edits s within = within
 within_commit (SameUnitTwice unit) edits s within = within
@@ -57,8 +58,8 @@ within_take None s is within = within
 within_take (Some k) s is within =
     let pends : s.pending k ≡ true = first_true (s.pending k) (not (s.out k)) (next_passes s k is) in
     λ key none.
-        let apart : same_key k key ≡ false = not_it s k key (same_key k key) within pends none refl in
-        ((within key none).0, ap (λ b. b || s.out key) apart ∙ (within key none).1)
+    let apart : same_key k key ≡ false = not_it s k key (same_key k key) within pends none refl in
+    ((within key none).0, ap (λ b. b || s.out key) apart ∙ (within key none).1)
 
 within_deliver : (answer : Delivered) (k : Key) (s : State) → IsWithin s → IsWithin (after_deliver answer k s)
 within_deliver Accepted k s within = λ key none. (and_right _ _ (within key none).0, and_right _ _ (within key none).1)
@@ -126,10 +127,10 @@ no_record (suc place) = refl
 
 pub numbers_go_on : (limits : Bounds) (story : Story) → NumbersGoOn limits story
 numbers_go_on limits story = record {
-      last = (let n = last_number story in omega arith);
-      turns = λ caller. (let all = on_all story.origin.pages story.log.records caller in omega (arith, all));
-      none = λ number. no_record (number - last_number story);
-    }
+  last = (let n = last_number story in omega arith);
+  turns = λ caller. (let all = on_all story.origin.pages story.log.records caller in omega (arith, all));
+  none = λ number. no_record (number - last_number story);
+}
 
 -- two in a row are the second
 pub are_one : (first second : Bounds) (story : Story) → IsOrigin story.origin → AreOne first second story
@@ -138,10 +139,14 @@ are_one first second story begins =
     let s : State = state_of story in
     let last : last_number (checkpointed first story) ≡ last_number story = (numbers_go_on first story).last in
     λ i. record {
-        origin = record {
-          most_units = second.units; units = (same i).units; commits = (same i).commits;
-          pending = filter (same i).pending (keys_of (same i).units); out = filter (same i).out (keys_of (same i).units);
-          before = last i; pages = pages_after story.origin.pages story.log.records;
-        };
-        log = record { limit = second.history; records = [] };
-      }
+      origin = record {
+        most_units = second.units;
+        units = (same i).units;
+        commits = (same i).commits;
+        pending = filter (same i).pending (keys_of (same i).units);
+        out = filter (same i).out (keys_of (same i).units);
+        before = last i;
+        pages = pages_after story.origin.pages story.log.records;
+      };
+      log = record { limit = second.history; records = [] };
+    }

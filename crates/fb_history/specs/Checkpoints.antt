@@ -14,8 +14,13 @@ restarted limits units commits pending out story =
     record {
       origin =
           record {
-            most_units = limits.units; units = units; commits = commits; pending = pending; out = out;
-            before = last_number story; pages = pages_after story.origin.pages story.log.records;
+            most_units = limits.units;
+            units = units;
+            commits = commits;
+            pending = pending;
+            out = out;
+            before = last_number story;
+            pages = pages_after story.origin.pages story.log.records;
           };
       log = record { limit = limits.history; records = [] };
     }

@@ -104,10 +104,11 @@ impl History {
     pub fn record(&self, number: u64) -> Option<&Record>
         ensures { option_map (λ it. it.now) result ≡ record_numbered self.now number }
     {
-        if number <= self.start.before {
+        let earlier = self.before();
+        if number <= earlier {
             return None;
         }
-        match self.records.get((number - self.start.before - 1) as usize) {
+        match self.records.get((number - earlier - 1) as usize) {
             Some(record) => Some(record),
             None => None,
         }
@@ -172,9 +173,11 @@ impl History {
         ensures err { OnErr result (self.new ≡ self.old) }
     {
         let before = self.last_number();
+        let most_units = limits.units();
+        let limit = limits.history();
         let calls = self.turns.clone()?;
         self.start = Start {
-            most_units: limits.units(),
+            most_units,
             library,
             commits,
             pending,
@@ -182,7 +185,7 @@ impl History {
             before,
             calls,
         };
-        self.limit = limits.history();
+        self.limit = limit;
         self.records = Vec::new(self.alloc);
         Ok(before)
     }

@@ -88,10 +88,5 @@ impl Start {
 fn is_among(keys: &[Key], key: &Key) -> bool
     ensures { result ≡ list_any (same_key key.now) keys.now }
 {
-    for other in keys {
-        if key == other {
-            return true;
-        }
-    }
-    false
+    keys.iter().any(|other| *key == *other)
 }

@@ -1,10 +1,10 @@
 -- One more record, on the page of its caller.
-use Rattle.std.proofs.Common.{◌≡◌, ◌∙◌, ◌+◌, ◌++◌, ◌∷◌, [], ap, sym, arith, rules}
+use Rattle.std.proofs.Common.{◌≡◌, ◌∙◌, ◌+◌, ◌++◌, ◌∷◌, [], ap, sym, arith}
 use Rattle.std.proofs.lemmas.Grind.{common_steps}
 use Rattle.std.specs.BTreeMap.{insert_entry}
 use Rattle.std.specs.Ordering.{nat_cmp}
 use Rattle.fb_history.specs.Records.{records_in}
-use Rattle.fb_history.specs.Story.{Record, Story, all_turns, on_page, pages_after, turns_of}
+use Rattle.fb_history.specs.Story.{Record, all_turns, on_page, pages_after, turns_of}
 use Rattle.fb_history.proofs.Numbers.{shares_pushed, turns_shared}
 use Rattle.fb_history.proofs.Pages.{on_all, pages_pushed}
 use Rattle.fb_history.proofs.log.History.push.Goals as goal
@@ -16,7 +16,7 @@ invariant_of-self-in-Ok c =
     let made = c.in_ok-record.ensures.ok in
     let it = c.in_ok-record.record in
     let turns : c.turns_of-turns.result ≡ on_page pages c.args.caller + turns_of c.args.caller records =
-            c.turns_of-turns.ensures ∙ ap (λ st. all_turns st c.args.caller) (sym c.self.view_is) in
+    c.turns_of-turns.ensures ∙ ap (λ st. all_turns st c.args.caller) (sym c.self.view_is) in
     let more : c.push_reserved.new.self.items ≡ c.self.inside.records.items ++ it ∷ [] = c.push_reserved.ensures.items ∙ ap (λ rs. rs ++ it ∷ []) c.in_ok-reserve.ensures.items in
     let by : it.value.caller ≡ c.args.caller = ap (λ (r : Record). r.caller) made in
     record {

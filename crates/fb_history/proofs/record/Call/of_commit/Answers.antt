@@ -1,8 +1,7 @@
 -- The changes stand in a box.
-use Rattle.std.proofs.Common.{◌∙◌, ap}
+use Rattle.std.proofs.Common.{ap}
 use Rattle.fb_history.specs.Machine.{ToCommit}
-use Rattle.fb_history.specs.Records.{text_edits}
 use Rattle.fb_history.proofs.record.Call.of_commit.Goals as goal
 
 pub returns : goal.returns
-returns c = ap (λ (changes : _). ToCommit (text_edits changes.items)) c.in_ok-new.ensures ∙ ap ToCommit c.in_ok-changes.ensures
+returns c = rw c.in_ok-new.ensures.ok (ap ToCommit c.in_ok-changes.ensures)
