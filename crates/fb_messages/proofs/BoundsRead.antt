@@ -32,7 +32,7 @@ pub read_where_they_hold : (units history : ℕ) → SomeIff (limits_of units hi
 read_where_they_hold units history = by ((nat_le 1 units && nat_le units 16384) && (nat_le 1 history && nat_le history 10000000)) refl
   where
     by : (b : Bool) → (nat_le 1 units && nat_le units 16384) && (nat_le 1 history && nat_le history 10000000) ≡ b
-        → SomeIff (cond b (Some (record { units = units; history = history })) None) (AreLimits units history) (record { units = units; history = history })
+        → SomeIff {T = Bounds} (cond b (Some (record { units = units; history = history })) None) (AreLimits units history) (record { units = units; history = history })
     by true is = (in_ranges units history is, refl)
     by false is = λ limits. let bad : true ≡ false = sym (of_ranges units history limits) ∙ is in cc
 
