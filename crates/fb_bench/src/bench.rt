@@ -15,7 +15,7 @@ use fb_entries::library::{Change, Library};
 use fb_entries::{Entries, Marks, join, keep, leave, mark_out};
 use fb_history::{
     Asked, Call, CheckpointRefused, Committed, Delivered, GivenBack, History, Limits, Record,
-    Refused, Reply, Start,
+    Refused, Reply, Start, TextChange,
 };
 use fb_text::Name;
 use std::alloc::{AllocError, Global};
@@ -365,11 +365,12 @@ impl Bench {
             return Err(Refused::HistoryFull);
         }
         let number = self.commits + 1;
+        let most_units = self.history.most_units();
         let changes = first_changes(changes);
-        let call = Call::of_commit(self.alloc, changes)?;
+        let call = Call::Commit(TextChange::of_changes(self.alloc, changes)?);
         let outcome = outcome_of(
             self.alloc,
-            self.history.most_units(),
+            most_units,
             number,
             &self.library,
             &self.index,

@@ -42,10 +42,10 @@ impl Entry {
         ensures { IfOk result (λ shared. shared.value ≡ key) }
     {
         if *self.key == key {
-            self.key.clone()
-        } else {
-            Ok(Arc::new(alloc, key)?)
+            let shared = self.key.clone()?;
+            return Ok(shared);
         }
+        Ok(Arc::new(alloc, key)?)
     }
 }
 

@@ -1,8 +1,8 @@
 //! The records of a history. They keep texts, and no trees.
 ghost use Rattle.std.specs.Prelude.{◌≡◌, IfOk};
 ghost use Rattle.fb_jobs.specs.Library.Changes.{edit_of, edits_of};
-ghost use Rattle.fb_history.specs.Machine.{ToCommit, OfCommit, OfDeliver};
-ghost use Rattle.fb_history.specs.Records.{call_of, text_edit, text_edits, reply_of};
+ghost use Rattle.fb_history.specs.Machine.{OfCommit, OfDeliver};
+ghost use Rattle.fb_history.specs.Records.{text_edit, text_edits, reply_of};
 
 use crate::answers::{Asked, Committed, Delivered, GivenBack};
 use crate::same::{is_same_call, is_same_reply};
@@ -54,8 +54,15 @@ impl TextChange {
         }
     }
 
-    /// The changes as they are recorded, sharing their texts.
-    fn of_changes(alloc: Global, changes: &[Change]) -> Result<Vec<TextChange>, AllocError>
+    /// The changes as they are recorded, sharing their texts, in a box.
+    pub fn of_changes(alloc: Global, changes: &[Change]) -> Result<Box<Vec<TextChange>>, AllocError>
+        ensures { IfOk result (λ made. text_edits made.value.items ≡ edits_of changes.now) }
+    {
+        let made = TextChange::all_of(alloc, changes)?;
+        Ok(Box::new(alloc, made)?)
+    }
+
+    fn all_of(alloc: Global, changes: &[Change]) -> Result<Vec<TextChange>, AllocError>
         ensures { IfOk result (λ made. text_edits made.items ≡ edits_of changes.now) }
     {
         let mut made = Vec::with_capacity(alloc, changes.len())?;
@@ -74,16 +81,6 @@ pub enum Call {
     Deliver(Box<Wanted>),
     GiveBack(Arc<Key>),
     Ask(Arc<Key>),
-}
-
-impl Call {
-    /// A commit of these changes.
-    pub fn of_commit(alloc: Global, changes: &[Change]) -> Result<Call, AllocError>
-        ensures { IfOk result (λ it. call_of it ≡ ToCommit (edits_of changes.now)) }
-    {
-        let changes = TextChange::of_changes(alloc, changes)?;
-        Ok(Call::Commit(Box::new(alloc, changes)?))
-    }
 }
 
 /// The answer to a recorded call. What is large stands in a box.

@@ -9,6 +9,9 @@ use Rattle.fb_entries.specs.Marking.{is_of, blank}
 use Rattle.fb_entries.proofs.KeySteps.{of_now, of_front, others_more, entry_more}
 use Rattle.fb_entries.proofs.renewal.put_blank.Goals as goal
 
+pub returns-in_err-shared-clause-others : goal.returns-in_err-shared-clause-others
+returns-in_err-shared-clause-others c = λ other apart. c.loop-key.invariant.0 other (of_front other c.loop-key.key-index c.args.keys.now apart)
+
 pub returns-then-is_err-clause-others : goal.returns-then-is_err-clause-others
 returns-then-is_err-clause-others c =
     let same : c.insert.new.self.entries ≡ c.loop-key.entries.entries = search rules in

@@ -26,8 +26,8 @@ invariant_of-self-in-Refused c =
     let s : State = state_of story in
     let edits : List Edit = edits_of c.first_changes-changes.result.now in
     let refused = rw c.in-Refused.is at c.in_ok-outcome.ensures in
-    let answer : c.in-Refused.refused ≡ commit_answer s edits = refused.0 ∙ ap (λ m. answer_at m (c.self.inside.commits + 1) c.self.inside.library edits) c.most_units.ensures ∙ answer_kept story c.self.inside.library c.self.inside.commits edits c.self.invariant.agrees.units_are c.self.invariant.agrees.commits_are in
-    kept_pushed _ _ _ _ _ story _ c.args.caller (ToCommit edits) _ c.self.invariant.begins (c.in_ok-share-in-Refused.ensures.ok ∙ ap (λ it. logged story c.args.caller it (reply_of c.in_ok-stored-in-Refused.stored)) c.in_ok-call.ensures) (c.in_ok-stored-in-Refused.ensures ∙ commits_is s edits edits c.in-Refused.refused refl answer)
+    let answer : c.in-Refused.refused ≡ commit_answer s edits = refused.0 ∙ ap (λ m. answer_at m (c.self.inside.commits + 1) c.self.inside.library edits) c.most_units-most_units.ensures ∙ answer_kept story c.self.inside.library c.self.inside.commits edits c.self.invariant.agrees.units_are c.self.invariant.agrees.commits_are in
+    kept_pushed _ _ _ _ _ story _ c.args.caller (ToCommit edits) _ c.self.invariant.begins (c.in_ok-share-in-Refused.ensures.ok ∙ ap (λ it. logged story c.args.caller it (reply_of c.in_ok-stored-in-Refused.stored)) (ap ToCommit c.in_ok-of_changes.ensures)) (c.in_ok-stored-in-Refused.ensures ∙ commits_is s edits edits c.in-Refused.refused refl answer)
     (subst (λ t. Agrees c.self.inside.library c.self.inside.commits c.self.inside.entries.by_key c.self.inside.entries.ready t) (sym (committed_is s edits edits c.in-Refused.refused refl answer ∙ refused.1 s)) c.self.invariant.agrees)
     c.self.invariant.replayed c.self.invariant.indexed (omega (arith, c.self.invariant.few))
 
@@ -38,11 +38,11 @@ returns-in_ok-share-in-Refused c =
     let edits : List Edit = edits_of c.first_changes-changes.result.now in
     let front : edits ≡ listed c.args.changes.now = ap edits_of c.first_changes-changes.ensures in
     let refused = rw c.in-Refused.is at c.in_ok-outcome.ensures in
-    let answer : c.in-Refused.refused ≡ commit_answer s edits = refused.0 ∙ ap (λ m. answer_at m (c.self.inside.commits + 1) c.self.inside.library edits) c.most_units.ensures ∙ answer_kept story c.self.inside.library c.self.inside.commits edits c.self.invariant.agrees.units_are c.self.invariant.agrees.commits_are in
+    let answer : c.in-Refused.refused ≡ commit_answer s edits = refused.0 ∙ ap (λ m. answer_at m (c.self.inside.commits + 1) c.self.inside.library edits) c.most_units-most_units.ensures ∙ answer_kept story c.self.inside.library c.self.inside.commits edits c.self.invariant.agrees.units_are c.self.invariant.agrees.commits_are in
     record {
-      step = story_pushed story _ _ c.args.caller (ToCommit edits) _ c.self.view_is (c.in_ok-share-in-Refused.ensures.ok ∙ ap (λ it. logged story c.args.caller it (reply_of c.in_ok-stored-in-Refused.stored)) c.in_ok-call.ensures) (c.in_ok-stored-in-Refused.ensures ∙ commits_is s edits edits c.in-Refused.refused refl answer) ∙ ap (λ es. recorded c.args.self.now c.args.caller (ToCommit es)) front;
+      step = story_pushed story _ _ c.args.caller (ToCommit edits) _ c.self.view_is (c.in_ok-share-in-Refused.ensures.ok ∙ ap (λ it. logged story c.args.caller it (reply_of c.in_ok-stored-in-Refused.stored)) (ap ToCommit c.in_ok-of_changes.ensures)) (c.in_ok-stored-in-Refused.ensures ∙ commits_is s edits edits c.in-Refused.refused refl answer) ∙ ap (λ es. recorded c.args.self.now c.args.caller (ToCommit es)) front;
       answer = commits_is s (listed c.args.changes.now) edits c.in-Refused.refused (sym front) answer ∙ ap (λ st. reply (state_of st) (ToCommit (listed c.args.changes.now))) c.self.view_is;
-      share = share_pushed story _ _ c.args.caller (ToCommit edits) _ c.self.view_is (c.in_ok-share-in-Refused.ensures.share ∙ ap (λ it. record_after story c.args.caller it (reply_of c.in_ok-stored-in-Refused.stored)) c.in_ok-call.ensures) (c.in_ok-stored-in-Refused.ensures ∙ commits_is s edits edits c.in-Refused.refused refl answer) ∙ ap (λ es. record_of c.args.self.now c.args.caller (ToCommit es)) front;
+      share = share_pushed story _ _ c.args.caller (ToCommit edits) _ c.self.view_is (c.in_ok-share-in-Refused.ensures.share ∙ ap (λ it. record_after story c.args.caller it (reply_of c.in_ok-stored-in-Refused.stored)) (ap ToCommit c.in_ok-of_changes.ensures)) (c.in_ok-stored-in-Refused.ensures ∙ commits_is s edits edits c.in-Refused.refused refl answer) ∙ ap (λ es. record_of c.args.self.now c.args.caller (ToCommit es)) front;
       full = search rules;
       err = tt;
     }
@@ -70,13 +70,13 @@ invariant_of-self-in-Done c =
     let edits : List Edit = edits_of c.first_changes-changes.result.now in
     let number : ℕ = c.self.inside.commits + 1 in
     let done = rw c.in-Done.is at c.in_ok-outcome.ensures in
-    let answer : Done number ≡ commit_answer s edits = done.0 ∙ ap (λ m. answer_at m number c.self.inside.library edits) c.most_units.ensures ∙ answer_kept story c.self.inside.library c.self.inside.commits edits c.self.invariant.agrees.units_are c.self.invariant.agrees.commits_are in
+    let answer : Done number ≡ commit_answer s edits = done.0 ∙ ap (λ m. answer_at m number c.self.inside.library edits) c.most_units-most_units.ensures ∙ answer_kept story c.self.inside.library c.self.inside.commits edits c.self.invariant.agrees.units_are c.self.invariant.agrees.commits_are in
     let agrees = c.self.invariant.agrees in
     let it = c.in-Done.found.renewal in
     let old = c.self.inside.entries in
     let room = c.record_with_room.new.entries in
     let new = c.carry_out.new.self in
-    kept_pushed _ _ _ _ _ story _ c.args.caller (ToCommit edits) _ c.self.invariant.begins (c.in_ok-share-in-Done.ensures.logged ∙ ap (λ it. logged story c.args.caller it (reply_of c.in_ok-stored-in-Done.stored)) c.in_ok-call.ensures) (c.in_ok-stored-in-Done.ensures ∙ commits_is s edits edits (Done number) refl answer)
+    kept_pushed _ _ _ _ _ story _ c.args.caller (ToCommit edits) _ c.self.invariant.begins (c.in_ok-share-in-Done.ensures.logged ∙ ap (λ it. logged story c.args.caller it (reply_of c.in_ok-stored-in-Done.stored)) (ap ToCommit c.in_ok-of_changes.ensures)) (c.in_ok-stored-in-Done.ensures ∙ commits_is s edits edits (Done number) refl answer)
     (subst (λ t. Agrees c.in-Done.library number new.by_key new.ready t) (sym (committed_is s edits edits (Done number) refl answer))
     (agrees_renewed c.locality.ensures.value c.self.inside.commits edits c.self.inside.library c.in-Done.library old.by_key room.by_key new.by_key old.ready room.ready new.ready s it done.1 agrees done.3 c.in_ok-share-in-Done.ensures.room c.carry_out.ensures.entries c.carry_out.ensures.ready))
     c.self.invariant.replayed
@@ -91,11 +91,11 @@ returns-in_ok-share-in-Done c =
     let front : edits ≡ listed c.args.changes.now = ap edits_of c.first_changes-changes.ensures in
     let number : ℕ = c.self.inside.commits + 1 in
     let done = rw c.in-Done.is at c.in_ok-outcome.ensures in
-    let answer : Done number ≡ commit_answer s edits = done.0 ∙ ap (λ m. answer_at m number c.self.inside.library edits) c.most_units.ensures ∙ answer_kept story c.self.inside.library c.self.inside.commits edits c.self.invariant.agrees.units_are c.self.invariant.agrees.commits_are in
+    let answer : Done number ≡ commit_answer s edits = done.0 ∙ ap (λ m. answer_at m number c.self.inside.library edits) c.most_units-most_units.ensures ∙ answer_kept story c.self.inside.library c.self.inside.commits edits c.self.invariant.agrees.units_are c.self.invariant.agrees.commits_are in
     record {
-      step = story_pushed story _ _ c.args.caller (ToCommit edits) _ c.self.view_is (c.in_ok-share-in-Done.ensures.logged ∙ ap (λ it. logged story c.args.caller it (reply_of c.in_ok-stored-in-Done.stored)) c.in_ok-call.ensures) (c.in_ok-stored-in-Done.ensures ∙ commits_is s edits edits (Done number) refl answer) ∙ ap (λ es. recorded c.args.self.now c.args.caller (ToCommit es)) front;
+      step = story_pushed story _ _ c.args.caller (ToCommit edits) _ c.self.view_is (c.in_ok-share-in-Done.ensures.logged ∙ ap (λ it. logged story c.args.caller it (reply_of c.in_ok-stored-in-Done.stored)) (ap ToCommit c.in_ok-of_changes.ensures)) (c.in_ok-stored-in-Done.ensures ∙ commits_is s edits edits (Done number) refl answer) ∙ ap (λ es. recorded c.args.self.now c.args.caller (ToCommit es)) front;
       answer = commits_is s (listed c.args.changes.now) edits (Done number) (sym front) answer ∙ ap (λ st. reply (state_of st) (ToCommit (listed c.args.changes.now))) c.self.view_is;
-      share = share_pushed story _ _ c.args.caller (ToCommit edits) _ c.self.view_is (c.in_ok-share-in-Done.ensures.share ∙ ap (λ it. record_after story c.args.caller it (reply_of c.in_ok-stored-in-Done.stored)) c.in_ok-call.ensures) (c.in_ok-stored-in-Done.ensures ∙ commits_is s edits edits (Done number) refl answer) ∙ ap (λ es. record_of c.args.self.now c.args.caller (ToCommit es)) front;
+      share = share_pushed story _ _ c.args.caller (ToCommit edits) _ c.self.view_is (c.in_ok-share-in-Done.ensures.share ∙ ap (λ it. record_after story c.args.caller it (reply_of c.in_ok-stored-in-Done.stored)) (ap ToCommit c.in_ok-of_changes.ensures)) (c.in_ok-stored-in-Done.ensures ∙ commits_is s edits edits (Done number) refl answer) ∙ ap (λ es. record_of c.args.self.now c.args.caller (ToCommit es)) front;
       full = search rules;
       err = tt;
     }
