@@ -1,7 +1,6 @@
 -- Talks that go on by a line, and pieces of the bytes.
 use Rattle.std.proofs.Math.Seq.{take-add}
 use Rattle.std.proofs.lemmas.List.{take_rest, take-append-drop}
-use Rattle.std.specs.Prelude.{⊤}
 use Rattle.std.proofs.Common.{Bool, true, false, MatchBool, take, drop, ◌-◌, ◌≡◌, ◌+◌, ℕ, List, [], ◌∷◌, ◌++◌, length, Result, Ok, Err, refl, sym, ap, ◌∙◌, subst, append_assoc, append-nil, arith}
 use Rattle.fb_bench.specs.Calls.{Answer, Deed}
 use Rattle.fb_wire.specs.Lines.{Fits, lines_of, is_blank, IsLine}
