@@ -144,6 +144,21 @@ class SessionTest(unittest.TestCase):
         with self.assertRaisesRegex(Refused, "NotPending"):
             self.session.deliver(job)
 
+    def test_checkpoint(self):
+        with Session.script(workbench(), history=3) as session:
+            session.commit([Put("A", 0, A)])
+            job = session.take()
+            self.assertEqual(session.checkpoint(1, 3), 2)
+            session.deliver(job)
+            self.assertEqual(session.faults("A"), (Fault("WITH_UNKNOWN", 36, 37),))
+            self.assertEqual(session.commit([Put("A", 1, A)]), 2)
+            with self.assertRaisesRegex(Refused, "--history"):
+                session.faults("A")
+            self.assertEqual(session.checkpoint(2, 9), 5)
+            self.assertEqual(session.commit([Put("B", 0, A)]), 3)
+            with self.assertRaisesRegex(Refused, "UnitsOver"):
+                session.checkpoint(1, 9)
+
     def test_refusals(self):
         for changes, refusal in (
             ([], "NoChange"),
