@@ -97,7 +97,7 @@ fn all_adapters_told(alloc: Global, ports: &Ports) -> Result<String, AllocError>
     format!(in alloc; "{plugs} | {sockets}")
 }
 
-fn ports_told(alloc: Global, ports: &Ports) -> Result<String, AllocError> {
+pub fn ports_told(alloc: Global, ports: &Ports) -> Result<String, AllocError> {
     let events = all_events_told(alloc, ports)?;
     let data = all_data_told(alloc, ports)?;
     let adapters = all_adapters_told(alloc, ports)?;

@@ -25,3 +25,5 @@ mod networks;
 mod operators;
 #[cfg(test)]
 mod plant;
+#[cfg(test)]
+mod refused;

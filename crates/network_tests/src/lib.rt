@@ -14,6 +14,8 @@ mod parts;
 #[cfg(test)]
 mod plain;
 #[cfg(test)]
+mod refused;
+#[cfg(test)]
 mod systems;
 #[cfg(test)]
 mod told;

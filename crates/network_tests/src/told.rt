@@ -220,7 +220,7 @@ fn homes_told(alloc: Global, homes: &[Home], cuts: &[Link]) -> Result<String, Fa
     Ok(told)
 }
 
-fn placed_told(alloc: Global, placed: &Placed) -> Result<String, Fail> {
+pub fn placed_told(alloc: Global, placed: &Placed) -> Result<String, Fail> {
     match placed {
         Placed::Stopped(net) => net_told(alloc, net),
         Placed::Faulty(found) => misplaced_told(alloc, found.as_slice()),
@@ -257,7 +257,7 @@ fn commands_told(alloc: Global, cuts: &[Link], resources: &[ResourcePlan]) -> Re
     Ok(told)
 }
 
-fn deploy_told(alloc: Global, deploy: &Deploy) -> Result<String, Fail> {
+pub fn deploy_told(alloc: Global, deploy: &Deploy) -> Result<String, Fail> {
     match deploy {
         Deploy::Stopped(net) => net_told(alloc, net),
         Deploy::Faulty(found) => misplaced_told(alloc, found.as_slice()),

@@ -2,6 +2,10 @@
 #![tactic(auto)]
 
 #[cfg(test)]
+mod peers;
+#[cfg(test)]
 mod program;
+#[cfg(test)]
+mod refused;
 #[cfg(test)]
 mod servers;
