@@ -34,10 +34,10 @@ NAME_LIMIT = 64
 """Bytes of a name."""
 TEXT_LIMIT = 65_536
 """Bytes of the text of a unit."""
-UNITS_LIMIT = 4_096
+UNITS_LIMIT = 16_384
 """Units that a workbench can be started for."""
-HISTORY_LIMIT = 1_000_000
-"""Recorded calls that a workbench can be started for."""
+HISTORY_LIMIT = 10_000_000
+"""Recorded calls that a workbench can be started for, or that a checkpoint makes room for."""
 
 Kind = Literal["faults", "net", "deploy"]
 Sort = Literal["event", "data", "adapter"]
@@ -576,6 +576,13 @@ class Session:
     def give_back(self, kind: Kind, unit: str) -> bool:
         """Makes a job that was taken one to take again; False where nobody had taken it."""
         return self._exchange({"op": "give_back", "kind": kind, "unit": unit}, lambda reply: bool(reply["returned"]))
+
+    def checkpoint(self, units: int, history: int) -> int:
+        """Makes the present state what the history begins from, with room for so many units and recorded calls, and gives the number of all calls so far.
+
+        Nothing else changes. Raises `Refused`: `UnitsOver` where more units are there, `NotAlone` for a session of a workbench that serves.
+        """
+        return self._exchange({"op": "checkpoint", "units": units, "history": history}, lambda reply: int(reply["checkpoint"]))
 
     def wait(self, kind: Kind, unit: str, progress: Callable[[int], object] | None = None) -> Any:
         """Works until one answer is there, and gives it. Raises `NoSuchKey`. `progress` as in `settle`."""

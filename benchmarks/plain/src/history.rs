@@ -69,6 +69,8 @@ struct Record {
 }
 
 pub struct History {
+    /// How many calls came before the records.
+    before: u64,
     limit: usize,
     records: Vec<Record>,
 }
@@ -76,7 +78,7 @@ pub struct History {
 impl History {
     pub fn new(limit: usize) -> History {
         let records = Vec::new();
-        History { limit, records }
+        History { before: 0, limit, records }
     }
 
     /// Whether one more call may be recorded.
@@ -88,10 +90,23 @@ impl History {
         }
     }
 
+    /// How many calls were made, those before the records included.
+    fn last(&self) -> u64 {
+        self.before + self.records.len() as u64
+    }
+
+    /// Drops the records, with another limit, and gives how many calls were made.
+    pub fn restart(&mut self, limit: usize) -> u64 {
+        self.before = self.last();
+        self.limit = limit;
+        self.records.clear();
+        self.before
+    }
+
     pub fn push(&mut self, call: Call, answer: Answer) {
         let record = Record {
             caller: CALLER,
-            turn: self.records.len() as u64 + 1,
+            turn: self.last() + 1,
             call,
             answer,
         };

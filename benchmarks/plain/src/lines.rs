@@ -58,6 +58,10 @@ impl Desk {
             Request::Take => self.take(),
             Request::Deliver { job } => self.deliver(job),
             Request::GiveBack { kind, unit } => self.give_back(kind, &unit),
+            Request::Checkpoint { units, history } => match self.workbench.checkpoint(units, history) {
+                Some(before) => Ok(format!("{{\"checkpoint\":{before}}}")),
+                None => Err(refused("UnitsOver")),
+            },
         }
     }
 

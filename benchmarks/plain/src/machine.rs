@@ -131,6 +131,17 @@ impl Workbench {
     }
 }
 
+impl Workbench {
+    /// Empties the history and sets new limits; none where more units are there.
+    pub fn checkpoint(&mut self, most_units: usize, most_calls: usize) -> Option<u64> {
+        if self.library.len() > most_units {
+            return None;
+        }
+        self.most_units = most_units;
+        Some(self.history.restart(most_calls))
+    }
+}
+
 // ---- commits
 
 impl Workbench {

@@ -38,8 +38,8 @@ fn limits(words: &[String]) -> Option<Limits> {
     for option in options.chunks(2) {
         let number = option.get(1)?.parse().ok().filter(|number| *number > 0)?;
         match option[0].as_str() {
-            "--units" if number <= 4096 => units = number,
-            "--history" if number <= 1_000_000 => history = number,
+            "--units" if number <= 16_384 => units = number,
+            "--history" if number <= 10_000_000 => history = number,
             _ => return None,
         }
     }

@@ -10,6 +10,7 @@ pub enum Request {
     Take,
     Deliver { job: u64 },
     GiveBack { kind: Kind, unit: String },
+    Checkpoint { units: usize, history: usize },
 }
 
 /// A change of a commit, before its name is read. Without a text the unit is removed.
@@ -37,6 +38,11 @@ pub fn request(line: &[u8]) -> Option<Request> {
         "give_back" => {
             let (kind, unit) = key(&value)?;
             Some(Request::GiveBack { kind, unit })
+        }
+        "checkpoint" => {
+            let units = value.whole("units").filter(|units| (1..=16_384).contains(units))? as usize;
+            let history = value.whole("history").filter(|history| (1..=10_000_000).contains(history))? as usize;
+            Some(Request::Checkpoint { units, history })
         }
         _ => None,
     }

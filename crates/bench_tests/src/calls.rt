@@ -1,7 +1,7 @@
 //! What a workbench shows after the calls of its callers: its records, keys, revisions and what is known of a key.
 use crate::talk::{all_right, new_bench, talk};
 use fb_text::Name;
-use fb_wire::bench::{Asked, Bench, Call, Limits, Reply, Shown};
+use fb_wire::bench::{Asked, Bench, Call, CheckpointRefused, Limits, Reply, Shown};
 use fb_wire::jobs::{Key, Kind};
 use std::alloc::Global;
 use std::process::Abort;
@@ -25,6 +25,16 @@ enum Step<'a> {
     /// The record of this number is of this turn of caller 2, who asked and was given a value.
     Answer(u64, u64),
     NoRecord(u64),
+    /// A checkpoint with these limits comes to this.
+    Checkpoint(u64, u64, Result<u64, CheckpointRefused>),
+    /// How many calls came before the start.
+    Before(u64),
+    /// How many units the history begins with, and after how many good commits.
+    Start(usize, u64),
+    /// Whether the faults of the unit were pending at the start, and whether they were handed out.
+    StartKey(&'a str, bool, bool),
+    /// How many calls the caller had made by then.
+    StartTurns(u32, u64),
 }
 
 fn faults_of(unit: &str) -> Result<Key, Fail> {
@@ -75,6 +85,27 @@ fn are_keys(bench: &Bench, wanted: &[(Kind, &str)]) -> Result<bool, Fail> {
     Ok(bench.key_count() == wanted.len())
 }
 
+fn comes_to(
+    bench: &mut Bench,
+    units: u64,
+    history: u64,
+    wanted: &Result<u64, CheckpointRefused>,
+) -> Result<bool, Fail> {
+    let limits = Limits::new(units, history).ok_or("limits")?;
+    Ok(bench.checkpoint(limits) == *wanted)
+}
+
+fn is_start(bench: &Bench, units: usize, commits: u64) -> bool {
+    let start = bench.start();
+    start.library().len() == units && start.commits() == commits
+}
+
+fn is_start_key(bench: &Bench, unit: &str, is_pending: bool, is_out: bool) -> Result<bool, Fail> {
+    let key = faults_of(unit)?;
+    let start = bench.start();
+    Ok(start.is_pending(&key) == is_pending && start.is_out(&key) == is_out)
+}
+
 // Whether the step goes as it says.
 fn goes(alloc: Global, bench: &mut Bench, step: &Step<'_>) -> Result<bool, Fail> {
     match step {
@@ -87,6 +118,11 @@ fn goes(alloc: Global, bench: &mut Bench, step: &Step<'_>) -> Result<bool, Fail>
         Step::Records(count) => Ok(bench.len() == *count),
         Step::Answer(number, turn) => Ok(is_answer(bench, *number, *turn)),
         Step::NoRecord(number) => Ok(bench.record(*number).is_none()),
+        Step::Checkpoint(units, history, wanted) => comes_to(bench, *units, *history, wanted),
+        Step::Before(count) => Ok(bench.before() == *count),
+        Step::Start(units, commits) => Ok(is_start(bench, *units, *commits)),
+        Step::StartKey(unit, is_pending, is_out) => is_start_key(bench, unit, *is_pending, *is_out),
+        Step::StartTurns(caller, turns) => Ok(bench.start().turns(*caller) == *turns),
     }
 }
 
@@ -429,6 +465,114 @@ const PLANNED: &[Step<'static>] = &[
     ]),
 ];
 
+// Two callers make six calls, and after a checkpoint another one. Records, turns and commits go on.
+const BEGUN_ANEW: &[Step<'static>] = &[
+    Step::Before(0),
+    Step::Start(0, 0),
+    Step::StartKey("A", false, false),
+    Step::StartTurns(1, 0),
+    Step::Checkpoint(4, 100, Ok(0)),
+    Step::Lines(
+        1,
+        r#"
+> {"op":"commit","changes":[{"put":"A","base":0,"text":"FUNCTION_BLOCK A END_FUNCTION_BLOCK"}]}
+< {"commit":1}
+"#,
+    ),
+    Step::Lines(
+        2,
+        r#"
+> {"op":"ask","kind":"faults","unit":"A"}
+< {"answer":"pending"}
+> {"op":"take"}
+< {"job":1,"kind":"faults","unit":"A"}
+> {"op":"deliver","job":1}
+< {"delivered":"accepted"}
+> {"op":"ask","kind":"faults","unit":"A"}
+< {"faults":[]}
+> {"op":"give_back","kind":"faults","unit":"A"}
+< {"returned":false}
+"#,
+    ),
+    Step::Records(6),
+    Step::Checkpoint(4, 100, Ok(6)),
+    Step::Records(0),
+    Step::Before(6),
+    Step::NoRecord(6),
+    Step::NoRecord(7),
+    Step::Start(1, 1),
+    Step::StartKey("A", false, false),
+    Step::StartTurns(1, 1),
+    Step::StartTurns(2, 5),
+    Step::StartTurns(3, 0),
+    Step::Value("A"),
+    Step::Revision("A", 1),
+    Step::Keys(&[(Kind::Faults, "A")]),
+    Step::Lines(
+        2,
+        r#"
+> {"op":"ask","kind":"faults","unit":"A"}
+< {"faults":[]}
+"#,
+    ),
+    Step::Answer(7, 6),
+    Step::NoRecord(8),
+    Step::StartTurns(2, 5),
+    Step::Checkpoint(1, 1, Ok(7)),
+    Step::NoRecord(7),
+    Step::StartTurns(1, 1),
+    Step::StartTurns(2, 6),
+    Step::Checkpoint(4, 100, Ok(7)),
+    Step::StartTurns(2, 6),
+];
+
+// What was pending or out at the start is still told when it is settled. A refused checkpoint changes nothing.
+const BEGUN_WAITING: &[Step<'static>] = &[
+    Step::Lines(
+        1,
+        r#"
+> {"op":"commit","changes":[{"put":"A","base":0,"text":"FUNCTION_BLOCK A END_FUNCTION_BLOCK"},{"put":"B","base":0,"text":""}]}
+< {"commit":1}
+> {"op":"take"}
+< {"job":1,"kind":"faults","unit":"A"}
+"#,
+    ),
+    Step::Checkpoint(1, 2, Err(CheckpointRefused::UnitsOver(2))),
+    Step::Before(0),
+    Step::Records(2),
+    Step::Start(0, 0),
+    Step::StartKey("A", false, false),
+    Step::Checkpoint(2, 3, Ok(2)),
+    Step::Start(2, 1),
+    Step::StartKey("A", true, true),
+    Step::StartKey("B", true, false),
+    Step::StartKey("C", false, false),
+    Step::Lines(
+        1,
+        r#"
+> {"op":"take"}
+< {"job":1,"kind":"faults","unit":"B"}
+> {"op":"deliver","job":1}
+< {"delivered":"accepted"}
+> {"op":"commit","changes":[{"remove":"A","base":1}]}
+< {"commit":2}
+> {"op":"take"}
+< {"refused":"HistoryFull"}
+"#,
+    ),
+    Step::Value("B"),
+    Step::Revision("A", 0),
+    Step::Before(2),
+    Step::Records(3),
+    Step::Start(2, 1),
+    Step::StartKey("A", true, true),
+    Step::StartKey("B", true, false),
+    Step::Checkpoint(1, 1, Ok(5)),
+    Step::Start(1, 2),
+    Step::StartKey("A", false, false),
+    Step::StartKey("B", false, false),
+];
+
 /// What is gone through, the most units and the most records, and the steps.
 type Talk = (&'static str, u64, u64, &'static [Step<'static>]);
 
@@ -441,6 +585,8 @@ const TALKS: &[Talk] = &[
     ("put again", 4, 100, PUT_AGAIN),
     ("refused", 4, 100, REFUSED),
     ("planned", 4, 100, PLANNED),
+    ("begun anew", 4, 100, BEGUN_ANEW),
+    ("begun waiting", 4, 100, BEGUN_WAITING),
 ];
 
 fn compare_all(rt: &impl Abort, alloc: Global, talks: &[Talk]) -> Result<(), Fail> {
@@ -458,5 +604,9 @@ fn talks(rt: HostRuntime) -> Result<(), Fail> {
 #[test]
 fn limits_have_ranges() {
     prove!(Limits::new(0, 1).is_none());
-    prove!(Limits::new(1, 1_000_001).is_none());
+    prove!(Limits::new(1, 0).is_none());
+    prove!(Limits::new(1, 1_000_001).is_some());
+    prove!(Limits::new(16_384, 10_000_000).is_some());
+    prove!(Limits::new(1, 10_000_001).is_none());
+    prove!(Limits::new(16_385, 1).is_none());
 }

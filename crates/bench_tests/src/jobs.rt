@@ -375,7 +375,7 @@ fn are_made_as_there(
     let record = other.record(1).ok_or("a record")?;
     let mut changes = Vec::new(alloc);
     if let Call::Commit(recorded) = record.call() {
-        for change in recorded {
+        for change in recorded.iter() {
             changes.push(change_again(alloc, change)?)?;
         }
     }

@@ -1,9 +1,11 @@
-//! Tests of the machine's and the lines' public calls: conversations of request lines and replies, streams that
+//! Tests of the machine's and the lines' public calls: conversations of request lines and replies, with checkpoints too, streams that
 //! fail, what a workbench shows after its calls, and jobs with what they read.
 #![tactic(auto)]
 
 #[cfg(test)]
 mod calls;
+#[cfg(test)]
+mod checkpoints;
 #[cfg(test)]
 mod jobs;
 #[cfg(test)]

@@ -1,7 +1,6 @@
 //! Lines that are no request or that are refused, by their form, by the limits or by what there is.
-use crate::talk::{all_right, compare, talk_alone, talk_within};
+use crate::talk::{Limited, all_right, compare, compare_limited, talk_alone, talk_within};
 use std::alloc::{AllocError, Global};
-use std::process::Abort;
 use std::test::Fail;
 
 // Typing errors, and what is refused for another reason.
@@ -136,18 +135,11 @@ const TALKS: &[(&str, &str)] = &[
 ];
 
 // With the most units and the most records.
-const LIMITED: &[(u64, u64, &str)] = &[
-    (1024, 5, REFUSED_LINES),
-    (1024, 3, FULL_HISTORY),
-    (1, 100_000, FULL_LIBRARY),
+const LIMITED: &[Limited] = &[
+    ("refused lines", 1024, 5, REFUSED_LINES),
+    ("a full history", 1024, 3, FULL_HISTORY),
+    ("a full library", 1, 100_000, FULL_LIBRARY),
 ];
-
-fn compare_limited(rt: &impl Abort, alloc: Global, talks: &[(u64, u64, &str)]) -> Result<(), Fail> {
-    for (units, history, text) in talks {
-        all_right(rt, talk_within(alloc, *units, *history, text)?, text);
-    }
-    Ok(())
-}
 
 #[test]
 fn talks(rt: HostRuntime) -> Result<(), Fail> {

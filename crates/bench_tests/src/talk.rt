@@ -177,6 +177,21 @@ pub(crate) fn all_right(rt: &impl Abort, wrong: Option<usize>, about: &str) {
     assert_eq!(rt; wrong, None, "{about}");
 }
 
+/// What a conversation is about, the most units and the most records of its workbench, and the conversation.
+pub(crate) type Limited = (&'static str, u64, u64, &'static str);
+
+/// Has a caller say each of these conversations to a workbench of its own, of these limits.
+pub(crate) fn compare_limited(
+    rt: &impl Abort,
+    alloc: Global,
+    talks: &[Limited],
+) -> Result<(), Fail> {
+    for (about, units, history, text) in talks {
+        all_right(rt, talk_within(alloc, *units, *history, text)?, about);
+    }
+    Ok(())
+}
+
 /// Has a caller say each of these conversations to a workbench of its own.
 pub(crate) fn compare(rt: &impl Abort, alloc: Global, talks: &[(&str, &str)]) -> Result<(), Fail> {
     for (about, text) in talks {

@@ -10,7 +10,7 @@ use Rattle.fb_entries.specs.Jobs.declared.key.Key.{Key}
 use Rattle.fb_entries.specs.Jobs.Keys.{has_key}
 use Rattle.fb_entries.specs.Jobs.KeyOrder.{key_cmp}
 use Rattle.fb_entries.specs.declared.entry.Entry.{Entry}
-use Rattle.fb_history.specs.Story.{Log, opened, start, replay, replies}
+use Rattle.fb_history.specs.Story.{Story, empty_origin, new_story, opened, replay, replies}
 use Rattle.fb_bench.specs.Kept.{Agrees, IsKept, EntryFits}
 use Rattle.fb_entries.specs.Index.Near.{Users}
 use Rattle.fb_entries.proofs.Indexing.{indexed_none}
@@ -21,20 +21,20 @@ no_key : (key : Key) → has_key [] key ≡ false
 unfolding has_key
 no_key key = no_kind key.kind
 
-agrees_empty : (most : ℕ) (entries : tree.BTreeMap Key Entry) (ready : set.BTreeSet Key) → entries.entries ≡ [] → ready.keys ≡ [] → Agrees [] 0 entries ready (opened (start most))
+agrees_empty : (most : ℕ) (entries : tree.BTreeMap Key Entry) (ready : set.BTreeSet Key) → entries.entries ≡ [] → ready.keys ≡ [] → Agrees [] 0 entries ready (opened (empty_origin most))
 agrees_empty most entries ready no_entries no_keys = record {
   units_are = refl;
   commits_are = refl;
-  each = λ key. subst (λ es. EntryFits (opened (start most)) key (lookup (is_at (key_cmp key)) es)) (sym no_entries) (no_key key, refl, refl);
+  each = λ key. subst (λ es. EntryFits (opened (empty_origin most)) key (lookup (is_at (key_cmp key)) es)) (sym no_entries) (no_key key, refl, refl);
   ready_are = λ key. ap (λ ks. list_any (is_at (key_cmp key)) ks) no_keys;
 }
 
-kept_start : (most limit : ℕ) (entries : tree.BTreeMap Key Entry) (ready : set.BTreeSet Key) (index : Users) → entries.entries ≡ [] → ready.keys ≡ [] → index ≡ [] → IsKept [] 0 entries ready index (record { origin = start most; log = record { limit = limit; records = [] } })
+kept_start : (most limit : ℕ) (entries : tree.BTreeMap Key Entry) (ready : set.BTreeSet Key) (index : Users) → entries.entries ≡ [] → ready.keys ≡ [] → index ≡ [] → IsKept [] 0 entries ready index (new_story most limit)
 unfolding replay replies
 kept_start most limit entries ready index no_entries no_keys empty = record { begins = begins_empty most; agrees = agrees_empty most entries ready no_entries no_keys; replayed = refl; indexed = indexed_none [] index refl empty; few = omega arith }
 
-pub kept_empty : (most limit : ℕ) (units : Texts) (entries : tree.BTreeMap Key Entry) (ready : set.BTreeSet Key) (index : Users) (log : Log) → units ≡ [] → entries.entries ≡ [] → ready.keys ≡ [] → index ≡ [] → log ≡ record { limit = limit; records = [] } → IsKept units 0 entries ready index (record { origin = start most; log = log })
-kept_empty most limit units entries ready index log no_units no_entries no_keys empty is =
-    subst (λ l. IsKept units 0 entries ready index (record { origin = start most; log = l })) (sym is)
-    (subst (λ us. IsKept us 0 entries ready index (record { origin = start most; log = record { limit = limit; records = [] } })) (sym no_units)
+pub kept_empty : (most limit : ℕ) (units : Texts) (entries : tree.BTreeMap Key Entry) (ready : set.BTreeSet Key) (index : Users) (story : Story) → units ≡ [] → entries.entries ≡ [] → ready.keys ≡ [] → index ≡ [] → story ≡ new_story most limit → IsKept units 0 entries ready index story
+kept_empty most limit units entries ready index story no_units no_entries no_keys empty is =
+    subst (λ st. IsKept units 0 entries ready index st) (sym is)
+    (subst (λ us. IsKept us 0 entries ready index (new_story most limit)) (sym no_units)
     (kept_start most limit entries ready index no_entries no_keys empty))

@@ -1,21 +1,21 @@
 -- What is kept after one more call.
-use Rattle.std.proofs.Common.{◌≡◌, ℕ, ◌≤◌, ◌+◌, length, sym, subst, arith, length-append}
+use Rattle.std.proofs.Common.{◌≡◌, ℕ, ◌≤◌, ◌+◌, sym, subst, arith, length-append}
 use Rattle.std.specs.BTreeMap as tree
 use Rattle.std.specs.BTreeSet as set
 use Rattle.fb_entries.specs.Library.Texts.{Texts}
 use Rattle.fb_entries.specs.Jobs.declared.key.Key.{Key}
 use Rattle.fb_entries.specs.declared.entry.Entry.{Entry}
 use Rattle.fb_history.specs.Machine.{Call, Reply, after, reply}
-use Rattle.fb_history.specs.Story.{Log, Story, IsOrigin, state_of, logged, IsReplay}
+use Rattle.fb_history.specs.Story.{Story, IsOrigin, last_number, state_of, logged, IsReplay}
 use Rattle.fb_bench.specs.Kept.{Agrees, IsKept}
 use Rattle.fb_entries.specs.Index.Near.{Users}
 use Rattle.fb_entries.specs.Indexed.{IsIndexOf}
 use Rattle.fb_history.proofs.Steps.{state_recorded, replayed_recorded}
 
 -- what is kept after one more recorded call
-pub kept_recorded : (units : Texts) (commits : ℕ) (entries : tree.BTreeMap Key Entry) (ready : set.BTreeSet Key) (index : Users) (story : Story) (caller : ℕ) (call : Call) (answer : Reply) → IsOrigin story.origin → answer ≡ reply (state_of story) call → Agrees units commits entries ready (after (state_of story) call) → IsReplay story → IsIndexOf units index → commits ≤ length story.log.records + 1 → IsKept units commits entries ready index (record { origin = story.origin; log = logged story.log caller call answer })
+pub kept_recorded : (units : Texts) (commits : ℕ) (entries : tree.BTreeMap Key Entry) (ready : set.BTreeSet Key) (index : Users) (story : Story) (caller : ℕ) (call : Call) (answer : Reply) → IsOrigin story.origin → answer ≡ reply (state_of story) call → Agrees units commits entries ready (after (state_of story) call) → IsReplay story → IsIndexOf units index → commits ≤ last_number story + 1 → IsKept units commits entries ready index (logged story caller call answer)
 kept_recorded units commits entries ready index story caller call answer begins same agrees so_far indexed few =
-    subst (λ a. IsKept units commits entries ready index (record { origin = story.origin; log = logged story.log caller call a })) (sym same)
+    subst (λ a. IsKept units commits entries ready index (logged story caller call a)) (sym same)
     (record {
       begins = begins;
       agrees = subst (λ s. Agrees units commits entries ready s) (sym (state_recorded story caller call)) agrees;
@@ -24,7 +24,7 @@ kept_recorded units commits entries ready index story caller call answer begins 
       few = simp length-append (omega arith);
     })
 
--- the same, where the log is known by an equation
-pub kept_pushed : (units : Texts) (commits : ℕ) (entries : tree.BTreeMap Key Entry) (ready : set.BTreeSet Key) (index : Users) (story : Story) (log : Log) (caller : ℕ) (call : Call) (answer : Reply) → IsOrigin story.origin → log ≡ logged story.log caller call answer → answer ≡ reply (state_of story) call → Agrees units commits entries ready (after (state_of story) call) → IsReplay story → IsIndexOf units index → commits ≤ length story.log.records + 1 → IsKept units commits entries ready index (record { origin = story.origin; log = log })
-kept_pushed units commits entries ready index story log caller call answer begins is same agrees so_far indexed few =
-    subst (λ l. IsKept units commits entries ready index (record { origin = story.origin; log = l })) (sym is) (kept_recorded units commits entries ready index story caller call answer begins same agrees so_far indexed few)
+-- the same, where the story is known by an equation
+pub kept_pushed : (units : Texts) (commits : ℕ) (entries : tree.BTreeMap Key Entry) (ready : set.BTreeSet Key) (index : Users) (story next_story : Story) (caller : ℕ) (call : Call) (answer : Reply) → IsOrigin story.origin → next_story ≡ logged story caller call answer → answer ≡ reply (state_of story) call → Agrees units commits entries ready (after (state_of story) call) → IsReplay story → IsIndexOf units index → commits ≤ last_number story + 1 → IsKept units commits entries ready index next_story
+kept_pushed units commits entries ready index story next_story caller call answer begins is same agrees so_far indexed few =
+    subst (λ st. IsKept units commits entries ready index st) (sym is) (kept_recorded units commits entries ready index story caller call answer begins same agrees so_far indexed few)

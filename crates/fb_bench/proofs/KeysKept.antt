@@ -1,5 +1,5 @@
 -- The keys that have entries are those of the texts, in order, and as many of the entries have no value as keys wait.
-use Rattle.std.proofs.Common.{◌≡◌, ℕ, ◌+◌, Bool, true, false, ◌&&◌, List, [], ◌∷◌, All, get_or, refl, sym, ap, subst, ◌∙◌, Option, Some, None, is_some, cond, count_by}
+use Rattle.std.proofs.Common.{◌≡◌, ℕ, ◌+◌, Bool, true, false, List, [], ◌∷◌, All, filter, get_or, map, refl, sym, ap, subst, ◌∙◌, Option, Some, None, is_some, cond, count_by}
 use Rattle.std.specs.BTreeMap as tree
 use Rattle.std.specs.BTreeMap.{is_at}
 use Rattle.std.specs.BTreeSet as set
@@ -14,19 +14,17 @@ use Rattle.std.proofs.lemmas.Map.Made.{is_some-lookup}
 use Rattle.std.proofs.lemmas.Option.{slice_get-get_or}
 use Rattle.fb_text.specs.Order.{in_order}
 use Rattle.fb_text.proofs.OrderLemmas.{in_order-same}
-use Rattle.fb_entries.specs.Library.Texts.{Texts, names_of}
+use Rattle.fb_entries.specs.Library.Texts.{Texts}
 use Rattle.fb_entries.specs.Jobs.declared.key.Key.{Key}
 use Rattle.fb_entries.specs.Jobs.Keys.{has_key}
 use Rattle.fb_entries.specs.Jobs.KeyOrder.{key_cmp}
 use Rattle.fb_entries.specs.declared.entry.Entry.{Entry}
-use Rattle.fb_entries.specs.Jobs.Kinds.{all_keys}
 use Rattle.fb_history.specs.Machine.{State, keys_of}
 use Rattle.fb_history.specs.Story.{Story, IsOrigin, state_of}
 use Rattle.fb_bench.specs.Kept.{EntryFits, Agrees}
-use Rattle.fb_entries.specs.Marking.{is_of, is_unkept}
+use Rattle.fb_entries.specs.Marking.{is_handed_out, is_of, is_unkept, keys_with}
 use Rattle.fb_entries.proofs.Jobs.Order.{key_total, same_keys}
-use Rattle.fb_history.proofs.Least.{key_named}
-use Rattle.fb_entries.proofs.Jobs.Members.{of_filtered}
+use Rattle.fb_history.proofs.Least.{of_keys}
 use Rattle.fb_history.proofs.Sorted.{keys_rise}
 
 -- ---- two rising lists with the same keys are the same
@@ -41,15 +39,6 @@ already_in_order (k ∷ l ∷ ks) rise =
 pub same_rising : (ks ls : List Key) → IsStrictlySortedBy key_cmp ks → IsStrictlySortedBy key_cmp ls → ((q : Key) → is_of q ks ≡ is_of q ls) → ks ≡ ls
 same_rising ks ls rise rise' same = sym (already_in_order ks rise) ∙ in_order-same key_cmp key_total same_keys ks ls same ∙ already_in_order ls rise'
 
-and_named : (b h : Bool) → (h ≡ true → b ≡ true) → (b && h) ≡ h
-and_named true h named = refl
-and_named false true named = named refl
-and_named false false named = refl
-
--- the keys of the texts are those that the texts have
-pub of_keys : (T : Texts) (q : Key) → is_of q (keys_of T) ≡ has_key T q
-of_keys T q = of_filtered (has_key T) q (all_keys (names_of T)) ∙ and_named (is_of q (all_keys (names_of T))) (has_key T q) (key_named T q)
-
 -- ---- as many values pass as keys do
 
 counts : (r : Key → Bool) (p : Entry → Bool) (es : List (Key × Entry)) → All (λ (e : Key × Entry). r e.0 ≡ p e.1) es → count_by p (values_of es) ≡ count_by r (keys_in es)
@@ -58,6 +47,17 @@ counts r p (e ∷ es) each =
     sum_by-cons (λ v. cond (p v) 1 0) e.1 (values_of es)
     ∙ (λ i. cond (sym (All-head (λ (e : Key × Entry). r e.0 ≡ p e.1) e es each) i) 1 0 + counts r p es (All-tail (λ (e : Key × Entry). r e.0 ≡ p e.1) e es each) i)
     ∙ sym (sum_by-cons (λ k. cond (r k) 1 0) e.0 (keys_in es))
+
+-- the keys whose entries pass are those that pass
+listed : (r : Key → Bool) (p : Entry → Bool) (es : List (Key × Entry)) → All (λ (e : Key × Entry). r e.0 ≡ p e.1) es → map (λ (e : Key × Entry). e.0) (filter (λ (e : Key × Entry). p e.1) es) ≡ filter r (keys_in es)
+listed r p [] each = refl
+listed r p (e ∷ es) each =
+    let here : r e.0 ≡ p e.1 = All-head (λ (e : Key × Entry). r e.0 ≡ p e.1) e es each in
+    let rest = listed r p es (All-tail (λ (e : Key × Entry). r e.0 ≡ p e.1) e es each) in
+    elim (p e.1) as (λ b. r e.0 ≡ b → map (λ (e : Key × Entry). e.0) (cond b (e ∷ filter (λ (e : Key × Entry). p e.1) es) (filter (λ (e : Key × Entry). p e.1) es)) ≡ cond (r e.0) (e.0 ∷ filter r (keys_in es)) (filter r (keys_in es))) [
+      | true ↦ λ is. ap (λ ks. e.0 ∷ ks) rest ∙ ap (λ b. cond b (e.0 ∷ filter r (keys_in es)) (filter r (keys_in es))) (sym is)
+      | false ↦ λ is. rest ∙ ap (λ b. cond b (e.0 ∷ filter r (keys_in es)) (filter r (keys_in es))) (sym is)
+    ] here
 
 -- ---- the keys that have entries
 
@@ -83,3 +83,18 @@ module _ (story : Story) (begins : IsOrigin story.origin) (T : Texts) (commits :
   -- as many entries have no value as keys wait
   pub pending_are : count_by is_unkept (tree.values entries) ≡ count_by (state_of story).pending (keys_of (state_of story).units)
   pending_are = counts (state_of story).pending is_unkept entries.entries unkept ∙ ap (count_by (state_of story).pending) keys_are
+
+  -- the pending keys are those whose entries have no value
+  pub pending_listed : keys_with is_unkept entries ≡ filter (state_of story).pending (keys_of (state_of story).units)
+  pending_listed = listed (state_of story).pending is_unkept entries.entries unkept ∙ ap (filter (state_of story).pending) keys_are
+
+  handed : All (λ (e : Key × Entry). (state_of story).out e.0 ≡ is_handed_out e.1) entries.entries
+  handed i d below =
+      let e = get_or entries.entries i d in
+      let at : tree.get key_cmp entries e.0 ≡ Some e.1 = btree_map_get_place key_total entries i e.0 e.1 rise (slice_get-get_or entries.entries i d below) in
+      let fits : EntryFits (state_of story) e.0 (Some e.1) = subst (λ o. EntryFits (state_of story) e.0 o) at (agrees.each e.0) in
+      fits.2
+
+  -- the keys that are handed out are those whose entries say so
+  pub out_listed : keys_with is_handed_out entries ≡ filter (state_of story).out (keys_of (state_of story).units)
+  out_listed = listed (state_of story).out is_handed_out entries.entries handed ∙ ap (filter (state_of story).out) keys_are

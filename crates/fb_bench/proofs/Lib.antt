@@ -6,4 +6,5 @@ pub mod Founds
 pub mod Renewing
 pub mod Renewals
 pub mod KeysKept
+pub mod Checkpointing
 pub mod Committing

@@ -1,5 +1,5 @@
 -- What a workbench keeps beside its history agrees with where the history has led.
-use Rattle.std.specs.Prelude.{◌≡◌, ℕ, ◌≤◌, true, false, length, Option, Some, None, is_none}
+use Rattle.std.specs.Prelude.{◌≡◌, ℕ, ◌≤◌, true, false, Option, Some, None, is_none}
 use Rattle.std.specs.BTreeMap as tree
 use Rattle.std.specs.BTreeSet as set
 use Rattle.std.specs.declared.sync.Arc.{Arc}
@@ -11,7 +11,7 @@ use Rattle.fb_entries.specs.Jobs.Keys.{has_key, scratch}
 use Rattle.fb_entries.specs.Jobs.KeyOrder.{key_cmp}
 use Rattle.fb_entries.specs.Jobs.Values.{finding_of}
 use Rattle.fb_history.specs.Machine.{State, is_ready}
-use Rattle.fb_history.specs.Story.{Story, IsOrigin, state_of, IsReplay}
+use Rattle.fb_history.specs.Story.{Story, IsOrigin, last_number, state_of, IsReplay}
 use Rattle.fb_entries.specs.declared.entries.Entries.{Entries}
 use Rattle.fb_entries.specs.declared.entry.Entry.{Entry}
 use Rattle.fb_entries.specs.Index.Near.{Users}
@@ -41,7 +41,7 @@ pub record IsKept (units : Texts) (commits : ℕ) (entries : tree.BTreeMap Key E
   pub agrees : Agrees units commits entries ready (state_of story)
   pub replayed : IsReplay story
   pub indexed : IsIndexOf units index
-  pub few : commits ≤ length story.log.records
+  pub few : commits ≤ last_number story
 
 -- the same of all that is kept of the keys
 abbrev pub KeepsAll : Texts → ℕ → Entries → Users → Story → Type 0

@@ -12,21 +12,21 @@ use crate::request::{Request, call_of_result, reply_of_job};
 use fb_entries::index::Index;
 use fb_entries::jobs::{Finished, Job, Key, Read, current_nets, current_reads, locality};
 use fb_entries::library::{Change, Library};
-use fb_entries::{Entries, join, keep, leave, mark_out};
+use fb_entries::{Entries, Marks, join, keep, leave, mark_out};
 use fb_history::{
-    Asked, Call, Committed, Delivered, GivenBack, History, Limits, Record, Refused, Reply,
-    TextChange,
+    Asked, Call, CheckpointRefused, Committed, Delivered, GivenBack, History, Limits, Record,
+    Refused, Reply, Start, TextChange,
 };
 use fb_text::Name;
 use std::alloc::{AllocError, Global};
+use std::collections::BTreeMap;
 use std::marker::Model;
 use std::sync::Arc;
 
-/// The workbench of one thread. All that it is follows from its limits and its history.
+/// The workbench of one thread. All that it is follows from its history, with what that begins from.
 #[derive(Drop)]
 pub struct Bench {
     alloc: Global,
-    most_units: u64,
     history: History,
     library: Library,
     commits: u64,
@@ -35,19 +35,19 @@ pub struct Bench {
 }
 
 impl Model for Bench {
-    ghost use Rattle.fb_history.specs.Story.{Story, start, story_of};
+    ghost use Rattle.fb_history.specs.Story.{Story};
 
     ghost Value = { Story };
 
     ghost use Rattle.fb_bench.specs.Kept.{KeepsAll};
 
-    ghost view = { λ it. record { origin = start it.most_units; log = it.history } };
+    ghost view = { λ it. it.history };
 
-    ghost invariant = { λ it. KeepsAll it.library it.commits it.entries it.index (story_of it.most_units it.history) };
+    ghost invariant = { λ it. KeepsAll it.library it.commits it.entries it.index it.history };
 }
 
 impl Bench {
-    ghost use Rattle.std.specs.Prelude.{◌≡◌, ◌<◌, ◌↔◌, true, false, Some, IfOk, OnOk, OnErr, IsTrue, is_some, length, slice_get, count_by};
+    ghost use Rattle.std.specs.Prelude.{◌≡◌, ◌+◌, ◌<◌, ◌^◌, ◌↔◌, true, false, Some, IfOk, OnOk, OnErr, IsTrue, is_some, length, slice_get, count_by};
     ghost use Rattle.std.specs.Option.{option_map};
     ghost use Rattle.std.specs.List.Sorted.{IsStrictlySortedBy};
     ghost use Rattle.fb_entries.specs.Jobs.KeyOrder.{key_cmp};
@@ -56,12 +56,13 @@ impl Bench {
     ghost use Rattle.fb_entries.specs.Jobs.Reads.{read_texts};
     ghost use Rattle.fb_entries.specs.Jobs.Values.{all_seen};
     ghost use Rattle.fb_history.specs.declared.answers.Delivered.TheVariants.{Accepted};
-    ghost use Rattle.fb_history.specs.Story.{IsOrigin, IsFull, new_story, state_of, reply_at, recorded, record_of, record_at, turns_of, calls_of, IsReplay, AreTurns};
+    ghost use Rattle.fb_history.specs.Story.{IsOrigin, IsFull, new_story, state_of, reply_at, recorded, record_of, record_numbered, all_turns, last_number, pages_after, calls_of, IsReplay, AreTurns};
     ghost use Rattle.fb_bench.specs.Records.{call_of, reply_of, shown_in, job_in, commit_of};
     ghost use Rattle.fb_bench.specs.Founds.{HasNetsOf};
     ghost use Rattle.fb_bench.specs.Refusals.{IsFullRefusal};
     ghost use Rattle.fb_bench.specs.Requests.{call_for, reply_in};
     ghost use Rattle.fb_bench.specs.Peeks.{shown_by, is_pending};
+    ghost use Rattle.fb_history.specs.Checkpoints.{checking, checkpointed, ChecksAs};
     ghost use Rattle.fb_history.specs.Due.{is_due};
     ghost use Rattle.fb_history.specs.Laws.{entry_after};
     ghost use Rattle.fb_entries.specs.Indexed.{IsIndexOf};
@@ -73,8 +74,7 @@ impl Bench {
     {
         Bench {
             alloc,
-            most_units: limits.units(),
-            history: History::new(alloc, limits.history()),
+            history: History::new(alloc, limits),
             library: Library::new(alloc),
             commits: 0,
             entries: Entries::new(alloc),
@@ -82,13 +82,35 @@ impl Bench {
         }
     }
 
-    /// How many calls are recorded. Each stored answer is the one that the machine gives there.
+    /// What the history begins from.
+    pub fn start(&self) -> &Start
+        ensures { result.now ≡ self.now.origin }
+    {
+        self.history.start()
+    }
+
+    /// How many calls came before the start.
+    pub fn before(&self) -> u64
+        ensures { result ≡ self.now.origin.before }
+    {
+        self.history.before()
+    }
+
+    /// How many calls are recorded since the start. Each stored answer is the one that the machine gives there.
     pub fn len(&self) -> usize
         ensures len { result ≡ length self.now.log.records }
         ensures replayed { IsReplay self.now }
-        ensures turns { AreTurns self.now.log.records }
+        ensures turns { AreTurns self.now }
     {
         self.history.len()
+    }
+
+    /// The number of the last call, those before the start included, or 0.
+    pub fn last_number(&self) -> u64
+        ensures last { result ≡ last_number self.now }
+        ensures fits { self.now.origin.before + self.now.log.limit < 2 ^ 64 }
+    {
+        self.history.last_number()
     }
 
     /// Whether as many calls are recorded as the limits allow.
@@ -105,18 +127,25 @@ impl Bench {
         self.next().is_some()
     }
 
-    /// The record of this number, counted from 1: None at 0 and past the end.
+    /// The record of this number, counted over all calls from 1: None up to those before the start, and past the end.
     pub fn record(&self, number: u64) -> Option<&Record>
-        ensures { option_map (λ it. it.now) result ≡ record_at self.now.log.records number }
+        ensures { option_map (λ it. it.now) result ≡ record_numbered self.now number }
     {
         self.history.record(number)
     }
 
-    /// How many recorded calls the caller has made.
+    /// How many recorded calls the caller has made, those before the start included.
     pub fn turns_of(&self, caller: u32) -> u64
-        ensures { result ≡ turns_of caller self.now.log.records }
+        ensures { result ≡ all_turns self.now caller }
     {
         self.history.turns_of(caller)
+    }
+
+    /// How many recorded calls each caller has made, those before the start included, by rising caller.
+    pub fn pages(&self) -> &BTreeMap<u32, u64>
+        ensures { result.now.entries ≡ pages_after self.now.origin.pages self.now.log.records }
+    {
+        self.history.pages()
     }
 
     /// How many keys the present texts have.
@@ -142,17 +171,24 @@ impl Bench {
         self.entries.pending_count()
     }
 
-    /// What is known of a key: what is answered, and what is recorded.
-    fn shown(&self, key: &Key) -> Result<(Asked, Asked), AllocError>
-        ensures answer { IfOk result (λ made. shown_in made.0 ≡ shown (state_of self.now) key.now) }
-        ensures stored { IfOk result (λ made. shown_in made.1 ≡ shown (state_of self.now) key.now) }
+    /// What is known of a key: what is answered, and what is recorded, with a share of the key.
+    fn shown(&self, key: Key) -> Result<(Asked, Asked, Arc<Key>), AllocError>
+        ensures answer { IfOk result (λ made. shown_in made.0 ≡ shown (state_of self.now) key) }
+        ensures stored { IfOk result (λ made. shown_in made.1 ≡ shown (state_of self.now) key) }
+        ensures key { IfOk result (λ made. made.2.value ≡ key) }
     {
-        match self.entries.by_key.get(key) {
-            None => Ok((Asked::NoSuchKey, Asked::NoSuchKey)),
-            Some(entry) => match &entry.value {
-                None => Ok((Asked::Pending, Asked::Pending)),
-                Some(value) => Ok((Asked::Value(value.clone()?), Asked::Value(value.clone()?))),
-            },
+        let Some(entry) = self.entries.by_key.get(&key) else {
+            let own = Arc::new(self.alloc, key)?;
+            return Ok((Asked::NoSuchKey, Asked::NoSuchKey, own));
+        };
+        let shared = entry.share_of(self.alloc, key)?;
+        match &entry.value {
+            None => Ok((Asked::Pending, Asked::Pending, shared)),
+            Some(value) => {
+                let answer = value.clone()?;
+                let stored = value.clone()?;
+                Ok((Asked::Value(answer), Asked::Value(stored), shared))
+            }
         }
     }
 
@@ -180,10 +216,10 @@ impl Bench {
         if self.history.is_full() {
             return Err(Refused::HistoryFull);
         }
-        let (answer, stored) = self.shown(&key)?;
+        let (answer, stored, shared) = self.shown(key)?;
         let share = self
             .history
-            .push(caller, Call::Ask(key), Reply::Asking(stored))?;
+            .push(caller, Call::Ask(shared), Reply::Asking(stored))?;
         Ok((answer, share))
     }
 
@@ -329,11 +365,12 @@ impl Bench {
             return Err(Refused::HistoryFull);
         }
         let number = self.commits + 1;
+        let most_units = self.history.most_units();
         let changes = first_changes(changes);
         let call = Call::Commit(TextChange::of_changes(self.alloc, changes)?);
         let outcome = outcome_of(
             self.alloc,
-            self.most_units,
+            most_units,
             number,
             &self.library,
             &self.index,
@@ -349,6 +386,7 @@ impl Bench {
             Outcome::Done { library, found } => {
                 let stored = Reply::of_commit(self.alloc, Committed::Done(number))?;
                 let share = record_with_room(
+                    self.alloc,
                     &mut self.entries,
                     &mut self.history,
                     &found.renewal,
@@ -461,6 +499,17 @@ impl Bench {
         }
     }
 
+    /// The call that gives a key back, as it is recorded.
+    fn giving_back(&self, key: Key) -> Result<Call, AllocError>
+        ensures { IfOk result (λ call. call_of call ≡ ToGiveBack key) }
+    {
+        let shared = match self.entries.by_key.get(&key) {
+            None => Arc::new(self.alloc, key)?,
+            Some(entry) => entry.share_of(self.alloc, key)?,
+        };
+        Ok(Call::GiveBack(shared))
+    }
+
     /// Clears the mark that a key is handed out.
     pub fn give_back(&mut self, caller: u32, key: Key) -> Result<GivenBack, Refused>
         ensures step { OnOk result (self.new ≡ recorded self.old caller (ToGiveBack key)) }
@@ -491,8 +540,9 @@ impl Bench {
             return Err(Refused::HistoryFull);
         }
         if !self.is_out(&key) {
+            let call = self.giving_back(key)?;
             let answer = Reply::GivingBack(GivenBack::NothingOut);
-            let share = self.history.push(caller, Call::GiveBack(key), answer)?;
+            let share = self.history.push(caller, call, answer)?;
             return Ok((GivenBack::NothingOut, share));
         }
         let share = if self.waits(&key) {
@@ -513,9 +563,10 @@ impl Bench {
             (λ it. it.value ≡ record_of self.old caller (ToGiveBack key.now)) }
         ensures err { OnErr result (self.new ≡ self.old) }
     {
+        let call = self.giving_back(*key)?;
         join(&mut self.entries.ready, key)?;
         let answer = Reply::GivingBack(GivenBack::Returned);
-        match self.history.push(caller, Call::GiveBack(*key), answer) {
+        match self.history.push(caller, call, answer) {
             Ok(share) => {
                 mark_out(&mut self.entries.by_key, key, false);
                 Ok(share)
@@ -537,10 +588,34 @@ impl Bench {
             (λ it. it.value ≡ record_of self.old caller (ToGiveBack key.now)) }
         ensures err { OnErr result (self.new ≡ self.old) }
     {
+        let call = self.giving_back(*key)?;
         let answer = Reply::GivingBack(GivenBack::Returned);
-        let share = self.history.push(caller, Call::GiveBack(*key), answer)?;
+        let share = self.history.push(caller, call, answer)?;
         mark_out(&mut self.entries.by_key, key, false);
         Ok(share)
+    }
+
+    /// Makes the present state what the history begins from, with new limits, and gives the number of all calls so far. Texts, values, pending
+    /// keys and handed-out marks stay as they are; the records go. It is no call itself, and is not recorded. The memory of the records is
+    /// kept for the next ones.
+    pub fn checkpoint(&mut self, limits: Limits) -> Result<u64, CheckpointRefused>
+        ensures answer { ChecksAs (checking limits self.old) result }
+        ensures kept { OnOk result (self.new ≡ checkpointed limits self.old) }
+        ensures err { OnErr result (self.new ≡ self.old) }
+    {
+        let count = self.library.len() as u64;
+        if limits.units() < count {
+            return Err(CheckpointRefused::UnitsOver(count));
+        }
+        if u64::MAX - limits.history() < self.history.last_number() {
+            return Err(CheckpointRefused::NumbersOver);
+        }
+        let library = self.library.copy()?;
+        let Marks { pending, out } = self.entries.marks(self.alloc)?;
+        let before = self
+            .history
+            .restart(limits, library, self.commits, pending, out)?;
+        Ok(before)
     }
 
     /// Makes any call. It gives a share of the record, and the answer.

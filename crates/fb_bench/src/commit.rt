@@ -145,6 +145,7 @@ pub(crate) fn outcome_of(
 
 /// Records a commit that is done, with room for the entries and marks that it brings, or leaves all as it was.
 pub(crate) fn record_with_room(
+    alloc: Global,
     entries: &mut Entries,
     history: &mut History,
     renewal: &Renewal,
@@ -152,7 +153,7 @@ pub(crate) fn record_with_room(
     call: Call,
     answer: Reply,
 ) -> Result<Arc<Record>, AllocError>
-    requires { length history.old.records < history.old.limit }
+    requires { length history.old.log.records < history.old.log.limit }
     ensures room { OnOk result (MakesRoom renewal.now entries.old entries.new) }
     ensures back { OnErr result (LosesRoom renewal.now entries.old entries.new) }
     ensures logged { OnOk result
@@ -161,7 +162,7 @@ pub(crate) fn record_with_room(
         (λ it. it.value ≡ record_after history.old caller (call_of call) (reply_of answer)) }
     ensures unlogged { OnErr result (history.new ≡ history.old) }
 {
-    entries.make_room(renewal)?;
+    entries.make_room(alloc, renewal)?;
     match history.push(caller, call, answer) {
         Ok(share) => Ok(share),
         Err(error) => {

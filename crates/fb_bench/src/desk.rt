@@ -1,12 +1,12 @@
 //! Desks: the recorded calls, as one session makes them.
 ghost use Rattle.std.specs.Prelude.{◌≡◌};
-ghost use Rattle.fb_bench.specs.Refusals.{as_desk};
+ghost use Rattle.fb_bench.specs.Refusals.{as_desk, as_desk_checkpoint};
 
 use crate::answers::Taken;
 use crate::bench::Bench;
 use fb_entries::jobs::{Finished, Key};
 use fb_entries::library::Change;
-use fb_history::{Asked, Committed, Delivered, GivenBack, Refused};
+use fb_history::{Asked, CheckpointRefused, Committed, Delivered, GivenBack, Limits, Refused};
 
 /// Why a desk does not record a call.
 #[derive(Clone, Copy, PartialEq, Eq, Debug)]
@@ -19,14 +19,27 @@ pub enum DeskRefused {
     Memory,
 }
 
-/// The five recorded calls, as one session makes them.
-pub trait Desk {
-    ghost use Rattle.fb_history.specs.Machine.{Call, ToCommit, ToTake, ToDeliver, ToGiveBack, ToAsk, OfCommit, OfDeliver, OfGiveBack};
-    ghost use Rattle.fb_bench.specs.Records.{listed};
-    ghost use Rattle.fb_bench.specs.Calls.{Answer, Serves, take_reply, ask_reply};
+/// Why a desk does not make the present state the start of its history.
+#[derive(Clone, Copy, PartialEq, Eq, Debug)]
+pub enum DeskCheckpointRefused {
+    /// So many units are present, more than the new limit.
+    UnitsOver(u64),
+    /// The last number and the new limit of the history together are no `u64`.
+    NumbersOver,
+    /// Others have seats at the same workbench.
+    NotAlone,
+    /// Memory was refused, and nothing has changed.
+    Memory,
+}
 
-    /// From the first desk the call may be answered so, and leave the second.
-    ghost step: { Self → Call → Answer → Self → Type 0 };
+/// The five recorded calls and the checkpoint, as one session makes them.
+pub trait Desk {
+    ghost use Rattle.fb_history.specs.Machine.{ToCommit, ToTake, ToDeliver, ToGiveBack, ToAsk, OfCommit, OfDeliver, OfGiveBack};
+    ghost use Rattle.fb_bench.specs.Records.{listed};
+    ghost use Rattle.fb_bench.specs.Calls.{Answer, Deed, Serves, ServesCheckpoint, take_reply, ask_reply};
+
+    /// From the first desk the call or the checkpoint may be answered so, and leave the second.
+    ghost step: { Self → Deed → Answer → Self → Type 0 };
 
     /// Changes the texts, or says what is first against it.
     fn commit(&mut self, changes: &[Change]) -> Result<Committed, DeskRefused>
@@ -47,6 +60,10 @@ pub trait Desk {
     /// What is known of a key.
     fn ask(&mut self, key: Key) -> Result<Asked, DeskRefused>
         ensures { Serves step self.old (ToAsk key) ask_reply result self.new };
+
+    /// Makes the present state what the history begins from, with new limits, and gives the number of all calls so far.
+    fn checkpoint(&mut self, limits: Limits) -> Result<u64, DeskCheckpointRefused>
+        ensures { ServesCheckpoint step self.old limits result self.new };
 }
 
 /// A workbench as the desk of one caller. It is never behind.
@@ -77,6 +94,16 @@ fn as_desk<T>(answer: Result<T, Refused>) -> Result<T, DeskRefused>
     }
 }
 
+fn as_desk_checkpoint(refused: CheckpointRefused) -> DeskCheckpointRefused
+    ensures { result ≡ as_desk_checkpoint refused }
+{
+    match refused {
+        CheckpointRefused::UnitsOver(count) => DeskCheckpointRefused::UnitsOver(count),
+        CheckpointRefused::NumbersOver => DeskCheckpointRefused::NumbersOver,
+        CheckpointRefused::Memory => DeskCheckpointRefused::Memory,
+    }
+}
+
 impl Desk for Solo<'_> {
     ghost use Rattle.fb_bench.specs.Solo.{SoloStep};
 
@@ -100,5 +127,12 @@ impl Desk for Solo<'_> {
 
     fn ask(&mut self, key: Key) -> Result<Asked, DeskRefused> {
         as_desk(self.bench.ask(self.caller, key))
+    }
+
+    fn checkpoint(&mut self, limits: Limits) -> Result<u64, DeskCheckpointRefused> {
+        match self.bench.checkpoint(limits) {
+            Ok(before) => Ok(before),
+            Err(refused) => Err(as_desk_checkpoint(refused)),
+        }
     }
 }

@@ -11,10 +11,11 @@ mod request;
 
 pub use answers::{Answered, Taken};
 pub use bench::Bench;
-pub use desk::{Desk, DeskRefused, Solo};
+pub use desk::{Desk, DeskCheckpointRefused, DeskRefused, Solo};
 pub use fb_history::{
-    Asked, Call, Committed, Delivered, GivenBack, Limits, Record, Refused, Reply, TextChange,
-    Wanted, entries_follow_the_texts, reach_before_and_after,
+    Asked, Call, CheckpointRefused, Committed, Delivered, GivenBack, Limits, Record, Refused,
+    Reply, Start, TextChange, Wanted, checkpoints_are_unseen, entries_follow_the_texts,
+    reach_before_and_after,
 };
 pub use peek::Shown;
 pub use request::Request;
@@ -26,7 +27,7 @@ pub mod parse {
 
 /// Of `fb_library`, for the crates above.
 pub mod library {
-    pub use fb_entries::library::Change;
+    pub use fb_entries::library::{Change, Library};
 }
 
 /// Of `fb_jobs`, for the crates above.

@@ -1,5 +1,5 @@
 -- What small steps write to entries and to sets of keys.
-use Rattle.std.specs.Prelude.{◌≡◌, Bool, true, false, List, Option, Some, None, is_none, if◌then◌else◌}
+use Rattle.std.specs.Prelude.{◌≡◌, Bool, true, false, List, map, filter, Option, Some, None, is_none, if◌then◌else◌}
 use Rattle.std.specs.List.{list_any}
 use Rattle.std.specs.Option.{option_map, option_or}
 use Rattle.std.specs.BTreeMap as tree
@@ -18,12 +18,20 @@ is_of key keys = list_any (same_key key) keys
 -- ---- entries
 
 -- an entry that waits for a result
-abbrev pub blank : Entry
-blank = record { value = None; out = false; found = None; former = None }
+abbrev pub blank : Arc Key Global → Entry
+blank key = record { key = key; value = None; out = false; found = None; former = None }
 
 -- an entry that has no value
 abbrev pub is_unkept : Entry → Bool
 is_unkept it = is_none it.value
+
+-- an entry that is handed out
+abbrev pub is_handed_out : Entry → Bool
+is_handed_out it = it.out
+
+-- the keys whose entries pass, in order
+abbrev pub keys_with : (Entry → Bool) → tree.BTreeMap Key Entry → List Key
+keys_with passes entries = map (λ (e : Key × Entry). e.0) (filter (λ (e : Key × Entry). passes e.1) entries.entries)
 
 -- an entry with this handed-out mark
 abbrev pub with_out : Bool → Entry → Entry
@@ -31,7 +39,7 @@ with_out out it = record it { out = out }
 
 -- an entry that is not handed out, with this value, and with nothing from before
 abbrev pub with_value : Arc Value Global → Entry → Entry
-with_value value it = record { value = Some value; out = false; found = None; former = None }
+with_value value it = record it { value = Some value; out = false; found = None; former = None }
 
 -- what was found for an entry that has no value
 abbrev pub unless_kept : Option (Arc Value Global) → Arc Value Global → Option (Arc Value Global)
@@ -44,7 +52,7 @@ with_found found it = record it { found = unless_kept it.value found }
 
 -- an entry that waits for a result again: what was found for it is gone, and the value that it had last is the former one
 abbrev pub waiting : Entry → Entry
-waiting it = record { value = None; out = false; found = None; former = option_or it.value it.former }
+waiting it = record it { value = None; out = false; found = None; former = option_or it.value it.former }
 
 -- the entry of a key that is to wait for a result or not
 abbrev pub waiting_if : Bool → Option Entry → Option Entry

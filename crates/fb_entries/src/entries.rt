@@ -4,7 +4,7 @@ ghost use Rattle.std.specs.BTreeMap as tree;
 ghost use Rattle.fb_jobs.specs.KeyOrder.{key_cmp};
 ghost use Rattle.fb_entries.specs.Indexed.{IsIndexOf};
 ghost use Rattle.fb_jobs.specs.Reach.{AgreeApartFrom, first_repeated};
-ghost use Rattle.fb_entries.specs.Marking.{is_unkept, LosesEntries, LosesKeys};
+ghost use Rattle.fb_entries.specs.Marking.{is_handed_out, is_unkept, keys_with, LosesEntries, LosesKeys};
 ghost use Rattle.fb_entries.specs.Found.{units_of, Alters, MakesRoom, LosesRoom};
 ghost use Rattle.fb_entries.specs.Renew.{IsCarriedOut};
 
@@ -29,6 +29,13 @@ pub struct Entries {
     pub by_key: BTreeMap<Key, Entry>,
     /// The keys that are pending and not handed out.
     pub ready: BTreeSet<Key>,
+}
+
+/// The keys that are pending and those that are handed out, by rising key.
+#[derive(Drop)]
+pub struct Marks {
+    pub pending: Vec<Key>,
+    pub out: Vec<Key>,
 }
 
 /// What a good commit leaves, found before anything is written.
@@ -68,6 +75,27 @@ impl Entries {
             .values()
             .filter(|entry| entry.value.is_none())
             .count()
+    }
+
+    /// Which keys are pending, and which are handed out. It looks at each entry.
+    pub fn marks(&self, alloc: Global) -> Result<Marks, AllocError>
+        ensures pending { IfOk result
+            (λ marks. marks.pending.items ≡ keys_with is_unkept self.now.by_key) }
+        ensures out { IfOk result
+            (λ marks. marks.out.items ≡ keys_with is_handed_out self.now.by_key) }
+        ensures ordered { tree.IsOrdered key_cmp self.now.by_key }
+    {
+        let mut pending = Vec::new(alloc);
+        let mut out = Vec::new(alloc);
+        for (key, entry) in self.by_key.iter() {
+            if entry.value.is_none() {
+                pending.push(*key)?;
+            }
+            if entry.out {
+                out.push(*key)?;
+            }
+        }
+        Ok(Marks { pending, out })
     }
 
     /// What the changes between two libraries leave; `index` is that of the library before.
@@ -119,11 +147,11 @@ impl Entries {
     }
 
     /// Makes room for new entries and marks, or leaves all as it was.
-    pub fn make_room(&mut self, renewal: &Renewal) -> Result<(), AllocError>
+    pub fn make_room(&mut self, alloc: Global, renewal: &Renewal) -> Result<(), AllocError>
         ensures ok { OnOk result (MakesRoom renewal.now self.old self.new) }
         ensures err { OnErr result (LosesRoom renewal.now self.old self.new) }
     {
-        let is_made = put_blank(&mut self.by_key, &renewal.fresh).is_ok();
+        let is_made = put_blank(alloc, &mut self.by_key, &renewal.fresh).is_ok();
         if is_made && join_all(&mut self.ready, &renewal.unready).is_ok() {
             return Ok(());
         }

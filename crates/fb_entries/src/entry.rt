@@ -1,16 +1,18 @@
 //! What is kept of a key.
-ghost use Rattle.std.specs.Prelude.{◌≡◌, true, false, OnOk, OnErr};
+ghost use Rattle.std.specs.Prelude.{◌≡◌, true, false, IfOk, OnOk, OnErr};
 ghost use Rattle.std.specs.Option.{option_or};
 ghost use Rattle.fb_entries.specs.Marking.{blank, unless_kept, with_found, with_out, with_value, ChangesEntry, RenewsEntry, MarksKey, SameKeys};
 
 use fb_jobs::{Key, Value};
-use std::alloc::AllocError;
+use std::alloc::{AllocError, Global};
 use std::collections::{BTreeMap, BTreeSet};
 use std::sync::Arc;
 
 /// What is kept of a key.
 #[derive(Drop)]
 pub struct Entry {
+    /// The key, to be shared with what is recorded of it.
+    pub key: Arc<Key>,
     /// Its value, unless it is pending.
     pub value: Option<Arc<Value>>,
     /// Whether it is handed out.
@@ -23,15 +25,27 @@ pub struct Entry {
 
 impl Entry {
     /// An entry that waits for a result.
-    pub(crate) fn blank() -> Entry
-        ensures { result ≡ blank }
+    pub(crate) fn blank(key: Arc<Key>) -> Entry
+        ensures { result ≡ blank key }
     {
         Entry {
+            key,
             value: None,
             out: false,
             found: None,
             former: None,
         }
+    }
+
+    /// A share of the key: the entry's own where that is the same.
+    pub fn share_of(&self, alloc: Global, key: Key) -> Result<Arc<Key>, AllocError>
+        ensures { IfOk result (λ shared. shared.value ≡ key) }
+    {
+        if *self.key == key {
+            let shared = self.key.clone()?;
+            return Ok(shared);
+        }
+        Ok(Arc::new(alloc, key)?)
     }
 }
 

@@ -7,7 +7,7 @@ mod keys;
 mod reach;
 mod renewal;
 
-pub use entries::{Entries, Found};
+pub use entries::{Entries, Found, Marks};
 pub use entry::{Entry, join, keep, keep_found, leave, mark_out};
 pub use renewal::Renewal;
 

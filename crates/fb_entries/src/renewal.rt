@@ -14,6 +14,7 @@ use fb_jobs::{Key, has_key};
 use fb_text::Name;
 use std::alloc::{AllocError, Global};
 use std::collections::{BTreeMap, BTreeSet};
+use std::sync::Arc;
 
 /// The keys that a commit makes, reaches and ends. Nothing is changed by finding them.
 #[derive(Drop)]
@@ -91,12 +92,17 @@ pub(crate) fn not_in(
 }
 
 /// Makes an entry that waits for a result for each of these keys.
-pub(crate) fn put_blank(entries: &mut BTreeMap<Key, Entry>, keys: &[Key]) -> Result<(), AllocError>
+pub(crate) fn put_blank(
+    alloc: Global,
+    entries: &mut BTreeMap<Key, Entry>,
+    keys: &[Key],
+) -> Result<(), AllocError>
     ensures others { KeepsOtherEntries keys.now entries.old entries.new }
     ensures there { OnOk result (HasEntries keys.now entries.new) }
 {
     for key in keys {
-        if entries.insert(*key, Entry::blank()).is_err() {
+        let shared = Arc::new(alloc, *key)?;
+        if entries.insert(*key, Entry::blank(shared)).is_err() {
             return Err(AllocError);
         }
     }

@@ -1,5 +1,5 @@
 -- The least of the keys that pass a test.
-use Rattle.std.proofs.Common.{◌≡◌, ℕ, Bool, true, false, ◌||◌, List, [], ◌∷◌, filter, refl, sym, ap, ◌∙◌, subst, Option, Some, None, cond}
+use Rattle.std.proofs.Common.{◌≡◌, ℕ, Bool, true, false, ◌||◌, ◌&&◌, List, [], ◌∷◌, filter, refl, sym, ap, ◌∙◌, subst, Option, Some, None, cond}
 use Rattle.std.specs.List.{list_any}
 use Rattle.std.specs.BTreeMap.{is_at}
 use Rattle.std.specs.Ordering.{is_eq, is_lt, is_gt, ordering_reverse}
@@ -16,6 +16,7 @@ use Rattle.fb_jobs.specs.KeyOrder.{key_cmp, same_key}
 use Rattle.fb_jobs.specs.Kinds.{all_keys}
 use Rattle.fb_history.specs.Machine.{State, is_ready, keys_of, least, lesser, next}
 use Rattle.fb_jobs.proofs.KindLemmas.{in_all_keys, no_kind}
+use Rattle.fb_jobs.proofs.Members.{of_filtered}
 use Rattle.fb_jobs.proofs.Order.{key_total, keys_equal}
 
 -- ---- the keys of texts
@@ -51,6 +52,15 @@ key_named T key has =
 
 pub key_in_keys : (T : Texts) (key : Key) → has_key T key ≡ true → list_any (same_key key) (keys_of T) ≡ true
 key_in_keys T key has = filtered (has_key T) key (all_keys (names_of T)) has (key_named T key has)
+
+and_named : (b h : Bool) → (h ≡ true → b ≡ true) → (b && h) ≡ h
+and_named true h named = refl
+and_named false true named = named refl
+and_named false false named = refl
+
+-- the keys of the texts are those that the texts have
+pub of_keys : (T : Texts) (key : Key) → list_any (same_key key) (keys_of T) ≡ has_key T key
+of_keys T key = of_filtered (has_key T) key (all_keys (names_of T)) ∙ and_named (list_any (same_key key) (all_keys (names_of T))) (has_key T key) (key_named T key)
 
 -- ---- the least
 

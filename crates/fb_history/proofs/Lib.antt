@@ -4,3 +4,5 @@ pub mod Least
 pub mod Sorted
 pub mod Dues
 pub mod AfterCalls
+pub mod Pages
+pub mod Restarts

@@ -7,8 +7,12 @@ use Rattle.std.proofs.lemmas.Option.{slice_get-map, slice_get_read, slice_get_pa
 use Rattle.std.proofs.lemmas.List.{map-append}
 use Rattle.std.proofs.lemmas.List.Sums.{sum_by_push}
 use Rattle.std.proofs.lemmas.Bool.Decides.{nat_tests}
-use Rattle.fb_history.specs.Story.{Record, record_at, turns_of, AreTurns}
+use Rattle.fb_history.specs.Story.{Record, on_page, record_at, turns_of}
 use Rattle.fb_history.specs.Records.{records_in}
+
+-- one more share is one more record
+pub shares_pushed : (old new : List (Arc Record Global)) (it : Arc Record Global) → new ≡ old ++ it ∷ [] → records_in new ≡ records_in old ++ it.value ∷ []
+shares_pushed old new it is = ap records_in is ∙ map-append (λ (x : Arc Record Global). x.value) old (it ∷ [])
 
 -- the record at a place
 pub record_found : (shares : List (Arc Record Global)) (place : ℕ) → slice_get (records_in shares) place ≡ option_map (λ (it : Arc Record Global). it.value) (slice_get shares place)
@@ -42,17 +46,27 @@ own_turn records it =
     sum_by_push (λ (r : Record). cond (r.caller == it.caller) 1 0) records it
     ∙ (let same : (it.caller == it.caller) ≡ true = grind (arith, nat_tests) in ap (λ b. turns_of it.caller records + cond b 1 0) same)
 
-turn_at : (records : List Record) (it : Record) → AreTurns records → it.turn ≡ turns_of it.caller records + 1 → (place : ℕ) (found : Record) → AtPlace records it place → slice_get (records ++ it ∷ []) place ≡ Some found → found.turn ≡ turns_of found.caller (take (suc place) (records ++ it ∷ []))
-turn_at records it so_far turn place found (inl (same, front)) at = so_far (suc place) found (sym same ∙ at) ∙ ap (λ rs. turns_of found.caller rs) (sym front)
-turn_at records it so_far turn place found (inr (inl (here, front))) at =
+-- each turn counts its caller's calls up to there, where these pages came before
+abbrev pub TurnsFrom : List (ℕ × ℕ) → List Record → Type 0
+TurnsFrom pages records = (place : ℕ) (it : Record) → record_at records place ≡ Some it → it.turn ≡ on_page pages it.caller + turns_of it.caller (take place records)
+
+-- none of no records
+pub turns_none : (pages : List (ℕ × ℕ)) → TurnsFrom pages []
+turns_none pages zero it at = cc
+turns_none pages (suc place) it at = cc
+
+turn_at : (pages : List (ℕ × ℕ)) (records : List Record) (it : Record) → TurnsFrom pages records → it.turn ≡ on_page pages it.caller + turns_of it.caller records + 1 → (place : ℕ) (found : Record) → AtPlace records it place → slice_get (records ++ it ∷ []) place ≡ Some found → found.turn ≡ on_page pages found.caller + turns_of found.caller (take (suc place) (records ++ it ∷ []))
+turn_at pages records it so_far turn place found (inl (same, front)) at = so_far (suc place) found (sym same ∙ at) ∙ ap (λ rs. on_page pages found.caller + turns_of found.caller rs) (sym front)
+turn_at pages records it so_far turn place found (inr (inl (here, front))) at =
     let is : it ≡ found = cc in
-    subst (λ r. r.turn ≡ turns_of r.caller (take (suc place) (records ++ it ∷ []))) is (turn ∙ sym (own_turn records it) ∙ ap (λ rs. turns_of it.caller rs) (sym front))
-turn_at records it so_far turn place found (inr (inr past)) at = cc
+    let own : turns_of it.caller (take (suc place) (records ++ it ∷ [])) ≡ turns_of it.caller records + 1 = ap (λ rs. turns_of it.caller rs) front ∙ own_turn records it in
+    subst (λ r. r.turn ≡ on_page pages r.caller + turns_of r.caller (take (suc place) (records ++ it ∷ []))) is (omega (arith, turn, own))
+turn_at pages records it so_far turn place found (inr (inr past)) at = cc
 
 -- one more record with its turn
-pub turns_pushed : (records : List Record) (it : Record) → AreTurns records → it.turn ≡ turns_of it.caller records + 1 → AreTurns (records ++ it ∷ [])
-turns_pushed records it so_far turn zero found at = cc
-turns_pushed records it so_far turn (suc place) found at = turn_at records it so_far turn place found (at_place records it place) at
+pub turns_pushed : (pages : List (ℕ × ℕ)) (records : List Record) (it : Record) → TurnsFrom pages records → it.turn ≡ on_page pages it.caller + turns_of it.caller records + 1 → TurnsFrom pages (records ++ it ∷ [])
+turns_pushed pages records it so_far turn zero found at = cc
+turns_pushed pages records it so_far turn (suc place) found at = turn_at pages records it so_far turn place found (at_place records it place) at
 
 found_at : (shares : List (Arc Record Global)) (number : ℕ) (found : Option (Arc Record Global)) → 0 < number → slice_get shares (number - 1) ≡ found → option_map (λ (it : Arc Record Global). it.value) found ≡ record_at (records_in shares) number
 found_at shares number found some at =
@@ -67,6 +81,6 @@ pub record_past : (shares : List (Arc Record Global)) (number : ℕ) → 0 < num
 record_past shares number some past = found_at shares number None some (slice_get_past shares (number - 1) past)
 
 -- the same of the shares
-pub turns_shared : (old new : List (Arc Record Global)) (it : Arc Record Global) → new ≡ old ++ it ∷ [] → AreTurns (records_in old) → it.value.turn ≡ turns_of it.value.caller (records_in old) + 1 → AreTurns (records_in new)
-turns_shared old new it is so_far turn =
-    subst (λ rs. AreTurns rs) (sym (ap records_in is ∙ map-append (λ (x : Arc Record Global). x.value) old (it ∷ []))) (turns_pushed (records_in old) it.value so_far turn)
+pub turns_shared : (pages : List (ℕ × ℕ)) (old new : List (Arc Record Global)) (it : Arc Record Global) → new ≡ old ++ it ∷ [] → TurnsFrom pages (records_in old) → it.value.turn ≡ on_page pages it.value.caller + turns_of it.value.caller (records_in old) + 1 → TurnsFrom pages (records_in new)
+turns_shared pages old new it is so_far turn =
+    subst (λ rs. TurnsFrom pages rs) (sym (shares_pushed old new it is)) (turns_pushed pages (records_in old) it.value so_far turn)

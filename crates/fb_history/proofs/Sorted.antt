@@ -123,7 +123,7 @@ rise_replay s (call ∷ calls) rise = rise_replay (after s call) calls (rise_aft
 keys_sorted : (texts : Texts) → Rise texts → IsStrictlySortedBy key_cmp (keys_of texts)
 keys_sorted texts rise = IsStrictlySortedBy-filter key_cmp (has_key texts) (all_keys (names_of texts)) (all_keys_rise (names_of texts) rise)
 
-rise_story : (story : Story) → IsOrigin story.origin → Rise (state_of story).units
+pub rise_story : (story : Story) → IsOrigin story.origin → Rise (state_of story).units
 rise_story story begins = rise_replay (opened story.origin) (calls_of story.log) begins.rise
 
 -- the keys of every workbench rise

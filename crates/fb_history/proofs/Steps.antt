@@ -7,7 +7,7 @@ use Rattle.fb_jobs.specs.Library.Texts.{Texts, Edit}
 use Rattle.fb_jobs.specs.declared.key.Key.{Key}
 use Rattle.fb_jobs.specs.Reads.{PlainJob, Seen}
 use Rattle.fb_history.specs.Machine.{State, Call, Reply, after, reply, ToAsk, OfAsk, shown, ToTake, OfTake, taken, next, after_take, plain_job_for, ToDeliver, OfDeliver, deliver_answer, after_deliver, ToGiveBack, OfGiveBack, give_back_answer, after_give_back, removed, ToCommit, OfCommit, commit_answer, after_commit}
-use Rattle.fb_history.specs.Story.{Record, Log, Story, opened, replay, replies, calls_of, state_of, recorded, logged, record_after, record_of, IsReplay}
+use Rattle.fb_history.specs.Story.{Record, Story, opened, replay, replies, calls_of, state_of, recorded, logged, record_after, record_of, IsReplay}
 
 pub replay_more : (s : State) (calls : List Call) (call : Call) → replay s (calls ++ call ∷ []) ≡ after (replay s calls) call
 unfolding replay
@@ -38,9 +38,9 @@ replayed_recorded story caller call so_far =
     ∙ ap (λ rs. rs ++ reply (state_of story) call ∷ []) so_far
     ∙ sym (replies_pushed story.log.records _)
 
-pub story_pushed : (story now : Story) (log : Log) (caller : ℕ) (call : Call) (answer : Reply) → story ≡ now → log ≡ logged story.log caller call answer → answer ≡ reply (state_of story) call → ◌≡◌ {A = Story} (record { origin = story.origin; log = log }) (recorded now caller call)
-story_pushed story now log caller call answer known is same =
-    ap (λ l. record { origin = story.origin; log = l }) (is ∙ ap (λ a. logged story.log caller call a) same) ∙ ap (λ st. recorded st caller call) known
+pub story_pushed : (story now next_story : Story) (caller : ℕ) (call : Call) (answer : Reply) → story ≡ now → next_story ≡ logged story caller call answer → answer ≡ reply (state_of story) call → next_story ≡ recorded now caller call
+story_pushed story now next_story caller call answer known is same =
+    is ∙ ap (λ a. logged story caller call a) same ∙ ap (λ st. recorded st caller call) known
 
 pub reply_ask : (s : State) (key : Key) → reply s (ToAsk key) ≡ OfAsk (shown s key)
 unfolding reply
@@ -121,5 +121,5 @@ delivered_is s order now key answer same at is =
     ∙ (λ i. after_deliver (sym is i) (sym at i) s)
 
 -- the share of a record shows the event that the call adds
-pub share_pushed : (story now : Story) (e : Record) (caller : ℕ) (call : Call) (answer : Reply) → story ≡ now → e ≡ record_after story.log caller call answer → answer ≡ reply (state_of story) call → e ≡ record_of now caller call
-share_pushed story now e caller call answer known is same = is ∙ ap (λ a. record_after story.log caller call a) same ∙ ap (λ st. record_of st caller call) known
+pub share_pushed : (story now : Story) (e : Record) (caller : ℕ) (call : Call) (answer : Reply) → story ≡ now → e ≡ record_after story caller call answer → answer ≡ reply (state_of story) call → e ≡ record_of now caller call
+share_pushed story now e caller call answer known is same = is ∙ ap (λ a. record_after story caller call a) same ∙ ap (λ st. record_of st caller call) known

@@ -3,5 +3,6 @@ pub mod Story
 pub mod Records
 pub mod Logs
 pub mod Limits
+pub mod Checkpoints
 pub mod Due
 pub mod Laws

@@ -7,4 +7,4 @@ pub record Bounds : Type 0 where
   pub history : ℕ
 
 abbrev pub AreLimits : ℕ → ℕ → Type 0
-AreLimits units history = (1 ≤ units) × (units ≤ 4096) × (1 ≤ history) × (history ≤ 1000000)
+AreLimits units history = (1 ≤ units) × (units ≤ 16384) × (1 ≤ history) × (history ≤ 10000000)

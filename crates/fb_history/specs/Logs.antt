@@ -1,11 +1,12 @@
--- What a log keeps.
-use Rattle.std.specs.Prelude.{◌≡◌, ℕ, ◌≤◌, List, length, unwrap_or}
-use Rattle.std.specs.Ordering.{nat_cmp}
+-- What a history keeps.
+use Rattle.std.specs.Prelude.{◌≡◌, ℕ, ◌+◌, ◌^◌, ◌≤◌, ◌<◌, length}
 use Rattle.std.specs.BTreeMap as tree
-use Rattle.fb_history.specs.Story.{Record, turns_of, AreTurns}
+use Rattle.fb_history.specs.Story.{Story, AreTurns, on_page, pages_after}
 
--- the kept numbers are how many records each caller has
-pub record IsCounted (turns : tree.BTreeMap ℕ ℕ) (records : List Record) (limit : ℕ) : Type 0 where
-  pub each : (caller : ℕ) → unwrap_or (tree.get nat_cmp turns caller) 0 ≡ turns_of caller records
-  pub within : length records ≤ limit
-  pub turns_are : AreTurns records
+-- the kept pages are those of all calls, those before included, and no number is beyond 64 bits
+pub record IsCounted (turns : tree.BTreeMap ℕ ℕ) (story : Story) : Type 0 where
+  pub pages_are : turns.entries ≡ pages_after story.origin.pages story.log.records
+  pub within : length story.log.records ≤ story.log.limit
+  pub fits : story.origin.before + story.log.limit < 2 ^ 64
+  pub pages_fit : (caller : ℕ) → on_page story.origin.pages caller ≤ story.origin.before
+  pub turns_are : AreTurns story

@@ -38,11 +38,11 @@ abbrev pub text_edits : List TextChange → List Edit
 text_edits changes = map text_edit changes
 
 abbrev pub call_of : Call → machine.Call
-call_of (Commit changes) = ToCommit (text_edits changes.items)
+call_of (Commit changes) = ToCommit (text_edits changes.value.items)
 call_of Take = ToTake
 call_of (Deliver it) = ToDeliver (wanted_job it.value)
-call_of (GiveBack key) = ToGiveBack key
-call_of (Ask key) = ToAsk key
+call_of (GiveBack key) = ToGiveBack key.value
+call_of (Ask key) = ToAsk key.value
 
 abbrev pub shown_in : Asked → Shown
 shown_in (Value value) = Finds (finding_of value.value)

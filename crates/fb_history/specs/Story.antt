@@ -1,6 +1,9 @@
 -- A history of calls, and what it leads to.
-use Rattle.std.specs.Prelude.{◌≡◌, ℕ, ◌+◌, ◌≤◌, false, List, [], ◌∷◌, ◌++◌, map, ◌==◌, count_by, take, length, slice_get, Option, Some, None, zero, suc}
+use Rattle.std.specs.Prelude.{◌≡◌, ℕ, ◌+◌, ◌-◌, ◌≤◌, false, List, [], ◌∷◌, ◌++◌, map, ◌==◌, count_by, take, length, slice_get, Option, Some, None, unwrap_or, zero, suc}
+use Rattle.std.specs.BTreeMap.{insert_entry, is_at}
 use Rattle.std.specs.List.Sorted.{IsStrictlySortedBy}
+use Rattle.std.specs.Map.{lookup}
+use Rattle.std.specs.Ordering.{nat_cmp}
 use Rattle.fb_text.specs.Order.{name_cmp}
 use Rattle.std.specs.List.{list_any}
 use Rattle.fb_jobs.specs.Library.Texts.{Texts, names_of}
@@ -21,13 +24,33 @@ pub record Log : Type 0 where
   pub limit : ℕ
   pub records : List Record
 
--- what a history begins from: a state, with its keys that are pending and those that are handed out as lists
+-- ---- pages: a list of callers, each with its number of calls, by rising caller
+
+-- how many calls stand on the page of a caller
+abbrev pub on_page : List (ℕ × ℕ) → ℕ → ℕ
+on_page pages caller = unwrap_or (lookup (is_at (nat_cmp caller)) pages) 0
+
+-- one call more on the page of its caller
+abbrev pub page_more : List (ℕ × ℕ) → ℕ → List (ℕ × ℕ)
+page_more pages caller = insert_entry nat_cmp pages caller (on_page pages caller + 1)
+
+-- the pages after these records
+abbrev pub pages_after : List (ℕ × ℕ) → List Record → List (ℕ × ℕ)
+pages_after pages [] = pages
+pages_after pages (it ∷ records) = pages_after (page_more pages it.caller) records
+
+-- ---- where a history begins
+
+-- What a history begins from: a state, with its keys that are pending and those that are handed out as lists; how many calls came
+-- before it, and how many of each caller
 pub record Origin : Type 0 where
   pub most_units : ℕ
   pub units : Texts
   pub commits : ℕ
   pub pending : List Key
   pub out : List Key
+  pub before : ℕ
+  pub pages : List (ℕ × ℕ)
 
 abbrev pub opened : Origin → State
 opened origin =
@@ -39,14 +62,15 @@ opened origin =
       out = λ key. list_any (same_key key) origin.out;
     }
 
--- its texts stand by rising names, and no key is pending but theirs
+-- its texts stand by rising names, and no key is pending or handed out but theirs
 pub record IsOrigin (origin : Origin) : Type 0 where
   pub rise : IsStrictlySortedBy name_cmp (names_of origin.units)
   pub waiting : (key : Key) → has_key origin.units key ≡ false → (opened origin).pending key ≡ false
+  pub handed : (key : Key) → has_key origin.units key ≡ false → (opened origin).out key ≡ false
 
--- no texts
-abbrev pub start : ℕ → Origin
-start most_units = record { most_units = most_units; units = []; commits = 0; pending = []; out = [] }
+-- no texts, and no calls before
+abbrev pub empty_origin : ℕ → Origin
+empty_origin most_units = record { most_units = most_units; units = []; commits = 0; pending = []; out = []; before = 0; pages = [] }
 
 -- a workbench: all else follows from what it begins from and its history
 pub record Story : Type 0 where
@@ -72,30 +96,44 @@ replies_of log = map (λ it. it.reply) log.records
 abbrev pub turns_of : ℕ → List Record → ℕ
 turns_of caller records = count_by (λ it. it.caller == caller) records
 
--- the record of this number, counted from 1
+-- the record at a place, counted from 1
 abbrev pub record_at : List Record → ℕ → Option Record
 record_at records zero = None
 record_at records (suc place) = slice_get records place
 
--- each turn counts its caller's records up to there
-abbrev pub AreTurns : List Record → Type 0
-AreTurns records = (number : ℕ) (it : Record) → record_at records number ≡ Some it → it.turn ≡ turns_of it.caller (take number records)
+-- the number of the last call
+abbrev pub last_number : Story → ℕ
+last_number story = story.origin.before + length story.log.records
 
--- one more call and its answer, after those of the log
-abbrev pub record_after : Log → ℕ → Call → Reply → Record
-record_after log caller call answer = record { caller = caller; turn = turns_of caller log.records + 1; call = call; reply = answer }
+-- the record of this number: none up to the calls before the history begins
+abbrev pub record_numbered : Story → ℕ → Option Record
+record_numbered story number = record_at story.log.records (number - story.origin.before)
 
--- the log with one more call and its answer
-abbrev pub logged : Log → ℕ → Call → Reply → Log
-logged log caller call answer = record { limit = log.limit; records = log.records ++ record_after log caller call answer ∷ [] }
+-- how many calls of the caller were recorded, those before included
+abbrev pub all_turns : Story → ℕ → ℕ
+all_turns story caller = on_page story.origin.pages caller + turns_of caller story.log.records
+
+-- each turn counts its caller's calls up to there
+abbrev pub AreTurns : Story → Type 0
+AreTurns story =
+    (place : ℕ) (it : Record) → record_at story.log.records place ≡ Some it
+    → it.turn ≡ on_page story.origin.pages it.caller + turns_of it.caller (take place story.log.records)
+
+-- one more call and its answer, after those of the story
+abbrev pub record_after : Story → ℕ → Call → Reply → Record
+record_after story caller call answer = record { caller = caller; turn = all_turns story caller + 1; call = call; reply = answer }
+
+-- the story with one more call and its answer
+abbrev pub logged : Story → ℕ → Call → Reply → Story
+logged story caller call answer =
+    record {
+      origin = story.origin;
+      log = record { limit = story.log.limit; records = story.log.records ++ record_after story caller call answer ∷ [] };
+    }
 
 -- an empty workbench with these limits
 abbrev pub new_story : ℕ → ℕ → Story
-new_story most_units limit = record { origin = start most_units; log = record { limit = limit; records = [] } }
-
--- what an empty workbench comes to by this history
-abbrev pub story_of : ℕ → Log → Story
-story_of most_units log = record { origin = start most_units; log = log }
+new_story most_units limit = record { origin = empty_origin most_units; log = record { limit = limit; records = [] } }
 
 -- as many calls are recorded as may be
 abbrev pub IsFull : Log → Type 0
@@ -111,11 +149,11 @@ reply_at story call = reply (state_of story) call
 
 -- the story with one more call, and the answer that the machine gives to it
 abbrev pub recorded : Story → ℕ → Call → Story
-recorded story caller call = record { origin = story.origin; log = logged story.log caller call (reply_at story call) }
+recorded story caller call = logged story caller call (reply_at story call)
 
 -- the record that a call adds to the story
 abbrev pub record_of : Story → ℕ → Call → Record
-record_of story caller call = record_after story.log caller call (reply_at story call)
+record_of story caller call = record_after story caller call (reply_at story call)
 
 -- each stored answer is the machine's at its place
 abbrev pub IsReplay : Story → Type 0

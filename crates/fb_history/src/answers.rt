@@ -1,6 +1,7 @@
 //! What the five recorded calls come to.
 ghost use Rattle.std.specs.Prelude.{◌≡◌};
 ghost use Rattle.fb_history.specs.declared.answers.Refused.TheVariants.{Memory};
+ghost use Rattle.fb_history.specs.declared.answers.CheckpointRefused.TheVariants as checkpoint;
 
 use fb_jobs::Value;
 use fb_text::Name;
@@ -61,5 +62,23 @@ impl From<AllocError> for Refused {
 
     fn from(_error: AllocError) -> Refused {
         Refused::Memory
+    }
+}
+
+/// Why the present state is not made the start of a history. Nothing is changed then.
+#[derive(Clone, Copy, PartialEq, Eq, Debug)]
+pub enum CheckpointRefused {
+    /// So many units are present, more than the new limit.
+    UnitsOver(u64),
+    /// The last number and the new limit of the history together are no `u64`.
+    NumbersOver,
+    Memory,
+}
+
+impl From<AllocError> for CheckpointRefused {
+    ghost from_gives = { λ _ refused. refused ≡ checkpoint.Memory };
+
+    fn from(_error: AllocError) -> CheckpointRefused {
+        CheckpointRefused::Memory
     }
 }

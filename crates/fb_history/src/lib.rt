@@ -7,9 +7,11 @@ mod limits;
 mod log;
 mod record;
 mod same;
+mod start;
 
-pub use answers::{Asked, Committed, Delivered, GivenBack, Refused};
-pub use laws::{entries_follow_the_texts, reach_before_and_after};
+pub use answers::{Asked, CheckpointRefused, Committed, Delivered, GivenBack, Refused};
+pub use laws::{checkpoints_are_unseen, entries_follow_the_texts, reach_before_and_after};
 pub use limits::Limits;
 pub use log::History;
 pub use record::{Call, Record, Reply, TextChange, Wanted};
+pub use start::Start;

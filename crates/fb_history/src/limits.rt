@@ -5,7 +5,7 @@ ghost use Rattle.fb_history.specs.Limits.{AreLimits};
 
 use std::marker::Model;
 
-/// The most units of a workbench, 1 to 4,096, and the most calls that it records, 1 to 1,000,000.
+/// The most units of a workbench, 1 to 16,384, and the most calls that it records since its start, 1 to 10,000,000.
 #[derive(Clone, Copy)]
 pub struct Limits {
     units: u64,
@@ -30,7 +30,7 @@ impl Limits {
         ensures { SomeIff result (AreLimits units history)
             (record { units = units; history = history }) }
     {
-        if 1 <= units && units <= 4096 && 1 <= history && history <= 1_000_000 {
+        if 1 <= units && units <= 16_384 && 1 <= history && history <= 10_000_000 {
             Some(Limits { units, history })
         } else {
             None

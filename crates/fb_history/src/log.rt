@@ -1,92 +1,136 @@
-//! The history: the recorded calls, and how many each caller has made.
+//! The history: what it begins from, the calls that were recorded since, and how many each caller has made.
 
-use crate::answers::Refused;
+use crate::limits::Limits;
 use crate::record::{Call, Record, Reply};
+use crate::start::Start;
+use fb_jobs::Key;
+use fb_jobs::library::Library;
 use std::alloc::{AllocError, Global};
 use std::collections::BTreeMap;
 use std::marker::Model;
 use std::sync::Arc;
 
-/// The recorded calls, at most `limit` of them, with how many each caller has made.
+/// What it begins from, and the calls that were recorded since, at most `limit` of them; `turns` counts the calls of each caller, those
+/// before the start included.
 #[derive(Drop)]
 pub struct History {
     alloc: Global,
+    start: Start,
     limit: u64,
     records: Vec<Arc<Record>>,
     turns: BTreeMap<u32, u64>,
 }
 
 impl Model for History {
-    ghost use Rattle.fb_history.specs.Story.{Log};
+    ghost use Rattle.fb_history.specs.Story.{Story};
 
-    ghost Value = { Log };
+    ghost Value = { Story };
 
     ghost use Rattle.fb_history.specs.Records.{records_in};
     ghost use Rattle.fb_history.specs.Logs.{IsCounted};
 
-    ghost view = { λ it. record { limit = it.limit; records = records_in it.records.items } };
+    ghost view = { λ it. record { origin = it.start; log = record { limit = it.limit; records = records_in it.records.items } } };
 
-    ghost invariant = { λ it. IsCounted it.turns (records_in it.records.items) it.limit };
+    ghost invariant = { λ it. IsCounted it.turns (record { origin = it.start; log = record { limit = it.limit; records = records_in it.records.items } }) };
 }
 
 impl History {
-    ghost use Rattle.std.specs.Prelude.{◌≡◌, ◌+◌, ◌^◌, ◌<◌, ◌↔◌, [], IsTrue, OnOk, OnErr, IfOk, length, Some, slice_get};
+    ghost use Rattle.std.specs.Prelude.{◌≡◌, ◌+◌, ◌^◌, ◌<◌, ◌≤◌, ◌↔◌, IsTrue, OnOk, OnErr, IfOk, length};
     ghost use Rattle.std.specs.Option.{option_map};
-    ghost use Rattle.fb_history.specs.Story.{logged, record_after, IsFull, record_at, AreTurns, turns_of};
+    ghost use Rattle.fb_history.specs.Checkpoints.{restarted};
+    ghost use Rattle.fb_history.specs.Story.{all_turns, last_number, logged, new_story, pages_after, record_after, record_numbered, AreTurns, IsFull};
     ghost use Rattle.fb_history.specs.Records.{call_of, reply_of};
 
-    pub fn new(alloc: Global, limit: u64) -> History
-        ensures { result ≡ record { limit = limit; records = [] } }
+    /// A history of no calls.
+    pub fn new(alloc: Global, limits: Limits) -> History
+        ensures { result ≡ new_story limits.units limits.history }
     {
         History {
             alloc,
-            limit,
+            start: Start::empty(alloc, limits.units()),
+            limit: limits.history(),
             records: Vec::new(alloc),
             turns: BTreeMap::new(alloc),
         }
     }
 
+    /// What it begins from.
+    pub fn start(&self) -> &Start
+        ensures { result.now ≡ self.now.origin }
+    {
+        &self.start
+    }
+
+    /// How many calls came before the start.
+    pub fn before(&self) -> u64
+        ensures { result ≡ self.now.origin.before }
+    {
+        self.start.before
+    }
+
+    /// The most units.
+    pub fn most_units(&self) -> u64
+        ensures { result ≡ self.now.origin.most_units }
+    {
+        self.start.most_units
+    }
+
+    /// How many calls are recorded since the start.
     pub fn len(&self) -> usize
-        ensures len { result ≡ length self.now.records }
-        ensures turns { AreTurns self.now.records }
+        ensures len { result ≡ length self.now.log.records }
+        ensures turns { AreTurns self.now }
     {
         self.records.len()
     }
 
+    /// The number of the last call, or 0.
+    pub fn last_number(&self) -> u64
+        ensures last { result ≡ last_number self.now }
+        ensures within { length self.now.log.records ≤ self.now.log.limit }
+        ensures fits { self.now.origin.before + self.now.log.limit < 2 ^ 64 }
+    {
+        self.start.before + self.records.len() as u64
+    }
+
     /// Whether no further call may be recorded.
     pub fn is_full(&self) -> bool
-        ensures full { IsTrue result ↔ IsFull self.now }
-        ensures small { self.now.limit < 2 ^ 64 }
+        ensures full { IsTrue result ↔ IsFull self.now.log }
+        ensures fits { self.now.origin.before + self.now.log.limit < 2 ^ 64 }
     {
         self.limit <= self.records.len() as u64
     }
 
-    /// The record of this number, counted from 1.
+    /// The record of this number, counted over all calls from 1: None up to those before the start.
     pub fn record(&self, number: u64) -> Option<&Record>
-        ensures { option_map (λ it. it.now) result ≡ record_at self.now.records number }
+        ensures { option_map (λ it. it.now) result ≡ record_numbered self.now number }
     {
-        if number == 0 {
+        let earlier = self.before();
+        if number <= earlier {
             return None;
         }
-        match self.records.get((number - 1) as usize) {
+        match self.records.get((number - earlier - 1) as usize) {
             Some(record) => Some(record),
             None => None,
         }
     }
 
-    /// How many recorded calls the caller has made.
+    /// How many recorded calls the caller has made, those before the start included.
     pub fn turns_of(&self, caller: u32) -> u64
-        ensures count { result ≡ turns_of caller self.now.records }
+        ensures { result ≡ all_turns self.now caller }
     {
-        match self.turns.get(&caller) {
-            Some(turns) => *turns,
-            None => 0,
-        }
+        self.turns.get(&caller).copied().unwrap_or(0)
+    }
+
+    /// How many calls each caller has made, those before the start included, by rising caller.
+    pub fn pages(&self) -> &BTreeMap<u32, u64>
+        ensures { result.now.entries ≡ pages_after self.now.origin.pages self.now.log.records }
+    {
+        &self.turns
     }
 
     /// Adds a record at the end, and gives a share of it.
     pub fn push(&mut self, caller: u32, call: Call, reply: Reply) -> Result<Arc<Record>, AllocError>
-        requires { length self.old.records < self.old.limit }
+        requires { length self.old.log.records < self.old.log.limit }
         ensures ok { OnOk result
             (self.new ≡ logged self.old caller (call_of call) (reply_of reply)) }
         ensures share { IfOk result
@@ -94,7 +138,6 @@ impl History {
         ensures err { OnErr result (self.new ≡ self.old) }
     {
         let turns = self.turns_of(caller);
-        self.turns.insert(caller, turns)?;
         let turn = turns + 1;
         let record = Record {
             caller,
@@ -104,10 +147,46 @@ impl History {
         };
         let record = Arc::new(self.alloc, record)?;
         let share = record.clone()?;
-        self.records.push(record)?;
-        if let Some(turns) = self.turns.get_mut(&caller) {
-            *turns = turn;
+        self.records.reserve(1)?;
+        match self.turns.insert(caller, turn) {
+            Ok(_) => {
+                self.records.push_reserved(record);
+                Ok(share)
+            }
+            Err(_) => Err(AllocError),
         }
-        Ok(share)
+    }
+
+    /// Begins anew from this state, with these limits, and gives the number of all calls so far. The records so far go.
+    pub fn restart(
+        &mut self,
+        limits: Limits,
+        library: Library,
+        commits: u64,
+        pending: Vec<Key>,
+        out: Vec<Key>,
+    ) -> Result<u64, AllocError>
+        requires { last_number self.old + limits.history < 2 ^ 64 }
+        ensures before { IfOk result (λ before. before ≡ last_number self.old) }
+        ensures ok { OnOk result
+            (self.new ≡ restarted limits library commits pending.items out.items self.old) }
+        ensures err { OnErr result (self.new ≡ self.old) }
+    {
+        let before = self.last_number();
+        let most_units = limits.units();
+        let limit = limits.history();
+        let calls = self.turns.clone()?;
+        self.start = Start {
+            most_units,
+            library,
+            commits,
+            pending,
+            out,
+            before,
+            calls,
+        };
+        self.limit = limit;
+        self.records = Vec::new(self.alloc);
+        Ok(before)
     }
 }

@@ -54,8 +54,15 @@ impl TextChange {
         }
     }
 
-    /// The changes as they are recorded, sharing their texts.
-    pub fn of_changes(alloc: Global, changes: &[Change]) -> Result<Vec<TextChange>, AllocError>
+    /// The changes as they are recorded, sharing their texts, in a box.
+    pub fn of_changes(alloc: Global, changes: &[Change]) -> Result<Box<Vec<TextChange>>, AllocError>
+        ensures { IfOk result (λ made. text_edits made.value.items ≡ edits_of changes.now) }
+    {
+        let made = TextChange::all_of(alloc, changes)?;
+        Ok(Box::new(alloc, made)?)
+    }
+
+    fn all_of(alloc: Global, changes: &[Change]) -> Result<Vec<TextChange>, AllocError>
         ensures { IfOk result (λ made. text_edits made.items ≡ edits_of changes.now) }
     {
         let mut made = Vec::with_capacity(alloc, changes.len())?;
@@ -66,14 +73,14 @@ impl TextChange {
     }
 }
 
-/// A recorded call. It has room for a key, since most calls ask; what is larger stands in a box.
+/// A recorded call, in 16 bytes: what is larger stands in a box, or is shared with what the workbench keeps of the key.
 #[derive(Drop)]
 pub enum Call {
-    Commit(Vec<TextChange>),
+    Commit(Box<Vec<TextChange>>),
     Take,
     Deliver(Box<Wanted>),
-    GiveBack(Key),
-    Ask(Key),
+    GiveBack(Arc<Key>),
+    Ask(Arc<Key>),
 }
 
 /// The answer to a recorded call. What is large stands in a box.

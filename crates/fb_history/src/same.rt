@@ -14,7 +14,7 @@ pub(crate) fn is_same_call(a: &Call, b: &Call) -> bool
     ensures { IsTrue result ↔ (call_of a.now ≡ call_of b.now) }
 {
     match (a, b) {
-        (Call::Commit(a), Call::Commit(b)) => are_same_changes(a, b),
+        (Call::Commit(a), Call::Commit(b)) => are_same_changes(a.as_slice(), b.as_slice()),
         (Call::Take, Call::Take) => true,
         (Call::Deliver(a), Call::Deliver(b)) => is_same_wanted(a, b),
         (Call::GiveBack(a), Call::GiveBack(b)) => is_one_key(a, b),

@@ -6,7 +6,7 @@ use Rattle.std.proofs.lemmas.Bool.Decides.{nat_tests}
 use Rattle.std.proofs.lemmas.List.Elements.{All-more}
 use Rattle.std.proofs.lemmas.List.Sums.{sum_by_more, sum_by-cons}
 use Rattle.std.proofs.lemmas.List.Folds.{list_any_more}
-use Rattle.fb_bench.specs.History.Story.{Record, turns_of, record_at}
+use Rattle.fb_bench.specs.History.Story.{Record, Story, all_turns, record_at}
 use Rattle.fb_locked.specs.Seats.{SeatState, Claim}
 use Rattle.fb_locked.specs.declared.close.CloseFault.{CloseFault}
 use Rattle.fb_locked.specs.declared.close.CloseFault.TheVariants.{SeatMissing, SeatDiffers, ReceiptDiffers, ReceiptTwice, Memory}
@@ -23,9 +23,14 @@ least_more w w' None c true least more =
 least_more w w' (Some o) c true least more =
     ((more (min c o) ∙ grind (arith, nat_tests, least.0)), (λ p below. more p ∙ grind (arith, nat_tests, least.1 p)))
 
+-- the least of what passes both tests alike
+pub least_same : (w w' : ℕ → Bool) (o : Option ℕ) → ((q : ℕ) → w' q ≡ w q) → IsLeast w o → IsLeast w' o
+least_same w w' None same least = λ q. same q ∙ least q
+least_same w w' (Some o) same least = (same o ∙ least.0, λ p below. same p ∙ least.1 p below)
+
 -- ---- one more receipt
 
--- a record's number is at least 1 and at most the number of records
+-- a record's place is at least 1 and at most the number of records
 pub placed : (es : List Record) (n : ℕ) (e : Record) → record_at es n ≡ Some e → (1 ≤ n) × (n - 1 < length es)
 placed es zero e is = absurd (let no : ⊥ = cc in no)
 placed es (suc p) e is = (omega arith, (let here : suc p - 1 ≡ p = omega arith in rw here (slice_get_within es p e is)))
@@ -37,9 +42,9 @@ once_at : (n number t : ℕ) (b : Bool) → number == n ≡ b → (number ≡ n 
 once_at n number t true is new few = let e : t ≡ 0 = new (eqb-true number n is) in omega arith
 once_at n number t false is new few = omega arith
 
-pub right_more : (es : List Record) (rs : List Claim) (i : ℕ) (r : Claim) → i < length rs → r ≡ get_or rs i r → AreReceiptsRight es (take i rs) → IsReceiptRight es r → times r.number (take i rs) ≡ 0 → AreReceiptsRight es (take (i + 1) rs)
-right_more es rs i r lt is right here new = record {
-  right = All-more (IsReceiptRight es) rs i r lt right.right (subst (IsReceiptRight es) is here);
+pub right_more : (story : Story) (rs : List Claim) (i : ℕ) (r : Claim) → i < length rs → r ≡ get_or rs i r → AreReceiptsRight story (take i rs) → IsReceiptRight story r → times r.number (take i rs) ≡ 0 → AreReceiptsRight story (take (i + 1) rs)
+right_more story rs i r lt is right here new = record {
+  right = All-more (IsReceiptRight story) rs i r lt right.right (subst (IsReceiptRight story) is here);
   once =
       λ n.
       rw (times_more n rs i r lt, ← is) (
@@ -47,36 +52,37 @@ right_more es rs i r lt is right here new = record {
       );
 }
 
-mark_at : (m n t number : ℕ) (marks : List Bool) (b : Bool) → number == n + 1 ≡ b → m ≡ number - 1 → 1 ≤ number → m < length marks → (number ≡ n + 1 → t ≡ 0) → cond (get_or marks n false) 1 0 ≡ t → cond (get_or (set marks m true) n false) 1 0 ≡ t + cond b 1 0
-mark_at m n t number marks true is at one within new marked =
-    let e : number ≡ n + 1 = eqb-true number (n + 1) is in
+-- the mark of a number stands as many places before it as there were calls before the first record, and one
+mark_at : (before m n t number : ℕ) (marks : List Bool) (b : Bool) → number == before + n + 1 ≡ b → m ≡ number - before - 1 → 1 ≤ number - before → m < length marks → (number ≡ before + n + 1 → t ≡ 0) → cond (get_or marks n false) 1 0 ≡ t → cond (get_or (set marks m true) n false) 1 0 ≡ t + cond b 1 0
+mark_at before m n t number marks true is at one within new marked =
+    let e : number ≡ before + n + 1 = eqb-true number (before + n + 1) is in
     let here : m ≡ n = omega arith in
     let none : t ≡ 0 = new e in
     rw (none, ← here, get_or-set_same) refl
-mark_at m n t number marks false is at one within new marked =
-    let apart : n ≢ m = λ same. let e : number ≡ n + 1 = omega arith in let bad : true ≡ false = sym (eq-eqb number (n + 1) e) ∙ is in let no : ⊥ = cc in no in
+mark_at before m n t number marks false is at one within new marked =
+    let apart : n ≢ m = λ same. let e : number ≡ before + n + 1 = omega arith in let bad : true ≡ false = sym (eq-eqb number (before + n + 1) e) ∙ is in let no : ⊥ = cc in no in
     rw (get_or-set_other, marked) (sym (add-zero t))
 
-pub marks_more : (rs : List Claim) (i : ℕ) (r : Claim) (marks : List Bool) → i < length rs → r ≡ get_or rs i r → 1 ≤ r.number → r.number - 1 < length marks
+pub marks_more : (before : ℕ) (rs : List Claim) (i : ℕ) (r : Claim) (marks : List Bool) → i < length rs → r ≡ get_or rs i r → 1 ≤ r.number - before → r.number - before - 1 < length marks
     → times r.number (take i rs) ≡ 0
-    → (n : ℕ) → cond (get_or marks n false) 1 0 ≡ times (n + 1) (take i rs) → cond (get_or (set marks (r.number - 1) true) n false) 1 0 ≡ times (n + 1) (take (i + 1) rs)
-marks_more rs i r marks lt is one within new n marked =
-    rw (times_more (n + 1) rs i r lt, ← is) (
-    mark_at (r.number - 1) n (times (n + 1) (take i rs)) r.number marks (r.number == n + 1) refl refl one within (λ same. subst (λ (m : ℕ). times m (take i rs) ≡ 0) same new) marked
+    → (n : ℕ) → cond (get_or marks n false) 1 0 ≡ times (before + n + 1) (take i rs) → cond (get_or (set marks (r.number - before - 1) true) n false) 1 0 ≡ times (before + n + 1) (take (i + 1) rs)
+marks_more before rs i r marks lt is one within new n marked =
+    rw (times_more (before + n + 1) rs i r lt, ← is) (
+    mark_at before (r.number - before - 1) n (times (before + n + 1) (take i rs)) r.number marks (r.number == before + n + 1) refl refl one within (λ same. subst (λ (m : ℕ). times m (take i rs) ≡ 0) same new) marked
     )
 
 -- ---- one more seat
 
-wrong_same : (es : List Record) (caller q turns : ℕ) (b : Bool) → caller == q ≡ b → (b && not (turns_of q es == turns)) ≡ (b && not (turns_of caller es == turns))
-wrong_same es caller q turns true is = ap (λ n. not (turns_of n es == turns)) (sym (eqb-true caller q is))
-wrong_same es caller q turns false is = refl
+wrong_same : (story : Story) (caller q turns : ℕ) (b : Bool) → caller == q ≡ b → (b && not (all_turns story q == turns)) ≡ (b && not (all_turns story caller == turns))
+wrong_same story caller q turns true is = ap (λ n. not (all_turns story n == turns)) (sym (eqb-true caller q is))
+wrong_same story caller q turns false is = refl
 
-pub wrong_more : (es : List Record) (seats : List SeatState) (i : ℕ) (s : SeatState) (q : ℕ) → i < length seats → s ≡ get_or seats i s
-    → has_wrong_seat es (take (i + 1) seats) q ≡ (has_wrong_seat es (take i seats) q || (s.caller == q && not (turns_of s.caller es == s.turns)))
-wrong_more es seats i s q lt is =
-    list_any_more (λ (s : SeatState). s.caller == q && not (turns_of q es == s.turns)) seats i s lt
+pub wrong_more : (story : Story) (seats : List SeatState) (i : ℕ) (s : SeatState) (q : ℕ) → i < length seats → s ≡ get_or seats i s
+    → has_wrong_seat story (take (i + 1) seats) q ≡ (has_wrong_seat story (take i seats) q || (s.caller == q && not (all_turns story s.caller == s.turns)))
+wrong_more story seats i s q lt is =
+    list_any_more (λ (s : SeatState). s.caller == q && not (all_turns story q == s.turns)) seats i s lt
     ∙ (
-    rw (← is) (ap (λ b. has_wrong_seat es (take i seats) q || b) (wrong_same es s.caller q s.turns (s.caller == q) refl))
+    rw (← is) (ap (λ b. has_wrong_seat story (take i seats) q || b) (wrong_same story s.caller q s.turns (s.caller == q) refl))
     )
 
 -- ---- a number among receipts
@@ -102,9 +108,9 @@ some_times n [] some = let bad : false ≡ true = some in cc
 some_times n (c ∷ cs) some = some_at n c cs (c.number == n) refl some (some_times n cs)
 
 -- a fault of the receipts is the first one, where the seats are right
-pub receipt_fault : (callers : ℕ) (es : List Record) (seats : List SeatState) (rs : List Claim) (fault : CloseFault) → AreSeated callers es seats → AreSeatsRight es seats → IsReceiptFault es rs fault → IsFirstFault callers es seats rs fault
-receipt_fault callers es seats rs (SeatMissing q) seated right never = absurd never
-receipt_fault callers es seats rs (SeatDiffers q) seated right never = absurd never
-receipt_fault callers es seats rs (ReceiptDiffers n) seated right first = (seated, right, first)
-receipt_fault callers es seats rs (ReceiptTwice n) seated right first = (seated, right, first)
-receipt_fault callers es seats rs Memory seated right never = absurd never
+pub receipt_fault : (callers : ℕ) (story : Story) (seats : List SeatState) (rs : List Claim) (fault : CloseFault) → AreSeated callers story seats → AreSeatsRight story seats → IsReceiptFault story rs fault → IsFirstFault callers story seats rs fault
+receipt_fault callers story seats rs (SeatMissing q) seated right never = absurd never
+receipt_fault callers story seats rs (SeatDiffers q) seated right never = absurd never
+receipt_fault callers story seats rs (ReceiptDiffers n) seated right first = (seated, right, first)
+receipt_fault callers story seats rs (ReceiptTwice n) seated right first = (seated, right, first)
+receipt_fault callers story seats rs Memory seated right never = absurd never

@@ -1,68 +1,133 @@
--- The callers of a workbench, one more at a time: whose seats are missing, and how many records each has.
-use Rattle.std.proofs.Common.{◌≡◌, ◌==◌, ◌&&◌, ◌||◌, ℕ, ◌+◌, ◌<◌, ◌≤◌, ◌⊎◌, inl, inr, zero, List, Bool, true, false, not, cond, Option, Some, None, refl, ap, sym, ◌∙◌, arith, nat_lt, nat_le, length, take, get_or, slice_get, suc}
+-- The callers of a workbench, one more at a time: whose seats are missing, who gets no seat, and how many calls each has made.
+use Rattle.std.proofs.Common.{◌≡◌, ◌==◌, ◌&&◌, ◌||◌, ℕ, List, [], ◌∷◌, ◌++◌, Bool, true, false, not, cond, Option, Some, None, map, refl, ap, sym, ◌∙◌, arith, nat_lt, nat_cmp, unwrap_or}
+use Rattle.std.specs.Borrow.{Bor}
+use Rattle.std.specs.BTreeMap.{is_at}
+use Rattle.std.specs.List.{list_any}
+use Rattle.std.specs.Map.{keys_of, lookup}
+use Rattle.std.specs.Map.Iter.{deref}
 use Rattle.std.proofs.lemmas.Bool.{eqb-true}
 use Rattle.std.proofs.lemmas.Bool.Decides.{nat_tests}
-use Rattle.std.proofs.lemmas.List.Sums.{sum_by_more}
-use Rattle.std.proofs.lemmas.Option.{slice_get_within, get_or_from_slice_get, slice_get_cases}
-use Rattle.fb_bench.specs.History.Story.{Record, turns_of, record_at}
-use Rattle.fb_locked.specs.Book.{is_caller}
+use Rattle.std.proofs.lemmas.List.{map-append}
+use Rattle.std.proofs.lemmas.List.Folds.{list_any-append}
+use Rattle.fb_bench.specs.History.Story.{Story, all_turns, on_page, pages_after}
+use Rattle.fb_history.proofs.Pages.{on_all}
+use Rattle.fb_locked.specs.Book.{is_first, is_caller, has_called}
 use Rattle.fb_locked.specs.Closing.{has_seat, is_missing}
+use Rattle.fb_locked.specs.Resuming.{is_left_out}
 use Rattle.fb_locked.specs.Seats.{SeatState}
 
-record_at-next : (es : List Record) (i : ℕ) → record_at es (i + 1) ≡ slice_get es i
-record_at-next es i = let next : i + 1 ≡ suc i = omega arith in ap (record_at es) next
+-- ---- one caller more is seen
 
--- there is a record of each number up to that of the last
-pub record_there : (es : List Record) (n : ℕ) → 1 ≤ n → n ≤ length es → record_at es n ≡ None → ⊥
-record_there es zero one within none = omega (arith, one)
-record_there es (suc p) one within none = by (slice_get_cases es p).1
-  where
-    by : ((x : Record) × (p < length es) × (slice_get es p ≡ Some x) × (get_or es p x ≡ x)) ⊎ ((length es ≤ p) × (slice_get es p ≡ None)) → ⊥
-    by (inl some) = let no : Some some.0 ≡ None = sym some.2 ∙ none in cc
-    by (inr past) = omega (arith, past.0, within)
+or_false : (b : Bool) → (b || false) ≡ b
+or_false true = refl
+or_false false = refl
 
--- ---- one caller more
+under : (b x y : Bool) → (b ≡ true → x ≡ y) → (b && x) ≡ (b && y)
+under true x y same = same refl
+under false x y same = refl
 
-turned : (first : Bool) (t : ℕ) (b : Bool) → (first || nat_lt 0 (t + cond b 1 0)) ≡ ((first || nat_lt 0 t) || b)
-turned true t true = refl
-turned true t false = refl
-turned false t true = grind (arith, nat_tests)
-turned false t false = grind (arith, nat_tests)
+either_called : (m b t : Bool) → ((m || b) && t) ≡ ((m && t) || (b && t))
+either_called true true true = refl
+either_called true true false = refl
+either_called true false true = refl
+either_called true false false = refl
+either_called false b t = refl
 
-turns_more : (q : ℕ) (es : List Record) (i : ℕ) (e : Record) → record_at es (i + 1) ≡ Some e → turns_of q (take (i + 1) es) ≡ turns_of q (take i es) + cond (e.caller == q) 1 0
-turns_more q es i e is =
-    let here : slice_get es i ≡ Some e = sym (record_at-next es i) ∙ is in
-    sum_by_more (λ (x : Record). cond (x.caller == q) 1 0) es i e (slice_get_within es i e here)
-    ∙ ap (λ (x : Record). turns_of q (take i es) + cond (x.caller == q) 1 0) (get_or_from_slice_get es i e e here)
+seen_more : (seen : List (Bor ℕ)) (k : Bor ℕ) (q : ℕ) → list_any (λ (n : ℕ). n == q) (map deref (seen ++ k ∷ [])) ≡ (list_any (λ (n : ℕ). n == q) (map deref seen) || k.now == q)
+seen_more seen k q =
+    let is_it : ℕ → Bool = λ n. n == q in
+    ap (list_any is_it) (map-append deref seen (k ∷ []))
+    ∙ (list_any-append is_it (map deref seen) (k.now ∷ []) ∙ ap (λ b. list_any is_it (map deref seen) || b) (or_false (k.now == q)))
 
-caller_more : (callers : ℕ) (es : List Record) (i q : ℕ) (e : Record) → record_at es (i + 1) ≡ Some e → is_caller callers (take (i + 1) es) q ≡ (is_caller callers (take i es) q || e.caller == q)
-caller_more callers es i q e is =
-    ap (λ n. (nat_lt 0 q && nat_le q callers) || nat_lt 0 n) (turns_more q es i e is)
-    ∙ turned (nat_lt 0 q && nat_le q callers) (turns_of q (take i es)) (e.caller == q)
+pub called_more : (story : Story) (seen : List (Bor ℕ)) (k : Bor ℕ) (q : ℕ) → has_called (map deref (seen ++ k ∷ [])) story q ≡ (has_called (map deref seen) story q || (k.now == q && nat_lt 0 (all_turns story k.now)))
+called_more story seen k q =
+    let m : Bool = list_any (λ (n : ℕ). n == q) (map deref seen) in
+    let t : Bool = nat_lt 0 (all_turns story q) in
+    let same : (k.now == q && t) ≡ (k.now == q && nat_lt 0 (all_turns story k.now)) = under (k.now == q) t (nat_lt 0 (all_turns story k.now)) (λ e. ap (λ n. nat_lt 0 (all_turns story n)) (sym (eqb-true k.now q e))) in
+    ap (λ b. b && t) (seen_more seen k q) ∙ (either_called m (k.now == q) t ∙ ap (λ b. (m && t) || b) same)
 
--- ---- whose seat is missing
+-- ---- all callers are seen
 
-unseated : (a b h : Bool) → ((a || b) && not h) ≡ ((a && not h) || (b && not h))
-unseated true true true = refl
-unseated true true false = refl
-unseated true false true = refl
-unseated true false false = refl
-unseated false true true = refl
-unseated false true false = refl
-unseated false false true = refl
-unseated false false false = refl
+not_first : (e : ℕ × ℕ) (es : List (ℕ × ℕ)) (q : ℕ) (b : Bool) → e.0 == q ≡ b → (b || list_any (λ (n : ℕ). n == q) (keys_of es)) ≡ false → (list_any (λ (n : ℕ). n == q) (keys_of es) ≡ false → on_page es q ≡ 0) → on_page (e ∷ es) q ≡ 0
+not_first e es q true is none rest = absurd (let bad : true ≡ false = none in let no : ⊥ = cc in no)
+not_first e es q false is none rest = let apart : is_at (nat_cmp q) e.0 ≡ false = grind (arith, nat_tests) in ap (λ b. unwrap_or (cond b (Some e.1) (lookup (is_at (nat_cmp q)) es)) 0) apart ∙ rest none
 
-unseated_at : (a' a b h h' : Bool) → a' ≡ (a || b) → (b ≡ true → h ≡ h') → (a' && not h) ≡ ((a && not h) || (b && not h'))
-unseated_at a' a true h h' is same = ap (λ x. x && not h) is ∙ (unseated a true h ∙ ap (λ y. (a && not h) || not y) (same refl))
-unseated_at a' a false h h' is same = ap (λ x. x && not h) is ∙ unseated a false h
+-- a caller that has no page has no calls there
+no_page : (es : List (ℕ × ℕ)) (q : ℕ) → list_any (λ (n : ℕ). n == q) (keys_of es) ≡ false → on_page es q ≡ 0
+no_page [] q none = refl
+no_page (e ∷ es) q none = not_first e es q (e.0 == q) refl none (no_page es q)
 
-pub missing_more : (callers : ℕ) (es : List Record) (seats : List SeatState) (i q : ℕ) (e : Record) → record_at es (i + 1) ≡ Some e
-    → is_missing callers (take (i + 1) es) seats q ≡ (is_missing callers (take i es) seats q || (e.caller == q && not (has_seat seats e.caller)))
-missing_more callers es seats i q e is =
-    unseated_at (is_caller callers (take (i + 1) es) q) (is_caller callers (take i es) q) (e.caller == q) (has_seat seats q) (has_seat seats e.caller) (caller_more callers es i q e is)
-    (λ same. ap (has_seat seats) (sym (eqb-true e.caller q same)))
+all_called : (m : Bool) (n : ℕ) → (m ≡ false → n ≡ 0) → (m && nat_lt 0 n) ≡ nat_lt 0 n
+all_called true n none = refl
+all_called false n none = sym (ap (nat_lt 0) (none refl))
 
--- ---- how many records each has
+-- who has made a call is among the pages of all calls
+pub called_all : (story : Story) (seen : List ℕ) (q : ℕ) → seen ≡ keys_of (pages_after story.origin.pages story.log.records) → has_called seen story q ≡ nat_lt 0 (all_turns story q)
+called_all story seen q is =
+    all_called (list_any (λ (n : ℕ). n == q) seen) (all_turns story q) (
+    λ none.
+    let pages = pages_after story.origin.pages story.log.records in
+    sym (on_all story.origin.pages story.log.records q) ∙ no_page pages q (ap (list_any (λ (n : ℕ). n == q)) (sym is) ∙ none)
+    )
+
+-- ---- the least one, where it is one of those that are seen, or one of the first callers
+
+lacking : (a b h : Bool) → ((a || b) && not h) ≡ ((a && not h) || (b && not h))
+lacking true true true = refl
+lacking true true false = refl
+lacking true false true = refl
+lacking true false false = refl
+lacking false b h = refl
+
+lacking_one : (b t h h' : Bool) → (b ≡ true → h ≡ h') → ((b && t) && not h) ≡ (b && (t && not h'))
+lacking_one true t h h' same = ap (λ x. t && not x) (same refl)
+lacking_one false t h h' same = refl
+
+lacking_more : (a' a b t h h' : Bool) → a' ≡ (a || (b && t)) → (b ≡ true → h ≡ h') → (a' && not h) ≡ ((a && not h) || (b && (t && not h')))
+lacking_more a' a b t h h' is same = ap (λ x. x && not h) is ∙ (lacking a (b && t) h ∙ ap (λ x. (a && not h) || x) (lacking_one b t h h' same))
+
+either_assoc : (a b c : Bool) → (a || (b || c)) ≡ ((a || b) || c)
+either_assoc true b c = refl
+either_assoc false b c = refl
+
+-- a caller whose seat is missing: one of the first, or one of those that were seen
+abbrev pub is_unseated : ℕ → List ℕ → Story → List SeatState → ℕ → Bool
+is_unseated callers seen story seats q = (is_first callers q || has_called seen story q) && not (has_seat seats q)
+
+pub unseated_none : (callers : ℕ) (story : Story) (seats : List SeatState) (q : ℕ) → is_unseated callers [] story seats q ≡ (is_first callers q && not (has_seat seats q))
+unseated_none callers story seats q = ap (λ b. b && not (has_seat seats q)) (or_false (is_first callers q))
+
+pub unseated_more : (callers : ℕ) (story : Story) (seats : List SeatState) (seen : List (Bor ℕ)) (k : Bor ℕ) (q : ℕ)
+    → is_unseated callers (map deref (seen ++ k ∷ [])) story seats q
+    ≡ (is_unseated callers (map deref seen) story seats q || (k.now == q && (nat_lt 0 (all_turns story k.now) && not (has_seat seats k.now))))
+unseated_more callers story seats seen k q =
+    let before : Bool = has_called (map deref seen) story q in
+    let more : Bool = k.now == q && nat_lt 0 (all_turns story k.now) in
+    lacking_more (is_first callers q || has_called (map deref (seen ++ k ∷ [])) story q) (is_first callers q || before) (k.now == q) (nat_lt 0 (all_turns story k.now)) (has_seat seats q) (has_seat seats k.now)
+    (ap (λ b. is_first callers q || b) (called_more story seen k q) ∙ either_assoc (is_first callers q) before more)
+    (λ same. ap (has_seat seats) (sym (eqb-true k.now q same)))
+
+pub unseated_all : (callers : ℕ) (story : Story) (seats : List SeatState) (seen : List ℕ) (q : ℕ) → seen ≡ keys_of (pages_after story.origin.pages story.log.records) → is_missing callers story seats q ≡ is_unseated callers seen story seats q
+unseated_all callers story seats seen q is = ap (λ b. (is_first callers q || b) && not (has_seat seats q)) (sym (called_all story seen q is))
+
+-- a caller that gets no seat, of those that were seen
+abbrev pub is_beyond : List ℕ → Story → ℕ → ℕ → Bool
+is_beyond seen story callers q = has_called seen story q && not (is_first callers q)
+
+pub beyond_more : (callers : ℕ) (story : Story) (seen : List (Bor ℕ)) (k : Bor ℕ) (q : ℕ) → is_beyond (map deref (seen ++ k ∷ [])) story callers q ≡ (is_beyond (map deref seen) story callers q || (k.now == q && is_left_out story callers k.now))
+beyond_more callers story seen k q =
+    lacking_more (has_called (map deref (seen ++ k ∷ [])) story q) (has_called (map deref seen) story q) (k.now == q) (nat_lt 0 (all_turns story k.now)) (is_first callers q) (is_first callers k.now)
+    (called_more story seen k q)
+    (λ same. ap (is_first callers) (sym (eqb-true k.now q same)))
+
+pub beyond_all : (callers : ℕ) (story : Story) (seen : List ℕ) (q : ℕ) → seen ≡ keys_of (pages_after story.origin.pages story.log.records) → is_left_out story callers q ≡ is_beyond seen story callers q
+beyond_all callers story seen q is = ap (λ b. b && not (is_first callers q)) (sym (called_all story seen q is))
+
+-- ---- how many calls each has made
+
+first_true : (a b : Bool) → (a && b) ≡ true → a ≡ true
+first_true true b both = refl
+first_true false b both = both
 
 counted_at : (a' a b : Bool) (t t' : ℕ) (old new : Option ℕ) → a' ≡ (a || b) → (b ≡ true → t' ≡ t) → old ≡ cond a (Some t) None → new ≡ cond b (Some t') old → new ≡ cond a' (Some t) None
 counted_at a' true true t t' old new is same was now = now ∙ (ap Some (same refl) ∙ ap (λ (x : Bool). cond x (Some t) None) (sym is))
@@ -70,9 +135,18 @@ counted_at a' false true t t' old new is same was now = now ∙ (ap Some (same r
 counted_at a' true false t t' old new is same was now = now ∙ (was ∙ ap (λ (x : Bool). cond x (Some t) None) (sym is))
 counted_at a' false false t t' old new is same was now = now ∙ (was ∙ ap (λ (x : Bool). cond x (Some t) None) (sym is))
 
-pub counted_more : (callers : ℕ) (es : List Record) (i q : ℕ) (e : Record) (old new : Option ℕ) → record_at es (i + 1) ≡ Some e → old ≡ cond (is_caller callers (take i es) q) (Some (turns_of q es)) None
-    → new ≡ cond (e.caller == q) (Some (turns_of e.caller es)) old → new ≡ cond (is_caller callers (take (i + 1) es) q) (Some (turns_of q es)) None
-counted_more callers es i q e old new is was now =
-    counted_at (is_caller callers (take (i + 1) es) q) (is_caller callers (take i es) q) (e.caller == q) (turns_of q es) (turns_of e.caller es) old new (caller_more callers es i q e is)
-    (λ same. ap (λ k. turns_of k es) (eqb-true e.caller q same))
+pub counted_more : (callers : ℕ) (story : Story) (seen : List (Bor ℕ)) (k : Bor ℕ) (q : ℕ) (old new : Option ℕ)
+    → old ≡ cond (is_first callers q || has_called (map deref seen) story q) (Some (all_turns story q)) None
+    → new ≡ cond (k.now == q && nat_lt 0 (all_turns story k.now)) (Some (all_turns story k.now)) old
+    → new ≡ cond (is_first callers q || has_called (map deref (seen ++ k ∷ [])) story q) (Some (all_turns story q)) None
+counted_more callers story seen k q old new was now =
+    let before : Bool = has_called (map deref seen) story q in
+    let more : Bool = k.now == q && nat_lt 0 (all_turns story k.now) in
+    counted_at (is_first callers q || has_called (map deref (seen ++ k ∷ [])) story q) (is_first callers q || before) more (all_turns story q) (all_turns story k.now) old new
+    (ap (λ b. is_first callers q || b) (called_more story seen k q) ∙ either_assoc (is_first callers q) before more)
+    (λ both. ap (all_turns story) (eqb-true k.now q (first_true (k.now == q) (nat_lt 0 (all_turns story k.now)) both)))
     was now
+
+pub counted_all : (callers : ℕ) (story : Story) (seen : List ℕ) (q : ℕ) → seen ≡ keys_of (pages_after story.origin.pages story.log.records)
+    → ◌≡◌ {A = Option ℕ} (cond (is_first callers q || has_called seen story q) (Some (all_turns story q)) None) (cond (is_caller callers story q) (Some (all_turns story q)) None)
+counted_all callers story seen q is = ap (λ (b : Bool). cond (is_first callers q || b) (Some (all_turns story q)) None) (called_all story seen q is)

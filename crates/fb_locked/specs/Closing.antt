@@ -2,7 +2,7 @@
 use Rattle.std.specs.Prelude.{◌≡◌, ◌==◌, ◌&&◌, ℕ, ◌<◌, ◌≤◌, List, Bool, true, false, not, take, min, Option, None, Some, Result, Ok, Err, slice_get, count_by, All}
 use Rattle.std.specs.List.{list_any, Contains}
 use Rattle.std.specs.BTreeMap.{BTreeMap}
-use Rattle.fb_bench.specs.History.Story.{Record, Story, turns_of, record_at}
+use Rattle.fb_bench.specs.History.Story.{Record, Story, all_turns, record_numbered, turns_of}
 use Rattle.fb_locked.specs.Seats.{SeatState, Claim}
 use Rattle.fb_locked.specs.Book.{is_caller, IsBookOf}
 use Rattle.fb_locked.specs.declared.close.CloseFault.{CloseFault}
@@ -12,25 +12,25 @@ use Rattle.fb_locked.specs.declared.close.CloseFault.TheVariants.{SeatMissing, S
 abbrev pub has_seat : List SeatState → ℕ → Bool
 has_seat seats q = list_any (λ s. s.caller == q) seats
 
--- a seat of this caller is among the seats whose number of calls is not that of its records
-abbrev pub has_wrong_seat : List Record → List SeatState → ℕ → Bool
-has_wrong_seat records seats q = list_any (λ s. s.caller == q && not (turns_of q records == s.turns)) seats
+-- a seat of this caller is among the seats whose number of calls is not its caller's
+abbrev pub has_wrong_seat : Story → List SeatState → ℕ → Bool
+has_wrong_seat story seats q = list_any (λ s. s.caller == q && not (all_turns story q == s.turns)) seats
 
 -- a caller whose seat is not among the seats
-abbrev pub is_missing : ℕ → List Record → List SeatState → ℕ → Bool
-is_missing callers records seats q = is_caller callers records q && not (has_seat seats q)
+abbrev pub is_missing : ℕ → Story → List SeatState → ℕ → Bool
+is_missing callers story seats q = is_caller callers story q && not (has_seat seats q)
 
 -- each caller's seat is there
-abbrev pub AreSeated : ℕ → List Record → List SeatState → Type 0
-AreSeated callers records seats = (q : ℕ) → is_missing callers records seats q ≡ false
+abbrev pub AreSeated : ℕ → Story → List SeatState → Type 0
+AreSeated callers story seats = (q : ℕ) → is_missing callers story seats q ≡ false
 
--- no seat differs from its caller's records
-abbrev pub AreSeatsRight : List Record → List SeatState → Type 0
-AreSeatsRight records seats = (q : ℕ) → has_wrong_seat records seats q ≡ false
+-- no seat differs from what its caller has called
+abbrev pub AreSeatsRight : Story → List SeatState → Type 0
+AreSeatsRight story seats = (q : ℕ) → has_wrong_seat story seats q ≡ false
 
--- the record at the receipt's number is the receipt's
-abbrev pub IsReceiptRight : List Record → Claim → Type 0
-IsReceiptRight records claim = record_at records claim.number ≡ Some claim.entry
+-- the record of the receipt's number is the receipt's. A call from before the history begins has no record any more
+abbrev pub IsReceiptRight : Story → Claim → Type 0
+IsReceiptRight story claim = record_numbered story claim.number ≡ Some claim.entry
 
 -- how many of the receipts have this number
 abbrev pub times : ℕ → List Claim → ℕ
@@ -51,56 +51,56 @@ lesser_of None q true = Some q
 lesser_of (Some p) q true = Some (min q p)
 
 -- each receipt is right, and no number comes twice
-pub record AreReceiptsRight (records : List Record) (receipts : List Claim) : Type 0 where
-  pub right : All (IsReceiptRight records) receipts
+pub record AreReceiptsRight (story : Story) (receipts : List Claim) : Type 0 where
+  pub right : All (IsReceiptRight story) receipts
   pub once : (number : ℕ) → times number receipts ≤ 1
 
 -- all seats and receipts are right
-pub record AgreesWith (callers : ℕ) (records : List Record) (seats : List SeatState) (receipts : List Claim) : Type 0 where
-  pub seated : AreSeated callers records seats
-  pub turns : AreSeatsRight records seats
-  pub shown : AreReceiptsRight records receipts
+pub record AgreesWith (callers : ℕ) (story : Story) (seats : List SeatState) (receipts : List Claim) : Type 0 where
+  pub seated : AreSeated callers story seats
+  pub turns : AreSeatsRight story seats
+  pub shown : AreReceiptsRight story receipts
 
--- in these records numbers rise with the turns of a caller
-abbrev pub NumbersRise : List Record → Type 0
-NumbersRise records =
-    (m n : ℕ) (earlier later : Record) → record_at records m ≡ Some earlier → record_at records n ≡ Some later → earlier.caller ≡ later.caller
+-- numbers rise with the turns of a caller
+abbrev pub NumbersRise : Story → Type 0
+NumbersRise story =
+    (m n : ℕ) (earlier later : Record) → record_numbered story m ≡ Some earlier → record_numbered story n ≡ Some later → earlier.caller ≡ later.caller
     → earlier.turn < later.turn → m < n
 
 -- of each record of the caller there is a receipt
-abbrev pub AreShown : ℕ → List Record → List Claim → Type 0
-AreShown caller records receipts =
-    (number : ℕ) (it : Record) → record_at records number ≡ Some it → it.caller ≡ caller → Contains receipts (record { number = number; entry = it })
+abbrev pub AreShown : ℕ → Story → List Claim → Type 0
+AreShown caller story receipts =
+    (number : ℕ) (it : Record) → record_numbered story number ≡ Some it → it.caller ≡ caller → Contains receipts (record { number = number; entry = it })
 
 -- a caller whose receipts are as many as its records has shown them all
-abbrev pub EnoughShowAll : List Record → List Claim → Type 0
-EnoughShowAll records receipts = (caller : ℕ) → receipts_of caller receipts ≡ turns_of caller records → AreShown caller records receipts
+abbrev pub EnoughShowAll : Story → List Claim → Type 0
+EnoughShowAll story receipts = (caller : ℕ) → receipts_of caller receipts ≡ turns_of caller story.log.records → AreShown caller story receipts
 
 -- the k-th receipt is the first that is wrong, and has this number
-abbrev pub IsFirstWrong : List Record → List Claim → ℕ → ℕ → Type 0
-IsFirstWrong records receipts k number =
-    AreReceiptsRight records (take k receipts)
-    × ((claim : Claim) × (slice_get receipts k ≡ Some claim) × (claim.number ≡ number) × (IsReceiptRight records claim → ⊥))
+abbrev pub IsFirstWrong : Story → List Claim → ℕ → ℕ → Type 0
+IsFirstWrong story receipts k number =
+    AreReceiptsRight story (take k receipts)
+    × ((claim : Claim) × (slice_get receipts k ≡ Some claim) × (claim.number ≡ number) × (IsReceiptRight story claim → ⊥))
 
 -- the k-th receipt is right, as are those before it, and one of these has its number
-abbrev pub IsFirstTwice : List Record → List Claim → ℕ → ℕ → Type 0
-IsFirstTwice records receipts k number =
-    AreReceiptsRight records (take k receipts)
-    × ((claim : Claim) × (slice_get receipts k ≡ Some claim) × (claim.number ≡ number) × IsReceiptRight records claim)
+abbrev pub IsFirstTwice : Story → List Claim → ℕ → ℕ → Type 0
+IsFirstTwice story receipts k number =
+    AreReceiptsRight story (take k receipts)
+    × ((claim : Claim) × (slice_get receipts k ≡ Some claim) × (claim.number ≡ number) × IsReceiptRight story claim)
     × (times number (take k receipts) ≡ 1)
 
 -- the first fault of a list of receipts
-abbrev pub IsReceiptFault : List Record → List Claim → CloseFault → Type 0
-IsReceiptFault records receipts (SeatMissing q) = ⊥
-IsReceiptFault records receipts (SeatDiffers q) = ⊥
-IsReceiptFault records receipts (ReceiptDiffers number) = (k : ℕ) × IsFirstWrong records receipts k number
-IsReceiptFault records receipts (ReceiptTwice number) = (k : ℕ) × IsFirstTwice records receipts k number
-IsReceiptFault records receipts Memory = ⊥
+abbrev pub IsReceiptFault : Story → List Claim → CloseFault → Type 0
+IsReceiptFault story receipts (SeatMissing q) = ⊥
+IsReceiptFault story receipts (SeatDiffers q) = ⊥
+IsReceiptFault story receipts (ReceiptDiffers number) = (k : ℕ) × IsFirstWrong story receipts k number
+IsReceiptFault story receipts (ReceiptTwice number) = (k : ℕ) × IsFirstTwice story receipts k number
+IsReceiptFault story receipts Memory = ⊥
 
 -- each receipt is right and none comes twice, or this is their first fault
-abbrev pub ChecksReceipts : {R : Type 0} → List Record → List Claim → Result R CloseFault → Type 0
-ChecksReceipts records receipts (Ok done) = AreReceiptsRight records receipts
-ChecksReceipts records receipts (Err fault) = IsReceiptFault records receipts fault
+abbrev pub ChecksReceipts : {R : Type 0} → Story → List Claim → Result R CloseFault → Type 0
+ChecksReceipts story receipts (Ok done) = AreReceiptsRight story receipts
+ChecksReceipts story receipts (Err fault) = IsReceiptFault story receipts fault
 
 -- the least number that passes, or none does
 abbrev pub IsLeast : (ℕ → Bool) → Option ℕ → Type 0
@@ -108,25 +108,25 @@ IsLeast test None = (q : ℕ) → test q ≡ false
 IsLeast test (Some q) = (test q ≡ true) × ((p : ℕ) → p < q → test p ≡ false)
 
 -- The fault stands there, and no earlier one does. Want of memory is no fault of seats or receipts, and comes behind them all.
-abbrev pub IsFirstFault : ℕ → List Record → List SeatState → List Claim → CloseFault → Type 0
-IsFirstFault callers records seats receipts (SeatMissing q) = IsLeast (is_missing callers records seats) (Some q)
-IsFirstFault callers records seats receipts (SeatDiffers q) = AreSeated callers records seats × IsLeast (has_wrong_seat records seats) (Some q)
-IsFirstFault callers records seats receipts (ReceiptDiffers number) =
-    AreSeated callers records seats × AreSeatsRight records seats × ((k : ℕ) × IsFirstWrong records receipts k number)
-IsFirstFault callers records seats receipts (ReceiptTwice number) =
-    AreSeated callers records seats × AreSeatsRight records seats × ((k : ℕ) × IsFirstTwice records receipts k number)
-IsFirstFault callers records seats receipts Memory = AgreesWith callers records seats receipts
+abbrev pub IsFirstFault : ℕ → Story → List SeatState → List Claim → CloseFault → Type 0
+IsFirstFault callers story seats receipts (SeatMissing q) = IsLeast (is_missing callers story seats) (Some q)
+IsFirstFault callers story seats receipts (SeatDiffers q) = AreSeated callers story seats × IsLeast (has_wrong_seat story seats) (Some q)
+IsFirstFault callers story seats receipts (ReceiptDiffers number) =
+    AreSeated callers story seats × AreSeatsRight story seats × ((k : ℕ) × IsFirstWrong story receipts k number)
+IsFirstFault callers story seats receipts (ReceiptTwice number) =
+    AreSeated callers story seats × AreSeatsRight story seats × ((k : ℕ) × IsFirstTwice story receipts k number)
+IsFirstFault callers story seats receipts Memory = AgreesWith callers story seats receipts
 
 -- all seats and receipts are right, and these are the counts; or this is what stands first against it
-abbrev pub ChecksAll : ℕ → List Record → List SeatState → List Claim → Result (BTreeMap ℕ ℕ) CloseFault → Type 0
-ChecksAll callers records seats receipts (Ok counts) = AgreesWith callers records seats receipts × IsBookOf counts callers records
-ChecksAll callers records seats receipts (Err fault) = IsFirstFault callers records seats receipts fault
+abbrev pub ChecksAll : ℕ → Story → List SeatState → List Claim → Result (BTreeMap ℕ ℕ) CloseFault → Type 0
+ChecksAll callers story seats receipts (Ok counts) = AgreesWith callers story seats receipts × IsBookOf counts callers story
+ChecksAll callers story seats receipts (Err fault) = IsFirstFault callers story seats receipts fault
 
--- The workbench and the counts of a close, where seats were made for so many callers: the seats and the receipts agree with its records.
+-- The workbench and the counts of a close, where seats were made for so many callers: the seats and the receipts agree with it.
 abbrev pub IsCloseOf : ℕ → List SeatState → List Claim → Story → BTreeMap ℕ ℕ → Type 0
 IsCloseOf callers seats receipts bench counts =
-    AgreesWith callers bench.log.records seats receipts × IsBookOf counts callers bench.log.records
+    AgreesWith callers bench seats receipts × IsBookOf counts callers bench
 
 -- Of some workbench, for whose callers seats were made, this is the first fault.
 abbrev pub IsFaultOf : ℕ → List SeatState → List Claim → CloseFault → Type 0
-IsFaultOf callers seats receipts fault = (bench : Story) × IsFirstFault callers bench.log.records seats receipts fault
+IsFaultOf callers seats receipts fault = (bench : Story) × IsFirstFault callers bench seats receipts fault

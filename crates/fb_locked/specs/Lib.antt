@@ -5,6 +5,7 @@ pub mod Calls
 pub mod Ends
 pub mod Runs
 pub mod Closing
+pub mod Resuming
 -- Of the crates below, for the crates above.
 pub use Rattle.fb_bench.specs.Parse as Parse
 pub use Rattle.fb_bench.specs.Library as Library

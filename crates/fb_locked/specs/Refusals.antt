@@ -2,16 +2,16 @@
 use Rattle.std.specs.Prelude.{◌≡◌, ◌≢◌, ◌==◌, ◌<◌, Option, Some, None, length, nat_lt, nat_le, if◌then◌else◌}
 use Rattle.fb_locked.specs.declared.locked.SharedRefused.{SharedRefused}
 use Rattle.fb_locked.specs.declared.locked.SharedRefused.TheVariants.{SeatDiffers, Behind, HistoryFull, Memory}
-use Rattle.fb_bench.specs.History.Story.{turns_of}
+use Rattle.fb_bench.specs.History.Story.{all_turns, last_number}
 use Rattle.fb_locked.specs.Seats.{Hall, SeatState}
 
 -- the first cause, want of memory apart
 abbrev pub refusal_of : Hall → SeatState → Option SharedRefused
 refusal_of hall seat =
-    if turns_of seat.caller hall.bench.log.records == seat.turns then (
-    if nat_lt (length hall.bench.log.records) seat.seen then Some (Behind seat.seen (length hall.bench.log.records))
+    if all_turns hall.bench seat.caller == seat.turns then (
+    if nat_lt (last_number hall.bench) seat.seen then Some (Behind seat.seen (last_number hall.bench))
     else if nat_le hall.bench.log.limit (length hall.bench.log.records) then Some HistoryFull else None
-    ) else Some (SeatDiffers seat.turns (turns_of seat.caller hall.bench.log.records))
+    ) else Some (SeatDiffers seat.turns (all_turns hall.bench seat.caller))
 
 -- the cause where there is one, and otherwise want of memory
 abbrev pub RefusedAs : Option SharedRefused → SharedRefused → Type 0

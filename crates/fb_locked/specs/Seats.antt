@@ -1,7 +1,7 @@
 -- What contracts see of a seat, of a receipt and of what lies under the lock.
 use Rattle.std.specs.Prelude.{◌≡◌, ℕ, ◌+◌, ◌<◌, List, Bool, Some, length, slice_get}
 use Rattle.fb_bench.specs.History.Machine.{Call, ToCommit, ToTake, ToDeliver, ToGiveBack, ToAsk, Reply, OfCommit, OfTake, OfDeliver, OfGiveBack, OfAsk}
-use Rattle.fb_bench.specs.History.Story.{Record, Story, recorded, record_of}
+use Rattle.fb_bench.specs.History.Story.{Record, Story, all_turns, last_number, recorded, record_of}
 
 -- a seat: whose it is, how many calls were recorded with it, and the greatest number of a record that it has seen
 pub record SeatState : Type 0 where
@@ -26,7 +26,7 @@ hall_after hall caller call = record hall { bench = recorded hall.bench caller c
 
 -- the receipt of the call that is recorded next
 abbrev pub next_claim : Hall → ℕ → Call → Claim
-next_claim hall caller call = record { number = length hall.bench.log.records + 1; entry = record_of hall.bench caller call }
+next_claim hall caller call = record { number = last_number hall.bench + 1; entry = record_of hall.bench caller call }
 
 -- the seat after the call of this receipt
 abbrev pub seat_after : SeatState → Claim → SeatState
@@ -72,6 +72,14 @@ pub record IsReceiptOf (seat : SeatState) (call : Call) (claim : Claim) : Type 0
   pub turn_is : claim.entry.turn ≡ seat.turns + 1
   pub reply_fits : Fits call claim.entry.reply
   pub later : seat.seen < claim.number
+
+-- the seat of a caller as a history leaves it
+abbrev pub seat_at : Story → ℕ → SeatState
+seat_at story caller = record { caller = caller; turns = all_turns story caller; seen = last_number story }
+
+-- the seats of callers 1 to n there, in order
+abbrev pub AreSeatsAt : Story → ℕ → List SeatState → Type 0
+AreSeatsAt story n seats = (length seats ≡ n) × ((k : ℕ) → k < n → slice_get seats k ≡ Some (seat_at story (k + 1)))
 
 -- the seat of a caller that has made no call
 abbrev pub new_seat : ℕ → SeatState

@@ -3,7 +3,7 @@ ghost use Rattle.std.specs.Prelude.{◌≡◌, IfErr, IfOk};
 ghost use Rattle.fb_locked.specs.Book.{IsBookOf};
 ghost use Rattle.fb_locked.specs.Closing.{AgreesWith, ChecksAll, IsFirstFault};
 
-use crate::callers::{count_records, missing_seat, wrong_seat};
+use crate::callers::{count_calls, missing_seat, wrong_seat};
 use crate::locked::Locked;
 use crate::receipts::check_receipts;
 use crate::seat::{Receipt, Seat};
@@ -22,7 +22,7 @@ pub enum CloseFault {
     Memory,
 }
 
-/// What a close gives: the workbench, and how many records each caller has, by rising caller.
+/// What a close gives: the workbench, and how many calls each caller has made, by rising caller.
 #[derive(Drop)]
 pub struct Closed {
     pub bench: Bench,
@@ -46,13 +46,13 @@ impl Locked {
         receipts: &[Receipt],
     ) -> Result<Closed, NotClosed<Locked>>
         ensures agrees { IfOk result
-            (λ closed. AgreesWith self.callers self.bench.log.records seats.items receipts.now) }
+            (λ closed. AgreesWith self.callers self.bench seats.items receipts.now) }
         ensures bench { IfOk result (λ closed. closed.bench ≡ self.bench) }
         ensures counts { IfOk result
-            (λ closed. IsBookOf closed.counts self.callers self.bench.log.records) }
+            (λ closed. IsBookOf closed.counts self.callers self.bench) }
 
         ensures fault { IfErr result
-            (λ refused. IsFirstFault self.callers self.bench.log.records
+            (λ refused. IsFirstFault self.callers self.bench
             seats.items receipts.now refused.fault) }
         ensures back { IfErr result
             (λ refused. (refused.owner ≡ self) × (refused.seats.items ≡ seats.items)) }
@@ -70,13 +70,13 @@ impl Locked {
         receipts: &[Receipt],
     ) -> Result<Closed, NotClosed<Locked>>
         ensures agrees { IfOk result
-            (λ closed. AgreesWith callers self.bench.log.records seats.items receipts.now) }
+            (λ closed. AgreesWith callers self.bench seats.items receipts.now) }
         ensures bench { IfOk result (λ closed. closed.bench ≡ self.bench) }
         ensures counts { IfOk result
-            (λ closed. IsBookOf closed.counts callers self.bench.log.records) }
+            (λ closed. IsBookOf closed.counts callers self.bench) }
 
         ensures fault { IfErr result
-            (λ refused. IsFirstFault callers self.bench.log.records
+            (λ refused. IsFirstFault callers self.bench
             seats.items receipts.now refused.fault) }
         ensures back { IfErr result
             (λ refused. (refused.owner ≡ self) × (refused.seats.items ≡ seats.items)) }
@@ -99,7 +99,7 @@ impl Locked {
     }
 }
 
-/// The counts of the records, or what is first against them. Want of memory comes last.
+/// The counts of the calls, or what is first against seats and receipts. Want of memory comes last.
 fn check(
     alloc: Global,
     bench: &Bench,
@@ -107,7 +107,7 @@ fn check(
     seats: &[Seat],
     receipts: &[Receipt],
 ) -> Result<BTreeMap<u32, u64>, CloseFault>
-    ensures { ChecksAll callers bench.now.log.records seats.now receipts.now result }
+    ensures { ChecksAll callers bench.now seats.now receipts.now result }
 {
     if let Some(caller) = missing_seat(bench, callers, seats) {
         return Err(CloseFault::SeatMissing(caller));
@@ -118,7 +118,7 @@ fn check(
     if let Err(fault) = check_receipts(alloc, bench, receipts) {
         return Err(fault);
     }
-    match count_records(alloc, bench, callers) {
+    match count_calls(alloc, bench, callers) {
         Ok(counts) => Ok(counts),
         Err(_) => Err(CloseFault::Memory),
     }

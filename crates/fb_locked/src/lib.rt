@@ -6,11 +6,13 @@ mod close;
 mod locked;
 mod look;
 mod receipts;
+mod resume;
 mod seat;
 
 pub use close::{CloseFault, Closed, NotClosed};
 pub use locked::{Locked, SharedRefused};
 pub use look::{Look, WorkEnd};
+pub use resume::{NotResumed, ResumeFault};
 pub use seat::{Receipt, Seat};
 
 /// Of `fb_parse`, for the crates above.
@@ -31,7 +33,8 @@ pub mod jobs {
 /// Of `fb_bench`, for the crates above.
 pub mod bench {
     pub use fb_bench::{
-        Answered, Asked, Call, Committed, Delivered, Desk, DeskRefused, GivenBack, Limits, Reply,
-        Request, Taken, TextChange, Wanted,
+        Answered, Asked, Bench, Call, CheckpointRefused, Committed, Delivered, Desk,
+        DeskCheckpointRefused, DeskRefused, GivenBack, Limits, Reply, Request, Start, Taken,
+        TextChange, Wanted,
     };
 }

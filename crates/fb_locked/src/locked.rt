@@ -3,11 +3,11 @@ ghost use Rattle.std.specs.Prelude.{◌≡◌, true, false, IfOk, IfErr, OnOk, O
 ghost use Rattle.fb_bench.specs.History.Machine.{ToCommit, ToTake, ToDeliver, ToGiveBack, ToAsk};
 ghost use Rattle.fb_bench.specs.Records.{listed};
 ghost use Rattle.fb_bench.specs.Requests.{call_for, reply_in, job_of};
-ghost use Rattle.fb_bench.specs.History.Story.{new_story, turns_of};
+ghost use Rattle.fb_bench.specs.History.Story.{all_turns, new_story};
 ghost use Rattle.fb_locked.specs.Book.{SeatFits};
 ghost use Rattle.fb_locked.specs.Calls.{Answers, AnswersKept, Performs, PerformsKept};
 ghost use Rattle.fb_locked.specs.Refusals.{refusal_of, IsRefusalOf};
-ghost use Rattle.fb_locked.specs.Seats.{hall_after, next_claim, AreFirstSeats};
+ghost use Rattle.fb_locked.specs.Seats.{hall_after, next_claim, AreFirstSeats, AreSeatsAt};
 
 use crate::seat::{Receipt, Seat};
 use fb_bench::jobs::{Finished, Job, Key};
@@ -19,9 +19,9 @@ use std::marker::Model;
 /// Why a call is not recorded. It then changes nothing.
 #[derive(Clone, Copy, PartialEq, Eq, Debug)]
 pub enum SharedRefused {
-    /// The seat's number of calls is not that of its caller's records.
+    /// The seat's number of calls is not that of its caller's book.
     SeatDiffers { turns: u64, book: u64 },
-    /// The history is shorter than what the seat has seen.
+    /// The seat has seen a number beyond that of the last call, which is `len`.
     Behind { seen: u64, len: u64 },
     /// As many calls are recorded as the limits allow.
     HistoryFull,
@@ -29,7 +29,7 @@ pub enum SharedRefused {
 }
 
 /// What lies under the lock: a workbench, for how many callers seats were made, and the stop mark. The book of a caller is the
-/// number of its records.
+/// number of its calls, those before the start of the history included.
 #[derive(Drop)]
 pub struct Locked {
     pub(crate) bench: Bench,
@@ -63,7 +63,7 @@ impl Locked {
         ensures seats { IfOk result (λ made. AreFirstSeats callers made.1.items) }
     {
         let bench = Bench::new(alloc, limits);
-        let seats = first_seats(alloc, callers)?;
+        let seats = first_seats(alloc, &bench, callers)?;
         let locked = Locked {
             bench,
             callers,
@@ -79,9 +79,9 @@ impl Locked {
         &self.bench
     }
 
-    /// How many calls of a caller are recorded.
+    /// How many recorded calls a caller has made, those before the start included.
     pub fn book(&self, caller: u32) -> u64
-        ensures { result ≡ turns_of caller self.now.bench.log.records }
+        ensures { result ≡ all_turns self.now.bench caller }
     {
         self.bench.turns_of(caller)
     }
@@ -106,7 +106,7 @@ impl Locked {
             return Err(SharedRefused::SeatDiffers { turns, book });
         }
         let seen = seat.seen();
-        let len = self.bench.len() as u64;
+        let len = self.bench.last_number();
         if len < seen {
             return Err(SharedRefused::Behind { seen, len });
         }
@@ -151,7 +151,7 @@ impl Locked {
     {
         match self.bench.perform(caller, request) {
             Ok((record, answer)) => {
-                let number = self.bench.len() as u64;
+                let number = self.bench.last_number();
                 Ok((Receipt { number, record }, answer))
             }
             Err(_) => Err(AllocError),
@@ -251,15 +251,21 @@ pub(crate) fn job_from(answer: Answered) -> Option<Job>
     }
 }
 
-fn first_seats(alloc: Global, callers: u32) -> Result<Vec<Seat>, AllocError>
-    ensures { IfOk result (λ seats. AreFirstSeats callers seats.items) }
+/// The seats of callers 1 to `callers`, as the calls of the workbench leave them.
+pub(crate) fn first_seats(
+    alloc: Global,
+    bench: &Bench,
+    callers: u32,
+) -> Result<Vec<Seat>, AllocError>
+    ensures { IfOk result (λ seats. AreSeatsAt bench.now callers seats.items) }
 {
     let mut seats = Vec::new(alloc);
     for index in 0..callers {
+        let turns = bench.turns_of(index + 1);
         seats.push(Seat {
             caller: index + 1,
-            turns: 0,
-            seen: 0,
+            turns,
+            seen: bench.last_number(),
         })?;
     }
     Ok(seats)

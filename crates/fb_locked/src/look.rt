@@ -18,9 +18,9 @@ pub enum WorkEnd {
     TurnsOver,
     /// The workers are to stop.
     Stopped,
-    /// Its seat's number of calls is not that of its caller's records.
+    /// Its seat's number of calls is not that of its caller's book.
     SeatDiffers { turns: u64, book: u64 },
-    /// The history is shorter than what its seat has seen.
+    /// Its seat has seen a number beyond that of the last call, which is `len`.
     Behind { seen: u64, len: u64 },
     /// As many calls are recorded as the limits allow.
     HistoryFull,

@@ -7,13 +7,13 @@ use crate::seat::Receipt;
 use fb_bench::Bench;
 use std::alloc::{AllocError, Global};
 
-/// Whether each receipt is the record at its number, and none comes twice.
+/// Whether each receipt is the record of its number, and none comes twice.
 pub(crate) fn check_receipts(
     alloc: Global,
     bench: &Bench,
     receipts: &[Receipt],
 ) -> Result<(), CloseFault>
-    ensures { ChecksReceipts bench.now.log.records receipts.now result }
+    ensures { ChecksReceipts bench.now receipts.now result }
 {
     match marks_for(alloc, bench) {
         Ok(marks) => check_by_marks(bench, receipts, marks),
@@ -21,7 +21,7 @@ pub(crate) fn check_receipts(
     }
 }
 
-/// A mark for each record.
+/// A mark for each record since the start.
 fn marks_for(alloc: Global, bench: &Bench) -> Result<Vec<bool>, AllocError>
     ensures { IfOk result (λ marks. marks.items ≡ replicate (length bench.now.log.records) false) }
 {
@@ -31,15 +31,16 @@ fn marks_for(alloc: Global, bench: &Bench) -> Result<Vec<bool>, AllocError>
 /// Checks with a mark for each record, none of which is set.
 fn check_by_marks(bench: &Bench, receipts: &[Receipt], marks: Vec<bool>) -> Result<(), CloseFault>
     requires { marks.items ≡ replicate (length bench.now.log.records) false }
-    ensures { ChecksReceipts bench.now.log.records receipts.now result }
+    ensures { ChecksReceipts bench.now receipts.now result }
 {
+    let before = bench.before();
     let mut marks = marks;
     for receipt in receipts {
         let number = receipt.number();
         if !is_record(bench, receipt) {
             return Err(CloseFault::ReceiptDiffers(number));
         }
-        let at = (number - 1) as usize;
+        let at = (number - before - 1) as usize;
         if marks[at] {
             return Err(CloseFault::ReceiptTwice(number));
         }
@@ -50,7 +51,7 @@ fn check_by_marks(bench: &Bench, receipts: &[Receipt], marks: Vec<bool>) -> Resu
 
 /// Checks with no memory: each receipt is compared with those before it.
 fn check_by_pairs(bench: &Bench, receipts: &[Receipt]) -> Result<(), CloseFault>
-    ensures { ChecksReceipts bench.now.log.records receipts.now result }
+    ensures { ChecksReceipts bench.now receipts.now result }
 {
     for place in 0..receipts.len() {
         let receipt = &receipts[place];
@@ -72,9 +73,9 @@ fn is_among(receipts: &[Receipt], number: u64) -> bool
     receipts.iter().any(|receipt| receipt.number() == number)
 }
 
-/// Whether the receipt is the record at its number.
+/// Whether the receipt is the record of its number.
 fn is_record(bench: &Bench, receipt: &Receipt) -> bool
-    ensures { IsTrue result ↔ IsReceiptRight bench.now.log.records receipt.now }
+    ensures { IsTrue result ↔ IsReceiptRight bench.now receipt.now }
 {
     match bench.record(receipt.number) {
         None => false,

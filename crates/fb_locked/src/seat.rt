@@ -68,7 +68,7 @@ impl Model for Receipt {
 }
 
 impl Receipt {
-    /// The number of the record, counted from 1.
+    /// The number of the record, counted over all calls from 1.
     pub fn number(&self) -> u64
         ensures { result ≡ self.now.number }
     {

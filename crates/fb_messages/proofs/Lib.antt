@@ -1,3 +1,4 @@
+pub mod BoundsRead
 pub mod Changes
 pub mod Members
 pub mod Printed

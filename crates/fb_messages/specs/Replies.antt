@@ -82,6 +82,12 @@ work_done so_far = one_member (codes "accepted") (count so_far)
 abbrev pub work_refused : ℕ → List ℕ → Data
 work_refused so_far reason = object (member (codes "accepted") (count so_far) (member (codes "refused") (string reason) no_members))
 
+-- ---- checkpoint
+
+-- with the number of all calls so far
+abbrev pub checkpointed : ℕ → Data
+checkpointed n = one_member (codes "checkpoint") (count n)
+
 -- the line of a reply, with its line feed
 abbrev pub reply_line : Data → List ℕ
 reply_line d = compact_text d ++ 10 ∷ []

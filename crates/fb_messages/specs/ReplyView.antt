@@ -2,9 +2,9 @@
 use Rattle.std.specs.Prelude.{ℕ, List, codes}
 use Rattle.serde_json.specs.Data.{Data}
 use Rattle.fb_jobs.specs.Values.{finding_of}
-use Rattle.fb_messages.specs.Replies.{refused, refused_unit, refused_base, committed, value_said, work_done, work_refused, job_given, no_job, pending_said, delivered, returned}
+use Rattle.fb_messages.specs.Replies.{refused, refused_unit, refused_base, committed, value_said, work_done, work_refused, job_given, no_job, pending_said, delivered, returned, checkpointed}
 use Rattle.fb_messages.specs.declared.reply.Reply.{Reply}
-use Rattle.fb_messages.specs.declared.reply.Reply.TheVariants.{Committed, StaleBase, Pending, Found, Worked, WorkRefused, Job, NoJob, Delivered, GivenBack, Refused, RefusedUnit}
+use Rattle.fb_messages.specs.declared.reply.Reply.TheVariants.{Committed, StaleBase, Pending, Found, Worked, WorkRefused, Job, NoJob, Delivered, GivenBack, Checkpointed, Refused, RefusedUnit}
 use Rattle.fb_messages.specs.declared.reply.Refusal.{Refusal}
 use Rattle.fb_messages.specs.declared.reply.Refusal.TheVariants as because
 
@@ -24,6 +24,9 @@ refusal_text because.TooManyUnits = codes "TooManyUnits"
 refusal_text because.NoSuchKey = codes "NoSuchKey"
 refusal_text because.NotPending = codes "NotPending"
 refusal_text because.Stale = codes "Stale"
+refusal_text because.UnitsOver = codes "UnitsOver"
+refusal_text because.NumbersOver = codes "NumbersOver"
+refusal_text because.NotAlone = codes "NotAlone"
 
 abbrev pub data_of : Reply → Data
 data_of (Committed number) = committed number
@@ -36,5 +39,6 @@ data_of (Job number key) = job_given number key
 data_of NoJob = no_job
 data_of Delivered = delivered
 data_of (GivenBack was_out) = returned was_out
+data_of (Checkpointed before) = checkpointed before
 data_of (Refused refusal) = refused (refusal_text refusal)
 data_of (RefusedUnit refusal unit) = refused_unit (refusal_text refusal) unit

@@ -4,7 +4,7 @@ use Rattle.fb_messages.specs.Requests as spec
 use Rattle.fb_messages.specs.declared.request.AskedChange.{AskedChange}
 use Rattle.fb_messages.specs.declared.request.AskedChange.TheVariants.{Put, Remove}
 use Rattle.fb_messages.specs.declared.request.Request.{Request}
-use Rattle.fb_messages.specs.declared.request.Request.TheVariants.{Commit, Ask, Work, Take, Deliver, GiveBack}
+use Rattle.fb_messages.specs.declared.request.Request.TheVariants.{Commit, Ask, Work, Take, Deliver, GiveBack, Checkpoint}
 
 abbrev pub change_view : AskedChange → spec.Change
 change_view (Put unit base text) = spec.puts unit.now base text.now
@@ -17,3 +17,4 @@ request_view (Work turns) = spec.work turns
 request_view Take = spec.take
 request_view (Deliver number) = spec.deliver number
 request_view (GiveBack kind unit) = spec.give_back kind unit.now
+request_view (Checkpoint limits) = spec.checkpoint limits

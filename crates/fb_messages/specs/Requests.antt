@@ -1,6 +1,7 @@
 -- The request that a line is.
 use Rattle.std.specs.Prelude.{ℕ, List, [], ◌∷◌, codes, ◌&&◌, bytes_eq, nat_le, Option, Some, None, option_map, option_and_then, if◌then◌else◌}
 use Rattle.std.specs.Str.{is_utf8}
+use Rattle.fb_history.specs.Limits.{Bounds}
 use Rattle.fb_jobs.specs.declared.key.Kind.{Kind}
 use Rattle.fb_jobs.specs.declared.key.Kind.TheVariants.{Faults, Net, Deploy}
 use Rattle.serde_json.specs.Data.{Data, Items, no_items, item}
@@ -20,6 +21,7 @@ pub data Request : Type 0 where
   take : Request
   deliver : ℕ → Request
   give_back : Kind → List ℕ → Request
+  checkpoint : (limits : Bounds) → Request
 
 -- ---- members
 
@@ -78,6 +80,15 @@ give_back_in d = option_and_then (λ kind. option_map (give_back kind) (member_t
 abbrev pub work_of : ℕ → Option Request
 work_of turns = if nat_le 1 turns && nat_le turns 1000 then Some (work turns) else None
 
+-- units and recorded calls within the most that a workbench may have
+abbrev pub limits_of : ℕ → ℕ → Option Bounds
+limits_of units history =
+    if (nat_le 1 units && nat_le units 16384) && (nat_le 1 history && nat_le history 10000000) then Some (record { units = units; history = history }) else None
+
+abbrev pub checkpoint_in : Data → Option Request
+checkpoint_in d =
+    option_and_then (λ units. option_and_then (λ history. option_map checkpoint (limits_of units history)) (number_at (codes "history") d)) (number_at (codes "units") d)
+
 abbrev pub request_by : List ℕ → Data → Option Request
 request_by op d =
     if bytes_eq op (codes "commit") then commit_in d
@@ -85,7 +96,8 @@ request_by op d =
     else (if bytes_eq op (codes "work") then option_and_then work_of (number_at (codes "turns") d)
     else (if bytes_eq op (codes "take") then Some take
     else (if bytes_eq op (codes "deliver") then option_map deliver (number_at (codes "job") d)
-    else (if bytes_eq op (codes "give_back") then give_back_in d else None)))))
+    else (if bytes_eq op (codes "give_back") then give_back_in d
+    else (if bytes_eq op (codes "checkpoint") then checkpoint_in d else None))))))
 
 unfoldable pub request_in : Data → Option Request
 request_in d = option_and_then (λ op. request_by op d) (member_text (codes "op") d)

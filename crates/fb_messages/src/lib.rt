@@ -2,11 +2,13 @@
 #![tactic(auto)]
 
 mod deploy_reply;
+mod laws;
 mod net_reply;
 mod reply;
 mod request;
 mod to_json;
 
+pub use laws::limits_are_read;
 pub use reply::{Refusal, Reply};
 pub use request::{AskedChange, Request, request_in};
 

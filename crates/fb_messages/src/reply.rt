@@ -33,6 +33,9 @@ pub enum Refusal {
     NoSuchKey,
     NotPending,
     Stale,
+    UnitsOver,
+    NumbersOver,
+    NotAlone,
 }
 
 /// What is said to a line.
@@ -48,6 +51,7 @@ pub enum Reply {
     NoJob,
     Delivered,
     GivenBack(bool),
+    Checkpointed(u64),
     Refused(Refusal),
     RefusedUnit(Refusal, Name),
 }
@@ -72,6 +76,9 @@ impl Refusal {
             Refusal::NoSuchKey => "NoSuchKey",
             Refusal::NotPending => "NotPending",
             Refusal::Stale => "Stale",
+            Refusal::UnitsOver => "UnitsOver",
+            Refusal::NumbersOver => "NumbersOver",
+            Refusal::NotAlone => "NotAlone",
         }
     }
 }
@@ -163,6 +170,7 @@ impl ToJson for Reply {
             Reply::NoJob => write_one(out, "job", &0u64),
             Reply::Delivered => write_one_text(out, "delivered", "accepted"),
             Reply::GivenBack(was_out) => write_one(out, "returned", was_out),
+            Reply::Checkpointed(before) => write_one(out, "checkpoint", before),
             Reply::Refused(refusal) => write_one_text(out, "refused", refusal.as_str()),
             Reply::RefusedUnit(refusal, unit) => write_refused_unit(out, *refusal, unit),
         }

@@ -1,9 +1,10 @@
 //! From a JSON value to the request that it is.
 ghost use Rattle.std.specs.Prelude.{◌≡◌, map, codes, option_map, option_and_then, IfOk};
 ghost use Rattle.serde_json.specs.View.{view, items_view};
-ghost use Rattle.fb_messages.specs.Requests.{member_text, number_at, kind_called, kind_at, put_in, remove_in, change_in, changes_of, request_in, request_by, commit_in, ask_in, give_back_in, work_of, deliver};
+ghost use Rattle.fb_messages.specs.Requests.{member_text, number_at, kind_called, kind_at, put_in, remove_in, change_in, changes_of, request_in, request_by, commit_in, ask_in, give_back_in, work_of, deliver, limits_of, checkpoint_in};
 ghost use Rattle.fb_messages.specs.RequestView.{change_view, request_view};
 
+use fb_history::Limits;
 use fb_jobs::Kind;
 use serde_json::Value;
 use std::alloc::{AllocError, Global};
@@ -31,6 +32,7 @@ pub enum Request<'a> {
     Take,
     Deliver(u64),
     GiveBack { kind: Kind, unit: &'a str },
+    Checkpoint(Limits),
 }
 
 fn member_text<'a>(value: &'a Value, name: &str) -> Option<&'a str>
@@ -158,6 +160,22 @@ fn deliver_in(value: &Value) -> Option<Request<'_>>
     Some(Request::Deliver(number_at(value, "job")?))
 }
 
+/// The limits, if both numbers are in their ranges.
+fn limits_of(units: u64, history: u64) -> Option<Limits>
+    ensures { result ≡ limits_of units history }
+{
+    Limits::new(units, history)
+}
+
+fn checkpoint_in(value: &Value) -> Option<Request<'_>>
+    ensures { option_map request_view result ≡ checkpoint_in (view value.now) }
+{
+    let units = number_at(value, "units")?;
+    let history = number_at(value, "history")?;
+    let limits = limits_of(units, history)?;
+    Some(Request::Checkpoint(limits))
+}
+
 fn request_by<'a>(
     alloc: Global,
     op: &str,
@@ -178,6 +196,8 @@ fn request_by<'a>(
         Ok(deliver_in(value))
     } else if op == "give_back" {
         Ok(give_back_in(value))
+    } else if op == "checkpoint" {
+        Ok(checkpoint_in(value))
     } else {
         Ok(None)
     }

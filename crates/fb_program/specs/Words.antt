@@ -15,10 +15,10 @@ abbrev pub port_option : Rule
 port_option = record (new_rule (codes "port")) { long = Some (codes "port"); parser = Some (reads.Unsigned 0 65535); required = true }
 
 abbrev pub units_option : Rule
-units_option = number_option (codes "units") 4096 (codes "1024")
+units_option = number_option (codes "units") 16384 (codes "1024")
 
 abbrev pub history_option : Rule
-history_option = number_option (codes "history") 1000000 (codes "100000")
+history_option = number_option (codes "history") 10000000 (codes "100000")
 
 abbrev pub script_app : App
 script_app = with_rule (with_rule (new_app (codes "script")) units_option) history_option
@@ -46,7 +46,7 @@ IsNumberIn least most name rows number = (number_of name rows ≡ Some number) �
 
 -- the settings of a script are those of these matches
 abbrev pub IsScript : List Row → Settings → Type 0
-IsScript rows (Script units history) = IsNumberIn 1 4096 (codes "units") rows units × IsNumberIn 1 1000000 (codes "history") rows history
+IsScript rows (Script units history) = IsNumberIn 1 16384 (codes "units") rows units × IsNumberIn 1 10000000 (codes "history") rows history
 IsScript rows (Serve port workers sessions units history) = ⊥
 
 -- the settings of a server are those of these matches
@@ -54,7 +54,7 @@ abbrev pub IsServe : List Row → Settings → Type 0
 IsServe rows (Script units history) = ⊥
 IsServe rows (Serve port workers sessions units history) =
     IsNumberIn 0 65535 (codes "port") rows port × IsNumberIn 1 16 (codes "workers") rows workers × IsNumberIn 1 64 (codes "sessions") rows sessions
-    × IsNumberIn 1 4096 (codes "units") rows units × IsNumberIn 1 1000000 (codes "history") rows history
+    × IsNumberIn 1 16384 (codes "units") rows units × IsNumberIn 1 10000000 (codes "history") rows history
 
 -- the settings are those of this subcommand and its matches
 abbrev pub IsAsked : Option (Text × List Row) → Settings → Type 0

@@ -15,9 +15,9 @@ const MOST_WORKERS: u64 = 16;
 
 const MOST_SESSIONS: u64 = 64;
 
-const MOST_UNITS: u64 = 4096;
+const MOST_UNITS: u64 = 16_384;
 
-const MOST_HISTORY: u64 = 1_000_000;
+const MOST_HISTORY: u64 = 10_000_000;
 
 /// An option `--NAME N`, with N from 1 to `most`, and its default.
 fn number_option<'a>(alloc: Global, name: &'a str, most: u64, default: &'a str) -> Arg<'a>

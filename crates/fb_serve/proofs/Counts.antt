@@ -5,7 +5,7 @@ use Rattle.std.proofs.lemmas.Bool.Decides.{nat_tests}
 use Rattle.std.proofs.lemmas.List.Elements.{All-weaker, All-push, recursion_from_All}
 use Rattle.std.proofs.lemmas.List.Sums.{sum_by-append, sum_by-cons}
 use Rattle.std.specs.List.{list_any, AllByRecursion}
-use Rattle.fb_wire.specs.History.Story.{Record, turns_of}
+use Rattle.fb_wire.specs.History.Story.{Story, all_turns, turns_of}
 use Rattle.fb_shared.specs.Locked.Book.{is_caller}
 use Rattle.fb_shared.specs.Locked.Closing.{AgreesWith, has_seat, receipts_of}
 use Rattle.fb_shared.specs.Locked.Runs.{IsRun, Works, Empty}
@@ -89,11 +89,17 @@ seated is true none caller = refl
 seated true false none caller = let bad : true ≡ false = none in cc
 seated false false none caller = cc
 
-pub all_shown : (callers : ℕ) (records : List Record) (seats : List SeatState) (receipts : List Claim) → AgreesWith callers records seats receipts → AreShown receipts seats → ShowsAll records receipts
-all_shown callers records seats receipts agrees shown = (agrees.shown, λ q. by_calls q (nat_lt 0 (turns_of q records)) refl)
+-- a caller's records are among its calls of all time, which the receipts show
+pub all_shown : (callers : ℕ) (story : Story) (seats : List SeatState) (receipts : List Claim) → AgreesWith callers story seats receipts → AreShown receipts seats → ShowsAll story receipts
+all_shown callers story seats receipts agrees shown = (
+  agrees.shown,
+  λ q.
+      let all = by_calls q (nat_lt 0 (all_turns story q)) refl in
+      omega (arith, all),
+)
   where
-    by_calls : (q : ℕ) (b : Bool) → nat_lt 0 (turns_of q records) ≡ b → turns_of q records ≤ receipts_of q receipts
-    by_calls q false is = none_fewer (turns_of q records) (receipts_of q receipts) is
+    by_calls : (q : ℕ) (b : Bool) → nat_lt 0 (all_turns story q) ≡ b → all_turns story q ≤ receipts_of q receipts
+    by_calls q false is = none_fewer (all_turns story q) (receipts_of q receipts) is
     by_calls q true is =
-        let caller : is_caller callers records q ≡ true = or_true (nat_lt 0 q && nat_le q callers) _ is in
-        caller_shown (turns_of q records) q receipts seats (seated (is_caller callers records q) (has_seat seats q) (agrees.seated q) caller) (agrees.turns q) (recursion_from_All (IsShown receipts) seats shown)
+        let caller : is_caller callers story q ≡ true = or_true (nat_lt 0 q && nat_le q callers) _ is in
+        caller_shown (all_turns story q) q receipts seats (seated (is_caller callers story q) (has_seat seats q) (agrees.seated q) caller) (agrees.turns q) (recursion_from_All (IsShown receipts) seats shown)

@@ -1,7 +1,7 @@
 -- What the steps of a desk with a seat leave in its receipts.
 use Rattle.std.proofs.Common.{◌≡◌, List, [], ◌∷◌, ◌++◌, map, refl, sym, ap, ◌∙◌, subst, append_assoc, append-nil}
 use Rattle.fb_wire.specs.History.Machine.{Call, Reply}
-use Rattle.fb_wire.specs.Bench.Calls.{Answer, Replied, FullHistory, BehindHistory}
+use Rattle.fb_wire.specs.Bench.Calls.{Answer, Deed, Makes, Keeps, Replied, FullHistory, BehindHistory, Checked, SharedHistory}
 use Rattle.fb_wire.specs.Talk.{Pair, Runs}
 use Rattle.fb_shared.specs.Locked.Runs.{IsRun}
 use Rattle.fb_shared.specs.Locked.Seats.{SeatState, Claim, IsReceiptOf, seat_after}
@@ -13,8 +13,8 @@ abbrev Shows : Sitter → List (Call × Reply) → Sitter → Type 0
 Shows old answered new =
     (added : List Claim) × (new.receipts ≡ old.receipts ++ added) × (answered ≡ map call_shown added) × IsRun old.seat added new.seat
 
-shows_more : (call : Call) (answer : Answer) (old mid new : Sitter) (answered : List (Call × Reply)) → SitterStep old call answer mid → Shows mid answered new → Shows old (answered_before call answer answered) new
-shows_more call (Replied reply) old mid new answered step rest =
+shows_more : (deed : Deed) (answer : Answer) (old mid new : Sitter) (answered : List (Call × Reply)) → SitterStep old deed answer mid → Shows mid answered new → Shows old (answered_before deed answer answered) new
+shows_more (Makes call) (Replied reply) old mid new answered step rest =
     let claim : Claim = step.0 in
     let first : IsReceiptOf old.seat claim.entry.call claim = subst (λ (c : Call). IsReceiptOf old.seat c claim) (sym step.2.call_is) step.2 in
     let more : IsRun (seat_after old.seat claim) rest.0 new.seat = subst (λ (s : SeatState). IsRun s rest.0 new.seat) step.4 rest.3 in
@@ -24,8 +24,15 @@ shows_more call (Replied reply) old mid new answered step rest =
       ap (λ (l : List (Call × Reply)). (call, reply) ∷ l) rest.2 ∙ ap (λ (p : Call × Reply). p ∷ map call_shown rest.0) shown,
       (first, more),
     )
-shows_more call FullHistory old mid new answered step rest = subst (λ (s : Sitter). Shows s answered new) step rest
-shows_more call BehindHistory old mid new answered step rest = subst (λ (s : Sitter). Shows s answered new) step rest
+shows_more (Makes call) FullHistory old mid new answered step rest = subst (λ (s : Sitter). Shows s answered new) step rest
+shows_more (Makes call) BehindHistory old mid new answered step rest = subst (λ (s : Sitter). Shows s answered new) step rest
+shows_more (Makes call) (Checked checking) old mid new answered step rest = absurd step
+shows_more (Makes call) SharedHistory old mid new answered step rest = absurd step
+shows_more (Keeps limits) SharedHistory old mid new answered step rest = subst (λ (s : Sitter). Shows s answered new) step rest
+shows_more (Keeps limits) (Replied reply) old mid new answered step rest = absurd step
+shows_more (Keeps limits) FullHistory old mid new answered step rest = absurd step
+shows_more (Keeps limits) BehindHistory old mid new answered step rest = absurd step
+shows_more (Keeps limits) (Checked checking) old mid new answered step rest = absurd step
 
 runs_show : (pairs : List Pair) (old new : Sitter) → Runs SitterStep old pairs new → Shows old (answered_in pairs) new
 runs_show [] old new runs = ([], ap (λ (s : Sitter). s.receipts) runs ∙ sym (append-nil old.receipts), refl, ap (λ (s : Sitter). s.seat) runs)

@@ -1,6 +1,6 @@
 -- Receipts that show all calls of their callers.
 use Rattle.std.specs.Prelude.{◌≡◌, ◌≤◌, ℕ, List, All}
-use Rattle.fb_wire.specs.History.Story.{Record, turns_of}
+use Rattle.fb_wire.specs.History.Story.{Story, turns_of}
 use Rattle.fb_shared.specs.Locked.Closing.{AreReceiptsRight, receipts_of}
 use Rattle.fb_shared.specs.Locked.Seats.{SeatState, Claim}
 
@@ -17,5 +17,5 @@ AreShown receipts seats = All (IsShown receipts) seats
 
 -- Each receipt is the record at its number, none comes twice, and no caller has fewer of them than records: so the receipts are those of all
 -- records, each once.
-abbrev pub ShowsAll : List Record → List Claim → Type 0
-ShowsAll records receipts = AreReceiptsRight records receipts × ((caller : ℕ) → turns_of caller records ≤ receipts_of caller receipts)
+abbrev pub ShowsAll : Story → List Claim → Type 0
+ShowsAll story receipts = AreReceiptsRight story receipts × ((caller : ℕ) → turns_of caller story.log.records ≤ receipts_of caller receipts)

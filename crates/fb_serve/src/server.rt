@@ -56,12 +56,12 @@ pub fn serve_sessions<R: Threads + Wait + Sync, E: Write>(
     numbers: Numbers,
     errors: &mut E,
 ) -> Result<Served, NotServed>
-    // The receipts are those of all records of the workbench, each once; each caller is counted with its records.
+    // The receipts are those of all records of the workbench, each once; each caller is counted with its calls.
     ensures all { IfOk result
-        (λ served. ShowsAll served.closed.bench.log.records served.receipts.items) }
+        (λ served. ShowsAll served.closed.bench served.receipts.items) }
     ensures counts { IfOk result
         (λ served. IsBookOf served.closed.counts (numbers.sessions + numbers.workers)
-        served.closed.bench.log.records) }
+        served.closed.bench) }
 {
     let callers = u32::from(numbers.sessions) + u32::from(numbers.workers);
     let (shared, mut seats) = Shared::new(alloc, numbers.limits, callers)?;
@@ -89,10 +89,10 @@ fn new_seats(alloc: Global, seats: Vec<Seat>) -> Result<Vec<NewSeat>, AllocError
 /// Closes with all that the threads left.
 fn close(alloc: Global, shared: Shared, gathered: Gathered) -> Result<Served, NotServed>
     ensures all { IfOk result
-        (λ served. ShowsAll served.closed.bench.log.records served.receipts.items) }
+        (λ served. ShowsAll served.closed.bench served.receipts.items) }
     ensures counts { IfOk result
         (λ served. IsBookOf served.closed.counts shared.callers
-        served.closed.bench.log.records) }
+        served.closed.bench) }
 {
     let Gathered {
         seats,

@@ -44,6 +44,7 @@ use Rattle.fb_locked.specs.contracts.seat.Receipt as Receipt
 use Rattle.fb_locked.specs.contracts.seat.Seat as Seat
 use Rattle.fb_locked.specs.Library.contracts.library.Library as Library
 use Rattle.fb_locked.specs.Index.contracts.index.Index as Index
+use Rattle.fb_locked.specs.History.contracts.start.Start as Start
 use Rattle.fb_locked.specs.Bench.contracts.bench.Bench as Bench
 use Rattle.fb_locked.specs.contracts.locked.Locked as Locked
 use Rattle.fb_shared.specs.contracts.shared.Shared as Shared
@@ -396,8 +397,11 @@ library_field_send = search (source_field_send, source_field_sync, crosses, maps
 pub index_field_send : IsSend (Index.the_field).row
 index_field_send = search (crosses, maps.crosses, sendable) depth 60 fits 20000
 
+pub start_field_send : IsSend (Start.the_field).row
+start_field_send = search (library_field_send, crosses, maps.crosses, sendable) depth 60 fits 20000
+
 pub bench_field_send : IsSend (Bench.the_field).row
-bench_field_send = search (index_field_send, library_field_send, record_field_send, record_field_sync, value_send, value_sync, crosses, maps.crosses, sendable) depth 60 fits 20000
+bench_field_send = search (start_field_send, index_field_send, library_field_send, record_field_send, record_field_sync, value_send, value_sync, crosses, maps.crosses, sendable) depth 60 fits 20000
 
 pub locked_field_send : IsSend (Locked.the_field).row
 locked_field_send = search (bench_field_send, crosses, maps.crosses, sendable) depth 60 fits 20000

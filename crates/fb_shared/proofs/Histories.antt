@@ -1,5 +1,5 @@
--- Numbers and turns in a history, and receipts that show all calls of a caller.
-use Rattle.std.proofs.Common.{◌≡◌, ◌==◌, ℕ, zero, suc, ◌+◌, ◌<◌, ◌≤◌, inl, inr, List, [], ◌∷◌, Bool, true, false, cond, Option, Some, None, refl, ap, sym, ◌∙◌, subst, arith, nat_lt, nat_le, length, take, slice_get}
+-- Numbers and turns in a history, receipts that show all calls of a caller, and seats that fit.
+use Rattle.std.proofs.Common.{◌≡◌, ◌==◌, ℕ, zero, suc, ◌+◌, ◌-◌, ◌<◌, ◌≤◌, ◌⊎◌, ◌↔◌, inl, inr, List, [], ◌∷◌, Bool, true, false, cond, Option, Some, None, refl, ap, sym, ◌∙◌, subst, arith, nat_lt, nat_le, length, take, slice_get}
 use Rattle.std.proofs.Math.Nat.{eq-or-lt_of_le}
 use Rattle.std.proofs.Math.Seq.{take-length}
 use Rattle.std.proofs.lemmas.Bool.{eqb-true, eq-eqb}
@@ -7,9 +7,14 @@ use Rattle.std.proofs.lemmas.Bool.Decides.{nat_tests}
 use Rattle.std.proofs.lemmas.List.{take-take}
 use Rattle.std.proofs.lemmas.List.Elements.{recursion_from_All, Contains-append_right}
 use Rattle.std.proofs.lemmas.List.Sums.{sum_by-cons, sum_by-take-le}
+use Rattle.std.proofs.lemmas.Option.{slice_get_within}
 use Rattle.std.specs.List.{sum_by, AllByRecursion, Contains}
-use Rattle.fb_locked.specs.History.Story.{Record, record_at, turns_of, AreTurns}
-use Rattle.fb_locked.specs.Seats.{Claim}
+use Rattle.fb_locked.specs.History.Story.{Record, Story, all_turns, last_number, on_page, record_at, record_numbered, turns_of, AreTurns}
+use Rattle.fb_locked.specs.declared.locked.SharedRefused.{SharedRefused}
+use Rattle.fb_locked.specs.declared.locked.SharedRefused.TheVariants.{SeatDiffers, Behind, HistoryFull}
+use Rattle.fb_locked.specs.Seats.{AreSeatsAt, Claim, Hall, SeatState, seat_at}
+use Rattle.fb_locked.specs.Refusals.{refusal_of}
+use Rattle.fb_locked.specs.Resuming.{IsUpToDate}
 use Rattle.fb_locked.specs.Closing.{IsReceiptRight, AreReceiptsRight, times, receipts_of}
 use Rattle.fb_locked.proofs.Closings.{placed}
 
@@ -26,11 +31,14 @@ turns_up : (caller : ℕ) (es : List Record) (m n : ℕ) → m ≤ n → turns_o
 turns_up caller es m n le =
     subst (λ (l : List Record). turns_of caller l ≤ turns_of caller (take n es)) (take-take m n es le) (sum_by-take-le (λ (x : Record). cond (x.caller == caller) 1 0) (take n es) m)
 
-pub numbers_rise : (records : List Record) (m n : ℕ) (earlier later : Record) → AreTurns records → record_at records m ≡ Some earlier → record_at records n ≡ Some later → earlier.caller ≡ later.caller → earlier.turn < later.turn → m < n
-numbers_rise records m n earlier later turns at_m at_n same rising =
-    let first : earlier.turn ≡ turns_of earlier.caller (take m records) = turns m earlier at_m in
-    let second : later.turn ≡ turns_of earlier.caller (take n records) = turns n later at_n ∙ ap (λ q. turns_of q (take n records)) (sym same) in
-    less_unless m n (λ le. let up = turns_up earlier.caller records n m le in omega (arith, first, second, up, rising))
+pub numbers_rise : (story : Story) (m n : ℕ) (earlier later : Record) → AreTurns story → record_numbered story m ≡ Some earlier → record_numbered story n ≡ Some later → earlier.caller ≡ later.caller → earlier.turn < later.turn → m < n
+numbers_rise story m n earlier later turns at_m at_n same rising =
+    let es = story.log.records in
+    let before : ℕ = story.origin.before in
+    let page : ℕ = on_page story.origin.pages earlier.caller in
+    let first : earlier.turn ≡ page + turns_of earlier.caller (take (m - before) es) = turns (m - before) earlier at_m in
+    let second : later.turn ≡ page + turns_of earlier.caller (take (n - before) es) = turns (n - before) later at_n ∙ ap (λ q. on_page story.origin.pages q + turns_of q (take (n - before) es)) (sym same) in
+    less_unless m n (λ le. let up = turns_up earlier.caller es (n - before) (m - before) (omega (arith, le)) in omega (arith, first, second, up, rising))
 
 -- ---- receipts and records up to a number
 
@@ -48,6 +56,25 @@ turns_next caller (e ∷ es) (suc n) =
     let short : turns_of caller (e ∷ take n es) ≡ f e + turns_of caller (take n es) = sum_by-cons f e (take n es) in
     omega (arith, long, short, turns_next caller es n)
 
+-- the same by number, with none up to the calls before the first record
+turns_at : (caller : ℕ) (es : List Record) (n m : ℕ) → (n ≡ suc m) ⊎ ((n ≡ 0) × (m ≡ 0)) → turns_of caller (take n es) ≡ turns_of caller (take m es) + cond (is_own caller (record_at es n)) 1 0
+turns_at caller es n m (inl next) = rw next (turns_next caller es m)
+turns_at caller es n m (inr (none, none')) = rw (none, none') (omega arith)
+
+next_number : (before bound : ℕ) → (suc bound - before ≡ suc (bound - before)) ⊎ ((suc bound - before ≡ 0) × (bound - before ≡ 0))
+next_number before bound =
+    elim (nat_le before bound) as (λ b. nat_le before bound ≡ b → (suc bound - before ≡ suc (bound - before)) ⊎ ((suc bound - before ≡ 0) × (bound - before ≡ 0))) [
+      | true ↦ λ e. let le : before ≤ bound = grind (arith, nat_tests) in inl (omega arith)
+      | false ↦ λ e. let past : bound < before = grind (arith, nat_tests) in inr (omega arith, omega arith)
+    ] refl
+
+-- how many records the caller has up to a number
+abbrev turns_to : Story → ℕ → ℕ → ℕ
+turns_to story caller bound = turns_of caller (take (bound - story.origin.before) story.log.records)
+
+turns_numbered : (story : Story) (caller bound : ℕ) → turns_to story caller (suc bound) ≡ turns_to story caller bound + cond (is_own caller (record_numbered story (suc bound))) 1 0
+turns_numbered story caller bound = turns_at caller story.log.records (suc bound - story.origin.before) (bound - story.origin.before) (next_number story.origin.before bound)
+
 -- a receipt of the caller with a number up to a bound
 abbrev up_to : ℕ → ℕ → Claim → ℕ
 up_to caller bound c = cond (c.entry.caller == caller) (cond (nat_le c.number bound) 1 0) 0
@@ -60,23 +87,23 @@ one_bits false n bound weight here is weighs = omega arith
 one_bits true n bound weight true is weighs = let w : weight ≡ 1 = weighs refl in grind (arith, nat_tests)
 one_bits true n bound weight false is weighs = grind (arith, nat_tests)
 
-one_step : (es : List Record) (caller bound : ℕ) (c : Claim) → IsReceiptRight es c → up_to caller (suc bound) c ≤ up_to caller bound c + at_number (suc bound) (cond (is_own caller (record_at es (suc bound))) 1 0) c
-one_step es caller bound c right =
-    one_bits (c.entry.caller == caller) c.number bound (cond (is_own caller (record_at es (suc bound))) 1 0) (c.number == suc bound) refl (
-    λ here. let at : record_at es (suc bound) ≡ Some c.entry = ap (record_at es) (sym (eqb-true c.number (suc bound) here)) ∙ right in ap (λ o. cond (is_own caller o) 1 0) at
+one_step : (story : Story) (caller bound : ℕ) (c : Claim) → IsReceiptRight story c → up_to caller (suc bound) c ≤ up_to caller bound c + at_number (suc bound) (cond (is_own caller (record_numbered story (suc bound))) 1 0) c
+one_step story caller bound c right =
+    one_bits (c.entry.caller == caller) c.number bound (cond (is_own caller (record_numbered story (suc bound))) 1 0) (c.number == suc bound) refl (
+    λ here. let at : record_numbered story (suc bound) ≡ Some c.entry = ap (record_numbered story) (sym (eqb-true c.number (suc bound) here)) ∙ right in ap (λ o. cond (is_own caller o) 1 0) at
     )
 
-all_steps : (es : List Record) (caller bound : ℕ) (rs : List Claim) → AllByRecursion (IsReceiptRight es) rs → sum_by (up_to caller (suc bound)) rs ≤ sum_by (up_to caller bound) rs + sum_by (at_number (suc bound) (cond (is_own caller (record_at es (suc bound))) 1 0)) rs
-all_steps es caller bound [] right = omega arith
-all_steps es caller bound (c ∷ cs) right =
-    let weight : ℕ = cond (is_own caller (record_at es (suc bound))) 1 0 in
+all_steps : (story : Story) (caller bound : ℕ) (rs : List Claim) → AllByRecursion (IsReceiptRight story) rs → sum_by (up_to caller (suc bound)) rs ≤ sum_by (up_to caller bound) rs + sum_by (at_number (suc bound) (cond (is_own caller (record_numbered story (suc bound))) 1 0)) rs
+all_steps story caller bound [] right = omega arith
+all_steps story caller bound (c ∷ cs) right =
+    let weight : ℕ = cond (is_own caller (record_numbered story (suc bound))) 1 0 in
     omega (
       arith,
       sum_by-cons (up_to caller (suc bound)) c cs,
       sum_by-cons (up_to caller bound) c cs,
       sum_by-cons (at_number (suc bound) weight) c cs,
-      one_step es caller bound c right.0,
-      all_steps es caller bound cs right.1,
+      one_step story caller bound c right.0,
+      all_steps story caller bound cs right.1,
     )
 
 nothing_at : (number : ℕ) (rs : List Claim) → sum_by (at_number number 0) rs ≡ 0
@@ -96,63 +123,67 @@ none_weighed : (number : ℕ) (b : Bool) (rs : List Claim) → times number rs �
 none_weighed number true rs none = none
 none_weighed number false rs none = nothing_at number rs
 
-none_first : (es : List Record) (caller : ℕ) (rs : List Claim) → AllByRecursion (IsReceiptRight es) rs → sum_by (up_to caller 0) rs ≡ 0
-none_first es caller [] right = refl
-none_first es caller (c ∷ cs) right =
-    let some : 1 ≤ c.number = (placed es c.number c.entry right.0).0 in
+none_first : (story : Story) (caller : ℕ) (rs : List Claim) → AllByRecursion (IsReceiptRight story) rs → sum_by (up_to caller 0) rs ≡ 0
+none_first story caller [] right = refl
+none_first story caller (c ∷ cs) right =
+    let there = placed story.log.records (c.number - story.origin.before) c.entry right.0 in
+    let some : 1 ≤ c.number = omega (arith, there.0) in
     let here : up_to caller 0 c ≡ 0 = grind (arith, nat_tests) in
-    omega (arith, sum_by-cons (up_to caller 0) c cs, here, none_first es caller cs right.1)
+    omega (arith, sum_by-cons (up_to caller 0) c cs, here, none_first story caller cs right.1)
 
-all_at_end : (es : List Record) (caller : ℕ) (rs : List Claim) → AllByRecursion (IsReceiptRight es) rs → sum_by (up_to caller (length es)) rs ≡ receipts_of caller rs
-all_at_end es caller [] right = refl
-all_at_end es caller (c ∷ cs) right =
+all_at_end : (story : Story) (caller : ℕ) (rs : List Claim) → AllByRecursion (IsReceiptRight story) rs → sum_by (up_to caller (last_number story)) rs ≡ receipts_of caller rs
+all_at_end story caller [] right = refl
+all_at_end story caller (c ∷ cs) right =
     let f : Claim → ℕ = λ x. cond (x.entry.caller == caller) 1 0 in
-    let there = placed es c.number c.entry right.0 in
-    let here : up_to caller (length es) c ≡ f c = let le : nat_le c.number (length es) ≡ true = grind (arith, nat_tests, there.0, there.1) in ap (λ b. cond (c.entry.caller == caller) (cond b 1 0) 0) le in
-    sum_by-cons (up_to caller (length es)) c cs ∙ ((λ i. here i + all_at_end es caller cs right.1 i) ∙ sym (sum_by-cons f c cs))
+    let there = placed story.log.records (c.number - story.origin.before) c.entry right.0 in
+    let within : c.number ≤ last_number story = omega (arith, there.0, there.1) in
+    let here : up_to caller (last_number story) c ≡ f c = let le : nat_le c.number (last_number story) ≡ true = grind (arith, nat_tests) in ap (λ b. cond (c.entry.caller == caller) (cond b 1 0) 0) le in
+    sum_by-cons (up_to caller (last_number story)) c cs ∙ ((λ i. here i + all_at_end story caller cs right.1 i) ∙ sym (sum_by-cons f c cs))
 
-module _ (es : List Record) (caller : ℕ) (rs : List Claim) (right : AllByRecursion (IsReceiptRight es) rs) (once : (number : ℕ) → times number rs ≤ 1) where
+module _ (story : Story) (caller : ℕ) (rs : List Claim) (right : AllByRecursion (IsReceiptRight story) rs) (once : (number : ℕ) → times number rs ≤ 1) where
   -- receipts up to a number are at most as many as records up to it
-  fewer : (bound : ℕ) → sum_by (up_to caller bound) rs ≤ turns_of caller (take bound es)
-  fewer zero = omega (arith, none_first es caller rs right)
+  fewer : (bound : ℕ) → sum_by (up_to caller bound) rs ≤ turns_to story caller bound
+  fewer zero = omega (arith, none_first story caller rs right)
   fewer (suc bound) =
       omega (
         arith,
-        all_steps es caller bound rs right,
-        weighed (suc bound) (is_own caller (record_at es (suc bound))) rs (once (suc bound)),
-        turns_next caller es bound,
+        all_steps story caller bound rs right,
+        weighed (suc bound) (is_own caller (record_numbered story (suc bound))) rs (once (suc bound)),
+        turns_numbered story caller bound,
         fewer bound,
       )
 
   -- and fewer, once one is missing
-  missing_at : (n bound : ℕ) → is_own caller (record_at es n) ≡ true → times n rs ≡ 0 → n ≡ suc bound → sum_by (up_to caller (suc bound)) rs + 1 ≤ turns_of caller (take (suc bound) es)
+  missing_at : (n bound : ℕ) → is_own caller (record_numbered story n) ≡ true → times n rs ≡ 0 → n ≡ suc bound → sum_by (up_to caller (suc bound)) rs + 1 ≤ turns_to story caller (suc bound)
   missing_at n bound own none is =
-      let here : is_own caller (record_at es (suc bound)) ≡ true = subst (λ (k : ℕ). is_own caller (record_at es k) ≡ true) is own in
+      let here : is_own caller (record_numbered story (suc bound)) ≡ true = subst (λ (k : ℕ). is_own caller (record_numbered story k) ≡ true) is own in
       let no : times (suc bound) rs ≡ 0 = subst (λ (k : ℕ). times k rs ≡ 0) is none in
-      let one : ◌≡◌ {A = ℕ} (cond (is_own caller (slice_get es bound)) 1 0) 1 = ap (λ b. cond b 1 0) here in
+      let one : ◌≡◌ {A = ℕ} (cond (is_own caller (record_numbered story (suc bound))) 1 0) 1 = ap (λ b. cond b 1 0) here in
       omega (
         arith,
-        all_steps es caller bound rs right,
-        none_weighed (suc bound) (is_own caller (record_at es (suc bound))) rs no,
-        turns_next caller es bound,
+        all_steps story caller bound rs right,
+        none_weighed (suc bound) (is_own caller (record_numbered story (suc bound))) rs no,
+        turns_numbered story caller bound,
         one,
         fewer bound,
       )
 
-  missing : (n : ℕ) → is_own caller (record_at es n) ≡ true → times n rs ≡ 0 → (bound : ℕ) → n ≤ bound → sum_by (up_to caller bound) rs + 1 ≤ turns_of caller (take bound es)
+  missing : (n : ℕ) → is_own caller (record_numbered story n) ≡ true → times n rs ≡ 0 → (bound : ℕ) → n ≤ bound → sum_by (up_to caller bound) rs + 1 ≤ turns_to story caller bound
   missing n own none zero le =
       let first : n ≡ 0 = omega (arith, le) in
-      let bad : false ≡ true = subst (λ (k : ℕ). is_own caller (record_at es k) ≡ true) first own in
+      let here : is_own caller (record_numbered story 0) ≡ true = subst (λ (k : ℕ). is_own caller (record_numbered story k) ≡ true) first own in
+      let place : 0 - story.origin.before ≡ 0 = omega arith in
+      let bad : false ≡ true = subst (λ (k : ℕ). is_own caller (record_at story.log.records k) ≡ true) place here in
       absurd (let no : ⊥ = cc in no)
   missing n own none (suc bound) le =
-      elim (eq-or-lt_of_le le) as (λ _. sum_by (up_to caller (suc bound)) rs + 1 ≤ turns_of caller (take (suc bound) es)) [
+      elim (eq-or-lt_of_le le) as (λ _. sum_by (up_to caller (suc bound)) rs + 1 ≤ turns_to story caller (suc bound)) [
         | inl is ↦ missing_at n bound own none is
         | inr lt ↦
             omega (
               arith,
-              all_steps es caller bound rs right,
-              weighed (suc bound) (is_own caller (record_at es (suc bound))) rs (once (suc bound)),
-              turns_next caller es bound,
+              all_steps story caller bound rs right,
+              weighed (suc bound) (is_own caller (record_numbered story (suc bound))) rs (once (suc bound)),
+              turns_numbered story caller bound,
               missing n own none bound (omega (arith, lt)),
             )
       ]
@@ -160,29 +191,61 @@ module _ (es : List Record) (caller : ℕ) (rs : List Claim) (right : AllByRecur
 times_cons : (n : ℕ) (c : Claim) (cs : List Claim) → times n (c ∷ cs) ≡ cond (c.number == n) 1 0 + times n cs
 times_cons n c cs = sum_by-cons (λ (x : Claim). cond (x.number == n) 1 0) c cs
 
-found_at : (es : List Record) (c : Claim) (cs : List Claim) (n : ℕ) (e : Record) (b : Bool) → c.number == n ≡ b → IsReceiptRight es c → record_at es n ≡ Some e → (times n (c ∷ cs) ≡ 0 → ⊥) → ((times n cs ≡ 0 → ⊥) → Contains cs (record { number = n; entry = e })) → Contains (c ∷ cs) (record { number = n; entry = e })
-found_at es c cs n e true is right there some rest =
+found_at : (story : Story) (c : Claim) (cs : List Claim) (n : ℕ) (e : Record) (b : Bool) → c.number == n ≡ b → IsReceiptRight story c → record_numbered story n ≡ Some e → (times n (c ∷ cs) ≡ 0 → ⊥) → ((times n cs ≡ 0 → ⊥) → Contains cs (record { number = n; entry = e })) → Contains (c ∷ cs) (record { number = n; entry = e })
+found_at story c cs n e true is right there some rest =
     let at : c.number ≡ n = eqb-true c.number n is in
-    let both : Some c.entry ≡ Some e = sym right ∙ (ap (record_at es) at ∙ there) in
+    let both : Some c.entry ≡ Some e = sym right ∙ (ap (record_numbered story) at ∙ there) in
     let entries : c.entry ≡ e = cc in
     let same : c ≡ record { number = n; entry = e } = λ i. record { number = at i; entry = entries i } in
     (0, omega arith, same)
-found_at es c cs n e false is right there some rest =
+found_at story c cs n e false is right there some rest =
     Contains-append_right (c ∷ []) cs (record { number = n; entry = e }) (rest (λ none. some (times_cons n c cs ∙ ((λ i. cond (is i) 1 0 + none i)))))
 
-found : (es : List Record) (rs : List Claim) (n : ℕ) (e : Record) → AllByRecursion (IsReceiptRight es) rs → record_at es n ≡ Some e → (times n rs ≡ 0 → ⊥) → Contains rs (record { number = n; entry = e })
-found es [] n e right there some = absurd (some refl)
-found es (c ∷ cs) n e right there some = found_at es c cs n e (c.number == n) refl right.0 there some (found es cs n e right.1 there)
+found : (story : Story) (rs : List Claim) (n : ℕ) (e : Record) → AllByRecursion (IsReceiptRight story) rs → record_numbered story n ≡ Some e → (times n rs ≡ 0 → ⊥) → Contains rs (record { number = n; entry = e })
+found story [] n e right there some = absurd (some refl)
+found story (c ∷ cs) n e right there some = found_at story c cs n e (c.number == n) refl right.0 there some (found story cs n e right.1 there)
 
 -- a receipt for each record of the caller
-pub all_shown : (records : List Record) (receipts : List Claim) (caller number : ℕ) (it : Record) → AreReceiptsRight records receipts → receipts_of caller receipts ≡ turns_of caller records → record_at records number ≡ Some it → it.caller ≡ caller → Contains receipts (record { number = number; entry = it })
-all_shown records receipts caller number it are count there mine =
-    let right = recursion_from_All (IsReceiptRight records) receipts are.right in
-    let own : is_own caller (record_at records number) ≡ true = ap (is_own caller) there ∙ eq-eqb it.caller caller mine in
-    let within = placed records number it there in
-    found records receipts number it right there (
+pub all_shown : (story : Story) (receipts : List Claim) (caller number : ℕ) (it : Record) → AreReceiptsRight story receipts → receipts_of caller receipts ≡ turns_of caller story.log.records → record_numbered story number ≡ Some it → it.caller ≡ caller → Contains receipts (record { number = number; entry = it })
+all_shown story receipts caller number it are count there mine =
+    let right = recursion_from_All (IsReceiptRight story) receipts are.right in
+    let own : is_own caller (record_numbered story number) ≡ true = ap (is_own caller) there ∙ eq-eqb it.caller caller mine in
+    let within = placed story.log.records (number - story.origin.before) it there in
+    found story receipts number it right there (
     λ none.
-    let less = missing records caller receipts right are.once number own none (length records) (omega (arith, within.0, within.1)) in
-    let all : turns_of caller (take (length records) records) ≡ turns_of caller records = ap (turns_of caller) (take-length records) in
-    omega (arith, less, all, all_at_end records caller receipts right, count)
+    let less = missing story caller receipts right are.once number own none (last_number story) (omega (arith, within.0, within.1)) in
+    let whole : last_number story - story.origin.before ≡ length story.log.records = omega arith in
+    let all : turns_to story caller (last_number story) ≡ turns_of caller story.log.records = ap (λ n. turns_of caller (take n story.log.records)) whole ∙ ap (turns_of caller) (take-length story.log.records) in
+    omega (arith, less, all, all_at_end story caller receipts right, count)
     )
+
+-- ---- the seats of a workbench that is resumed
+
+-- which cause is first against a call, where the calls and the numbers are these
+abbrev cause_at : (turns seat_turns last seen limit len : ℕ) → Option SharedRefused
+cause_at turns seat_turns last seen limit len =
+    cond (turns == seat_turns) (cond (nat_lt last seen) (Some (Behind seen last)) (cond (nat_le limit len) (Some HistoryFull) None)) (Some (SeatDiffers seat_turns turns))
+
+cause_current : (turns last limit len : ℕ) → cause_at turns turns last last limit len ≡ cond (nat_le limit len) (Some HistoryFull) None
+cause_current turns last limit len =
+    let same : (turns == turns) ≡ true = grind (arith, nat_tests) in
+    let seen : nat_lt last last ≡ false = grind (arith, nat_tests) in
+    (λ i. cond (same i) (cond (seen i) (Some (Behind last last)) (cond (nat_le limit len) (Some HistoryFull) None)) (Some (SeatDiffers turns turns)))
+
+full_or_none : (limit len : ℕ) (cause : Option SharedRefused) → cause ≡ cond (nat_le limit len) (Some HistoryFull) None → ((cause ≡ None) ⊎ (cause ≡ Some HistoryFull)) × ((cause ≡ Some HistoryFull) ↔ limit ≤ len)
+full_or_none limit len cause is =
+    elim (nat_le limit len) as (λ b. nat_le limit len ≡ b → cause ≡ cond b (Some HistoryFull) None → ((cause ≡ None) ⊎ (cause ≡ Some HistoryFull)) × ((cause ≡ Some HistoryFull) ↔ limit ≤ len)) [
+      | true ↦ λ e is. let full : limit ≤ len = grind (arith, nat_tests) in (inr is, ((λ _. full), (λ _. is)))
+      | false ↦ λ e is. (inl is, ((λ some. absurd (let no : ◌≡◌ {A = Option SharedRefused} None (Some HistoryFull) = sym is ∙ some in let never : ⊥ = cc in never)), (λ full. absurd (let never : ⊥ = grind (arith, nat_tests) in never))))
+    ] refl is
+
+-- nothing but a full history is against a call with the seat of a caller as the history leaves it
+pub up_to_date : (hall : Hall) (n : ℕ) (seats : List SeatState) (k : ℕ) (seat : SeatState) → AreSeatsAt hall.bench n seats → slice_get seats k ≡ Some seat → IsUpToDate hall seat
+up_to_date hall n seats k seat are at =
+    let below : k < n = omega (arith, are.0, slice_get_within seats k seat at) in
+    let here : Some seat ≡ Some (seat_at hall.bench (k + 1)) = sym at ∙ are.1 k below in
+    let is : seat ≡ seat_at hall.bench (k + 1) = cc in
+    let limit : ℕ = hall.bench.log.limit in
+    let len : ℕ = length hall.bench.log.records in
+    subst (IsUpToDate hall) (sym is)
+    (full_or_none limit len (refusal_of hall (seat_at hall.bench (k + 1))) (cause_current (all_turns hall.bench (k + 1)) (last_number hall.bench) limit len))

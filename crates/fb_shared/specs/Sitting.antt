@@ -1,7 +1,7 @@
 -- A shared workbench as the desk of one seat. Nothing is known of the workbench but what the seat and its receipts tell.
 use Rattle.std.specs.Prelude.{◌≡◌, ◌++◌, ◌∷◌, [], List, ℕ}
 use Rattle.fb_locked.specs.History.Machine.{Call}
-use Rattle.fb_locked.specs.Bench.Calls.{Answer, Replied, FullHistory, BehindHistory}
+use Rattle.fb_locked.specs.Bench.Calls.{Answer, Deed, Makes, Keeps, Replied, FullHistory, BehindHistory, Checked, SharedHistory}
 use Rattle.fb_locked.specs.Bench.declared.desk.DeskRefused.{DeskRefused}
 use Rattle.fb_locked.specs.Bench.declared.desk.DeskRefused.TheVariants as desk
 use Rattle.fb_locked.specs.declared.locked.SharedRefused.{SharedRefused}
@@ -25,8 +25,22 @@ desk_refused HistoryFull = desk.HistoryFull
 desk_refused Memory = desk.Memory
 
 -- An answered call adds one receipt, which is of the call, with the reply, and which the seat has then seen. A refused one changes neither.
-abbrev pub SitterStep : Sitter → Call → Answer → Sitter → Type 0
-SitterStep old call (Replied reply) new =
+abbrev pub IsCallSitting : Sitter → Call → Answer → Sitter → Type 0
+IsCallSitting old call (Replied reply) new =
     (claim : Claim) × (new.receipts ≡ old.receipts ++ claim ∷ []) × IsReceiptOf old.seat call claim × (claim.entry.reply ≡ reply) × (new.seat ≡ seat_after old.seat claim)
-SitterStep old call FullHistory new = new ≡ old
-SitterStep old call BehindHistory new = new ≡ old
+IsCallSitting old call FullHistory new = new ≡ old
+IsCallSitting old call BehindHistory new = new ≡ old
+IsCallSitting old call (Checked checking) new = ⊥
+IsCallSitting old call SharedHistory new = ⊥
+
+-- a checkpoint is refused, since others may share the workbench, and changes neither
+abbrev pub IsCheckpointSitting : Sitter → Answer → Sitter → Type 0
+IsCheckpointSitting old SharedHistory new = new ≡ old
+IsCheckpointSitting old (Replied reply) new = ⊥
+IsCheckpointSitting old FullHistory new = ⊥
+IsCheckpointSitting old BehindHistory new = ⊥
+IsCheckpointSitting old (Checked checking) new = ⊥
+
+abbrev pub SitterStep : Sitter → Deed → Answer → Sitter → Type 0
+SitterStep old (Makes call) answer new = IsCallSitting old call answer new
+SitterStep old (Keeps limits) answer new = IsCheckpointSitting old answer new

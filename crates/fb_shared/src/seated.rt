@@ -9,7 +9,8 @@ ghost use Rattle.fb_shared.specs.Sitting.{desk_refused, SitterStep};
 
 use crate::shared::Shared;
 use fb_locked::bench::{
-    Answered, Asked, Committed, Delivered, Desk, DeskRefused, GivenBack, Request, Taken,
+    Answered, Asked, Committed, Delivered, Desk, DeskCheckpointRefused, DeskRefused, GivenBack,
+    Limits, Request, Taken,
 };
 use fb_locked::jobs::{Finished, Key};
 use fb_locked::library::Change;
@@ -153,5 +154,10 @@ impl<R: Wait> Desk for Seated<'_, R> {
         let _changes: &[Change] = &[];
         let _finished: Option<&Finished> = None;
         Ok(asked_from(self.call(&Request::Ask(key))?))
+    }
+
+    /// A seat is not alone at its workbench: others may hold receipts of the records that would go.
+    fn checkpoint(&mut self, _limits: Limits) -> Result<u64, DeskCheckpointRefused> {
+        Err(DeskCheckpointRefused::NotAlone)
     }
 }

@@ -1,16 +1,17 @@
 //! The workbench that threads share, behind its lock.
-ghost use Rattle.std.specs.Prelude.{◌≡◌, IfOk, IfErr};
+ghost use Rattle.std.specs.Prelude.{◌≡◌, None, IfErr, IfOk, OnOk};
 ghost use Rattle.fb_locked.specs.History.Machine.{ToCommit, ToTake, ToDeliver, ToGiveBack, ToAsk};
 ghost use Rattle.fb_locked.specs.Bench.Records.{listed};
 ghost use Rattle.fb_locked.specs.Bench.Requests.{call_for, job_of};
 ghost use Rattle.fb_locked.specs.Calls.{Answers, AnswersKept};
-ghost use Rattle.fb_locked.specs.Closing.{IsCloseOf, IsFaultOf};
-ghost use Rattle.fb_locked.specs.Seats.{AreFirstSeats};
+ghost use Rattle.fb_locked.specs.Closing.{IsCloseOf, IsFaultOf, IsLeast};
+ghost use Rattle.fb_locked.specs.Resuming.{is_left_out, IsResumeFault};
+ghost use Rattle.fb_locked.specs.Seats.{AreFirstSeats, AreSeatsAt};
 
-use fb_locked::bench::{Answered, Limits, Request};
+use fb_locked::bench::{Answered, Bench, Limits, Request};
 use fb_locked::jobs::{Finished, Job, Key};
 use fb_locked::library::Change;
-use fb_locked::{Closed, Locked, NotClosed, Receipt, Seat, SharedRefused};
+use fb_locked::{Closed, Locked, NotClosed, NotResumed, Receipt, Seat, SharedRefused};
 use std::alloc::{AllocError, Global};
 use std::marker::Model;
 use std::sync::{Condvar, Mutex, Wait};
@@ -48,6 +49,33 @@ impl Shared {
             changed: Condvar::new(),
         };
         Ok((shared, seats))
+    }
+
+    /// Puts a workbench under a lock with the calls that it has, and gives the seats of callers 1 to `callers`: each with the calls
+    /// that its caller has made, and as if it had seen the last one of all. Its workers are not stopped.
+    pub fn resume(
+        alloc: Global,
+        bench: Bench,
+        callers: u32,
+    ) -> Result<(Shared, Vec<Seat>), NotResumed>
+        ensures callers { IfOk result (λ made. made.0 ≡ record { callers = callers }) }
+        ensures seats { IfOk result (λ made. AreSeatsAt bench callers made.1.items) }
+        ensures all_seated { OnOk result (IsLeast (is_left_out bench callers) None) }
+
+        ensures fault { IfErr result (λ refused. IsResumeFault bench callers refused.fault) }
+        ensures back { IfErr result (λ refused. refused.bench ≡ bench) }
+    {
+        match Locked::resume(alloc, bench, callers) {
+            Ok((locked, seats)) => {
+                let shared = Shared {
+                    state: Mutex::new(locked),
+                    callers,
+                    changed: Condvar::new(),
+                };
+                Ok((shared, seats))
+            }
+            Err(refused) => Err(refused),
+        }
     }
 
     /// Wakes the workers that wait, where there is something for them.

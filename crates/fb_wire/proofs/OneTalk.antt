@@ -1,8 +1,7 @@
 -- A conversation is decided by its bytes and by what decides its answers.
 use Rattle.std.proofs.Common.{◌≡◌, ℕ, List, [], ◌∷◌, ◌++◌, Bool, true, false, MatchBool, refl, sym, ap, ap₂, ◌∙◌, subst, arith}
 use Rattle.serde_json.specs.Data.{Data}
-use Rattle.fb_bench.specs.History.Machine.{Call}
-use Rattle.fb_bench.specs.Calls.{Answer, Replied, FullHistory, BehindHistory}
+use Rattle.fb_bench.specs.Calls.{Answer, Deed}
 use Rattle.fb_bench.specs.Solo.{IsStep}
 use Rattle.fb_bench.specs.History.Story.{Story}
 use Rattle.fb_wire.specs.Lines.{Fits, IsTooLong, is_blank, lines_of}
@@ -12,8 +11,9 @@ use Rattle.fb_wire.specs.Ends.{AnsweredAll, AnsweredEnded, IsBetweenLines, Stand
 use Rattle.fb_wire.specs.Talk.{Jobs, Pair, Plan, says, asks, Leads, Talk, Runs, answers_of, plan_of}
 use Rattle.fb_wire.specs.declared.end.RunEnd.{RunEnd}
 use Rattle.fb_wire.specs.declared.end.RunEnd.TheVariants as end
+use Rattle.fb_wire.proofs.Scripts.{step_is}
 
--- calls and answers that agree agree on the answer to one call, and behind it
+-- pairs that agree agree on the answer to one call or checkpoint, and behind it
 module _ (Agrees : List Pair → List Pair → Type 0)
     (first_agrees : (p q : Pair) (ps qs : List Pair) → p.0 ≡ q.0 → Agrees (p ∷ ps) (q ∷ qs) → (p.1 ≡ q.1) × Agrees ps qs) where
   same_plan : (plan : Plan) (ps qs more others : List Pair) (r s : Data) (a b : Jobs) → Leads plan ps (says r a) → Leads plan qs (says s b)
@@ -21,14 +21,14 @@ module _ (Agrees : List Pair → List Pair → Type 0)
   same_plan (says d jobs) [] [] more others r s a b l k e = let both : says r a ≡ says s b = l ∙ sym k in (refl, cc, cc, e)
   same_plan (says d jobs) [] (q ∷ qs) more others r s a b l k e = absurd k
   same_plan (says d jobs) (p ∷ ps) qs more others r s a b l k e = absurd l
-  same_plan (asks call next) [] qs more others r s a b l k e = absurd cc
-  same_plan (asks call next) (p ∷ ps) [] more others r s a b l k e = absurd cc
-  same_plan (asks call next) (p ∷ ps) (q ∷ qs) more others r s a b l k e =
-      let calls : p.0 ≡ q.0 = l.0 ∙ sym k.0 in
-      let step = first_agrees p q (ps ++ more) (qs ++ others) calls e in
+  same_plan (asks deed next) [] qs more others r s a b l k e = absurd cc
+  same_plan (asks deed next) (p ∷ ps) [] more others r s a b l k e = absurd cc
+  same_plan (asks deed next) (p ∷ ps) (q ∷ qs) more others r s a b l k e =
+      let deeds : p.0 ≡ q.0 = l.0 ∙ sym k.0 in
+      let step = first_agrees p q (ps ++ more) (qs ++ others) deeds e in
       let P : Answer → Type 0 = λ x. Leads (next x) qs (says s b) in
       let rest = same_plan (next p.1) ps qs more others r s a b l.1 (subst P (sym step.0) k.1) step.1 in
-      let pair : ◌≡◌ {A = Pair} (p.0, p.1) (q.0, q.1) = λ i. (calls i, step.0 i) in
+      let pair : ◌≡◌ {A = Pair} (p.0, p.1) (q.0, q.1) = λ i. (deeds i, step.0 i) in
       (λ i. pair i ∷ rest.0 i, rest.1, rest.2, rest.3)
 
   same_line_by : (blank : Bool) (plan : Plan) (held : Jobs) (ps qs more others : List Pair) (out written : List ℕ) (after last : Jobs)
@@ -61,7 +61,7 @@ AnswersAgree ps qs = answers_of ps ≡ answers_of qs
 
 first_answers : (p q : Pair) (ps qs : List Pair) → p.0 ≡ q.0 → AnswersAgree (p ∷ ps) (q ∷ qs) → (p.1 ≡ q.1) × AnswersAgree ps qs
 unfolding AnswersAgree
-first_answers p q ps qs calls e = let both : p.1 ∷ answers_of ps ≡ q.1 ∷ answers_of qs = e in (cc, cc)
+first_answers p q ps qs deeds e = let both : p.1 ∷ answers_of ps ≡ q.1 ∷ answers_of qs = e in (cc, cc)
 
 one_by_lines : (lines : List (List ℕ)) (pairs others : List Pair) (out written : List ℕ) (after last : Jobs) → Talk lines [] pairs out after → Talk lines [] others written last
     → answers_of pairs ≡ answers_of others → (pairs ≡ others) × (out ≡ written)
@@ -131,15 +131,12 @@ one_by_answers end.Memory bytes pairs others out written between t u e = absurd 
 
 -- ---- by a workbench
 
--- a call on a workbench has one answer, and leads to one workbench
-one_step : (caller : ℕ) (old : Story) (call : Call) (a b : Answer) (left right : Story) → IsStep caller old call a left → IsStep caller old call b right → (a ≡ b) × (left ≡ right)
-one_step caller old call (Replied x) (Replied y) left right s t = (ap Replied (s.1 ∙ sym t.1), s.2 ∙ sym t.2)
-one_step caller old call (Replied x) FullHistory left right s t = absurd (omega (arith, s.0, t.0))
-one_step caller old call (Replied x) BehindHistory left right s t = absurd t
-one_step caller old call FullHistory (Replied y) left right s t = absurd (omega (arith, s.0, t.0))
-one_step caller old call FullHistory FullHistory left right s t = (refl, s.1 ∙ sym t.1)
-one_step caller old call FullHistory BehindHistory left right s t = absurd t
-one_step caller old call BehindHistory b left right s t = absurd s
+-- a call or a checkpoint on a workbench has one answer, and leads to one workbench
+one_step : (caller : ℕ) (old : Story) (deed : Deed) (a b : Answer) (left right : Story) → IsStep caller old deed a left → IsStep caller old deed b right → (a ≡ b) × (left ≡ right)
+one_step caller old deed a b left right s t =
+    let first = step_is caller old deed a left s in
+    let second = step_is caller old deed b right t in
+    (first.0 ∙ sym second.0, first.1 ∙ sym second.1)
 
 one_run : (caller : ℕ) (start left right : Story) (pairs : List Pair) → Runs (IsStep caller) start pairs left → Runs (IsStep caller) start pairs right → left ≡ right
 one_run caller start left right [] r s = r ∙ sym s
@@ -155,9 +152,9 @@ module _ (caller : ℕ) (left right : Story) where
 
   first_runs : (p q : Pair) (ps qs : List Pair) → p.0 ≡ q.0 → RunsAgree (p ∷ ps) (q ∷ qs) → (p.1 ≡ q.1) × RunsAgree ps qs
   unfolding RunsAgree
-  first_runs p q ps qs calls e =
-      let P : Call → Type 0 = λ call. IsStep caller e.0 call q.1 e.2.0 in
-      let step = one_step caller e.0 p.0 p.1 q.1 e.1.0 e.2.0 e.1.1 (subst P (sym calls) e.2.1) in
+  first_runs p q ps qs deeds e =
+      let P : Deed → Type 0 = λ deed. IsStep caller e.0 deed q.1 e.2.0 in
+      let step = one_step caller e.0 p.0 p.1 q.1 e.1.0 e.2.0 e.1.1 (subst P (sym deeds) e.2.1) in
       let Q : Story → Type 0 = λ mid. Runs (IsStep caller) mid qs right in
       (step.0, (e.1.0, e.1.2, subst Q (sym step.1) e.2.2))
 

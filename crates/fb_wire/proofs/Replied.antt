@@ -3,13 +3,12 @@ use Rattle.std.proofs.Common.{◌≡◌, ℕ, List, [], ◌++◌, Some, Ok, Err,
 use Rattle.std.specs.Prelude.{Vec}
 use Rattle.std.specs.declared.alloc.AllocError.{AllocError}
 use Rattle.std.specs.declared.alloc.Global.{Global}
-use Rattle.fb_bench.specs.History.Machine.{Call}
-use Rattle.fb_bench.specs.Calls.{Answer}
+use Rattle.fb_bench.specs.Calls.{Answer, Deed}
 use Rattle.fb_wire.specs.Served.{LineServed, LineSaid}
 use Rattle.fb_wire.specs.Talk.{Jobs, says}
 use Rattle.fb_wire.specs.declared.end.RunEnd.TheVariants as end
 
-module _ {S : Type 0} (Step : S → Call → Answer → S → Type 0) where
+module _ {S : Type 0} (Step : S → Deed → Answer → S → Type 0) where
   -- the reply's line was written
   pub reply_said : (line : List ℕ) (old_jobs jobs : Jobs) (old new : S) (text : Vec ℕ Global) (old_held held : List ℕ) → LineServed Step line old_jobs old (Ok (Some text)) jobs new
       → held ≡ old_held ++ text.items → LineSaid Step line old_jobs old old_held (Ok tt) jobs new held

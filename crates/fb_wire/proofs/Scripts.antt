@@ -3,8 +3,9 @@ use Rattle.std.proofs.Common.{◌≡◌, ◌<◌, ◌≤◌, ℕ, List, [], ◌�
 use Rattle.std.proofs.lemmas.Bool.Decides.{nat_tests}
 use Rattle.std.proofs.lemmas.List.{take-append-drop}
 use Rattle.serde_json.specs.Data.{Data}
-use Rattle.fb_bench.specs.History.Machine.{Call, reply}
-use Rattle.fb_bench.specs.Calls.{Answer, Replied, FullHistory, BehindHistory}
+use Rattle.fb_bench.specs.History.Checkpoints.{story_checked}
+use Rattle.fb_bench.specs.History.Machine.{reply}
+use Rattle.fb_bench.specs.Calls.{Answer, Deed, Makes, Keeps, Replied, FullHistory, BehindHistory, Checked, SharedHistory}
 use Rattle.fb_bench.specs.Solo.{IsStep}
 use Rattle.fb_bench.specs.History.Story.{Story}
 use Rattle.fb_wire.specs.Ends.{IsFrontOfReply, IsNothing, Stands}
@@ -22,17 +23,24 @@ has_room n limit room = grind (arith, nat_tests)
 has_none : (n limit : ℕ) → limit ≤ n → nat_lt n limit ≡ false
 has_none n limit full = grind (arith, nat_tests)
 
--- a step of the workbench gives its answer, and leaves it as it is after the call
-step_is : (caller : ℕ) (story : Story) (call : Call) (answer : Answer) (new : Story) → IsStep caller story call answer new → (answer ≡ answer_from story call) × (new ≡ story_after caller story call)
-step_is caller story call (Replied answer) new step =
+-- a step of the workbench gives its answer, and leaves it as it is after the call or the checkpoint
+pub step_is : (caller : ℕ) (story : Story) (deed : Deed) (answer : Answer) (new : Story) → IsStep caller story deed answer new → (answer ≡ answer_from story deed) × (new ≡ story_after caller story deed)
+step_is caller story (Makes call) (Replied answer) new step =
     let room : nat_lt (length story.log.records) story.log.limit ≡ true = has_room _ _ step.0 in
     rw room (ap Replied step.1, step.2)
-step_is caller story call FullHistory new step =
+step_is caller story (Makes call) FullHistory new step =
     let full : nat_lt (length story.log.records) story.log.limit ≡ false = has_none _ _ step.0 in
     rw full (refl, step.1)
-step_is caller story call BehindHistory new step = absurd step
+step_is caller story (Makes call) BehindHistory new step = absurd step
+step_is caller story (Makes call) (Checked checking) new step = absurd step
+step_is caller story (Makes call) SharedHistory new step = absurd step
+step_is caller story (Keeps limits) (Checked checking) new step = (ap Checked step.0, step.1 ∙ ap (λ c. story_checked c limits story) step.0)
+step_is caller story (Keeps limits) (Replied answer) new step = absurd step
+step_is caller story (Keeps limits) FullHistory new step = absurd step
+step_is caller story (Keeps limits) BehindHistory new step = absurd step
+step_is caller story (Keeps limits) SharedHistory new step = absurd step
 
--- the calls that a plan asks lead to what it is told
+-- what a plan asks leads to what it is told
 told_is : (caller : ℕ) (plan : Plan) (pairs : List Pair) (reply : Data) (held : Jobs) (story new : Story) → Leads plan pairs (says reply held) → Runs (IsStep caller) story pairs new
     → told caller plan story ≡ record { reply = reply; held = held; story = new }
 unfolding told
@@ -42,14 +50,14 @@ told_is caller (says d jobs) [] reply held story new l r =
     let second : jobs ≡ held = cc in
     λ i. record { reply = first i; held = second i; story = (sym r) i }
 told_is caller (says d jobs) (p ∷ ps) reply held story new l r = absurd l
-told_is caller (asks call next) [] reply held story new l r = absurd cc
-told_is caller (asks call next) (p ∷ ps) reply held story new l r =
+told_is caller (asks deed next) [] reply held story new l r = absurd cc
+told_is caller (asks deed next) (p ∷ ps) reply held story new l r =
     let step = step_is caller story p.0 p.1 r.0 r.1 in
     let rest = told_is caller (next p.1) ps reply held r.0 new l.1 r.2 in
-    let P : Call → Type 0 = λ c. told caller (next (answer_from story c)) (story_after caller story c) ≡ record { reply = reply; held = held; story = new } in
+    let P : Deed → Type 0 = λ d. told caller (next (answer_from story d)) (story_after caller story d) ≡ record { reply = reply; held = held; story = new } in
     subst P l.0 (rw (← step.0, ← step.1) rest)
 
--- the calls of some lines, and those behind them
+-- the pairs of some lines, and those behind them
 Runs-split : (caller : ℕ) (story new : Story) (ps qs : List Pair) → Runs (IsStep caller) story (ps ++ qs) new → (mid : Story) × Runs (IsStep caller) story ps mid × Runs (IsStep caller) mid qs new
 Runs-split caller story new [] qs r = (story, refl, r)
 Runs-split caller story new (p ∷ ps) qs r =

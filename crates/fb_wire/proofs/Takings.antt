@@ -1,10 +1,8 @@
 -- Talks that go on by a line, and pieces of the bytes.
 use Rattle.std.proofs.Math.Seq.{take-add}
 use Rattle.std.proofs.lemmas.List.{take_rest, take-append-drop}
-use Rattle.std.specs.Prelude.{⊤}
 use Rattle.std.proofs.Common.{Bool, true, false, MatchBool, take, drop, ◌-◌, ◌≡◌, ◌+◌, ℕ, List, [], ◌∷◌, ◌++◌, length, Result, Ok, Err, refl, sym, ap, ◌∙◌, subst, append_assoc, append-nil, arith}
-use Rattle.fb_bench.specs.History.Machine.{Call}
-use Rattle.fb_bench.specs.Calls.{Answer}
+use Rattle.fb_bench.specs.Calls.{Answer, Deed}
 use Rattle.fb_wire.specs.Lines.{Fits, lines_of, is_blank, IsLine}
 use Rattle.fb_messages.specs.Requests.{request_of}
 use Rattle.fb_wire.specs.Ends.{Stands, AnsweredEnded, IsNothing}
@@ -47,7 +45,7 @@ line_at : (given partial front behind : List ℕ) (lines : List (List ℕ)) → 
 line_at given partial front behind lines is whole =
     ap (λ xs. lines_of (given ++ xs)) (append_assoc front (10 ∷ []) behind) ∙ after_line given partial front behind lines is whole
 
-module _ {S : Type 0} (Step : S → Call → Answer → S → Type 0) where
+module _ {S : Type 0} (Step : S → Deed → Answer → S → Type 0) where
   -- The run stops at a line of which nothing was asked or said: it is too long, or memory ran out for it.
   stops_at : (start old : S) (given bytes line new_line front : List ℕ) (others : List (List ℕ)) (jobs : Jobs) (held out : List ℕ) (stop : RunEnd) (st : Standing Step start given line jobs out old)
       → lines_of (given ++ bytes) ≡ st.0 ++ (line ++ front) ∷ others → Extends line front (Err stop) new_line

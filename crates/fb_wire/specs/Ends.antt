@@ -24,7 +24,7 @@ AnsweredBefore bytes pairs out =
     (lines more : List (List ℕ)) × (long : List ℕ) × (after : Jobs)
     × (lines_of bytes ≡ lines ++ long ∷ more) × IsTooLong long × Talk lines [] pairs out after
 
--- Some lines were answered whole. Of the next one, which is not too long, some calls were made, and `part` was written.
+-- Some lines were answered whole. Of the next one, which is not too long, some calls or its checkpoint were made, and `part` was written.
 abbrev pub AnsweredPart : (Plan → List ℕ → Type 0) → List ℕ → List Pair → List ℕ → Type 0
 AnsweredPart IsPart bytes pairs out =
     (lines more : List (List ℕ)) × (line : List ℕ) × (first begun : List Pair) × (said part : List ℕ) × (held : Jobs)
@@ -38,7 +38,7 @@ IsFrontOfReply rest part = (reply : Data) × (held : Jobs) × (n : ℕ) × (rest
 abbrev pub IsNothing : Plan → List ℕ → Type 0
 IsNothing rest part = part ≡ []
 
--- what stands at each end, by the bytes that were read, the calls with their answers, and what was written
+-- what stands at each end, by the bytes that were read, the calls and checkpoints with their answers, and what was written
 abbrev pub Stands : RunEnd → List ℕ → List Pair → List ℕ → Type 0
 Stands End bytes pairs out = AnsweredAll bytes pairs out
 Stands ReadFailed bytes pairs out = AnsweredEnded bytes pairs out

@@ -2,15 +2,16 @@
 use Rattle.std.specs.Prelude.{ℕ, codes, true, false, Option, Some, None}
 use Rattle.serde_json.specs.Data.{Data}
 use Rattle.fb_messages.specs.Jobs.Reads.{PlainJob}
+use Rattle.fb_bench.specs.History.Checkpoints.{Checking, KeptUpTo, OverUnits, OverNumbers}
 use Rattle.fb_bench.specs.History.Machine.{Reply, OfCommit, OfTake, OfDeliver, OfGiveBack, OfAsk, Shown, Finds, Waits, Unknown}
-use Rattle.fb_bench.specs.Calls.{Answer, Replied, FullHistory, BehindHistory}
+use Rattle.fb_bench.specs.Calls.{Answer, Replied, FullHistory, BehindHistory, Checked, SharedHistory}
 use Rattle.fb_bench.specs.History.declared.answers.Committed.{Committed}
 use Rattle.fb_bench.specs.History.declared.answers.Committed.TheVariants.{Done, NoChange, TooManyChanges, SameUnitTwice, StaleBase, NoSuchUnit, TooManyUnits}
 use Rattle.fb_bench.specs.History.declared.answers.Delivered.{Delivered}
 use Rattle.fb_bench.specs.History.declared.answers.Delivered.TheVariants.{Accepted, NoSuchKey, NotPending, Stale}
 use Rattle.fb_bench.specs.History.declared.answers.GivenBack.{GivenBack}
 use Rattle.fb_bench.specs.History.declared.answers.GivenBack.TheVariants.{Returned, NothingOut}
-use Rattle.fb_messages.specs.Replies.{refused, refused_unit, committed, refused_base, job_given, no_job, delivered, returned, value_said, pending_said}
+use Rattle.fb_messages.specs.Replies.{refused, refused_unit, committed, refused_base, job_given, no_job, delivered, returned, value_said, pending_said, checkpointed}
 
 abbrev pub commit_said : Committed → Data
 commit_said (Done commit) = committed commit
@@ -48,8 +49,15 @@ reply_said n (OfDeliver answer) = deliver_said answer
 reply_said n (OfGiveBack answer) = give_back_said answer
 reply_said n (OfAsk shown) = ask_said shown
 
+abbrev pub checking_said : Checking → Data
+checking_said (KeptUpTo before) = checkpointed before
+checking_said (OverUnits units) = refused (codes "UnitsOver")
+checking_said OverNumbers = refused (codes "NumbersOver")
+
 -- what is said to an answer; a job gets this number
 abbrev pub said_to : ℕ → Answer → Data
 said_to n (Replied reply) = reply_said n reply
 said_to n FullHistory = refused (codes "HistoryFull")
 said_to n BehindHistory = refused (codes "Behind")
+said_to n (Checked checking) = checking_said checking
+said_to n SharedHistory = refused (codes "NotAlone")

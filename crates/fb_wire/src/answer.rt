@@ -3,16 +3,18 @@ ghost use Rattle.std.specs.Prelude.{◌≡◌, ℕ, Some, option_map, length, ma
 ghost use Rattle.std.specs.Option.{option_copied};
 ghost use Rattle.std.specs.Result.{result_ok};
 ghost use Rattle.fb_text.specs.Name.{name_of};
-ghost use Rattle.fb_bench.specs.Calls.{take_reply, ask_reply};
+ghost use Rattle.fb_bench.specs.Calls.{Keeps, take_reply, ask_reply};
 ghost use Rattle.fb_bench.specs.History.Machine.{ToCommit, ToDeliver, ToGiveBack, ToAsk, OfCommit, OfDeliver, OfGiveBack};
 ghost use Rattle.fb_bench.specs.Records.{listed};
 ghost use Rattle.fb_wire.specs.Said.{said_to};
 ghost use Rattle.fb_messages.specs.RequestView.{change_view, request_view};
-ghost use Rattle.fb_wire.specs.Served.{Served, RoundServed, KeepsTaken, Takes, left_after, answer_in, reply_in};
-ghost use Rattle.fb_wire.specs.Talk.{plan_of, with_name, commit_plan, edits_in, Jobs, Plan, after_deliver, call_once, job_at, take_plan, deliver_plan, work_plan};
+ghost use Rattle.fb_wire.specs.Served.{Served, RoundServed, KeepsTaken, Takes, left_after, answer_in, checked_in, reply_in};
+ghost use Rattle.fb_wire.specs.Talk.{plan_of, with_name, commit_plan, edits_in, Jobs, Plan, after_deliver, call_once, deed_once, job_at, take_plan, deliver_plan, work_plan};
 
 use crate::change::{ChangeFault, changes_of};
-use fb_bench::{Asked, Committed, Delivered, Desk, DeskRefused, GivenBack, Taken};
+use fb_bench::{
+    Asked, Committed, Delivered, Desk, DeskCheckpointRefused, DeskRefused, GivenBack, Limits, Taken,
+};
 use fb_library::Change;
 use fb_messages::jobs::{Finished, Job, Key, Kind};
 use fb_messages::{AskedChange, Refusal, Reply, Request};
@@ -83,6 +85,18 @@ fn shown_reply(asked: Result<Asked, DeskRefused>) -> Result<Reply, AllocError>
     }
 }
 
+fn checkpoint_reply(checked: Result<u64, DeskCheckpointRefused>) -> Result<Reply, AllocError>
+    ensures { option_map (said_to 0) (checked_in checked) ≡ reply_in result }
+{
+    match checked {
+        Ok(before) => Ok(Reply::Checkpointed(before)),
+        Err(DeskCheckpointRefused::UnitsOver(_)) => Ok(Reply::Refused(Refusal::UnitsOver)),
+        Err(DeskCheckpointRefused::NumbersOver) => Ok(Reply::Refused(Refusal::NumbersOver)),
+        Err(DeskCheckpointRefused::NotAlone) => Ok(Reply::Refused(Refusal::NotAlone)),
+        Err(DeskCheckpointRefused::Memory) => Err(AllocError),
+    }
+}
+
 /// Asks for a commit of changes that were read.
 fn answer_changes<D: Desk>(desk: &mut D, changes: &[Change]) -> Result<Reply, AllocError>
     ensures { (held : Jobs)
@@ -123,6 +137,14 @@ fn answer_give_back<D: Desk>(desk: &mut D, key: Key) -> Result<Reply, AllocError
 {
     let given_back = desk.give_back(key);
     give_back_reply(given_back)
+}
+
+fn answer_checkpoint<D: Desk>(desk: &mut D, limits: Limits) -> Result<Reply, AllocError>
+    ensures { (held : Jobs)
+        → Served D.step (deed_once held (Keeps limits)) desk.old result held desk.new }
+{
+    let checked = desk.checkpoint(limits);
+    checkpoint_reply(checked)
 }
 
 fn answer_deliver<D: Desk>(desk: &mut D, finished: &Finished) -> Result<Reply, AllocError>
@@ -327,10 +349,11 @@ fn answer_request<D: Desk>(
         Request::Take => answer_take(desk, held),
         Request::Deliver(number) => answer_number(alloc, desk, held, *number),
         Request::GiveBack { kind, unit } => answer_back_named(desk, *kind, unit),
+        Request::Checkpoint(limits) => answer_checkpoint(desk, *limits),
     }
 }
 
-/// Makes the calls of a request, and gives the reply.
+/// Makes the calls of a request, or its checkpoint, and gives the reply.
 pub(crate) fn answer<D: Desk>(
     alloc: Global,
     desk: &mut D,

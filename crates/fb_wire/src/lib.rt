@@ -25,6 +25,7 @@ pub mod jobs {
 /// Of `fb_bench`, for the crates above.
 pub mod bench {
     pub use fb_bench::{
-        Answered, Asked, Bench, Call, Delivered, Limits, Reply, Request, Shown, Taken, TextChange,
+        Answered, Asked, Bench, Call, CheckpointRefused, Delivered, Limits, Reply, Request, Shown,
+        Start, Taken, TextChange,
     };
 }

@@ -138,10 +138,17 @@ const SCRIPTS: &[(&str, Option<Settings>)] = &[
         }),
     ),
     (
-        "bench61499 script --units=4096",
+        "bench61499 script --units=16384",
         Some(Settings::Script {
-            units: 4096,
+            units: 16_384,
             history: 100_000,
+        }),
+    ),
+    (
+        "bench61499 script --history=10000000",
+        Some(Settings::Script {
+            units: 1024,
+            history: 10_000_000,
         }),
     ),
 ];
@@ -224,8 +231,8 @@ const REFUSED: &[&str] = &[
     "bench61499 scripts",
     "bench61499 --help",
     "bench61499 script --history 0",
-    "bench61499 script --history 1000001",
-    "bench61499 script --units 4097",
+    "bench61499 script --history 10000001",
+    "bench61499 script --units 16385",
     "bench61499 script --units x",
     "bench61499 script --units",
     "bench61499 script --unit 5",
@@ -239,8 +246,8 @@ const REFUSED: &[&str] = &[
     "bench61499 serve --port 0 --workers 17",
     "bench61499 serve --port 0 --sessions 0",
     "bench61499 serve --port 0 --sessions 65",
-    "bench61499 serve --port 0 --units 4097",
-    "bench61499 serve --port 0 --history 1000001",
+    "bench61499 serve --port 0 --units 16385",
+    "bench61499 serve --port 0 --history 10000001",
     "bench61499 serve --port 0 --help",
 ];
 

@@ -32,6 +32,18 @@ const SECOND: &str =
 const BOTH_TOLD: &str = "{\"commit\":1}\n{\"refused\":\"NoSuchKey\"}\n\
     {\"current\":1,\"refused\":\"StaleBase\",\"unit\":\"A\"}\n{\"commit\":2}\n{\"refused\":\"NoSuchKey\"}\n";
 
+// A session is not alone at its workbench, also where there is no other one. A request out of range is none.
+const KEEPING: &str =
+    r#"{"op":"commit","changes":[{"put":"A","base":0,"text":"FUNCTION_BLOCK A END_FUNCTION_BLOCK"}]}
+{"op":"checkpoint","units":1,"history":9}
+{"op":"checkpoint","units":1,"history":0}
+{"op":"ask","kind":"net","unit":"A"}
+"#;
+
+const KEEPING_TOLD: &str =
+    "{\"commit\":1}\n{\"refused\":\"NotAlone\"}\n{\"refused\":\"BadRequest\"}\n\
+    {\"refused\":\"NoSuchKey\"}\n";
+
 /// What a server printed, what it said on its errors, and its status.
 #[derive(Drop)]
 struct Served {
@@ -210,6 +222,23 @@ fn two_sessions(rt: HostRuntime) -> Result<(), Fail> {
     };
     let wanted = Wanted {
         told: BOTH_TOLD,
+        printed: "closed\n",
+        errors: "",
+        status: 0,
+    };
+    compare(&rt, rt.alloc(), &play, &wanted)
+}
+
+#[test]
+fn a_session_makes_no_checkpoint(rt: HostRuntime) -> Result<(), Fail> {
+    let play = Play {
+        workers: 1,
+        sessions: 1,
+        good_writes: ALWAYS,
+        texts: &[KEEPING],
+    };
+    let wanted = Wanted {
+        told: KEEPING_TOLD,
         printed: "closed\n",
         errors: "",
         status: 0,

@@ -1,8 +1,8 @@
 //! The receipts of calls, with the lock and without, and calls that are refused.
 use crate::play::{
-    Counts, Played, are_played, are_same, closed, counts_in, played_locked, played_shared,
+    Played, are_played, are_same, closed, closed_locked, played_locked, played_shared,
 };
-use crate::setup::{faults_of, new_shared, pair};
+use crate::setup::{faults_of, new_shared};
 use fb_shared::{Locked, Receipt, Seat, Shared, SharedRefused};
 use std::alloc::Global;
 use std::sync::Wait;
@@ -21,18 +21,6 @@ fn receipts_of_a_conversation(rt: HostRuntime) -> Result<(), Fail> {
     let counts = closed(rt.alloc(), owner, first, second, &receipts);
     assert_eq!(rt; counts, Some((6, 1, 5)));
     Ok(())
-}
-
-// closes a workbench with no lock
-fn closed_locked(
-    alloc: Global,
-    owner: Locked,
-    first: Seat,
-    second: Seat,
-    receipts: &[Receipt],
-) -> Option<Counts> {
-    let seats = pair(alloc, first, second)?;
-    counts_in(owner.close(alloc, seats, receipts))
 }
 
 // whether the receipts are those of a conversation with the lock, and the second caller has five

@@ -2,7 +2,9 @@
 use crate::play::{Played, closed, played_shared};
 use crate::setup::{faults_of, new_shared, puts};
 use fb_jobs::Finished;
-use fb_shared::bench::{Asked, Committed, Delivered, Desk, DeskRefused, GivenBack, Taken};
+use fb_shared::bench::{
+    Asked, Committed, Delivered, Desk, DeskCheckpointRefused, DeskRefused, GivenBack, Limits, Taken,
+};
 use fb_shared::{Receipt, Seat, Seated, Shared};
 use std::alloc::Global;
 use std::sync::Wait;
@@ -149,5 +151,23 @@ fn calls_that_a_desk_refuses(rt: HostRuntime) -> Result<(), Fail> {
     let full = (DeskRefused::HistoryFull, true);
     let behind = (DeskRefused::Behind, true);
     assert_eq!(rt; refusals, Some((full, (behind, behind))));
+    Ok(())
+}
+
+#[test]
+fn a_desk_over_a_lock_makes_no_checkpoint(rt: HostRuntime) -> Result<(), Fail> {
+    let alloc: Global = rt.alloc();
+    let limits = Limits::new(4, 5).ok_or("limits")?;
+    let (shared, seat, _second) = new_shared(alloc, 5).ok_or("a workbench")?;
+    let mut desk = Seated {
+        rt: &rt,
+        shared: &shared,
+        seat,
+        receipts: Vec::new(alloc),
+    };
+    let refused = desk.checkpoint(limits).err();
+    let has_no_receipt = desk.receipts.is_empty() && desk.seat.turns() == 0;
+    assert_eq!(rt; refused, Some(DeskCheckpointRefused::NotAlone));
+    assert!(rt; has_no_receipt);
     Ok(())
 }

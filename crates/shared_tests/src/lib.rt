@@ -1,4 +1,4 @@
-//! Tests of a workbench that is shared: its calls and their receipts, what closes it, its workers, and threads that use it.
+//! Tests of a workbench that is shared: its calls and their receipts, what closes it, how it is resumed, its workers, and threads that use it.
 #![tactic(auto)]
 
 #[cfg(test)]
@@ -11,6 +11,8 @@ mod desks;
 mod gates;
 #[cfg(test)]
 mod play;
+#[cfg(test)]
+mod resumed;
 #[cfg(test)]
 mod setup;
 #[cfg(test)]

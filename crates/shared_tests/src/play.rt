@@ -296,3 +296,15 @@ pub(crate) fn closed(
     let seats = pair(alloc, first, second)?;
     counts_in(owner.close(alloc, seats, receipts))
 }
+
+/// Closes a workbench with no lock.
+pub(crate) fn closed_locked(
+    alloc: Global,
+    owner: Locked,
+    first: Seat,
+    second: Seat,
+    receipts: &[Receipt],
+) -> Option<Counts> {
+    let seats = pair(alloc, first, second)?;
+    counts_in(owner.close(alloc, seats, receipts))
+}

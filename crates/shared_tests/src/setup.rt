@@ -29,19 +29,25 @@ pub(crate) fn puts(alloc: Global, units: &[&str]) -> Option<Vec<Change>> {
     Some(changes)
 }
 
-/// A shared workbench with room for so many records, and the seats of its two callers.
-pub(crate) fn new_shared(alloc: Global, history: u64) -> Option<(Shared, Seat, Seat)> {
-    let (shared, mut seats) = Shared::new(alloc, Limits::new(4, history)?, 2).ok()?;
+/// The seats of two callers, which are the last ones.
+pub(crate) fn both_of(seats: Vec<Seat>) -> Option<(Seat, Seat)> {
+    let mut seats = seats;
     let second = seats.pop()?;
     let first = seats.pop()?;
+    Some((first, second))
+}
+
+/// A shared workbench with room for so many records, and the seats of its two callers.
+pub(crate) fn new_shared(alloc: Global, history: u64) -> Option<(Shared, Seat, Seat)> {
+    let (shared, seats) = Shared::new(alloc, Limits::new(4, history)?, 2).ok()?;
+    let (first, second) = both_of(seats)?;
     Some((shared, first, second))
 }
 
 /// The same with no lock.
 pub(crate) fn new_locked(alloc: Global, history: u64) -> Option<(Locked, Seat, Seat)> {
-    let (locked, mut seats) = Locked::new(alloc, Limits::new(4, history)?, 2).ok()?;
-    let second = seats.pop()?;
-    let first = seats.pop()?;
+    let (locked, seats) = Locked::new(alloc, Limits::new(4, history)?, 2).ok()?;
+    let (first, second) = both_of(seats)?;
     Some((locked, first, second))
 }
 

@@ -1,6 +1,7 @@
-use Rattle.std.proofs.Common.{[]}
-use Rattle.fb_locked.specs.Closing.{IsLeast, is_missing}
+use Rattle.std.proofs.Common.{◌&&◌, not}
+use Rattle.fb_locked.specs.Book.{is_first}
+use Rattle.fb_locked.specs.Closing.{has_seat, IsLeast}
 use Rattle.fb_locked.proofs.callers.missing_first.Given as goal
 
 abbrev pub invariant-loop-index : goal.invariant-loop-index
-invariant-loop-index l = IsLeast (is_missing l.index [] l.seats) l.least
+invariant-loop-index l = IsLeast (λ q. is_first l.index q && not (has_seat l.seats q)) l.least

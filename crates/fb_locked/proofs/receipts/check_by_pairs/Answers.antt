@@ -9,7 +9,7 @@ returns-then-is_among c =
     let i = c.loop-place.place in
     let rs = c.args.receipts.now in
     let r = c.index-receipts-place.result in
-    let right : IsReceiptRight c.args.bench.now.log.records r = c.is_record.ensures.0 c.if-not-is_record.false in
+    let right : IsReceiptRight c.args.bench.now r = c.is_record.ensures.0 c.if-not-is_record.false in
     let some : 1 ≤ times c.number-number.result (take i rs) = some_times c.number-number.result (take i rs) (sym c.is_among.ensures ∙ c.if-is_among.true) in (
       i,
       (
@@ -24,7 +24,7 @@ loop-place-preserved c =
     let i = c.loop-place.place in
     let rs = c.args.receipts.now in
     let r = c.index-receipts-place.result in
-    let right : IsReceiptRight c.args.bench.now.log.records r = c.is_record.ensures.0 c.if-not-is_record.false in
+    let right : IsReceiptRight c.args.bench.now r = c.is_record.ensures.0 c.if-not-is_record.false in
     let none : times c.number-number.result (take i rs) ≡ 0 = none_times c.number-number.result (take i rs) (sym c.is_among.ensures ∙ c.if-is_among.false) in
     let new : times r.number (take i rs) ≡ 0 = subst (λ (n : ℕ). times n (take i rs) ≡ 0) c.number-number.ensures none in
-    right_more c.args.bench.now.log.records rs i r c.loop-place-test.true c.index-receipts-place.is c.loop-place.invariant right new
+    right_more c.args.bench.now rs i r c.loop-place-test.true c.index-receipts-place.is c.loop-place.invariant right new

@@ -9,6 +9,6 @@ returns-in-Ok-clause-all c =
     let closed = c.in-Ok.ensures.closed in
     let seats = c.args.gathered.seats.items in
     let receipts = c.args.gathered.receipts.items in
-    let records = c.in-Ok.closed.bench.log.records in
-    let agrees = subst (λ (l : List Claim). AgreesWith c.args.shared.callers records seats l) c.deref.ensures.value closed.0 in
-    all_shown c.args.shared.callers records seats receipts agrees c.args.gathered.shown
+    let story = c.in-Ok.closed.bench in
+    let agrees = subst (λ (l : List Claim). AgreesWith c.args.shared.callers story seats l) c.deref.ensures.value closed.0 in
+    all_shown c.args.shared.callers story seats receipts agrees c.args.gathered.shown

@@ -10,3 +10,6 @@ returns-in-Ask g c = rw c.in-Ask.is (c.answer_ask_named.ensures c.args.held.now.
 
 pub returns-in-GiveBack : goal.returns-in-GiveBack
 returns-in-GiveBack g c = rw c.in-GiveBack.is (c.answer_back_named.ensures c.args.held.now.items)
+
+pub returns-in-Checkpoint : goal.returns-in-Checkpoint
+returns-in-Checkpoint g c = rw c.in-Checkpoint.is (c.answer_checkpoint.ensures c.args.held.now.items)

@@ -1,4 +1,3 @@
-use Rattle.fb_wire.proofs.Replied.{reply_said, reply_cut, none_said}
 use Rattle.fb_wire.proofs.Talks.{blank_said}
 use Rattle.fb_wire.proofs.line.say_line.Goals as goal
 

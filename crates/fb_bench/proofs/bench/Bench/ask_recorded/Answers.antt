@@ -1,7 +1,7 @@
 -- The question is recorded with the machine's answer, and nothing else changes.
 use Rattle.std.proofs.Common.{◌≡◌, sym, ap, subst, ◌∙◌, arith}
 use Rattle.fb_history.specs.Machine.{ToAsk, OfAsk, reply, shown}
-use Rattle.fb_history.specs.Story.{Story, state_of, start}
+use Rattle.fb_history.specs.Story.{Story, logged, record_after, state_of}
 use Rattle.fb_bench.specs.Records.{shown_in}
 use Rattle.fb_bench.specs.Kept.{Agrees}
 use Rattle.fb_bench.proofs.Keeping.{kept_pushed}
@@ -10,23 +10,23 @@ use Rattle.fb_bench.proofs.bench.Bench.ask_recorded.Goals as goal
 
 pub invariant_of-self-2 : goal.invariant_of-self-2
 invariant_of-self-2 c =
-    let story : Story = record { origin = start c.self.inside.most_units; log = c.self.inside.history } in
+    let story : Story = c.self.inside.history in
     let answer : OfAsk (shown_in c.in_ok-answer.stored) ≡ reply (state_of story) (ToAsk c.args.key) = ap OfAsk (c.in_ok-answer.ensures.stored ∙ ap (λ st. shown (state_of st) c.args.key) (sym c.self.view_is)) ∙ sym (reply_ask _ _) in
-    kept_pushed _ _ _ _ _ story _ c.args.caller (ToAsk c.args.key) _ c.self.invariant.begins c.in_ok-share.ensures.ok answer
+    kept_pushed _ _ _ _ _ story _ c.args.caller (ToAsk c.args.key) _ c.self.invariant.begins (c.in_ok-share.ensures.ok ∙ ap (λ k. logged story c.args.caller (ToAsk k) (OfAsk (shown_in c.in_ok-answer.stored))) c.in_ok-answer.ensures.key) answer
     (subst (λ s. Agrees c.self.inside.library c.self.inside.commits c.self.inside.entries.by_key c.self.inside.entries.ready s) (sym (after_ask (state_of story) c.args.key)) c.self.invariant.agrees)
     c.self.invariant.replayed c.self.invariant.indexed (omega (arith, c.self.invariant.few))
 
 pub returns-clause-step : goal.returns-clause-step
 returns-clause-step c =
-    let story : Story = record { origin = start c.self.inside.most_units; log = c.self.inside.history } in
+    let story : Story = c.self.inside.history in
     let answer : OfAsk (shown_in c.in_ok-answer.stored) ≡ reply (state_of story) (ToAsk c.args.key) = ap OfAsk (c.in_ok-answer.ensures.stored ∙ ap (λ st. shown (state_of st) c.args.key) (sym c.self.view_is)) ∙ sym (reply_ask _ _) in
-    story_pushed story _ _ c.args.caller (ToAsk c.args.key) _ c.self.view_is c.in_ok-share.ensures.ok answer
+    story_pushed story _ _ c.args.caller (ToAsk c.args.key) _ c.self.view_is (c.in_ok-share.ensures.ok ∙ ap (λ k. logged story c.args.caller (ToAsk k) (OfAsk (shown_in c.in_ok-answer.stored))) c.in_ok-answer.ensures.key) answer
 
 pub returns-clause-answer : goal.returns-clause-answer
 returns-clause-answer c = ap OfAsk c.in_ok-answer.ensures.answer ∙ sym (reply_ask _ _)
 
 pub returns-clause-share : goal.returns-clause-share
 returns-clause-share c =
-    let story : Story = record { origin = start c.self.inside.most_units; log = c.self.inside.history } in
+    let story : Story = c.self.inside.history in
     let answer : OfAsk (shown_in c.in_ok-answer.stored) ≡ reply (state_of story) (ToAsk c.args.key) = ap OfAsk (c.in_ok-answer.ensures.stored ∙ ap (λ st. shown (state_of st) c.args.key) (sym c.self.view_is)) ∙ sym (reply_ask _ _) in
-    share_pushed story _ _ c.args.caller (ToAsk c.args.key) _ c.self.view_is c.in_ok-share.ensures.share answer
+    share_pushed story _ _ c.args.caller (ToAsk c.args.key) _ c.self.view_is (c.in_ok-share.ensures.share ∙ ap (λ k. record_after story c.args.caller (ToAsk k) (OfAsk (shown_in c.in_ok-answer.stored))) c.in_ok-answer.ensures.key) answer

@@ -1,7 +1,8 @@
 -- A key that has a value is no longer out.
 use Rattle.std.proofs.Common.{◌≡◌, true, false, sym, ap, subst, ◌∙◌, arith}
-use Rattle.fb_history.specs.Machine.{State, ToGiveBack}
-use Rattle.fb_history.specs.Story.{Story, state_of, start}
+use Rattle.fb_history.specs.Machine.{State, ToGiveBack, OfGiveBack}
+use Rattle.fb_history.specs.declared.answers.GivenBack.TheVariants.{Returned}
+use Rattle.fb_history.specs.Story.{Story, logged, record_after, state_of}
 use Rattle.fb_bench.specs.Kept.{Agrees}
 use Rattle.fb_bench.proofs.Marks.{agrees_return_kept}
 use Rattle.fb_bench.proofs.Keeping.{kept_pushed}
@@ -10,24 +11,24 @@ use Rattle.fb_bench.proofs.bench.Bench.clear_out.Goals as goal
 
 pub invariant_of-self-2 : goal.invariant_of-self-2
 invariant_of-self-2 c =
-    let story : Story = record { origin = start c.self.inside.most_units; log = c.self.inside.history } in
+    let story : Story = c.self.inside.history in
     let s : State = state_of story in
     let key = c.args.key.now in
     let out : s.out key ≡ true = ap (λ st. (state_of st).out key) c.self.view_is ∙ c.requires.out in
     let kept : s.pending key ≡ false = ap (λ st. (state_of st).pending key) c.self.view_is ∙ c.requires.kept in
-    kept_pushed _ _ _ _ _ story _ c.args.caller (ToGiveBack key) _ c.self.invariant.begins c.in_ok-share.ensures.ok (out_returned s key out)
+    kept_pushed _ _ _ _ _ story _ c.args.caller (ToGiveBack key) _ c.self.invariant.begins (c.in_ok-share.ensures.ok ∙ ap (λ it. logged story c.args.caller it (OfGiveBack Returned)) c.in_ok-call.ensures) (out_returned s key out)
     (subst (λ t. Agrees c.self.inside.library c.self.inside.commits c.mark_out.new.entries c.self.inside.entries.ready t) (sym (after_returned s key out))
     (agrees_return_kept _ _ c.self.inside.entries.by_key _ _ s key c.self.invariant.agrees kept c.mark_out.ensures))
     c.self.invariant.replayed c.self.invariant.indexed (omega (arith, c.self.invariant.few))
 
 pub returns : goal.returns
 returns c =
-    let story : Story = record { origin = start c.self.inside.most_units; log = c.self.inside.history } in
+    let story : Story = c.self.inside.history in
     let s : State = state_of story in
     let key = c.args.key.now in
     let out : s.out key ≡ true = ap (λ st. (state_of st).out key) c.self.view_is ∙ c.requires.out in
     record {
-      step = story_pushed story _ _ c.args.caller (ToGiveBack key) _ c.self.view_is c.in_ok-share.ensures.ok (out_returned s key out);
-      share = share_pushed story _ _ c.args.caller (ToGiveBack key) _ c.self.view_is c.in_ok-share.ensures.share (out_returned s key out);
+      step = story_pushed story _ _ c.args.caller (ToGiveBack key) _ c.self.view_is (c.in_ok-share.ensures.ok ∙ ap (λ it. logged story c.args.caller it (OfGiveBack Returned)) c.in_ok-call.ensures) (out_returned s key out);
+      share = share_pushed story _ _ c.args.caller (ToGiveBack key) _ c.self.view_is (c.in_ok-share.ensures.share ∙ ap (λ it. record_after story c.args.caller it (OfGiveBack Returned)) c.in_ok-call.ensures) (out_returned s key out);
       err = tt;
     }

@@ -6,5 +6,5 @@ use Rattle.fb_locked.proofs.locked.Locked.close_for.Goals as goal
 pub returns-in-Err-clause-fault : goal.returns-in-Err-clause-fault
 returns-in-Err-clause-fault c =
     rw (← c.self.view_is) (
-    subst (λ (l : List SeatState). IsFirstFault c.args.callers c.self.inside.bench.log.records l c.args.receipts.now c.in-Err.fault) c.deref.ensures.value c.in-Err.ensures
+    subst (λ (l : List SeatState). IsFirstFault c.args.callers c.self.inside.bench l c.args.receipts.now c.in-Err.fault) c.deref.ensures.value c.in-Err.ensures
     )

@@ -1,0 +1,12 @@
+//! What a request of a checkpoint may ask for.
+ghost use Rattle.std.specs.Prelude.{ℕ};
+ghost use Rattle.std.specs.Option.{SomeIff};
+ghost use Rattle.fb_history.specs.Limits.{AreLimits};
+ghost use Rattle.fb_messages.specs.Requests.{limits_of};
+
+/// Two numbers are the limits of a checkpoint exactly where a workbench may have these limits.
+pub fn limits_are_read()
+    ensures { (units history : ℕ)
+        → SomeIff (limits_of units history) (AreLimits units history)
+        (record { units = units; history = history }) }
+{}
