@@ -6,4 +6,6 @@ mod full;
 #[cfg(test)]
 mod refused;
 #[cfg(test)]
+mod resumed;
+#[cfg(test)]
 mod setup;

@@ -91,7 +91,7 @@ fn say_receipts(told: &mut String, receipts: &[Receipt]) -> Result<(), AllocErro
     Ok(())
 }
 
-fn say_seat(told: &mut String, seat: &Seat) -> Result<(), AllocError> {
+pub(crate) fn say_seat(told: &mut String, seat: &Seat) -> Result<(), AllocError> {
     write!(
         told,
         "\nseat {}: {} of {}",

@@ -1,9 +1,9 @@
 //! Keys, changes, workbenches and seats for the tests, and a conversation of two callers: the first commits A, and the second asks for its faults.
 use fb_jobs::{Key, Kind};
-use fb_shared::bench::{Limits, Reply};
+use fb_shared::bench::{Bench, Limits, Reply};
 use fb_shared::library::Change;
 use fb_shared::parse::Source;
-use fb_shared::{Locked, Receipt, Seat, Shared};
+use fb_shared::{Closed, Locked, Receipt, Seat, Shared};
 use fb_text::Name;
 use std::alloc::Global;
 use std::sync::Wait;
@@ -99,6 +99,24 @@ pub(crate) fn played_locked(alloc: Global) -> Option<Played<Locked>> {
         second,
         receipts,
     })
+}
+
+/// The workbench of the conversation, closed.
+pub(crate) fn closed_bench(alloc: Global) -> Option<Bench> {
+    let Played {
+        owner,
+        first,
+        second,
+        receipts,
+    } = played_locked(alloc)?;
+    let seats = pair(alloc, first, second)?;
+    match owner.close(alloc, seats, &receipts) {
+        Ok(closed) => {
+            let Closed { bench, counts: _ } = closed;
+            Some(bench)
+        }
+        Err(_) => None,
+    }
 }
 
 /// Whether a result was taken in.

@@ -12,7 +12,7 @@ use std::io::Print;
 use std::test::Fail;
 
 // Subapplications in one another. All is known but the net of the outermost one, which is made of the inner one's.
-const NEST: &str = r#"
+pub(crate) const NEST: &str = r#"
 > {"op":"commit","changes":[{"put":"T","base":0,"text":"FUNCTION_BLOCK T EVENT_INPUT I; END_EVENT END_FUNCTION_BLOCK"},{"put":"INNER","base":0,"text":"SUBAPPLICATION INNER EVENT_INPUT E; END_EVENT FBS X:T; END_FBS EVENT_CONNECTIONS E TO X.I; END_CONNECTIONS END_SUBAPPLICATION"},{"put":"OUTER","base":0,"text":"SUBAPPLICATION OUTER SUBAPPS Y:INNER; END_SUBAPPS END_SUBAPPLICATION"}]}
 < {"commit":1}
 > {"op":"work","turns":4}
@@ -170,7 +170,7 @@ fn say_reply(told: &mut String, reply: &Reply) -> Result<(), AllocError> {
 
 fn say_records(told: &mut String, bench: &Bench) -> Result<(), AllocError> {
     for number in 0..bench.len() as u64 {
-        if let Some(record) = bench.record(number + 1) {
+        if let Some(record) = bench.record(bench.before() + number + 1) {
             write!(told, "\n{}.{}", record.caller(), record.turn())?;
             say_call(told, record.call())?;
             say_reply(told, record.reply())?;
