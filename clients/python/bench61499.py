@@ -21,7 +21,7 @@ import socket
 import subprocess
 import time
 from bisect import bisect_right
-from collections.abc import Callable, Iterable, Iterator
+from collections.abc import Callable, Iterable, Iterator, Mapping
 from dataclasses import dataclass
 from os import PathLike, fspath
 from typing import Any, BinaryIO, Literal, TypeVar, cast
@@ -432,6 +432,10 @@ class _Connection:
             raise ConnectionEnded(f"the connection to {self._address} ended: {error.strerror or error}") from error
 
     def close(self) -> None:
+        try:
+            self._socket.shutdown(socket.SHUT_RDWR)  # It wakes a thread that waits for a reply.
+        except OSError:
+            pass  # The other side has hung up.
         self._reader.close()
         self._socket.close()
 
@@ -539,6 +543,32 @@ class Session:
             return 0
         raise AssertionError("a removal of a revision that no unit has was not refused")
 
+    def changed(self, known: Mapping[str, int]) -> dict[str, int]:
+        """The present revisions of those of these units that are not as `known` says; 0 is for a unit that is not there.
+
+        As `revision`, for many units at once: one recorded call for each 16 of them, and one more for each that has changed.
+        """
+        found: dict[str, int] = {}
+        units = list(known)
+        for at in range(0, len(units), CHANGES_LIMIT):
+            self._find_changed({unit: known[unit] for unit in units[at : at + CHANGES_LIMIT]}, found)
+        return found
+
+    def _find_changed(self, known: dict[str, int], found: dict[str, int]) -> None:
+        """Of at most 16 units. The last change of the commit is refused whatever is there, so that none is ever made."""
+        *front, last = known
+        while True:
+            known.update((unit, found[unit]) for unit in front if unit in found)
+            changes = [Remove(unit, known[unit]) if known[unit] else Put(unit, 0, "") for unit in front]
+            try:
+                self.commit([*changes, Remove(last, _NO_REVISION)])
+            except (StaleBase, NoSuchUnit) as refusal:
+                unit, current = refusal.unit, refusal.current if isinstance(refusal, StaleBase) else 0
+                if current != known[unit]:
+                    found[unit] = current
+                if unit == last:
+                    return
+
     def ask(self, kind: Kind, unit: str) -> Any:
         """What `faults`, `net` or `deploy` give. Raises `NoSuchKey`."""
         read = _READERS[kind]
@@ -645,6 +675,8 @@ class Places:
         ends = [(it.start(), it.end()) for it in self._LINE_END.finditer(self.encoded)]
         self._starts = [0, *(end for _, end in ends)]
         self._ends = [*(start for start, _ in ends), len(self.encoded)]
+        self.is_plain = self.encoded.isascii()
+        """Whether each character is one byte."""
 
     def line_count(self) -> int:
         """The number of lines; a text that ends with a line end has an empty last one."""
@@ -661,8 +693,9 @@ class Places:
         if not 0 <= place <= len(self.encoded):
             raise ValueError(f"no byte {place} in a text of {len(self.encoded)}")
         line = bisect_right(self._starts, place)
-        before = self.encoded[self._starts[line - 1] : place]
-        return line, len(before.decode(errors="ignore")) + 1
+        start = self._starts[line - 1]
+        before = place - start if self.is_plain else len(self.encoded[start:place].decode(errors="ignore"))
+        return line, before + 1
 
     def place(self, line: int, column: int) -> int:
         """The place of a line and a column; the column behind the last character is one too. Raises `ValueError` for others."""

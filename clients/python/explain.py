@@ -4,9 +4,13 @@ from __future__ import annotations
 from bisect import bisect_left
 from collections.abc import Iterable, Iterator
 from difflib import get_close_matches
+from functools import cached_property
+from heapq import nlargest
 
 from bench61499 import NAME_LIMIT, Fault
-from tokens import RESERVED, Token, declarations, tokens
+from declarations import Unit
+from reader import read
+from tokens import RESERVED, Token, spelled, tokens
 
 _SECTIONS = frozenset(
     """EVENT_INPUT EVENT_OUTPUT VAR VAR_INPUT VAR_OUTPUT PLUGS SOCKETS FBS SUBAPPS EVENT_CONNECTIONS DATA_CONNECTIONS ADAPTER_CONNECTIONS
@@ -28,6 +32,8 @@ _PORTS = {
 }
 _COMPARISONS = frozenset(["=", "<>", "<", ">", "<=", ">="])
 _LONGEST = 60
+_COMPARED = 100
+"""Names that are compared in full with a wrong one."""
 
 
 class Names:
@@ -44,20 +50,31 @@ class Names:
     def near(self, words: str) -> str | None:
         """The nearest name, as it is written, if any is near."""
         if words not in self._known and len(self._known) < 50:
-            near = get_close_matches(words.upper(), self._names, 1, self._nearness)
+            near = get_close_matches(words.upper(), self._alike(words.upper()), 1, self._nearness)
             self._known[words] = self._names[near[0]] if near else None
         return self._known.get(words)
+
+    def _alike(self, words: str) -> Iterable[str]:
+        """All names where they are few; of many those that begin and end most like the words, as the full comparison takes long."""
+        if len(self._names) <= _COMPARED:
+            return self._names
+        return nlargest(_COMPARED, self._names, key=lambda name: _common(words, name) + _common(words[::-1], name[::-1]))
 
 
 class Explainer:
     """Explains the faults of one text. `units` are the names, in upper case, of the units that are known to be in the workbench."""
 
     def __init__(self, text: str, units: Names = Names()):
+        self._text = text
         self._tokens = list(tokens(text))
         self._starts = [token.start for token in self._tokens]
         self._sections = list(_sections(self._tokens))
         self._units = units
         self._declared: dict[tuple[str, ...], Names] = {}
+
+    @cached_property
+    def _unit(self) -> Unit:
+        return read(self._text)
 
     def span(self, fault: Fault) -> tuple[int, int]:
         """Where to show a fault: its place, or the last token where its place is the bare end of the text."""
@@ -99,7 +116,7 @@ class Explainer:
     def _names(self, *sections: str) -> Names:
         """The names that are declared in these sections."""
         if sections not in self._declared:
-            names = (name.words for name, section in declarations(self._tokens) if section in sections)
+            names = (it.words for it in self._unit.declared if it.section in sections)
             self._declared[sections] = Names(names, nearness=0.6)
         return self._declared[sections]
 
@@ -108,13 +125,8 @@ class Explainer:
         return _asked(self._names(*sections).near(words))
 
     def _spelled(self, begin: int, end: int) -> str:
-        """Tokens as they are written, without comments, on one line, and without blanks round a point."""
-        spelled = ""
-        for index in range(begin, end):
-            token, before = self._tokens[index], self._tokens[index - 1]
-            apart = index > begin and before.end < token.start and "." not in (token.words, before.words)
-            spelled += " " * apart + token.words
-        return _one_line(spelled)
+        """Tokens in one line of their own."""
+        return _one_line(spelled(self._tokens[begin:end]))
 
     def _is_guard(self, at: int) -> bool:
         """Whether the guard of a transition begins at `at`, behind `[`, `&` or `AND`, and not a subscript in one."""
@@ -300,6 +312,11 @@ def _one_line(words: str) -> str:
     """Words in a line of their own: cut where they are many, and what can't be seen by its number."""
     joined = "".join(it if it.isprintable() else f"U+{ord(it):04X}" for it in " ".join(words.split()))
     return joined if len(joined) <= _LONGEST else f"{joined[:_LONGEST]}…"
+
+
+def _common(one: str, other: str) -> int:
+    """How many characters two words have in common from their first on."""
+    return next((at for at, (left, right) in enumerate(zip(one, other)) if left != right), min(len(one), len(other)))
 
 
 def _listed(words: tuple[str, ...]) -> str:

@@ -11,17 +11,18 @@ INVALID_REQUEST = -32600
 METHOD_NOT_FOUND = -32601
 INVALID_PARAMS = -32602
 NOT_INITIALIZED = -32002
+REQUEST_FAILED = -32803
+
+ERROR, WARNING = 1, 2
+"""How bad it is what is told or shown."""
 
 
 class BadMessage(Exception):
     """A message that is no JSON object."""
 
 
-def read_message(stream: BinaryIO) -> Message | None:
-    """The next message; None at the end of the stream, or where what comes has no length and nothing more can be read.
-
-    Raises `BadMessage`, after which the next message can be read.
-    """
+def read_content(stream: BinaryIO) -> bytes | None:
+    """The bytes of the next message; None at the end of the stream, or where what comes has no length and nothing more can be read."""
     length = None
     while (header := stream.readline().strip()) or length is None:
         name, colon, value = header.partition(b":")
@@ -30,7 +31,13 @@ def read_message(stream: BinaryIO) -> Message | None:
         if name.strip().lower() == b"content-length" and value.strip().isdigit():
             length = int(value)
     content = stream.read(length)
-    if len(content) < length:
+    return content if len(content) == length else None
+
+
+def read_message(stream: BinaryIO) -> Message | None:
+    """The next message; None where there is none any more. Raises `BadMessage`, after which the next message can be read."""
+    content = read_content(stream)
+    if content is None:
         return None
     try:
         message = json.loads(content)
@@ -42,6 +49,17 @@ def read_message(stream: BinaryIO) -> Message | None:
 
 
 def write_message(stream: BinaryIO, message: Message) -> None:
-    content = json.dumps({"jsonrpc": "2.0", **message}, ensure_ascii=False, separators=(",", ":")).encode(errors="replace")
+    words = json.dumps({"jsonrpc": "2.0", **message}, ensure_ascii=False, check_circular=False, separators=(",", ":"))
+    content = words.encode(errors="replace")
     stream.write(b"Content-Length: %d\r\n\r\n%b" % (len(content), content))
     stream.flush()
+
+
+def tell(severity: int, words: str) -> Message:
+    """The message that an editor shows to its user."""
+    return {"method": "window/showMessage", "params": {"type": severity, "message": f"bench61499: {words}"}}
+
+
+def failure(code: int, message: str) -> Message:
+    """The part of an answer that tells why there is none."""
+    return {"error": {"code": code, "message": message}}

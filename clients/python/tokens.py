@@ -2,20 +2,24 @@
 from __future__ import annotations
 
 import re
-from collections.abc import Iterable, Iterator
-from dataclasses import dataclass
+from collections.abc import Iterator, Sequence
+from typing import NamedTuple
+
+from bench61499 import NAME_LIMIT
 
 _TOKEN = re.compile(
-    rb"""(?P<blank> [ \t\r\n]+ | //[^\n]* | \(\* .*? \*\) )
+    rb"""[ \t\r\n]*+ (?:
+         (?P<comment> //[^\n]* | \(\* .*? \*\) )
        | (?P<unclosed> \(\* .* )
        | (?P<typed> (?i: D|DATE|TOD|TIME_OF_DAY|DT|DATE_AND_TIME ) \# [+-]? (?: [\w\#] | [.:-](?=\d) )+
                   | (?i: L?REAL ) \# [+-]? (?: [\w\#] | \.(?=\d) | (?<=[Ee])[+-](?=\d) )+
                   | [A-Za-z_]\w* \# [+-]? (?: [\w\#] | \.(?=\d) )+ )
        | (?P<word> [A-Za-z_]\w* )
        | (?P<number> \d[\d_]* (?: \#\w+ | \.\d+ (?: [Ee][+-]?\d+ )? )? )
-       | (?P<string> '(?: [^'$\r\n] | \$[^\r\n] )*' | "(?: [^"$\r\n] | \$[^\r\n] )*" )
+       | (?P<string> '(?: [^'$\r\n]++ | \$[^\r\n] )*+' | "(?: [^"$\r\n]++ | \$[^\r\n] )*+" )
        | (?P<symbol> := | <= | >= | <> | \*\* | -> | \.\. | [;:,.()\[\]=<>+\-*/&] )
-       | (?P<other> . [\x80-\xbf]* )""",
+       | (?P<other> . [\x80-\xbf]* )
+       | \Z )""",
     re.VERBOSE | re.DOTALL,
 )
 
@@ -27,13 +31,10 @@ RESERVED = frozenset(
     WITH TO ARRAY OF IF THEN ELSIF ELSE END_IF CASE END_CASE FOR BY DO END_FOR WHILE END_WHILE REPEAT UNTIL END_REPEAT EXIT RETURN
     AND OR XOR NOT MOD TRUE FALSE""".split()
 )
-PORT_SECTIONS = frozenset(["EVENT_INPUT", "EVENT_OUTPUT", "VAR_INPUT", "VAR_OUTPUT", "PLUGS", "SOCKETS"])
-DECLARING = PORT_SECTIONS | {"VAR", "FBS", "SUBAPPS", "EC_STATES", "ALGORITHM"}
 
 
-@dataclass(frozen=True)
-class Token:
-    """`kind` is typed, word, number, string, symbol, other or unclosed (a comment); the place is in bytes; `words` are as written."""
+class Token(NamedTuple):
+    """`kind` is typed, word, number, string, symbol, other, comment or unclosed (a comment); the place is in bytes; `words` are as written."""
 
     kind: str
     start: int
@@ -45,21 +46,37 @@ class Token:
         return self.words.upper()
 
 
-def tokens(text: str) -> Iterator[Token]:
-    """The tokens of a text in order, without blanks and comments. A comment that is never closed is one token, up to the end."""
+def pieces(text: str) -> Iterator[Token]:
+    """The tokens and the comments of a text in order. A comment that is never closed is one token, up to the end."""
     for found in _TOKEN.finditer(text.encode()):
-        kind = found.lastgroup or ""
-        if kind != "blank":
-            yield Token(kind, found.start(), found.end(), found.group().decode(errors="replace"))
+        if kind := found.lastgroup:
+            yield Token(kind, *found.span(kind), found[kind].decode(errors="replace"))
+
+
+def tokens(text: str) -> Iterator[Token]:
+    """The tokens of a text in order, without comments."""
+    return (piece for piece in pieces(text) if piece.kind != "comment")
+
+
+def is_name(token: Token) -> bool:
+    return token.kind == "word" and len(token.words) <= NAME_LIMIT and token.upper not in RESERVED
+
+
+def spelled(of: Sequence[Token]) -> str:
+    """Tokens as they are written, without comments, on one line, and without blanks round a point."""
+    words = ""
+    for index, token in enumerate(of):
+        before = of[index - 1]
+        apart = index > 0 and before.end < token.start and "." not in (token.words, before.words)
+        words += " " * apart + token.words
+    return words
 
 
 def declaration(text: str) -> Token | None:
     """The name behind the first word of a text; None where there is none that a unit can have."""
     first = tokens(text)
     begin, name = next(first, None), next(first, None)
-    if begin and name and begin.kind == name.kind == "word" and name.upper not in RESERVED and len(name.words) <= 64:
-        return name
-    return None
+    return name if begin and name and begin.kind == "word" and is_name(name) else None
 
 
 def declared_name(text: str) -> str | None:
@@ -72,24 +89,3 @@ def declared_kind(text: str) -> str | None:
     """The first word of a text in upper case: FUNCTION_BLOCK, ADAPTER, SUBAPPLICATION, SYSTEM, or what stands there instead."""
     first = next(tokens(text), None)
     return first.upper if first else None
-
-
-def declarations(of: Iterable[Token]) -> Iterator[tuple[Token, str]]:
-    """The names that are declared in sections and as algorithms, each with the word that begins the section, in upper case."""
-    section, naming = "", False
-    for token in of:
-        if token.upper in DECLARING:
-            section, naming = token.upper, True
-        elif token.upper in RESERVED - {"WITH", "ARRAY", "OF", "TRUE", "FALSE"}:
-            section = ""
-        elif section and token.words == ";":
-            naming = True
-        elif token.upper in ("WITH", ":", "IN"):
-            naming = False
-        elif section and naming and token.kind == "word":
-            yield token, section
-
-
-def ports(text: str) -> list[tuple[str, str]]:
-    """The ports of a unit in the order of its text, each with the word that begins its section, all in upper case."""
-    return [(name.upper, section) for name, section in declarations(tokens(text)) if section in PORT_SECTIONS]

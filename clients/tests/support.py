@@ -31,9 +31,9 @@ def workbench() -> str:
 
 
 @contextmanager
-def serving(sessions: int) -> Iterator[int]:
-    """A workbench that serves; gives its port. Skips the test where the program can't serve."""
-    words = [workbench(), "serve", "--port", "0", "--sessions", str(sessions)]
+def serving(sessions: int, *more: str) -> Iterator[int]:
+    """A workbench that serves, with more words if any; gives its port. Skips the test where the program can't serve."""
+    words = [workbench(), "serve", "--port", "0", "--sessions", str(sessions), *more]
     with subprocess.Popen(words, stdout=subprocess.PIPE, stderr=subprocess.DEVNULL, text=True) as server:
         line = server.stdout.readline()
         if not line.startswith("listening on "):

@@ -5,7 +5,7 @@ import support  # noqa: F401 (it finds the modules under test)
 
 from bench61499 import Fault
 from explain import Explainer, Names
-from tokens import declared_name, ports, tokens
+from tokens import declared_name, tokens
 
 
 class ExplainTest(unittest.TestCase):
@@ -89,12 +89,6 @@ class TokensTest(unittest.TestCase):
         self.assertEqual(declared_name("(* x *) system plant_1"), "PLANT_1")
         for text in ("", "SYSTEM", "SYSTEM FBS", "SYSTEM 1", f"SYSTEM {'A' * 65}", "; A"):
             self.assertIsNone(declared_name(text))
-
-    def test_ports(self):
-        text = """FUNCTION_BLOCK A EVENT_INPUT E: T WITH X, Y; F; END_EVENT VAR_OUTPUT P, Q : ARRAY [0..1] OF INT := [A, 1]; R : INT; END_VAR
-            VAR V : INT; END_VAR PLUGS N : T; END_PLUGS END_FUNCTION_BLOCK"""
-        expected = [("E", "EVENT_INPUT"), ("F", "EVENT_INPUT"), *((name, "VAR_OUTPUT") for name in "PQR"), ("N", "PLUGS")]
-        self.assertEqual(ports(text), expected)
 
 
 if __name__ == "__main__":

@@ -115,6 +115,24 @@ class SessionTest(unittest.TestCase):
         self.assertEqual(self.session.revision("A"), 2)
         self.assertEqual(self.session.faults("A"), None)
 
+    def test_changed(self):
+        with Session.script(workbench()) as session, Session.script(workbench(), history=6) as short:
+            texts = [Put(f"U{at}", 0, "") for at in range(40)]
+            for batch in batches(texts):
+                session.commit(batch)
+            known = {**session.revisions, "ABSENT": 0}
+            self.assertEqual(session.changed(known), {})
+            session.commit([Put("U0", 1, "x"), Put("U20", 2, "x"), Remove("U39", 3)])
+            session.commit([Put("ABSENT", 0, ""), Put("U16", 2, "y")])
+            self.assertEqual(session.changed(known), {"U0": 4, "U20": 4, "U39": 0, "ABSENT": 5, "U16": 5})
+            self.assertEqual(known["U0"], 1)
+            self.assertEqual(session.changed({}), {})
+            self.assertEqual(session.commit([Put("U1", 1, "")]), 6)  # It has changed nothing.
+            # One call for each 16 units, and one more for each that has changed.
+            self.assertEqual(short.changed(dict.fromkeys(("A", "B", "C"), 7) | {f"U{at}": 0 for at in range(14)}), {"A": 0, "B": 0, "C": 0})
+            short.revision("A")
+            self.assertRaisesRegex(Refused, "recorded as many calls", short.revision, "A")
+
     def test_jobs(self):
         self.assertIsNone(self.session.take())
         self.session.commit([Put("A", 0, A)])
@@ -125,6 +143,21 @@ class SessionTest(unittest.TestCase):
         self.session.deliver(job)
         with self.assertRaisesRegex(Refused, "NotPending"):
             self.session.deliver(job)
+
+    def test_checkpoint(self):
+        with Session.script(workbench(), history=3) as session:
+            session.commit([Put("A", 0, A)])
+            job = session.take()
+            self.assertEqual(session.checkpoint(1, 3), 2)
+            session.deliver(job)
+            self.assertEqual(session.faults("A"), (Fault("WITH_UNKNOWN", 36, 37),))
+            self.assertEqual(session.commit([Put("A", 1, A)]), 2)
+            with self.assertRaisesRegex(Refused, "--history"):
+                session.faults("A")
+            self.assertEqual(session.checkpoint(2, 9), 5)
+            self.assertEqual(session.commit([Put("B", 0, A)]), 3)
+            with self.assertRaisesRegex(Refused, "UnitsOver"):
+                session.checkpoint(1, 9)
 
     def test_refusals(self):
         for changes, refusal in (

@@ -1,102 +1,18 @@
 """lsp: its messages, by pipe, as an editor sends and reads them."""
 from __future__ import annotations
 
-import subprocess
+import threading
 import unittest
-from pathlib import Path
 
-from support import CLIENTS, InFolder, free_port, serving, workbench
+from editing import LspTest
+from support import InFolder, free_port, serving, workbench
 
-from rpc import read_message, write_message
+from bench61499 import Session
+from checking import Checking
+from positions import edited
 
 GOOD = "FUNCTION_BLOCK A END_FUNCTION_BLOCK"
 BAD = "FUNCTION_BLOCK A EVENT_INPUT E WITH X; END_EVENT END_FUNCTION_BLOCK"
-
-
-class Editor:
-    """An editor with one language server. It keeps what the server shows: diagnostics by file, and messages to the user."""
-
-    def __init__(self, *words: object):
-        self.process = subprocess.Popen([CLIENTS / "lsp", *map(str, words)], stdin=subprocess.PIPE, stdout=subprocess.PIPE)
-        self.shown: dict[str, list] = {}
-        self.versions: dict[str, int] = {}
-        self.messages: list[str] = []
-        self._number = 0
-
-    def close(self) -> None:
-        self.process.stdin.close()
-        self.process.wait(10)
-        self.process.stdout.close()
-
-    def send(self, message: dict) -> None:
-        write_message(self.process.stdin, message)
-
-    def notify(self, method: str, **params: object) -> None:
-        self.send({"method": method, "params": params})
-
-    def request(self, method: str, **params: object) -> dict:
-        """Sends a request and gives its answer; what comes before is kept."""
-        self._number += 1
-        self.send({"id": self._number, "method": method, "params": params})
-        while (message := self.read()).get("id") != self._number:
-            pass
-        return message
-
-    def read(self) -> dict:
-        message = read_message(self.process.stdout)
-        assert message, "the server ended"
-        if message.get("method") == "textDocument/publishDiagnostics":
-            name = Path(message["params"]["uri"]).name
-            self.shown[name] = message["params"]["diagnostics"]
-            self.versions[name] = message["params"].get("version")
-        if message.get("method") == "window/showMessage":
-            self.messages.append(message["params"]["message"])
-        return message
-
-    def await_codes(self, **expected: list[str]) -> None:
-        """Reads until exactly these codes are shown of these files."""
-        while {name: self.codes(f"{name}.fb") for name in expected} != expected:
-            self.read()
-
-    def await_message(self) -> str:
-        while not self.messages:
-            self.read()
-        return self.messages.pop(0)
-
-    def codes(self, file: str) -> list[str] | None:
-        return [it.get("code", it["message"]) for it in self.shown[file]] if file in self.shown else None
-
-    def start(self, folder: Path | None = None) -> dict:
-        answer = self.request("initialize", processId=None, rootUri=folder.as_uri() if folder else None, capabilities={})
-        self.notify("initialized")
-        return answer
-
-    def open(self, file: Path, text: str | None = None) -> None:
-        text = file.read_text() if text is None else text
-        self.notify("textDocument/didOpen", textDocument={"uri": file.as_uri(), "languageId": "fb", "version": 1, "text": text})
-
-    def change(self, file: Path, text: str, version: int = 2) -> None:
-        self.shown.pop(file.name, None)
-        document = {"uri": file.as_uri(), "version": version}
-        self.notify("textDocument/didChange", textDocument=document, contentChanges=[{"text": text}])
-
-    def save(self, file: Path) -> None:
-        self.notify("textDocument/didSave", textDocument={"uri": file.as_uri()})
-
-    def shut(self, file: Path) -> None:
-        self.notify("textDocument/didClose", textDocument={"uri": file.as_uri()})
-
-
-class LspTest(InFolder):
-    def editor(self, *words: object) -> Editor:
-        editor = Editor(*(words or ("--program", workbench())))
-        self.addCleanup(editor.close)
-        return editor
-
-    def started(self) -> Editor:
-        editor = self.editor()
-        editor.start(self.folder)
-        return editor
 
 
 class LifeTest(LspTest):
@@ -104,8 +20,8 @@ class LifeTest(LspTest):
         editor = self.editor()
         self.assertEqual(editor.request("shutdown")["error"]["code"], -32002)
         capabilities = editor.start()["result"]["capabilities"]
-        self.assertEqual(capabilities["textDocumentSync"]["change"], 1)
-        self.assertEqual(editor.request("textDocument/hover")["error"]["code"], -32601)
+        self.assertEqual(capabilities["textDocumentSync"]["change"], 2)
+        self.assertEqual(editor.request("textDocument/willSaveWaitUntil")["error"]["code"], -32601)
         editor.notify("$/setTrace", value="off")
         self.assertEqual(editor.request("initialize")["error"]["code"], -32600)
         self.assertEqual(editor.request("shutdown")["result"], None)
@@ -250,11 +166,47 @@ class DocumentsTest(LspTest):
         self.assertEqual(editor.codes("a.fb"), ["WITH_UNKNOWN"])
 
 
+class CheckingTest(InFolder):
+    """What is between the editor and the workbench, without messages: all changes are there before a step is made."""
+
+    def setUp(self) -> None:
+        super().setUp()
+        self.woken = threading.Event()
+        self.shown: dict[str, list[str]] = {}
+        self.checking = Checking(lambda: Session.script(workbench()), False, self.keep, self.woken.set)
+        self.addCleanup(self.checking.close)
+
+    def keep(self, message: dict) -> None:
+        if message["method"] == "textDocument/publishDiagnostics":
+            its = message["params"]["diagnostics"]
+            self.shown[message["params"]["uri"]] = [it.get("code", it["message"]) for it in its]
+
+    def step_until(self, expected: dict[str, list[str]]) -> None:
+        for _ in range(50):
+            if self.shown == expected:
+                return
+            self.woken.wait(self.checking.patience() or 0.1)
+            self.woken.clear()
+            self.checking.step()
+        self.assertEqual(self.shown, expected)
+
+    def test_a_double_that_changes_with_the_other(self):
+        one, other = (self.write(f"{name}.fb", GOOD).as_uri() for name in ("one", "other"))
+        for uri in (one, other):
+            self.checking.open(uri, 1, GOOD)
+        self.step_until({one: [], other: ["one.fb declares the unit A too; a unit has one text"]})
+        self.checking.change(one, 2, [{"text": GOOD.replace(" A ", " C ")}])
+        self.checking.change(other, 2, [{"text": BAD}])
+        self.step_until({one: [], other: ["WITH_UNKNOWN"]})
+
+
 class TroubleTest(LspTest):
     def test_no_workbench(self):
         editor = self.editor("--connect", f"127.0.0.1:{free_port()}")
         editor.start(self.folder)
-        editor.open(self.write("a.fb", GOOD))
+        file = self.write("a.fb", GOOD)
+        editor.open(file)
+        self.assertEqual(editor.ask("documentSymbol", file)[0]["name"], "A")
         self.assertRegex(editor.await_message(), "^bench61499: no workbench at .*: nobody serves there, or .* The next save tries again.$")
         self.assertEqual(editor.request("shutdown")["result"], None)
 
@@ -290,6 +242,27 @@ class SharedTest(LspTest):
             self.assertRegex(one.await_message(), "A was changed by somebody else, at revision 2. The text in this editor replaces that")
             one.close()
             other.close()
+
+    def test_a_rename_is_one_commit(self):
+        """Though the editor sends the change of one unit some time before that of the other."""
+        self.copy_conveyor()
+        texts = {self.folder / "FEEDER.fb": ("WITH LIMIT", "WITH LIMITS"), self.folder / "STATION.fb": ("LIFT.STOP", "LIFT.HALT")}
+        with serving(sessions=2) as port, Session.connect("127.0.0.1", port) as other:
+            editor = self.editor("--connect", f":{port}")
+            editor.start(self.folder)
+            for file, mistake in texts.items():
+                file.write_text(file.read_text().replace(*mistake))
+                editor.open(file)
+            editor.await_codes(FEEDER=["WITH_UNKNOWN"], STATION=["PORT_UNKNOWN"])
+            edit = editor.ask("rename", self.folder / "FEEDER.fb", position={"line": 2, "character": 15}, newName="BEGIN")
+            for file in texts:
+                editor.change(file, edited(file.read_text(), edit["changes"][file.as_uri()]))
+                for _ in range(5):
+                    editor.ask("foldingRange", file)
+            editor.await_codes(FEEDER=["WITH_UNKNOWN"], STATION=["PORT_UNKNOWN"])
+            self.assertEqual(other.revision("FEEDER"), other.revision("STATION"))
+            self.assertGreater(other.revision("FEEDER"), other.revision("LIFTER"))
+            editor.close()
 
     def test_what_others_put_is_not_shown_here(self):
         file = self.write("a.fb", GOOD)

@@ -1,0 +1,161 @@
+"""What a unit's text declares and which names it uses, as `reader` reads it."""
+from __future__ import annotations
+
+from collections import defaultdict
+from collections.abc import Iterator
+from dataclasses import dataclass, field
+from functools import cached_property
+from typing import NamedTuple
+
+TYPE, EVENT, VARIABLE, INSTANCE, STATE, ALGORITHM = "type", "event", "variable", "instance", "state", "algorithm"
+APPLICATION, DEVICE, RESOURCE = "application", "device", "resource"
+DATA_TYPE = "data type"
+SOURCE, DESTINATION = "source", "destination"
+PARAMETERS = "parameters"
+"""The section, as it were, of what stands in parentheses behind the type of an instance."""
+NAMELESS = "-"
+"""The unit of a text that declares no name. It is no name, so nothing else can stand for it."""
+
+KINDS = ("FUNCTION_BLOCK", "ADAPTER", "SUBAPPLICATION", "SYSTEM")
+EVENT_SECTIONS = ("EVENT_INPUT", "EVENT_OUTPUT")
+DATA_SECTIONS = ("VAR_INPUT", "VAR_OUTPUT")
+ADAPTER_SECTIONS = ("PLUGS", "SOCKETS")
+CONNECTION_SECTIONS = {"EVENT_CONNECTIONS": EVENT, "DATA_CONNECTIONS": VARIABLE, "ADAPTER_CONNECTIONS": INSTANCE}
+INTERFACE = (*EVENT_SECTIONS, *DATA_SECTIONS, *ADAPTER_SECTIONS)
+PARTS = {
+    "": KINDS,
+    "FUNCTION_BLOCK": (*INTERFACE, "VAR", "FBS", *CONNECTION_SECTIONS, "EC_STATES", "EC_TRANSITIONS", "ALGORITHM", "SERVICE"),
+    "ADAPTER": (*EVENT_SECTIONS, *DATA_SECTIONS, "SERVICE"),
+    "SUBAPPLICATION": (*INTERFACE, "FBS", "SUBAPPS", *CONNECTION_SECTIONS, "SERVICE"),
+    "SYSTEM": ("APPLICATION", "DEVICE", "MAPPINGS"),
+    "APPLICATION": ("FBS", "SUBAPPS", *CONNECTION_SECTIONS),
+    "DEVICE": ("RESOURCE",),
+    "RESOURCE": (),
+}
+"""What may stand in a unit, and in the parts of a system."""
+ENDS = {
+    **dict.fromkeys(EVENT_SECTIONS, "END_EVENT"),
+    **dict.fromkeys([*DATA_SECTIONS, "VAR"], "END_VAR"),
+    **{word: f"END_{word}" for word in (*ADAPTER_SECTIONS, "FBS", "SUBAPPS", "MAPPINGS", "ALGORITHM", "SERVICE")},
+    **dict.fromkeys(CONNECTION_SECTIONS, "END_CONNECTIONS"),
+    "EC_STATES": "END_STATES",
+    "EC_TRANSITIONS": "END_TRANSITIONS",
+    **{word: f"END_{word}" for word in (*KINDS, "APPLICATION", "DEVICE", "RESOURCE")},
+}
+"""The word that ends what a word begins."""
+LEVELS = {**dict.fromkeys(KINDS, 0), "APPLICATION": 1, "DEVICE": 1, "RESOURCE": 2}
+"""How deep units and the parts of a system stand in each other."""
+STATEMENTS = ("IF", "CASE", "FOR", "WHILE", "REPEAT")
+"""The words that begin statements which an END_ ends."""
+
+
+class Key(NamedTuple):
+    """What a name stands for: the unit that declares it, its name space, the application or device it is in, and the name; in upper case.
+
+    The unit is empty where nothing tells whose name it is: that of a port whose instance is not declared, or of a data type. A second
+    application or device of a name is a scope of its own.
+    """
+
+    unit: str
+    space: str
+    scope: str
+    name: str
+
+    @property
+    def owner(self) -> str:
+        """The application, the device or the unit that has the name."""
+        return self.scope.partition("#")[0] or self.unit
+
+
+class Wanted(NamedTuple):
+    """A name that is read, or that may stand at the end of the tokens.
+
+    `path` are the instances before it, as in `BELT.START`; `owner` is the type whose name it is, where that is written; `side` is that of an
+    end of a connection.
+    """
+
+    space: str
+    section: str
+    scope: str = ""
+    path: tuple[str, ...] = ()
+    owner: str = ""
+    side: str = ""
+
+
+class Use(NamedTuple):
+    """A name that is used, with its place in bytes.
+
+    Deep in a mapping only other units tell whose name it is: `walk` is a type and then the instances that lead to the owner.
+    """
+
+    key: Key
+    start: int
+    end: int
+    walk: tuple[str, ...] = ()
+
+
+class Connection(NamedTuple):
+    """A connection of a network: its space, and the names of its ends, one or two each; no destination where that is not written yet."""
+
+    space: str
+    scope: str
+    source: tuple[Use, ...]
+    destination: tuple[Use, ...]
+
+
+@dataclass(slots=True)
+class Declaration:
+    """A declared name at `start` to `end`, in a declaration from `begin` to `last`.
+
+    `section` is the word that begins its section; `type`, `value` and `companions`, the names behind WITH, are as written.
+    """
+
+    key: Key
+    section: str
+    words: str
+    start: int
+    end: int
+    begin: int
+    last: int
+    type: str = ""
+    value: str = ""
+    companions: tuple[str, ...] = ()
+
+
+@dataclass
+class Unit:
+    """What was read of a text: all declarations and uses, each in the order of the text, and what may follow at its end."""
+
+    kind: str = ""
+    name: str = NAMELESS
+    declared: list[Declaration] = field(default_factory=list)
+    uses: list[Use] = field(default_factory=list)
+    connections: list[Connection] = field(default_factory=list)
+    wanted: list[Wanted] = field(default_factory=list)
+    words: list[str] = field(default_factory=list)
+
+    @cached_property
+    def first(self) -> dict[Key, Declaration]:
+        """What each name stands for: the first of its declarations."""
+        found: dict[Key, Declaration] = {}
+        for it in self.declared:
+            found.setdefault(it.key, it)
+        return found
+
+    @cached_property
+    def by_key(self) -> dict[Key, list[Use]]:
+        found: defaultdict[Key, list[Use]] = defaultdict(list)
+        for use in self.uses:
+            found[use.key].append(use)
+        return dict(found)
+
+    def prepare(self) -> None:
+        """Has the tables made now, and not when somebody asks."""
+        self.first, self.by_key
+
+    def of(self, *sections: str, scope: str = "") -> Iterator[Declaration]:
+        """What is declared in these sections, first declarations alone."""
+        return (it for it in self.first.values() if it.section in sections and it.key.scope == scope)
+
+    def instance(self, scope: str, name: str) -> Declaration | None:
+        return self.first.get(Key(self.name, INSTANCE, scope, name))

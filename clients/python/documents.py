@@ -1,0 +1,66 @@
+"""The texts that a language server has to do with: those open in the editor, and files."""
+from __future__ import annotations
+
+from dataclasses import dataclass
+from pathlib import Path
+from typing import Any
+from urllib.parse import unquote, urlsplit
+
+from bench61499 import TEXT_LIMIT, Fault
+
+Diagnostic = dict[str, Any]
+
+
+@dataclass
+class Document:
+    """A text that is open in the editor.
+
+    `raw` is as the editor has it, `text` the same without halves of characters. `shown` is what the editor shows of it, None where the text
+    was changed since; `faults` are the last ones that were found to be this text's.
+    """
+
+    uri: str
+    version: int | None
+    raw: str
+    text: str
+    shown: list[Diagnostic] | None = None
+    faults: tuple[Fault, ...] = ()
+
+    @property
+    def size(self) -> int:
+        """Bytes of UTF-8."""
+        return len(self.text.encode())
+
+    @property
+    def is_too_long(self) -> bool:
+        return self.size > TEXT_LIMIT
+
+
+@dataclass
+class Source:
+    """The text of a file, as it is in the editor or on disk; None where it can be the text of no unit.
+
+    `stamp` is the state of the file when it was read, None where the text is the editor's. `unit` is what it is in the workbench, if
+    anything.
+    """
+
+    file: Path
+    text: str | None
+    stamp: tuple[int, int] | None = None
+    unit: str | None = None
+
+
+def path_of(uri: str) -> Path:
+    """The file of a `file:` URI; for a text that is no file, a path that there is not."""
+    parts = urlsplit(uri)
+    if parts.scheme == "file":
+        return Path(unquote(parts.path)).resolve()
+    return Path("/nowhere") / unquote(uri).replace("/", "_")
+
+
+def stamp_of(file: Path) -> tuple[int, int] | None:
+    try:
+        state = file.stat()
+    except OSError:
+        return None
+    return state.st_mtime_ns, state.st_size

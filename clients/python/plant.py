@@ -1,0 +1,170 @@
+"""The units of a folder: each text is read once after it has changed, and found by the names that it declares and uses."""
+from __future__ import annotations
+
+import gc
+from collections import defaultdict
+from collections.abc import Iterable, Iterator
+from functools import cached_property
+from pathlib import Path
+
+from bench61499 import Places
+from declarations import INSTANCE, Declaration, Key, Unit, Use
+from explain import Names
+from positions import Range, range_of, range_of_name
+from reader import read
+
+
+class Text:
+    """The text of a file, and what was read of it."""
+
+    def __init__(self, file: Path, text: str, uri: str | None = None):
+        self.file, self.text = file, text
+        self._uri = uri
+
+    @cached_property
+    def uri(self) -> str:
+        return self._uri or self.file.as_uri()
+
+    @cached_property
+    def unit(self) -> Unit:
+        return read(self.text)
+
+    @cached_property
+    def places(self) -> Places:
+        return Places(self.text)
+
+    @cached_property
+    def head(self) -> Range | None:
+        """Where the name of the unit is declared."""
+        its = self.unit.declared[:1] if self.unit.kind else []
+        return self.name_range(its[0].start, its[0].end) if its else None
+
+    def prepare(self) -> None:
+        """Has all that is made of the text made now, and not when somebody asks."""
+        self.unit.prepare()
+        self.uri, self.head
+
+    def range(self, start: int, end: int) -> Range:
+        return range_of(self.places, start, end)
+
+    def name_range(self, start: int, end: int) -> Range:
+        return range_of_name(self.places, start, end)
+
+
+class Plant:
+    """The texts by file, and an index of them that is brought up to date by `refresh`."""
+
+    def __init__(self) -> None:
+        self._texts: dict[Path, Text] = {}
+        self._unread: set[Path] = set()
+        self._names: dict[Path, set[str]] = {}
+        self._declaring: defaultdict[str, set[Path]] = defaultdict(set)
+        self._using: defaultdict[str, set[Path]] = defaultdict(set)
+        self._walking: set[Path] = set()
+        self._frozen = 50
+        self._near: dict[str, tuple[frozenset[str], Names]] = {}
+
+    def put(self, file: Path, text: str | None, uri: str | None = None) -> None:
+        """Gives a file a text; None takes it away."""
+        if text is None:
+            self._texts.pop(file, None)
+        else:
+            self._texts[file] = Text(file, text, uri)
+        self._unread.add(file)
+
+    def is_read(self) -> bool:
+        return not self._unread
+
+    def refresh(self, most: int | None = None) -> None:
+        """Reads the texts that have changed, or so many of them."""
+        for file in list(self._unread)[:most]:
+            self._unread.discard(file)
+            self._forget(file)
+            if text := self._texts.get(file):
+                self._index(text)
+        if self.is_read() and len(self._names) >= 2 * self._frozen:
+            self._freeze()
+
+    def _freeze(self) -> None:
+        """Tells the garbage collector to pass over what is there, which otherwise takes a third of a second in a large plant."""
+        self._frozen = max(100, len(self._names))
+        gc.freeze()
+
+    def _forget(self, file: Path) -> None:
+        for name in self._names.pop(file, ()):
+            self._declaring[name].discard(file)
+            self._using[name].discard(file)
+        self._walking.discard(file)
+
+    def _index(self, text: Text) -> None:
+        text.prepare()
+        unit, file = text.unit, text.file
+        used = {use.key.unit for use in unit.uses}
+        self._declaring[unit.name].add(file)
+        for name in used:
+            self._using[name].add(file)
+        self._names[file] = {unit.name, *used}
+        if any(use.walk for use in unit.uses):
+            self._walking.add(file)
+
+    # What is there. All of it is of what was read.
+
+    def text(self, file: Path) -> Text | None:
+        return self._texts.get(file)
+
+    def texts(self) -> Iterable[Text]:
+        """All of them, in no order."""
+        return self._texts.values()
+
+    def declaring(self, name: str) -> list[Text]:
+        """The texts that declare a unit: one, or more where the user has not seen to it yet."""
+        return [self._texts[file] for file in sorted(self._declaring.get(name, ()), key=str)]
+
+    def unit(self, name: str) -> Unit | None:
+        its = self.declaring(name)
+        return its[0].unit if its else None
+
+    def near(self, kind: str, words: str) -> str | None:
+        """The unit of a kind with the name that is nearest to a wrong one. It is looked for once, until a unit comes or goes."""
+        names = frozenset(self.kinds(kind))
+        if self._near.get(kind, (None,))[0] != names:
+            self._near[kind] = names, Names(names, nearness=0.8)
+        return self._near[kind][1].near(words)
+
+    def kinds(self, kind: str) -> Iterator[str]:
+        """The names of all units of a kind."""
+        return (text.unit.name for text in self._texts.values() if text.unit.kind == kind)
+
+    def declarations(self, key: Key) -> Iterator[tuple[Text, Declaration]]:
+        """What a name stands for; more than one where a unit is declared by more than one text."""
+        for text in self.declaring(key.unit):
+            if found := text.unit.first.get(key):
+                yield text, found
+
+    def declaration(self, key: Key) -> Declaration | None:
+        return next((found for _, found in self.declarations(key)), None)
+
+    def texts_of(self, unit: str) -> list[Text]:
+        """The texts that may have a name of a unit: its own, those that mention it, and those with paths deep into others."""
+        files = self._declaring.get(unit, set()) | self._using.get(unit, set()) | self._walking
+        return [self._texts[file] for file in sorted(files, key=str)]
+
+    def uses(self, key: Key) -> Iterator[tuple[Text, list[Use]]]:
+        """All uses of what a name stands for, by text."""
+        for text in self.texts_of(key.unit):
+            found = text.unit.by_key.get(key, [])
+            if key.space == INSTANCE and text.file in self._walking:
+                found = found + [use for use in text.unit.uses if use.walk and self.key(use) == key]
+            if found:
+                yield text, found
+
+    def key(self, use: Use) -> Key:
+        """What a used name stands for, also where only other units tell."""
+        if not use.walk:
+            return use.key
+        of, *instances = use.walk
+        for instance in instances:
+            unit = self.unit(of)
+            its = unit.instance("", instance) if unit else None
+            of = its.type.upper() if its else ""
+        return use.key._replace(unit=of)

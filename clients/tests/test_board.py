@@ -1,0 +1,556 @@
+"""board: what it answers to browsers, and what it refuses."""
+from __future__ import annotations
+
+import os
+import signal
+import subprocess
+import unittest
+from http.client import HTTPConnection
+from pathlib import Path
+from unittest import mock
+
+from boards import Address, board
+from support import CONVEYOR, InFolder, free_port, run, serving, workbench
+
+from bench61499 import Put, Remove, Session
+from board_state import Board
+from board_watch import HEARTBEAT, SharedWatch
+
+STATES = {"FEEDER", "HANDOVER", "LAMP", "LIFTER", "PLANT", "STATION"}
+WRONG = "FUNCTION_BLOCK A EVENT_INPUT E WITH X; END_EVENT END_FUNCTION_BLOCK"
+MARKUP = """FUNCTION_BLOCK A (* <script>alert(1)</script> *)
+  VAR TEXT : STRING := '<img src=x onerror=alert(2)>'; END_VAR
+  EVENT_INPUT E WITH X; END_EVENT
+END_FUNCTION_BLOCK
+"""
+ANOTHER = "The workbench has another text than this file: its faults do not fit here, and are told by their bytes."
+UNSURE = "This is the text of the file. The workbench gives no texts back, so whether it has this one is not known."
+
+
+class BoardTest(InFolder):
+    """A test with a board of its own."""
+
+    def start(self, *words: object, **options: object) -> Address:
+        running = board(*words, folder=self.folder, **options)
+        self.addCleanup(running.__exit__, None, None, None)
+        return running.__enter__()
+
+    def edit(self, file: str, old: str, new: str) -> None:
+        text = (self.folder / file).read_text()
+        self.assertIn(old, text)
+        self.write(file, text.replace(old, new))
+
+    def conveyor(self) -> Address:
+        self.copy_conveyor()
+        return self.start(".")
+
+    def pieces(self, unit: dict) -> str:
+        """The text that the pieces of a unit spell."""
+        return "\n".join("".join(it if isinstance(it, str) else it["words"] for it in line) for line in unit["lines"])
+
+
+class FolderTest(BoardTest):
+    def test_all_units(self) -> None:
+        at = self.conveyor()
+        self.assertEqual(at.line, f"the board of . is at http://127.0.0.1:{at.port}/\n")
+        with at.viewer() as viewer:
+            viewer.settled(6)
+        self.assertEqual(viewer.units.keys(), STATES)
+        self.assertEqual(viewer.units["FEEDER"], {"kind": "FUNCTION_BLOCK", "revision": 1, "state": "fine", "faults": 0, "file": "FEEDER.fb"})
+        self.assertEqual((viewer.about["title"], viewer.about["shared"], viewer.changes, viewer.ended), (".", False, [], ""))
+
+    def test_a_file_that_is_changed(self) -> None:
+        at = self.conveyor()
+        with at.viewer() as viewer:
+            viewer.settled(6)
+            self.edit("FEEDER.fb", "DONE TO IDLE", "DONE TO IDEL")
+            viewer.until(lambda it: it.state("FEEDER") == "faulty")
+            (change,) = viewer.changes
+            self.assertEqual({**change, "time": 0}, {"number": 1, "time": 0, "unit": "FEEDER", "old": 1, "new": 2, "author": "FEEDER.fb"})
+            unit = at.json("/unit", name="feeder")
+        self.assertEqual(
+            unit["faults"],
+            [{"code": "STATE_UNKNOWN", "line": 19, "column": 13, "explanation": "no state IDEL in this chart; did you mean IDLE?"}],
+        )
+        self.assertEqual([it for it in unit["lines"][18] if it != " " and not isinstance(it, str) and it["faults"]], [{"words": "IDEL", "kind": "", "faults": [0]}])
+        self.assertEqual(self.pieces(unit) + "\n", (self.folder / "FEEDER.fb").read_text())
+
+    def test_files_that_come_and_go(self) -> None:
+        at = self.conveyor()
+        with at.viewer() as viewer:
+            viewer.settled(6)
+            (self.folder / "LAMP.fb").unlink()
+            viewer.until(lambda it: it.state("LAMP") == "absent" and it.state("PLANT") == "faulty")
+            self.write("inner/A.fb", WRONG)
+            viewer.until(lambda it: it.state("A") == "faulty")
+            self.write("LAMP.fb", (CONVEYOR / "LAMP.fb").read_bytes())
+            viewer.until(lambda it: it.state("LAMP") == it.state("PLANT") == "fine")
+        self.assertEqual([(it["unit"], it["old"], it["new"], it["author"]) for it in viewer.changes],
+                         [("LAMP", 1, 0, "LAMP.fb"), ("A", 0, 3, "inner/A.fb"), ("LAMP", 0, 4, "LAMP.fb")])
+
+    def test_files_that_are_no_units(self) -> None:
+        self.copy_conveyor()
+        self.write("SECOND.fb", (CONVEYOR / "LAMP.fb").read_bytes())
+        self.write("BYTES.fb", b"FUNCTION_BLOCK \xff")
+        at = self.start(".")
+        with at.viewer() as viewer:
+            viewer.settled(6)
+            self.assertEqual(viewer.problems, ["BYTES.fb:1: is not UTF-8: byte 15 is 0xff", "LAMP.fb and SECOND.fb both declare the unit LAMP; the first one counts"])
+            (self.folder / "BYTES.fb").unlink()
+            self.write("SECOND.fb", "1 2")
+            viewer.until(lambda it: it.state("SECOND") == "faulty" and not it.problems)
+            self.write("SECOND.fb", "3 4")
+            viewer.until(lambda it: it.units["SECOND"]["revision"] == 3)
+
+    def test_names_that_are_not_utf_8(self) -> None:
+        folder = os.path.join(os.fsencode(self.folder), b"plant \xff")
+        os.mkdir(folder)
+        with open(os.path.join(folder, b"\xfe.fb"), "w") as file:
+            file.write(WRONG)
+        at = self.start(os.fsdecode(b"plant \xff"))
+        self.assertEqual(at.line, f"the board of plant ? is at {at.url}\n")
+        with at.viewer() as viewer:
+            viewer.settled(1)
+        self.assertEqual(viewer.units["A"]["file"], "plant ?/?.fb")
+        self.assertEqual(at.json("/unit", name="A")["faults"][0]["code"], "WITH_UNKNOWN")
+
+    def test_words_that_make_no_sense(self) -> None:
+        self.copy_conveyor()
+        for status, words, told in [
+            (2, ["nowhere"], "nowhere: there is no such file or folder"),
+            (2, [], "say what to show: a folder, or --connect to a workbench that serves"),
+            (2, [".", "--connect", ":1"], "say what to show: a folder, or --connect to a workbench that serves"),
+            (2, [".", "--files", "."], "--files and --unit go with --connect"),
+            (2, [".", "--port", "65536"], "there is no port 65536"),
+            (2, ["--connect", f":{free_port()}"], "nobody serves there"),
+            (2, [".", "--program", "nowhere"], "can't start the workbench nowhere"),
+        ]:
+            ran = run("board", *words, folder=self.folder)
+            self.assertEqual((ran.returncode, ran.stdout), (status, ""), words)
+            self.assertIn(told, ran.stderr)
+
+    def test_a_port_that_is_taken(self) -> None:
+        at = self.conveyor()
+        ran = run("board", ".", "--port", at.port, "--program", workbench(), folder=self.folder)
+        self.assertEqual((ran.returncode, ran.stderr), (2, f"board: the page can't be served at port {at.port}: Address already in use\n"))
+
+    def test_the_end_of_the_workbench(self) -> None:
+        self.copy_conveyor()
+        program = self.program(f"""
+import os, subprocess
+words = [{workbench()!r}, *sys.argv[1:]]
+child = subprocess.Popen(words)
+open("child", "w").write(str(child.pid))
+os._exit(child.wait() and 1)
+""")
+        at = self.start(".", program=program)
+        with at.viewer() as viewer:
+            viewer.settled(6)
+            subprocess.run(["kill", "-KILL", (self.folder / "child").read_text()], check=True)
+            viewer.until(lambda it: it.ended)
+            self.assertEqual(viewer.ended, "the workbench ended before it answered (status 1)")
+        self.assertIn(
+            "board: the workbench ended before it answered (status 1); the page shows what was there before, until Ctrl-C",
+            at.process.stderr.readline(),
+        )
+        with at.viewer() as late:
+            late.until(lambda it: it.ended)
+            self.assertEqual(late.units.keys(), STATES)
+        self.assertEqual(at.json("/unit", name="LAMP")["state"], "fine")
+
+    def test_ctrl_c(self) -> None:
+        at = self.conveyor()
+        with at.viewer() as viewer:
+            viewer.settled(6)
+        at.process.send_signal(signal.SIGINT)
+        self.assertEqual((at.process.wait(30), at.process.stderr.read()), (130, ""))
+
+
+class AnswersTest(BoardTest):
+    """Networks, plans and declarations."""
+
+    def test_a_network(self) -> None:
+        at = self.conveyor()
+        with at.viewer() as viewer:
+            viewer.settled(6)
+            net = self.known(at, viewer, "/net", "STATION")
+        names = [box[0] for box in net["boxes"]]
+        self.assertEqual(names, ["BELT", "LIFT", "READY", "SEEN", "START", "STOP", "LOAD", "TOTAL"])
+        wires = {(names[it[1]], names[it[4]], it[0], it[7], it[8], it[9]) for it in net["wires"]}
+        self.assertEqual(wires, {
+            ("BELT", "LIFT", "event", "OFFER", False, "forth"), ("BELT", "LIFT", "event", "TAKEN", False, "back"),
+            ("BELT", "LIFT", "data", "WEIGHT", False, "forth"), ("LOAD", "BELT", "data", "", False, "forth"),
+            ("START", "BELT", "event", "", False, "forth"), ("SEEN", "BELT", "event", "", False, "forth"),
+            ("STOP", "LIFT", "event", "", False, "forth"), ("LIFT", "READY", "event", "", False, "forth"),
+            ("LIFT", "TOTAL", "data", "", False, "forth"),
+        })
+
+    def test_a_port_that_nothing_leads_to(self) -> None:
+        at = self.conveyor()
+        with at.viewer() as viewer:
+            viewer.settled(6)
+            before = self.known(at, viewer, "/net", "STATION")
+            self.edit("LIFTER.fb", "EVENT_INPUT STOP;", "EVENT_INPUT STOP; PAUSE;")
+            viewer.until(lambda it: it.answers["net", "STATION"][0] > before["serial"])
+            after = at.json("/net", name="STATION", aspect="1.5")
+        shape = after["boxes"][1][8]
+        self.assertEqual(after["rows"][shape][:2], [["event", "STOP", "LIFTED"], ["event", "PAUSE", ""]])
+        self.assertNotIn(["event", "PAUSE", ""], before["rows"][before["boxes"][1][8]])
+
+    def test_a_system(self) -> None:
+        at = self.conveyor()
+        with at.viewer() as viewer:
+            viewer.settled(6)
+            self.known(at, viewer, "/plan", "PLANT")
+            net, plan = self.known(at, viewer, "/net", "PLANT"), self.known(at, viewer, "/plan", "PLANT")
+            homes = {box[0]: box[2] for box in net["boxes"]}
+            self.assertEqual(homes["LINE.PANEL"], "SOUTH.SCREEN")
+            self.assertEqual([it[0] for it in net["frames"]], ["NORTH.MOTION", "SOUTH.MOTION", "SOUTH.SCREEN"])
+            self.assertEqual(sum(it[8] for it in net["wires"]), 4)
+            self.assertEqual(plan["cuts"][0], "event LINE.FIRST.LIFT.LIFTED -> LINE.SECOND.BELT.START")
+            self.assertEqual(plan["resources"][2], {"name": "SOUTH.SCREEN", "commands": [
+                "CREATE FB LINE.PANEL LAMP", "WRITE LINE.PANEL.DELAY T#250ms", "WRITE LINE.PANEL.TEXT 'line 1'", "START SOUTH.SCREEN"]})
+            self.edit("PLANT.fb", "LINE.PANEL ON", "LINE.LAMP ON")
+            viewer.until(lambda it: it.answers["deploy", "PLANT"][0] > plan["serial"])
+            self.assertEqual(at.json("/plan", name="PLANT")["misplaced"], [["UNMAPPED", "LINE.PANEL"], ["NO_SUCH_BLOCK", "LINE.LAMP"]])
+            self.assertEqual(at.json("/net", name="PLANT", aspect="1")["state"], "flat")
+
+    def test_why_there_is_none(self) -> None:
+        self.copy_conveyor()
+        self.edit("FEEDER.fb", "DONE TO IDLE", "DONE TO IDEL")
+        (self.folder / "LAMP.fb").unlink()
+        at = self.start(".")
+        with at.viewer() as viewer:
+            viewer.settled(5)
+            for path in ("/net", "/plan"):
+                answer = self.known(at, viewer, path, "PLANT")
+                self.assertEqual((answer["state"], answer["missing"], answer["faulty"]), ("blocked", ["LAMP"], ["FEEDER", "PLANT"]))
+                self.assertEqual(self.known(at, viewer, path, "FEEDER")["state"], "none")
+
+    def test_where_an_instance_is_declared(self) -> None:
+        at = self.conveyor()
+        with at.viewer() as viewer:
+            viewer.settled(6)
+        for unit, path, place in [
+            ("PLANT", "LINE.SECOND.LIFT", {"unit": "STATION", "line": 9}), ("PLANT", "LINE.PANEL", {"unit": "PLANT", "line": 5}),
+            ("STATION", "BELT", {"unit": "STATION", "line": 8}), ("PLANT", "LINE.NOBODY", None), ("NOTHING", "A", None),
+        ]:
+            self.assertEqual(at.json("/instance", name=unit, path=path), place)
+
+    def known(self, at: Address, viewer, path: str, unit: str) -> dict:
+        """The answer, once it is known."""
+        kind = {"/net": "net", "/plan": "deploy"}[path]
+        query = {"name": unit, "aspect": "1.5"} if kind == "net" else {"name": unit}
+        at.json(path, **query)
+        viewer.until(lambda it: it.answers.get((kind, unit), (0, False))[1])
+        return at.json(path, **query)
+
+
+class SharedTest(BoardTest):
+    """A workbench that others use too."""
+
+    def setUp(self) -> None:
+        super().setUp()
+        serve = serving(sessions=8)
+        self.port = serve.__enter__()
+        self.addCleanup(serve.__exit__, None, None, None)
+        self.engineer = Session.connect("127.0.0.1", self.port)
+        self.addCleanup(self.engineer.close)
+        self.copy_conveyor()
+
+    def shared(self, *words: object) -> Address:
+        return self.start("--connect", f":{self.port}", *words)
+
+    def check(self) -> None:
+        self.assertEqual(run("check", ".", "--connect", f":{self.port}", folder=self.folder).returncode, 0)
+
+    def test_a_commit_of_another_session(self) -> None:
+        self.check()
+        at = self.shared("--files", ".")
+        with at.viewer() as viewer:
+            viewer.settled(6)
+            base = self.engineer.revision("FEEDER")
+            text = (CONVEYOR / "FEEDER.fb").read_text().replace("DONE TO IDLE", "DONE TO IDEL")
+            number = self.engineer.commit([Put("FEEDER", base, text)])
+            viewer.until(lambda it: it.state("FEEDER") == "faulty")
+            self.assertEqual([(it["unit"], it["old"], it["new"], it["author"]) for it in viewer.changes], [("FEEDER", base, number, "")])
+            self.engineer.commit([Remove("FEEDER", number)])
+            viewer.until(lambda it: it.state("FEEDER") == "absent" and it.state("STATION") == "faulty")
+            unit = at.json("/unit", name="FEEDER")
+        self.assertEqual((unit["state"], viewer.units["FEEDER"]["file"]), ("absent", "FEEDER.fb"))
+
+    def test_the_board_changes_nothing(self) -> None:
+        self.check()
+        before = {unit: self.engineer.revision(unit) for unit in STATES}
+        at = self.shared("--files", ".")
+        with at.viewer() as viewer:
+            viewer.settled(6)
+            self.edit("LAMP.fb", "SHOW", "SHINE")
+            viewer.until(lambda it: "SHINE" in self.pieces(at.json("/unit", name="LAMP")))
+        self.assertEqual({unit: self.engineer.revision(unit) for unit in STATES}, before)
+        self.assertEqual(self.engineer.commit([Put("NEW", 0, WRONG)]), max(before.values()) + 1)
+
+    def test_texts_that_are_not_here(self) -> None:
+        self.check()
+        at = self.shared("--unit", "plant")
+        with at.viewer() as viewer:
+            viewer.settled(1)
+            unit = at.json("/unit", name="PLANT")
+            self.assertEqual((unit["lines"], unit["faults"]), (None, []))
+            self.assertIn("The workbench gives no texts back", unit["note"])
+            at.json("/net", name="PLANT", aspect="1")
+            viewer.settled(4)  # The types of its blocks are looked at too.
+            self.assertEqual(viewer.units.keys(), {"PLANT", "FEEDER", "LAMP", "LIFTER"})
+            self.engineer.commit([Put("LAMP", self.engineer.revision("LAMP"), WRONG.replace("BLOCK A", "BLOCK LAMP"))])
+            viewer.until(lambda it: it.state("LAMP") == it.state("PLANT") == "faulty")
+            unit = at.json("/unit", name="LAMP")
+        self.assertEqual((unit["lines"], unit["faults"]), (None, [{"code": "WITH_UNKNOWN", "start": 39, "end": 40}]))
+
+    def test_a_change_of_a_unit_that_the_board_does_not_know(self) -> None:
+        self.check()
+        at = self.shared("--unit", "PLANT")
+        with at.viewer() as viewer:
+            viewer.settled(1)
+            at.json("/net", name="PLANT", aspect="1")
+            viewer.until(lambda it: it.answers.get(("net", "PLANT"), (0, False))[1])
+            serial = viewer.answers["net", "PLANT"][0]
+            text = (CONVEYOR / "STATION.fb").read_text()
+            number = self.engineer.commit([Put("STATION", self.engineer.revision("STATION"), text.replace("LIFT : LIFTER;", "LIFT : LIFTER; SPARE : LIFTER;"))])
+            viewer.until(lambda it: it.answers["net", "PLANT"][1] and it.answers["net", "PLANT"][0] > serial)
+            self.engineer.commit([Remove("STATION", number)])
+            viewer.until(lambda it: it.state("PLANT") == "faulty")
+            self.assertNotIn("STATION", {it["unit"] for it in viewer.changes})
+
+    def test_a_text_that_is_another_one(self) -> None:
+        self.write("A.fb", "FUNCTION_BLOCK A END_FUNCTION_BLOCK")
+        at = self.shared("--files", "A.fb")
+        with at.viewer() as viewer:
+            viewer.until(lambda it: it.state("A") == "absent")
+            self.engineer.commit([Put("A", 0, WRONG)])
+            viewer.until(lambda it: it.state("A") == "faulty")
+            unit = at.json("/unit", name="A")
+            self.assertEqual((unit["note"], unit["faults"]), (ANOTHER, [{"code": "WITH_UNKNOWN", "start": 36, "end": 37}]))
+            self.write("A.fb", WRONG)
+            viewer.until(lambda it: at.json("/unit", name="A")["note"] != ANOTHER)
+            unit = at.json("/unit", name="A")
+            self.assertEqual((unit["note"], unit["faults"][0]["column"]), (UNSURE, 37))
+            self.engineer.commit([Put("A", 1, WRONG)])
+            viewer.until(lambda it: it.units["A"]["revision"] == 2)
+        self.assertEqual(at.json("/unit", name="A")["note"], "This is the text of the file as it was read before revision 2 came, and may be another one.")
+
+    def test_a_fault_that_can_not_be_one_of_the_file(self) -> None:
+        at = self.shared("--files", ".")
+        with at.viewer() as viewer:
+            viewer.until(lambda it: it.states() == {"absent"})
+            self.check()
+            viewer.settled(6)
+            base = self.engineer.revision("FEEDER")
+            self.engineer.commit([Put("FEEDER", base, (CONVEYOR / "FEEDER.fb").read_text().replace("DONE TO IDLE", "DONE TO IDEL"))])
+            viewer.until(lambda it: it.state("FEEDER") == "faulty")
+            unit = at.json("/unit", name="FEEDER")
+            self.assertEqual((unit["note"], [it["code"] for it in unit["faults"]], "line" in unit["faults"][0]), (ANOTHER, ["STATE_UNKNOWN"], False))
+            self.edit("FEEDER.fb", "DONE TO IDLE", "DONE TO IDEL")
+            viewer.until(lambda it: at.json("/unit", name="FEEDER")["note"] != ANOTHER)
+        self.assertEqual(at.json("/unit", name="FEEDER")["faults"][0]["line"], 19)
+
+    def test_units_that_are_asked_for(self) -> None:
+        at = self.shared()
+        with at.viewer() as viewer:
+            viewer.take()
+            token = viewer.about["token"]
+            self.assertEqual(at.request("/look", "POST", b'{"unit":"A"}', X_Board_Token=token), (200, '{"unit":"A","new":true}'))
+            viewer.until(lambda it: it.state("A") == "absent")
+            self.engineer.commit([Put("A", 0, WRONG)])
+            viewer.until(lambda it: it.state("A") == "faulty")
+            self.assertEqual(at.request("/look", "POST", b'{"unit":"a"}', X_Board_Token=token), (200, '{"unit":"A","new":false}'))
+            for wrong in (b"", b"[]", b"{}", b'{"unit":1}', b'{"unit":""}', b'{"unit":"1A"}', b'{"unit":"A-B"}', b'{"unit":"%s"}' % (b"A" * 65), b"\xff"):
+                self.assertEqual(at.request("/look", "POST", wrong, X_Board_Token=token)[0], 400, wrong)
+            self.assertEqual(viewer.units.keys(), {"A"})
+
+    def test_what_changes_something_needs_the_token(self) -> None:
+        at = self.shared("--unit", "A")
+        for token in ({}, {"X_Board_Token": ""}, {"X_Board_Token": "0" * 32}, {"X_Board_Token": "\xe9"}):
+            self.assertEqual(at.request("/look", "POST", b'{"unit":"B"}', **token), (403, "the token of the page is missing\n"))
+        self.assertEqual(at.request("/unit?name=B")[0], 404)
+
+    def test_the_end_of_the_workbench(self) -> None:
+        with serving(sessions=1) as port:
+            at = self.start("--connect", f":{port}", "--unit", "A")
+            with at.viewer() as viewer:
+                viewer.until(lambda it: it.state("A") == "absent")
+        with at.viewer() as viewer:
+            viewer.until(lambda it: it.ended)
+            self.assertIn(f"127.0.0.1:{port}", viewer.ended)
+            self.assertEqual(viewer.state("A"), "absent")
+
+    def test_a_full_history(self) -> None:
+        with serving(1, "--history", "5") as port:
+            at = self.start("--connect", f":{port}", "--unit", "A")
+            with at.viewer() as viewer:
+                viewer.until(lambda it: it.ended)
+        self.assertEqual(viewer.ended, "the workbench has recorded as many calls as it was started for; start it afresh, or with a higher --history")
+
+    def test_calls_are_few(self) -> None:
+        """Looks at revisions cost one recorded call for 16 units, and are rarer where that is many and where nothing changes."""
+        board_of_many = Board("many", shared=True)
+        watch = SharedWatch(board_of_many, self.engineer, None, [f"U{at}" for at in range(1_600)])
+        watch.start()
+        self.assertEqual((watch.step(), board_of_many.news(0, None).calls), (HEARTBEAT, 0))
+        with board_of_many.viewer():
+            self.assertEqual((watch.step(), board_of_many.news(0, None).calls), (100 / 50, 100))
+            with mock.patch("board_watch.IDLE_AFTER", -1):
+                self.assertEqual((watch.step(), board_of_many.news(0, None).calls), (100 / 10, 200))
+            self.engineer.commit([Put("U7", 0, WRONG)])
+            self.assertLessEqual(watch.step(), 100 / 50)
+            # One more call for the unit that has changed, and one for its faults.
+            self.assertEqual(board_of_many.news(0, None).calls, 302)
+        self.assertEqual(watch.step(), HEARTBEAT)
+
+
+class RefusalsTest(BoardTest):
+    """What a board does not answer."""
+
+    PATHS = ("/", "/events", "/unit?name=LAMP", "/net?name=PLANT&aspect=1", "/plan?name=PLANT", "/instance?name=PLANT&path=LINE.PANEL")
+
+    def test_other_hosts(self) -> None:
+        at = self.conveyor()
+        for host in ("evil.example", f"evil.example:{at.port}", "127.0.0.1", f"127.0.0.1:{at.port + 1}", f"127.0.0.1.evil.example:{at.port}", ""):
+            for path in self.PATHS:
+                self.assertEqual(at.request(path, Host=host)[0], 403, (host, path))
+        self.assertEqual(at.request("/", Host=f"localhost:{at.port}")[0], 200)
+
+    def test_no_host_and_two_hosts(self) -> None:
+        at = self.conveyor()
+        good = f"Host: 127.0.0.1:{at.port}\r\n".encode()
+        for headers in (b"", good + b"Host: evil.example\r\n", good + good):
+            self.assertIn(b" 403 ", at.raw(b"GET /unit?name=LAMP HTTP/1.1\r\n" + headers + b"Connection: close\r\n\r\n").splitlines()[0])
+
+    def test_other_origins(self) -> None:
+        at = self.conveyor()
+        others = ("http://evil.example", "null", f"https://127.0.0.1:{at.port}", f"http://127.0.0.1:{at.port + 1}", "http://127.0.0.1", "")
+        for origin in others:
+            for path in self.PATHS:
+                self.assertEqual(at.request(path, Origin=origin)[0], 403, (origin, path))
+            self.assertEqual(at.request("/look", "POST", b"{}", Origin=origin)[0], 403)
+        self.assertEqual(at.request("/", Origin=f"http://127.0.0.1:{at.port}")[0], 200)
+
+    def test_requests_that_other_sites_make(self) -> None:
+        at = self.conveyor()
+        for site in ("cross-site", "same-site"):
+            for path in self.PATHS:
+                self.assertEqual(at.request(path, Sec_Fetch_Site=site, Sec_Fetch_Mode="no-cors")[0], 403, (site, path))
+            self.assertEqual(at.request("/unit?name=LAMP", Sec_Fetch_Site=site, Sec_Fetch_Mode="navigate")[0], 403)
+            self.assertEqual(at.request("/", Sec_Fetch_Site=site, Sec_Fetch_Mode="navigate")[0], 200)
+
+    def test_other_paths(self) -> None:
+        at = self.conveyor()
+        for path in ("/nothing", "/page", "/unit/", "/../FEEDER.fb", "/FEEDER.fb", "/%2e%2e/etc/passwd", "/look"):
+            self.assertEqual(at.request(path), (404, "there is no such page\n"), path)
+        self.assertEqual(at.request("/unit", "POST", b"{}")[0], 404)
+        self.assertEqual(at.request("/unit?name=NOTHING"), (404, "the board has no such unit\n"))
+
+    def test_bad_queries(self) -> None:
+        at = self.conveyor()
+        for path in (
+            "/unit", "/unit?", "/unit?name", "/unit?name=", "/unit?name=A&name=B", "/unit?name=A&more=B", "/unit?other=A", "/unit?name=%ff", "/net", "/net?name=PLANT",
+            "/net?name=PLANT&aspect=x", "/net?name=PLANT&aspect=nan", "/net?name=PLANT&aspect=0", "/net?name=PLANT&aspect=-1",
+            "/plan?", "/instance?name=A", "/events?change=x", "/events?change=-2", "/events?change=9007199254740992", "/events?other=1", "/?a=b",
+            "/unit?" + "&".join(f"a{at}=1" for at in range(9)),
+        ):
+            self.assertEqual(at.request(path)[0], 400, path)
+        self.assertEqual(at.request("/unit?name=" + "A" * 40_000)[0], 414)
+
+    def test_other_methods_and_bodies(self) -> None:
+        at = self.conveyor()
+        for method in ("PUT", "DELETE", "OPTIONS", "TRACE", "PATCH"):
+            self.assertEqual(at.request("/", method)[0], 501, method)
+        token = self.token(at)
+        self.assertEqual(at.request("/look", "POST", b'{"unit":"A"}', X_Board_Token=token), (400, "this board has the units of its folder, and no others\n"))
+        host = f"Host: 127.0.0.1:{at.port}\r\n".encode()
+        for length in (b"", b"Content-Length: 1025\r\n", b"Content-Length: -1\r\n", b"Content-Length: x\r\n", b"Transfer-Encoding: chunked\r\n"):
+            answer = at.raw(b"POST /look HTTP/1.1\r\n" + host + length + b"\r\n")
+            self.assertIn(b" 400 ", answer.splitlines()[0], length)
+
+    def test_bytes_that_are_no_request(self) -> None:
+        at = self.conveyor()
+        for content in (b"\x00\xff\r\n\r\n", b"GET\r\n\r\n", b"GET / HTTP/9.9\r\n\r\n", b"GET / HTTP/1.1\r\nno header\xff\r\n\r\n"):
+            answer = at.raw(content)
+            self.assertNotIn(b" 200 ", answer.splitlines()[0] if answer else b"")
+            self.assertNotIn(b"<", answer)
+        with at.viewer() as viewer:
+            viewer.settled(6)
+
+    def test_this_machine_alone(self) -> None:
+        at = self.conveyor()
+        sockets = [line.split() for table in ("tcp", "tcp6") for line in Path(f"/proc/net/{table}").read_text().splitlines()]
+        listening = [it[1] for it in sockets if it[1].endswith(f":{at.port:04X}") and it[3] == "0A"]
+        self.assertEqual(listening, [f"0100007F:{at.port:04X}"])
+
+    def token(self, at: Address) -> str:
+        with at.viewer() as viewer:
+            viewer.take()
+            return viewer.about["token"]
+
+
+class ViewersTest(BoardTest):
+    def test_two_viewers_at_once(self) -> None:
+        at = self.conveyor()
+        with at.viewer() as one, at.viewer() as other:
+            for viewer in (one, other):
+                viewer.settled(6)
+            self.edit("LAMP.fb", "VAR_INPUT VALUE", "VAR_INPUT VALU")
+            for viewer in (one, other):
+                viewer.until(lambda it: it.state("LAMP") == "faulty")
+
+    def test_a_viewer_that_goes_away(self) -> None:
+        at = self.conveyor()
+        with at.viewer() as gone:
+            gone.settled(6)
+        with at.viewer() as viewer:
+            viewer.settled(6)
+            self.edit("LAMP.fb", "VAR_INPUT VALUE", "VAR_INPUT VALU")
+            viewer.until(lambda it: it.state("LAMP") == "faulty")
+        at.process.send_signal(signal.SIGINT)
+        at.process.wait(30)
+        self.assertEqual(at.process.stderr.read(), "")
+
+    def test_a_viewer_that_comes_back(self) -> None:
+        at = self.conveyor()
+        with at.viewer() as viewer:
+            viewer.settled(6)
+            last = viewer.about["last"]
+        self.edit("LAMP.fb", "VAR_INPUT VALUE", "VAR_INPUT VALU")
+        with at.viewer() as other:
+            other.until(lambda it: it.state("LAMP") == "faulty")
+        with at.viewer(f"?change={last}") as back, at.viewer() as new:
+            back.settled(6)
+            new.settled(6)
+        self.assertEqual(([it["unit"] for it in back.changes], new.changes), (["LAMP"], []))
+
+    def test_texts_are_no_markup(self) -> None:
+        self.write("A.fb", MARKUP)
+        self.write("<b>B.fb", "FUNCTION_BLOCK <script>")
+        at = self.start(".")
+        with at.viewer() as viewer:
+            viewer.settled(2)
+        page = at.request("/")[1]
+        self.assertNotIn("alert(1)", page)
+        self.assertEqual(self.pieces(at.json("/unit", name="A")) + "\n", MARKUP)
+        for path in ("/unit?name=A", "/events"):
+            self.assertIn(self.header(at, path, "Content-Type"), ("application/json", "text/event-stream"))
+            self.assertEqual(self.header(at, path, "X-Content-Type-Options"), "nosniff")
+        policy = self.header(at, "/", "Content-Security-Policy")
+        self.assertRegex(policy, r"^default-src 'none'; script-src 'nonce-[0-9a-f]{32}'; style-src 'nonce-[0-9a-f]{32}'; connect-src 'self'; img-src data:; ")
+        self.assertIn("require-trusted-types-for 'script'", policy)
+        self.assertNotEqual(policy, self.header(at, "/", "Content-Security-Policy"))
+
+    def header(self, at: Address, path: str, name: str) -> str:
+        connection = HTTPConnection("127.0.0.1", at.port, timeout=60)
+        connection.request("GET", path)
+        value = connection.getresponse().headers[name]
+        connection.close()
+        return value
+
+
+if __name__ == "__main__":
+    unittest.main()

@@ -1,0 +1,356 @@
+"""The board's page in a real Chromium."""
+from __future__ import annotations
+
+import os
+import unittest
+from itertools import product
+from pathlib import Path
+
+from boards import Address
+from browser import Browser
+from support import CONVEYOR, serving
+from test_board import MARKUP, BoardTest
+
+from bench61499 import Put, Session
+
+SETTLED = "board.connected && count().pending === 0 && board.units.size === "
+PICTURE = os.environ.get("BENCH61499_BOARD_PICTURE")
+"""Where the picture for the document is written, if anywhere."""
+# Each control that has no name, and each list, tab or field without its role.
+UNNAMED = """(() => {
+  const named = (it) => (it.getAttribute("aria-label") ?? it.labels?.[0]?.textContent ?? "").trim() || it.textContent.trim() || it.getAttribute("aria-labelledby");
+  return [...document.querySelectorAll("button, input, canvas, [role]:not([role=status], [role=alert]), [tabindex]")].filter((it) => it.getClientRects().length && !named(it) && it.getAttribute("role") !== "presentation").map((it) => it.outerHTML);
+})()"""
+
+
+class PageTest(BoardTest):
+    """A test with a window on a board."""
+
+    def setUp(self) -> None:
+        super().setUp()
+        self.browser = Browser()
+        self.addCleanup(self.browser.close)
+
+    def tearDown(self) -> None:
+        self.assertEqual(self.browser.log(), [])
+
+    def see(self, at: Address, units: int, place: str = "") -> None:
+        self.browser.open(at.url + place)
+        self.browser.until(f"{SETTLED}{units}")
+
+    def see_conveyor(self, place: str = "") -> Address:
+        at = self.conveyor()
+        self.see(at, 6, place)
+        return at
+
+    def words(self, selector: str) -> str:
+        """The words of the first such element as they are seen, without empty lines."""
+        words = self.browser.value(f"document.querySelector('{selector}')?.innerText ?? ''")
+        return "\n".join(line for line in words.split("\n") if line)
+
+    def until_words(self, selector: str, words: str) -> None:
+        self.browser.until(f"document.querySelector('{selector}')?.textContent.includes({words!r})")
+
+
+class UnitsTest(PageTest):
+    def test_a_fault_comes_and_goes(self) -> None:
+        self.see_conveyor("#FEEDER/text")
+        self.assertEqual(self.words("#counts").split(), "6 units 0 faults 0 pending".split())
+        self.edit("FEEDER.fb", "DONE TO IDLE", "DONE TO IDEL")
+        self.until_words("mark", "IDEL")
+        self.assertEqual(self.words(".told"), "STATE_UNKNOWN no state IDEL in this chart; did you mean IDLE?")
+        self.assertEqual(self.words(".faults").split("\n"), ["19:13", "STATE_UNKNOWN", "no state IDEL in this chart; did you mean IDLE?"])
+        self.assertEqual(self.words("#counts").split(), "6 units 1 fault in 1 unit 0 pending".split())
+        self.assertEqual(self.browser.value("document.title"), "1 fault – .")
+        self.until_words("#said", "FEEDER: 1 fault")
+        self.edit("FEEDER.fb", "DONE TO IDEL", "DONE TO IDLE")
+        self.browser.until("!document.querySelector('mark') && document.querySelector('.text')")
+        self.until_words("#said", "FEEDER: no faults")
+        lines = self.browser.value("[...document.querySelectorAll('#changes li')].map((it) => it.innerText.replace(/\\s+\\S+, /, ' '))")
+        self.assertEqual(lines, ["FEEDER revision 2 → 3 FEEDER.fb", "FEEDER revision 1 → 2 FEEDER.fb"])
+
+    def test_search_and_filter(self) -> None:
+        self.see_conveyor()
+        rows = "[...document.querySelectorAll('#units .row .name')].map((it) => it.textContent)"
+        self.browser.press("/", *"li")
+        self.assertEqual(self.browser.value(rows), ["LIFTER"])
+        self.browser.press("Escape", *"zz")
+        self.assertEqual(self.words("#units"), "No unit is like that.")
+        self.browser.press("Escape")
+        self.edit("FEEDER.fb", "DONE TO IDLE", "DONE TO IDEL")
+        self.browser.until("count().faulty === 1")
+        self.browser.value("document.querySelector('[data-filter=faulty]').click()")
+        self.assertEqual(self.browser.value(rows), ["FEEDER"])
+
+    def test_texts_are_no_markup(self) -> None:
+        self.write("A.fb", MARKUP)
+        self.write("<img src=x onerror=alert(3)>.fb", "FUNCTION_BLOCK <script>alert(4)</script>")
+        at = self.start(".")
+        self.see(at, 2, "#A/text")
+        self.browser.until("document.querySelector('mark')")
+        lines = self.browser.value("[...document.querySelectorAll('.text .l')].map((it) => it.textContent)")
+        self.assertEqual("\n".join(lines) + "\n", MARKUP)
+        self.browser.press("f")
+        self.browser.until("document.querySelector('.told')?.textContent.includes('SYNTAX')")
+        self.assertIn("<img src=x onerror=alert(3)>.fb", self.words("#facts"))
+        self.assertIn("<script>alert(4)</script>", self.words(".text"))
+        self.assertEqual(self.browser.value("document.querySelectorAll('img, main script').length"), 0)
+        refused = self.browser.value("(() => { try { document.body.innerHTML = '<b>'; return ''; } catch (error) { return error.name; } })()")
+        self.assertEqual(refused, "TypeError")
+        self.assertIn("TrustedHTML", "".join(self.browser.log()))
+
+    def test_the_end_of_the_workbench(self) -> None:
+        self.copy_conveyor()
+        with serving(sessions=1) as port:
+            at = self.start("--connect", f":{port}", "--files", ".")
+            self.see(at, 6, "#LAMP/text")
+            self.browser.until("document.querySelector('.text')")
+        self.browser.until("!document.getElementById('ended').hidden")
+        self.assertRegex(self.words("#ended"), "^The workbench answers no more: .* This is what it last knew.$")
+        self.assertEqual((self.words("#live"), self.words("#unit")), ("ended", "LAMP"))
+        self.assertIn("FUNCTION_BLOCK LAMP", self.words(".text"))
+
+    def test_the_end_of_the_board(self) -> None:
+        at = self.see_conveyor("#LAMP/text")
+        self.browser.until("document.querySelector('.text')")
+        at.process.terminate()
+        self.browser.until("!document.getElementById('ended').hidden")
+        self.assertIn("The board does not answer. This is what it last knew", self.words("#ended"))
+        self.assertIn("FUNCTION_BLOCK LAMP", self.words(".text"))
+        self.browser.log()  # The browser notes that nobody answers.
+
+    def test_places_that_are_not_there(self) -> None:
+        self.see_conveyor("#%ff/text")
+        self.until_words(".said", "The board has no unit %ff.")
+        for place in ("#NOTHING/network", "#<b>/plan", "#constructor/toString/x"):
+            self.browser.value(f"location.hash = '{place}'")
+            self.until_words(".said", f"The board has no unit {place[1:].split('/')[0]}.")
+        self.browser.value("location.hash = '#LAMP/toString/x'")
+        self.browser.until("document.querySelector('.text')")
+        self.assertEqual(self.browser.value("shown.tab"), "text")
+
+    def test_another_session(self) -> None:
+        with serving(sessions=2) as port, Session.connect("127.0.0.1", port) as engineer:
+            at = self.start("--connect", f":{port}")
+            self.see(at, 0)
+            self.browser.value("document.getElementById('look-name').focus()")
+            self.browser.press(*"lamp", "Enter")
+            self.browser.until("board.units.get('LAMP')?.state === 'absent'")
+            engineer.commit([Put("LAMP", 0, "FUNCTION_BLOCK LAMP EVENT_INPUT E WITH X; END_EVENT END_FUNCTION_BLOCK")])
+            self.browser.until("document.querySelector('.faults')")
+            self.assertEqual(self.words(".faults").split("\n"), ["39–40", "WITH_UNKNOWN", "bytes of a text that is not here"])
+            self.assertIn("so its text can't be shown", self.words("#note"))
+            self.assertRegex(self.words("#changes-note"), r"This board has made \d+ recorded calls\.$")
+            self.assertRegex(self.words("#changes"), r"^LAMP new, revision 1\n\d\d:\d\d:\d\d, another session$")
+
+    def test_a_page_that_is_not_seen_rests(self) -> None:
+        self.see_conveyor()
+        hide = "(Object.defineProperty(document, 'hidden', { value: %s, configurable: true }), document.dispatchEvent(new Event('visibilitychange')))"
+        self.browser.value(hide % "true")
+        self.assertEqual(self.browser.value("[board.connected, board.events]"), [False, None])
+        self.edit("LAMP.fb", "SHOW WITH VALUE", "SHOW WITH VALUES")
+        self.browser.value(hide % "false")
+        self.browser.until("board.units.get('LAMP').state === 'faulty'")
+        self.assertRegex(self.words("#changes"), "^LAMP revision 1 → 2")
+
+
+class NetworkTest(PageTest):
+    def see_network(self, unit: str = "PLANT") -> None:
+        self.see_conveyor(f"#{unit}/network")
+        self.browser.until("network?.scale > 0")
+
+    def block(self, path: str) -> tuple[float, float]:
+        """Where the middle of a block is in the window."""
+        x, y = self.browser.value(f"""(() => {{
+          const it = network.blocks.find((it) => it.path === {path!r}), at = network.canvas.getBoundingClientRect();
+          return [at.left + network.x + (it.x + it.w / 2) * network.scale, at.top + network.y + (it.y + 10) * network.scale];
+        }})()""")
+        return x, y
+
+    def test_a_click_leads_to_texts(self) -> None:
+        self.see_network()
+        self.browser.click(*self.block("LINE.SECOND.LIFT"))
+        self.browser.until("document.querySelector('.block h3')?.textContent === 'LINE.SECOND.LIFT'")
+        self.assertEqual(self.words(".block").split("\n")[1:4], ["Type LIFTER", "On SOUTH.MOTION", "Where it is declared"])
+        self.assertIn("LIFTED → LINE.PANEL.SHOW (cut)", self.words(".block ul").replace("\n", ""))
+        self.browser.value("document.querySelectorAll('.block .link')[1].click()")
+        self.browser.until("document.querySelector('.l.at')")
+        self.assertEqual((self.words("#unit"), self.words(".l.at").strip()), ("STATION", "LIFT : LIFTER;"))
+        self.browser.value("history.back()")
+        self.browser.until("network?.scale > 0 && document.querySelector('canvas')")
+        self.browser.click(*self.block("LINE.SECOND.LIFT"))
+        self.browser.until("document.querySelector('.block .link')")
+        self.browser.value("document.querySelector('.block .link').click()")
+        self.browser.until("document.querySelector('.text')")
+        self.assertEqual(self.words("#unit"), "LIFTER")
+
+    def test_search_zoom_and_move(self) -> None:
+        self.see_network()
+        self.browser.press("b", *"lifter")
+        self.assertEqual(self.words(".row-tools .number"), "2 of 5 blocks")
+        self.browser.press("Enter", "Enter")
+        self.assertEqual(self.browser.value("network.chosen.path"), "LINE.SECOND.LIFT")
+        before = self.browser.value("[network.scale, network.x]")
+        self.browser.press("Escape")
+        self.browser.value("network.canvas.focus()")
+        self.browser.press("+", "Shift+Right")
+        scale, x = self.browser.value("[network.scale, network.x]")
+        self.assertGreater(scale, before[0])
+        self.browser.press("0")
+        self.assertEqual(self.browser.value("network.scale <= 1.25 && network.boxes.every((it) => network.isSeen(it))"), True)
+
+    def test_it_follows_changes(self) -> None:
+        self.see_network()
+        self.browser.value("network.choose(network.blocks[0], false)")
+        self.edit("STATION.fb", "LIFT : LIFTER;", "LIFT : LIFTER; SPARE : LIFTER;")
+        self.browser.until("network.blocks.length === 7")
+        self.assertEqual(self.browser.value("network.chosen.path"), "LINE.FIRST.BELT")
+        self.edit("FEEDER.fb", "DONE TO IDLE", "DONE TO IDEL")
+        self.browser.until("document.querySelector('.said')")
+        self.assertIn("With faults: FEEDER", self.words(".said"))
+
+
+class PlanTest(PageTest):
+    def test_what_has_changed_since_it_was_looked_at(self) -> None:
+        self.see_conveyor("#PLANT/plan")
+        self.browser.until("document.querySelector('.plan')")
+        self.assertEqual(self.words("#plan-words"), "This plan was not looked at before on this page.")
+        self.assertEqual(self.browser.value("[...document.querySelectorAll('.plan h3')].map((it) => it.firstChild.data)"),
+                         ["Links between resources", "NORTH.MOTION", "SOUTH.MOTION", "SOUTH.SCREEN"])
+        self.browser.press("t")
+        self.browser.until("document.querySelector('.text')")
+        self.edit("PLANT.fb", "LINE.SECOND ON SOUTH.MOTION;", "LINE.SECOND ON SOUTH.MOTION; LINE.SECOND.LIFT ON NORTH.MOTION;")
+        self.browser.until("board.units.get('PLANT').revision === 2 && count().pending === 0")
+        self.browser.press("p")
+        self.browser.until("document.querySelector('ins')")
+        self.assertRegex(self.words("#plan-words"), "^Since it was looked at .*: 4 lines new, 4 gone.$")
+        changed = self.browser.value("[...document.querySelectorAll('ins, del')].map((it) => `${it.tagName} ${it.textContent}`)")
+        self.assertEqual(changed[3:5], ["INS CREATE FB LINE.SECOND.LIFT LIFTER", "DEL CREATE FB LINE.SECOND.LIFT LIFTER"])
+        self.browser.value("[...document.querySelectorAll('button')].find((it) => it.textContent === 'Mark as seen').click()")
+        self.browser.until("document.querySelector('#plan-words')?.textContent.startsWith('As it was')")
+        self.assertEqual(self.browser.value("document.querySelectorAll('ins, del').length"), 0)
+
+
+class EverybodyTest(PageTest):
+    def test_without_a_mouse(self) -> None:
+        self.see_conveyor()
+        self.browser.press("/", *"plant", "Down")
+        self.browser.until("document.querySelector('.text')")
+        self.browser.press("n")
+        self.browser.until("network?.scale > 0")
+        self.browser.press("v", "Right", "Right")
+        self.assertEqual(self.browser.value("network.chosen.path"), "LINE.FIRST.LIFT")
+        self.until_words("#said", "LINE.FIRST.LIFT, LIFTER, on NORTH.MOTION, 5 links")
+        self.browser.press("i")
+        self.browser.until("document.querySelector('.l.at')")
+        self.assertEqual(self.words("#unit"), "STATION")
+        self.browser.press("?")
+        self.browser.until("document.getElementById('help').open")
+        self.browser.press("Escape")
+        self.browser.until("!document.getElementById('help').open")
+
+    def test_single_keys(self) -> None:
+        self.copy_conveyor()
+        self.edit("FEEDER.fb", "DONE TO IDLE", "DONE TO IDEL")
+        at = self.start(".")
+        self.see(at, 6)
+        focus = "document.activeElement.id || document.activeElement.className"
+        for key, wanted in (("u", "units"), ("c", "changes"), ("v", "panel")):
+            self.browser.press(key)
+            self.assertEqual(self.browser.value(focus), wanted)
+        self.browser.press("f")
+        self.until_words("mark", "IDEL")
+        self.browser.press("e")
+        self.assertEqual(self.browser.value(focus), "link fault")
+        self.assertEqual(self.browser.value("document.querySelector('.l.at').dataset.line"), "19")
+        self.browser.value("(document.activeElement.blur(), $('single').click())")
+        self.browser.press("u", "/")
+        self.assertEqual(self.browser.value("document.activeElement.tagName"), "BODY")
+        self.browser.value("location.reload()")
+        self.browser.until(f"{SETTLED}6")
+        self.assertFalse(self.browser.value("$('single').checked"))
+
+    def test_enter_in_the_picture(self) -> None:
+        self.see_conveyor("#PLANT/network")
+        self.browser.until("network?.scale > 0")
+        self.browser.press("v", "Right", "-")
+        self.assertEqual(self.browser.value("network.chosen.path"), "LINE.FIRST.BELT")
+        self.assertLess(self.browser.value("network.scale"), 1.25)
+        self.browser.press("Enter")
+        self.browser.until("document.querySelector('.text')")
+        self.assertEqual(self.words("#unit"), "FEEDER")
+
+    def test_tab_reaches_all_and_is_seen(self) -> None:
+        self.see_conveyor("#PLANT/network")
+        self.browser.until("network?.scale > 0")
+        reached = []
+        for _ in range(40):
+            self.browser.press("Tab")
+            reached.append(self.browser.value("document.activeElement.id || document.activeElement.tagName + ' ' + document.activeElement.textContent"))
+            outline = self.browser.value("document.activeElement === document.body || getComputedStyle(document.activeElement).outlineStyle")
+            self.assertIn(outline, ("solid", True), reached[-1])
+        for wanted in ("search", "units", "BUTTON Network", "block-search", "BUTTON Whole", "blocks", "changes", "help-button"):
+            self.assertIn(wanted, reached)
+        self.assertTrue(any(it.startswith("CANVAS") for it in reached))
+
+    def test_names_and_roles(self) -> None:
+        self.see_conveyor()
+        for place in ("FEEDER/text", "PLANT/network", "PLANT/plan"):
+            self.browser.value(f"location.hash = '#{place}'")
+            self.browser.until("document.querySelector('.text, canvas, .plan')")
+            self.assertEqual(self.browser.value(UNNAMED), [])
+        tree = self.browser.devtools("Accessibility.getFullAXTree")["nodes"]
+        found = {(it["role"]["value"], it["name"]["value"]) for it in tree if not it["ignored"] and "name" in it}
+        for wanted in [("navigation", "Units"), ("searchbox", "Search units"), ("listbox", "Units"), ("tab", "Plan"), ("tabpanel", "PLANT"), ("complementary", "Changes")]:
+            self.assertIn(wanted, found)
+        self.assertIn("option", {role for role, _ in found})
+
+    def test_colours_can_be_read(self) -> None:
+        self.see_conveyor()
+        grounds = {}
+        for scheme in ("light", "dark"):
+            self.browser.colours(scheme)
+            colour = lambda name: self.browser.value(f"getComputedStyle(document.documentElement).getPropertyValue('--{name}').trim()")  # noqa: E731
+            pairs = [*product(("ink", "dim", "accent"), ("ground", "panel", "raised", "tint")), *((it, f"{it}-tint") for it in ("bad", "wait", "good")),
+                     *product(("event", "data", "adapter", "keyword", "constant", "bad"), ("panel",))]
+            for words, ground in pairs:
+                self.assertGreaterEqual(contrast(colour(words), colour(ground)), 4.5, (scheme, words, ground))
+            grounds[scheme] = self.browser.value("getComputedStyle(document.body).backgroundColor")
+        self.assertEqual(len(set(grounds.values())), 2)
+
+
+class PictureTest(PageTest):
+    def test_the_picture_of_the_document(self) -> None:
+        """The network of the conveyor's plant with a block that is chosen, a unit with a fault, and two changes."""
+        for file in CONVEYOR.glob("*.fb"):
+            self.write(f"plant/{file.name}", file.read_bytes())
+        at = self.start("plant")
+        self.browser.devtools("Emulation.setDeviceMetricsOverride", width=1360, height=765, deviceScaleFactor=1, mobile=False)
+        self.see(at, 6, "#PLANT/network")
+        self.write("plant/PUSHER.fb", "FUNCTION_BLOCK PUSHER\n  EVENT_INPUT PUSH WITH FORCE; END_EVENT\nEND_FUNCTION_BLOCK\n")
+        self.browser.until("board.units.get('PUSHER')?.state === 'faulty'")
+        self.edit("plant/FEEDER.fb", "LOAD > 0 AND", "LOAD > 1 AND")
+        self.browser.until("board.changes.length === 2 && count().pending === 0 && network?.canvas.isConnected && network.scale > 0")
+        self.browser.value("network.choose(network.blocks.find((it) => it.path === 'LINE.SECOND.LIFT'), false)")
+        self.browser.until("document.querySelector('.block h3') && !network.planned")
+        self.assertEqual(self.words(".block h3"), "LINE.SECOND.LIFT")
+        self.assertEqual(self.words("#counts").split(), "7 units 1 fault in 1 unit 0 pending".split())
+        self.assertEqual(self.browser.value("board.changes.map((it) => `${it.unit} ${it.old} ${it.new}`)"), ["PUSHER 0 2", "FEEDER 1 3"])
+        if PICTURE:
+            self.browser.picture(Path(PICTURE))
+
+
+def contrast(one: str, other: str) -> float:
+    """The contrast of two colours `#rrggbb`, as the Web Content Accessibility Guidelines count it."""
+    low, high = sorted(map(_luminance, (one, other)))
+    return (high + 0.05) / (low + 0.05)
+
+
+def _luminance(colour: str) -> float:
+    parts = [int(colour[at : at + 2], 16) / 255 for at in (1, 3, 5)]
+    red, green, blue = (it / 12.92 if it <= 0.04045 else ((it + 0.055) / 1.055) ** 2.4 for it in parts)
+    return 0.2126 * red + 0.7152 * green + 0.0722 * blue
+
+
+if __name__ == "__main__":
+    unittest.main()

@@ -1,0 +1,78 @@
+"""What is offered at each place, held to units without faults and to the workbench."""
+import random
+import unittest
+from pathlib import Path
+
+from generated import faults_of, so_many, sound_libraries
+from support import workbench
+
+from bench61499 import Session
+from completion import candidates, declared
+from declarations import DATA_TYPE, TYPE, Use
+from plant import Plant, Text
+from reader import read
+
+OF_NAMES = {"UNKNOWN_TYPE", "WRONG_KIND", "WITH_UNKNOWN", "STATE_UNKNOWN", "EVENT_UNKNOWN", "ALGORITHM_UNKNOWN", "VARIABLE_UNKNOWN",
+            "PORT_UNKNOWN", "PORT_SIDE", "PARAMETER_UNKNOWN", "NO_SUCH_RESOURCE"}
+
+
+def plant_of(texts: dict[str, str]) -> Plant:
+    plant = Plant()
+    for name, text in texts.items():
+        plant.put(Path(f"/plant/{name}.fb"), text)
+    plant.refresh()
+    return plant
+
+
+class CompletionTest(unittest.TestCase):
+    def test_each_name_is_offered(self):
+        """In units without faults each used name is among those that are offered at its place."""
+        count = 0
+        for texts in so_many(sound_libraries(5), 150):
+            plant = plant_of(texts)
+            for text in plant.texts():
+                for use in text.unit.uses:
+                    offered = {it.words.upper() for it in candidates(plant, text, use.start)}
+                    self.assertIn(use.key.name, offered, (text.text, use))
+                    count += 1
+        self.assertGreater(count, 3000)
+
+    def test_what_is_offered_is_right(self):
+        """Another declared name of the same sort that is offered has no fault of names either."""
+        chance, count = random.Random(1), 0
+        with Session.script(workbench()) as session:
+            for texts in so_many(sound_libraries(6), 600):
+                plant = plant_of(texts)
+                for _ in range(3):
+                    text = chance.choice(sorted(plant.texts(), key=lambda it: it.uri))
+                    uses = [it for it in text.unit.uses if it.key.space != DATA_TYPE and not is_path(text, it)]
+                    use = chance.choice(uses) if uses else None
+                    others = other_names(plant, text, use) if use else []
+                    if use and others:
+                        new = replaced(text, use, chance.choice(others))
+                        faults = faults_of(session, {**texts, text.unit.name: new})
+                        self.assertFalse(OF_NAMES & {it.code for it in faults[text.unit.name]}, (text.text, new))
+                        count += 1
+        self.assertGreater(count, 50)
+
+
+def is_path(text: Text, use: Use) -> bool:
+    """Whether a point follows: the name behind it belongs to this one."""
+    return text.text.encode()[use.end :].lstrip().startswith(b".")
+
+
+def other_names(plant: Plant, text: Text, use: Use) -> list[str]:
+    """Names in the place of a used one, of the same section: instances too are offered where a port may stand, as their ports may."""
+    wanted, its = read(text.places.words(0, use.start)).wanted[0], plant.declaration(plant.key(use))
+    if wanted.space == TYPE or not its:
+        return []
+    return [it.words for it in declared(plant, text.unit, wanted) if it.section == its.section and it.key.name != use.key.name]
+
+
+def replaced(text: Text, use: Use, name: str) -> str:
+    encoded = text.places.encoded
+    return (encoded[: use.start] + name.encode() + encoded[use.end :]).decode()
+
+
+if __name__ == "__main__":
+    unittest.main()

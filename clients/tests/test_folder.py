@@ -1,0 +1,74 @@
+"""Folders that are looked at again and again."""
+from __future__ import annotations
+
+import os
+import unittest
+
+from support import InFolder
+
+from folder import Folder
+from units import Misuse
+
+A, B = "FUNCTION_BLOCK A END_FUNCTION_BLOCK", "ADAPTER B END_ADAPTER"
+
+
+class FolderTest(InFolder):
+    def names(self, folder: Folder) -> dict[str, str]:
+        return {name: unit.file.name for name, unit in folder.units.items()}
+
+    def test_looks(self) -> None:
+        self.write("a.fb", A)
+        self.write("inner/b.fb", B)
+        self.write("notes.txt", "FUNCTION_BLOCK C END_FUNCTION_BLOCK")
+        folder = Folder([self.folder])
+        self.assertEqual((folder.look(), self.names(folder)), (True, {"A": "a.fb", "B": "b.fb"}))
+        self.assertFalse(folder.look())
+        file = self.write("a.fb", "ADAPTER C END_ADAPTER")
+        os.utime(file, ns=(1, 1))
+        self.assertEqual((folder.look(), self.names(folder)), (True, {"C": "a.fb", "B": "b.fb"}))
+        file.unlink()
+        self.assertEqual((folder.look(), self.names(folder)), (True, {"B": "b.fb"}))
+
+    def test_files_by_name(self) -> None:
+        folder = Folder([self.write("a.fb", A), self.write("other.txt", B)])
+        self.assertEqual((folder.look(), self.names(folder)), (True, {"A": "a.fb", "B": "other.txt"}))
+        self.write("b.fb", B)
+        self.assertFalse(folder.look())
+
+    def test_two_files_of_one_unit(self) -> None:
+        self.write("a.fb", A)
+        second = self.write("b.fb", A)
+        folder = Folder([self.folder])
+        folder.look()
+        self.assertEqual(self.names(folder), {"A": "a.fb"})
+        self.assertEqual(folder.problems, (f"{self.folder}/a.fb and {second} both declare the unit A; the first one counts",))
+        second.write_text(B)
+        self.assertEqual((folder.look(), self.names(folder), folder.problems), (True, {"A": "a.fb", "B": "b.fb"}, ()))
+
+    def test_a_text_that_declares_nothing_stays_the_unit_that_it_was(self) -> None:
+        file = self.write("x.fb", A)
+        folder = Folder([self.folder])
+        folder.look()
+        file.write_text("")
+        self.assertEqual((folder.look(), self.names(folder)), (True, {"A": "x.fb"}))
+        self.write("y.fb", A)
+        self.assertEqual((folder.look(), self.names(folder)), (True, {"A": "y.fb", "X": "x.fb"}))
+
+    def test_a_folder_that_goes_and_comes_back(self) -> None:
+        inner = self.write("inner/a.fb", A).parent
+        folder = Folder([inner])
+        folder.look()
+        inner.rename(self.folder / "away")
+        self.assertTrue(folder.look())
+        self.assertEqual((self.names(folder), folder.problems), ({"A": "a.fb"}, (f"{inner}: there is no such file or folder; what was read before is shown",)))
+        (self.folder / "away").rename(inner)
+        folder.look()
+        self.assertEqual((self.names(folder), folder.problems), ({"A": "a.fb"}, ()))
+
+    def test_a_folder_that_is_not_there(self) -> None:
+        with self.assertRaisesRegex(Misuse, "nowhere: there is no such file or folder"):
+            Folder([self.folder / "nowhere"]).look()
+
+
+if __name__ == "__main__":
+    unittest.main()
