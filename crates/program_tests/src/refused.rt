@@ -47,7 +47,7 @@ const SCRIPT: &[&str] = &["bench61499", "script", "--history", "5"];
 const SERVE: &[&str] = &["bench61499", "serve", "--port", "7", "--workers=3"];
 
 #[test]
-fn words(rt: HostRuntime) -> Result<(), Fail> {
+fn words_are_read(rt: HostRuntime) -> Result<(), Fail> {
     try_call::<Words>(&rt, rt.alloc(), "settings", " of a script", SCRIPT)?;
     try_call::<Words>(&rt, rt.alloc(), "settings", " of a server", SERVE)
 }
