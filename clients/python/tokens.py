@@ -2,13 +2,13 @@
 from __future__ import annotations
 
 import re
-from collections.abc import Iterator, Sequence
+from collections.abc import Generator, Iterator, Sequence
 from typing import NamedTuple
 
 from bench61499 import NAME_LIMIT
 
-_TOKEN = re.compile(
-    rb"""[ \t\r\n]*+ (?:
+_BLANKS = re.compile(rb"[ \t\r\n]*+")
+_TOKEN = rb"""(?:
          (?P<comment> //[^\n]* | \(\* .*? \*\) )
        | (?P<unclosed> \(\* .* )
        | (?P<typed> (?i: D|DATE|TOD|TIME_OF_DAY|DT|DATE_AND_TIME ) \# [+-]? (?: [\w\#] | [.:-](?=\d) )+
@@ -16,12 +16,22 @@ _TOKEN = re.compile(
                   | [A-Za-z_]\w* \# [+-]? (?: [\w\#] | \.(?=\d) )+ )
        | (?P<word> [A-Za-z_]\w* )
        | (?P<number> \d[\d_]* (?: \#\w+ | \.\d+ (?: [Ee][+-]?\d+ )? )? )
-       | (?P<string> '(?: [^'$\r\n]++ | \$[^\r\n] )*+' | "(?: [^"$\r\n]++ | \$[^\r\n] )*+" )
+       | (?P<string> STRING )
        | (?P<symbol> := | <= | >= | <> | \*\* | -> | \.\. | [;:,.()\[\]=<>+\-*/&] )
-       | (?P<other> . [\x80-\xbf]* )
-       | \Z )""",
-    re.VERBOSE | re.DOTALL,
-)
+       | (?P<other> . [\x80-\xbf]* ) )"""
+
+_SINGLE = rb"""'(?: [^'$\r\n]++ | \$[^\r\n] )*+'"""
+_DOUBLE = _SINGLE.replace(b"'", b'"')
+
+
+def _pattern(strings: bytes, before: bytes = b"", behind: bytes = b"") -> re.Pattern[bytes]:
+    return re.compile(before + b"(?:" + _TOKEN.replace(b"STRING", strings) + behind + b")", re.VERBOSE | re.DOTALL)
+
+
+# The next token behind blanks, or the end; and tokens where a quote of a kind, or of both, is known to be closed nowhere before the end of its line.
+_NEXT = _pattern(_SINGLE + b"|" + _DOUBLE, rb"[ \t\r\n]*+", rb"| \Z")
+_ONLY = {b"'": _pattern(_DOUBLE), b'"': _pattern(_SINGLE)}
+_NEITHER = _pattern(b"(?!)")
 
 RESERVED = frozenset(
     """FUNCTION_BLOCK END_FUNCTION_BLOCK ADAPTER END_ADAPTER SUBAPPLICATION END_SUBAPPLICATION SYSTEM END_SYSTEM APPLICATION
@@ -46,9 +56,45 @@ class Token(NamedTuple):
         return self.words.upper()
 
 
+def _pattern_without(unclosed: set[bytes]) -> re.Pattern[bytes]:
+    """The tokens that are looked for where these quotes are closed nowhere before the end of the line."""
+    return _NEITHER if len(unclosed) > 1 else _ONLY[min(unclosed)]
+
+
+def _matches(data: bytes) -> Iterator[re.Match[bytes]]:
+    """The tokens and the comments of a text in order."""
+    at = 0
+    while at < len(data):
+        for found in _NEXT.finditer(data, at):
+            yield found
+            if found.lastgroup == "other" and found["other"] in _ONLY:
+                break
+        else:
+            return
+        at = yield from _rest_of_line(data, found)
+
+
+def _rest_of_line(data: bytes, quote: re.Match[bytes]) -> Generator[re.Match[bytes], None, int]:
+    """Those behind a quote that is not closed before the end of its line; gives where they end. No later quote of its kind there is closed:
+    each stands behind a `$`, and what follows it was looked at when the first one was. So none of them is tried again."""
+    at, end = quote.end(), _end_of_line(data, quote.end())
+    unclosed = {quote["other"]}
+    while (at := _BLANKS.match(data, at).end()) < end and (found := _pattern_without(unclosed).match(data, at)):
+        yield found
+        at = found.end()
+        if found.lastgroup == "other" and found["other"] in _ONLY:
+            unclosed.add(found["other"])
+    return at
+
+
+def _end_of_line(data: bytes, at: int) -> int:
+    ends = [end for end in (data.find(b"\r", at), data.find(b"\n", at)) if end >= 0]
+    return min(ends, default=len(data))
+
+
 def pieces(text: str) -> Iterator[Token]:
     """The tokens and the comments of a text in order. A comment that is never closed is one token, up to the end."""
-    for found in _TOKEN.finditer(text.encode()):
+    for found in _matches(text.encode()):
         if kind := found.lastgroup:
             yield Token(kind, *found.span(kind), found[kind].decode(errors="replace"))
 
