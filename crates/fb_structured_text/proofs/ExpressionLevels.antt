@@ -11,7 +11,7 @@ use Rattle.fb_grammar.proofs.Shapes.{Shape, IsWithin, among_append, apart_within
 use Rattle.fb_tree.specs.Expression.{Expression}
 use Rattle.fb_grammar.specs.Literals.{literal_kinds}
 use Rattle.fb_structured_text.specs.Operators.{signs, strengths}
-use Rattle.fb_structured_text.specs.Expression.{expression, rows, unary, flat_primary, deep_primary, literal, flat_reference, deep_reference, reference, parenthesized, member_name, expressions, subscripts, row, operand}
+use Rattle.fb_structured_text.specs.Expression.{expression, rows, unary, flat_primary, deep_primary, literal, PartTree, flat_part, deep_part, parts, flat_reference, deep_reference, reference, parenthesized, expressions, subscripts, row, operand}
 
 within_row : (kinds afters found : List Kind) → IsWithin found afters → IsWithin (found ++ (kinds ++ found)) (kinds ++ afters)
 within_row kinds afters found h k m = elim (among_append found (kinds ++ found) k m) [
@@ -62,7 +62,7 @@ abbrev pub deep_firsts : List Kind
 deep_firsts = literal_kinds ++ (name_kinds ++ OpenParenthesis ∷ [])
 
 shape-flat_primary : Shape flat_primary flat_firsts base_afters
-unfolding flat_primary literal flat_reference member_name name
+unfolding flat_primary literal flat_reference flat_part name
 shape-flat_primary = record { predictive = refl; filled = refl; first = refl; after = λ k h. among_left (Point ∷ []) (OpenBracket ∷ []) k h }
 
 shape-expressions : (x : Form Expression) (firsts afters : List Kind) → Shape x firsts afters → are_apart afters (Comma ∷ []) ≡ true → Shape (expressions x) firsts (Comma ∷ afters)
@@ -76,19 +76,54 @@ shape-expressions x firsts afters s apart =
       after = rw s.filled (within_row (Comma ∷ []) afters (after x) s.after);
     }
 
-shape-deep_primary : (inner : Form Expression) (firsts afters : List Kind) → Shape inner firsts afters
-    → are_apart afters (CloseParenthesis ∷ []) ≡ true → are_apart afters (CloseBracket ∷ []) ≡ true → are_apart afters (Comma ∷ []) ≡ true
-    → Shape (deep_primary inner) deep_firsts base_afters
-unfolding deep_primary literal deep_reference member_name subscripts parenthesized name
-shape-deep_primary inner firsts afters s p b c =
-    let no_parenthesis = apart_within (after inner) afters (CloseParenthesis ∷ []) s.after p in
+shape-deep_part : (inner : Form Expression) (firsts afters : List Kind) → Shape inner firsts afters
+    → are_apart afters (CloseBracket ∷ []) ≡ true → are_apart afters (Comma ∷ []) ≡ true
+    → Shape (deep_part inner) name_kinds (OpenBracket ∷ [])
+unfolding deep_part subscripts name
+shape-deep_part inner firsts afters s b c =
     let several = shape-expressions inner firsts afters s c in
     let no_bracket = apart_within (after (expressions inner)) (Comma ∷ afters) (CloseBracket ∷ []) several.after b in
     record {
-      predictive = rw (s.predictive, no_parenthesis, several.predictive, no_bracket) refl;
+      predictive = rw (several.predictive, no_bracket) refl;
       filled = refl;
       first = refl;
-      after = rw (s.filled, several.filled) (λ k h. h);
+      after = rw several.filled (λ k h. h);
+    }
+
+-- behind a part comes a bracket at most, and a point begins the next one
+shape-parts : (part : Form PartTree) (firsts : List Kind) → Shape part firsts (OpenBracket ∷ []) → Shape (parts part) firsts base_afters
+shape-parts part firsts s =
+    let free = apart_within (after part) (OpenBracket ∷ []) (Point ∷ []) s.after refl in
+    record {
+      predictive = rw (s.predictive, s.filled, free) refl;
+      filled = rw s.filled refl;
+      first = rw s.filled s.first;
+      after = rw s.filled (within_row (Point ∷ []) (OpenBracket ∷ []) (after part) s.after);
+    }
+
+shape-deep_reference : (inner : Form Expression) (firsts afters : List Kind) → Shape inner firsts afters
+    → are_apart afters (CloseBracket ∷ []) ≡ true → are_apart afters (Comma ∷ []) ≡ true
+    → Shape (deep_reference inner) name_kinds base_afters
+unfolding deep_reference
+shape-deep_reference inner firsts afters s b c =
+    let p = shape-parts (deep_part inner) name_kinds (shape-deep_part inner firsts afters s b c) in
+    record { predictive = p.predictive; filled = p.filled; first = p.first; after = p.after }
+
+within_nothing : (kinds afters : List Kind) → IsWithin kinds afters → IsWithin (kinds ++ []) afters
+within_nothing kinds afters h k m = elim (among_append kinds [] k m) [ inl p ↦ h k p | inr p ↦ cc p ]
+
+shape-deep_primary : (inner : Form Expression) (firsts afters : List Kind) → Shape inner firsts afters
+    → are_apart afters (CloseParenthesis ∷ []) ≡ true → are_apart afters (CloseBracket ∷ []) ≡ true → are_apart afters (Comma ∷ []) ≡ true
+    → Shape (deep_primary inner) deep_firsts base_afters
+unfolding deep_primary literal parenthesized
+shape-deep_primary inner firsts afters s p b c =
+    let no_parenthesis = apart_within (after inner) afters (CloseParenthesis ∷ []) s.after p in
+    let r = shape-deep_reference inner firsts afters s b c in
+    record {
+      predictive = rw (s.predictive, no_parenthesis, r.predictive, r.filled, r.first) refl;
+      filled = rw r.filled refl;
+      first = rw r.first refl;
+      after = rw s.filled (within_nothing (after (deep_reference inner)) base_afters r.after);
     }
 
 shape-unary : (x : Form Expression) (firsts afters : List Kind) → Shape x firsts afters → are_apart signs firsts ≡ true → Shape (unary x) (signs ++ firsts) afters
@@ -114,9 +149,6 @@ shape-expression (suc n) = shape-rows strengths (unary (deep_primary (expression
     (shape-unary (deep_primary (expression n)) deep_firsts base_afters (shape-deep_primary (expression n) (expression_firsts n) expression_afters (shape-expression n) refl refl refl) refl)
 
 pub shape-reference : (n : ℕ) → Shape (reference n) name_kinds base_afters
-unfolding reference flat_reference deep_reference member_name subscripts name
+unfolding reference flat_reference flat_part name
 shape-reference zero = record { predictive = refl; filled = refl; first = refl; after = λ k h. among_left (Point ∷ []) (OpenBracket ∷ []) k h }
-shape-reference (suc n) =
-    let s = shape-expressions (expression n) (expression_firsts n) expression_afters (shape-expression n) refl in
-    let no_bracket = apart_within (after (expressions (expression n))) (Comma ∷ expression_afters) (CloseBracket ∷ []) s.after refl in
-    record { predictive = rw (s.predictive, no_bracket) refl; filled = refl; first = refl; after = rw s.filled (λ k h. h) }
+shape-reference (suc n) = shape-deep_reference (expression n) (expression_firsts n) expression_afters (shape-expression n) refl refl

@@ -3,7 +3,7 @@ use Rattle.std.proofs.Common.{◌≡◌, ℕ, zero, suc, ◌+◌, ◌-◌, ◌<�
 use Rattle.std.proofs.Math.Seq.{drop-cons}
 use borrow.Author.Tests.{eqb-true}
 use Rattle.fb_grammar.specs.declared.kind.Kind.{Kind}
-use Rattle.fb_grammar.specs.declared.kind.Kind.TheVariants.{Or}
+use Rattle.fb_grammar.specs.declared.kind.Kind.TheVariants.{Or, Point}
 use Rattle.fb_grammar.specs.declared.lexeme.Lexeme.{Lexeme}
 use Rattle.fb_grammar.specs.declared.stop.Stop.{Stop}
 use Rattle.fb_grammar.specs.declared.stop.Stop.TheVariants.{Memory, Broken}
@@ -17,7 +17,7 @@ use Rattle.fb_grammar.proofs.Loops.{many_none, Begins}
 use Rattle.fb_tree.specs.declared.expression.BinaryUse.{BinaryUse}
 use Rattle.fb_tree.specs.Expression.{Expression, row_expression, operands_of}
 use Rattle.fb_structured_text.specs.Operators.{next_strength, operators, strength_of, strengths}
-use Rattle.fb_structured_text.specs.Expression.{expression, rows, unary, primary, row, operand, row_of, literal, reference_value, deep_reference, deep_primary, member_name, parenthesized}
+use Rattle.fb_structured_text.specs.Expression.{PartTree, expression, rows, unary, primary, row, operand, row_of, further_part, literal, reference_value, deep_reference, deep_primary, deep_part, parenthesized}
 
 pub begins-operand : (kinds : List Kind) (x : Form Expression) → Begins (operand kinds x) kinds
 unfolding operand
@@ -107,8 +107,12 @@ unfolding expression
 expression_is zero = refl
 expression_is (suc n) = refl
 
+-- what comes behind a further name begins with its point
+pub begins-further_part : (part : Form PartTree) → Begins (further_part part) (Point ∷ [])
+begins-further_part part = record { filled = refl; first = refl }
+
 first-reference : (inner : Form Expression) → first (as_value reference_value (deep_reference inner)) ≡ name_kinds
-unfolding deep_reference member_name name
+unfolding deep_reference deep_part name
 first-reference inner = refl
 
 pub primary_reference : (inner : Form Expression) (ts : List Lexeme) → is_next (first literal) ts ≡ false → is_next name_kinds ts ≡ true → read (deep_primary inner) ts ≡ read (as_value reference_value (deep_reference inner)) ts

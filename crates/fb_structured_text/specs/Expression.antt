@@ -1,5 +1,6 @@
 -- The forms of expressions at each level.
-use Rattle.std.specs.Prelude.{ℕ, zero, suc, ◌+◌, List, [], ◌∷◌, Vec, drop, map, Option, Some, None}
+use Rattle.std.specs.Prelude.{ℕ, zero, suc, ◌+◌, List, [], ◌∷◌, ◌++◌, Vec, drop, length, map, Option, Some, None}
+use Rattle.std.specs.List.{flat_map}
 use Rattle.std.specs.declared.alloc.Global.{Global}
 use Rattle.std.specs.declared.boxed.Box.{Box}
 use Rattle.fb_tree.specs.Text.declared.name.NameUse.{NameUse}
@@ -11,26 +12,15 @@ use Rattle.fb_grammar.specs.Literals.{across, literal_kinds, literal_use}
 use Rattle.fb_grammar.specs.Words.{key, behind, list, name}
 use Rattle.fb_tree.specs.declared.expression.BinaryUse.{BinaryUse}
 use Rattle.fb_tree.specs.declared.expression.Expr.{Expr}
+use Rattle.fb_tree.specs.declared.reference.Member.{Member}
 use Rattle.fb_tree.specs.declared.reference.Reference.{Reference}
 use Rattle.fb_tree.specs.declared.expression.UnaryUse.{UnaryUse}
-use Rattle.fb_tree.specs.Expression.{ReferenceTree, reference_tree, Expression, expression_tree, literal_expression, reference_expression, unary_expression, row_expression, parentheses, Expressions, no_expressions, expressions_of, operands_of}
+use Rattle.fb_tree.specs.Expression.{ReferenceTree, reference_tree, Expression, expression_tree, literal_expression, reference_expression, unary_expression, row_expression, parentheses, Expressions, expressions_of, operands_of}
 use Rattle.fb_structured_text.specs.Operators.{signs, strengths, operators, unary_use, binary_use}
 
 -- Expressions and statements nest at levels 0 to 64. The index of a form counts the levels below its own, so that level 0 has index 64.
 abbrev pub levels : ℕ
 levels = 64
-
-abbrev pub variable_of : NameUse → Option NameUse → ReferenceTree
-variable_of n None = record { name = n; member = None; span = n.span }
-variable_of n (Some m) = record { name = n; member = Some m; span = across n.span m.span }
-
--- name ['.' name]
-unfoldable pub member_name : Form (NameUse × Option NameUse)
-member_name = both name (option (behind (key Point) name))
-
--- the same, with its place
-abbrev pub variable : Form ReferenceTree
-variable = as_value (λ v. variable_of v.0 v.1) member_name
 
 -- expr {',' expr}
 unfoldable pub expressions : Form Expression → Form (List Expression)
@@ -40,26 +30,68 @@ expressions inner = list inner
 unfoldable pub subscripts : Form Expression → Form (List Expression × Lexeme)
 subscripts inner = behind (key OpenBracket) (both (expressions inner) (key CloseBracket))
 
--- a variable without subscripts
-abbrev pub plain : ReferenceTree → ReferenceTree × Expressions
-plain variable = (variable, no_expressions)
+-- a name of a reference, the subscripts behind it, and where it ends
+pub record PartTree : Type 0 where
+  pub name : NameUse
+  pub subscripts : List Expression
+  pub end : ℕ
 
--- a variable and its subscripts, through the bracket that closes them
-abbrev pub subscripted : ReferenceTree → Option (List Expression × Lexeme) → ReferenceTree × Expressions
-subscripted variable None = plain variable
-subscripted variable (Some s) = (record { name = variable.name; member = variable.member; span = across variable.span s.1.span }, expressions_of s.0)
+-- it ends with the bracket that closes its subscripts, or with the name where none are written
+abbrev pub part_of : NameUse → Option (List Expression × Lexeme) → PartTree
+part_of n None = record { name = n; subscripts = []; end = n.span.end }
+part_of n (Some s) = record { name = n; subscripts = s.0; end = s.1.span.end }
+
+-- name
+unfoldable pub flat_part : Form PartTree
+flat_part = as_value (λ n. part_of n None) name
+
+-- name ['[' expr {',' expr} ']']
+unfoldable pub deep_part : Form Expression → Form PartTree
+deep_part inner = as_value (λ v. part_of v.0 v.1) (both name (option (subscripts inner)))
+
+-- '.' part
+abbrev pub further_part : Form PartTree → Form PartTree
+further_part part = behind (key Point) part
+
+-- part {'.' part}
+abbrev pub parts : Form PartTree → Form (PartTree × List PartTree)
+parts part = both part (many (further_part part))
+
+-- a further name, with how many subscripts stand behind it
+abbrev pub member_in : PartTree → Member
+member_in p = record { name = p.name; subscripts = length p.subscripts }
+
+-- where the last part ends, of one that ends here and those behind it
+abbrev pub last_end : ℕ → List PartTree → ℕ
+last_end end [] = end
+last_end end (p ∷ ps) = last_end p.end ps
+
+abbrev pub subscripts_in : List PartTree → List Expression
+subscripts_in ps = flat_map (λ p. p.subscripts) ps
+
+-- the reference of these parts, from the first name to the end of the last part, and the subscripts of all of them
+abbrev pub reference_in : PartTree × List PartTree → ReferenceTree × Expressions
+reference_in v = (
+  record {
+    name = v.0.name;
+    subscripts = length v.0.subscripts;
+    members = map member_in v.1;
+    span = record { start = v.0.name.span.start; end = last_end v.0.end v.1 };
+  },
+  expressions_of (v.0.subscripts ++ subscripts_in v.1),
+)
 
 -- the same, of what a reader returned
 abbrev pub variable_tree : Box Reference Global × Vec Expr Global → ReferenceTree × Expressions
 variable_tree v = (reference_tree v.0.value, expressions_of (map expression_tree v.1.items))
 
--- a reference at the last level: name ['.' name]
+-- a reference at the last level: name {'.' name}
 unfoldable pub flat_reference : Form (ReferenceTree × Expressions)
-flat_reference = as_value plain variable
+flat_reference = as_value reference_in (parts flat_part)
 
--- a reference at the others: name ['.' name] ['[' expr {',' expr} ']']
+-- a reference at the others: part {'.' part}, where a part is name ['[' expr {',' expr} ']']
 unfoldable pub deep_reference : Form Expression → Form (ReferenceTree × Expressions)
-deep_reference inner = as_value (λ v. subscripted v.0 v.1) (both variable (option (subscripts inner)))
+deep_reference inner = as_value reference_in (parts (deep_part inner))
 
 abbrev pub reference_value : ReferenceTree × Expressions → Expression
 reference_value r = reference_expression r.0 r.1

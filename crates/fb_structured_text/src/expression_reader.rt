@@ -4,11 +4,13 @@ ghost use Rattle.fb_grammar.specs.Gives.{Gives, GivesEach};
 ghost use Rattle.fb_grammar.specs.Reading.{read};
 ghost use Rattle.fb_grammar.specs.Words.{further};
 ghost use Rattle.fb_structured_text.specs.Expression.{
+  deep_part,
   deep_primary,
   deep_reference,
   expression,
   expressions,
   flat_primary,
+  further_part,
   levels,
   operand_at,
   parenthesized,
@@ -20,19 +22,20 @@ ghost use Rattle.fb_structured_text.specs.Expression.{
   unary,
   variable_tree,
 };
+ghost use Rattle.fb_structured_text.specs.Part.{part_tree};
 ghost use Rattle.fb_tree.specs.Expression.{expression_tree, operand_tree};
 ghost use Rattle.std.specs.Prelude.{◌≡◌, ◌≤◌, ◌<◌, map};
 
 use crate::operators::{SIGNS, is_literal, literal, next_strength, operator, operators, sign};
-use crate::references::{flat_reference, member_name, variable};
-use fb_grammar::{Kind, Lexeme, NAMES, Stop, across, is_next, key};
+use crate::references::{Part, alone, flat_reference, joined};
+use fb_grammar::{Kind, Lexeme, NAMES, Stop, across, is_next, key, name};
 use fb_tree::{BinaryUse, Expr, Reference};
 use std::alloc::Global;
 
 /// How many levels there are below the outermost expressions and statements.
 pub const LEVELS: u8 = 64;
 
-/// An operand at the last level: a literal, or a variable without subscripts.
+/// An operand at the last level: a literal, or a reference without subscripts.
 #[tactic(auto, unfolding(crate::specs::Expression::flat_primary, crate::specs::Expression::literal))]
 fn flat_primary(alloc: Global, tokens: &[Lexeme]) -> Result<(Expr, &[Lexeme]), Stop<'_>>
     ensures { Gives expression_tree result (read flat_primary tokens.now) }
@@ -84,7 +87,7 @@ fn deep_primary(alloc: Global, below: u8, tokens: &[Lexeme]) -> Result<(Expr, &[
     }
 }
 
-/// A variable as an operand.
+/// A reference as an operand.
 #[cycle(expression)]
 fn variable_operand(
     alloc: Global,
@@ -98,9 +101,59 @@ fn variable_operand(
     Ok((Expr::Reference(variable, subscripts), rest))
 }
 
-/// A variable, perhaps with subscripts that have so many levels below them.
+/// A name, perhaps with subscripts that have so many levels below them.
 #[cycle(expression)]
-#[tactic(auto, unfolding(crate::specs::Expression::deep_reference, crate::specs::Expression::subscripts))]
+#[tactic(auto, unfolding(crate::specs::Expression::deep_part, crate::specs::Expression::subscripts))]
+fn deep_part(alloc: Global, below: u8, tokens: &[Lexeme]) -> Result<(Part, &[Lexeme]), Stop<'_>>
+    ensures { Gives part_tree result (read (deep_part (expression below)) tokens.now) }
+{
+    let (name, rest) = name(tokens)?;
+    if !is_next(rest, &[Kind::OpenBracket]) {
+        return Ok((alone(alloc, name), rest));
+    }
+    let ((subscripts, close), rest) = subscripts(alloc, below, rest)?;
+    let part = Part {
+        name: name.name_use(),
+        subscripts,
+        end: close.span.end,
+    };
+    Ok((part, rest))
+}
+
+/// A point and a further name.
+#[cycle(expression)]
+fn further_part(alloc: Global, below: u8, tokens: &[Lexeme]) -> Result<(Part, &[Lexeme]), Stop<'_>>
+    ensures { Gives part_tree result
+        (read (further_part (deep_part (expression below))) tokens.now) }
+{
+    let (_, rest) = key(tokens, Kind::Point)?;
+    deep_part(alloc, below, rest)
+}
+
+/// The names behind the first one.
+#[cycle(expression)]
+fn further_parts(
+    alloc: Global,
+    below: u8,
+    tokens: &[Lexeme],
+) -> Result<(Vec<Part>, &[Lexeme]), Stop<'_>>
+    ensures { GivesEach part_tree result
+        (read (many (further_part (deep_part (expression below)))) tokens.now) }
+{
+    // Most references have one name.
+    let mut parts = Vec::new(alloc);
+    let mut rest = tokens;
+    while is_next(rest, &[Kind::Point]) {
+        let (next, behind) = further_part(alloc, below, rest)?;
+        parts.push(next)?;
+        rest = behind;
+    }
+    Ok((parts, rest))
+}
+
+/// A reference whose subscripts have so many levels below them.
+#[cycle(expression)]
+#[tactic(auto, unfolding(crate::specs::Expression::deep_reference))]
 fn deep_reference(
     alloc: Global,
     below: u8,
@@ -108,14 +161,9 @@ fn deep_reference(
 ) -> Result<((Box<Reference>, Vec<Expr>), &[Lexeme]), Stop<'_>>
     ensures { Gives variable_tree result (read (deep_reference (expression below)) tokens.now) }
 {
-    let ((name, member), rest) = member_name(tokens)?;
-    let mut variable = variable(alloc, name, member)?;
-    if !is_next(rest, &[Kind::OpenBracket]) {
-        return Ok(((variable, Vec::new(alloc)), rest));
-    }
-    let ((subscripts, close), rest) = subscripts(alloc, below, rest)?;
-    variable.span.end = close.span.end;
-    Ok(((variable, subscripts), rest))
+    let (first, rest) = deep_part(alloc, below, tokens)?;
+    let (others, rest) = further_parts(alloc, below, rest)?;
+    Ok((joined(alloc, first, others)?, rest))
 }
 
 /// Subscripts in brackets, with the bracket that closes them.
@@ -146,7 +194,7 @@ fn expressions(
     ensures { GivesEach expression_tree result (read (expressions (expression below)) tokens.now) }
 {
     let (first, mut rest) = expression_at(alloc, below, tokens)?;
-    // Most variables have one subscript.
+    // Most names have one subscript.
     let mut expressions = Vec::with_capacity(alloc, 1)?;
     expressions.push(first)?;
     while is_next(rest, &[Kind::Comma]) {
@@ -268,7 +316,7 @@ pub fn expression(alloc: Global, tokens: &[Lexeme]) -> Result<(Expr, &[Lexeme]),
     expression_at(alloc, LEVELS, tokens)
 }
 
-/// A variable with its subscripts, in an expression or statement with so many levels below it.
+/// A reference with its subscripts, in an expression or statement with so many levels below it.
 #[tactic(auto, unfolding(crate::specs::Expression::reference))]
 pub fn reference(
     alloc: Global,

@@ -1,51 +1,103 @@
-//! Variables without subscripts.
-ghost use Rattle.fb_grammar.specs.Gives.{Gives};
-ghost use Rattle.fb_grammar.specs.Reading.{read};
+//! References: names with points between them, each perhaps with subscripts behind it.
+ghost use Rattle.fb_grammar.specs.Form.{many};
+ghost use Rattle.fb_grammar.specs.Gives.{Gives, GivesEach};
 ghost use Rattle.fb_grammar.specs.Lexemes.{name_use};
-ghost use Rattle.fb_structured_text.specs.Expression.{flat_reference, member_name, variable_of, variable_tree};
-ghost use Rattle.fb_tree.specs.Expression.{reference_tree};
-ghost use Rattle.std.specs.Prelude.{◌≡◌, IfOk, option_map};
+ghost use Rattle.fb_grammar.specs.Reading.{read};
+ghost use Rattle.fb_structured_text.specs.Expression.{PartTree, flat_part, flat_reference, further_part, part_of, reference_in, variable_tree};
+ghost use Rattle.fb_structured_text.specs.Part.{part_tree};
+ghost use Rattle.std.specs.Prelude.{◌≡◌, IfOk, None, map};
 
-use fb_grammar::{Kind, Lexeme, Stop, is_next, key, name};
-use fb_tree::{Expr, Reference};
+use fb_grammar::{Kind, Lexeme, Reader, Stop, key, name, several};
+use fb_tree::text::NameUse;
+use fb_tree::{Expr, Member, Reference};
 use std::alloc::{AllocError, Global};
 
-/// A name, and the name behind a point where one is written.
-#[tactic(auto, unfolding(crate::specs::Expression::member_name))]
-pub fn member_name(tokens: &[Lexeme]) -> Result<((&Lexeme, Option<&Lexeme>), &[Lexeme]), Stop<'_>>
-    ensures { Gives (λ v. (name_use v.0.now, option_map (λ m. name_use m.now) v.1)) result
-        (read member_name tokens.now) }
+/// A name of a reference, with the subscripts behind it.
+#[derive(Drop)]
+pub struct Part {
+    pub name: NameUse,
+    pub subscripts: Vec<Expr>,
+    /// Where the bracket of the subscripts ends, or the name where none are written.
+    pub end: usize,
+}
+
+/// A name without subscripts.
+pub fn alone(alloc: Global, name: &Lexeme) -> Part
+    ensures { part_tree result ≡ part_of (name_use name.now) None }
 {
-    let (first, rest) = name(tokens)?;
-    if !is_next(rest, &[Kind::Point]) {
-        return Ok(((first, None), rest));
+    Part {
+        name: name.name_use(),
+        subscripts: Vec::new(alloc),
+        end: name.span.end,
     }
-    let (_, rest) = key(rest, Kind::Point)?;
-    let (member, rest) = name(rest)?;
-    Ok(((first, Some(member)), rest))
 }
 
-/// The variable of these names.
-pub fn variable(
+/// The reference of these parts, and the subscripts of all of them.
+pub fn joined(
     alloc: Global,
-    name: &Lexeme,
-    member: Option<&Lexeme>,
-) -> Result<Box<Reference>, AllocError>
+    first: Part,
+    others: Vec<Part>,
+) -> Result<(Box<Reference>, Vec<Expr>), AllocError>
     ensures { IfOk result
-        (λ v. reference_tree v.value
-        ≡ variable_of (name_use name.now) (option_map (λ m. name_use m.now) member.entry)) }
+        (λ v. variable_tree v ≡ reference_in (part_tree first, map part_tree others.items)) }
 {
-    let variable = match member {
-        Some(member) => {
-            let member = member.name_use();
-            Reference::new(alloc, name.name_use(), Some(member), member.span.end)?
-        }
-        None => Reference::new(alloc, name.name_use(), None, name.span.end)?,
-    };
-    Ok(Box::new(alloc, variable)?)
+    let count = first.subscripts.len();
+    let mut subscripts = first.subscripts;
+    let mut members = Vec::with_capacity(alloc, others.len())?;
+    let mut end = first.end;
+    for part in others {
+        let mut behind = part.subscripts;
+        members.push(Member {
+            name: part.name,
+            subscripts: behind.len(),
+        })?;
+        subscripts.append(&mut behind)?;
+        end = part.end;
+    }
+    let reference = Reference::new(alloc, first.name, count, members, end)?;
+    Ok((Box::new(alloc, reference)?, subscripts))
 }
 
-/// A variable without subscripts.
+/// A name without subscripts.
+#[tactic(auto, unfolding(crate::specs::Expression::flat_part))]
+fn flat_part(alloc: Global, tokens: &[Lexeme]) -> Result<(Part, &[Lexeme]), Stop<'_>>
+    ensures { Gives part_tree result (read flat_part tokens.now) }
+{
+    let (name, rest) = name(tokens)?;
+    Ok((alone(alloc, name), rest))
+}
+
+/// Reads a point and a name.
+#[derive(Drop)]
+struct FlatReader;
+
+impl Reader for FlatReader {
+    type Item = Part;
+
+    ghost Tree = { PartTree };
+
+    ghost view = { part_tree };
+
+    ghost reads = { λ _. read (further_part flat_part) };
+
+    fn read<'a>(
+        &self,
+        alloc: Global,
+        tokens: &'a [Lexeme],
+    ) -> Result<(Part, &'a [Lexeme]), Stop<'a>> {
+        let (_, rest) = key(tokens, Kind::Point)?;
+        flat_part(alloc, rest)
+    }
+}
+
+/// The names behind the first one, each behind a point.
+fn flat_members(alloc: Global, tokens: &[Lexeme]) -> Result<(Vec<Part>, &[Lexeme]), Stop<'_>>
+    ensures { GivesEach part_tree result (read (many (further_part flat_part)) tokens.now) }
+{
+    several(&FlatReader, alloc, &[Kind::Point], tokens)
+}
+
+/// A reference without subscripts.
 #[tactic(auto, unfolding(crate::specs::Expression::flat_reference))]
 pub fn flat_reference(
     alloc: Global,
@@ -53,7 +105,7 @@ pub fn flat_reference(
 ) -> Result<((Box<Reference>, Vec<Expr>), &[Lexeme]), Stop<'_>>
     ensures { Gives variable_tree result (read flat_reference tokens.now) }
 {
-    let ((name, member), rest) = member_name(tokens)?;
-    let variable = variable(alloc, name, member)?;
-    Ok(((variable, Vec::new(alloc)), rest))
+    let (first, rest) = flat_part(alloc, tokens)?;
+    let (others, rest) = flat_members(alloc, rest)?;
+    Ok((joined(alloc, first, others)?, rest))
 }

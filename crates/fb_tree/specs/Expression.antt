@@ -1,34 +1,40 @@
 -- Expressions without where they lie in memory.
-use Rattle.std.specs.Prelude.{List, [], ◌∷◌, Option, box_value}
+use Rattle.std.specs.Prelude.{ℕ, List, [], ◌∷◌, box_value}
 use Rattle.fb_text.specs.declared.token.Span.{Span}
 use Rattle.fb_text.specs.declared.name.NameUse.{NameUse}
-use Rattle.fb_tree.specs.Reference.{first_name, second_name}
+use Rattle.fb_tree.specs.Reference.{first_name, further_names}
 use Rattle.fb_tree.specs.declared.constant.Literal.{Literal as LiteralUse}
 use Rattle.fb_tree.specs.declared.expression.BinaryUse.{BinaryUse}
 use Rattle.fb_tree.specs.declared.expression.UnaryUse.{UnaryUse}
+use Rattle.fb_tree.specs.declared.reference.Member.{Member}
 use Rattle.fb_tree.specs.declared.reference.Reference.{Reference as ReferenceUse}
 use Rattle.fb_tree.specs.declared.expression.Expr.{Expr}
 use Rattle.fb_tree.specs.declared.expression.Expr.TheOpen.{Expr-F, Literal, Reference, Unary, Row, Parentheses}
 use Rattle.fb_tree.specs.declared.expression.Expr.TheFolds.{fold-Expr}
 
--- a variable, or a variable of a plug or socket
+-- names with points between them, and how many subscripts stand behind each; the subscripts of all of them stand beside it in one list
 pub record ReferenceTree : Type 0 where
   pub name : NameUse
-  pub member : Option NameUse
+  -- how many subscripts stand behind the first name
+  pub subscripts : ℕ
+  -- the names behind the first one, each with the number of its subscripts
+  pub members : List Member
+  -- from the first name through the last name or bracket
   pub span : Span
 
 -- the first name stands where the reference begins
 abbrev pub reference_tree : ReferenceUse → ReferenceTree
 reference_tree r = record {
   name = record { name = first_name r.names; span = record { start = r.span.start; end = r.name_end } };
-  member = second_name r.names;
+  subscripts = r.subscripts;
+  members = further_names r.names;
   span = r.span;
 }
 
 mutual
   pub data Expression : Type 0 where
     literal_expression : LiteralUse → Expression
-    -- a variable with its subscripts
+    -- a reference with its subscripts
     reference_expression : ReferenceTree → Expressions → Expression
     unary_expression : UnaryUse → Expression → Expression
     -- an operand, and operators of one strength, each with the operand behind it

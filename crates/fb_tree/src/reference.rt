@@ -1,53 +1,52 @@
 //! References to variables. They take little memory, since a text has many.
-ghost use Rattle.std.specs.Prelude.{◌≡◌, IfOk, None, option_map};
+ghost use Rattle.std.specs.Prelude.{◌≡◌, IfOk};
 ghost use Rattle.fb_tree.specs.Expression.{reference_tree};
-ghost use Rattle.fb_tree.specs.Reference.{first_name, second_name};
+ghost use Rattle.fb_tree.specs.Reference.{first_name, further_names};
 
 use fb_text::{Name, NameUse, ShortName, Span};
 use std::alloc::{AllocError, Global};
+
+/// A further name of a reference, with how many subscripts stand behind it.
+#[derive(Clone, Copy, Debug)]
+pub struct Member {
+    pub name: NameUse,
+    pub subscripts: usize,
+}
 
 /// The names of a reference. Most have one that is short.
 #[derive(Debug, Drop)]
 pub enum ReferenceNames {
     Short(ShortName),
     Long(Box<Name>),
-    /// The name of a plug or a socket, and that of its variable.
-    Member(Box<(Name, NameUse)>),
+    /// The first name, and the names behind it.
+    Members(Box<(Name, Vec<Member>)>),
 }
 
-/// A variable, or a variable of a plug or socket. Its subscripts stand beside it.
+/// One or more names with points between them, and how many subscripts stand behind each. The
+/// subscripts of all names stand beside it in one list, in the order of the text.
 #[derive(Debug, Drop)]
 pub struct Reference {
     pub names: ReferenceNames,
     /// Where the first name ends. It begins where the reference does.
     pub name_end: usize,
-    /// From the name to the closing bracket of the subscripts.
+    /// How many subscripts stand behind the first name.
+    pub subscripts: usize,
+    /// From the first name through the last name or bracket.
     pub span: Span,
 }
 
 // Each variable that a text uses takes so many bytes.
-const _: () = prove!(size_of::<Reference>() == 48);
+const _: () = prove!(size_of::<Reference>() == 56);
 
 impl ReferenceNames {
-    /// The names of a variable, or of a plug or socket and its variable.
-    fn keep(
-        alloc: Global,
-        name: Name,
-        member: Option<NameUse>,
-    ) -> Result<ReferenceNames, AllocError>
+    /// The first name, and the names behind it.
+    fn keep(alloc: Global, name: Name, members: Vec<Member>) -> Result<ReferenceNames, AllocError>
         ensures first { IfOk result (λ names. first_name names ≡ name) }
-        ensures second { IfOk result (λ names. second_name names ≡ member) }
+        ensures further { IfOk result (λ names. further_names names ≡ members.items) }
     {
-        match member {
-            Some(member) => Ok(ReferenceNames::Member(Box::new(alloc, (name, member))?)),
-            None => ReferenceNames::alone(alloc, name),
+        if !members.is_empty() {
+            return Ok(ReferenceNames::Members(Box::new(alloc, (name, members))?));
         }
-    }
-
-    fn alone(alloc: Global, name: Name) -> Result<ReferenceNames, AllocError>
-        ensures first { IfOk result (λ names. first_name names ≡ name) }
-        ensures second { IfOk result (λ names. second_name names ≡ None) }
-    {
         match name.shortened() {
             Some(short) => Ok(ReferenceNames::Short(short)),
             None => Ok(ReferenceNames::Long(Box::new(alloc, name)?)),
@@ -56,23 +55,27 @@ impl ReferenceNames {
 }
 
 impl Reference {
-    /// A reference that reaches from its first name to an end.
+    /// A reference of a name with so many subscripts and of the names behind it, which reaches to
+    /// an end.
     pub fn new(
         alloc: Global,
         name: NameUse,
-        member: Option<NameUse>,
+        subscripts: usize,
+        members: Vec<Member>,
         end: usize,
     ) -> Result<Reference, AllocError>
         ensures { IfOk result
             (λ r. reference_tree r ≡ record {
               name = name;
-              member = member;
+              subscripts = subscripts;
+              members = members.items;
               span = record { start = name.span.start; end = end };
             }) }
     {
         Ok(Reference {
-            names: ReferenceNames::keep(alloc, name.name, member)?,
+            names: ReferenceNames::keep(alloc, name.name, members)?,
             name_end: name.span.end,
+            subscripts,
             span: Span {
                 start: name.span.start,
                 end,
@@ -80,7 +83,7 @@ impl Reference {
         })
     }
 
-    /// Where the name of the variable, or of the plug or socket, stands.
+    /// Where the first name stands.
     pub fn name_span(&self) -> Span
         ensures { result ≡ (reference_tree self.now).name.span }
     {
@@ -90,24 +93,24 @@ impl Reference {
         }
     }
 
-    /// The name of the variable, or of the plug or socket.
+    /// The first name.
     pub fn name(&self) -> Name
         ensures { result ≡ (reference_tree self.now).name.name }
     {
         match &self.names {
             ReferenceNames::Short(name) => name.name(),
             ReferenceNames::Long(name) => **name,
-            ReferenceNames::Member(names) => names.0,
+            ReferenceNames::Members(names) => names.0,
         }
     }
 
-    /// The variable of the plug or socket, where the reference has one.
-    pub fn member(&self) -> Option<&NameUse>
-        ensures { option_map (λ m. m.now) result ≡ (reference_tree self.now).member }
+    /// The names behind the first one, in the order of the text.
+    pub fn members(&self) -> &[Member]
+        ensures { result.now ≡ (reference_tree self.now).members }
     {
         match &self.names {
-            ReferenceNames::Short(_) | ReferenceNames::Long(_) => None,
-            ReferenceNames::Member(names) => Some(&names.1),
+            ReferenceNames::Short(_) | ReferenceNames::Long(_) => &[],
+            ReferenceNames::Members(names) => &names.1,
         }
     }
 }

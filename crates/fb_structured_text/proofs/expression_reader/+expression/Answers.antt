@@ -1,16 +1,17 @@
 use Rattle.std.proofs.Common.{◌≡◌, ◌+◌, ◌∷◌, [], true, false, Ok, List, map, ap, sym, refl, ◌∙◌, arith}
 use Rattle.std.proofs.lemmas.Result.{err_from_is_err_and}
 use Rattle.fb_grammar.specs.declared.kind.Kind.{Kind}
-use Rattle.fb_grammar.specs.declared.kind.Kind.TheVariants.{Comma}
+use Rattle.fb_grammar.specs.declared.kind.Kind.TheVariants.{Comma, Point}
 use Rattle.fb_tree.specs.declared.expression.Expr.{Expr}
 use Rattle.fb_tree.specs.declared.expression.Expr.TheOpen.{Row as RowF}
 use denote.Hole.Carrier.{roll}
 use Rattle.fb_tree.specs.declared.expression.Expr.TheViews.{roll-Expr}
 use Rattle.fb_tree.specs.declared.expression.Expr.TheFolds.{fold-roll-Expr}
 use Rattle.fb_tree.specs.Expression.{Expression, row_expression, operand_tree, operands_of, expression_step, expression_tree}
-use Rattle.fb_structured_text.specs.Expression.{expression, expressions, operand, primary, row_at, unary}
+use Rattle.fb_structured_text.specs.Expression.{deep_part, expression, expressions, further_part, operand, primary, row_at, unary}
+use Rattle.fb_structured_text.specs.Part.{part_tree}
 use Rattle.fb_structured_text.specs.Operators.{operators}
-use Rattle.fb_structured_text.proofs.Rows.{begins-operand, level_passed, level_read, level_fails, rows_first_fails, rows_none, expression_is, primary_reference, primary_parentheses}
+use Rattle.fb_structured_text.proofs.Rows.{begins-operand, begins-further_part, level_passed, level_read, level_fails, rows_first_fails, rows_none, expression_is, primary_reference, primary_parentheses}
 use Rattle.fb_grammar.specs.Form.{many}
 use Rattle.fb_grammar.specs.Reading.{is_next, read}
 use Rattle.fb_grammar.specs.Words.{further}
@@ -102,3 +103,14 @@ row-loop-level-preserved t c =
       so_far = level_passed c.loop-level.level (unary (primary c.args.left)) c.args.tokens.now (expression_tree c.loop-level.value) c.loop-level.rest.now
           (omega arith) c.loop-level.invariant.high c.loop-level.invariant.so_far (λ same. c.if-next_strength-level.false (c.next_strength.ensures ∙ same));
     }
+
+pub further_parts-loop-alloc-smaller : goal.further_parts-loop-alloc-smaller
+further_parts-loop-alloc-smaller t c =
+    let x = further_part (deep_part (expression c.args.below)) in
+    shorter x c.loop-alloc.rest.now (part_tree c.in_ok-next.next) c.in_ok-next.behind.now refl c.in_ok-next.ensures
+
+pub further_parts-loop-alloc-preserved : goal.further_parts-loop-alloc-preserved
+further_parts-loop-alloc-preserved t c =
+    let x = further_part (deep_part (expression c.args.below)) in
+    push_more part_tree x (Point ∷ []) c.loop-alloc.parts.items c.push.new.self.items c.in_ok-next.next c.loop-alloc.rest.now c.in_ok-next.behind.now (read (many x) c.args.tokens.now)
+    (begins-further_part (deep_part (expression c.args.below))) (sym c.is_next.ensures ∙ c.loop-alloc-test.true) c.in_ok-next.ensures c.in_ok-push.ensures.items c.loop-alloc.invariant

@@ -1,6 +1,7 @@
 use Rattle.std.proofs.Common.{◌≡◌, ◌≤◌, ◌+◌, ◌-◌, ◌*◌, Ok, length, map}
 use Rattle.fb_tree.specs.Expression.{expression_tree, operand_tree}
-use Rattle.fb_structured_text.specs.Expression.{expression, expressions, operand_at, row_at}
+use Rattle.fb_structured_text.specs.Expression.{deep_part, expression, expressions, further_part, operand_at, row_at}
+use Rattle.fb_structured_text.specs.Part.{part_tree}
 use Rattle.fb_grammar.specs.Form.{many}
 use Rattle.fb_grammar.specs.Reading.{read}
 use Rattle.fb_grammar.specs.Words.{further}
@@ -46,17 +47,26 @@ decreases-variable_operand l = l.below * 64 + 75
 abbrev pub decreases-deep_reference : goal.decreases-deep_reference
 decreases-deep_reference l = l.below * 64 + 74
 
+abbrev pub decreases-further_parts : goal.decreases-further_parts
+decreases-further_parts l = l.below * 64 + 73
+
+abbrev pub decreases-further_part : goal.decreases-further_part
+decreases-further_part l = l.below * 64 + 72
+
+abbrev pub decreases-deep_part : goal.decreases-deep_part
+decreases-deep_part l = l.below * 64 + 71
+
 abbrev pub decreases-parenthesized : goal.decreases-parenthesized
 decreases-parenthesized l = l.below * 64 + 75
 
 abbrev pub decreases-subscripts : goal.decreases-subscripts
-decreases-subscripts l = l.below * 64 + 73
+decreases-subscripts l = l.below * 64 + 70
 
 abbrev pub decreases-expressions : goal.decreases-expressions
-decreases-expressions l = l.below * 64 + 72
+decreases-expressions l = l.below * 64 + 69
 
 abbrev pub decreases-further_expression : goal.decreases-further_expression
-decreases-further_expression l = l.below * 64 + 71
+decreases-further_expression l = l.below * 64 + 68
 
 abbrev pub invariant-expressions-loop-alloc : goal.invariant-expressions-loop-alloc
 invariant-expressions-loop-alloc l = with_front (map expression_tree l.expressions.items) (read (many (further (expression l.below))) l.rest) ≡ read (expressions (expression l.below)) l.tokens
@@ -71,3 +81,11 @@ invariant-operands-loop-alloc l =
 
 abbrev pub decreases-operands-loop-alloc : goal.decreases-operands-loop-alloc
 decreases-operands-loop-alloc l = length l.rest
+
+abbrev pub invariant-further_parts-loop-alloc : goal.invariant-further_parts-loop-alloc
+invariant-further_parts-loop-alloc l =
+    let several = many (further_part (deep_part (expression l.below))) in
+    with_front (map part_tree l.parts.items) (read several l.rest) ≡ read several l.tokens
+
+abbrev pub decreases-further_parts-loop-alloc : goal.decreases-further_parts-loop-alloc
+decreases-further_parts-loop-alloc l = length l.rest
