@@ -72,6 +72,8 @@ fn word_of_4(word: &[u8]) -> Option<Kind>
         Some(Kind::Exit)
     } else if same_word(word, b"TRUE") {
         Some(Kind::True)
+    } else if same_word(word, b"TYPE") {
+        Some(Kind::TypeWord)
     } else {
         None
     }
@@ -114,6 +116,8 @@ fn word_of_6(word: &[u8]) -> Option<Kind>
         Some(Kind::Repeat)
     } else if same_word(word, b"RETURN") {
         Some(Kind::Return)
+    } else if same_word(word, b"STRUCT") {
+        Some(Kind::Struct)
     } else {
         None
     }
@@ -154,6 +158,8 @@ fn word_of_8(word: &[u8]) -> Option<Kind>
         Some(Kind::Mappings)
     } else if same_word(word, b"END_CASE") {
         Some(Kind::EndCase)
+    } else if same_word(word, b"END_TYPE") {
+        Some(Kind::EndType)
     } else {
         None
     }
@@ -196,6 +202,8 @@ fn word_of_10(word: &[u8]) -> Option<Kind>
         Some(Kind::EndStates)
     } else if same_word(word, b"END_REPEAT") {
         Some(Kind::EndRepeat)
+    } else if same_word(word, b"END_STRUCT") {
+        Some(Kind::EndStruct)
     } else {
         None
     }

@@ -128,6 +128,11 @@ pub enum Kind {
     Divide,
     Ampersand,
     Other,
+    // structures
+    TypeWord,
+    EndType,
+    Struct,
+    EndStruct,
 }
 
 impl Kind {

@@ -11,6 +11,7 @@ pub mod Tables
 pub mod OnShelves
 pub mod FarLemmas
 pub mod Locality
+pub mod Mentioned
 pub mod Sources
 pub mod Units
 pub mod WalkLemmas

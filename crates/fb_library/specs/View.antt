@@ -3,8 +3,8 @@ use Rattle.std.specs.Prelude.{ℕ, List, [], ◌∷◌, ◌++◌, Option, Some, 
 use Rattle.std.specs.Option.{option_and_then}
 use Rattle.std.specs.FinMap.{FinMap, get}
 use Rattle.fb_parse.specs.Text.Order.{name_cmp, names_in_order}
-use Rattle.fb_parse.specs.Tree.Tree.{DeclTree, TypeTree, block_type, adapter_type, subapplication_type, system_configuration}
-use Rattle.fb_parse.specs.Tree.Mentions.{mentions_of}
+use Rattle.fb_parse.specs.Tree.Tree.{DeclTree, TypeTree, block_type, adapter_type, subapplication_type, system_configuration, structure_type}
+use Rattle.fb_parse.specs.Tree.Mentions.{parts_of}
 use Rattle.fb_parse.specs.Body.{BodyTree, Whole, BrokenAt, body_of}
 
 -- the texts of units, by name
@@ -23,25 +23,26 @@ tree_of text = tree_in (body_of text)
 abbrev pub tree_at : Sources → List ℕ → Option DeclTree
 tree_at sources unit = option_and_then tree_of (get sources unit)
 
--- the type that is declared; none where it is a system
+-- the type that is declared; none where it is a system or a structure
 abbrev pub type_in : DeclTree → Option TypeTree
 type_in (block_type d) = Some d
 type_in (adapter_type d) = Some d
 type_in (subapplication_type d) = Some d
 type_in (system_configuration s) = None
+type_in (structure_type s) = None
 
--- the type of a unit that is present, not broken and no system
+-- the type of a unit that is present and not broken, and no system or structure
 abbrev pub declaration_at : Sources → List ℕ → Option TypeTree
 declaration_at sources unit = option_and_then type_in (tree_at sources unit)
 
 abbrev pub mentions_in : Option DeclTree → List (List ℕ)
 mentions_in None = []
-mentions_in (Some decl) = mentions_of decl
+mentions_in (Some decl) = parts_of decl
 
--- the types that a unit mentions; none where it is absent or broken
+-- the types that a unit mentions as its parts; none where it is absent or broken
 abbrev pub mentions_at : Sources → List ℕ → List (List ℕ)
 mentions_at sources unit = mentions_in (tree_at sources unit)
 
--- the unit and the types that it mentions, in order, each once
+-- the unit and the types of its parts, in order, each once
 abbrev pub near_of : Sources → List ℕ → List (List ℕ)
 near_of sources unit = names_in_order (mentions_at sources unit ++ unit ∷ [])

@@ -16,7 +16,7 @@ pub use change::Change;
 pub use laws::{far_is_local, far_is_one_list, near_is_local};
 pub use library::Library;
 pub use look_up::{View, declaration_by_name, tree_by_name};
-pub use mentions::{mentions_by_name, near};
+pub use mentions::{near, part_mentions};
 pub use seen::{names_of, open_new};
 pub use table::Table;
 pub use walk::far;

@@ -28,7 +28,7 @@ fn tree(source: &Source) -> Option<&Decl>
     }
 }
 
-/// The type that is declared, where it is no system.
+/// The type that is declared, where it is no system and no structure.
 fn declared_type(decl: &Decl) -> Option<&TypeDeclaration>
     ensures { option_map (λ d. type_tree d.now) result ≡ type_in (decl_tree decl.now) }
 {
@@ -36,7 +36,7 @@ fn declared_type(decl: &Decl) -> Option<&TypeDeclaration>
         Decl::Block(declared) | Decl::Adapter(declared) | Decl::Subapplication(declared) => {
             Some(declared)
         }
-        Decl::System(_) => None,
+        Decl::System(_) | Decl::Structure(_) => None,
     }
 }
 
@@ -50,7 +50,7 @@ pub fn tree_by_name<'a, V: View>(view: &'a V, unit: &Name) -> Option<&'a Decl>
     }
 }
 
-/// The type of a unit that is present, not broken and no system.
+/// The type of a unit that is present and not broken, and no system or structure.
 pub fn declaration_by_name<'a, V: View>(view: &'a V, unit: &Name) -> Option<&'a TypeDeclaration>
     ensures { option_map (λ d. type_tree d.now) result
         ≡ declaration_at (V.sources view.now) unit.now }

@@ -5,7 +5,7 @@ ghost use Rattle.fb_parse.specs.Text.Order.{name_cmp};
 ghost use Rattle.fb_library.specs.Rests.{Rests};
 
 use crate::look_up::View;
-use crate::mentions::mentions_by_name;
+use crate::mentions::part_mentions;
 use crate::seen::{names_of, open_new};
 use fb_parse::text::Name;
 use std::alloc::{AllocError, Global};
@@ -24,8 +24,7 @@ pub fn far<V: View>(alloc: Global, view: &V, unit: Name) -> Result<Vec<Name>, Al
     let mut pending = Vec::new(alloc);
     pending.push(unit)?;
     while let Some(name) = pending.pop() {
-        let names = mentions_by_name(alloc, view, &name)?;
-        open_new(names.as_slice(), &mut seen, &mut pending)?;
+        open_new(part_mentions(view, &name), &mut seen, &mut pending)?;
     }
     names_of(alloc, &seen)
 }

@@ -2,7 +2,7 @@
 use Rattle.std.proofs.Common.{◌≡◌, true, List, [], ◌∷◌, ◌++◌, refl, inl, inr}
 use Rattle.fb_structured_text.specs.Forms.Kind.{name_kinds}
 use Rattle.fb_structured_text.specs.Forms.declared.kind.Kind.{Kind}
-use Rattle.fb_structured_text.specs.Forms.declared.kind.Kind.TheVariants.{One, Point, OpenBracket, CloseBracket, Semicolon, Ampersand, And, FunctionBlock, EndFunctionBlock, Adapter, EndAdapter, Subapplication, EndSubapplication, System, EndSystem, Application, EndApplication, Device, Mappings, EventInput, EventOutput, VarInput, VarOutput, Var, Plugs, Sockets, Fbs, Subapps, EventConnections, DataConnections, AdapterConnections, EcStates, EcTransitions, Algorithm, Service}
+use Rattle.fb_structured_text.specs.Forms.declared.kind.Kind.TheVariants.{One, Point, OpenBracket, CloseBracket, Semicolon, Ampersand, And, FunctionBlock, EndFunctionBlock, Adapter, EndAdapter, Subapplication, EndSubapplication, System, EndSystem, TypeWord, Application, EndApplication, Device, Mappings, EventInput, EventOutput, VarInput, VarOutput, Var, Plugs, Sockets, Fbs, Subapps, EventConnections, DataConnections, AdapterConnections, EcStates, EcTransitions, Algorithm, Service}
 use Rattle.fb_tree.specs.Text.declared.name.NameUse.{NameUse}
 use Rattle.fb_structured_text.specs.Forms.Form.{Form, both, many, as_value}
 use Rattle.fb_structured_text.specs.Forms.Reading.{is_predictive, first, after, are_apart}
@@ -12,12 +12,13 @@ use Rattle.fb_structured_text.proofs.Forms.Shapes.{Closed, Shape, among_append, 
 use Rattle.fb_sections.specs.Skipped.{all_kinds, others, skipped}
 use Rattle.fb_sections.specs.Network.{end}
 use Rattle.fb_sections.specs.Sections.{optional_name}
-use Rattle.fb_sections.proofs.Predictive.{closed_events, closed_data_variables, closed_internal_variables, closed_plugs, closed_sockets, closed_blocks, closed_subapplications, closed_connections, closed_states, closed_service, closed_mappings, closed_device}
+use Rattle.fb_sections.specs.SystemParts.{optional_semicolon}
+use Rattle.fb_sections.proofs.Predictive.{closed_events, closed_data_variables, closed_internal_variables, closed_fields, closed_plugs, closed_sockets, closed_blocks, closed_subapplications, closed_connections, closed_states, closed_service, closed_mappings, closed_device}
 use Rattle.fb_structured_text.specs.Expression.{levels, expression}
 use Rattle.fb_structured_text.proofs.ExpressionLevels.{expression_afters, shape-expression}
 use Rattle.fb_structured_text.proofs.StatementLevels.{closed-statement}
 use Rattle.fb_parse.specs.Chart.{bracketed, joined_test, optional_test, event_condition, condition, transition, transitions, optional_colon, structured_text, other_language, algorithm_body, algorithm}
-use Rattle.fb_parse.specs.Grammar.{data_section, service_section, interface_section, network_section, chart_section, block_section, adapter_section, application_section, subapplication_section, block, adapter, subapplication, application, system_section, system, unit}
+use Rattle.fb_parse.specs.Grammar.{data_section, service_section, interface_section, network_section, chart_section, block_section, adapter_section, application_section, subapplication_section, block, adapter, subapplication, application, system_section, system, structure, unit}
 
 -- Transitions and algorithms
 
@@ -165,12 +166,19 @@ closed_system : Closed system (System ∷ [])
 unfolding system
 closed_system = closed_frame System EndSystem _ _ _ (Application ∷ Device ∷ Mappings ∷ []) closed_system_section refl
 
-closed_unit : Closed unit (FunctionBlock ∷ Adapter ∷ Subapplication ∷ System ∷ [])
+closed_structure : Closed structure (TypeWord ∷ [])
+unfolding structure optional_semicolon name
+closed_structure =
+    let c = closed_fields in
+    record { predictive = rw (c.predictive, c.after) (refl {a = true}); filled = refl; first = refl; after = rw c.filled (refl {a = []}) }
+
+closed_unit : Closed unit (FunctionBlock ∷ Adapter ∷ Subapplication ∷ System ∷ TypeWord ∷ [])
 unfolding unit
 closed_unit =
-    closed_either _ _ (FunctionBlock ∷ []) (Adapter ∷ Subapplication ∷ System ∷ []) (closed_as _ _ _ closed_block)
-    (closed_either _ _ (Adapter ∷ []) (Subapplication ∷ System ∷ []) (closed_as _ _ _ closed_adapter)
-    (closed_either _ _ (Subapplication ∷ []) (System ∷ []) (closed_as _ _ _ closed_subapplication) (closed_as _ _ _ closed_system) refl) refl) refl
+    closed_either _ _ (FunctionBlock ∷ []) (Adapter ∷ Subapplication ∷ System ∷ TypeWord ∷ []) (closed_as _ _ _ closed_block)
+    (closed_either _ _ (Adapter ∷ []) (Subapplication ∷ System ∷ TypeWord ∷ []) (closed_as _ _ _ closed_adapter)
+    (closed_either _ _ (Subapplication ∷ []) (System ∷ TypeWord ∷ []) (closed_as _ _ _ closed_subapplication)
+    (closed_either _ _ (System ∷ []) (TypeWord ∷ []) (closed_as _ _ _ closed_system) (closed_as _ _ _ closed_structure) refl) refl) refl) refl
 
 pub predictive_unit : is_predictive unit ≡ true
 predictive_unit = let c = closed_unit in c.predictive

@@ -2,6 +2,7 @@
 use Rattle.std.specs.Prelude.{◌≡◌, ℕ, List, [], ◌∷◌, length, Result, Ok, Err}
 use Rattle.fb_tree.specs.Text.declared.token.Span.{Span}
 use Rattle.fb_tree.specs.Tree.{DeclTree, decl_tree}
+use Rattle.fb_tree.specs.Mentions.{Mentioned, all_mentions_of, nothing_mentioned}
 use Rattle.fb_structured_text.specs.Forms.declared.lexeme.Lexeme.{Lexeme}
 use Rattle.fb_parse.specs.declared.body.Body.{Body}
 use Rattle.fb_parse.specs.declared.body.Body.TheVariants.{Tree as IsTree, Broken}
@@ -19,6 +20,11 @@ pub data BodyTree : Type 0 where
 abbrev pub body_tree : Body → BodyTree
 body_tree (IsTree decl) = Whole (decl_tree decl)
 body_tree (Broken span) = BrokenAt span
+
+-- what the declaration mentions; nothing where the text is broken
+abbrev pub mentions_in_body : BodyTree → Mentioned
+mentions_in_body (Whole decl) = all_mentions_of decl
+mentions_in_body (BrokenAt span) = nothing_mentioned
 
 -- the span of the first token, or the empty span at the end
 abbrev pub place : ℕ → List Lexeme → Span

@@ -1,15 +1,16 @@
 -- The grammar of the texts of units.
+use Rattle.std.specs.Prelude.{List}
 use Rattle.fb_tree.specs.Text.declared.name.NameUse.{NameUse}
 use Rattle.fb_structured_text.specs.Forms.declared.kind.Kind.{Kind}
-use Rattle.fb_structured_text.specs.Forms.declared.kind.Kind.TheVariants.{FunctionBlock, EndFunctionBlock, Adapter, EndAdapter, Subapplication, EndSubapplication, Application, EndApplication, System, EndSystem}
+use Rattle.fb_structured_text.specs.Forms.declared.kind.Kind.TheVariants.{FunctionBlock, EndFunctionBlock, Adapter, EndAdapter, Subapplication, EndSubapplication, Application, EndApplication, System, EndSystem, TypeWord, EndType, Colon}
 use Rattle.fb_structured_text.specs.Forms.Form.{Form, both, either, many, as_value}
 use Rattle.fb_structured_text.specs.Forms.Words.{key, before, behind, name}
 unfoldable pub use Rattle.fb_sections.specs.Chart.{states}
-unfoldable pub use Rattle.fb_sections.specs.Interface.{events, data_variables, internal_variables}
+unfoldable pub use Rattle.fb_sections.specs.Interface.{events, data_variables, internal_variables, fields}
 unfoldable pub use Rattle.fb_sections.specs.Network.{plugs, sockets, blocks, subapplications, connections}
 use Rattle.fb_sections.specs.Skipped.{service}
-unfoldable pub use Rattle.fb_sections.specs.SystemParts.{device, mappings}
-use Rattle.fb_tree.specs.Tree.{TypeTree, ApplicationTree, SystemTree, DeclTree, block_type, adapter_type, subapplication_type, system_configuration}
+unfoldable pub use Rattle.fb_sections.specs.SystemParts.{device, mappings, optional_semicolon}
+use Rattle.fb_tree.specs.Tree.{VariablesTree, TypeTree, ApplicationTree, SystemTree, StructureTree, DeclTree, block_type, adapter_type, subapplication_type, system_configuration, structure_type}
 use Rattle.fb_parse.specs.Chart.{transitions, algorithm}
 use Rattle.fb_parse.specs.Contents.{ContentsTree, nothing, of_events, of_variables, of_adapters, of_instances, of_connections, of_states, of_transitions, of_algorithm, joined}
 use Rattle.fb_parse.specs.SystemContents.{SystemContentsTree, of_application, of_device, of_mappings, system_joined}
@@ -97,10 +98,18 @@ system_of v = record { name = v.0; applications = v.1.applications; devices = v.
 unfoldable pub system : Form SystemTree
 system = as_value system_of (behind (key System) (both name (before (as_value system_joined (many system_section)) (key EndSystem))))
 
+abbrev pub structure_of : NameUse × List VariablesTree → StructureTree
+structure_of v = record { name = v.0; fields = v.1 }
+
+-- 'TYPE' name ':' 'STRUCT' {vardecl} 'END_STRUCT' [';'] 'END_TYPE'
+unfoldable pub structure : Form StructureTree
+structure = as_value structure_of (behind (key TypeWord) (both name (behind (key Colon) (before fields (behind optional_semicolon (key EndType))))))
+
 -- the text of a unit
 unfoldable pub unit : Form DeclTree
 unit =
     either (as_value block_type block)
     (either (as_value adapter_type adapter)
     (either (as_value subapplication_type subapplication)
-    (as_value system_configuration system)))
+    (either (as_value system_configuration system)
+    (as_value structure_type structure))))

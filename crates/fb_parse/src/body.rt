@@ -9,8 +9,8 @@ ghost use Rattle.std.specs.Prelude.{◌≡◌, ℕ, IfOk, List};
 
 use crate::units::unit;
 use fb_structured_text::grammar::{Lexeme, Stop, lexemes};
-use fb_tree::Decl;
 use fb_tree::text::{Span, TokenFault};
+use fb_tree::{Decl, Mentions, mentions_of};
 use std::alloc::{AllocError, Global};
 
 /// The declaration that a text spells, or the place from which it can no longer spell one.
@@ -22,7 +22,8 @@ pub enum Body {
 
 impl Body {
     ghost use Rattle.fb_structured_text.specs.Forms.Reading.{read};
-    ghost use Rattle.fb_parse.specs.Body.{body_read, body_tree, place, whole_or_broken};
+    ghost use Rattle.fb_parse.specs.Body.{body_read, body_tree, mentions_in_body, place, whole_or_broken};
+    ghost use Rattle.fb_tree.specs.Mentions.{mentioned};
     ghost use Rattle.fb_tree.specs.Tree.{decl_tree};
 
     /// The body of a text.
@@ -45,6 +46,20 @@ impl Body {
             Ok((decl, rest)) => Ok(Self::whole_or_broken(decl, rest, end)),
             Err(Stop::Broken(rest)) => Ok(Body::Broken(Self::place(rest, end))),
             Err(Stop::Memory) => Err(AllocError),
+        }
+    }
+
+    /// What the declaration mentions; nothing where the text is broken.
+    pub(crate) fn mentions(&self, alloc: Global) -> Result<Mentions, AllocError>
+        ensures { IfOk result (λ m. mentioned m ≡ mentions_in_body (body_tree self.now)) }
+    {
+        match self {
+            Body::Tree(decl) => mentions_of(alloc, decl),
+            Body::Broken(_) => Ok(Mentions {
+                parts: Vec::new(alloc),
+                of_values: Vec::new(alloc),
+                is_structure: false,
+            }),
         }
     }
 

@@ -21,5 +21,5 @@ pub mod text {
 
 /// Of `fb_tree`, for the crates above.
 pub mod tree {
-    pub use fb_tree::{Decl, TypeDeclaration, mentions};
+    pub use fb_tree::{Decl, Mentions, Structure, TypeDeclaration, mentions_of};
 }

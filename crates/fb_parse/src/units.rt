@@ -3,14 +3,15 @@
 ghost use Rattle.fb_structured_text.specs.Forms.Gives.{Gives};
 ghost use Rattle.fb_structured_text.specs.Forms.Reading.{read};
 ghost use Rattle.fb_parse.specs.Contents.{contents_tree};
-ghost use Rattle.fb_parse.specs.Grammar.{adapter, application, block, subapplication, type_of, unit};
-ghost use Rattle.fb_tree.specs.Tree.{application_tree, decl_tree, type_tree};
+ghost use Rattle.fb_parse.specs.Grammar.{adapter, application, block, structure, subapplication, type_of, unit};
+ghost use Rattle.fb_tree.specs.Tree.{application_tree, decl_tree, structure_tree, type_tree};
 ghost use Rattle.std.specs.Prelude.{◌≡◌};
 
 use crate::frame::{Frame, Named, framed};
 use crate::system::system;
-use fb_structured_text::grammar::{Kind, Lexeme, Stop, is_next};
-use fb_tree::{Application, Decl, TypeDeclaration};
+use fb_sections::{fields, optional_semicolon};
+use fb_structured_text::grammar::{Kind, Lexeme, Stop, is_next, key, name};
+use fb_tree::{Application, Decl, Structure, TypeDeclaration};
 use std::alloc::Global;
 
 /// What begins a section of a block type.
@@ -145,8 +146,24 @@ pub fn application(alloc: Global, tokens: &[Lexeme]) -> Result<(Application, &[L
     Ok((application, rest))
 }
 
+#[tactic(auto, unfolding(crate::specs::Grammar::structure))]
+fn structure(alloc: Global, tokens: &[Lexeme]) -> Result<(Structure, &[Lexeme]), Stop<'_>>
+    ensures { Gives structure_tree result (read structure tokens.now) }
+{
+    let (_, rest) = key(tokens, Kind::TypeWord)?;
+    let (name, rest) = name(rest)?;
+    let (_, rest) = key(rest, Kind::Colon)?;
+    let (fields, rest) = fields(alloc, rest)?;
+    let (_, rest) = key(optional_semicolon(rest), Kind::EndType)?;
+    let structure = Structure {
+        name: name.name_use(),
+        fields,
+    };
+    Ok((structure, rest))
+}
+
 /// A unit at the front of the tokens.
-#[tactic(auto, unfolding(crate::specs::Grammar::unit, crate::specs::Grammar::block, crate::specs::Grammar::adapter, crate::specs::Grammar::subapplication))]
+#[tactic(auto, unfolding(crate::specs::Grammar::unit, crate::specs::Grammar::block, crate::specs::Grammar::adapter, crate::specs::Grammar::subapplication, crate::specs::Grammar::system))]
 pub fn unit(alloc: Global, tokens: &[Lexeme]) -> Result<(Decl, &[Lexeme]), Stop<'_>>
     ensures { Gives decl_tree result (read unit tokens.now) }
 {
@@ -159,8 +176,11 @@ pub fn unit(alloc: Global, tokens: &[Lexeme]) -> Result<(Decl, &[Lexeme]), Stop<
     } else if is_next(tokens, &[Kind::Subapplication]) {
         let (subapplication, rest) = subapplication(alloc, tokens)?;
         Ok((Decl::Subapplication(subapplication), rest))
-    } else {
+    } else if is_next(tokens, &[Kind::System]) {
         let (system, rest) = system(alloc, tokens)?;
         Ok((Decl::System(system), rest))
+    } else {
+        let (structure, rest) = structure(alloc, tokens)?;
+        Ok((Decl::Structure(structure), rest))
     }
 }

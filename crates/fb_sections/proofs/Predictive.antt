@@ -1,12 +1,12 @@
 -- One token tells how to go on in each section.
 use Rattle.std.proofs.Common.{[], ◌∷◌, refl}
 use Rattle.fb_grammar.specs.Kind.{name_kinds}
-use Rattle.fb_grammar.specs.declared.kind.Kind.TheVariants.{EventInput, EventOutput, VarInput, VarOutput, Var, Plugs, Sockets, Fbs, Subapps, EventConnections, DataConnections, AdapterConnections, EcStates, Service, Resource, Device, Mappings, Point}
+use Rattle.fb_grammar.specs.declared.kind.Kind.TheVariants.{EventInput, EventOutput, VarInput, VarOutput, Var, Struct, Plugs, Sockets, Fbs, Subapps, EventConnections, DataConnections, AdapterConnections, EcStates, Service, Resource, Device, Mappings, Point}
 use Rattle.fb_grammar.specs.Words.{name, names}
 use Rattle.fb_grammar.proofs.Shapes.{Closed, Shape}
 use Rattle.fb_sections.specs.Constants.{number, range, ranges, length_of_string, plain_type, array_type, type_use, simple, constant_list, constant}
 use Rattle.fb_sections.specs.Sections.{optional_name}
-use Rattle.fb_sections.specs.Interface.{with_names, event, events, initial, variables, data_variables, internal_variables}
+use Rattle.fb_sections.specs.Interface.{with_names, event, events, initial, variables, data_variables, internal_variables, fields}
 use Rattle.fb_sections.specs.Network.{parameter, listed_parameters, parameters, optional_parameters, instance, plugs, sockets, blocks, inner_subapplication, subapplications, end, connection, connections}
 use Rattle.fb_sections.specs.Chart.{sent_event, action, actions, state, states}
 use Rattle.fb_sections.specs.SystemParts.{path, mapping, mappings, optional_semicolon, header, resource, device}
@@ -23,6 +23,10 @@ closed_data_variables = record { predictive = refl; filled = refl; first = refl;
 pub closed_internal_variables : Closed internal_variables (Var ∷ [])
 unfolding internal_variables variables initial type_use plain_type array_type length_of_string ranges range number constant constant_list simple names name
 closed_internal_variables = record { predictive = refl; filled = refl; first = refl; after = refl }
+
+pub closed_fields : Closed fields (Struct ∷ [])
+unfolding fields variables initial type_use plain_type array_type length_of_string ranges range number constant constant_list simple names name
+closed_fields = record { predictive = refl; filled = refl; first = refl; after = refl }
 
 pub closed_plugs : Closed plugs (Plugs ∷ [])
 unfolding plugs instance optional_parameters parameters listed_parameters parameter constant constant_list simple number name

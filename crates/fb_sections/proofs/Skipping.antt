@@ -5,7 +5,7 @@ use Rattle.std.specs.Prelude.{filter}
 use Rattle.fb_tree.proofs.Text.Tests.{and_false, or_false, and_true}
 use Rattle.fb_grammar.specs.Kind.{is_among, same_kind, code_of}
 use Rattle.fb_grammar.specs.declared.kind.Kind.{Kind}
-use Rattle.fb_grammar.specs.declared.kind.Kind.TheVariants.{FunctionBlock, EndFunctionBlock, Adapter, EndAdapter, Subapplication, EndSubapplication, System, EndSystem, Application, EndApplication, Device, EndDevice, Resource, EndResource, Mappings, EndMappings, EventInput, EventOutput, EndEvent, Var, VarInput, VarOutput, EndVar, Plugs, EndPlugs, Sockets, EndSockets, Fbs, EndFbs, Subapps, EndSubapps, EventConnections, DataConnections, AdapterConnections, EndConnections, EcStates, EndStates, EcTransitions, EndTransitions, Algorithm, EndAlgorithm, Service, EndService, With, To, Array, Of, If, Then, Elsif, Else, EndIf, Case, EndCase, For, By, Do, EndFor, While, EndWhile, Repeat, Until, EndRepeat, Exit, Return, And, Or, Xor, Not, Mod, True, False, NameIn, NameOn, NameSt, Name, Zero, One, Number, RealNumber, TypedTruth, TypedInteger, TypedBits, TypedFree, TypedOther, Text, Assign, LessEqual, GreaterEqual, NotEqual, Power, Arrow, Range, Semicolon, Colon, Comma, Point, OpenParenthesis, CloseParenthesis, OpenBracket, CloseBracket, Equal, Less, Greater, Plus, Minus, Times, Divide, Ampersand, Other}
+use Rattle.fb_grammar.specs.declared.kind.Kind.TheVariants.{FunctionBlock, EndFunctionBlock, Adapter, EndAdapter, Subapplication, EndSubapplication, System, EndSystem, Application, EndApplication, Device, EndDevice, Resource, EndResource, Mappings, EndMappings, EventInput, EventOutput, EndEvent, Var, VarInput, VarOutput, EndVar, Plugs, EndPlugs, Sockets, EndSockets, Fbs, EndFbs, Subapps, EndSubapps, EventConnections, DataConnections, AdapterConnections, EndConnections, EcStates, EndStates, EcTransitions, EndTransitions, Algorithm, EndAlgorithm, Service, EndService, With, To, Array, Of, If, Then, Elsif, Else, EndIf, Case, EndCase, For, By, Do, EndFor, While, EndWhile, Repeat, Until, EndRepeat, Exit, Return, And, Or, Xor, Not, Mod, True, False, NameIn, NameOn, NameSt, Name, Zero, One, Number, RealNumber, TypedTruth, TypedInteger, TypedBits, TypedFree, TypedOther, Text, Assign, LessEqual, GreaterEqual, NotEqual, Power, Arrow, Range, Semicolon, Colon, Comma, Point, OpenParenthesis, CloseParenthesis, OpenBracket, CloseBracket, Equal, Less, Greater, Plus, Minus, Times, Divide, Ampersand, Other, TypeWord, EndType, Struct, EndStruct}
 use Rattle.fb_grammar.specs.declared.lexeme.Lexeme.{Lexeme}
 use Rattle.fb_grammar.specs.Reading.{Outcome, ◌>>=◌, read_one, read_each, read}
 use Rattle.fb_sections.specs.Skipped.{all_kinds, others, skipped}
@@ -122,6 +122,10 @@ is_a_kind Times = refl
 is_a_kind Divide = refl
 is_a_kind Ampersand = refl
 is_a_kind Other = refl
+is_a_kind TypeWord = refl
+is_a_kind EndType = refl
+is_a_kind Struct = refl
+is_a_kind EndStruct = refl
 
 step : (t u s r : Bool) → (s ≡ true → t ≡ u) → cond (not t) (s || (not u && r)) (not u && r) ≡ (not u && (s || r))
 step true true s r h = refl

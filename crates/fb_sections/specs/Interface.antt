@@ -1,7 +1,7 @@
 -- The forms of events and variables.
 use Rattle.std.specs.Prelude.{List, Option}
 use Rattle.fb_tree.specs.Text.declared.name.NameUse.{NameUse}
-use Rattle.fb_grammar.specs.declared.kind.Kind.TheVariants.{EventInput, EventOutput, EndEvent, VarInput, VarOutput, Var, EndVar, With, Colon, Semicolon, Assign}
+use Rattle.fb_grammar.specs.declared.kind.Kind.TheVariants.{EventInput, EventOutput, EndEvent, VarInput, VarOutput, Var, EndVar, Struct, EndStruct, With, Colon, Semicolon, Assign}
 use Rattle.fb_grammar.specs.Form.{Form, both, either, option, as_value}
 use Rattle.fb_grammar.specs.Words.{key, before, behind, optional_list, name, names}
 use Rattle.fb_tree.specs.Tree.{EventTree, VariablesTree, ConstantTree}
@@ -43,3 +43,7 @@ data_variables = either (section VarInput (variables where_declared.Input) EndVa
 -- 'VAR' {vardecl} 'END_VAR'
 unfoldable pub internal_variables : Form (List VariablesTree)
 internal_variables = section Var (variables where_declared.Internal) EndVar
+
+-- 'STRUCT' {vardecl} 'END_STRUCT'
+unfoldable pub fields : Form (List VariablesTree)
+fields = section Struct (variables where_declared.Field) EndStruct

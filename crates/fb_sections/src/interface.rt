@@ -2,7 +2,7 @@
 
 ghost use Rattle.fb_grammar.specs.Gives.{Gives, GivesEach};
 ghost use Rattle.fb_grammar.specs.Reading.{read};
-ghost use Rattle.fb_sections.specs.Interface.{data_variables, event, events, initial, internal_variables, variables, with_names};
+ghost use Rattle.fb_sections.specs.Interface.{data_variables, event, events, fields, initial, internal_variables, variables, with_names};
 ghost use Rattle.fb_tree.specs.Tree.{EventTree, VariablesTree, constant_tree, event_tree, variables_tree};
 ghost use Rattle.std.specs.Prelude.{◌≡◌, map, option_map};
 
@@ -181,6 +181,22 @@ pub fn internal_variables(
             section: Section::Internal,
         },
         Kind::EndVar,
+        alloc,
+        tokens,
+    )
+}
+
+/// The fields of a structure between their words.
+#[tactic(auto, unfolding(crate::specs::Interface::fields, crate::specs::Interface::variables, fb_grammar::specs::Words::names, fb_grammar::specs::Words::name))]
+pub fn fields(alloc: Global, tokens: &[Lexeme]) -> Result<(Vec<Variables>, &[Lexeme]), Stop<'_>>
+    ensures { GivesEach variables_tree result (read fields tokens.now) }
+{
+    section(
+        Kind::Struct,
+        &VariablesReader {
+            section: Section::Field,
+        },
+        Kind::EndStruct,
         alloc,
         tokens,
     )

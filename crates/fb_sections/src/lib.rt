@@ -18,6 +18,6 @@ pub use chart::states;
 pub use connecting::{EndTokens, connections, end};
 pub use frame::section;
 pub use instances::{blocks, plugs, sockets, subapplications};
-pub use interface::{data_variables, events, internal_variables};
+pub use interface::{data_variables, events, fields, internal_variables};
 pub use skipped::{service, skip};
-pub use system_parts::{device, mappings};
+pub use system_parts::{device, mappings, optional_semicolon};

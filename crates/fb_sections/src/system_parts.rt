@@ -72,7 +72,7 @@ pub fn mappings(alloc: Global, tokens: &[Lexeme]) -> Result<(Vec<Mapping>, &[Lex
 
 /// The tokens behind a semicolon, or all where there is none.
 #[tactic(auto, unfolding(crate::specs::SystemParts::optional_semicolon))]
-fn optional_semicolon(tokens: &[Lexeme]) -> &[Lexeme]
+pub fn optional_semicolon(tokens: &[Lexeme]) -> &[Lexeme]
     ensures { read optional_semicolon tokens.now ≡ Ok (tt, result.now) }
 {
     match tokens {

@@ -1,5 +1,5 @@
 -- Classes of types, by their names in any case.
-use Rattle.std.specs.Prelude.{ℕ, Bool, ◌&&◌, ◌||◌, nat_le, length, if◌then◌else◌, List, [], ◌∷◌, take, codes}
+use Rattle.std.specs.Prelude.{ℕ, Bool, true, false, ◌&&◌, ◌||◌, nat_le, length, if◌then◌else◌, List, [], ◌∷◌, take, codes}
 use Rattle.std.specs.List.{list_any}
 use Rattle.fb_text.specs.Forms.{same_word}
 use Rattle.fb_text.specs.declared.elementary.TypeClass.{TypeClass}
@@ -18,6 +18,14 @@ integer_types =
 abbrev pub bit_types : List (List ℕ)
 bit_types = codes "BYTE" ∷ codes "WORD" ∷ codes "DWORD" ∷ codes "LWORD" ∷ []
 
+-- the types of durations, dates and times of day
+abbrev pub time_types : List (List ℕ)
+time_types = codes "TIME" ∷ codes "DATE" ∷ codes "TOD" ∷ codes "TIME_OF_DAY" ∷ codes "DT" ∷ codes "DATE_AND_TIME" ∷ []
+
+-- the other elementary types that have no class of their own
+abbrev pub other_types : List (List ℕ)
+other_types = codes "REAL" ∷ codes "LREAL" ∷ codes "STRING" ∷ codes "WSTRING" ∷ []
+
 -- the word is one of these, in any case
 abbrev pub is_one_of : List (List ℕ) → List ℕ → Bool
 is_one_of words word = list_any (same_word word) words
@@ -34,3 +42,15 @@ type_class_of word =
     else if is_one_of bit_types word then class.Bits
     else if is_generic_type word then class.Free
     else class.Other
+
+-- it is the class of nothing but elementary and generic types
+abbrev pub has_own_class : TypeClass → Bool
+has_own_class class.Truth = true
+has_own_class class.Integer = true
+has_own_class class.Bits = true
+has_own_class class.Free = true
+has_own_class class.Other = false
+
+-- whether values of the type with this name need no declaration of it, by its name in any case
+unfoldable pub is_elementary : List ℕ → Bool
+is_elementary word = has_own_class (type_class_of word) || (is_one_of time_types word || is_one_of other_types word)

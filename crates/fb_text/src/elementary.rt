@@ -1,6 +1,6 @@
 //! Elementary and generic types, by their names.
 ghost use Rattle.std.specs.Prelude.{◌≡◌};
-ghost use Rattle.fb_text.specs.Elementary.{bit_types, integer_types, is_generic_type, is_one_of, type_class_of};
+ghost use Rattle.fb_text.specs.Elementary.{bit_types, integer_types, is_elementary, is_generic_type, is_one_of, other_types, time_types, type_class_of};
 
 use crate::scan::same_word;
 
@@ -37,6 +37,17 @@ pub fn type_class(word: &[u8]) -> TypeClass
     }
 }
 
+/// Whether values of the type with this name need no declaration of it, in any case.
+#[tactic(auto, unfolding(crate::specs::Elementary::is_elementary))]
+pub fn is_elementary(word: &[u8]) -> bool
+    ensures { result ≡ is_elementary word.now }
+{
+    match type_class(word) {
+        TypeClass::Truth | TypeClass::Integer | TypeClass::Bits | TypeClass::Free => true,
+        TypeClass::Other => is_time_type(word) || is_other_type(word),
+    }
+}
+
 fn is_integer_type(word: &[u8]) -> bool
     ensures { result ≡ is_one_of integer_types word.now }
 {
@@ -57,6 +68,28 @@ fn is_bit_type(word: &[u8]) -> bool
         || same_word(word, b"WORD")
         || same_word(word, b"DWORD")
         || same_word(word, b"LWORD")
+}
+
+/// Durations, dates and times of day.
+fn is_time_type(word: &[u8]) -> bool
+    ensures { result ≡ is_one_of time_types word.now }
+{
+    same_word(word, b"TIME")
+        || same_word(word, b"DATE")
+        || same_word(word, b"TOD")
+        || same_word(word, b"TIME_OF_DAY")
+        || same_word(word, b"DT")
+        || same_word(word, b"DATE_AND_TIME")
+}
+
+/// The other elementary types that have no class of their own.
+fn is_other_type(word: &[u8]) -> bool
+    ensures { result ≡ is_one_of other_types word.now }
+{
+    same_word(word, b"REAL")
+        || same_word(word, b"LREAL")
+        || same_word(word, b"STRING")
+        || same_word(word, b"WSTRING")
 }
 
 /// `ANY`, and a name that begins with `ANY_`. A word of more than 64 bytes is no name.

@@ -11,7 +11,7 @@ mod scan;
 mod short_name;
 mod token;
 
-pub use elementary::{TypeClass, type_class};
+pub use elementary::{TypeClass, is_elementary, type_class};
 pub use lexer::{longest_token, one_reading, tokens};
 pub use name::{Name, NameFault, NameUse};
 pub use order::{names_once_and_in_order, once_and_in_order, same_name, sorted_names, sorted_once};

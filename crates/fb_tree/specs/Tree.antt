@@ -34,6 +34,7 @@ use Rattle.fb_tree.specs.declared.system.Resource.{Resource}
 use Rattle.fb_tree.specs.declared.system.Device.{Device}
 use Rattle.fb_tree.specs.declared.system.Mapping.{Mapping}
 use Rattle.fb_tree.specs.declared.system.System.{System}
+use Rattle.fb_tree.specs.declared.structure.Structure.{Structure}
 
 pub data ConstantTree : Type 0 where
   one_value : Simple → ConstantTree
@@ -189,14 +190,24 @@ pub record SystemTree : Type 0 where
 abbrev pub system_tree : System → SystemTree
 system_tree s = record { name = s.name; applications = map application_tree s.applications.items; devices = map device_tree s.devices.items; mappings = map mapping_tree s.mappings.items }
 
+-- the declaration of a structure
+pub record StructureTree : Type 0 where
+  pub name : NameUse
+  pub fields : List VariablesTree
+
+abbrev pub structure_tree : Structure → StructureTree
+structure_tree s = record { name = s.name; fields = map variables_tree s.fields.items }
+
 pub data DeclTree : Type 0 where
   block_type : TypeTree → DeclTree
   adapter_type : TypeTree → DeclTree
   subapplication_type : TypeTree → DeclTree
   system_configuration : SystemTree → DeclTree
+  structure_type : StructureTree → DeclTree
 
 abbrev pub decl_tree : Decl → DeclTree
 decl_tree (declared.Block d) = block_type (type_tree d)
 decl_tree (declared.Adapter d) = adapter_type (type_tree d)
 decl_tree (declared.Subapplication d) = subapplication_type (type_tree d)
 decl_tree (declared.System s) = system_configuration (system_tree s)
+decl_tree (declared.Structure s) = structure_type (structure_tree s)

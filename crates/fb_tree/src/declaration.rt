@@ -3,6 +3,7 @@
 use crate::chart::Chart;
 use crate::interface::Interface;
 use crate::network::Network;
+use crate::structure::Structure;
 use crate::system::System;
 use fb_text::NameUse;
 
@@ -22,4 +23,5 @@ pub enum Decl {
     Adapter(TypeDeclaration),
     Subapplication(TypeDeclaration),
     System(System),
+    Structure(Structure),
 }

@@ -25,6 +25,8 @@ pub enum Section {
     Input,
     Output,
     Internal,
+    /// A field of a structure.
+    Field,
 }
 
 /// How a type is written: `INT`, `STRING[80]` or `ARRAY [0..9] OF INT`.

@@ -13,6 +13,7 @@ pub enum UnitKind {
     Adapter,
     Subapplication,
     System,
+    Structure,
 }
 
 /// The kind of a declaration.
@@ -24,5 +25,6 @@ pub fn kind(decl: &Decl) -> UnitKind
         Decl::Adapter(_) => UnitKind::Adapter,
         Decl::Subapplication(_) => UnitKind::Subapplication,
         Decl::System(_) => UnitKind::System,
+        Decl::Structure(_) => UnitKind::Structure,
     }
 }

@@ -11,9 +11,11 @@ mod expression;
 mod interface;
 mod kinds;
 mod mention;
+mod mentioned;
 mod network;
 mod reference;
 mod statement;
+mod structure;
 mod system;
 
 pub use chart::{Action, Algorithm, Chart, Condition, State, Transition};
@@ -23,15 +25,17 @@ pub use expression::{BinaryOperator, BinaryUse, Expr, UnaryOperator, UnaryUse};
 pub use interface::{Event, Interface, Section, Side, TypeForm, TypeUse, Variables};
 pub use kinds::{UnitKind, kind};
 pub use mention::mentions;
+pub use mentioned::{Mentions, mentions_of};
 pub use network::{Connection, End, Instance, Network, Parameter, Role, Sort};
-pub use reference::{Reference, ReferenceNames};
+pub use reference::{Member, Reference, ReferenceNames};
 pub use statement::{Counting, Stmt};
+pub use structure::Structure;
 pub use system::{Application, Device, Mapping, Resource, System};
 
 /// Of `fb_text`, for the crates above.
 pub mod text {
     pub use fb_text::{
-        Name, NameUse, Span, Token, TokenFault, TokenKind, TypeClass, same_name, same_word,
-        sorted_names, sorted_once, tokens, type_class,
+        Name, NameUse, Span, Token, TokenFault, TokenKind, TypeClass, is_elementary, same_name,
+        same_word, sorted_names, sorted_once, tokens, type_class,
     };
 }

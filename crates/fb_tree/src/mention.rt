@@ -1,6 +1,6 @@
 //! The types that a declaration mentions.
 
-ghost use Rattle.fb_tree.specs.Mentions.{mentioned_in, mentions_of};
+ghost use Rattle.fb_tree.specs.Mentions.{instance_types, parts_of};
 ghost use Rattle.fb_tree.specs.Tree.{decl_tree};
 ghost use Rattle.std.specs.List.{flat_map};
 ghost use Rattle.std.specs.Prelude.{◌≡◌, IfOk, map};
@@ -13,22 +13,23 @@ use std::alloc::{AllocError, Global};
 
 /// The names of the types of all instances, plugs and sockets among them, in the order of their bytes, each once.
 pub fn mentions(alloc: Global, decl: &Decl) -> Result<Vec<Name>, AllocError>
-    ensures { IfOk result (λ names. names.items ≡ mentions_of (decl_tree decl.now)) }
+    ensures { IfOk result (λ names. names.items ≡ parts_of (decl_tree decl.now)) }
 {
-    let names = mentioned(alloc, decl)?;
+    let names = instance_types(alloc, decl)?;
     sorted_names(alloc, names.as_slice())
 }
 
 /// The same in the order of the text.
-#[tactic(auto, using(crate::proofs::MentionLemmas::instance_types, crate::proofs::MentionLemmas::application_types))]
-fn mentioned(alloc: Global, decl: &Decl) -> Result<Vec<Name>, AllocError>
-    ensures { IfOk result (λ names. names.items ≡ mentioned_in (decl_tree decl.now)) }
+#[tactic(auto, using(crate::proofs::MentionLemmas::types_of_instances, crate::proofs::MentionLemmas::application_types))]
+fn instance_types(alloc: Global, decl: &Decl) -> Result<Vec<Name>, AllocError>
+    ensures { IfOk result (λ names. names.items ≡ instance_types (decl_tree decl.now)) }
 {
     match decl {
         Decl::Block(declared) | Decl::Adapter(declared) | Decl::Subapplication(declared) => {
             types_of(alloc, declared.network.instances.as_slice())
         }
         Decl::System(system) => types_in_applications(alloc, system.applications.as_slice()),
+        Decl::Structure(_) => Ok(Vec::new(alloc)),
     }
 }
 

@@ -17,14 +17,14 @@ loop-name-preserved g c =
     let unit = c.args.unit in
     let name = c.in-Some.name in
     let before : IsWalk sources unit c.loop-name.seen.keys (c.pop.new.self.items ++ name ∷ []) = subst (IsWalk sources unit c.loop-name.seen.keys) c.in-Some.ensures.items c.loop-name.invariant in
-    let opens : Opens (mentions_at sources name) c.loop-name.seen.keys c.pop.new.self.items c.open_new.new.seen.keys c.open_new.new.pending.items = subst (λ ns. Opens ns c.loop-name.seen.keys c.pop.new.self.items c.open_new.new.seen.keys c.open_new.new.pending.items) (c.as_slice.ensures.value ∙ c.in_ok-names.ensures) c.in_ok-open_new.ensures in
+    let opens : Opens (mentions_at sources name) c.loop-name.seen.keys c.pop.new.self.items c.open_new.new.seen.keys c.open_new.new.pending.items = subst (λ ns. Opens ns c.loop-name.seen.keys c.pop.new.self.items c.open_new.new.seen.keys c.open_new.new.pending.items) c.part_mentions.ensures c.in_ok-open_new.ensures in
     IsWalk-step sources unit _ _ _ _ name before opens
 
 pub loop-name-smaller : goal.loop-name-smaller
 loop-name-smaller g c =
     let sources = g.V.View.sources c.args.view.now in
     let name = c.in-Some.name in
-    let opens : Opens (mentions_at sources name) c.loop-name.seen.keys c.pop.new.self.items c.open_new.new.seen.keys c.open_new.new.pending.items = subst (λ ns. Opens ns c.loop-name.seen.keys c.pop.new.self.items c.open_new.new.seen.keys c.open_new.new.pending.items) (c.as_slice.ensures.value ∙ c.in_ok-names.ensures) c.in_ok-open_new.ensures in
+    let opens : Opens (mentions_at sources name) c.loop-name.seen.keys c.pop.new.self.items c.open_new.new.seen.keys c.open_new.new.pending.items = subst (λ ns. Opens ns c.loop-name.seen.keys c.pop.new.self.items c.open_new.new.seen.keys c.open_new.new.pending.items) c.part_mentions.ensures c.in_ok-open_new.ensures in
     opens_falls sources name _ _ _ _ c.loop-name.pending.items opens c.in-Some.ensures.items
 
 pub returns-clause-sound : goal.returns-clause-sound
