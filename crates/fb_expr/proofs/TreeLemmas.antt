@@ -1,5 +1,5 @@
 -- One level of an expression or a statement, in its mirror.
-use Rattle.std.proofs.Common.{◌≡◌, Box, List, Vec, map, option_map, ap, ◌∙◌}
+use Rattle.std.proofs.Common.{◌≡◌, Box, Vec, map, option_map, ap, ◌∙◌}
 use Rattle.std.proofs.lemmas.Simd.{map-map}
 use Rattle.std.specs.declared.alloc.Global.{Global}
 use Rattle.fb_tree.specs.Expression.{Expression, expression_step, expression_tree, operand_tree, operands_of, row_expression}

@@ -2,7 +2,7 @@
 use Rattle.std.specs.Prelude.{◌≡◌, ℕ, List, [], ◌++◌, Option, Some, None}
 use Rattle.std.specs.List.{flat_map}
 use Rattle.fb_tree.specs.Statement.{statements_of}
-use Rattle.fb_tree.specs.Tree.{AlgorithmTree, ChartTree, ConditionTree, always, on_event, guarded, guard, DeclTree, TransitionTree, block_type, adapter_type, subapplication_type, system_configuration}
+use Rattle.fb_tree.specs.Tree.{AlgorithmTree, ChartTree, ConditionTree, always, on_event, guarded, guard, DeclTree, TransitionTree, block_type, adapter_type, subapplication_type, system_configuration, structure_type}
 use Rattle.fb_iface.specs.Library.Local.{Agree}
 use Rattle.fb_iface.specs.Library.View.{Sources, near_of, tree_at}
 use Rattle.fb_iface.specs.Scope.{Scope, scope_of_type}
@@ -35,6 +35,7 @@ faults_in_unit sources (Some (block_type d)) = expression_faults (scope_of_type 
 faults_in_unit sources (Some (adapter_type d)) = []
 faults_in_unit sources (Some (subapplication_type d)) = []
 faults_in_unit sources (Some (system_configuration s)) = []
+faults_in_unit sources (Some (structure_type s)) = []
 
 -- the faults of the expressions and statements of a unit; one that is absent or broken has none
 abbrev pub expr_faults_of : Sources → List ℕ → List Fault

@@ -1,5 +1,5 @@
 -- What the expressions and statements of a unit demand: the rules by which they are judged, each with the place of its fault.
-use Rattle.std.specs.Prelude.{◌≡◌, ℕ, Bool, true, false, List, [], ◌∷◌, ◌++◌, Option, Some, None, is_some, ◌↔◌}
+use Rattle.std.specs.Prelude.{◌≡◌, ℕ, Bool, true, false, List, [], ◌∷◌, ◌++◌, Option, Some, is_some, ◌↔◌}
 use Rattle.std.specs.List.{Contains, flat_map}
 use Rattle.std.specs.Option.{option_map_or}
 use Rattle.fb_tree.specs.Text.declared.name.NameUse.{NameUse}
@@ -91,7 +91,7 @@ demands_at place scope e = demands_in scope e ++ suits_place place e ∷ []
 
 -- a name alone, as a reference
 abbrev pub name_alone : NameUse → ReferenceTree
-name_alone name = record { name = name; member = None; span = name.span }
+name_alone name = record { name = name; subscripts = 0; members = []; span = name.span }
 
 -- the variable of a FOR is one, and a whole number
 abbrev pub counter_demands : NameUse → List Demand

@@ -1,6 +1,5 @@
 -- What references stand for (IEC 61499-1, 5.2.2: algorithms; 5.5: adapters).
-use Rattle.std.specs.Prelude.{ℕ, Bool, true, false, List, [], ◌∷◌, Option, Some, None, if◌then◌else◌}
-use Rattle.std.specs.Option.{option_map_or}
+use Rattle.std.specs.Prelude.{ℕ, zero, suc, Bool, true, false, List, [], ◌∷◌, Option, Some, None, if◌then◌else◌}
 use Rattle.fb_tree.specs.Text.declared.token.Span.{Span}
 use Rattle.fb_tree.specs.declared.interface.Section.{Section}
 use Rattle.fb_tree.specs.declared.interface.Section.TheVariants as sections
@@ -9,6 +8,7 @@ use Rattle.fb_tree.specs.declared.interface.TypeForm.TheVariants as forms
 use Rattle.fb_tree.specs.declared.interface.TypeUse.{TypeUse}
 use Rattle.fb_tree.specs.declared.network.Role.{Role}
 use Rattle.fb_tree.specs.declared.network.Role.TheVariants as roles
+use Rattle.fb_tree.specs.declared.reference.Member.{Member}
 use Rattle.fb_tree.specs.Expression.{ReferenceTree, Expressions, no_expressions, expression_then}
 use Rattle.fb_iface.specs.Class.{class_of_name, class_of_type}
 use Rattle.fb_iface.specs.Names.{stands_for}
@@ -33,6 +33,7 @@ abbrev pub is_data : Section → Bool
 is_data sections.Input = true
 is_data sections.Output = true
 is_data sections.Internal = false
+is_data sections.Field = false
 
 -- a data input or a data output of an adapter type
 abbrev pub data_referent : Option DeclaredVariable → Referent
@@ -64,9 +65,17 @@ abbrev pub member_named : Scope → List ℕ → List ℕ → Referent
 member_named scope name member =
     if is_at_adapter (stands_for scope.own.instances name) then port_referent (ports_of scope name) member else Unknown
 
+-- What a name stands for with so many subscripts behind it and these names behind them: alone a variable, and with one name directly behind it data
+-- of a plug or socket. With more names, or with a subscript before another name, it is not judged.
+abbrev pub referent_from : Scope → List ℕ → ℕ → List Member → Referent
+referent_from scope name count [] = variable_named scope name
+referent_from scope name zero (m ∷ []) = member_named scope name m.name.name
+referent_from scope name zero (m ∷ next ∷ others) = Unjudged
+referent_from scope name (suc count) (m ∷ others) = Unjudged
+
 -- what a reference stands for
 abbrev pub referent_of : Scope → ReferenceTree → Referent
-referent_of scope r = option_map_or (λ m. member_named scope r.name.name m.name) r.member (variable_named scope r.name.name)
+referent_of scope r = referent_from scope r.name.name r.subscripts r.members
 
 -- with a subscript: the class of the elements of an array; a type that is no array has none
 abbrev pub class_of_element : TypeForm → List ℕ → Class

@@ -1,15 +1,22 @@
 -- Where references and expressions stand.
+use Rattle.std.specs.Prelude.{ℕ, zero, suc, List, [], ◌∷◌}
 use Rattle.fb_tree.specs.Text.declared.token.Span.{Span}
-use Rattle.std.specs.Option.{option_map_or}
+use Rattle.fb_tree.specs.declared.reference.Member.{Member}
 use Rattle.fb_tree.specs.Expression.{ReferenceTree, Expression, literal_expression, reference_expression, unary_expression, row_expression, parentheses, Operands, no_operands, operand_then}
 
 -- from the start of one to the end of the other
 abbrev pub across : Span → Span → Span
 across first last = record { start = first.start; end = last.end }
 
--- the names of a reference, without its subscripts
+-- the first name, through the second one where that follows it directly
+abbrev pub through_second : Span → ℕ → List Member → Span
+through_second first count [] = first
+through_second first zero (m ∷ others) = across first m.name.span
+through_second first (suc count) (m ∷ others) = first
+
+-- the names of a reference that are judged together, without its subscripts
 abbrev pub names_span : ReferenceTree → Span
-names_span r = option_map_or (λ m. across r.name.span m.span) r.member r.name.span
+names_span r = through_second r.name.span r.subscripts r.members
 
 abbrev mutual
   -- an expression, with the parentheses and the subscripts that belong to it

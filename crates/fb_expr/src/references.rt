@@ -30,7 +30,7 @@ use std::alloc::AllocError;
 pub enum Referent {
     /// A variable of this type.
     Variable(TypeUse),
-    /// Data of a plug or a socket whose type is not usable.
+    /// Data of a plug or a socket whose type is not usable, or what more names stand for.
     Unjudged,
     /// No variable.
     Unknown,
@@ -41,9 +41,12 @@ pub fn referred(scope: &Scope, reference: &Reference) -> Referent
     ensures { result ≡ referent_of (scope_in scope.now) (reference_tree reference.now) }
 {
     let name = reference.name();
-    match reference.member() {
-        Some(member) => referred_member(scope, &name, &member.name),
-        None => referred_variable(scope, &name),
+    match reference.members() {
+        [] => referred_variable(scope, &name),
+        [member] if reference.subscripts == 0 => {
+            referred_member(scope, &name, &member.name.name)
+        }
+        _ => Referent::Unjudged,
     }
 }
 
@@ -113,7 +116,7 @@ fn is_port(section: Section) -> bool
 {
     match section {
         Section::Input | Section::Output => true,
-        Section::Internal => false,
+        Section::Internal | Section::Field => false,
     }
 }
 

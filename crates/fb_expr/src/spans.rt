@@ -16,14 +16,15 @@ fn across(first: Span, last: Span) -> Span
     }
 }
 
-/// Where the names of a reference stand, without its subscripts.
+/// Where the first name of a reference stands, through the second one where that follows it
+/// directly.
 pub fn span_of_names(reference: &Reference) -> Span
     ensures { result ≡ names_span (reference_tree reference.now) }
 {
     let first = reference.name_span();
-    match reference.member() {
-        Some(member) => across(first, member.span),
-        None => first,
+    match reference.members().first() {
+        Some(second) if reference.subscripts == 0 => across(first, second.name.span),
+        _ => first,
     }
 }
 
