@@ -13,13 +13,13 @@ use Rattle.fb_deploy.specs.Iface.declared.classes.Class.{Class}
 use Rattle.fb_deploy.specs.Iface.declared.classes.Class.TheVariants.{O, Free}
 use Rattle.fb_expr.specs.Classes.{change, pair_class, unary_class}
 use Rattle.fb_expr.specs.Expressions.{class_in, row_class}
-use Rattle.fb_expr.specs.References.{class_of_element, class_of_referent, class_with}
+use Rattle.fb_expr.specs.References.{class_of_element, class_of_referent, class_with, referent_of}
 use Rattle.fb_expr.specs.declared.references.Referent.{Referent}
 use Rattle.fb_expr.specs.declared.references.Referent.TheVariants.{Variable, Unjudged, Unknown}
 use Rattle.fb_laws.specs.Classes.{Changes, HasClass, of_literal, of_variable, of_element, of_no_array, of_no_variable, of_operator, of_broken, of_row, of_parentheses, RowHasClass, at_end, behind, IsPairIn, first_pair, later_pair}
-use Rattle.fb_laws.specs.Variables.{NamesVariable}
+use Rattle.fb_laws.specs.Variables.{IsOfVariable}
 use Rattle.fb_laws.proofs.ExpressionLemmas.{IsPairOf, first_pair as first_of, later_pair as later_of}
-use Rattle.fb_laws.proofs.ReferentLemmas.{Refers, variable, not_judged, nothing, referent, refers, told_variable}
+use Rattle.fb_laws.proofs.ReferentLemmas.{Stands, as_variable, as_unjudged, as_unknown, stands, told_reference}
 use Rattle.fb_laws.proofs.RuleLemmas.{Known, gives, fails, changes, no_change, none_change, results, told_change, told_results}
 
 plain_differs : Plain ≢ Array
@@ -37,7 +37,7 @@ module _ (sources : Sources) (d : TypeTree) where
   abbrev scope : Scope
   scope = scope_of_type sources d
 
-  of_subscripts : (r : ReferenceTree) (used : TypeUse) (subscripts : Expressions) → NamesVariable sources d r.name r.member used → HasClass sources d (reference_expression r subscripts) (class_with used subscripts)
+  of_subscripts : (r : ReferenceTree) (used : TypeUse) (subscripts : Expressions) → IsOfVariable sources d r used → HasClass sources d (reference_expression r subscripts) (class_with used subscripts)
   of_subscripts r used no_expressions n = of_variable used n
   of_subscripts r used (expression_then e others) n = by_form used.form refl
     where
@@ -46,8 +46,8 @@ module _ (sources : Sources) (d : TypeTree) where
       by_form Sized is = of_no_array used n (λ array. sized_differs (sym is ∙ array))
       by_form Array is = of_element used n is
 
-  names_nothing : (r : ReferenceTree) (t : Referent) → referent scope r.name r.member ≡ t → (used : TypeUse) → (t ≡ Variable used → ⊥) → ¬ NamesVariable sources d r.name r.member used
-  names_nothing r t is used other n = other (sym is ∙ told_variable sources d r.name r.member used n)
+  names_nothing : (r : ReferenceTree) (t : Referent) → referent_of scope r ≡ t → (used : TypeUse) → (t ≡ Variable used → ⊥) → ¬ IsOfVariable sources d r used
+  names_nothing r t is used other n = other (sym is ∙ told_reference sources d r used n)
 
   unjudged_differs : (used : TypeUse) → Unjudged ≡ Variable used → ⊥
   unjudged_differs used e = let no : ⊥ = cc in no
@@ -55,13 +55,13 @@ module _ (sources : Sources) (d : TypeTree) where
   unknown_differs : (used : TypeUse) → Unknown ≡ Variable used → ⊥
   unknown_differs used e = let no : ⊥ = cc in no
 
-  of_reference : (r : ReferenceTree) (subscripts : Expressions) → HasClass sources d (reference_expression r subscripts) (class_of_referent (referent scope r.name r.member) subscripts)
-  of_reference r subscripts = by_referent (referent scope r.name r.member) refl (refers sources d r.name r.member)
+  of_reference : (r : ReferenceTree) (subscripts : Expressions) → HasClass sources d (reference_expression r subscripts) (class_of_referent (referent_of scope r) subscripts)
+  of_reference r subscripts = by_referent (referent_of scope r) refl (stands sources d r)
     where
-      by_referent : (t : Referent) → referent scope r.name r.member ≡ t → Refers sources d r.name r.member t → HasClass sources d (reference_expression r subscripts) (class_of_referent t subscripts)
-      by_referent (Variable used) is (variable n) = of_subscripts r used subscripts n
-      by_referent Unjudged is (not_judged j) = of_no_variable (λ used. names_nothing r Unjudged is used (unjudged_differs used))
-      by_referent Unknown is nothing = of_no_variable (λ used. names_nothing r Unknown is used (unknown_differs used))
+      by_referent : (t : Referent) → referent_of scope r ≡ t → Stands sources d r t → HasClass sources d (reference_expression r subscripts) (class_of_referent t subscripts)
+      by_referent (Variable used) is (as_variable n) = of_subscripts r used subscripts n
+      by_referent Unjudged is as_unjudged = of_no_variable (λ used. names_nothing r Unjudged is used (unjudged_differs used))
+      by_referent Unknown is as_unknown = of_no_variable (λ used. names_nothing r Unknown is used (unknown_differs used))
 
   of_unary : (used : UnaryUse) (x : Expression) (c : Class) → HasClass sources d x c → HasClass sources d (unary_expression used x) (unary_class used.operator c)
   of_unary used x c has = by_case (change used.operator c) refl (changes used.operator c)
@@ -86,16 +86,16 @@ module _ (sources : Sources) (d : TypeTree) where
 
   -- and no other
 
-  free_of : (r : ReferenceTree) (subscripts : Expressions) → ((used : TypeUse) → ¬ NamesVariable sources d r.name r.member used) → class_of_referent (referent scope r.name r.member) subscripts ≡ Free
-  free_of r subscripts none = by_referent (referent scope r.name r.member) (refers sources d r.name r.member)
+  free_of : (r : ReferenceTree) (subscripts : Expressions) → ((used : TypeUse) → ¬ IsOfVariable sources d r used) → class_of_referent (referent_of scope r) subscripts ≡ Free
+  free_of r subscripts none = by_referent (referent_of scope r) (stands sources d r)
     where
-      by_referent : (t : Referent) → Refers sources d r.name r.member t → class_of_referent t subscripts ≡ Free
-      by_referent (Variable used) (variable n) = absurd (none used n)
-      by_referent Unjudged (not_judged j) = refl
-      by_referent Unknown nothing = refl
+      by_referent : (t : Referent) → Stands sources d r t → class_of_referent t subscripts ≡ Free
+      by_referent (Variable used) (as_variable n) = absurd (none used n)
+      by_referent Unjudged as_unjudged = refl
+      by_referent Unknown as_unknown = refl
 
-  named_class : (r : ReferenceTree) (subscripts : Expressions) (used : TypeUse) → NamesVariable sources d r.name r.member used → class_of_referent (referent scope r.name r.member) subscripts ≡ class_with used subscripts
-  named_class r subscripts used n = ap (λ (t : Referent). class_of_referent t subscripts) (told_variable sources d r.name r.member used n)
+  named_class : (r : ReferenceTree) (subscripts : Expressions) (used : TypeUse) → IsOfVariable sources d r used → class_of_referent (referent_of scope r) subscripts ≡ class_with used subscripts
+  named_class r subscripts used n = ap (λ (t : Referent). class_of_referent t subscripts) (told_reference sources d r used n)
 
   mutual
     pub told_class : (e : Expression) (c : Class) → HasClass sources d e c → class_in scope e ≡ c

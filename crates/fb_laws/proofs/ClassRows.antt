@@ -23,9 +23,11 @@ use Rattle.fb_laws.specs.Classes.{Fits, HasClass, of_variable, of_no_variable}
 use Rattle.fb_laws.specs.Occurrences.{IsRunIn}
 use Rattle.fb_laws.specs.Places.{StandsAt}
 use Rattle.fb_laws.specs.Expressions.{BreaksRule, at_operator, between_operands, at_subscript, at_guard, in_statement, at_counter, at_assignment, ClassesAreRight, ExpressionsHaveOneClass, HasBrokenRule}
+use Rattle.fb_laws.specs.Variables.{no_name}
 use Rattle.fb_laws.proofs.ClassLemmas.{class_of, pair_in, pair_of, told_class}
 use Rattle.fb_laws.proofs.ExpressionLemmas.{IsPairOf}
 use Rattle.fb_laws.proofs.ExpressionPlaces.{stands, told_stands}
+use Rattle.fb_laws.proofs.ReferentLemmas.{named_alone}
 use Rattle.fb_laws.proofs.RuleLemmas.{misfits, no_change, no_join, none_change, none_combined, none_join, not_combined, told_misfit}
 use Rattle.fb_laws.proofs.UnitDemands.{DemandOf, reference, behind_for, operator, pair, subscript, test, in_place, of_counter, of_assignment, reported, unmet}
 use Rattle.fb_laws.proofs.VariableRows.{is_unknown_code}
@@ -40,7 +42,7 @@ module _ (sources : Sources) (d : TypeTree) where
 
   -- the variable of a FOR, by the class of the name alone
   counted : (name : NameUse) (a b : Expression) (step : Option Expression) (body : Statements) (c : ValueClass) → IsRunIn d (count name a b step body) → HasClass sources d (reference_expression (name_alone name) no_expressions) c → allows Counter c ≡ false → BreaksRule sources d name.span
-  counted name a b step body c runs (of_variable used n) fails = at_counter name a b step body used runs n (misfits Counter c fails)
+  counted name a b step body c runs (of_variable used n) fails = at_counter name a b step body used runs (named_alone sources d name used n) (misfits Counter c fails)
   counted name a b step body c runs (of_no_variable none) fails = absurd (true≢false fails)
 
   -- a demand on classes that is not met
@@ -106,7 +108,7 @@ module _ (sources : Sources) (d : TypeTree) where
         demand = suits_place Counter variable;
         of_type = of_counter name a b step body runs;
         class = refl;
-        fails = ap (allows Counter) (told_class sources d variable _ (of_variable used n)) ∙ told_misfit Counter _ misfit;
+        fails = ap (allows Counter) (told_class sources d variable _ (of_variable used (record { member = None; follows = no_name refl; variable = n }))) ∙ told_misfit Counter _ misfit;
         place = refl;
       }
   unmet_by span (at_assignment r subscripts place e a b runs left right none) =

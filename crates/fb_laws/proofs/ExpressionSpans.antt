@@ -1,5 +1,5 @@
 -- The parts of expressions, at each level.
-use Rattle.std.proofs.Common.{◌≡◌, ℕ, ◌≤◌, arith, zero, suc, true, inl, inr, List, [], ◌∷◌, ◌++◌, Option, Some, None, refl, sym, ap, ◌∙◌, subst, append_assoc}
+use Rattle.std.proofs.Common.{◌≡◌, ℕ, ◌≤◌, arith, zero, suc, true, inl, inr, List, [], ◌∷◌, ◌++◌, map, Option, Some, None, refl, sym, ap, ◌∙◌, subst, append_assoc}
 use Rattle.std.specs.List.{flat_map}
 use Rattle.std.proofs.lemmas.List.{append-nil}
 use Rattle.fb_text.specs.declared.name.NameUse.{NameUse}
@@ -9,17 +9,18 @@ use Rattle.fb_structured_text.specs.Forms.Literals.{across, literal_kinds}
 use Rattle.fb_structured_text.specs.Forms.Words.{key, name}
 use Rattle.fb_structured_text.specs.Forms.Kind.{is_among}
 use Rattle.fb_structured_text.specs.Forms.declared.kind.Kind.{Kind}
+use Rattle.fb_structured_text.specs.Forms.declared.kind.Kind.TheVariants.{Point}
 use Rattle.fb_structured_text.specs.Forms.declared.lexeme.Lexeme.{Lexeme}
 use Rattle.fb_tree.specs.Expression.{ReferenceTree, Expression, reference_expression, unary_expression, Expressions, expressions_of, operands_of}
 use Rattle.fb_tree.specs.declared.expression.BinaryUse.{BinaryUse}
 use Rattle.fb_tree.specs.declared.expression.UnaryUse.{UnaryUse}
 use Rattle.fb_structured_text.specs.Operators.{signs, strengths, unary_use, binary_use}
-use Rattle.fb_structured_text.specs.Expression.{levels, expression, variable_of, member_name, variable, expressions, subscripts, plain, subscripted, flat_reference, deep_reference, reference_value, literal, in_parentheses, parenthesized, flat_primary, deep_primary, with_sign, unary, row_of, operand, row, rows, reference}
-use Rattle.fb_laws.specs.SpanParts.{Part, expression_part, sign_part, operator_part, name_parts, option_parts, reference_parts, expression_parts, expressions_parts, operands_parts}
+use Rattle.fb_structured_text.specs.Expression.{levels, expression, expressions, subscripts, PartTree, part_of, flat_part, deep_part, further_part, parts, member_in, last_end, subscripts_in, reference_in, flat_reference, deep_reference, reference_value, literal, in_parentheses, parenthesized, flat_primary, deep_primary, with_sign, unary, row_of, operand, row, rows, reference}
+use Rattle.fb_laws.specs.SpanParts.{Part, name_part, expression_part, sign_part, operator_part, name_parts, option_parts, reference_parts, expression_parts, expressions_parts, operands_parts}
 use Rattle.fb_laws.specs.Written.{expression_span, span_through, SpellsPart, EndsAt, IsWritten, sign, operator}
 use Rattle.fb_laws.proofs.Tokens.{Fills, begins_more, ends_more, written_whole, Each, each_append, each_front, each_rest, each_left, each_right}
 use Rattle.fb_laws.proofs.Filling.{Filled, filled_as, filled_either, filled_token, filled_name, Ends, ends_filled, ends_second, ends_behind, filled_across, filled_more, filled_from}
-use Rattle.fb_laws.proofs.Sound.{Sound, sound_nothing, sound_both, sound_first, sound_second, sound_as, sound_either, sound_option, sound_many, sound_behind, sound_separated, sound_own, sound_same, sound_name, each_none, among_more, among_right}
+use Rattle.fb_laws.proofs.Sound.{Sound, sound_nothing, sound_both, sound_first, sound_second, sound_as, sound_either, sound_option, sound_many, sound_behind, sound_separated, sound_own, sound_same, sound_name, each_items, among_more, among_right}
 
 -- Lists
 
@@ -42,65 +43,116 @@ each_operands P (o ∷ os) h =
 
 -- References
 
-filled_variable : Filled variable (λ r. r.span)
-unfolding member_name
-filled_variable =
-    filled_as _ _ (λ r. r.span)
-    (filled_more name _ (λ n. n.span) (λ m. m.span) _ (λ n. refl) (λ n m. refl) filled_name (ends_behind _ name (λ m. m.span) (ends_filled name (λ m. m.span) filled_name)))
+-- from where its name begins to where its bracket or its name ends
+abbrev place_of : PartTree → Span
+place_of p = record { start = p.name.span.start; end = p.end }
 
-each_variable : (P : Part → Type 0) (n : NameUse) (member : Option NameUse) → Each P (name_parts n ++ option_parts name_parts member) → Each P (reference_parts (variable_of n member))
-each_variable P n None h = h
-each_variable P n (Some m) h = h
-
-sound_variable : Sound variable reference_parts
-unfolding member_name
-sound_variable =
-    sound_as _ _ reference_parts
-    (sound_same _ (λ v. name_parts v.0 ++ option_parts name_parts v.1) _ (λ P v h. each_variable P v.0 v.1 h)
-    (sound_both name _ name_parts (option_parts name_parts) sound_name (sound_option _ name_parts (sound_behind _ name name_parts sound_name))))
-
--- a variable with its subscripts
-abbrev subscripted_span : ReferenceTree × Expressions → Span
-subscripted_span r = r.0.span
-
-filled_flat_reference : Filled flat_reference subscripted_span
-unfolding flat_reference
-filled_flat_reference = filled_as plain variable subscripted_span filled_variable
+filled_flat_part : Filled flat_part place_of
+unfolding flat_part
+filled_flat_part = filled_as (λ n. part_of n None) name place_of filled_name
 
 ends_subscripts : (inner : Form Expression) → Ends (subscripts inner) (λ s. s.1.span)
 unfolding subscripts
 ends_subscripts inner = ends_behind _ _ (λ s. s.1.span) (ends_second _ _ (λ l. l.span) (ends_filled _ (λ l. l.span) (filled_token _)))
 
-filled_deep_reference : (inner : Form Expression) → Filled (deep_reference inner) subscripted_span
-unfolding deep_reference
-filled_deep_reference inner =
-    filled_as _ _ subscripted_span
-    (filled_more variable (subscripts inner) (λ r. r.span) (λ s. s.1.span) _ (λ r. refl) (λ r s. refl) filled_variable (ends_subscripts inner))
+filled_deep_part : (inner : Form Expression) → Filled (deep_part inner) place_of
+unfolding deep_part
+filled_deep_part inner =
+    filled_as _ _ place_of
+    (filled_more name (subscripts inner) (λ n. n.span) (λ s. s.1.span) _ (λ n. refl) (λ n s. refl) filled_name (ends_subscripts inner))
 
--- the names and the subscripts
-abbrev subscripted_parts : ReferenceTree × Expressions → List Part
-subscripted_parts r = reference_parts r.0 ++ expressions_parts r.1
+-- a reference with its subscripts
+abbrev reference_span : ReferenceTree × Expressions → Span
+reference_span r = r.0.span
 
-sound_flat_reference : Sound flat_reference subscripted_parts
+module _ (part : Form PartTree) (filled : Filled part place_of) where
+  -- from where a part begins through the last of those behind it
+  fills_parts : (front rest : List Lexeme) (start end : ℕ) (ps : List PartTree) → Fills front (record { start = start; end = end }) → SpellsEach (Spells (further_part part)) rest ps
+      → Fills (front ++ rest) (record { start = start; end = last_end end ps })
+  fills_parts front rest start end [] h none =
+      subst (λ (z : List Lexeme). Fills z (record { start = start; end = end })) (sym (ap (λ z. front ++ z) none ∙ append-nil front)) h
+  fills_parts front rest start end (p ∷ ps) h each =
+      let first = each.0 in
+      let others = each.1 in
+      let last = (ends_behind (key Point) part place_of (ends_filled part place_of filled)).ends first p each.3 in
+      let wider : Fills (front ++ first) (record { start = start; end = p.end }) = record { begins = begins_more front first start h.begins; ends = ends_more front first p.end last } in
+      subst (λ (z : List Lexeme). Fills z (record { start = start; end = last_end p.end ps })) (append_assoc front first others ∙ ap (λ z. front ++ z) (sym each.2))
+      (fills_parts (front ++ first) others start p.end ps wider each.4)
+
+  filled_parts : Filled (parts part) (λ v. reference_span (reference_in v))
+  filled_parts = record {
+    fills = λ us v s.
+        subst (λ (z : List Lexeme). Fills z (reference_span (reference_in v))) (sym s.2)
+        (fills_parts s.0 s.1 v.0.name.span.start v.0.end v.1 (filled.fills s.0 v.0 s.3) s.4);
+  }
+
+filled_flat_reference : Filled flat_reference reference_span
 unfolding flat_reference
-sound_flat_reference = sound_as plain variable subscripted_parts (sound_same variable reference_parts _ (λ P r h. each_none P (reference_parts r) h) sound_variable)
+filled_flat_reference = filled_as reference_in (parts flat_part) reference_span (filled_parts flat_part filled_flat_part)
+
+filled_deep_reference : (inner : Form Expression) → Filled (deep_reference inner) reference_span
+unfolding deep_reference
+filled_deep_reference inner = filled_as reference_in (parts (deep_part inner)) reference_span (filled_parts (deep_part inner) (filled_deep_part inner))
+
+-- a name and its subscripts
+abbrev named_parts : PartTree → List Part
+named_parts p = name_part p.name ∷ flat_map expression_parts p.subscripts
+
+sound_flat_part : Sound flat_part named_parts
+unfolding flat_part
+sound_flat_part = sound_as (λ n. part_of n None) name named_parts sound_name
 
 abbrev subscripts_parts : List Expression × Lexeme → List Part
 subscripts_parts s = flat_map expression_parts s.0
 
-each_subscripted : (P : Part → Type 0) (r : ReferenceTree) (s : Option (List Expression × Lexeme)) → Each P (reference_parts r ++ option_parts subscripts_parts s) → Each P (subscripted_parts (subscripted r s))
-each_subscripted P r None h = h
-each_subscripted P r (Some s) h =
-    let values = subscripts_parts s in
-    each_append P (reference_parts r) (expressions_parts (expressions_of s.0)) (each_front P (reference_parts r) values h) (each_expressions P s.0 (each_rest P (reference_parts r) values h))
+each_named : (P : Part → Type 0) (n : NameUse) (s : Option (List Expression × Lexeme)) → Each P (name_parts n ++ option_parts subscripts_parts s) → Each P (named_parts (part_of n s))
+each_named P n None h = h
+each_named P n (Some s) h = h
+
+sound_deep_part : (inner : Form Expression) → Sound inner expression_parts → Sound (deep_part inner) named_parts
+unfolding deep_part subscripts expressions
+sound_deep_part inner h =
+    sound_as _ _ named_parts
+    (sound_same _ (λ v. name_parts v.0 ++ option_parts subscripts_parts v.1) _ (λ P v e. each_named P v.0 v.1 e)
+    (sound_both name _ name_parts (option_parts subscripts_parts) sound_name
+    (sound_option _ subscripts_parts (sound_behind _ _ subscripts_parts (sound_first _ _ (flat_map expression_parts) (sound_separated _ inner expression_parts h))))))
+
+-- all names, and all subscripts
+abbrev subscripted_parts : ReferenceTree × Expressions → List Part
+subscripted_parts r = reference_parts r.0 ++ expressions_parts r.1
+
+each_member : (P : Part → Type 0) (ps : List PartTree) → Each P (flat_map named_parts ps) → Each P (map (λ m. name_part m.name) (map member_in ps))
+each_member P [] h = tt
+each_member P (p ∷ ps) h = (h.0, each_member P ps (each_rest P (named_parts p) (flat_map named_parts ps) h))
+
+each_subscript : (P : Part → Type 0) (ps : List PartTree) → Each P (flat_map named_parts ps) → Each P (flat_map expression_parts (subscripts_in ps))
+each_subscript P [] h = tt
+each_subscript P (p ∷ ps) h =
+    let behind = flat_map named_parts ps in
+    each_items P expression_parts p.subscripts (subscripts_in ps) (each_front P (named_parts p) behind h).1 (each_subscript P ps (each_rest P (named_parts p) behind h))
+
+each_reference : (P : Part → Type 0) (p : PartTree) (ps : List PartTree) → Each P (named_parts p ++ flat_map named_parts ps) → Each P (subscripted_parts (reference_in (p, ps)))
+each_reference P p ps h =
+    let first = each_front P (named_parts p) (flat_map named_parts ps) h in
+    let others = each_rest P (named_parts p) (flat_map named_parts ps) h in
+    let all = p.subscripts ++ subscripts_in ps in (
+      first.0,
+      each_append P (map (λ m. name_part m.name) (map member_in ps)) (expressions_parts (expressions_of all)) (each_member P ps others)
+          (each_expressions P all (each_items P expression_parts p.subscripts (subscripts_in ps) first.1 (each_subscript P ps others))),
+    )
+
+sound_parts_of : (part : Form PartTree) → Sound part named_parts → Sound (parts part) (λ v. subscripted_parts (reference_in v))
+sound_parts_of part h =
+    sound_same (parts part) (λ v. named_parts v.0 ++ flat_map named_parts v.1) (λ v. subscripted_parts (reference_in v)) (λ P v e. each_reference P v.0 v.1 e)
+    (sound_both part _ named_parts (flat_map named_parts) h (sound_many (further_part part) named_parts (sound_behind (key Point) part named_parts h)))
+
+sound_flat_reference : Sound flat_reference subscripted_parts
+unfolding flat_reference
+sound_flat_reference = sound_as reference_in (parts flat_part) subscripted_parts (sound_parts_of flat_part sound_flat_part)
 
 sound_deep_reference : (inner : Form Expression) → Sound inner expression_parts → Sound (deep_reference inner) subscripted_parts
-unfolding deep_reference subscripts expressions
-sound_deep_reference inner h =
-    sound_as _ _ subscripted_parts
-    (sound_same _ (λ v. reference_parts v.0 ++ option_parts subscripts_parts v.1) _ (λ P v e. each_subscripted P v.0 v.1 e)
-    (sound_both variable _ reference_parts (option_parts subscripts_parts) sound_variable
-    (sound_option _ subscripts_parts (sound_behind _ _ subscripts_parts (sound_first _ _ (flat_map expression_parts) (sound_separated _ inner expression_parts h))))))
+unfolding deep_reference
+sound_deep_reference inner h = sound_as reference_in (parts (deep_part inner)) subscripted_parts (sound_parts_of (deep_part inner) (sound_deep_part inner h))
 
 -- Forms whose spellings are expressions
 
@@ -137,10 +189,10 @@ suits_literal = record {
   sound = λ is. sound_as _ _ expression_parts (sound_own _ (λ l. expression_part _) (λ _. []) (λ us l s. is.spells us _ (l, s, refl)) (filled_token literal_kinds) (sound_nothing _));
 }
 
-sound_reference_value : (x : Form (ReferenceTree × Expressions)) → Filled x subscripted_span → Sound x subscripted_parts → IsExpression (as_value reference_value x) → Sound x (λ r. expression_parts (reference_value r))
+sound_reference_value : (x : Form (ReferenceTree × Expressions)) → Filled x reference_span → Sound x subscripted_parts → IsExpression (as_value reference_value x) → Sound x (λ r. expression_parts (reference_value r))
 sound_reference_value x filled sound is = sound_own x (λ r. expression_part (reference_value r)) subscripted_parts (λ us r s. is.spells us (reference_value r) (r, s, refl)) filled sound
 
-suits_reference : (x : Form (ReferenceTree × Expressions)) → Filled x subscripted_span → Sound x subscripted_parts → Suits (as_value reference_value x)
+suits_reference : (x : Form (ReferenceTree × Expressions)) → Filled x reference_span → Sound x subscripted_parts → Suits (as_value reference_value x)
 suits_reference x filled sound = record {
   filled = filled_as reference_value x expression_span filled;
   sound = λ is. sound_as reference_value x expression_parts (sound_reference_value x filled sound is);

@@ -18,7 +18,7 @@ use Rattle.fb_deploy.specs.Iface.declared.classes.Class.{Class}
 use Rattle.fb_deploy.specs.Iface.declared.classes.Class.TheVariants.{B, I, W, O, Free, Num, Any}
 use Rattle.fb_expr.specs.declared.rules.ClassPlace.{ClassPlace}
 use Rattle.fb_expr.specs.declared.rules.ClassPlace.TheVariants.{Condition, Count, Counter, Selector}
-use Rattle.fb_laws.specs.Variables.{NamesVariable}
+use Rattle.fb_laws.specs.Variables.{IsOfVariable}
 
 -- Two classes join to a third: equal ones to themselves, Any with another to that, Num with I, W or O to that, I with O to O, and Free with
 -- anything to Free.
@@ -128,16 +128,16 @@ mutual
   pub data HasClass (sources : Sources) (d : TypeTree) : Expression → Class → Type 0 where
     of_literal : {l : Literal} → HasClass sources d (literal_expression l) (class_of_literal l.form)
     of_variable : {r : ReferenceTree} (used : TypeUse)
-        → NamesVariable sources d r.name r.member used
+        → IsOfVariable sources d r used
         → HasClass sources d (reference_expression r no_expressions) (class_of_type used)
     of_element : {r : ReferenceTree} {e : Expression} {others : Expressions} (used : TypeUse)
-        → NamesVariable sources d r.name r.member used → used.form ≡ forms.Array
+        → IsOfVariable sources d r used → used.form ≡ forms.Array
         → HasClass sources d (reference_expression r (expression_then e others)) (class_of_name used.name.name)
     of_no_array : {r : ReferenceTree} {e : Expression} {others : Expressions} (used : TypeUse)
-        → NamesVariable sources d r.name r.member used → used.form ≢ forms.Array
+        → IsOfVariable sources d r used → used.form ≢ forms.Array
         → HasClass sources d (reference_expression r (expression_then e others)) O
     of_no_variable : {r : ReferenceTree} {subscripts : Expressions}
-        → ((used : TypeUse) → ¬ NamesVariable sources d r.name r.member used)
+        → ((used : TypeUse) → ¬ IsOfVariable sources d r used)
         → HasClass sources d (reference_expression r subscripts) Free
     of_operator : {used : UnaryUse} {x : Expression} {g : Class} (c : Class)
         → HasClass sources d x c → Changes used.operator c g

@@ -22,12 +22,12 @@ use Rattle.fb_laws.specs.Places.{StandsAt, span_through}
 use Rattle.fb_laws.specs.UnitParts.{IsReportedWhere}
 use Rattle.fb_laws.specs.UnitParts as parts
 use Rattle.fb_laws.specs.Usable.{IsAdapter, IsNotJudged}
-use Rattle.fb_laws.specs.Variables.{NamesVariable}
+use Rattle.fb_laws.specs.Variables.{Follows, NamesVariable}
 
--- the names of a reference in the guards and the algorithms of a type, or the name behind FOR in an algorithm
+-- the names of a reference that is judged in the guards and the algorithms of a type, or the name behind FOR in an algorithm
 pub data IsNamedIn (d : TypeTree) : NameUse → Option NameUse → Type 0 where
-  in_reference : (r : ReferenceTree) (subscripts : Expressions)
-      → IsWrittenIn d (reference_expression r subscripts) → IsNamedIn d r.name r.member
+  in_reference : (r : ReferenceTree) (subscripts : Expressions) (member : Option NameUse)
+      → IsWrittenIn d (reference_expression r subscripts) → Follows r member → IsNamedIn d r.name member
   behind_for : (name : NameUse) (from to : Expression) (by : Option Expression) (body : Statements)
       → IsRunIn d (count name from to by body) → IsNamedIn d name None
 

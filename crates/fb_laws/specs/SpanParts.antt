@@ -7,7 +7,7 @@ use Rattle.fb_structured_text.specs.Forms.declared.kind.Kind.{Kind}
 use Rattle.fb_structured_text.specs.Forms.declared.kind.Kind.TheVariants.{Assign, One}
 use Rattle.fb_tree.specs.Expression.{ReferenceTree, Expression, literal_expression, reference_expression, unary_expression, row_expression, parentheses, Expressions, no_expressions, expression_then, Operands, no_operands, operand_then}
 use Rattle.fb_tree.specs.Statement.{Statement, empty, assignment, exit, return, choice, selection, count, while_loop, repeat_loop, Statements, no_statements, statement_then, Arms, no_arms, arm_then}
-use Rattle.fb_tree.specs.Tree.{ConstantTree, one_value, value_list, EventTree, VariablesTree, InterfaceTree, ParameterTree, InstanceTree, NetworkTree, StateTree, ConditionTree, always, on_event, guarded, guard, TransitionTree, AlgorithmTree, ChartTree, TypeTree, ApplicationTree, ResourceTree, DeviceTree, MappingTree, SystemTree, DeclTree, block_type, adapter_type, subapplication_type, system_configuration}
+use Rattle.fb_tree.specs.Tree.{ConstantTree, one_value, value_list, EventTree, VariablesTree, InterfaceTree, ParameterTree, InstanceTree, NetworkTree, StateTree, ConditionTree, always, on_event, guarded, guard, TransitionTree, AlgorithmTree, ChartTree, TypeTree, ApplicationTree, ResourceTree, DeviceTree, MappingTree, SystemTree, StructureTree, DeclTree, block_type, adapter_type, subapplication_type, system_configuration, structure_type}
 use Rattle.fb_tree.specs.declared.chart.Action.{Action}
 use Rattle.fb_tree.specs.declared.constant.Simple.{Simple}
 use Rattle.fb_tree.specs.declared.constant.Simple.TheVariants as simple
@@ -84,7 +84,7 @@ network_parts n = flat_map instance_parts n.instances ++ flat_map connection_par
 -- Expressions
 
 abbrev pub reference_parts : ReferenceTree → List Part
-reference_parts r = name_part r.name ∷ option_parts name_parts r.member
+reference_parts r = name_part r.name ∷ map (λ m. name_part m.name) r.members
 
 abbrev mutual
   pub expression_parts : Expression → List Part
@@ -180,8 +180,12 @@ abbrev pub system_parts : SystemTree → List Part
 system_parts s =
     name_part s.name ∷ (flat_map application_parts s.applications ++ (flat_map device_parts s.devices ++ flat_map mapping_parts s.mappings))
 
+abbrev pub structure_parts : StructureTree → List Part
+structure_parts s = name_part s.name ∷ flat_map variables_parts s.fields
+
 abbrev pub tree_parts : DeclTree → List Part
 tree_parts (block_type t) = declared_parts t
 tree_parts (adapter_type t) = declared_parts t
 tree_parts (subapplication_type t) = declared_parts t
 tree_parts (system_configuration s) = system_parts s
+tree_parts (structure_type s) = structure_parts s

@@ -1,14 +1,16 @@
 -- The laws of the parts of trees that keep where they stand.
-use Rattle.std.specs.Prelude.{◌≡◌, ℕ, ◌<◌, List, All, Contains, Ok, IsUtf8}
+use Rattle.std.specs.Prelude.{◌≡◌, ℕ, suc, ◌+◌, ◌<◌, List, All, Contains, Ok, IsUtf8}
+use Rattle.std.specs.List.{sum_by}
 use Rattle.fb_text.specs.Tokens.{tokens_of, spans_of, LiesIn}
 use Rattle.fb_text.specs.declared.name.NameUse.{NameUse}
 use Rattle.fb_text.specs.declared.token.Token.{Token}
 use Rattle.fb_deploy.specs.Parse.Body.{body_of, Whole}
 use Rattle.fb_structured_text.specs.Forms.Lexemes.{lexemes_of}
 use Rattle.fb_structured_text.specs.Forms.declared.lexeme.Lexeme.{Lexeme}
+use Rattle.fb_tree.specs.Expression.{ReferenceTree, reference_expression, Expressions, no_expressions, expression_then}
 use Rattle.fb_tree.specs.Tree.{ConstantTree, DeclTree}
 use Rattle.fb_laws.specs.Alone.{ReadsAlone, ConstantReadsAlone}
-use Rattle.fb_laws.specs.SpanParts.{name_part, constant_part, tree_parts}
+use Rattle.fb_laws.specs.SpanParts.{name_part, constant_part, expression_part, tree_parts}
 use Rattle.fb_laws.specs.Standing.{Covers, IsWord}
 use Rattle.fb_laws.specs.Written.{part_span, IsWritten}
 
@@ -48,3 +50,18 @@ abbrev pub ConstantsReadAlone : Type 0
 ConstantsReadAlone =
     (text : List ℕ) (tree : DeclTree) → IsUtf8 text → body_of text ≡ Whole tree
     → (c : ConstantTree) → Contains (tree_parts tree) (constant_part c) → ConstantReadsAlone text c
+
+abbrev pub number_of : Expressions → ℕ
+number_of no_expressions = 0
+number_of (expression_then e others) = suc (number_of others)
+
+-- the subscripts that the names of a reference have behind them
+abbrev pub counted_by : ReferenceTree → ℕ
+counted_by r = r.subscripts + sum_by (λ m. m.subscripts) r.members
+
+-- The names of each reference count its subscripts.
+abbrev pub SubscriptsAreCounted : Type 0
+SubscriptsAreCounted =
+    (text : List ℕ) (tree : DeclTree) → body_of text ≡ Whole tree
+    → (r : ReferenceTree) (subscripts : Expressions) → Contains (tree_parts tree) (expression_part (reference_expression r subscripts))
+    → counted_by r ≡ number_of subscripts

@@ -1,8 +1,8 @@
 //! Laws of the faults of expressions and statements: where each code is reported.
 ghost use Rattle.fb_laws.specs.Expressions.{ClassesAreRight, ExpressionsHaveOneClass, VariablesAreKnown};
 
-/// A reference in a guard or an algorithm, or the name behind `FOR`, is a fault exactly where it names no variable of the unit and no data of an own
-/// plug or socket, and rests on no type that is not usable.
+/// A reference in a guard or an algorithm, of one name or of two with no subscript between them, or the name behind `FOR`, is a fault exactly where it
+/// names no variable of the unit and no data of an own plug or socket, and rests on no type that is not usable. Longer references are not judged.
 pub fn variables_are_known()
     ensures { VariablesAreKnown }
 {}

@@ -1,5 +1,5 @@
 //! Laws of the parts of trees that keep where they stand.
-ghost use Rattle.fb_laws.specs.Spans.{ConstantsReadAlone, NamesAreWords, PartsAreWritten, PartsReadAlone, SpansCoverTokens, SpansLieInText};
+ghost use Rattle.fb_laws.specs.Spans.{ConstantsReadAlone, NamesAreWords, PartsAreWritten, PartsReadAlone, SpansCoverTokens, SpansLieInText, SubscriptsAreCounted};
 
 /// Each part is what the tokens from where it begins to where it ends spell, so a constant, a type or an expression reads as itself there.
 pub fn parts_are_written()
@@ -29,4 +29,9 @@ pub fn parts_read_alone()
 /// The text of each constant, cut out at its span, reads as the same constant.
 pub fn constants_read_alone()
     ensures { ConstantsReadAlone }
+{}
+
+/// The names of a reference count its subscripts, which stand beside it in one list.
+pub fn subscripts_are_counted()
+    ensures { SubscriptsAreCounted }
 {}

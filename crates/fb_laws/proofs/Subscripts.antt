@@ -1,0 +1,107 @@
+-- The names of a reference count its subscripts.
+use Rattle.std.proofs.Common.{◌≡◌, ℕ, zero, suc, ◌+◌, inl, inr, List, [], ◌∷◌, ◌++◌, length, map, Option, Some, None, refl, sym, ap, ◌∙◌, subst, length-append}
+use Rattle.std.specs.List.{sum_by}
+use Rattle.std.specs.Prelude.{Contains}
+use Rattle.std.proofs.lemmas.List.Elements.{All-contains}
+use Rattle.std.proofs.lemmas.List.Sums.{sum_by-cons}
+use Rattle.fb_structured_text.specs.Forms.Form.{Form, either, as_value, Spells}
+use Rattle.fb_structured_text.specs.Forms.declared.kind.Kind.{Kind}
+use Rattle.fb_structured_text.specs.Forms.declared.lexeme.Lexeme.{Lexeme}
+use Rattle.fb_tree.specs.Expression.{ReferenceTree, Expression, literal_expression, reference_expression, unary_expression, row_expression, parentheses, Expressions, expressions_of}
+use Rattle.fb_tree.specs.declared.expression.BinaryUse.{BinaryUse}
+use Rattle.fb_tree.specs.declared.expression.UnaryUse.{UnaryUse}
+use Rattle.fb_tree.specs.declared.reference.Member.{Member}
+use Rattle.fb_structured_text.specs.Operators.{strengths}
+use Rattle.fb_structured_text.specs.Expression.{PartTree, expression, parts, flat_part, deep_part, member_in, subscripts_in, reference_in, flat_reference, deep_reference, reference_value, literal, in_parentheses, parenthesized, flat_primary, deep_primary, with_sign, unary, row_of, row, rows}
+use Rattle.fb_laws.specs.SpanParts.{expression_part, tree_parts}
+use Rattle.fb_laws.specs.Spans.{SubscriptsAreCounted, counted_by, number_of}
+use Rattle.fb_laws.specs.Written.{IsWritten}
+use Rattle.fb_laws.proofs.Standing.{parts_are_written}
+
+number_is : (es : List Expression) → number_of (expressions_of es) ≡ length es
+number_is [] = refl
+number_is (e ∷ es) = ap suc (number_is es)
+
+members_count : (ps : List PartTree) → sum_by (λ (m : Member). m.subscripts) (map member_in ps) ≡ length (subscripts_in ps)
+members_count [] = refl
+members_count (p ∷ ps) =
+    sum_by-cons (λ (m : Member). m.subscripts) (member_in p) (map member_in ps)
+    ∙ ap (λ n. length p.subscripts + n) (members_count ps)
+    ∙ sym (length-append p.subscripts (subscripts_in ps))
+
+parts_count : (p : PartTree) (ps : List PartTree) → counted_by (reference_in (p, ps)).0 ≡ number_of (reference_in (p, ps)).1
+parts_count p ps =
+    ap (λ n. length p.subscripts + n) (members_count ps)
+    ∙ sym (length-append p.subscripts (subscripts_in ps))
+    ∙ sym (number_is (p.subscripts ++ subscripts_in ps))
+
+-- what is so of an expression that is a reference
+abbrev Counts : Expression → Type 0
+Counts (literal_expression l) = Unit {0}
+Counts (reference_expression r subscripts) = counted_by r ≡ number_of subscripts
+Counts (unary_expression operator e) = Unit {0}
+Counts (row_expression e _) = Unit {0}
+Counts (parentheses e span) = Unit {0}
+
+record Counted (x : Form Expression) : Type 0 where
+  counts : (us : List Lexeme) (e : Expression) → Spells x us e → Counts e
+
+counted_either : (x y : Form Expression) → Counted x → Counted y → Counted (either x y)
+counted_either x y h k = record { counts = λ us e s. elim s [ inl p ↦ h.counts us e p | inr p ↦ k.counts us e p ] }
+
+-- a form whose values are read as expressions that count
+counted_as : {A : Type 0} (f : A → Expression) (x : Form A) → ((us : List Lexeme) (v : A) → Spells x us v → Counts (f v)) → Counted (as_value f x)
+counted_as f x h = record { counts = λ us e s. subst Counts (sym s.2) (h us s.0 s.1) }
+
+counted_literal : Counted literal
+unfolding literal
+counted_literal = counted_as _ _ (λ us v s. tt)
+
+counted_parenthesized : (inner : Form Expression) → Counted (parenthesized inner)
+unfolding parenthesized
+counted_parenthesized inner = counted_as in_parentheses _ (λ us v s. tt)
+
+counted_parts : (part : Form PartTree) → Counted (as_value reference_value (as_value reference_in (parts part)))
+counted_parts part =
+    counted_as reference_value (as_value reference_in (parts part))
+    (λ us v s. subst (λ (z : ReferenceTree × Expressions). Counts (reference_value z)) (sym s.2) (parts_count s.0.0 s.0.1))
+
+counted_flat_primary : Counted flat_primary
+unfolding flat_primary flat_reference
+counted_flat_primary = counted_either literal _ counted_literal (counted_parts flat_part)
+
+counted_deep_primary : (inner : Form Expression) → Counted (deep_primary inner)
+unfolding deep_primary deep_reference
+counted_deep_primary inner = counted_either literal _ counted_literal (counted_either _ (parenthesized inner) (counted_parts (deep_part inner)) (counted_parenthesized inner))
+
+counts_signed : (o : Option UnaryUse) (e : Expression) → Counts e → Counts (with_sign o e)
+counts_signed None e h = h
+counts_signed (Some operator) e h = tt
+
+counted_unary : (primary : Form Expression) → Counted primary → Counted (unary primary)
+unfolding unary
+counted_unary primary h = counted_as (λ v. with_sign v.0 v.1) _ (λ us v s. counts_signed v.0 v.1 (h.counts s.1 v.1 s.4))
+
+counts_row : (e : Expression) (os : List (BinaryUse × Expression)) → Counts e → Counts (row_of e os)
+counts_row e [] h = h
+counts_row e (o ∷ os) h = tt
+
+counted_row : (kinds : List Kind) (x : Form Expression) → Counted x → Counted (row kinds x)
+unfolding row
+counted_row kinds x h = counted_as (λ v. row_of v.0 v.1) _ (λ us v s. counts_row v.0 v.1 (h.counts s.0 v.0 s.3))
+
+counted_rows : (all : List (List Kind)) (x : Form Expression) → Counted x → Counted (rows all x)
+unfolding rows
+counted_rows [] x h = h
+counted_rows (kinds ∷ stronger) x h = counted_row kinds (rows stronger x) (counted_rows stronger x h)
+
+counted_expression : (n : ℕ) → Counted (expression n)
+unfolding expression
+counted_expression zero = counted_rows strengths (unary flat_primary) (counted_unary flat_primary counted_flat_primary)
+counted_expression (suc n) = counted_rows strengths (unary (deep_primary (expression n))) (counted_unary (deep_primary (expression n)) (counted_deep_primary (expression n)))
+
+pub subscripts_are_counted : SubscriptsAreCounted
+subscripts_are_counted text tree whole r subscripts among =
+    let written = parts_are_written text tree whole in
+    let here = All-contains (IsWritten written.0) (tree_parts tree) (expression_part (reference_expression r subscripts)) written.2 among in
+    (counted_expression here.spells.0).counts here.inside (reference_expression r subscripts) here.spells.2
