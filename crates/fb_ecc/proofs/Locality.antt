@@ -4,7 +4,7 @@ use Rattle.std.specs.FinMap.{get}
 use Rattle.std.specs.List.{Contains}
 use Rattle.std.specs.Option.{option_and_then}
 use Rattle.fb_tree.specs.Mentions.{types_in}
-use Rattle.fb_tree.specs.Tree.{DeclTree, block_type, adapter_type, subapplication_type, system_configuration}
+use Rattle.fb_tree.specs.Tree.{DeclTree, block_type, adapter_type, subapplication_type, system_configuration, structure_type}
 use Rattle.fb_iface.specs.Library.View.{Sources, mentions_in, tree_at, tree_of}
 use Rattle.fb_iface.proofs.Library.Locality.{near_unit}
 use Rattle.fb_iface.proofs.ScopeLocal.{in_order_has, near_mention, scope_local}
@@ -18,6 +18,7 @@ chart_local a b (Some (block_type d)) agree =
 chart_local a b (Some (adapter_type d)) agree = refl
 chart_local a b (Some (subapplication_type d)) agree = refl
 chart_local a b (Some (system_configuration s)) agree = refl
+chart_local a b (Some (structure_type s)) agree = refl
 
 pub ecc_local : EccIsLocal
 ecc_local a b unit agree =

@@ -1,6 +1,6 @@
 -- The faults of execution control charts.
 use Rattle.std.specs.Prelude.{ℕ, List, [], ◌++◌, Option, Some, None}
-use Rattle.fb_tree.specs.Tree.{ChartTree, DeclTree, block_type, adapter_type, subapplication_type, system_configuration}
+use Rattle.fb_tree.specs.Tree.{ChartTree, DeclTree, block_type, adapter_type, subapplication_type, system_configuration, structure_type}
 use Rattle.fb_iface.specs.Library.View.{Sources, tree_at}
 use Rattle.fb_iface.specs.declared.fault.Fault.{Fault}
 use Rattle.fb_iface.specs.Scope.{Scope, scope_of_type}
@@ -18,6 +18,7 @@ chart_faults_in sources (Some (block_type d)) = chart_faults (scope_of_type sour
 chart_faults_in sources (Some (adapter_type d)) = []
 chart_faults_in sources (Some (subapplication_type d)) = []
 chart_faults_in sources (Some (system_configuration s)) = []
+chart_faults_in sources (Some (structure_type s)) = []
 
 -- the faults of a unit's chart; a unit that is absent or broken has none
 abbrev pub ecc_faults_of : Sources → List ℕ → List Fault

@@ -5,8 +5,8 @@ use Rattle.std.specs.List.{Contains, flat_map}
 use Rattle.std.specs.Option.{option_and_then}
 use Rattle.std.proofs.lemmas.List.{map-append}
 use Rattle.std.proofs.lemmas.List.Elements.{Contains-append_right}
-use Rattle.fb_tree.specs.Mentions.{mentioned_in, types_in}
-use Rattle.fb_tree.specs.Tree.{ApplicationTree, DeclTree, InstanceTree, block_type, adapter_type, subapplication_type, system_configuration}
+use Rattle.fb_tree.specs.Mentions.{instance_types, types_in}
+use Rattle.fb_tree.specs.Tree.{ApplicationTree, DeclTree, InstanceTree, block_type, adapter_type, subapplication_type, system_configuration, structure_type}
 use Rattle.fb_netcheck.specs.Library.View.{Sources, mentions_in, near_of, tree_at, tree_of}
 use Rattle.fb_netcheck.proofs.Library.Locality.{near_unit}
 use Rattle.fb_netcheck.proofs.Iface.ScopeLocal.{in_order_has, near_mention}
@@ -30,11 +30,12 @@ types_in-applications (a ∷ others) =
     ∙ ap (λ l. types_in a.network.instances ++ l) (types_in-applications others)
 
 -- the mentions are the types of the instances
-types_mentioned : (decl : DeclTree) → types_in (instances_of decl) ≡ mentioned_in decl
+types_mentioned : (decl : DeclTree) → types_in (instances_of decl) ≡ instance_types decl
 types_mentioned (block_type d) = refl
 types_mentioned (adapter_type d) = refl
 types_mentioned (subapplication_type d) = refl
 types_mentioned (system_configuration s) = types_in-applications s.applications
+types_mentioned (structure_type s) = refl
 
 module _ (a b : Sources) where
   types_local : (instances : List InstanceTree) → ((name : List ℕ) → Contains (types_in instances) name → get a name ≡ get b name) → flat_map (instance_faults a) instances ≡ flat_map (instance_faults b) instances
@@ -47,7 +48,7 @@ module _ (a b : Sources) where
   declared_local : (unit : List ℕ) (tree : Option DeclTree) → ((name : List ℕ) → Contains (mentions_in tree) name → get a name ≡ get b name) → declaration_faults a unit tree ≡ declaration_faults b unit tree
   declared_local unit None agree = refl
   declared_local unit (Some decl) agree =
-      let types : type_faults a decl ≡ type_faults b decl = types_local (instances_of decl) (λ name h. agree name (in_order_has (mentioned_in decl) name (subst (λ l. Contains l name) (types_mentioned decl) h))) in
+      let types : type_faults a decl ≡ type_faults b decl = types_local (instances_of decl) (λ name h. agree name (in_order_has (instance_types decl) name (subst (λ l. Contains l name) (types_mentioned decl) h))) in
       λ i. name_faults unit decl ++ duplicate_faults decl ++ mixed_faults decl ++ types i ++ with_faults_of decl ++ literal_faults_of decl
 
 -- what a unit declares

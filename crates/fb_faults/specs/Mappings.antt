@@ -4,7 +4,7 @@ use Rattle.std.specs.List.{flat_map}
 use Rattle.std.specs.Option.{option_map_or}
 use Rattle.fb_tree.specs.Text.declared.name.NameUse.{NameUse}
 use Rattle.fb_tree.specs.Text.declared.token.Span.{Span}
-use Rattle.fb_tree.specs.Tree.{DeclTree, DeviceTree, MappingTree, SystemTree, block_type, adapter_type, subapplication_type, system_configuration}
+use Rattle.fb_tree.specs.Tree.{DeclTree, DeviceTree, MappingTree, SystemTree, block_type, adapter_type, subapplication_type, system_configuration, structure_type}
 use Rattle.fb_netcheck.specs.Library.View.{Sources, tree_at}
 use Rattle.fb_netcheck.specs.Iface.Names.{has_name, stands_for}
 use Rattle.fb_netcheck.specs.Iface.declared.code.Code.TheVariants.{MappedTwice, NoSuchResource}
@@ -38,13 +38,14 @@ second_mappings mappings = repeated_faults MappedTwice (map (λ m. path_of_names
 abbrev pub system_mapping_faults : SystemTree → List Fault
 system_mapping_faults s = second_mappings s.mappings ++ flat_map (resource_faults s.devices) s.mappings
 
--- types have no mappings
+-- types and structures have no mappings
 abbrev pub declared_mapping_faults : Option DeclTree → List Fault
 declared_mapping_faults None = []
 declared_mapping_faults (Some (block_type d)) = []
 declared_mapping_faults (Some (adapter_type d)) = []
 declared_mapping_faults (Some (subapplication_type d)) = []
 declared_mapping_faults (Some (system_configuration s)) = system_mapping_faults s
+declared_mapping_faults (Some (structure_type s)) = []
 
 -- the faults of the mappings of a unit
 abbrev pub mapping_faults_of : Sources → List ℕ → List Fault

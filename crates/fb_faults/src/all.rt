@@ -75,7 +75,7 @@ fn report_declared<V: View>(
     report_declarations(alloc, view, unit, decl, &own, found)?;
     match decl {
         Decl::Block(declared) => report_block(alloc, view, unit, own, declared, found),
-        Decl::Adapter(_) => Ok(()),
+        Decl::Adapter(_) | Decl::Structure(_) => Ok(()),
         Decl::Subapplication(declared) => {
             report_subapplication(alloc, view, unit, own, declared, found)
         }

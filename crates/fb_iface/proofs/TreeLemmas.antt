@@ -4,17 +4,18 @@ use Rattle.std.specs.List.{flat_map}
 use Rattle.std.proofs.lemmas.Grind.{flat_map-append}
 use Rattle.std.proofs.lemmas.List.Folds.{flat_map-map}
 use Rattle.fb_tree.specs.Text.declared.name.NameUse.{NameUse}
-use Rattle.fb_tree.specs.Tree.{InstanceTree, algorithm_tree, application_tree, chart_tree, device_tree, event_tree, instance_tree, interface_tree, network_tree, parameter_tree, resource_tree, state_tree, system_tree, variables_tree}
+use Rattle.fb_tree.specs.Tree.{InstanceTree, algorithm_tree, application_tree, chart_tree, device_tree, event_tree, instance_tree, interface_tree, network_tree, parameter_tree, resource_tree, state_tree, structure_tree, system_tree, variables_tree}
 use Rattle.fb_tree.specs.declared.chart.Chart.{Chart}
 use Rattle.fb_tree.specs.declared.interface.Interface.{Interface}
 use Rattle.fb_tree.specs.declared.network.Network.{Network}
 use Rattle.fb_tree.specs.declared.network.Parameter.{Parameter}
+use Rattle.fb_tree.specs.declared.structure.Structure.{Structure}
 use Rattle.fb_tree.specs.declared.system.Application.{Application}
 use Rattle.fb_tree.specs.declared.system.Device.{Device}
 use Rattle.fb_tree.specs.declared.system.System.{System}
 use Rattle.fb_iface.specs.declared.fault.Fault.{Fault}
 use Rattle.fb_iface.specs.Declarations.{space_duplicates}
-use Rattle.fb_iface.specs.Spaces.{chart_spaces, interface_spaces, network_spaces, parameter_names, resource_names, system_spaces}
+use Rattle.fb_iface.specs.Spaces.{chart_spaces, interface_spaces, network_spaces, parameter_names, resource_names, structure_spaces, system_spaces}
 
 -- the same of each item
 pub same_items : {A B C : Type 0} (mirror : A → B) (f : B → C) (xs : List A) → map f (map mirror xs) ≡ map (λ x. f (mirror x)) xs
@@ -37,6 +38,11 @@ interface_joined old interface variables named =
     let declared : map (λ n. n) variables ≡ flat_map (λ v. v.names) (map variables_tree interface.variables.items) = map_itself variables ∙ named ∙ sym (flat_map-map (λ v. v.names) variables_tree interface.variables.items) in
     two_joined old _ _
     ∙ (λ i. old ++ (space_duplicates (sym (same_items event_tree (λ e. e.name) interface.events.items) i) ++ (space_duplicates (declared i) ++ [])))
+
+pub structure_joined : (old : List Fault) (structure : Structure) (fields : List NameUse) → fields ≡ flat_map (λ v. v.names.items) structure.fields.items → old ++ space_duplicates (map (λ n. n) fields) ≡ old ++ flat_map space_duplicates (structure_spaces (structure_tree structure))
+structure_joined old structure fields named =
+    let declared : map (λ n. n) fields ≡ flat_map (λ v. v.names) (map variables_tree structure.fields.items) = map_itself fields ∙ named ∙ sym (flat_map-map (λ v. v.names) variables_tree structure.fields.items) in
+    ap (λ l. old ++ l) (ap space_duplicates declared ∙ sym (append-nil (space_duplicates (flat_map (λ v. v.names) (map variables_tree structure.fields.items)))))
 
 pub chart_joined : (old : List Fault) (chart : Chart) → (old ++ space_duplicates (map (λ s. s.name) chart.states.items)) ++ space_duplicates (map (λ a. a.name) chart.algorithms.items) ≡ old ++ flat_map space_duplicates (chart_spaces (chart_tree chart))
 chart_joined old chart =

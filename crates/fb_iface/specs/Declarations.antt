@@ -2,7 +2,7 @@
 use Rattle.std.specs.Prelude.{ℕ, ◌&&◌, List, [], ◌∷◌, ◌++◌, Option, Some, None, if◌then◌else◌}
 use Rattle.std.specs.List.{flat_map}
 use Rattle.fb_tree.specs.Text.declared.name.NameUse.{NameUse}
-use Rattle.fb_tree.specs.Tree.{DeclTree, block_type, adapter_type, subapplication_type, system_configuration}
+use Rattle.fb_tree.specs.Tree.{DeclTree, VariablesTree, block_type, adapter_type, subapplication_type, system_configuration, structure_type}
 use Rattle.fb_library.specs.View.{Sources, tree_at}
 use Rattle.fb_iface.specs.declared.code.Code.TheVariants.{NameDiffers, Duplicate, MixedKind}
 use Rattle.fb_iface.specs.declared.fault.Fault.{Fault}
@@ -19,6 +19,7 @@ declared_name (block_type d) = d.name
 declared_name (adapter_type d) = d.name
 declared_name (subapplication_type d) = d.name
 declared_name (system_configuration s) = s.name
+declared_name (structure_type s) = s.name
 
 -- the declared name is the unit's
 abbrev pub name_faults : List ℕ → DeclTree → List Fault
@@ -39,13 +40,19 @@ with_faults_of (block_type d) = with_faults d.interface
 with_faults_of (adapter_type d) = with_faults d.interface
 with_faults_of (subapplication_type d) = with_faults d.interface
 with_faults_of (system_configuration s) = []
+with_faults_of (structure_type s) = []
+
+-- the variables of a type, or the fields of a structure
+abbrev pub variables_of : DeclTree → List VariablesTree
+variables_of (block_type d) = d.interface.variables
+variables_of (adapter_type d) = d.interface.variables
+variables_of (subapplication_type d) = d.interface.variables
+variables_of (system_configuration s) = []
+variables_of (structure_type s) = s.fields
 
 -- initial values fit their types
 abbrev pub literal_faults_of : DeclTree → List Fault
-literal_faults_of (block_type d) = literal_faults d.interface
-literal_faults_of (adapter_type d) = literal_faults d.interface
-literal_faults_of (subapplication_type d) = literal_faults d.interface
-literal_faults_of (system_configuration s) = []
+literal_faults_of decl = literal_faults (variables_of decl)
 
 -- a block type has a chart or a network
 abbrev pub mixed_faults : DeclTree → List Fault
@@ -53,6 +60,7 @@ mixed_faults (block_type d) = if d.chart.is_written && d.network.is_written then
 mixed_faults (adapter_type d) = []
 mixed_faults (subapplication_type d) = []
 mixed_faults (system_configuration s) = []
+mixed_faults (structure_type s) = []
 
 abbrev pub declaration_faults : Sources → List ℕ → Option DeclTree → List Fault
 declaration_faults sources unit None = []

@@ -3,7 +3,7 @@ use Rattle.std.specs.Prelude.{Bool, List, [], ◌∷◌, not, map, filter, if◌
 use Rattle.std.specs.List.{flat_map}
 use Rattle.std.specs.Option.{option_map_or}
 use Rattle.fb_tree.specs.Text.declared.token.Span.{Span}
-use Rattle.fb_tree.specs.Tree.{ConstantTree, one_value, value_list, VariablesTree, InterfaceTree}
+use Rattle.fb_tree.specs.Tree.{ConstantTree, one_value, value_list, VariablesTree}
 use Rattle.fb_tree.specs.declared.constant.Simple.{Simple}
 use Rattle.fb_tree.specs.declared.constant.Simple.TheVariants as constants
 use Rattle.fb_tree.specs.declared.interface.TypeForm.{TypeForm}
@@ -47,5 +47,5 @@ constant_faults used (value_list values span) = list_faults used.form used value
 abbrev pub initial_faults : VariablesTree → List Fault
 initial_faults v = option_map_or (constant_faults v.type_use) v.initial []
 
-abbrev pub literal_faults : InterfaceTree → List Fault
-literal_faults i = flat_map initial_faults i.variables
+abbrev pub literal_faults : List VariablesTree → List Fault
+literal_faults variables = flat_map initial_faults variables

@@ -2,7 +2,7 @@
 use Rattle.std.specs.Prelude.{ℕ, Bool, true, false, List, [], map, filter, Option, option_map}
 use Rattle.std.specs.List.{flat_map}
 use Rattle.fb_tree.specs.Text.declared.name.NameUse.{NameUse}
-use Rattle.fb_tree.specs.Tree.{DeclTree, InterfaceTree, NetworkTree, TypeTree, VariablesTree, block_type, adapter_type, subapplication_type, system_configuration}
+use Rattle.fb_tree.specs.Tree.{DeclTree, InterfaceTree, NetworkTree, TypeTree, VariablesTree, block_type, adapter_type, subapplication_type, system_configuration, structure_type}
 use Rattle.fb_tree.specs.declared.interface.Side.{Side}
 use Rattle.fb_tree.specs.declared.interface.Side.TheVariants as sides
 use Rattle.fb_tree.specs.declared.interface.TypeUse.{TypeUse}
@@ -48,12 +48,13 @@ meanings_in_type d = record {
 abbrev pub meanings_in_network : NetworkTree → Meanings
 meanings_in_network n = record { events = []; variables = []; instances = first_ones (instances_in n) }
 
--- a system has no ports
+-- a system has no ports, and neither has a structure: its fields are of no side
 abbrev pub meanings_in : DeclTree → Meanings
 meanings_in (block_type d) = meanings_in_type d
 meanings_in (adapter_type d) = meanings_in_type d
 meanings_in (subapplication_type d) = meanings_in_type d
 meanings_in (system_configuration s) = record { events = []; variables = []; instances = [] }
+meanings_in (structure_type s) = record { events = []; variables = []; instances = [] }
 
 -- what the names of a text stand for; nothing where it is broken
 abbrev pub meanings_of : List ℕ → Option Meanings

@@ -5,7 +5,7 @@ use Rattle.fb_tree.specs.declared.interface.Side.TheVariants as sides
 use Rattle.fb_tree.specs.declared.interface.Section.{Section}
 use Rattle.fb_tree.specs.declared.interface.Section.TheVariants as sections
 
--- whether the variables of a section are data of a side: data inputs, or data outputs; internal variables are of none
+-- whether the variables of a section are data of a side: data inputs, or data outputs; internal variables and fields are of none
 abbrev pub is_data_on : Side → Section → Bool
 is_data_on sides.Input sections.Input = true
 is_data_on sides.Output sections.Output = true

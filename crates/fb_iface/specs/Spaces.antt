@@ -4,7 +4,7 @@ use Rattle.std.specs.List.{flat_map}
 use Rattle.fb_tree.specs.Text.declared.name.NameUse.{NameUse}
 use Rattle.fb_tree.specs.declared.network.Role.{Role}
 use Rattle.fb_tree.specs.declared.network.Role.TheVariants.{Plug, Socket, Block, Subapplication}
-use Rattle.fb_tree.specs.Tree.{InterfaceTree, InstanceTree, NetworkTree, ChartTree, DeviceTree, TypeTree, SystemTree, DeclTree, block_type, adapter_type, subapplication_type, system_configuration}
+use Rattle.fb_tree.specs.Tree.{InterfaceTree, InstanceTree, NetworkTree, ChartTree, DeviceTree, TypeTree, SystemTree, StructureTree, DeclTree, block_type, adapter_type, subapplication_type, system_configuration, structure_type}
 
 abbrev pub is_block : Role → Bool
 is_block Plug = false
@@ -38,8 +38,13 @@ system_spaces s =
     map (λ a. a.name) s.applications ∷ flat_map (λ a. network_spaces a.network) s.applications
     ++ map (λ d. d.name) s.devices ∷ map resource_names s.devices
 
+-- fields share one space
+abbrev pub structure_spaces : StructureTree → List (List NameUse)
+structure_spaces s = flat_map (λ v. v.names) s.fields ∷ []
+
 abbrev pub spaces_of : DeclTree → List (List NameUse)
 spaces_of (block_type d) = type_spaces d
 spaces_of (adapter_type d) = type_spaces d
 spaces_of (subapplication_type d) = type_spaces d
 spaces_of (system_configuration s) = system_spaces s
+spaces_of (structure_type s) = structure_spaces s

@@ -3,7 +3,7 @@ use Rattle.std.specs.Prelude.{Bool, true, false, List, [], ◌∷◌, Option, So
 use Rattle.std.specs.List.{flat_map}
 use Rattle.fb_tree.specs.Text.declared.name.NameUse.{NameUse}
 use Rattle.fb_tree.specs.Mentions.{unit_kind_of}
-use Rattle.fb_tree.specs.Tree.{DeclTree, InstanceTree, block_type, adapter_type, subapplication_type, system_configuration}
+use Rattle.fb_tree.specs.Tree.{DeclTree, InstanceTree, block_type, adapter_type, subapplication_type, system_configuration, structure_type}
 use Rattle.fb_tree.specs.declared.kinds.UnitKind.{UnitKind}
 use Rattle.fb_tree.specs.declared.kinds.UnitKind.TheVariants as kinds
 use Rattle.fb_tree.specs.declared.network.Role.{Role}
@@ -19,6 +19,7 @@ instances_of (block_type d) = d.network.instances
 instances_of (adapter_type d) = d.network.instances
 instances_of (subapplication_type d) = d.network.instances
 instances_of (system_configuration s) = flat_map (λ a. a.network.instances) s.applications
+instances_of (structure_type s) = []
 
 -- plugs and sockets are of adapter types, the others of what their section says
 abbrev pub suits : Role → UnitKind → Bool

@@ -83,6 +83,7 @@ fn name_of(decl: &Decl) -> NameUse
             declared.name
         }
         Decl::System(system) => system.name,
+        Decl::Structure(structure) => structure.name,
     }
 }
 

@@ -25,6 +25,7 @@ pub fn report_types<V: View>(
             report_in_network(view, &declared.network, found)
         }
         Decl::System(system) => report_in_applications(view, system.applications.as_slice(), found),
+        Decl::Structure(_) => Ok(()),
     }
 }
 

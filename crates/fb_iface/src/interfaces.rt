@@ -8,7 +8,7 @@ use fb_library::parse::{Body, Source};
 use fb_tree::Decl;
 use std::alloc::{AllocError, Global};
 
-/// The ports of a unit. A broken text has none, and those of a system are empty.
+/// The ports of a unit. A broken text has none, and those of a system or a structure are empty.
 pub fn interface(alloc: Global, source: &Source) -> Result<Option<Ports>, AllocError>
     ensures { IfOk result (λ ports. ports ≡ meanings_of source.now.text) }
 {
@@ -26,6 +26,6 @@ pub fn ports_of(alloc: Global, decl: &Decl) -> Result<Ports, AllocError>
         Decl::Block(declared) | Decl::Adapter(declared) | Decl::Subapplication(declared) => {
             Ports::of_type(alloc, declared)
         }
-        Decl::System(_) => Ok(Ports::new(alloc)),
+        Decl::System(_) | Decl::Structure(_) => Ok(Ports::new(alloc)),
     }
 }

@@ -1,17 +1,17 @@
 //! Names that are declared again in their name space.
 ghost use Rattle.std.specs.Prelude.{◌≡◌, ◌++◌, map, IfOk, OnOk};
 ghost use Rattle.std.specs.List.{flat_map};
-ghost use Rattle.fb_tree.specs.Tree.{chart_tree, decl_tree, device_tree, instance_tree, interface_tree, network_tree, system_tree, type_tree};
+ghost use Rattle.fb_tree.specs.Tree.{chart_tree, decl_tree, device_tree, instance_tree, interface_tree, network_tree, structure_tree, system_tree, type_tree};
 ghost use Rattle.fb_iface.specs.Declarations.{duplicate_faults, space_duplicates};
-ghost use Rattle.fb_iface.specs.Spaces.{chart_spaces, interface_spaces, network_spaces, parameter_names, resource_names, system_spaces, type_spaces};
+ghost use Rattle.fb_iface.specs.Spaces.{chart_spaces, interface_spaces, network_spaces, parameter_names, resource_names, structure_spaces, system_spaces, type_spaces};
 
 use crate::code::Code;
 use crate::fault::Fault;
 use crate::named::Named;
 use fb_tree::text::NameUse;
 use fb_tree::{
-    Application, Chart, Decl, Device, Instance, Interface, Network, Role, System, TypeDeclaration,
-    Variables,
+    Application, Chart, Decl, Device, Instance, Interface, Network, Role, Structure, System,
+    TypeDeclaration, Variables,
 };
 use std::alloc::{AllocError, Global};
 use std::collections::BTreeSet;
@@ -30,6 +30,7 @@ pub fn report_duplicates(
             report_in_type(alloc, declared, found)
         }
         Decl::System(system) => report_in_system(alloc, system, found),
+        Decl::Structure(structure) => report_in_structure(alloc, structure, found),
     }
 }
 
@@ -58,6 +59,20 @@ fn report_in_interface(
     report_repeated(alloc, interface.events.as_slice(), found)?;
     let variables = variable_names(alloc, interface.variables.as_slice())?;
     report_repeated(alloc, variables.as_slice(), found)
+}
+
+/// Reports those among the fields of a structure.
+fn report_in_structure(
+    alloc: Global,
+    structure: &Structure,
+    found: &mut Vec<Fault>,
+) -> Result<(), AllocError>
+    ensures { OnOk result (found.new.items
+        ≡ found.old.items
+        ++ flat_map space_duplicates (structure_spaces (structure_tree structure.now))) }
+{
+    let fields = variable_names(alloc, structure.fields.as_slice())?;
+    report_repeated(alloc, fields.as_slice(), found)
 }
 
 fn variable_names(alloc: Global, variables: &[Variables]) -> Result<Vec<NameUse>, AllocError>

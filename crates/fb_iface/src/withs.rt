@@ -24,7 +24,7 @@ pub fn report_withs(own: &Ports, decl: &Decl, found: &mut Vec<Fault>) -> Result<
         Decl::Block(declared) | Decl::Adapter(declared) | Decl::Subapplication(declared) => {
             report_in_interface(own, &declared.interface, found)
         }
-        Decl::System(_) => Ok(()),
+        Decl::System(_) | Decl::Structure(_) => Ok(()),
     }
 }
 

@@ -6,7 +6,7 @@ use Rattle.fb_text.proofs.Tests.{not_true}
 use Rattle.fb_text.specs.declared.token.Span.{Span}
 use Rattle.fb_text.specs.declared.name.NameUse.{NameUse}
 use Rattle.fb_tree.specs.Mentions.{unit_kind_of}
-use Rattle.fb_tree.specs.Tree.{ConstantTree, DeclTree, InstanceTree, TypeTree, block_type, adapter_type, one_value, value_list}
+use Rattle.fb_tree.specs.Tree.{ConstantTree, DeclTree, InstanceTree, TypeTree, VariablesTree, block_type, adapter_type, subapplication_type, system_configuration, structure_type, one_value, value_list}
 use Rattle.fb_tree.specs.declared.constant.Simple.{Simple}
 use Rattle.fb_tree.specs.declared.interface.Side.{Side}
 use Rattle.fb_tree.specs.declared.interface.TypeForm.{TypeForm}
@@ -18,12 +18,13 @@ use Rattle.fb_deploy.specs.Iface.declared.code.Code.TheVariants.{Duplicate, Lite
 use Rattle.fb_deploy.specs.Iface.declared.fault.Fault.{Fault}
 use Rattle.fb_deploy.specs.Iface.declared.ports.DeclaredVariable.{DeclaredVariable}
 use Rattle.fb_deploy.specs.Iface.Class.{class_of_name, class_of_simple, class_of_type, is_free, takes}
-use Rattle.fb_deploy.specs.Iface.Declarations.{declaration_faults, declared_name, duplicate_faults, iface_faults_of, literal_faults_of, mixed_faults, name_faults, space_duplicates, with_faults_of}
+use Rattle.fb_deploy.specs.Iface.Declarations.{declaration_faults, declared_name, duplicate_faults, iface_faults_of, literal_faults_of, mixed_faults, name_faults, space_duplicates, variables_of, with_faults_of}
 use Rattle.fb_deploy.specs.Iface.Fault.{fault_at}
-use Rattle.fb_deploy.specs.Iface.Literals.{constant_faults, fits_alone, initial_faults, list_faults, literal_fault, literal_faults, simple_span}
+use Rattle.fb_deploy.specs.Iface.Literals.{constant_faults, fits_alone, initial_faults, list_faults, literal_fault, simple_span}
 use Rattle.fb_deploy.specs.Iface.Names.{has_name, is_repeated, is_same, repeated, stands_for}
 use Rattle.fb_deploy.specs.Iface.Ports.{variables_in}
 use Rattle.fb_laws.specs.Declarations.{DuplicatesAreReported, HasDuplicate, HasMisfit, HasMixedKind, HasOtherName, HasUnknownType, HasUnknownWith, HasWrongKind, IsDeclaredAt, IsMisfit, MisfitsAreReported, MixedKindsAreReported, OtherNamesAreReported, UnknownTypesAreReported, UnknownWithsAreReported, WrongKindsAreReported, alone, element, no_array, no_list}
+use Rattle.fb_laws.specs.Declared.{AreDeclaredIn, IsType, fields_of_structure, of_adapter, of_block, of_subapplication, variables_of_type}
 use Rattle.fb_deploy.specs.Iface.Sides.{goes_with}
 use Rattle.fb_deploy.specs.Iface.Spaces.{spaces_of}
 use Rattle.fb_deploy.specs.Iface.Types.{instance_faults, instances_of, suits, type_fault, type_faults}
@@ -51,10 +52,6 @@ withs_by_type : (decl : DeclTree) → with_faults_of decl ≡ option_map_or (λ 
 withs_by_type (block_type d) = refl
 withs_by_type decl = refl
 
-literals_by_type : (decl : DeclTree) → literal_faults_of decl ≡ option_map_or (λ d. literal_faults d.interface) (type_in decl) []
-literals_by_type (block_type d) = refl
-literals_by_type decl = refl
-
 no_data_where : (side : Side) (o : Option DeclaredVariable) → carries side o ≡ false → (v : DeclaredVariable) → o ≡ Some v → goes_with side v.section ≡ false
 no_data_where side o e v is = sym (ap (carries side) is) ∙ e
 
@@ -63,6 +60,22 @@ uncarried_where side None fails = refl
 uncarried_where side (Some v) fails = fails v refl
 
 -- constants
+
+declared_in : (decl : DeclTree) (v : VariablesTree) → Contains (variables_of decl) v → AreDeclaredIn decl v
+declared_in (block_type d) v c = variables_of_type (of_block d) c
+declared_in (adapter_type d) v c = variables_of_type (of_adapter d) c
+declared_in (subapplication_type d) v c = variables_of_type (of_subapplication d) c
+declared_in (system_configuration s) v c = absurd (contains_nothing v c)
+declared_in (structure_type s) v c = fields_of_structure c
+
+in_type : (decl : DeclTree) (type : TypeTree) (v : VariablesTree) → IsType decl type → Contains type.interface.variables v → Contains (variables_of decl) v
+in_type decl type v (of_block d) c = c
+in_type decl type v (of_adapter d) c = c
+in_type decl type v (of_subapplication d) c = c
+
+among_declared : (decl : DeclTree) (v : VariablesTree) → AreDeclaredIn decl v → Contains (variables_of decl) v
+among_declared decl v (variables_of_type {type = type} is c) = in_type decl type v is c
+among_declared decl v (fields_of_structure c) = c
 
 abbrev is_array : TypeForm → Bool
 is_array forms.Array = true
@@ -181,12 +194,11 @@ module _ (sources : Sources) (unit : List ℕ) where
 
     literal_found : (f : Fault) → Contains (literal_faults_of decl) f → Finds f
     literal_found f c =
-        let t = in_written (λ (d : TypeTree). literal_faults d.interface) (type_in decl) f (subst (λ (l : List Fault). Contains l f) (literals_by_type decl) c) in
-        let v = origin_in_flat_map initial_faults t.item.interface.variables f t.has in
+        let v = origin_in_flat_map initial_faults (variables_of decl) f c in
         let w = in_written (constant_faults v.origin.type_use) v.origin.initial f v.has in
         let m = misfit_origin v.origin.type_use w.item f w.has in
         subst (λ (code : Code). Has code sources unit f.span) (sym m.0)
-        (record { decl = decl; declared = declared; type = t.item; is_type = t.is; variables = v.origin; among = v.among; initial = w.item; written = w.is; misfit = m.1 })
+        (record { decl = decl; declared = declared; variables = v.origin; among = declared_in decl v.origin v.among; initial = w.item; written = w.is; misfit = m.1 })
 
     declared_found : (f : Fault) → Contains (declaration_faults sources unit (Some decl)) f → Finds f
     declared_found = of_either _ _ (of_either _ _ (of_either _ _ (of_either _ _ (of_either _ _ name_found duplicate_found) (mixed_found decl declared)) type_found) with_found) literal_found
@@ -269,6 +281,5 @@ misfits_reported sources unit span = (found sources unit _, from)
     from : HasMisfit sources unit span → Contains (iface_faults_of sources unit) (record { code = Literal; span = span })
     from h =
         let one = written (constant_faults h.variables.type_use) h.variables.initial h.initial (literal_fault span) h.written (misfit_reported h.variables.type_use h.initial span h.misfit) in
-        let listed = contains_flat_map initial_faults h.type.interface.variables h.variables (literal_fault span) h.among one in
-        reported sources unit h.decl h.declared 5 (literal_faults_of h.decl) refl refl
-        (subst (λ (l : List Fault). Contains l (literal_fault span)) (sym (literals_by_type h.decl)) (written (λ (d : TypeTree). literal_faults d.interface) (type_in h.decl) h.type (literal_fault span) h.is_type listed))
+        let listed = contains_flat_map initial_faults (variables_of h.decl) h.variables (literal_fault span) (among_declared h.decl h.variables h.among) one in
+        reported sources unit h.decl h.declared 5 (literal_faults_of h.decl) refl refl listed

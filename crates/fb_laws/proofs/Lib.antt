@@ -8,6 +8,7 @@ pub mod ChartSpans
 pub mod UnitSpans
 pub mod Reading
 pub mod Standing
+pub mod Subscripts
 pub mod Cutting
 pub mod Alone
 pub mod Constants

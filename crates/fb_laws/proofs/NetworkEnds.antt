@@ -62,6 +62,7 @@ module _ (ports : Meanings) (name : List ℕ) where
   known_section p v g sections.Input is e = let same : record { side = Input; flow = flows.Data v.type_use } ≡ p = cc in subst (IsPort ports name sorts.Data) same (data_input v g is)
   known_section p v g sections.Output is e = let same : record { side = Output; flow = flows.Data v.type_use } ≡ p = cc in subst (IsPort ports name sorts.Data) same (data_output v g is)
   known_section p v g sections.Internal is e = absurd (let fails : ⊥ = cc in fails)
+  known_section p v g sections.Field is e = absurd (let fails : ⊥ = cc in fails)
 
   known_data : (p : Port) (o : Option DeclaredVariable) → stands_for ports.variables name ≡ o → option_and_then data_port o ≡ Some p → IsPort ports name sorts.Data p
   known_data p None g e = absurd (let fails : ⊥ = cc in fails)

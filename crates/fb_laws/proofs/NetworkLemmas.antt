@@ -4,7 +4,7 @@ use Rattle.std.specs.List.{Contains, flat_map, slice_get}
 use Rattle.std.proofs.lemmas.List.Elements.{Contains-append_left, Contains-append_right}
 use Rattle.fb_text.specs.declared.name.NameUse.{NameUse}
 use Rattle.fb_text.specs.declared.token.Span.{Span}
-use Rattle.fb_tree.specs.Tree.{DeclTree, InstanceTree, NetworkTree, ParameterTree, block_type, adapter_type, subapplication_type, system_configuration}
+use Rattle.fb_tree.specs.Tree.{DeclTree, InstanceTree, NetworkTree, ParameterTree, block_type, adapter_type, subapplication_type, system_configuration, structure_type}
 use Rattle.fb_tree.specs.declared.interface.Section.{Section}
 use Rattle.fb_tree.specs.declared.interface.Section.TheVariants as sections
 use Rattle.fb_tree.specs.declared.interface.TypeUse.{TypeUse}
@@ -144,6 +144,7 @@ module _ (sources : Sources) (here : NetworkPlace) (n : NetworkTree) where
       of_value sections.Input used p h = moved f Literal (sym (misfit_origin used p.value f h).0) c
       of_value sections.Output used p h = other p h
       of_value sections.Internal used p h = other p h
+      of_value sections.Field used p h = other p h
 
       by : (v : Option DeclaredVariable) (p : ParameterTree) → Contains (parameter_faults v p) f → Contains (part f.code) f
       by None p h = other p h
@@ -172,6 +173,7 @@ network_origin sources unit f c = by (tree_at sources unit) refl c
     by (Some (adapter_type d)) e h = absurd (contains_nothing f h)
     by (Some (subapplication_type d)) e h = found _ d.network (of_subapplication d e) h
     by (Some (system_configuration s)) e h = let a = origin_in_flat_map (application_network sources unit) s.applications f h in found _ a.origin.network (of_application s a.origin e a.among) a.has
+    by (Some (structure_type s)) e h = absurd (contains_nothing f h)
 
 module _ (sources : Sources) (unit : List ℕ) (here : Site) (n : NetworkTree) (stands : IsNetworkOf sources unit here n) where
   network_reported : (f : Fault) → Contains (network_faults sources (place_at sources here n) n) f → Contains (net_faults_of sources unit) f

@@ -37,6 +37,7 @@ abbrev is_input : Section → Bool
 is_input sections.Input = true
 is_input sections.Output = false
 is_input sections.Internal = false
+is_input sections.Field = false
 
 other_section : (s : Section) → is_input s ≡ false → s ≢ sections.Input
 other_section s e is = true≢false (sym (ap is_input is) ∙ e)
@@ -49,6 +50,7 @@ input_missing (Some d) p none = by d.section (none d refl)
     by sections.Input other = absurd (other refl)
     by sections.Output other = contains_here (fault_at ParameterUnknown p.name) []
     by sections.Internal other = contains_here (fault_at ParameterUnknown p.name) []
+    by sections.Field other = contains_here (fault_at ParameterUnknown p.name) []
 
 input_unfit : (o : Option DeclaredVariable) (p : ParameterTree) (v : DeclaredVariable) (span : Span) → o ≡ Some v → v.section ≡ sections.Input → IsMisfit v.type_use p.value span → Contains (parameter_faults o p) (literal_fault span)
 input_unfit o p v span e is m =
@@ -113,6 +115,7 @@ module _ (sources : Sources) (unit : List ℕ) (here : Site) (n : NetworkTree) (
       by_section o d sections.Input e is h = unfit o d e is (misfit_origin d.type_use o.parameter.value f h)
       by_section o d sections.Output e is h = unknown o (outside o d sections.Output e is refl) h
       by_section o d sections.Internal e is h = unknown o (outside o d sections.Internal e is refl) h
+      by_section o d sections.Field e is h = unknown o (outside o d sections.Field e is refl) h
 
       by : (o : ParameterOrigin at n f) (v : Option DeclaredVariable) → stands_for o.ports.variables o.parameter.name.name ≡ v → Contains (parameter_faults v o.parameter) f → Finds f
       by o None e h = unknown o (λ v same. let fails : ⊥ = cc in absurd fails) h

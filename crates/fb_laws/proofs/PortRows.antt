@@ -2,7 +2,7 @@
 use Rattle.std.proofs.Common.{◌≡◌, ℕ, ◌<◌, List, Some, sym, ap, ◌∙◌, subst, ◌⊎◌, inl, inr}
 use Rattle.std.specs.List.{slice_get}
 use Rattle.std.proofs.lemmas.Bool.{cases_order}
-use Rattle.fb_tree.specs.Tree.{InterfaceTree, TypeTree, VariablesTree, adapter_type, block_type, subapplication_type, system_configuration}
+use Rattle.fb_tree.specs.Tree.{InterfaceTree, TypeTree, VariablesTree, adapter_type, block_type, structure_type, subapplication_type, system_configuration}
 use Rattle.fb_tree.specs.declared.interface.Section.{Section}
 use Rattle.fb_tree.specs.declared.interface.Section.TheVariants as sections
 use Rattle.fb_tree.specs.declared.interface.Side.{Side}
@@ -21,6 +21,11 @@ own_names (block_type d) = once_each d
 own_names (adapter_type d) = once_each d
 own_names (subapplication_type d) = once_each d
 own_names (system_configuration s) = record {
+  of_events = λ side i j one other e. absurd (let no : ⊥ = cc in no);
+  of_data = λ side i j one other e. absurd (let no : ⊥ = cc in no);
+  of_adapters = λ role i j one other e. absurd (let no : ⊥ = cc in no);
+}
+own_names (structure_type s) = record {
   of_events = λ side i j one other e. absurd (let no : ⊥ = cc in no);
   of_data = λ side i j one other e. absurd (let no : ⊥ = cc in no);
   of_adapters = λ role i j one other e. absurd (let no : ⊥ = cc in no);

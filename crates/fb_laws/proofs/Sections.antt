@@ -8,7 +8,7 @@ use Rattle.fb_structured_text.specs.Forms.declared.kind.Kind.TheVariants.{OpenBr
 use Rattle.fb_structured_text.specs.Forms.declared.lexeme.Lexeme.{Lexeme}
 use Rattle.fb_sections.specs.Chart.{sent_event, action, actions, state, states}
 use Rattle.fb_sections.specs.Constants.{number, ranges, length_of_string, element_or_sized, plain_type, array_of, array_type, type_use, other_literal_kinds, simple, in_brackets, constant_list, constant}
-use Rattle.fb_sections.specs.Interface.{with_names, event, events, initial, variables, data_variables, internal_variables}
+use Rattle.fb_sections.specs.Interface.{with_names, event, events, initial, variables, data_variables, internal_variables, fields}
 use Rattle.fb_sections.specs.Network.{parameter, listed_parameters, parameters, optional_parameters, instance, plugs, sockets, blocks, inner_subapplication, subapplications, end, connection, connections}
 use Rattle.fb_sections.specs.SystemParts.{path, mapping, mappings, header, resource, device}
 use Rattle.fb_tree.specs.Tree.{ParameterTree, one_value}
@@ -137,6 +137,10 @@ sound_data_variables = sound_either _ _ (flat_map variables_parts) (sound_sectio
 pub sound_internal_variables : Sound internal_variables (flat_map variables_parts)
 unfolding internal_variables
 sound_internal_variables = sound_section _ _ _ variables_parts (sound_variables _)
+
+pub sound_fields : Sound fields (flat_map variables_parts)
+unfolding fields
+sound_fields = sound_section _ _ _ variables_parts (sound_variables _)
 
 -- Networks
 

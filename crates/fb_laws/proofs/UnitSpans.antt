@@ -5,15 +5,15 @@ use Rattle.fb_text.specs.declared.name.NameUse.{NameUse}
 use Rattle.fb_deploy.specs.Parse.Contents.{ContentsTree, of_events, of_variables, of_adapters, of_instances, of_connections, of_states, of_transitions, of_algorithm, interfaces_merged, networks_merged, charts_merged, merged, joined}
 use Rattle.fb_structured_text.specs.Forms.Form.{Form, many}
 use Rattle.fb_structured_text.specs.Forms.Words.{name}
-use Rattle.fb_deploy.specs.Parse.Grammar.{data_section, service_section, interface_section, network_section, chart_section, block_section, adapter_section, application_section, subapplication_section, framed, type_of, block, adapter, subapplication, application_of, application, system_section, system, unit}
+use Rattle.fb_deploy.specs.Parse.Grammar.{data_section, service_section, interface_section, network_section, chart_section, block_section, adapter_section, application_section, subapplication_section, framed, type_of, block, adapter, subapplication, application_of, application, system_section, system, structure, unit}
 use Rattle.fb_structured_text.specs.Forms.declared.kind.Kind.{Kind}
 use Rattle.fb_sections.specs.Network.{blocks, connections, plugs, sockets, subapplications}
 use Rattle.fb_deploy.specs.Parse.SystemContents.{SystemContentsTree, of_application, of_device, of_mappings, system_joined}
 use Rattle.fb_tree.specs.Tree.{InterfaceTree, NetworkTree, ChartTree}
-use Rattle.fb_laws.specs.SpanParts.{Part, name_part, name_parts, event_parts, variables_parts, interface_parts, instance_parts, connection_parts, network_parts, state_parts, transition_parts, algorithm_parts, chart_parts, declared_parts, application_parts, device_parts, mapping_parts, system_parts, tree_parts}
+use Rattle.fb_laws.specs.SpanParts.{Part, name_part, name_parts, event_parts, variables_parts, interface_parts, instance_parts, connection_parts, network_parts, state_parts, transition_parts, algorithm_parts, chart_parts, declared_parts, application_parts, device_parts, mapping_parts, system_parts, structure_parts, tree_parts}
 use Rattle.fb_laws.proofs.Tokens.{Each, each_append, each_front, each_rest}
 use Rattle.fb_laws.proofs.Sound.{Sound, sound_nothing, sound_both, sound_as, sound_either, sound_many, sound_behind, sound_before, sound_name, sound_same, each_none, each_items}
-use Rattle.fb_laws.proofs.Sections.{sound_events, sound_data_variables, sound_internal_variables, sound_plugs, sound_sockets, sound_blocks, sound_subapplications, sound_connections, sound_states, sound_mappings, sound_device}
+use Rattle.fb_laws.proofs.Sections.{sound_events, sound_data_variables, sound_internal_variables, sound_fields, sound_plugs, sound_sockets, sound_blocks, sound_subapplications, sound_connections, sound_states, sound_mappings, sound_device}
 use Rattle.fb_laws.proofs.ChartSpans.{sound_transitions, sound_algorithm}
 
 -- The parts of items of two kinds, joined with others
@@ -206,6 +206,15 @@ sound_system =
     (sound_same (many system_section) (flat_map system_contents_parts) (λ v. system_contents_parts (system_joined v)) each_system_section
     (sound_many system_section system_contents_parts sound_system_section))))))
 
+-- Structures
+
+sound_structure : Sound structure structure_parts
+unfolding structure
+sound_structure =
+    sound_as _ _ structure_parts
+    (sound_behind _ _ _ (sound_both name _ name_parts (flat_map variables_parts) sound_name
+    (sound_behind _ _ _ (sound_before _ _ (flat_map variables_parts) sound_fields))))
+
 -- Units
 
 pub sound_unit : Sound unit tree_parts
@@ -214,4 +223,5 @@ sound_unit =
     sound_either _ _ tree_parts (sound_as _ block tree_parts sound_block)
     (sound_either _ _ tree_parts (sound_as _ adapter tree_parts sound_adapter)
     (sound_either _ _ tree_parts (sound_as _ subapplication tree_parts sound_subapplication)
-    (sound_as _ system tree_parts sound_system)))
+    (sound_either _ _ tree_parts (sound_as _ system tree_parts sound_system)
+    (sound_as _ structure tree_parts sound_structure))))

@@ -18,6 +18,7 @@ use Rattle.fb_deploy.specs.Iface.Ports.{variables_in}
 use Rattle.fb_deploy.specs.Iface.Sides.{goes_with}
 use Rattle.fb_deploy.specs.Iface.Spaces.{spaces_of}
 use Rattle.fb_deploy.specs.Iface.Types.{instances_of, suits}
+use Rattle.fb_laws.specs.Declared.{AreDeclaredIn}
 use Rattle.fb_laws.specs.UnitParts.{Declarations, IsReportedWhere}
 
 -- the unit is present and not broken, and this is what it declares
@@ -96,14 +97,12 @@ pub data IsMisfit (used : TypeUse) : ConstantTree → Span → Type 0 where
   element : {values : List Simple} {span : Span} {v : Simple} → used.form ≡ forms.Array → Contains values v → takes (class_of_name used.name.name) (class_of_simple v) ≡ false → IsMisfit used (value_list values span) (simple_span v)
   no_array : {values : List Simple} {span : Span} → used.form ≢ forms.Array → is_free (class_of_type used) ≡ false → IsMisfit used (value_list values span) span
 
--- an initial value that doesn't fit the type of its variables
+-- an initial value that doesn't fit the type of its variables or fields
 pub record HasMisfit (sources : Sources) (unit : List ℕ) (span : Span) : Type 0 where
   pub decl : DeclTree
   pub declared : IsDeclaredAt sources unit decl
-  pub type : TypeTree
-  pub is_type : type_in decl ≡ Some type
   pub variables : VariablesTree
-  pub among : Contains type.interface.variables variables
+  pub among : AreDeclaredIn decl variables
   pub initial : ConstantTree
   pub written : variables.initial ≡ Some initial
   pub misfit : IsMisfit variables.type_use initial span

@@ -1,7 +1,7 @@
 -- What a unit declares, and what a type declares first of its name and at which place.
-use Rattle.std.specs.Prelude.{◌≡◌, ◌≢◌, ℕ, ◌<◌, List, Option, Some, slice_get}
+use Rattle.std.specs.Prelude.{◌≡◌, ◌≢◌, ℕ, ◌<◌, List, Option, Some, Contains, slice_get}
 use Rattle.fb_text.specs.declared.name.NameUse.{NameUse}
-use Rattle.fb_tree.specs.Tree.{DeclTree, EventTree, InstanceTree, InterfaceTree, NetworkTree, TypeTree, VariablesTree, adapter_type, block_type, subapplication_type}
+use Rattle.fb_tree.specs.Tree.{DeclTree, EventTree, InstanceTree, InterfaceTree, NetworkTree, StructureTree, TypeTree, VariablesTree, adapter_type, block_type, structure_type, subapplication_type}
 use Rattle.fb_tree.specs.declared.interface.Section.{Section}
 use Rattle.fb_tree.specs.declared.interface.Section.TheVariants as sections
 use Rattle.fb_tree.specs.declared.interface.Side.{Side}
@@ -19,6 +19,13 @@ pub data IsType : DeclTree → TypeTree → Type 0 where
   of_block : (d : TypeTree) → IsType (block_type d) d
   of_adapter : (d : TypeTree) → IsType (adapter_type d) d
   of_subapplication : (d : TypeTree) → IsType (subapplication_type d) d
+
+-- variables of a type, or fields of a structure, that are declared together, as `A, B : INT;`
+pub data AreDeclaredIn : DeclTree → VariablesTree → Type 0 where
+  variables_of_type : {decl : DeclTree} {type : TypeTree} {variables : VariablesTree}
+      → IsType decl type → Contains type.interface.variables variables → AreDeclaredIn decl variables
+  fields_of_structure : {s : StructureTree} {fields : VariablesTree}
+      → Contains s.fields fields → AreDeclaredIn (structure_type s) fields
 
 -- ---- events, and instances
 

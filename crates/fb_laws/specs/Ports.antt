@@ -1,6 +1,6 @@
 -- The ports of a unit in words of their own: which ports its interface lists, and in which order.
 use Rattle.std.specs.Prelude.{◌≡◌, ◌↔◌, ℕ, ◌<◌, List, [], Some, Contains, slice_get}
-use Rattle.fb_tree.specs.Tree.{DeclTree, NetworkTree, SystemTree, TypeTree, system_configuration}
+use Rattle.fb_tree.specs.Tree.{DeclTree, NetworkTree, StructureTree, SystemTree, TypeTree, structure_type, system_configuration}
 use Rattle.fb_tree.specs.declared.interface.Section.TheVariants as sections
 use Rattle.fb_tree.specs.declared.interface.Side.{Side}
 use Rattle.fb_tree.specs.declared.interface.TypeUse.{TypeUse}
@@ -110,7 +110,7 @@ abbrev pub PortsComeAsDeclared : Type 0
 PortsComeAsDeclared = (decl : DeclTree) (type : TypeTree) → IsType decl type
     → ComeAsDeclaredEach type (meanings_in decl)
 
--- ---- systems
+-- ---- systems, and structures
 
 -- all lists are empty
 pub record AreNone (ports : Meanings) : Type 0 where
@@ -121,3 +121,7 @@ pub record AreNone (ports : Meanings) : Type 0 where
 -- a system has neither ports nor instances of its own: its instances are those of its applications
 abbrev pub SystemsHaveNoPorts : Type 0
 SystemsHaveNoPorts = (s : SystemTree) → AreNone (meanings_in (system_configuration s))
+
+-- a structure has neither ports nor instances: its fields are data of no side
+abbrev pub StructuresHaveNoPorts : Type 0
+StructuresHaveNoPorts = (s : StructureTree) → AreNone (meanings_in (structure_type s))

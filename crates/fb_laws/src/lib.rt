@@ -30,11 +30,12 @@ pub use plans::{
 pub use ports::{
     adapters_are_declared, data_are_declared, events_are_declared, instances_stand_for_first,
     internal_variables_are_no_ports, names_stand_for_first, ports_come_as_declared,
-    ports_have_own_names, systems_have_no_ports, whole_texts_have_interfaces,
+    ports_have_own_names, structures_have_no_ports, systems_have_no_ports,
+    whole_texts_have_interfaces,
 };
 pub use spans::{
     constants_read_alone, names_stand_as_words, parts_are_written, parts_read_alone,
-    spans_cover_tokens, spans_lie_in_text,
+    spans_cover_tokens, spans_lie_in_text, subscripts_are_counted,
 };
 pub use units::{
     absent_units_have_no_faults, broken_texts_are_reported, broken_texts_are_reported_alone,

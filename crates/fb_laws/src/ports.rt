@@ -1,5 +1,5 @@
 //! Laws of the ports of units: which ports there are, and in which order.
-ghost use Rattle.fb_laws.specs.Ports.{AdaptersAreDeclared, DataAreDeclared, EventsAreDeclared, InstancesStandForFirst, InternalVariablesAreNoPorts, NamesStandForFirst, PortsComeAsDeclared, PortsHaveOwnNames, SystemsHaveNoPorts, WholeTextsHaveInterfaces};
+ghost use Rattle.fb_laws.specs.Ports.{AdaptersAreDeclared, DataAreDeclared, EventsAreDeclared, InstancesStandForFirst, InternalVariablesAreNoPorts, NamesStandForFirst, PortsComeAsDeclared, PortsHaveOwnNames, StructuresHaveNoPorts, SystemsHaveNoPorts, WholeTextsHaveInterfaces};
 
 /// A text has an interface where it spells a unit: the ports of what it declares.
 pub fn whole_texts_have_interfaces()
@@ -49,4 +49,9 @@ pub fn ports_come_as_declared()
 /// A system has no ports.
 pub fn systems_have_no_ports()
     ensures { SystemsHaveNoPorts }
+{}
+
+/// A structure has no ports.
+pub fn structures_have_no_ports()
+    ensures { StructuresHaveNoPorts }
 {}

@@ -2,9 +2,9 @@
 use Rattle.std.proofs.Common.{◌≡◌, ℕ, Bool, true, false, cond, ◌&&◌, not, List, [], ◌∷◌, ◌++◌, Option, Some, None, map, refl}
 use Rattle.std.specs.List.{All, flat_map}
 use Rattle.std.proofs.lemmas.List.Elements.{All-cons, All-map, All-nil}
-use Rattle.fb_tree.specs.Tree.{DeclTree, NetworkTree, block_type, adapter_type, subapplication_type, system_configuration}
+use Rattle.fb_tree.specs.Tree.{DeclTree, NetworkTree, block_type, adapter_type, subapplication_type, system_configuration, structure_type}
 use Rattle.fb_tree.specs.declared.kinds.UnitKind.{UnitKind}
-use Rattle.fb_tree.specs.declared.kinds.UnitKind.TheVariants.{Block, Adapter, Subapplication, System}
+use Rattle.fb_tree.specs.declared.kinds.UnitKind.TheVariants.{Block, Adapter, Subapplication, System, Structure}
 use Rattle.fb_tree.specs.declared.network.Connection.{Connection}
 use Rattle.fb_tree.specs.declared.network.End.{End}
 use Rattle.fb_iface.specs.Library.View.{Sources, tree_at}
@@ -60,6 +60,7 @@ clean_passage Block c source destination e = tt
 clean_passage Adapter c source destination e = tt
 clean_passage Subapplication c source destination e = no_pass (is_own_port Source source && is_own_port Destination destination) _ e
 clean_passage System c source destination e = tt
+clean_passage Structure c source destination e = tt
 
 one_type : (source destination same : Bool) (fault : Fault) → cond ((source && destination) && not same) (fault ∷ []) [] ≡ [] → source ≡ true → destination ≡ true → same ≡ true
 one_type source destination true fault e s d = refl
@@ -110,6 +111,7 @@ clean_networks sources unit (Some (adapter_type d)) none = All-nil (Clean source
 clean_networks sources unit (Some (subapplication_type d)) none = All-cons (Clean sources) _ [] (clean_network sources _ d.network none) (All-nil (Clean sources))
 clean_networks sources unit (Some (system_configuration s)) none =
     All-map (Clean sources) (application_place sources unit) s.applications (λ k a within. clean_network sources _ _ (none_of_each _ s.applications none k a within))
+clean_networks sources unit (Some (structure_type s)) none = All-nil (Clean sources)
 
 pub networks_clean : FaultlessNetworksAreClean
 networks_clean sources unit none = clean_networks sources unit (tree_at sources unit) none

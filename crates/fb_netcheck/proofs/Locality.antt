@@ -6,8 +6,8 @@ use Rattle.std.specs.List.{Contains, enumerate_from, flat_map}
 use Rattle.std.specs.Option.{option_and_then, option_map_or}
 use Rattle.std.proofs.lemmas.List.Elements.{Contains-append_left, Contains-append_right}
 use Rattle.fb_tree.specs.Text.declared.name.NameUse.{NameUse}
-use Rattle.fb_tree.specs.Mentions.{mentioned_in, types_in}
-use Rattle.fb_tree.specs.Tree.{ApplicationTree, DeclTree, InstanceTree, NetworkTree, TypeTree, block_type, adapter_type, subapplication_type, system_configuration}
+use Rattle.fb_tree.specs.Mentions.{instance_types, types_in}
+use Rattle.fb_tree.specs.Tree.{ApplicationTree, DeclTree, InstanceTree, NetworkTree, TypeTree, block_type, adapter_type, subapplication_type, system_configuration, structure_type}
 use Rattle.fb_tree.specs.declared.kinds.UnitKind.{UnitKind}
 use Rattle.fb_tree.specs.declared.kinds.UnitKind.TheVariants.{Block, Subapplication, System}
 use Rattle.fb_tree.specs.declared.network.Connection.{Connection}
@@ -112,15 +112,16 @@ module _ (a b : Sources) (unit : List ℕ) (own : get a unit ≡ get b unit) whe
       let rest = applications_local xs (λ name h. agree name (Contains-append_right (types_in x.network.instances) others name h)) in
       λ i. first i ++ rest i
 
-  declared_local : (decl : DeclTree) → ((name : List ℕ) → Contains (mentioned_in decl) name → get a name ≡ get b name) → declared_faults a unit decl ≡ declared_faults b unit decl
+  declared_local : (decl : DeclTree) → ((name : List ℕ) → Contains (instance_types decl) name → get a name ≡ get b name) → declared_faults a unit decl ≡ declared_faults b unit decl
   declared_local (block_type d) agree = type_local Block d agree
   declared_local (adapter_type d) agree = refl
   declared_local (subapplication_type d) agree = type_local Subapplication d agree
   declared_local (system_configuration s) agree = applications_local s.applications agree
+  declared_local (structure_type s) agree = refl
 
   tree_local : (tree : Option DeclTree) → ((name : List ℕ) → Contains (mentions_in tree) name → get a name ≡ get b name) → tree_faults a unit tree ≡ tree_faults b unit tree
   tree_local None agree = refl
-  tree_local (Some decl) agree = declared_local decl (λ name h. agree name (in_order_has (mentioned_in decl) name h))
+  tree_local (Some decl) agree = declared_local decl (λ name h. agree name (in_order_has (instance_types decl) name h))
 
 pub net_faults_local : NetFaultsAreLocal
 net_faults_local a b unit agree =

@@ -9,7 +9,7 @@ use Rattle.std.proofs.lemmas.List.Elements.{All-cons, All-map, All-nil}
 use Rattle.fb_tree.proofs.Text.OrderLemmas.{same_name}
 use Rattle.fb_tree.specs.Text.declared.name.NameUse.{NameUse}
 use Rattle.fb_tree.specs.Mentions.{unit_kind_of}
-use Rattle.fb_tree.specs.Tree.{ApplicationTree, DeclTree, InstanceTree, NetworkTree, block_type, adapter_type, subapplication_type, system_configuration}
+use Rattle.fb_tree.specs.Tree.{ApplicationTree, DeclTree, InstanceTree, NetworkTree, block_type, adapter_type, subapplication_type, system_configuration, structure_type}
 use Rattle.fb_tree.specs.declared.kinds.UnitKind.{UnitKind}
 use Rattle.fb_tree.specs.declared.kinds.UnitKind.TheVariants.{Block, Subapplication}
 use Rattle.fb_tree.specs.declared.network.Role.{Role}
@@ -110,6 +110,7 @@ right_networks sources unit (adapter_type d) types none = All-nil Right
 right_networks sources unit (subapplication_type d) types none = All-cons Right _ [] (all_right sources (type_place sources unit Subapplication d).0 d.network refl refl types none) (All-nil Right)
 right_networks sources unit (system_configuration s) types none =
     All-map Right (application_place sources unit) s.applications (λ k a within. let x = get_or s.applications k a in all_right sources (application_place sources unit x).0 x.network refl refl (none_joined (instance_faults sources) (λ (a : ApplicationTree). a.network.instances) s.applications types k a within) (none_of_each (application_network sources unit) s.applications none k a within))
+right_networks sources unit (structure_type s) types none = All-nil Right
 
 types_none : (sources : Sources) (unit : List ℕ) (decl : DeclTree) → declaration_faults sources unit (Some decl) ≡ [] → type_faults sources decl ≡ []
 types_none sources unit decl e =

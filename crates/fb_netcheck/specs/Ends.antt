@@ -56,11 +56,12 @@ holder_of kind sort role = None
 abbrev pub event_port : DeclaredEvent → Port
 event_port e = record { side = e.side; flow = flows.Event }
 
--- internal variables are no ports
+-- internal variables and fields are no ports
 abbrev pub port_in_section : Section → TypeUse → Option Port
 port_in_section sections.Input used = Some (record { side = Input; flow = flows.Data used })
 port_in_section sections.Output used = Some (record { side = Output; flow = flows.Data used })
 port_in_section sections.Internal used = None
+port_in_section sections.Field used = None
 
 abbrev pub data_port : DeclaredVariable → Option Port
 data_port v = port_in_section v.section v.type_use

@@ -1,7 +1,7 @@
 -- The faults of networks.
 use Rattle.std.specs.Prelude.{ℕ, List, [], ◌∷◌, ◌++◌, map, Option, Some, None}
 use Rattle.std.specs.List.{flat_map}
-use Rattle.fb_tree.specs.Tree.{ApplicationTree, DeclTree, NetworkTree, TypeTree, block_type, adapter_type, subapplication_type, system_configuration}
+use Rattle.fb_tree.specs.Tree.{ApplicationTree, DeclTree, NetworkTree, TypeTree, block_type, adapter_type, subapplication_type, system_configuration, structure_type}
 use Rattle.fb_tree.specs.declared.kinds.UnitKind.{UnitKind}
 use Rattle.fb_tree.specs.declared.kinds.UnitKind.TheVariants.{Block, Subapplication, System}
 use Rattle.fb_iface.specs.Library.View.{Sources, tree_at}
@@ -33,6 +33,7 @@ networks_in sources unit (Some (block_type d)) = type_place sources unit Block d
 networks_in sources unit (Some (adapter_type d)) = []
 networks_in sources unit (Some (subapplication_type d)) = type_place sources unit Subapplication d ∷ []
 networks_in sources unit (Some (system_configuration s)) = map (application_place sources unit) s.applications
+networks_in sources unit (Some (structure_type s)) = []
 
 -- the faults of a network, where it stands
 abbrev pub placed_faults : Sources → NetworkPlace × NetworkTree → List Fault
@@ -44,12 +45,13 @@ type_network sources unit kind d = placed_faults sources (type_place sources uni
 abbrev pub application_network : Sources → List ℕ → ApplicationTree → List Fault
 application_network sources unit a = placed_faults sources (application_place sources unit a)
 
--- an adapter type has no network
+-- an adapter type has no network, and neither has a structure
 abbrev pub declared_faults : Sources → List ℕ → DeclTree → List Fault
 declared_faults sources unit (block_type d) = type_network sources unit Block d
 declared_faults sources unit (adapter_type d) = []
 declared_faults sources unit (subapplication_type d) = type_network sources unit Subapplication d
 declared_faults sources unit (system_configuration s) = flat_map (application_network sources unit) s.applications
+declared_faults sources unit (structure_type s) = []
 
 abbrev pub tree_faults : Sources → List ℕ → Option DeclTree → List Fault
 tree_faults sources unit None = []

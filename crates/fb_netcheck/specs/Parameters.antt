@@ -3,7 +3,7 @@ use Rattle.std.specs.Prelude.{List, [], ◌∷◌, Option, Some, None}
 use Rattle.std.specs.List.{flat_map}
 use Rattle.fb_tree.specs.Tree.{InstanceTree, ParameterTree}
 use Rattle.fb_tree.specs.declared.interface.Section.{Section}
-use Rattle.fb_tree.specs.declared.interface.Section.TheVariants.{Input, Output, Internal}
+use Rattle.fb_tree.specs.declared.interface.Section.TheVariants.{Input, Output, Internal, Field}
 use Rattle.fb_tree.specs.declared.interface.TypeUse.{TypeUse}
 use Rattle.fb_tree.specs.declared.network.Role.{Role}
 use Rattle.fb_tree.specs.declared.network.Role.TheVariants as roles
@@ -21,6 +21,7 @@ abbrev pub value_faults : Section → TypeUse → ParameterTree → List Fault
 value_faults Input used p = constant_faults used p.value
 value_faults Output used p = fault_at ParameterUnknown p.name ∷ []
 value_faults Internal used p = fault_at ParameterUnknown p.name ∷ []
+value_faults Field used p = fault_at ParameterUnknown p.name ∷ []
 
 -- a parameter is a data input
 abbrev pub parameter_faults : Option DeclaredVariable → ParameterTree → List Fault

@@ -196,7 +196,7 @@ fn data_by_name(ports: &Ports, name: &Name) -> Option<Port>
     }
 }
 
-/// Internal variables are no ports.
+/// Internal variables and fields are no ports.
 fn port_of_variable(variable: &DeclaredVariable) -> Option<Port>
     ensures { result ≡ data_port variable.now }
 {
@@ -210,7 +210,7 @@ fn port_of_variable(variable: &DeclaredVariable) -> Option<Port>
             side: Side::Output,
             flow,
         }),
-        Section::Internal => None,
+        Section::Internal | Section::Field => None,
     }
 }
 

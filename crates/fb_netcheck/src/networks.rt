@@ -58,7 +58,7 @@ pub fn report_networks<V: View>(
             declared,
             found,
         ),
-        Decl::Adapter(_) => Ok(()),
+        Decl::Adapter(_) | Decl::Structure(_) => Ok(()),
         Decl::Subapplication(declared) => {
             report_in_type(alloc, view, unit, UnitKind::Subapplication, declared, found)
         }

@@ -92,7 +92,9 @@ fn report_parameter(
     match variable {
         Some(variable) => match variable.section {
             Section::Input => report_constant(&variable.type_use, &parameter.value, found),
-            Section::Output | Section::Internal => report_unknown(parameter, found),
+            Section::Output | Section::Internal | Section::Field => {
+                report_unknown(parameter, found)
+            }
         },
         None => report_unknown(parameter, found),
     }

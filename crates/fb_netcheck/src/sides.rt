@@ -63,7 +63,7 @@ pub fn report_pass_through(
             }
             Ok(())
         }
-        UnitKind::Block | UnitKind::Adapter | UnitKind::System => Ok(()),
+        UnitKind::Block | UnitKind::Adapter | UnitKind::System | UnitKind::Structure => Ok(()),
     }
 }
 

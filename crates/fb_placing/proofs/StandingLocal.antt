@@ -7,8 +7,8 @@ use Rattle.std.specs.FinMap.{slice_cmp-IsAntisymmetric, nat_cmp-IsAntisymmetric}
 use Rattle.std.specs.Cmp.Lexicographic.{nat_list_cmp_total}
 use Rattle.fb_tree.specs.Text.Order.{name_cmp}
 use Rattle.fb_tree.proofs.Text.OrderLemmas.{in_order-members}
-use Rattle.fb_tree.specs.Tree.{ApplicationTree, DeclTree, InstanceTree, block_type, adapter_type, subapplication_type, system_configuration}
-use Rattle.fb_tree.specs.Mentions.{mentioned_in, types_in}
+use Rattle.fb_tree.specs.Tree.{ApplicationTree, DeclTree, InstanceTree, block_type, adapter_type, subapplication_type, system_configuration, structure_type}
+use Rattle.fb_tree.specs.Mentions.{instance_types, types_in}
 use Rattle.fb_netcheck.specs.Library.View.{Sources, tree_at, tree_of, mentions_at, mentions_in}
 use Rattle.fb_netcheck.specs.Library.Rests.{Rests, itself, through}
 use Rattle.fb_netcheck.specs.Library.Local.{AgreeFar}
@@ -46,8 +46,8 @@ among_typed unit instances name s e =
     let f = found_in (λ (i : InstanceTree). i.name.name) (λ (i : InstanceTree). let it : PlainStanding = record { unit = unit; instance = i } in it) instances name s e in
     subst (λ (t : List ℕ). Contains (types_in instances) t) (ap type_of f.gives) (contains_map (λ (i : InstanceTree). i.type_name.name) instances f.item f.among)
 
-mentioned : (tree : DeclTree) (v : List ℕ) → Contains (mentioned_in tree) v → Contains (mentions_in (Some tree)) v
-mentioned tree v c = (in_order-members name_cmp nat_list_cmp_total (slice_cmp-IsAntisymmetric nat_cmp-IsAntisymmetric) (mentioned_in tree) v).1 c
+mentioned : (tree : DeclTree) (v : List ℕ) → Contains (instance_types tree) v → Contains (mentions_in (Some tree)) v
+mentioned tree v c = (in_order-members name_cmp nat_list_cmp_total (slice_cmp-IsAntisymmetric nat_cmp-IsAntisymmetric) (instance_types tree) v).1 c
 
 inner_mentioned : (tree : Option DeclTree) (v : List ℕ) → Contains (types_in (inner_instances tree)) v → Contains (mentions_in tree) v
 inner_mentioned None v c = absurd (contains_nothing v c)
@@ -55,6 +55,7 @@ inner_mentioned (Some (block_type d)) v c = absurd (contains_nothing v c)
 inner_mentioned (Some (adapter_type d)) v c = absurd (contains_nothing v c)
 inner_mentioned (Some (subapplication_type d)) v c = mentioned (subapplication_type d) v c
 inner_mentioned (Some (system_configuration s)) v c = absurd (contains_nothing v c)
+inner_mentioned (Some (structure_type s)) v c = absurd (contains_nothing v c)
 
 application_mentioned : (tree : Option DeclTree) (a : ApplicationTree) (v : List ℕ) → Contains (applications_in tree) a → Contains (types_in a.network.instances) v → Contains (mentions_in tree) v
 application_mentioned None a v c d = absurd (contains_nothing a c)
@@ -63,6 +64,7 @@ application_mentioned (Some (adapter_type t)) a v c d = absurd (contains_nothing
 application_mentioned (Some (subapplication_type t)) a v c d = absurd (contains_nothing a c)
 application_mentioned (Some (system_configuration s)) a v c d =
     mentioned (system_configuration s) v (contains_flat_map (λ (x : ApplicationTree). types_in x.network.instances) s.applications a v c d)
+application_mentioned (Some (structure_type s)) a v c d = absurd (contains_nothing a c)
 
 module _ (a b : Sources) (unit : List ℕ) (agree : AgreeFar unit a b) where
   pub tree_same : (v : List ℕ) → Rests a unit v → tree_at a v ≡ tree_at b v

@@ -1,7 +1,7 @@
 -- What stands at a path of a system: an application, a block or a subapplication instance.
 use Rattle.std.specs.Prelude.{ℕ, ◌==◌, Bool, true, false, not, if◌then◌else◌, List, [], ◌∷◌, Option, Some, None, is_none, option_and_then}
 use Rattle.std.specs.Option.{option_map_or}
-use Rattle.fb_tree.specs.Tree.{ApplicationTree, DeclTree, InstanceTree, block_type, adapter_type, subapplication_type, system_configuration, instance_tree}
+use Rattle.fb_tree.specs.Tree.{ApplicationTree, DeclTree, InstanceTree, block_type, adapter_type, subapplication_type, system_configuration, structure_type, instance_tree}
 use Rattle.fb_tree.specs.declared.network.Role.{Role}
 use Rattle.fb_tree.specs.declared.network.Role.TheVariants as roles
 use Rattle.fb_netcheck.specs.Library.View.{Sources, tree_at}
@@ -33,6 +33,7 @@ inner_instances (Some (block_type d)) = []
 inner_instances (Some (adapter_type d)) = []
 inner_instances (Some (subapplication_type d)) = d.network.instances
 inner_instances (Some (system_configuration s)) = []
+inner_instances (Some (structure_type s)) = []
 
 -- the instance of that name among these, the first one
 abbrev pub instance_called : List InstanceTree → List ℕ → Option InstanceTree

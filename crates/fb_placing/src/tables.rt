@@ -87,7 +87,7 @@ fn inner_instances(decl: &Decl) -> &[Instance]
 {
     match decl {
         Decl::Subapplication(declared) => declared.network.instances.as_slice(),
-        Decl::Block(_) | Decl::Adapter(_) | Decl::System(_) => &[],
+        Decl::Block(_) | Decl::Adapter(_) | Decl::System(_) | Decl::Structure(_) => &[],
     }
 }
 
