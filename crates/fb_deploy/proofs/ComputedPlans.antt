@@ -2,7 +2,7 @@
 use Rattle.std.proofs.Common.{◌≡◌, ℕ, Bool, true, false, if◌then◌else◌, List, Option, Some, None, refl, sym, ap, subst, ◌∙◌}
 use Rattle.std.proofs.lemmas.Bool.{false≢true}
 use Rattle.std.specs.Prelude.{◌↔◌, IsTrue, is_some, option_map}
-use Rattle.fb_mapping.specs.Tree.Tree.{DeclTree, block_type, adapter_type, subapplication_type, system_configuration}
+use Rattle.fb_mapping.specs.Tree.Tree.{DeclTree, block_type, adapter_type, subapplication_type, system_configuration, structure_type}
 use Rattle.fb_mapping.specs.Library.View.{Sources, tree_at}
 use Rattle.fb_mapping.specs.Library.Rests.{itself}
 use Rattle.fb_mapping.specs.Flatten.Net.{PlainNet}
@@ -32,6 +32,7 @@ module _ (sources : Sources) (unit : List ℕ) where
   net_there (adapter_type d) present is = absurd (false≢true is)
   net_there (subapplication_type d) present is = absurd (false≢true is)
   net_there (system_configuration s) present is = ap (net_in sources unit) present
+  net_there (structure_type s) present is = absurd (false≢true is)
 
   -- the computed plan of a system
   record Computed : Type 0 where

@@ -4,7 +4,7 @@ use Rattle.std.proofs.lemmas.List.Elements.{All-contains, All-head, Contains-app
 use Rattle.std.specs.List.{All, Contains, filter_map, find, flat_map, slice_get}
 use Rattle.std.specs.Option.{option_and_then}
 use Rattle.fb_wiring.specs.Text.declared.name.NameUse.{NameUse}
-use Rattle.fb_wiring.specs.Tree.Tree.{ApplicationTree, DeclTree, InstanceTree, NetworkTree, SystemTree, TypeTree, block_type, adapter_type, subapplication_type, system_configuration}
+use Rattle.fb_wiring.specs.Tree.Tree.{ApplicationTree, DeclTree, InstanceTree, NetworkTree, SystemTree, TypeTree, block_type, adapter_type, subapplication_type, system_configuration, structure_type}
 use Rattle.fb_wiring.specs.Tree.declared.kinds.UnitKind.TheVariants as kinds
 use Rattle.fb_wiring.specs.Tree.declared.network.Role.{Role}
 use Rattle.fb_wiring.specs.Tree.declared.network.Role.TheVariants as roles
@@ -116,6 +116,7 @@ declared_sound sources unit (block_type d) is report = leaf_sound sources (plain
 declared_sound sources unit (adapter_type d) is report = leaf_sound sources (plain_ports (meanings_in_type d))
 declared_sound sources unit (subapplication_type d) is report = subapplication_sound sources unit d is report
 declared_sound sources unit (system_configuration s) is report = leaf_sound sources []
+declared_sound sources unit (structure_type s) is report = leaf_sound sources []
 
 pub networks_clean : NetworksAreClean
 networks_clean sources unit network is none = by (tree_at sources unit) refl is
@@ -254,6 +255,7 @@ applications_sound sources unit (block_type d) is report = no_applications sourc
 applications_sound sources unit (adapter_type d) is report = no_applications sources
 applications_sound sources unit (subapplication_type d) is report = no_applications sources
 applications_sound sources unit (system_configuration s) is report = system_sound sources unit s is report
+applications_sound sources unit (structure_type s) is report = no_applications sources
 
 pub applications_clean : ApplicationsAreClean
 applications_clean sources unit applications is none = by (tree_at sources unit) refl is

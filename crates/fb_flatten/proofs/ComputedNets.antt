@@ -9,7 +9,7 @@ use Rattle.std.specs.FinMap.{get}
 use Rattle.std.proofs.lemmas.List.Kept.{IsStrictlySortedBy-filter}
 use Rattle.fb_wiring.specs.Text.Order.{name_cmp, in_order}
 use Rattle.fb_wiring.proofs.Text.OrderLemmas.{in_order-sorted}
-use Rattle.fb_wiring.specs.Tree.Tree.{DeclTree, SystemTree, TypeTree, block_type, adapter_type, subapplication_type, system_configuration}
+use Rattle.fb_wiring.specs.Tree.Tree.{DeclTree, SystemTree, TypeTree, block_type, adapter_type, subapplication_type, system_configuration, structure_type}
 use Rattle.fb_wiring.specs.Tree.Mentions.{unit_kind_of}
 use Rattle.fb_wiring.specs.Tree.declared.kinds.UnitKind.TheVariants as kinds
 use Rattle.fb_wiring.specs.Library.View.{Sources, mentions_at, tree_at, tree_of}
@@ -137,6 +137,7 @@ module _ (sources : Sources) (unit : List ℕ) where
   unit_flat (adapter_type d) present has sound = absurd (false≢true has)
   unit_flat (subapplication_type d) present has sound = type_flat d present sound
   unit_flat (system_configuration s) present has sound = system_flat s present sound
+  unit_flat (structure_type s) present has sound = absurd (false≢true has)
 
   -- ---- its net
 

@@ -5,7 +5,7 @@ use Rattle.std.proofs.lemmas.List.Elements.{Contains-push_cases}
 use Rattle.std.specs.Prelude.{Contains, map, option_map}
 use Rattle.std.specs.BTreeMap.{is_at}
 use Rattle.fb_wiring.specs.Text.Order.{name_cmp}
-use Rattle.fb_wiring.specs.Tree.Tree.{DeclTree, block_type, adapter_type, subapplication_type, system_configuration}
+use Rattle.fb_wiring.specs.Tree.Tree.{DeclTree, block_type, adapter_type, subapplication_type, system_configuration, structure_type}
 use Rattle.fb_wiring.specs.Tree.declared.kinds.UnitKind.TheVariants as kinds
 use Rattle.fb_wiring.specs.Tree.Mentions.{unit_kind_of}
 use Rattle.fb_wiring.specs.Library.View.{Sources, mentions_at, tree_at}
@@ -47,6 +47,7 @@ own_wanted sources unit (block_type d) sound present i c = absurd (contains_noth
 own_wanted sources unit (adapter_type d) sound present i c = absurd (contains_nothing i c)
 own_wanted sources unit (subapplication_type d) sound present i c =
     (networks_clean sources unit (network_of (subapplication_type d)) (ap (option_map network_of) present) (unit_faultless sources unit sound)).kinds i c
+own_wanted sources unit (structure_type s) sound present i c = absurd (contains_nothing i c)
 own_wanted sources unit (system_configuration s) sound present i c =
     let list = applications_of (system_configuration s) in
     let o = origin_in_flat_map (λ (a : Application). a.network.instances) list i c in
@@ -92,6 +93,7 @@ type_counted : (sources : Sources) {old new : List ℕ → Option ℕ} (name : L
 type_counted sources name (block_type d) kind present all has = let two : kind_at sources name ≡ Some kinds.Block = ap (option_map unit_kind_of) present in absurd (let no : ⊥ = cc in no)
 type_counted sources name (adapter_type d) kind present all has = let two : kind_at sources name ≡ Some kinds.Adapter = ap (option_map unit_kind_of) present in absurd (let no : ⊥ = cc in no)
 type_counted sources name (system_configuration s) kind present all has = let two : kind_at sources name ≡ Some kinds.System = ap (option_map unit_kind_of) present in absurd (let no : ⊥ = cc in no)
+type_counted sources name (structure_type s) kind present all has = let two : kind_at sources name ≡ Some kinds.Structure = ap (option_map unit_kind_of) present in absurd (let no : ⊥ = cc in no)
 type_counted sources name (subapplication_type d) kind present all has =
     record { inner = network_of (subapplication_type d); declared = ap (option_map network_of) present; count = has.count; found = has.found; counted = has.counted (declared sources) all }
 

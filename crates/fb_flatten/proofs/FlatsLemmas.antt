@@ -8,7 +8,7 @@ use Rattle.std.specs.BTreeMap.{is_at}
 use Rattle.fb_wiring.proofs.Text.Tests.{by_bool}
 use Rattle.fb_wiring.specs.Text.Order.{name_cmp}
 use Rattle.fb_wiring.specs.Tree.Mentions.{unit_kind_of}
-use Rattle.fb_wiring.specs.Tree.Tree.{DeclTree, block_type, adapter_type, subapplication_type, system_configuration}
+use Rattle.fb_wiring.specs.Tree.Tree.{DeclTree, block_type, adapter_type, subapplication_type, system_configuration, structure_type}
 use Rattle.fb_wiring.specs.Tree.declared.kinds.UnitKind.{UnitKind}
 use Rattle.fb_wiring.specs.Tree.declared.kinds.UnitKind.TheVariants as kinds
 use Rattle.fb_wiring.specs.Library.View.{Sources, mentions_at, tree_at}
@@ -186,6 +186,7 @@ module _ {sources : Sources} {hints : List ℕ → Option PlainNet} {table : Vie
       not_system (adapter_type e) s k = cc
       not_system (subapplication_type e) s k = cc
       not_system (system_configuration e) s k = cc
+      not_system (structure_type e) s k = cc
 
       by_kind : HasNet sources unit → IsUnitFlat sources unit flat
       by_kind (inl k) = OfSubapplication made.network k d is
@@ -202,6 +203,7 @@ module _ {sources : Sources} {hints : List ℕ → Option PlainNet} {table : Vie
       is_kind (adapter_type e) s = absurd (let no : ⊥ = cc in no)
       is_kind (subapplication_type e) s = absurd (let no : ⊥ = cc in no)
       is_kind (system_configuration e) s = refl
+      is_kind (structure_type e) s = cc
 
       kind : kind_at sources unit ≡ Some kinds.System
       kind = ap (option_map unit_kind_of) present ∙ ap (λ (k : UnitKind). Some k) (is_kind tree system)

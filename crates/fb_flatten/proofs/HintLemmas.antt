@@ -4,7 +4,7 @@ use Rattle.std.proofs.lemmas.Bool.{false≢true}
 use Rattle.std.specs.Prelude.{option_map}
 use Rattle.std.specs.Option.{option_or}
 use Rattle.fb_wiring.specs.Tree.Mentions.{unit_kind_of}
-use Rattle.fb_wiring.specs.Tree.Tree.{DeclTree, block_type, adapter_type, subapplication_type, system_configuration}
+use Rattle.fb_wiring.specs.Tree.Tree.{DeclTree, block_type, adapter_type, subapplication_type, system_configuration, structure_type}
 use Rattle.fb_wiring.specs.Tree.declared.kinds.UnitKind.TheVariants as kinds
 use Rattle.fb_wiring.specs.Library.View.{Sources, tree_at}
 use Rattle.fb_wiring.specs.Library.Rests.{itself}
@@ -74,6 +74,7 @@ module _ (sources : Sources) (name : List ℕ) (kind : kind_at sources name ≡ 
   of_type held (block_type d) present is = let same : kind_at sources name ≡ Some kinds.Block = ap (option_map unit_kind_of) present in absurd (let no : ⊥ = cc in no)
   of_type held (adapter_type d) present is = let same : kind_at sources name ≡ Some kinds.Adapter = ap (option_map unit_kind_of) present in absurd (let no : ⊥ = cc in no)
   of_type held (system_configuration s) present is = let same : kind_at sources name ≡ Some kinds.System = ap (option_map unit_kind_of) present in absurd (let no : ⊥ = cc in no)
+  of_type held (structure_type s) present is = let same : kind_at sources name ≡ Some kinds.Structure = ap (option_map unit_kind_of) present in absurd (let no : ⊥ = cc in no)
   of_type held (subapplication_type d) present is =
       let found : declared sources name ≡ Some (network_of (subapplication_type d)) = ap (option_map network_of) present in
       let same : network_of (subapplication_type d) ≡ network = cc in

@@ -12,7 +12,7 @@ use Rattle.fb_wiring.specs.Forms.Words.{before, behind, key, name}
 use Rattle.fb_wiring.specs.Sections.Network.{blocks, connections, instance, inner_subapplication, subapplications}
 use Rattle.fb_wiring.specs.Sections.Sections.{section}
 use Rattle.fb_wiring.specs.Sections.SystemParts.{device, mappings}
-use Rattle.fb_wiring.specs.Tree.Tree.{ApplicationTree, DeclTree, DeviceTree, InstanceTree, MappingTree, SystemTree, block_type, adapter_type, subapplication_type, system_configuration}
+use Rattle.fb_wiring.specs.Tree.Tree.{ApplicationTree, DeclTree, DeviceTree, InstanceTree, MappingTree, SystemTree, block_type, adapter_type, subapplication_type, system_configuration, structure_type}
 use Rattle.fb_wiring.specs.Tree.declared.network.Connection.{Connection}
 use Rattle.fb_wiring.specs.Tree.declared.network.Role.{Role}
 use Rattle.fb_wiring.specs.Tree.declared.network.Role.TheVariants as roles
@@ -151,13 +151,15 @@ InUnit (block_type d) = Unit {0}
 InUnit (adapter_type d) = Unit {0}
 InUnit (subapplication_type d) = Unit {0}
 InUnit (system_configuration s) = InSystemTree s
+InUnit (structure_type s) = Unit {0}
 
 gives_unit : GivesOnly unit InUnit
 unfolding unit
 gives_unit tokens value (inl s) = subst InUnit (sym s.2) tt
 gives_unit tokens value (inr (inl s)) = subst InUnit (sym s.2) tt
 gives_unit tokens value (inr (inr (inl s))) = subst InUnit (sym s.2) tt
-gives_unit tokens value (inr (inr (inr s))) = subst InUnit (sym s.2) (gives_system tokens s.0 s.1)
+gives_unit tokens value (inr (inr (inr (inl s)))) = subst InUnit (sym s.2) (gives_system tokens s.0 s.1)
+gives_unit tokens value (inr (inr (inr (inr s)))) = subst InUnit (sym s.2) tt
 
 in_body : (end : ℕ) (r : Result (List Lexeme) Span) (body : BodyTree) (decl : DeclTree) → IsBodyIn end r body → tree_in body ≡ Some decl → InUnit decl
 in_body end (Err bad) (Whole tree) decl h e = absurd (let no : ⊥ = cc in no)

@@ -6,7 +6,7 @@ use Rattle.std.specs.Option.{option_or}
 use Rattle.std.specs.BTreeMap.{is_at}
 use Rattle.fb_wiring.specs.Text.Order.{name_cmp}
 use Rattle.fb_wiring.specs.Tree.Mentions.{unit_kind_of}
-use Rattle.fb_wiring.specs.Tree.Tree.{DeclTree, block_type, adapter_type, subapplication_type, system_configuration}
+use Rattle.fb_wiring.specs.Tree.Tree.{DeclTree, block_type, adapter_type, subapplication_type, system_configuration, structure_type}
 use Rattle.fb_wiring.specs.Tree.declared.kinds.UnitKind.TheVariants as kinds
 use Rattle.fb_wiring.specs.Library.View.{Sources, tree_at}
 use Rattle.fb_wiring.specs.Network.declared.count.TheConstants.{INSTANCE_LIMIT}
@@ -41,6 +41,7 @@ module _ (sources : Sources) (name : List ℕ) (kind : kind_at sources name ≡ 
       by (Some (block_type t)) e = let two : kind_at sources name ≡ Some kinds.Block = ap (option_map unit_kind_of) e in absurd (let no : ⊥ = cc in no)
       by (Some (adapter_type t)) e = let two : kind_at sources name ≡ Some kinds.Adapter = ap (option_map unit_kind_of) e in absurd (let no : ⊥ = cc in no)
       by (Some (system_configuration t)) e = let two : kind_at sources name ≡ Some kinds.System = ap (option_map unit_kind_of) e in absurd (let no : ⊥ = cc in no)
+      by (Some (structure_type t)) e = let two : kind_at sources name ≡ Some kinds.Structure = ap (option_map unit_kind_of) e in absurd (let no : ⊥ = cc in no)
       by (Some (subapplication_type t)) e =
           let there : declared sources name ≡ Some (network_of (subapplication_type t)) = ap (option_map network_of) e in
           let same : network ≡ network_of (subapplication_type t) = cc in

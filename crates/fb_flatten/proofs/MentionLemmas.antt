@@ -8,8 +8,8 @@ use Rattle.std.proofs.lemmas.List.Elements.{Contains-append_cases}
 use Rattle.fb_wiring.specs.Text.Order.{name_cmp}
 use Rattle.fb_wiring.proofs.Text.OrderLemmas.{in_order-members}
 use Rattle.fb_wiring.specs.Text.declared.name.NameUse.{NameUse}
-use Rattle.fb_wiring.specs.Tree.Tree.{ApplicationTree, DeclTree, InstanceTree, TypeTree, block_type, adapter_type, subapplication_type, system_configuration}
-use Rattle.fb_wiring.specs.Tree.Mentions.{mentioned_in, mentions_of, types_in}
+use Rattle.fb_wiring.specs.Tree.Tree.{ApplicationTree, DeclTree, InstanceTree, TypeTree, block_type, adapter_type, subapplication_type, system_configuration, structure_type}
+use Rattle.fb_wiring.specs.Tree.Mentions.{instance_types, parts_of, types_in}
 use Rattle.fb_wiring.specs.Tree.declared.interface.Side.{Side}
 use Rattle.fb_wiring.specs.Tree.declared.interface.Side.TheVariants.{Input, Output}
 use Rattle.fb_wiring.specs.Tree.declared.network.Role.{Role}
@@ -130,18 +130,18 @@ port_mentioned d port name c e =
     ]
 
 -- what is mentioned stands among the mentions
-listed : (decl : DeclTree) (name : List ℕ) → Contains (mentioned_in decl) name → Contains (mentions_of decl) name
-listed decl name c = (in_order-members name_cmp nat_list_cmp_total (slice_cmp-IsAntisymmetric nat_cmp-IsAntisymmetric) (mentioned_in decl) name).1 c
+listed : (decl : DeclTree) (name : List ℕ) → Contains (instance_types decl) name → Contains (parts_of decl) name
+listed decl name c = (in_order-members name_cmp nat_list_cmp_total (slice_cmp-IsAntisymmetric nat_cmp-IsAntisymmetric) (instance_types decl) name).1 c
 
 -- a block type or an adapter type has ports alone
-leaf_within : (decl : DeclTree) (d : TypeTree) → mentioned_in decl ≡ types_in d.network.instances → Within (Contains (mentions_of decl)) (leaf d)
+leaf_within : (decl : DeclTree) (d : TypeTree) → instance_types decl ≡ types_in d.network.instances → Within (Contains (parts_of decl)) (leaf d)
 leaf_within decl d same =
     record {
       types = λ i c. absurd (contains_nothing i c);
       adapters = λ port name c e. listed decl name (subst (λ (l : List (List ℕ)). Contains l name) (sym same) (port_mentioned d port name c e));
     }
 
-network_within : (decl : DeclTree) → Within (Contains (mentions_of decl)) (network_of decl)
+network_within : (decl : DeclTree) → Within (Contains (parts_of decl)) (network_of decl)
 network_within (block_type d) = leaf_within (block_type d) d refl
 network_within (adapter_type d) = leaf_within (adapter_type d) d refl
 network_within (subapplication_type d) =
@@ -150,6 +150,7 @@ network_within (subapplication_type d) =
       adapters = λ port name c e. listed (subapplication_type d) name (port_mentioned d port name c e);
     }
 network_within (system_configuration s) = record { types = λ i c. absurd (contains_nothing i c); adapters = λ port name c e. absurd (contains_nothing port c) }
+network_within (structure_type s) = record { types = λ i c. absurd (contains_nothing i c); adapters = λ port name c e. absurd (contains_nothing port c) }
 
 -- the network of a declared unit is within its mentions
 pub declared_within : (sources : Sources) (name : List ℕ) (network : PlainNetwork) → declared sources name ≡ Some network → Within (Contains (mentions_at sources name)) network
@@ -162,10 +163,11 @@ declared_within sources name network e = by_tree (tree_at sources name) refl e
         subst (λ (n : PlainNetwork). Within (Contains (mentions_at sources name)) n) same
         (subst (λ (o : Option DeclTree). Within (Contains (mentions_in o)) (network_of decl)) (sym t) (network_within decl))
 
-own_mentioned : (decl : DeclTree) (i : Instance) → Contains (own_instances decl) i → Contains (mentions_of decl) i.type_name
+own_mentioned : (decl : DeclTree) (i : Instance) → Contains (own_instances decl) i → Contains (parts_of decl) i.type_name
 own_mentioned (block_type d) i c = absurd (contains_nothing i c)
 own_mentioned (adapter_type d) i c = absurd (contains_nothing i c)
 own_mentioned (subapplication_type d) i c = listed (subapplication_type d) i.type_name (instance_mentioned d.network.instances i c)
+own_mentioned (structure_type s) i c = absurd (contains_nothing i c)
 own_mentioned (system_configuration s) i c =
     let o = origin_in_flat_map (λ (a : Application). a.network.instances) (map plain_application s.applications) i c in
     let a = origin_in_map plain_application s.applications o.origin o.among in
@@ -176,17 +178,18 @@ own_mentioned (system_configuration s) i c =
 pub own_within : (sources : Sources) (unit : List ℕ) (decl : DeclTree) → tree_at sources unit ≡ Some decl → (i : Instance) → Contains (own_instances decl) i → Contains (mentions_at sources unit) i.type_name
 own_within sources unit decl t i c = subst (λ (o : Option DeclTree). Contains (mentions_in o) i.type_name) (sym t) (own_mentioned decl i c)
 
-plain_within : (decl : DeclTree) (a : Application) → Contains (applications_of decl) a → Within (Contains (mentions_of decl)) a.network
+plain_within : (decl : DeclTree) (a : Application) → Contains (applications_of decl) a → Within (Contains (parts_of decl)) a.network
 plain_within (block_type d) a c = absurd (contains_nothing a c)
 plain_within (adapter_type d) a c = absurd (contains_nothing a c)
 plain_within (subapplication_type d) a c = absurd (contains_nothing a c)
+plain_within (structure_type s) a c = absurd (contains_nothing a c)
 plain_within (system_configuration s) a c =
     record {
       types = λ i h. own_mentioned (system_configuration s) i (contains_flat_map (λ (x : Application). x.network.instances) (applications_of (system_configuration s)) a i c h);
       adapters = adapters;
     }
   where
-    adapters : (port : Port) (name : List ℕ) → Contains a.network.ports port → port.adapter ≡ Some name → Contains (mentions_of (system_configuration s)) name
+    adapters : (port : Port) (name : List ℕ) → Contains a.network.ports port → port.adapter ≡ Some name → Contains (parts_of (system_configuration s)) name
     adapters port name h e =
         let o = origin_in_map plain_application s.applications a c in
         absurd (contains_nothing port (subst (λ (x : Application). Contains x.network.ports port) (sym o.gives) h))

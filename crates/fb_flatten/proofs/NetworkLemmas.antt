@@ -107,6 +107,7 @@ made_in_role roles.Block name type_name i e =
     block kinds.Adapter e = absurd (true≢false (sym e))
     block kinds.Subapplication e = absurd (true≢false (sym e))
     block kinds.System e = absurd (true≢false (sym e))
+    block kinds.Structure e = absurd (true≢false (sym e))
 made_in_role roles.Subapplication name type_name i e =
     let it : Instance = record { name = name; kind = instances.Subapplication; type_name = type_name } in
     let same : it ≡ i = cc in
@@ -121,6 +122,7 @@ made_in_role roles.Subapplication name type_name i e =
     part kinds.Adapter e = absurd (true≢false (sym e))
     part kinds.Subapplication e = refl
     part kinds.System e = absurd (true≢false (sym e))
+    part kinds.Structure e = absurd (true≢false (sym e))
 
 -- the type of an instance without faults
 record HasType (sources : Sources) (role : Role) (name : List ℕ) : Type 0 where

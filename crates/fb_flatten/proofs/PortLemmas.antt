@@ -3,7 +3,7 @@ use Rattle.std.proofs.Common.{◌≡◌, ℕ, Bool, true, false, cond, ◌&&◌,
 use Rattle.std.proofs.lemmas.List.Folds.{find-append}
 use Rattle.std.specs.List.{cons_option, filter, filter_map, find}
 use Rattle.std.specs.Option.{option_and_then, option_or}
-use Rattle.fb_wiring.specs.Tree.Tree.{DeclTree, block_type, adapter_type, subapplication_type, system_configuration}
+use Rattle.fb_wiring.specs.Tree.Tree.{DeclTree, block_type, adapter_type, subapplication_type, system_configuration, structure_type}
 use Rattle.fb_wiring.specs.Tree.declared.interface.Section.{Section}
 use Rattle.fb_wiring.specs.Tree.declared.interface.Section.TheVariants as sections
 use Rattle.fb_wiring.specs.Tree.declared.interface.Side.{Side}
@@ -116,6 +116,7 @@ module _ (m : Meanings) (name : List ℕ) where
       by sections.Input = refl
       by sections.Output = refl
       by sections.Internal = refl
+      by sections.Field = refl
 
   one_adapter : (o : Option DeclaredInstance) → option_or (option_or (option_or (option_or (option_or None None) None) None) (option_and_then (λ d. cond (same_role d.role roles.Plug) (Some (plain_adapter Output (name, d.type_name))) None) o)) (option_and_then (λ d. cond (same_role d.role roles.Socket) (Some (plain_adapter Input (name, d.type_name))) None) o) ≡ option_map (plain_port sorts.Adapter name) (option_and_then adapter_port o)
   one_adapter None = refl
@@ -161,3 +162,4 @@ declared_port (block_type d) sort name = port_by_name (meanings_in (block_type d
 declared_port (adapter_type d) sort name = port_by_name (meanings_in (adapter_type d)) name (first_ones-distinct (events_in d.interface)) (first_ones-distinct (variables_in d.interface)) (first_ones-distinct (instances_in d.network)) sort
 declared_port (subapplication_type d) sort name = port_by_name (meanings_in (subapplication_type d)) name (first_ones-distinct (events_in d.interface)) (first_ones-distinct (variables_in d.interface)) (first_ones-distinct (instances_in d.network)) sort
 declared_port (system_configuration s) sort name = no_port sort name
+declared_port (structure_type s) sort name = no_port sort name

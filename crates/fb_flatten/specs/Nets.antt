@@ -2,7 +2,7 @@
 use Rattle.std.specs.Prelude.{◌≡◌, ℕ, zero, suc, Bool, true, if◌then◌else◌, nat_lt, List, [], ◌∷◌, ◌++◌, length, map, filter, Option, Some, None, ◌↔◌}
 use Rattle.std.specs.List.{flat_map, list_any}
 use Rattle.fb_wiring.specs.Text.Order.{in_order}
-use Rattle.fb_wiring.specs.Tree.Tree.{DeclTree, block_type, adapter_type, subapplication_type, system_configuration}
+use Rattle.fb_wiring.specs.Tree.Tree.{DeclTree, block_type, adapter_type, subapplication_type, system_configuration, structure_type}
 use Rattle.fb_wiring.specs.Library.View.{Sources, mentions_at, tree_at}
 use Rattle.fb_wiring.specs.Library.Local.{AgreeFar}
 use Rattle.fb_wiring.specs.Library.Seen.{has_name}
@@ -65,6 +65,7 @@ flat_of_tree view nets (block_type d) = composed view nets (network_of (block_ty
 flat_of_tree view nets (adapter_type d) = composed view nets (network_of (adapter_type d))
 flat_of_tree view nets (subapplication_type d) = composed view nets (network_of (subapplication_type d))
 flat_of_tree view nets (system_configuration s) = joined (map (flat_application view nets) (applications_of (system_configuration s)))
+flat_of_tree view nets (structure_type s) = composed view nets (network_of (structure_type s))
 
 -- ---- instances
 

@@ -4,7 +4,7 @@ ghost use Rattle.fb_wiring.specs.Library.Seen.{Opens};
 ghost use Rattle.fb_flatten.specs.Hints.{AreRightHints};
 ghost use Rattle.fb_flatten.specs.Suspects.{AreSuspects, mentions_beyond};
 
-use fb_wiring::library::{View, mentions_by_name, names_of, open_new};
+use fb_wiring::library::{View, names_of, open_new, part_mentions};
 use fb_wiring::text::Name;
 use fb_wiring::{Hints, is_known_whole};
 use std::alloc::{AllocError, Global};
@@ -26,14 +26,13 @@ pub(crate) fn suspects<V: View, H: Hints>(
     let mut pending = Vec::new(alloc);
     pending.push(unit)?;
     while let Some(name) = pending.pop() {
-        open(alloc, view, hints, &name, &mut seen, &mut pending)?;
+        open(view, hints, &name, &mut seen, &mut pending)?;
     }
     names_of(alloc, &seen)
 }
 
 /// Sees what the name mentions, unless its unit is known to be whole.
 fn open<V: View, H: Hints>(
-    alloc: Global,
     view: &V,
     hints: &H,
     name: &Name,
@@ -47,6 +46,5 @@ fn open<V: View, H: Hints>(
     if is_known_whole(hints, name) {
         return Ok(());
     }
-    let names = mentions_by_name(alloc, view, name)?;
-    open_new(names.as_slice(), seen, pending)
+    open_new(part_mentions(view, name), seen, pending)
 }

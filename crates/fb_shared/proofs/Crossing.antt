@@ -19,8 +19,10 @@ use Rattle.fb_tree.specs.contracts.chart.Condition as Condition
 use Rattle.fb_tree.specs.contracts.chart.Transition as Transition
 use Rattle.fb_tree.specs.contracts.chart.Algorithm as Algorithm
 use Rattle.fb_tree.specs.contracts.chart.Chart as Chart
+use Rattle.fb_tree.specs.contracts.structure.Structure as Structure
 use Rattle.fb_tree.specs.contracts.declaration.TypeDeclaration as TypeDeclaration
 use Rattle.fb_tree.specs.contracts.declaration.Decl as Decl
+use Rattle.fb_tree.specs.contracts.mentioned.Mentions as Mentions
 use Rattle.fb_locked.specs.Parse.contracts.body.Body as Body
 use Rattle.fb_locked.specs.Parse.contracts.source.Source as Source
 use Rattle.fb_locked.specs.History.contracts.record.Wanted as Wanted
@@ -205,11 +207,17 @@ typedeclaration_field_send = search (interface_field_send, network_field_send, c
 pub typedeclaration_field_sync : IsSync (TypeDeclaration.the_field).row
 typedeclaration_field_sync = search (interface_field_sync, network_field_sync, chart_field_sync, crosses, maps.crosses, sendable) depth 60 fits 20000
 
+pub structure_field_send : IsSend (Structure.the_field).row
+structure_field_send = search (variables_send, crosses, maps.crosses, sendable) depth 60 fits 20000
+
+pub structure_field_sync : IsSync (Structure.the_field).row
+structure_field_sync = search (variables_sync, crosses, maps.crosses, sendable) depth 60 fits 20000
+
 pub decl_field_send : IsSend (Decl.the_field).row
-decl_field_send = search (typedeclaration_field_send, system_field_send, crosses, maps.crosses, sendable) depth 60 fits 20000
+decl_field_send = search (typedeclaration_field_send, system_field_send, structure_field_send, crosses, maps.crosses, sendable) depth 60 fits 20000
 
 pub decl_field_sync : IsSync (Decl.the_field).row
-decl_field_sync = search (typedeclaration_field_sync, system_field_sync, crosses, maps.crosses, sendable) depth 60 fits 20000
+decl_field_sync = search (typedeclaration_field_sync, system_field_sync, structure_field_sync, crosses, maps.crosses, sendable) depth 60 fits 20000
 
 pub body_field_send : IsSend (Body.the_field).row
 body_field_send = search (decl_field_send, crosses, maps.crosses, sendable) depth 60 fits 20000
@@ -217,11 +225,17 @@ body_field_send = search (decl_field_send, crosses, maps.crosses, sendable) dept
 pub body_field_sync : IsSync (Body.the_field).row
 body_field_sync = search (decl_field_sync, crosses, maps.crosses, sendable) depth 60 fits 20000
 
+pub mentions_field_send : IsSend (Mentions.the_field).row
+mentions_field_send = search (crosses, maps.crosses, sendable) depth 60 fits 20000
+
+pub mentions_field_sync : IsSync (Mentions.the_field).row
+mentions_field_sync = search (crosses, maps.crosses, sendable) depth 60 fits 20000
+
 pub source_field_send : IsSend (Source.the_field).row
-source_field_send = search (body_field_send, crosses, maps.crosses, sendable) depth 60 fits 20000
+source_field_send = search (body_field_send, mentions_field_send, crosses, maps.crosses, sendable) depth 60 fits 20000
 
 pub source_field_sync : IsSync (Source.the_field).row
-source_field_sync = search (body_field_sync, crosses, maps.crosses, sendable) depth 60 fits 20000
+source_field_sync = search (body_field_sync, mentions_field_sync, crosses, maps.crosses, sendable) depth 60 fits 20000
 
 pub wanted_field_send : IsSend (Wanted.the_field).row
 wanted_field_send = search (crosses, maps.crosses, sendable) depth 60 fits 20000

@@ -2,7 +2,7 @@
 use Rattle.std.proofs.Common.{ℕ, ◌≡◌, ◌<◌, ◌≤◌, ◌+◌, true, false, List, [], ◌∷◌, ◌++◌, Option, Some, None, Result, Ok, Err, refl, sym, ◌∙◌, ap, subst, arith, length, is_some, take, get_or, add-one}
 use Rattle.std.specs.Prelude.{Contains, IfOk, option_map}
 use Rattle.std.proofs.Math.Seq.{take-suc}
-use Rattle.fb_tree.specs.Tree.{DeclTree, block_type, adapter_type, subapplication_type, system_configuration}
+use Rattle.fb_tree.specs.Tree.{DeclTree, block_type, adapter_type, subapplication_type, system_configuration, structure_type}
 use Rattle.fb_iface.specs.Library.View.{Sources, tree_at}
 use Rattle.fb_network.specs.declared.count.TheConstants.{INSTANCE_LIMIT}
 use Rattle.fb_network.specs.declared.network.Instance.{Instance}
@@ -36,12 +36,14 @@ own_of_type (block_type d) e = refl
 own_of_type (adapter_type d) e = refl
 own_of_type (subapplication_type d) e = refl
 own_of_type (system_configuration s) e = absurd (let no : ⊥ = cc in no)
+own_of_type (structure_type s) e = refl
 
 pub own_of_system : (tree : DeclTree) → is_system_tree tree ≡ true → instances_in (applications_of tree) ≡ own_instances tree
 own_of_system (block_type d) e = absurd (let no : ⊥ = cc in no)
 own_of_system (adapter_type d) e = absurd (let no : ⊥ = cc in no)
 own_of_system (subapplication_type d) e = absurd (let no : ⊥ = cc in no)
 own_of_system (system_configuration s) e = refl
+own_of_system (structure_type s) e = absurd (let no : ⊥ = cc in no)
 
 -- what a map gives something of is something
 pub some_of_map : {X Y : Type 0} (f : X → Y) (o : Option X) (y : Y) → option_map f o ≡ Some y → is_some o ≡ true
@@ -71,3 +73,4 @@ own_of_application (adapter_type d) a i c h = absurd (contains_nothing a c)
 own_of_application (subapplication_type d) a i c h = absurd (contains_nothing a c)
 own_of_application (system_configuration s) a i c h =
     contains_flat_map (λ (x : Application). x.network.instances) (applications_of (system_configuration s)) a i c h
+own_of_application (structure_type s) a i c h = absurd (contains_nothing a c)

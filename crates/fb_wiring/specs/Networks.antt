@@ -2,7 +2,7 @@
 use Rattle.std.specs.Prelude.{ℕ, List, [], map, Option, Some, None}
 use Rattle.std.specs.List.{filter_map}
 use Rattle.fb_tree.specs.Text.declared.name.NameUse.{NameUse}
-use Rattle.fb_tree.specs.Tree.{DeclTree, InstanceTree, NetworkTree, TypeTree, block_type, adapter_type, subapplication_type, system_configuration}
+use Rattle.fb_tree.specs.Tree.{DeclTree, InstanceTree, NetworkTree, TypeTree, block_type, adapter_type, subapplication_type, system_configuration, structure_type}
 use Rattle.fb_tree.specs.declared.network.Connection.{Connection as ConnectionTree}
 use Rattle.fb_tree.specs.declared.network.End.{End as EndTree}
 use Rattle.fb_tree.specs.declared.network.Role.{Role}
@@ -45,9 +45,11 @@ plain_network ports n = record { ports = ports; instances = filter_map plain_ins
 abbrev pub leaf : TypeTree → PlainNetwork
 leaf d = record { ports = plain_ports (meanings_in_type d); instances = []; connections = [] }
 
--- what a unit says as a network: a composite block type has ports alone, as other block types have, and a system has no network of its own
+-- what a unit says as a network: a composite block type has ports alone, as other block types have, and a system or a structure has
+-- no network of its own
 abbrev pub network_of : DeclTree → PlainNetwork
 network_of (block_type d) = leaf d
 network_of (adapter_type d) = leaf d
 network_of (subapplication_type d) = plain_network (plain_ports (meanings_in_type d)) d.network
 network_of (system_configuration s) = record { ports = []; instances = []; connections = [] }
+network_of (structure_type s) = record { ports = []; instances = []; connections = [] }

@@ -3,7 +3,7 @@ use Rattle.std.specs.Prelude.{ℕ, ◌≡◌, ◌≢◌, ◌≤◌, ◌+◌, Boo
 use Rattle.std.specs.Option.{option_or}
 use Rattle.std.specs.BTreeMap.{is_at}
 use Rattle.fb_tree.specs.Text.Order.{name_cmp}
-use Rattle.fb_tree.specs.Tree.{DeclTree, block_type, adapter_type, subapplication_type, system_configuration}
+use Rattle.fb_tree.specs.Tree.{DeclTree, block_type, adapter_type, subapplication_type, system_configuration, structure_type}
 use Rattle.fb_tree.specs.declared.kinds.UnitKind.TheVariants as kinds
 use Rattle.fb_iface.specs.Library.View.{Sources, tree_at}
 use Rattle.fb_network.specs.declared.count.TheConstants.{INSTANCE_LIMIT}
@@ -111,6 +111,7 @@ is_subapplication_tree (block_type d) = false
 is_subapplication_tree (adapter_type d) = false
 is_subapplication_tree (subapplication_type d) = true
 is_subapplication_tree (system_configuration s) = false
+is_subapplication_tree (structure_type s) = false
 
 abbrev pub is_subapplication_in : Option DeclTree → Bool
 is_subapplication_in None = false
@@ -155,6 +156,7 @@ is_system_tree (block_type d) = false
 is_system_tree (adapter_type d) = false
 is_system_tree (subapplication_type d) = false
 is_system_tree (system_configuration s) = true
+is_system_tree (structure_type s) = false
 
 abbrev pub is_system_in : Option DeclTree → Bool
 is_system_in None = false

@@ -1,6 +1,6 @@
 -- The instances of a unit, and its flat network (IEC 61499-1, 5.4: subapplication types; 7: systems).
 use Rattle.std.specs.Prelude.{ℕ, ◌≡◌, ◌≤◌, ◌<◌, ◌⊎◌, Bool, true, false, List, [], ◌∷◌, Option, None, Some, flat_map, length}
-use Rattle.fb_tree.specs.Tree.{DeclTree, block_type, adapter_type, subapplication_type, system_configuration}
+use Rattle.fb_tree.specs.Tree.{DeclTree, block_type, adapter_type, subapplication_type, system_configuration, structure_type}
 use Rattle.fb_tree.specs.declared.kinds.UnitKind.TheVariants.{Subapplication, System}
 use Rattle.fb_iface.specs.Library.View.{Sources, tree_at}
 use Rattle.fb_network.specs.declared.count.TheConstants.{INSTANCE_LIMIT}
@@ -26,6 +26,7 @@ has_net_tree (block_type d) = false
 has_net_tree (adapter_type d) = false
 has_net_tree (subapplication_type d) = true
 has_net_tree (system_configuration s) = true
+has_net_tree (structure_type s) = false
 
 -- whether a unit with this tree, or with none, has a net
 abbrev pub has_net_in : Option DeclTree → Bool
@@ -41,6 +42,7 @@ own_instances (block_type d) = []
 own_instances (adapter_type d) = []
 own_instances (subapplication_type d) = (network_of (subapplication_type d)).instances
 own_instances (system_configuration s) = instances_in (applications_of (system_configuration s))
+own_instances (structure_type s) = []
 
 -- the instances of the unit, of all depths
 pub record Holds (sources : Sources) (unit : List ℕ) (held : List Held) : Type 0 where

@@ -84,7 +84,7 @@ pub fn count_of_unit(counts: &Counts, decl: &Decl) -> u32
     ensures { CountsAll (get name_cmp counts.now) (own_instances (decl_tree decl.now)) result }
 {
     match decl {
-        Decl::Block(_) | Decl::Adapter(_) => 0,
+        Decl::Block(_) | Decl::Adapter(_) | Decl::Structure(_) => 0,
         Decl::Subapplication(declared) => {
             count_instances(counts, 0, declared.network.instances.as_slice())
         }

@@ -6,7 +6,7 @@ ghost use Rattle.fb_iface.specs.Library.Seen.{has_name};
 ghost use Rattle.fb_wiring.specs.Graph.{IsGraph, edges_at};
 
 use crate::search::{Step, enter_all};
-use fb_iface::library::{View, mentions_by_name};
+use fb_iface::library::{View, part_mentions};
 use fb_tree::text::Name;
 use std::alloc::{AllocError, Global};
 use std::collections::{BTreeMap, BTreeSet};
@@ -45,10 +45,11 @@ pub(crate) fn explore<V: View>(alloc: Global, view: &V, begun: &[Name]) -> Resul
                     continue;
                 }
                 steps.push(Step::Leave(name))?;
-                let mentioned = mentions_by_name(alloc, view, &name)?;
-                enter_all(mentioned.as_slice(), &mut steps)?;
-                add_edges(mentioned.as_slice(), name, &mut back)?;
-                set_edges(name, mentioned, &mut forth)?;
+                let mentioned = part_mentions(view, &name);
+                enter_all(mentioned, &mut steps)?;
+                add_edges(mentioned, name, &mut back)?;
+                let edges = mentioned.to_vec(alloc)?;
+                set_edges(name, edges, &mut forth)?;
             }
         }
     }

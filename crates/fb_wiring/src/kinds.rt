@@ -13,7 +13,7 @@ fn is_of_net(decl: &Decl) -> bool
     ensures { result ≡ has_net_tree (decl_tree decl.now) }
 {
     match decl {
-        Decl::Block(_) | Decl::Adapter(_) => false,
+        Decl::Block(_) | Decl::Adapter(_) | Decl::Structure(_) => false,
         Decl::Subapplication(_) | Decl::System(_) => true,
     }
 }
@@ -34,7 +34,7 @@ pub fn is_of_system(decl: &Decl) -> bool
     ensures { result ≡ is_system_tree (decl_tree decl.now) }
 {
     match decl {
-        Decl::Block(_) | Decl::Adapter(_) | Decl::Subapplication(_) => false,
+        Decl::Block(_) | Decl::Adapter(_) | Decl::Subapplication(_) | Decl::Structure(_) => false,
         Decl::System(_) => true,
     }
 }
@@ -43,7 +43,7 @@ pub(crate) fn is_of_subapplication(decl: &Decl) -> bool
     ensures { result ≡ is_subapplication_tree (decl_tree decl.now) }
 {
     match decl {
-        Decl::Block(_) | Decl::Adapter(_) | Decl::System(_) => false,
+        Decl::Block(_) | Decl::Adapter(_) | Decl::System(_) | Decl::Structure(_) => false,
         Decl::Subapplication(_) => true,
     }
 }

@@ -10,7 +10,7 @@ use fb_network::{InstanceKind, Port};
 use fb_tree::{Connection, Decl, End, Instance, Network, Role};
 use std::alloc::{AllocError, Global};
 
-/// The network of a unit. A block type or an adapter type has ports alone; a system has no network of its own.
+/// The network of a unit. A block type or an adapter type has ports alone; a system or a structure has no network of its own.
 pub fn network(alloc: Global, decl: &Decl) -> Result<plain::Network, AllocError>
     ensures { IfOk result (λ network. network ≡ network_of (decl_tree decl.now)) }
 {
@@ -23,7 +23,7 @@ pub fn network(alloc: Global, decl: &Decl) -> Result<plain::Network, AllocError>
             let ports = ports_of_type(alloc, declared)?;
             network_with(alloc, ports, &declared.network)
         }
-        Decl::System(_) => {
+        Decl::System(_) | Decl::Structure(_) => {
             let ports = Vec::new(alloc);
             Ok(plain::Network::new(ports, Vec::new(alloc), Vec::new(alloc)))
         }

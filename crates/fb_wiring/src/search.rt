@@ -5,7 +5,7 @@ ghost use Rattle.fb_wiring.specs.Order.{IsOrdered};
 ghost use Rattle.fb_wiring.specs.Reaches.{RestsOnRecursive, SomeRests, SomeRestsOnRecursive};
 ghost use Rattle.fb_wiring.specs.Steps.{enters};
 
-use fb_iface::library::{View, mentions_by_name};
+use fb_iface::library::{View, part_mentions};
 use fb_tree::text::Name;
 use std::alloc::{AllocError, Global};
 use std::collections::BTreeSet;
@@ -66,8 +66,7 @@ pub(crate) fn search<V: View>(
                     return Ok(None);
                 }
                 steps.push(Step::Leave(name))?;
-                let mentioned = mentions_by_name(alloc, view, &name)?;
-                enter_all(mentioned.as_slice(), &mut steps)?;
+                enter_all(part_mentions(view, &name), &mut steps)?;
             }
         }
     }

@@ -17,13 +17,15 @@ pub struct Application {
     pub network: Network,
 }
 
-/// The applications of a system, in the order of the text. A type has none.
+/// The applications of a system, in the order of the text. A type or a structure has none.
 pub fn applications(alloc: Global, decl: &Decl) -> Result<Vec<Application>, AllocError>
     ensures { IfOk result
         (λ applications. applications.items ≡ applications_of (decl_tree decl.now)) }
 {
     match decl {
-        Decl::Block(_) | Decl::Adapter(_) | Decl::Subapplication(_) => Ok(Vec::new(alloc)),
+        Decl::Block(_) | Decl::Adapter(_) | Decl::Subapplication(_) | Decl::Structure(_) => {
+            Ok(Vec::new(alloc))
+        }
         Decl::System(system) => applications_in(alloc, system.applications.as_slice()),
     }
 }

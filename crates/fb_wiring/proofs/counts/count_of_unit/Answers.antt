@@ -4,9 +4,10 @@ use Rattle.std.specs.BTreeMap.{get}
 use Rattle.fb_tree.specs.Text.Order.{name_cmp}
 use Rattle.fb_tree.specs.Tree.{application_tree, decl_tree, instance_tree}
 use Rattle.fb_tree.specs.declared.declaration.Decl.{Decl}
-use Rattle.fb_tree.specs.declared.declaration.Decl.TheVariants.{Adapter, Block}
+use Rattle.fb_tree.specs.declared.declaration.Decl.TheVariants.{Adapter, Block, Structure}
 use Rattle.fb_tree.specs.declared.declaration.TypeDeclaration.{TypeDeclaration}
 use Rattle.fb_tree.specs.declared.network.Instance.{Instance}
+use Rattle.fb_tree.specs.declared.structure.Structure as structures
 use Rattle.fb_tree.specs.declared.system.Application.{Application}
 use Rattle.fb_wiring.specs.Applications.{plain_application}
 use Rattle.fb_wiring.specs.Counts.{CountsAll, CountsOn, plain_instances}
@@ -33,13 +34,17 @@ returns-in-System c =
     (subst (λ (l : List plain.Application). CountsAll counts (instances_in l) count) (sym (mapped_twice plain_application application_tree items))
     (subst (λ (l : List Application). CountsAll counts (instances_in (map (λ a. plain_application (application_tree a)) l)) count) c.as_slice-in-System.ensures.value c.count_applications.ensures))
 
--- types without instances
-none : (counts : List ℕ → Option ℕ) (d : Decl) → ((x : TypeDeclaration) × (d ≡ Block x)) ⊎ ((x : TypeDeclaration) × (d ≡ Adapter x)) → CountsAll counts (own_instances (decl_tree d)) 0
+-- types without instances, and structures
+none : (counts : List ℕ → Option ℕ) (d : Decl) → ((x : TypeDeclaration) × (d ≡ Block x)) ⊎ ((x : TypeDeclaration) × (d ≡ Adapter x)) ⊎ ((x : structures.Structure) × (d ≡ Structure x)) → CountsAll counts (own_instances (decl_tree d)) 0
 none counts d (inl p) = subst (λ (e : Decl). CountsAll counts (own_instances (decl_tree e)) 0) (sym p.1) (λ view all. count_nothing)
-none counts d (inr p) = subst (λ (e : Decl). CountsAll counts (own_instances (decl_tree e)) 0) (sym p.1) (λ view all. count_nothing)
+none counts d (inr (inl p)) = subst (λ (e : Decl). CountsAll counts (own_instances (decl_tree e)) 0) (sym p.1) (λ view all. count_nothing)
+none counts d (inr (inr p)) = subst (λ (e : Decl). CountsAll counts (own_instances (decl_tree e)) 0) (sym p.1) (λ view all. count_nothing)
 
 pub returns-in-Block : goal.returns-in-Block
 returns-in-Block c = none (get name_cmp c.args.counts.now) c.args.decl.now c.in-Block.is
 
 pub returns-in-Block-2 : goal.returns-in-Block-2
 returns-in-Block-2 c = none (get name_cmp c.args.counts.now) c.args.decl.now c.in-Block.is
+
+pub returns-in-Block-3 : goal.returns-in-Block-3
+returns-in-Block-3 c = none (get name_cmp c.args.counts.now) c.args.decl.now c.in-Block.is

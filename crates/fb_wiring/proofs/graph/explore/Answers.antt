@@ -1,9 +1,7 @@
-use Rattle.std.proofs.Common.{◌≡◌, List, ℕ, ◌<◌, ◌||◌, ◌&&◌, ◌++◌, sym, ap, subst, ◌∙◌}
+use Rattle.std.proofs.Common.{◌≡◌, List, ℕ, ◌<◌, cond, sym, ap, subst, ◌∙◌}
 use Rattle.fb_iface.proofs.Library.SeenLemmas.{same}
 use Rattle.fb_iface.proofs.Library.WalkLemmas.{has-updates, not_true, not_false}
-use Rattle.fb_iface.specs.Library.Seen.{has_name}
 use Rattle.fb_wiring.specs.Graph.{edges_at}
-use Rattle.fb_wiring.specs.Steps.{enters}
 use Rattle.fb_wiring.proofs.NameLemmas.{on_false}
 use Rattle.fb_wiring.proofs.ExploreLemmas.{IsExplored, IsExplored-begin, IsExplored-leave, IsExplored-skip, IsExplored-enter, explored_falls}
 use Rattle.fb_wiring.proofs.SearchLemmas.{fuel, fuel_pop}
@@ -39,19 +37,19 @@ pub loop-step-smaller : goal.loop-step-smaller
 loop-step-smaller g c =
     explored_falls (g.V.View.sources c.args.view.now) c.args.begun.now c.loop-step.names.keys c.loop-step.forth c.loop-step.back c.loop-step.steps.items c.pop.new.self.items c.in-Some.step c.in-Enter.name c.in-Some.ensures.items c.loop-step.invariant c.in-Enter.is
     (not_true _ _ c.in_ok-insert-in-Enter.ensures.added c.if-not-branch.false)
-    c.insert.new.self.keys c.as_slice.result.now c.set_edges.new.edges c.add_edges.new.edges c.push-in-Enter.new.self.items c.enter_all-in-Enter.new.steps.items
+    c.insert.new.self.keys c.part_mentions-mentioned.result.now c.set_edges.new.edges c.add_edges.new.edges c.push-in-Enter.new.self.items c.enter_all-in-Enter.new.steps.items
     (has-updates c.loop-step.names c.insert.new.self c.in-Enter.name c.in_ok-insert-in-Enter.ensures.updates)
-    (c.as_slice.ensures.value ∙ c.in_ok-mentioned-in-Enter.ensures)
+    c.part_mentions-mentioned.ensures
     c.in_ok-push-in-Enter.ensures.items c.in_ok-enter_all-in-Enter.ensures
 
 pub loop-step-preserved : goal.loop-step-preserved
 loop-step-preserved g c =
     IsExplored-enter (g.V.View.sources c.args.view.now) c.args.begun.now c.loop-step.names.keys c.loop-step.forth c.loop-step.back c.loop-step.steps.items c.pop.new.self.items c.in-Some.step c.in-Enter.name c.in-Some.ensures.items c.loop-step.invariant c.in-Enter.is
     (not_true _ _ c.in_ok-insert-in-Enter.ensures.added c.if-not-branch.false)
-    c.insert.new.self.keys c.in_ok-mentioned-in-Enter.mentioned.items c.set_edges.new.edges c.add_edges.new.edges c.push-in-Enter.new.self.items c.enter_all-in-Enter.new.steps.items
+    c.insert.new.self.keys c.part_mentions-mentioned.result.now c.set_edges.new.edges c.add_edges.new.edges c.push-in-Enter.new.self.items c.enter_all-in-Enter.new.steps.items
     (has-updates c.loop-step.names c.insert.new.self c.in-Enter.name c.in_ok-insert-in-Enter.ensures.updates)
-    c.in_ok-mentioned-in-Enter.ensures
+    c.part_mentions-mentioned.ensures
     c.in_ok-push-in-Enter.ensures.items
-    (c.in_ok-enter_all-in-Enter.ensures ∙ ap (λ (l : List (List ℕ)). c.push-in-Enter.new.self.items ++ enters l) c.as_slice.ensures.value)
-    c.in_ok-set_edges-in-Enter.ensures
-    (λ u v. c.in_ok-add_edges-in-Enter.ensures u v ∙ ap (λ (l : List (List ℕ)). has_name (edges_at c.loop-step.back u) v || (has_name l u && same v c.in-Enter.name)) c.as_slice-in-Enter.ensures.value)
+    c.in_ok-enter_all-in-Enter.ensures
+    (λ u. c.in_ok-set_edges-in-Enter.ensures u ∙ ap (λ (l : List (List ℕ)). cond (same c.in-Enter.name u) l (edges_at c.loop-step.forth u)) (c.in_ok-edges-in-Enter.ensures.items_if_clones_equal (λ x y e. e)))
+    c.in_ok-add_edges-in-Enter.ensures

@@ -33,9 +33,9 @@ loop-step-preserved g c =
     entered_next (g.V.View.sources c.args.view.now) c.args.names.now c.loop-step.entered.keys c.loop-step.left.keys c.loop-step.order.items c.loop-step.steps.items c.pop.new.self.items c.in-Some.step c.in-Enter.name c.in-Some.ensures.items c.loop-step.invariant c.in-Enter.is
     (sym c.contains.ensures ∙ c.if-contains.false)
     (not_true _ _ c.in_ok-insert-in-Enter.ensures.added c.if-not-branch.false)
-    c.insert-in-Enter.new.self.keys c.as_slice.result.now
+    c.insert-in-Enter.new.self.keys c.part_mentions.result.now
     (has-updates c.loop-step.entered c.insert-in-Enter.new.self c.in-Enter.name c.in_ok-insert-in-Enter.ensures.updates)
-    (c.as_slice.ensures.value ∙ c.in_ok-mentioned-in-Enter.ensures)
+    c.part_mentions.ensures
     c.push-in-Enter.new.self.items c.enter_all-in-Enter.new.steps.items c.in_ok-push-in-Enter.ensures.items c.in_ok-enter_all-in-Enter.ensures
 
 pub loop-step-smaller : goal.loop-step-smaller
@@ -43,9 +43,9 @@ loop-step-smaller g c =
     entered_falls (g.V.View.sources c.args.view.now) c.args.names.now c.loop-step.entered.keys c.loop-step.left.keys c.loop-step.order.items c.loop-step.steps.items c.pop.new.self.items c.in-Some.step c.in-Enter.name c.in-Some.ensures.items c.loop-step.invariant c.in-Enter.is
     (sym c.contains.ensures ∙ c.if-contains.false)
     (not_true _ _ c.in_ok-insert-in-Enter.ensures.added c.if-not-branch.false)
-    c.insert-in-Enter.new.self.keys c.as_slice.result.now
+    c.insert-in-Enter.new.self.keys c.part_mentions.result.now
     (has-updates c.loop-step.entered c.insert-in-Enter.new.self c.in-Enter.name c.in_ok-insert-in-Enter.ensures.updates)
-    (c.as_slice.ensures.value ∙ c.in_ok-mentioned-in-Enter.ensures)
+    c.part_mentions.ensures
     c.push-in-Enter.new.self.items c.enter_all-in-Enter.new.steps.items c.in_ok-push-in-Enter.ensures.items c.in_ok-enter_all-in-Enter.ensures
 
 pub returns-then-not-branch-clause-recursive : goal.returns-then-not-branch-clause-recursive
