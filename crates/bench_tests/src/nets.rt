@@ -128,6 +128,32 @@ const LATE: &str = r#"
 < {"net":{"blocks":[["Y.X","T"]],"borders":[],"links":[]}}
 "#;
 
+// The type of a value may be absent. A structure is no type of instances; then there is a block of its name.
+const STRUCTURES: &str = r#"
+> {"op":"commit","changes":[{"put":"W","base":0,"text":"FUNCTION_BLOCK W VAR_INPUT X:LEVEL; END_VAR END_FUNCTION_BLOCK"},{"put":"SW","base":0,"text":"SUBAPPLICATION SW FBS F:W; END_FBS END_SUBAPPLICATION"},{"put":"S","base":0,"text":"TYPE S : STRUCT F:INT; END_STRUCT END_TYPE"},{"put":"SX","base":0,"text":"SUBAPPLICATION SX FBS F:S; END_FBS END_SUBAPPLICATION"}]}
+< {"commit":1}
+> {"op":"work","turns":9}
+< {"accepted":6}
+> {"op":"ask","kind":"net","unit":"SW"}
+< {"net":{"blocks":[["F","W"]],"borders":[],"links":[]}}
+> {"op":"ask","kind":"faults","unit":"SX"}
+< {"faults":[["WRONG_KIND",24,25]]}
+> {"op":"ask","kind":"net","unit":"SX"}
+< {"net":{"blocked":["SX"]}}
+> {"op":"ask","kind":"net","unit":"S"}
+< {"refused":"NoSuchKey"}
+> {"op":"commit","changes":[{"put":"S","base":1,"text":"FUNCTION_BLOCK S END_FUNCTION_BLOCK"}]}
+< {"commit":2}
+> {"op":"ask","kind":"net","unit":"SX"}
+< {"answer":"pending"}
+> {"op":"work","turns":9}
+< {"accepted":3}
+> {"op":"ask","kind":"net","unit":"SX"}
+< {"net":{"blocks":[["F","S"]],"borders":[],"links":[]}}
+> {"op":"ask","kind":"net","unit":"SW"}
+< {"net":{"blocks":[["F","W"]],"borders":[],"links":[]}}
+"#;
+
 const TALKS: &[(&str, &str)] = &[
     ("recursive types", RECURSIVE),
     ("recursive types below", RECURSIVE_BELOW),
@@ -135,6 +161,7 @@ const TALKS: &[(&str, &str)] = &[
     ("adapters through a subapplication", ADAPTERS),
     ("a system", SYSTEM),
     ("a late net", LATE),
+    ("structures", STRUCTURES),
 ];
 
 #[test]

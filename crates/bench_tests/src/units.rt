@@ -278,6 +278,34 @@ const DATA_CONNECTIONS: &str = r#"
 < {"faults":[["DATA_TYPE",81,84],["DATA_TYPE",91,94],["SECOND_SOURCE",91,94],["PORT_SIDE",96,99],["PORT_UNKNOWN",103,106]]}
 "#;
 
+// A structure has its own faults and nothing else.
+const STRUCTURE: &str = r#"
+> {"op":"commit","changes":[{"put":"S","base":0,"text":"TYPE S : STRUCT F:INT; G:U; END_STRUCT; END_TYPE"}]}
+< {"commit":1}
+> {"op":"ask","kind":"faults","unit":"S"}
+< {"answer":"pending"}
+> {"op":"ask","kind":"net","unit":"S"}
+< {"refused":"NoSuchKey"}
+> {"op":"ask","kind":"deploy","unit":"S"}
+< {"refused":"NoSuchKey"}
+> {"op":"work","turns":9}
+< {"accepted":1}
+> {"op":"ask","kind":"faults","unit":"S"}
+< {"faults":[]}
+> {"op":"commit","changes":[{"put":"S","base":1,"text":"TYPE T : STRUCT F:INT:=TRUE; F:BOOL; END_STRUCT END_TYPE"}]}
+< {"commit":2}
+> {"op":"work","turns":9}
+< {"accepted":1}
+> {"op":"ask","kind":"faults","unit":"S"}
+< {"faults":[["NAME_DIFFERS",5,6],["LITERAL",23,27],["DUPLICATE",29,30]]}
+> {"op":"commit","changes":[{"put":"S","base":2,"text":"TYPE S : STRUCT F:INT; END_TYPE"}]}
+< {"commit":3}
+> {"op":"work","turns":9}
+< {"accepted":1}
+> {"op":"ask","kind":"faults","unit":"S"}
+< {"faults":[["SYNTAX",23,31]]}
+"#;
+
 // A chart and its algorithm.
 const CHART: &str = r#"
 > {"op":"commit","changes":[{"put":"K","base":0,"text":"FUNCTION_BLOCK K EVENT_INPUT E; END_EVENT VAR X:INT; B:BOOL; END_VAR EC_STATES S0; S1: G; END_STATES EC_TRANSITIONS S0 TO S1 := E[X]; S1 TO S2 := 1; END_TRANSITIONS ALGORITHM G IN ST: B := X + TRUE; END_ALGORITHM END_FUNCTION_BLOCK"}]}
@@ -303,6 +331,7 @@ const TALKS: &[(&str, &str)] = &[
     ("back again", BACK_AGAIN),
     ("two engineers", TWO_ENGINEERS),
     ("data connections", DATA_CONNECTIONS),
+    ("structure", STRUCTURE),
     ("chart", CHART),
 ];
 

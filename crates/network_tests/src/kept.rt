@@ -6,7 +6,7 @@ ghost use Rattle.fb_flatten.specs.Net.{plain_net};
 ghost use Rattle.fb_flatten.specs.Nets.{has_net_in, net_at};
 ghost use Rattle.network_tests.specs.Kept.{hint_of};
 
-use crate::nets::{ADAPTERS, B, CYCLE, FAULTY, TWO_APPLICATIONS, TWO_TARGETS, chain};
+use crate::nets::{ADAPTERS, B, CYCLE, FAULTY, TWO_APPLICATIONS, TWO_TARGETS, VALUES, chain};
 use crate::told::{library_of, net_told, unit_net_told};
 use fb_flatten::{Hints, Known, Net, compute, has_net, net};
 use fb_library::Library;
@@ -254,6 +254,14 @@ const KEPT: &[(&[&str], &[Row])] = &[
         &[
             ("BAD", "blocked", "S", "blocked BAD NO S"),
             ("S", "blocked", "S", "blocked BAD NO S"),
+        ],
+    ),
+    (
+        VALUES,
+        &[
+            ("SW", "flat", "OUTER", "blocked OF_S"),
+            ("OF_S", "blocked", "OUTER", "blocked OF_S"),
+            ("SW", "flat", "SW", "F:W"),
         ],
     ),
     (CYCLE, &[("S", "recursive", "S", "recursive M N")]),

@@ -202,9 +202,14 @@ pub fn chain(alloc: Global) -> Result<Library, Fail> {
 // S13 holds 2 + 4 + .. + 8192 instances
 const CHAINED: &[(&str, &str)] = &[("S2", "X.X:B; X.Y:B; Y.X:B; Y.Y:B"), ("S13", "too large")];
 
-/// Compares the nets of the chain.
-fn compare_chain(rt: &impl Abort, alloc: Global, library: &Library) -> Result<(), Fail> {
-    for (unit, net) in CHAINED {
+/// Compares the nets of these units.
+fn compare_nets(
+    rt: &impl Abort,
+    alloc: Global,
+    library: &Library,
+    rows: &[(&str, &str)],
+) -> Result<(), Fail> {
+    for (unit, net) in rows {
         assert_eq!(rt;
             unit_net_told(alloc, library, unit)?.as_str(),
             *net,
@@ -217,5 +222,32 @@ fn compare_chain(rt: &impl Abort, alloc: Global, library: &Library) -> Result<()
 #[test]
 fn a_chain_that_doubles(rt: HostRuntime) -> Result<(), Fail> {
     let library = chain(rt.alloc())?;
-    compare_chain(&rt, rt.alloc(), &library)
+    compare_nets(&rt, rt.alloc(), &library, CHAINED)
+}
+
+// W has an input of an absent type and one of a structure, which has a field of an absent type. A structure is no type of instances.
+pub const VALUES: &[&str] = &[
+    "TYPE S : STRUCT F:INT; G:U; END_STRUCT; END_TYPE",
+    "FUNCTION_BLOCK W VAR_INPUT X:LEVEL; Y:S; END_VAR END_FUNCTION_BLOCK",
+    "SUBAPPLICATION SW FBS F:W; END_FBS END_SUBAPPLICATION",
+    "SUBAPPLICATION OF_S FBS F:S; END_FBS END_SUBAPPLICATION",
+    "SUBAPPLICATION IN_S SUBAPPS F:S; END_SUBAPPS END_SUBAPPLICATION",
+    "SUBAPPLICATION OUTER SUBAPPS X:SW; Y:OF_S; END_SUBAPPS END_SUBAPPLICATION",
+    "SYSTEM Z APPLICATION A FBS F:W; END_FBS END_APPLICATION END_SYSTEM",
+];
+
+const VALUED: &[(&str, &str)] = &[
+    ("S", "no net"),
+    ("W", "no net"),
+    ("SW", "F:W"),
+    ("OF_S", "blocked OF_S"),
+    ("IN_S", "blocked IN_S"),
+    ("OUTER", "blocked OF_S"),
+    ("Z", "A.F:W"),
+];
+
+#[test]
+fn structures_have_no_nets(rt: HostRuntime) -> Result<(), Fail> {
+    let library = library_of(rt.alloc(), VALUES)?;
+    compare_nets(&rt, rt.alloc(), &library, VALUED)
 }

@@ -17,6 +17,8 @@ const NETWORKS: &[(&str, &str, &str)] = &[
         "B",
         "Event Input I; Data Input Z; Adapter Input Q:AD",
     ),
+    // a structure says nothing as a network
+    ("TYPE S : STRUCT F:INT; G:U; END_STRUCT END_TYPE", "S", ""),
     // a system has no network of its own
     (
         "SYSTEM Z APPLICATION A1 FBS F:B; END_FBS END_APPLICATION APPLICATION A2 SUBAPPS G:C; H:C; END_SUBAPPS EVENT_CONNECTIONS G.O TO H.I; END_CONNECTIONS END_APPLICATION END_SYSTEM",
