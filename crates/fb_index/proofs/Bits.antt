@@ -1,6 +1,6 @@
 -- What is known of truth values.
 use Rattle.fb_text.proofs.Tests.{no_both}
-use Rattle.std.proofs.Common.{◌≡◌, Bool, true, false, ◌||◌, ◌&&◌, not, refl, sym, ap, ◌∙◌}
+use Rattle.std.proofs.Common.{◌≡◌, Bool, true, false, ◌||◌, ◌&&◌, not, refl, sym, ap}
 
 -- one more name: `s` is whether it is this one, and `f` whether it is one before it
 pub one_less : (o u f s k : Bool) → (s ≡ true → k ≡ false) → ((o && not (u && (f && not k))) && not (u && s)) ≡ (o && not (u && ((f || s) && not k)))
@@ -33,23 +33,15 @@ one_known o u true s k is = refl
 one_known o u false false k is = refl
 one_known o u false true k is = ap (λ b. o || (u && not b)) (sym (is refl))
 
--- the mentions of the unit itself: those before in `o`, those after in `n`
-pub own_bits : (near here o n : Bool) → (here ≡ false → near ≡ o) → (((near && not (o && not n)) || here) || (n && not o)) ≡ (here || n)
-own_bits near true o n is = true_right (near && not (o && not n)) (n && not o)
-  where
-    true_right : (a b : Bool) → ((a || true) || b) ≡ true
-    true_right true b = refl
-    true_right false b = refl
-own_bits near false o n is = ap (λ b. ((b && not (o && not n)) || false) || (n && not o)) (is refl) ∙ by o n
-  where
-    by : (o n : Bool) → (((o && not (o && not n)) || false) || (n && not o)) ≡ n
-    by true true = refl
-    by true false = refl
-    by false true = refl
-    by false false = refl
+-- what the unit itself uses: what it used before in `o`, what it uses after in `n`
+pub own_bits : (o n : Bool) → ((o && not (o && not n)) || (n && not o)) ≡ n
+own_bits true true = refl
+own_bits true false = refl
+own_bits false true = refl
+own_bits false false = refl
 
--- those of another unit
-pub other_bits : (near : Bool) → (((near && true) || false) || false) ≡ near
+-- what another unit uses
+pub other_bits : (uses : Bool) → ((uses && true) || false) ≡ uses
 other_bits true = refl
 other_bits false = refl
 

@@ -1,5 +1,5 @@
 -- What is found under a name, after some units were put there.
-use Rattle.std.proofs.Common.{◌≡◌, ℕ, Bool, true, false, ◌||◌, ◌&&◌, not, if◌then◌else◌, List, [], ◌∷◌, ◌++◌, map, refl, sym, ap, ◌∙◌, subst, Option, Some, None, Result, Ok, Err, OnOk, OnErr, cond, unwrap_or}
+use Rattle.std.proofs.Common.{◌≡◌, ℕ, Bool, true, false, ◌||◌, ◌&&◌, not, if◌then◌else◌, List, [], ◌∷◌, ◌++◌, map, refl, sym, ap, ◌∙◌, subst, Option, Some, None, Result, Ok, Err, OnOk, OnErr, cond, unwrap_or, is_some}
 use Rattle.std.proofs.lemmas.Map.{lookup-remove_entry}
 use Rattle.std.proofs.lemmas.Map.Keys.{IsDistinct-from_sorted}
 use Rattle.std.specs.List.Sorted.{IsStrictlySortedBy}
@@ -19,7 +19,10 @@ use Rattle.fb_library.specs.Seen.{has_name}
 use Rattle.fb_library.proofs.Names.{name_total, exact_name}
 use Rattle.fb_library.proofs.Places.{sorted_put, sorted_removed}
 use Rattle.fb_library.proofs.SeenLemmas.{same_is, same_self, has-push}
-use Rattle.fb_index.specs.Near.{Users, users_of, is_near, IsIndexedAs, IsReplaced}
+use Rattle.fb_tree.specs.Mentions.{Mentioned}
+use Rattle.fb_index.specs.Users.{UsersByName, users_of, uses, UsesThese, NowUses}
+use Rattle.fb_index.specs.Indexed.{Indexed, mark_of, is_indexed, IsIndexedAs, IsReplaced}
+use Rattle.fb_index.specs.Steps.{is_only_in, HasJoined, HasLeft}
 use Rattle.fb_index.proofs.Bits.{own_bits, other_bits}
 
 pub flips : (a b : List ℕ) → is_at (name_cmp a) b ≡ is_at (name_cmp b) a
@@ -60,7 +63,7 @@ module _ {V : Type 0} where
 abbrev pub Rows : Type 0
 Rows = List (List ℕ × Vec (List ℕ) Global)
 
-abbrev pub read : Rows → Users
+abbrev pub read : Rows → UsersByName
 read rows = map (λ e. (e.0, e.1.items)) rows
 
 abbrev pub units_in : Vec (List ℕ) Global → List (List ℕ)
@@ -82,7 +85,7 @@ found_none : (b : Bool) (rows : Option (Vec (List ℕ) Global)) → option_map_o
 found_none true rows = refl
 found_none false rows = refl
 
-pub users_put : (old : Users) (rows new : Rows) (k : List ℕ) (units : Vec (List ℕ) Global) → read rows ≡ old → new ≡ insert_entry name_cmp rows k units → (n : List ℕ) → users_of (read new) n ≡ (if is_at (name_cmp k) n then units.items else users_of old n)
+pub users_put : (old : UsersByName) (rows new : Rows) (k : List ℕ) (units : Vec (List ℕ) Global) → read rows ≡ old → new ≡ insert_entry name_cmp rows k units → (n : List ℕ) → users_of (read new) n ≡ (if is_at (name_cmp k) n then units.items else users_of old n)
 users_put old rows new k units was is n =
     ap (λ (t : Rows). users_of (read t) n) is
     ∙ users_in (insert_entry name_cmp rows k units) n
@@ -90,7 +93,7 @@ users_put old rows new k units was is n =
     ∙ found_units (is_at (name_cmp k) n) units (lookup (is_at (name_cmp n)) rows)
     ∙ ap (λ us. if is_at (name_cmp k) n then units.items else us) (sym (users_in rows n) ∙ ap (λ us. users_of us n) was)
 
-pub users_removed : (old : Users) (rows new : Rows) (k : List ℕ) (units : List (List ℕ)) → read rows ≡ old → IsStrictlySortedBy name_cmp (map (λ e. e.0) rows) → new ≡ remove_entry (is_at (name_cmp k)) rows → units ≡ [] → (n : List ℕ) → users_of (read new) n ≡ (if is_at (name_cmp k) n then units else users_of old n)
+pub users_removed : (old : UsersByName) (rows new : Rows) (k : List ℕ) (units : List (List ℕ)) → read rows ≡ old → IsStrictlySortedBy name_cmp (map (λ e. e.0) rows) → new ≡ remove_entry (is_at (name_cmp k)) rows → units ≡ [] → (n : List ℕ) → users_of (read new) n ≡ (if is_at (name_cmp k) n then units else users_of old n)
 users_removed old rows new k units was sorted is none n =
     ap (λ (t : Rows). users_of (read t) n) is
     ∙ users_in (remove_entry (is_at (name_cmp k)) rows) n
@@ -106,7 +109,7 @@ left_bits true u mine units other less = less refl ∙ ap (λ c. has_name units 
 left_bits false u mine units other less = sym (ap (λ c. has_name units other && not c) (and_false u) ∙ and_true (has_name units other))
 
 -- the unit is taken out under the name `k`
-pub unit_left : (old new : Users) (k unit : List ℕ) (others : List (List ℕ)) → ((other : List ℕ) → has_name others other ≡ (has_name (users_of old k) other && not (is_at (name_cmp unit) other))) → ((n : List ℕ) → users_of new n ≡ (if is_at (name_cmp k) n then others else users_of old n)) → (other n : List ℕ) → is_near new other n ≡ (is_near old other n && not (is_at (name_cmp unit) other && is_at (name_cmp k) n))
+pub unit_left : (old new : UsersByName) (k unit : List ℕ) (others : List (List ℕ)) → ((other : List ℕ) → has_name others other ≡ (has_name (users_of old k) other && not (is_at (name_cmp unit) other))) → ((n : List ℕ) → users_of new n ≡ (if is_at (name_cmp k) n then others else users_of old n)) → (other n : List ℕ) → uses new other n ≡ (uses old other n && not (is_at (name_cmp unit) other && is_at (name_cmp k) n))
 unit_left old new k unit others less are other n =
     ap (λ us. has_name us other) (are n)
     ∙ left_bits (is_at (name_cmp k) n) (is_at (name_cmp unit) other) others (users_of old n) other
@@ -117,7 +120,7 @@ joined_bits true u mine units other more = more refl ∙ ap (λ c. has_name unit
 joined_bits false u mine units other more = sym (ap (λ c. has_name units other || c) (and_false u) ∙ or_false (has_name units other))
 
 -- the unit is put under the name `k`
-pub unit_joined : (old new : Users) (k unit : List ℕ) (units : List (List ℕ)) → units ≡ users_of old k ++ unit ∷ [] → ((n : List ℕ) → users_of new n ≡ (if is_at (name_cmp k) n then units else users_of old n)) → (other n : List ℕ) → is_near new other n ≡ (is_near old other n || (is_at (name_cmp unit) other && is_at (name_cmp k) n))
+pub unit_joined : (old new : UsersByName) (k unit : List ℕ) (units : List (List ℕ)) → units ≡ users_of old k ++ unit ∷ [] → ((n : List ℕ) → users_of new n ≡ (if is_at (name_cmp k) n then units else users_of old n)) → (other n : List ℕ) → uses new other n ≡ (uses old other n || (is_at (name_cmp unit) other && is_at (name_cmp k) n))
 unit_joined old new k unit units is are other n =
     ap (λ us. has_name us other) (are n)
     ∙ joined_bits (is_at (name_cmp k) n) (is_at (name_cmp unit) other) units (users_of old n) other
@@ -130,10 +133,10 @@ there_bits false true false is = refl
 there_bits false false b is = refl
 
 -- it stands there already
-pub unit_there : (old : Users) (k unit : List ℕ) → is_near old unit k ≡ true → (other n : List ℕ) → is_near old other n ≡ (is_near old other n || (is_at (name_cmp unit) other && is_at (name_cmp k) n))
+pub unit_there : (old : UsersByName) (k unit : List ℕ) → uses old unit k ≡ true → (other n : List ℕ) → uses old other n ≡ (uses old other n || (is_at (name_cmp unit) other && is_at (name_cmp k) n))
 unit_there old k unit there other n =
-    there_bits (is_near old other n) (is_at (name_cmp unit) other) (is_at (name_cmp k) n)
-    (λ u b. sym (ap (λ m. is_near old m n) (same_is unit other u)) ∙ sym (ap (is_near old unit) (same_is k n b)) ∙ there)
+    there_bits (uses old other n) (is_at (name_cmp unit) other) (is_at (name_cmp k) n)
+    (λ u b. sym (ap (λ m. uses old m n) (same_is unit other u)) ∙ sym (ap (uses old unit) (same_is k n b)) ∙ there)
 
 -- ---- the rows stay in order
 
@@ -146,34 +149,54 @@ module _ {T E : Type 0} where
   rows_removed (Ok x) rows new k is was sorted = subst (λ (t : Rows). IsStrictlySortedBy name_cmp (map (λ e. e.0) t)) (sym is) (sorted_removed (is_at (name_cmp k)) rows sorted)
   rows_removed (Err x) rows new k is was sorted = subst (λ (t : Rows). IsStrictlySortedBy name_cmp (map (λ e. e.0) t)) (sym was) sorted
 
--- ---- one unit with its mentions
+-- ---- one unit with what it uses
 
-module _ (old a b new : Users) (unit : List ℕ) (was now : List (List ℕ)) (before after : BTreeSet (List ℕ)) where
-  -- what the three steps leave: `u` is whether it is the unit, and `ka` and `kb` whether the name is a new or an old mention
-  abbrev steps : (u ka kb near o here n : Bool) → Bool
-  steps u ka kb near o here n = ((near && not (u && (o && not ka))) || (u && here)) || (u && (n && not kb))
+module _ (old a new : UsersByName) (unit : List ℕ) (was now : List (List ℕ)) (before after : BTreeSet (List ℕ)) where
+  -- what the two steps leave: `u` is whether it is the unit, and `ka` and `kb` whether the name is a new or an old one
+  abbrev steps : (u ka kb used o n : Bool) → Bool
+  steps u ka kb used o n = (used && not (u && (o && not ka))) || (u && (n && not kb))
 
-  pub replaced : ((n : List ℕ) → set.contains name_cmp before n ≡ has_name was n) → ((n : List ℕ) → set.contains name_cmp after n ≡ has_name now n) → IsIndexedAs old unit was → ((other n : List ℕ) → is_near a other n ≡ (is_near old other n && not (is_at (name_cmp unit) other && (has_name was n && not (set.contains name_cmp after n))))) → ((other n : List ℕ) → is_near b other n ≡ (is_near a other n || (is_at (name_cmp unit) other && is_at (name_cmp unit) n))) → ((other n : List ℕ) → is_near new other n ≡ (is_near b other n || (is_at (name_cmp unit) other && (has_name now n && not (set.contains name_cmp before n))))) → IsReplaced old unit now new
-  replaced befores afters known out own put = record {
+  pub replaced : ((n : List ℕ) → set.contains name_cmp before n ≡ has_name was n) → ((n : List ℕ) → set.contains name_cmp after n ≡ has_name now n) → UsesThese old unit was → HasLeft old unit (is_only_in was after) a → HasJoined a unit (is_only_in now before) new → NowUses old unit now new
+  replaced befores afters known out put = record {
     own = λ n.
         all unit n
-        ∙ (λ i. steps (same_self unit i) (afters n i) (befores n i) (is_near old unit n) (has_name was n) (is_at (name_cmp unit) n) (has_name now n))
-        ∙ own_bits (is_near old unit n) (is_at (name_cmp unit) n) (has_name was n) (has_name now n) (known n);
+        ∙ (λ i. steps (same_self unit i) (afters n i) (befores n i) (known n i) (has_name was n) (has_name now n))
+        ∙ own_bits (has_name was n) (has_name now n);
     others = λ other n apart.
         all other n
-        ∙ ap (λ u. steps u (set.contains name_cmp after n) (set.contains name_cmp before n) (is_near old other n) (has_name was n) (is_at (name_cmp unit) n) (has_name now n)) apart
-        ∙ other_bits (is_near old other n);
+        ∙ ap (λ u. steps u (set.contains name_cmp after n) (set.contains name_cmp before n) (uses old other n) (has_name was n) (has_name now n)) apart
+        ∙ other_bits (uses old other n);
   }
     where
-      all : (other n : List ℕ) → is_near new other n ≡ steps (is_at (name_cmp unit) other) (set.contains name_cmp after n) (set.contains name_cmp before n) (is_near old other n) (has_name was n) (is_at (name_cmp unit) n) (has_name now n)
-      all other n =
-          put other n
-          ∙ ap (λ x. x || (is_at (name_cmp unit) other && (has_name now n && not (set.contains name_cmp before n)))) (own other n ∙ ap (λ x. x || (is_at (name_cmp unit) other && is_at (name_cmp unit) n)) (out other n))
+      all : (other n : List ℕ) → uses new other n ≡ steps (is_at (name_cmp unit) other) (set.contains name_cmp after n) (set.contains name_cmp before n) (uses old other n) (has_name was n) (has_name now n)
+      all other n = put other n ∙ ap (λ x. x || (is_at (name_cmp unit) other && (has_name now n && not (set.contains name_cmp before n)))) (out other n)
+
+pub same_mentioned : (a b : Mentioned) → a.parts ≡ b.parts → a.of_values ≡ b.of_values → a.is_structure ≡ b.is_structure → a ≡ b
+same_mentioned a b parts of_values is_structure = λ i. record { parts = parts i; of_values = of_values i; is_structure = is_structure i }
+
+-- ---- the marks
+
+found : (b c : Bool) (o : Option Bool) → b ≡ true → cond b (Some c) o ≡ Some c
+found b c o is = ap (λ b. cond b (Some c) o) is
+
+module _ (old new : Indexed) (unit : List ℕ) (m : Mentioned) where
+  pub unit_replaced : NowUses old.parts unit m.parts new.parts → NowUses old.of_values unit m.of_values new.of_values → new.units ≡ insert_entry name_cmp old.units unit m.is_structure → IsReplaced old unit m new
+  unit_replaced parts of_values units = record {
+    own = record { parts = parts.own; of_values = of_values.own; structure = ap (λ o. unwrap_or o false) here };
+    there = ap is_some here;
+    others = λ other apart. record { parts = λ n. parts.others other n apart; of_values = λ n. of_values.others other n apart; mark = mark other ∙ ap (λ b. cond b (Some m.is_structure) (mark_of old.units other)) apart };
+  }
+    where
+      mark : (n : List ℕ) → mark_of new.units n ≡ cond (is_at (name_cmp unit) n) (Some m.is_structure) (mark_of old.units n)
+      mark n = ap (λ us. mark_of us n) units ∙ found_put old.units unit n m.is_structure
+
+      here : mark_of new.units unit ≡ Some m.is_structure
+      here = mark unit ∙ found (is_at (name_cmp unit) unit) m.is_structure (mark_of old.units unit) (same_self unit)
 
 -- a unit that is indexed with its mentions need not be indexed anew
-pub unchanged : (users : Users) (unit : List ℕ) (was now : List (List ℕ)) → IsIndexedAs users unit was → was ≡ now → is_near users unit unit ≡ true → IsReplaced users unit now users
-unchanged users unit was now known same there = record { own = λ n. by n (is_at (name_cmp unit) n) refl; others = λ other n apart. refl }
-  where
-    by : (n : List ℕ) (here : Bool) → is_at (name_cmp unit) n ≡ here → is_near users unit n ≡ (is_at (name_cmp unit) n || has_name now n)
-    by n true e = ap (is_near users unit) (sym (same_is unit n e)) ∙ there ∙ sym (ap (λ b. b || has_name now n) e)
-    by n false e = known n e ∙ ap (λ ms. has_name ms n) same ∙ sym (ap (λ b. b || has_name now n) e)
+pub unchanged : (it : Indexed) (unit : List ℕ) (was now : Mentioned) → IsIndexedAs it unit was → was ≡ now → is_indexed it unit ≡ true → IsReplaced it unit now it
+unchanged it unit was now known same there = record {
+  own = subst (IsIndexedAs it unit) same known;
+  there = there;
+  others = λ other apart. record { parts = λ n. refl; of_values = λ n. refl; mark = refl };
+}

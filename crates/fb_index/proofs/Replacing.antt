@@ -1,15 +1,19 @@
--- What is indexed for the units after one of them was replaced.
-use Rattle.std.proofs.Common.{◌≡◌, ℕ, ◌||◌, false, List, [], refl, ap, ◌∙◌}
+-- What is indexed of the units after one of them was replaced.
+use Rattle.std.proofs.Common.{◌≡◌, ℕ, false, List, refl, ap, ◌∙◌, unwrap_or}
 use Rattle.std.specs.BTreeMap.{is_at}
 use Rattle.fb_text.specs.Order.{name_cmp}
-use Rattle.fb_library.specs.Seen.{has_name}
-use Rattle.fb_index.specs.Near.{Users, IsIndexedAs, IsReplaced}
+use Rattle.fb_tree.specs.Mentions.{Mentioned, nothing_mentioned}
+use Rattle.fb_index.specs.Indexed.{Indexed, nothing_indexed, IsIndexedAs, IsReplaced, SameUnit}
 
-pub indexed_none : (unit : List ℕ) → IsIndexedAs [] unit []
-indexed_none unit name apart = refl
+pub indexed_none : (unit : List ℕ) → IsIndexedAs nothing_indexed unit nothing_mentioned
+indexed_none unit = record { parts = λ name. refl; of_values = λ name. refl; structure = refl }
 
-pub indexed_own : (old new : Users) (unit : List ℕ) (mentions : List (List ℕ)) → IsReplaced old unit mentions new → IsIndexedAs new unit mentions
-indexed_own old new unit mentions it name apart = it.own name ∙ ap (λ b. b || has_name mentions name) apart
+pub still_indexed : {old new : Indexed} {unit : List ℕ} {m : Mentioned} → SameUnit old new unit → IsIndexedAs old unit m → IsIndexedAs new unit m
+still_indexed same was = record {
+  parts = λ name. same.parts name ∙ was.parts name;
+  of_values = λ name. same.of_values name ∙ was.of_values name;
+  structure = ap (λ o. unwrap_or o false) same.mark ∙ was.structure;
+}
 
-pub indexed_other : (old new : Users) (unit other : List ℕ) (mentions others : List (List ℕ)) → IsReplaced old unit mentions new → is_at (name_cmp unit) other ≡ false → IsIndexedAs old other others → IsIndexedAs new other others
-indexed_other old new unit other mentions others it apart was name away = it.others other name apart ∙ was name away
+pub indexed_other : (old new : Indexed) (unit other : List ℕ) (m others : Mentioned) → IsReplaced old unit m new → is_at (name_cmp unit) other ≡ false → IsIndexedAs old other others → IsIndexedAs new other others
+indexed_other old new unit other m others it apart was = still_indexed (it.others other apart) was

@@ -1,4 +1,6 @@
 -- What the contracts of this crate cite.
+pub mod Users
+pub mod Indexed
 pub mod Near
 pub mod Steps
 -- Of the crates below, for the crates above.

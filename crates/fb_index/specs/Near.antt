@@ -1,38 +1,50 @@
--- Which units mention which names. A unit's near names are itself and its mentions, and its far names are those that are
--- reached from it by mentions.
-use Rattle.std.specs.Prelude.{◌≡◌, ℕ, Bool, true, false, ◌||◌, List, [], unwrap_or}
-use Rattle.std.specs.Map.{lookup}
-use Rattle.std.specs.BTreeMap.{is_at}
-use Rattle.fb_text.specs.Order.{name_cmp}
+-- What is near a unit and what it rests on, by what is indexed.
+use Rattle.std.specs.Prelude.{◌≡◌, ℕ, Bool, true, ◌||◌, List, [], ◌++◌, if◌then◌else◌}
 use Rattle.fb_library.specs.Seen.{has_name}
+use Rattle.fb_index.specs.Users.{users_of, uses}
+use Rattle.fb_index.specs.Indexed.{Indexed, is_indexed, is_structure_in}
 
--- under each name the indexed units that it is near
-abbrev pub Users : Type 0
-Users = List (List ℕ × List (List ℕ))
+-- u carries v: v is the type of a value of u, or of a structure that u carries
+pub data Carries (it : Indexed) : List ℕ → List ℕ → Type 0 where
+  directly : {u v : List ℕ} → uses it.of_values u v ≡ true → Carries it u v
+  onward : {u w v : List ℕ} → Carries it u w → is_structure_in it w ≡ true → uses it.of_values w v ≡ true → Carries it u v
 
-abbrev pub users_of : Users → List ℕ → List (List ℕ)
-users_of users name = unwrap_or (lookup (is_at (name_cmp name)) users) []
+-- v is near u: it is u, where that is indexed, or a part of it, or one of these carries it
+pub data IsNear (it : Indexed) : List ℕ → List ℕ → Type 0 where
+  own : {u : List ℕ} → is_indexed it u ≡ true → IsNear it u u
+  part : {u p : List ℕ} → uses it.parts u p ≡ true → IsNear it u p
+  carried : {u v : List ℕ} → Carries it u v → IsNear it u v
+  carried_by_part : {u p v : List ℕ} → uses it.parts u p ≡ true → Carries it p v → IsNear it u v
 
--- whether the name is near the unit; none is near a unit that is not indexed
-abbrev pub is_near : Users → List ℕ → List ℕ → Bool
-is_near users unit name = has_name (users_of users name) unit
+-- whether u mentions v, as a part or as the type of a value
+abbrev pub mentions : Indexed → List ℕ → List ℕ → Bool
+mentions it u v = uses it.parts u v || uses it.of_values u v
 
--- these are the unit's near names beside itself, none where it is not indexed
-abbrev pub IsIndexedAs : Users → List ℕ → List (List ℕ) → Type 0
-IsIndexedAs users unit mentions = (name : List ℕ) → is_at (name_cmp unit) name ≡ false → is_near users unit name ≡ has_name mentions name
+-- u rests on v: v is u, where that is indexed, or a mention of u, or some mention of u rests on it
+pub data Reaches (it : Indexed) : List ℕ → List ℕ → Type 0 where
+  itself : {u : List ℕ} → is_indexed it u ≡ true → Reaches it u u
+  mention : {u v : List ℕ} → mentions it u v ≡ true → Reaches it u v
+  through : {u w v : List ℕ} → mentions it u w ≡ true → Reaches it w v → Reaches it u v
 
--- the unit's near names are itself and these, and those of each other unit are as before
-pub record IsReplaced (old : Users) (unit : List ℕ) (mentions : List (List ℕ)) (new : Users) : Type 0 where
-  pub own : (name : List ℕ) → is_near new unit name ≡ (is_at (name_cmp unit) name || has_name mentions name)
-  pub others : (other name : List ℕ) → is_at (name_cmp unit) other ≡ false → is_near new other name ≡ is_near old other name
-
--- a name is far of a unit where it is near the unit, or far of a name that is near the unit
-pub data Reaches (users : Users) : List ℕ → List ℕ → Type 0 where
-  near : {unit name : List ℕ} → is_near users unit name ≡ true → Reaches users unit name
-  through : {unit mid name : List ℕ} → is_near users unit mid ≡ true → Reaches users mid name → Reaches users unit name
-
--- one of these names is far of the unit
-pub record ReachesSome (users : Users) (unit : List ℕ) (names : List (List ℕ)) : Type 0 where
+-- one of these names stands so to the unit
+pub record OneOf (names : List (List ℕ)) (stands : List ℕ → Type 0) : Type 0 where
   pub name : List ℕ
   pub among : has_name names name ≡ true
-  pub reaches : Reaches users unit name
+  pub is : stands name
+
+abbrev pub NearSome : Indexed → List ℕ → List (List ℕ) → Type 0
+NearSome it unit names = OneOf names (IsNear it unit)
+
+abbrev pub ReachesSome : Indexed → List ℕ → List (List ℕ) → Type 0
+ReachesSome it unit names = OneOf names (Reaches it unit)
+
+abbrev pub CarriesSome : Indexed → List ℕ → List (List ℕ) → Type 0
+CarriesSome it unit names = OneOf names (Carries it unit)
+
+-- the units that mention the name
+abbrev pub mentioning : Indexed → List ℕ → List (List ℕ)
+mentioning it name = users_of it.parts name ++ users_of it.of_values name
+
+-- the units that carry on what the name carries: where it is a structure, its users
+abbrev pub carrying_on : Indexed → List ℕ → List (List ℕ)
+carrying_on it name = if is_structure_in it name then users_of it.of_values name else []

@@ -1,16 +1,18 @@
 //! The index of the units by what they mention.
-ghost use Rattle.std.specs.Prelude.{◌≡◌, ◌↔◌, ℕ, true, List, [], IfOk, OnOk, OnErr};
-ghost use Rattle.std.specs.List.{list_any};
+ghost use Rattle.std.specs.Prelude.{◌≡◌, ◌↔◌, ℕ, true, List, [], ◌++◌, filter, Contains, IfOk, OnOk, OnErr};
+ghost use Rattle.std.specs.List.{flat_map};
 ghost use Rattle.std.specs.List.Sorted.{IsStrictlySortedBy};
-ghost use Rattle.std.specs.BTreeMap.{is_at};
-ghost use Rattle.std.specs.BTreeSet as set;
 ghost use Rattle.fb_text.specs.Order.{name_cmp};
+ghost use Rattle.fb_tree.specs.Mentions.{mentioned};
 ghost use Rattle.fb_library.specs.Seen.{has_name, Opens};
-ghost use Rattle.fb_index.specs.Near.{users_of, is_near, IsIndexedAs, IsReplaced, ReachesSome};
-ghost use Rattle.fb_index.specs.Steps.{is_only_in, AreWithout, HasJoined, HasLeft, IsPutUnder};
+ghost use Rattle.fb_index.specs.Users.{users_of};
+ghost use Rattle.fb_index.specs.Indexed.{is_indexed, is_structure_in, nothing_indexed, IsIndexedAs, IsReplaced};
+ghost use Rattle.fb_index.specs.Near.{carrying_on, mentioning, CarriesSome, NearSome, ReachesSome};
 
+use crate::users::Users;
 use fb_library::{Table, names_of, open_new};
-use fb_text::{Name, same_name, sorted_names};
+use fb_text::{Name, sorted_names};
+use fb_tree::Mentions;
 use std::alloc::{AllocError, Global};
 use std::collections::BTreeSet;
 use std::marker::Model;
@@ -19,30 +21,31 @@ use std::sync::Arc;
 /// Which units mention a name, directly or through others. A unit stays indexed from its first `replace` on.
 #[derive(Drop)]
 pub struct Index {
-    /// Under each name the indexed units that are the name or mention it.
-    users: Table<Vec<Name>>,
+    /// Under each name the units that have it as a part.
+    parts: Users,
+    /// Under each name the units that have it as the type of a value.
+    of_values: Users,
+    /// The indexed units, and whether each is a structure.
+    units: Table<bool>,
 }
 
 impl Model for Index {
-    ghost use Rattle.std.specs.Prelude.{map};
-    ghost use Rattle.std.specs.List.Sorted.{IsStrictlySortedBy};
-    ghost use Rattle.fb_text.specs.Order.{name_cmp};
-    ghost use Rattle.fb_index.specs.Near.{Users};
+    ghost use Rattle.fb_index.specs.Indexed.{Indexed};
 
-    ghost Value = { Users };
+    ghost Value = { Indexed };
 
-    ghost view = { λ it. map (λ e. (e.0, e.1.items)) it.users };
-
-    ghost invariant = { λ it. IsStrictlySortedBy name_cmp (map (λ e. e.0) it.users) };
+    ghost view = { λ it. record { parts = it.parts; of_values = it.of_values; units = it.units } };
 }
 
 impl Index {
     /// No units.
     pub fn new(alloc: Global) -> Index
-        ensures { result ≡ [] }
+        ensures { result ≡ nothing_indexed }
     {
         Index {
-            users: Table::new(alloc),
+            parts: Users::new(alloc),
+            of_values: Users::new(alloc),
+            units: Table::new(alloc),
         }
     }
 
@@ -50,8 +53,14 @@ impl Index {
     pub fn copy(&self) -> Result<Index, AllocError>
         ensures { IfOk result (λ copy. copy ≡ self.now) }
     {
-        let users = self.users.copy()?;
-        Ok(Index { users })
+        let parts = self.parts.copy()?;
+        let of_values = self.of_values.copy()?;
+        let units = self.units.copy()?;
+        Ok(Index {
+            parts,
+            of_values,
+            units,
+        })
     }
 
     /// Indexes the unit with its new mentions in the place of the old ones. Where there was no memory the index stays as it was.
@@ -59,160 +68,179 @@ impl Index {
         &mut self,
         alloc: Global,
         unit: Name,
-        old: &[Name],
-        new: &[Name],
+        old: &Mentions,
+        new: &Mentions,
     ) -> Result<(), AllocError>
-        requires known { IsIndexedAs self.old unit old.now }
-        ensures ok { OnOk result (IsReplaced self.old unit new.now self.new) }
+        requires known { IsIndexedAs self.old unit (mentioned old.now) }
+        ensures ok { OnOk result (IsReplaced self.old unit (mentioned new.now) self.new) }
         ensures err { OnErr result (self.new ≡ self.old) }
     {
-        if old == new && self.has(&unit, &unit) {
+        if self.is_indexed(&unit) && are_same(old, new) {
             return Ok(());
         }
-        let before = set_of(alloc, old)?;
-        let after = set_of(alloc, new)?;
         let mut index = self.copy()?;
-        index.take_out(alloc, &unit, old, &after)?;
-        index.join(alloc, &unit, &unit)?;
-        index.put_in(alloc, &unit, new, &before)?;
+        index
+            .parts
+            .replace(alloc, &unit, old.parts.as_slice(), new.parts.as_slice())?;
+        index.of_values.replace(
+            alloc,
+            &unit,
+            old.of_values.as_slice(),
+            new.of_values.as_slice(),
+        )?;
+        index.units.put(unit, Arc::new(alloc, new.is_structure)?)?;
         *self = index;
         Ok(())
     }
 
-    /// The indexed units that are one of the names or mention one, in order.
+    /// The indexed units near which one of the names is, in order.
     pub fn near_of(&self, alloc: Global, names: &[Name]) -> Result<Vec<Name>, AllocError>
         ensures ordered { IfOk result (λ units. IsStrictlySortedBy name_cmp units.items) }
         ensures exact { IfOk result
-            (λ units. (unit : List ℕ)
-            → has_name units.items unit ≡ list_any (is_near self.now unit) names.now) }
+            (λ units. (unit : List ℕ) → (has_name units.items unit ≡ true)
+            ↔ NearSome self.now unit names.now) }
     {
-        let mut units = Vec::new(alloc);
-        for name in names {
-            units.extend_from_slice(self.under(name))?;
-        }
-        sorted_names(alloc, &units)
+        let mut units = self.indexed(alloc, names)?;
+        let carriers = self.carriers(alloc, names)?;
+        self.add_holders(names, &mut units)?;
+        self.add_holders(carriers.as_slice(), &mut units)?;
+        units.extend_from_slice(carriers.as_slice())?;
+        sorted_names(alloc, units.as_slice())
     }
 
-    /// The indexed units that are one of the names or lead to one by mentions, in order.
+    /// The indexed units that are one of the names or rest on one, in order.
     pub fn far_of(&self, alloc: Global, names: &[Name]) -> Result<Vec<Name>, AllocError>
         ensures ordered { IfOk result (λ units. IsStrictlySortedBy name_cmp units.items) }
         ensures exact { IfOk result
             (λ units. (unit : List ℕ) → (has_name units.items unit ≡ true)
             ↔ ReachesSome self.now unit names.now) }
     {
-        let first = self.near_of(alloc, names)?;
+        let mut units = self.indexed(alloc, names)?;
         let mut seen = BTreeSet::new(alloc);
         let mut pending = Vec::new(alloc);
-        open_new(&first, &mut seen, &mut pending)?;
+        for name in names {
+            self.open_users(name, &mut seen, &mut pending)?;
+        }
         while let Some(name) = pending.pop() {
-            open_new(self.under(&name), &mut seen, &mut pending)?;
+            self.open_users(&name, &mut seen, &mut pending)?;
+        }
+        let users = names_of(alloc, &seen)?;
+        units.extend_from_slice(users.as_slice())?;
+        sorted_names(alloc, units.as_slice())
+    }
+
+    /// Whether the unit is indexed.
+    fn is_indexed(&self, unit: &Name) -> bool
+        ensures { result ≡ is_indexed self.now unit.now }
+    {
+        self.units.get(unit).is_some()
+    }
+
+    /// Whether the unit is a structure.
+    fn is_structure(&self, unit: &Name) -> bool
+        ensures { result ≡ is_structure_in self.now unit.now }
+    {
+        match self.units.get(unit) {
+            Some(mark) => **mark,
+            None => false,
+        }
+    }
+
+    /// The units that have the name as a part.
+    fn holders(&self, name: &Name) -> &[Name]
+        ensures { result.now ≡ users_of self.now.parts name.now }
+    {
+        self.parts.under(name)
+    }
+
+    /// The units that have the name as the type of a value.
+    fn value_users(&self, name: &Name) -> &[Name]
+        ensures { result.now ≡ users_of self.now.of_values name.now }
+    {
+        self.of_values.under(name)
+    }
+
+    /// Those of the names that are indexed.
+    fn indexed(&self, alloc: Global, names: &[Name]) -> Result<Vec<Name>, AllocError>
+        ensures { IfOk result (λ units. units.items ≡ filter (is_indexed self.now) names.now) }
+    {
+        let mut units = Vec::new(alloc);
+        for name in names {
+            if self.is_indexed(name) {
+                units.push(*name)?;
+            }
+        }
+        Ok(units)
+    }
+
+    /// Adds the units that have one of the names as a part.
+    fn add_holders(&self, names: &[Name], units: &mut Vec<Name>) -> Result<(), AllocError>
+        ensures { OnOk result
+            (units.new.items
+            ≡ units.old.items ++ flat_map (users_of self.now.parts) names.now) }
+    {
+        for name in names {
+            units.extend_from_slice(self.holders(name))?;
+        }
+        Ok(())
+    }
+
+    /// The units that carry one of the names.
+    fn carriers(&self, alloc: Global, names: &[Name]) -> Result<Vec<Name>, AllocError>
+        ensures { IfOk result
+            (λ units. (unit : List ℕ) → Contains units.items unit
+            ↔ CarriesSome self.now unit names.now) }
+    {
+        let mut seen = BTreeSet::new(alloc);
+        let mut pending = Vec::new(alloc);
+        for name in names {
+            open_new(self.value_users(name), &mut seen, &mut pending)?;
+        }
+        while let Some(name) = pending.pop() {
+            open_new(self.carrying_on(&name), &mut seen, &mut pending)?;
         }
         names_of(alloc, &seen)
     }
 
-    /// The units under a name.
-    fn under(&self, name: &Name) -> &[Name]
-        ensures { result.now ≡ users_of self.now name.now }
+    /// The units that carry on what this one carries: where it is a structure, its users.
+    fn carrying_on(&self, unit: &Name) -> &[Name]
+        ensures { result.now ≡ carrying_on self.now unit.now }
     {
-        match self.users.get(name) {
-            Some(units) => units.as_slice(),
-            None => &[],
+        if self.is_structure(unit) {
+            self.value_users(unit)
+        } else {
+            &[]
         }
     }
 
-    /// Whether the unit stands under a name.
-    fn has(&self, name: &Name, unit: &Name) -> bool
-        ensures { result ≡ is_near self.now unit.now name.now }
-    {
-        self.under(name).iter().any(|user| same_name(unit, user))
-    }
-
-    /// Puts these units under a name, in the place of those that were there.
-    fn set(&mut self, alloc: Global, name: &Name, units: Vec<Name>) -> Result<(), AllocError>
-        ensures { OnOk result (IsPutUnder self.old name.now units.items self.new) }
-    {
-        if units.is_empty() {
-            return self.users.remove(name);
-        }
-        self.users.put(*name, Arc::new(alloc, units)?)
-    }
-
-    /// Takes the unit out under a name.
-    fn leave(&mut self, alloc: Global, name: &Name, unit: &Name) -> Result<(), AllocError>
-        ensures { OnOk result (HasLeft self.old unit.now (is_at (name_cmp name.now)) self.new) }
-    {
-        let others = without(alloc, self.under(name), unit)?;
-        self.set(alloc, name, others)
-    }
-
-    /// Puts the unit under a name.
-    fn join(&mut self, alloc: Global, name: &Name, unit: &Name) -> Result<(), AllocError>
-        ensures { OnOk result (HasJoined self.old unit.now (is_at (name_cmp name.now)) self.new) }
-    {
-        if self.has(name, unit) {
-            return Ok(());
-        }
-        let mut units = Vec::new(alloc);
-        units.extend_from_slice(self.under(name))?;
-        units.push(*unit)?;
-        self.set(alloc, name, units)
-    }
-
-    /// Takes the unit out under the names that are not kept.
-    fn take_out(
-        &mut self,
-        alloc: Global,
-        unit: &Name,
-        names: &[Name],
-        kept: &BTreeSet<Name>,
-    ) -> Result<(), AllocError>
-        ensures { OnOk result (HasLeft self.old unit.now (is_only_in names.now kept.now) self.new) }
-    {
-        for name in names {
-            if !kept.contains(name) {
-                self.leave(alloc, name, unit)?;
-            }
-        }
-        Ok(())
-    }
-
-    /// Puts the unit under the names that are not known.
-    fn put_in(
-        &mut self,
-        alloc: Global,
-        unit: &Name,
-        names: &[Name],
-        known: &BTreeSet<Name>,
+    /// Sees the units that mention the name, and opens those that are new.
+    fn open_users(
+        &self,
+        name: &Name,
+        seen: &mut BTreeSet<Name>,
+        pending: &mut Vec<Name>,
     ) -> Result<(), AllocError>
         ensures { OnOk result
-            (HasJoined self.old unit.now (is_only_in names.now known.now) self.new) }
+            (Opens (mentioning self.now name.now) seen.old.keys pending.old.items seen.new.keys
+            pending.new.items) }
     {
-        for name in names {
-            if !known.contains(name) {
-                self.join(alloc, name, unit)?;
-            }
-        }
-        Ok(())
+        open_new(self.holders(name), seen, pending)?;
+        open_new(self.value_users(name), seen, pending)
     }
 }
 
-/// The names as a set.
-fn set_of(alloc: Global, names: &[Name]) -> Result<BTreeSet<Name>, AllocError>
-    ensures { IfOk result
-        (λ made. (name : List ℕ) → set.contains name_cmp made name ≡ has_name names.now name) }
+/// Whether both mention the same.
+#[tactic(auto, using(crate::proofs::Lookups::same_mentioned))]
+fn are_same(a: &Mentions, b: &Mentions) -> bool
+    ensures { (result ≡ true) → mentioned a.now ≡ mentioned b.now }
 {
-    names.iter().copied().collect(alloc)
+    a.is_structure == b.is_structure
+        && are_same_names(a.parts.as_slice(), b.parts.as_slice())
+        && are_same_names(a.of_values.as_slice(), b.of_values.as_slice())
 }
 
-/// The units but one.
-fn without(alloc: Global, units: &[Name], unit: &Name) -> Result<Vec<Name>, AllocError>
-    ensures { IfOk result (λ others. AreWithout units.now unit.now others.items) }
+fn are_same_names(a: &[Name], b: &[Name]) -> bool
+    ensures { (result ≡ true) → a.now ≡ b.now }
 {
-    let mut others = Vec::new(alloc);
-    for other in units {
-        if !same_name(unit, other) {
-            others.push(*other)?;
-        }
-    }
-    Ok(others)
+    a == b
 }

@@ -2,10 +2,11 @@
 #![tactic(auto)]
 
 mod index;
+mod users;
 
 pub use index::Index;
 
 /// Of `fb_library`, for the crates above.
 pub mod library {
-    pub use fb_library::{Change, Library, near};
+    pub use fb_library::{Change, Library, mentions_by_name};
 }

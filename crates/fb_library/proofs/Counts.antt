@@ -1,40 +1,31 @@
 -- How many entries there are after an edit.
-use Rattle.std.proofs.Common.{◌≡◌, ℕ, zero, suc, ◌+◌, ◌<◌, ◌≤◌, Bool, true, false, cond, List, [], ◌∷◌, length, get_or, set, refl, ap, arith, Option, Some, None}
+use Rattle.std.proofs.Common.{◌≡◌, ℕ, zero, suc, ◌+◌, ◌<◌, ◌≤◌, Bool, true, false, cond, List, [], ◌∷◌, length, map, get_or, set, refl, ap, arith, Option, Some, None}
 use Rattle.std.specs.Map.{lookup, remove_entry}
 use Rattle.std.proofs.lemmas.List.{length-append}
-use Rattle.fb_library.specs.Entries.{entries_of, entries_in}
-use Rattle.fb_library.specs.declared.shelf.Shelf.{Shelf}
-use Rattle.fb_library.proofs.Entries.{entries_counted}
+use Rattle.fb_library.specs.Shelves.{all_on}
+use Rattle.fb_library.proofs.OnShelves.{Row}
 
-module _ {V : Type 0} where
+module _ {A V : Type 0} (row : A → Row V) where
   -- a shelf has no more entries than all of them
-  pub length_shelf : (ss : List (Shelf V)) (i : ℕ) (s : Shelf V) → i < length ss → s ≡ get_or ss i s → length s.places.value.items ≤ length (entries_in ss)
-  length_shelf [] i s lt is = absurd (omega (arith, lt))
-  length_shelf (t ∷ ss) zero s lt is =
-      omega (arith, ap (λ (u : Shelf V). length u.places.value.items) is, entries_counted t.places.value.items, length-append (entries_of t.places.value.items) (entries_in ss))
-  length_shelf (t ∷ ss) (suc i) s lt is =
-      omega (arith, length_shelf ss i s (omega (arith, lt)) is, length-append (entries_of t.places.value.items) (entries_in ss))
+  pub length_shelf : (xs : List A) (i : ℕ) (x : A) → i < length xs → x ≡ get_or xs i x → length (row x).1 ≤ length (all_on (map row xs))
+  length_shelf [] i x lt is = absurd (omega (arith, lt))
+  length_shelf (y ∷ xs) zero x lt is = omega (arith, ap (λ (z : A). length (row z).1) is, length-append (row y).1 (all_on (map row xs)))
+  length_shelf (y ∷ xs) (suc i) x lt is = omega (arith, length_shelf xs i x (omega (arith, lt)) is, length-append (row y).1 (all_on (map row xs)))
 
   -- where one shelf takes the place of another, the others have the entries that they had
-  pub length_changed : (ss : List (Shelf V)) (i : ℕ) (old now : Shelf V) → i < length ss → old ≡ get_or ss i old → length (entries_in (set ss i now)) + length old.places.value.items ≡ length (entries_in ss) + length now.places.value.items
+  pub length_changed : (xs : List A) (i : ℕ) (old now : A) → i < length xs → old ≡ get_or xs i old → length (all_on (map row (set xs i now))) + length (row old).1 ≡ length (all_on (map row xs)) + length (row now).1
   length_changed [] i old now lt is = absurd (omega (arith, lt))
-  length_changed (t ∷ ss) zero old now lt is =
+  length_changed (y ∷ xs) zero old now lt is =
+      omega (arith, ap (λ (z : A). length (row z).1) is, length-append (row y).1 (all_on (map row xs)), length-append (row now).1 (all_on (map row xs)))
+  length_changed (y ∷ xs) (suc i) old now lt is =
       omega (
         arith,
-        ap (λ (u : Shelf V). length u.places.value.items) is,
-        entries_counted t.places.value.items,
-        entries_counted now.places.value.items,
-        length-append (entries_of t.places.value.items) (entries_in ss),
-        length-append (entries_of now.places.value.items) (entries_in ss),
-      )
-  length_changed (t ∷ ss) (suc i) old now lt is =
-      omega (
-        arith,
-        length_changed ss i old now (omega (arith, lt)) is,
-        length-append (entries_of t.places.value.items) (entries_in ss),
-        length-append (entries_of t.places.value.items) (entries_in (set ss i now)),
+        length_changed xs i old now (omega (arith, lt)) is,
+        length-append (row y).1 (all_on (map row xs)),
+        length-append (row y).1 (all_on (map row (set xs i now))),
       )
 
+module _ {V : Type 0} where
   less_by : (b : Bool) (it : V) (e : List ℕ × V) (es less : List (List ℕ × V)) (rest : Option V) → cond b (Some e.1) rest ≡ Some it → (rest ≡ Some it → length less + 1 ≡ length es) → length (cond b es (e ∷ less)) + 1 ≡ length (e ∷ es)
   less_by true it e es less rest found shorter = omega arith
   less_by false it e es less rest found shorter = let fewer = shorter found in omega (arith, fewer)

@@ -1,5 +1,5 @@
 -- The places of a table, seen as entries.
-use Rattle.std.proofs.Common.{◌≡◌, ℕ, zero, suc, List, [], ◌∷◌, length, map, get_or, set, refl, sym, ap, ◌∙◌, arith, Some}
+use Rattle.std.proofs.Common.{◌≡◌, ℕ, zero, suc, ◌<◌, List, [], ◌∷◌, length, map, get_or, set, refl, sym, ap, ◌∙◌, arith, Some}
 use Rattle.std.specs.List.{insert, remove, slice_get}
 use Rattle.std.specs.Option.{option_map}
 use Rattle.std.specs.List.Sorted.{IsStrictlySortedBy}
@@ -8,8 +8,7 @@ use Rattle.std.specs.BTreeMap.{is_at, insert_entry}
 use Rattle.std.proofs.lemmas.List.{map-set, get_or-map}
 use Rattle.fb_parse.specs.Text.Order.{name_cmp}
 use Rattle.fb_library.specs.Place.{IsAt, IsGapFor}
-use Rattle.fb_library.specs.Entries.{entry_of, entries_of, names_in, lasts_in}
-use Rattle.fb_library.specs.declared.shelf.Shelf.{Shelf}
+use Rattle.fb_library.specs.Entries.{entry_of, entries_of, names_in}
 use Rattle.fb_library.specs.declared.shelf.Placed.{Placed}
 use Rattle.fb_library.proofs.Places.{set_at, remove_at, lookup_at, put_in_gap}
 
@@ -58,6 +57,7 @@ module _ {V : Type 0} where
     pub entries_remove : (n : List ℕ) (i : ℕ) → IsStrictlySortedBy name_cmp (names_in ps) → IsAt (names_in ps) n i → entries_of (remove ps i) ≡ remove_entry (is_at (name_cmp n)) (entries_of ps)
     entries_remove n i sorted is = map_remove entry_of ps i ∙ remove_at (entries_of ps) n i sorted is
 
-  pub shelves_named : (ss : List (Shelf V)) → lasts_in ss ≡ map (λ (s : Shelf V). s.last) ss
-  shelves_named [] = refl
-  shelves_named (s ∷ ss) = ap (λ ns. s.last ∷ ns) (shelves_named ss)
+  pub name_read : (ps : List (Placed V)) (k : ℕ) (p : Placed V) → k < length ps → (get_or ps k p).name ≡ get_or (names_in ps) k []
+  name_read [] k p lt = absurd (omega (arith, lt))
+  name_read (q ∷ ps) zero p lt = refl
+  name_read (q ∷ ps) (suc k) p lt = name_read ps k p (omega (arith, lt))

@@ -1,28 +1,58 @@
--- Two lists in order that have the same names are one.
-use Rattle.std.proofs.Common.{◌≡◌, ℕ, Bool, true, false, List, refl, sym, ◌∙◌}
-use Rattle.std.proofs.lemmas.Map.Views.{Contains-from_any, list_any-from_Contains, tells_apart}
-use Rattle.std.specs.Cmp.{eq_by_cmp_equiv}
+-- Two lists in order that have the same names are one; what a unit rests on is what its mentions lead to.
+use Rattle.std.proofs.Common.{◌≡◌, ℕ, Bool, true, false, List, [], ◌∷◌, refl, sym, subst, ◌∙◌}
 use Rattle.std.specs.FinMap.{slice_cmp-IsAntisymmetric, nat_cmp-IsAntisymmetric}
 use Rattle.std.specs.Cmp.Lexicographic.{nat_list_cmp_total}
 use Rattle.std.specs.List.{Contains}
+use Rattle.std.specs.List.Sorted.{IsStrictlySortedBy}
 use Rattle.fb_parse.specs.Text.Order.{name_cmp}
+use Rattle.fb_parse.proofs.Text.Members.{contains_here, contains_single}
 use Rattle.fb_parse.proofs.Text.OrderLemmas.{has, in_order-same}
 use Rattle.fb_library.specs.Local.{FarIsOneList}
+use Rattle.fb_library.specs.Opened.{Leads, itself as at_start, through as by_step}
+use Rattle.fb_library.specs.Rests.{Rests, itself, through, PartRests, on_itself, through_part}
+use Rattle.fb_library.specs.Seen.{has_name}
+use Rattle.fb_library.specs.View.{Sources, mentions_at, parts_at}
 use Rattle.fb_library.proofs.Places.{already_in_order}
+use Rattle.fb_library.proofs.SeenLemmas.{Contains-has, has-Contains}
+use Rattle.fb_library.proofs.WalkLemmas.{IsWalk, complete_at_end}
 
 same_truth : (a b : Bool) → (a ≡ true → b ≡ true) → (b ≡ true → a ≡ true) → a ≡ b
 same_truth true b f g = sym (f refl)
 same_truth false true f g = g refl
 same_truth false false f g = refl
 
-member : (names : List (List ℕ)) (q : List ℕ) → has name_cmp names q ≡ true → Contains names q
-member names q h = Contains-from_any (tells_apart (slice_cmp-IsAntisymmetric nat_cmp-IsAntisymmetric)) q names h
-
-listed : (names : List (List ℕ)) (q : List ℕ) → Contains names q → has name_cmp names q ≡ true
-listed names q h = list_any-from_Contains (eq_by_cmp_equiv nat_list_cmp_total) q names h
+pub one_in_order : (names others : List (List ℕ)) → IsStrictlySortedBy name_cmp names → IsStrictlySortedBy name_cmp others → ((q : List ℕ) → Contains names q → Contains others q) → ((q : List ℕ) → Contains others q → Contains names q) → names ≡ others
+one_in_order names others a b there back =
+    sym (already_in_order names a)
+    ∙ in_order-same name_cmp nat_list_cmp_total (slice_cmp-IsAntisymmetric nat_cmp-IsAntisymmetric) names others (λ q. same_truth (has name_cmp names q) (has name_cmp others q) (λ h. has-Contains q others (there q (Contains-has q names h))) (λ h. has-Contains q names (back q (Contains-has q others h))))
+    ∙ already_in_order others b
 
 pub one_list : FarIsOneList
-one_list sources unit names others a b =
-    sym (already_in_order names a.0)
-    ∙ in_order-same name_cmp nat_list_cmp_total (slice_cmp-IsAntisymmetric nat_cmp-IsAntisymmetric) names others (λ q. same_truth (has name_cmp names q) (has name_cmp others q) (λ h. listed others q ((b.1 q).1 ((a.1 q).0 (member names q h)))) (λ h. listed names q ((a.1 q).1 ((b.1 q).0 (member others q h)))))
-    ∙ already_in_order others b.0
+one_list sources unit names others a b = one_in_order names others a.0 b.0 (λ q c. (b.1 q).1 ((a.1 q).0 c)) (λ q c. (a.1 q).1 ((b.1 q).0 c))
+
+-- ---- rests, by the words of walks
+
+pub rests_leads : {sources : Sources} {u v : List ℕ} → Rests sources u v → Leads (mentions_at sources) u v
+rests_leads itself = at_start
+rests_leads (through m r) = by_step m (rests_leads r)
+
+pub leads_rests : {sources : Sources} {u v : List ℕ} → Leads (mentions_at sources) u v → Rests sources u v
+leads_rests at_start = itself
+leads_rests (by_step m r) = through m (leads_rests r)
+
+pub part_rests_leads : {sources : Sources} {u v : List ℕ} → PartRests sources u v → Leads (parts_at sources) u v
+part_rests_leads on_itself = at_start
+part_rests_leads (through_part m r) = by_step m (part_rests_leads r)
+
+pub leads_part_rests : {sources : Sources} {u v : List ℕ} → Leads (parts_at sources) u v → PartRests sources u v
+leads_part_rests at_start = on_itself
+leads_part_rests (by_step m r) = through_part m (leads_part_rests r)
+
+-- a walk that is done has seen just what the unit rests on
+pub seen_rests : {sources : Sources} {unit : List ℕ} {seen pending : List (List ℕ)} → IsWalk (mentions_at sources) (unit ∷ []) seen pending → (v : List ℕ) → has_name seen v ≡ true → Rests sources unit v
+seen_rests {sources} {unit} walk v h =
+    let led = walk.sound v h in
+    leads_rests (subst (λ u. Leads (mentions_at sources) u v) (sym (contains_single unit led.0 led.1)) led.2)
+
+pub rests_seen : {sources : Sources} {unit : List ℕ} {seen : List (List ℕ)} → IsWalk (mentions_at sources) (unit ∷ []) seen [] → (v : List ℕ) → Rests sources unit v → has_name seen v ≡ true
+rests_seen {sources} {unit} {seen} walk v r = complete_at_end (mentions_at sources) (unit ∷ []) seen walk v (unit, contains_here unit [], rests_leads r)

@@ -1,5 +1,5 @@
 -- Names that were seen, and names that are pending.
-use Rattle.std.proofs.Common.{◌≡◌, ℕ, ◌+◌, ◌≤◌, Bool, true, false, not, cond, if◌then◌else◌, ◌||◌, List, [], ◌∷◌, ◌++◌, length, refl, sym, ap, ◌∙◌, arith, nat_cmp, length-append}
+use Rattle.std.proofs.Common.{◌≡◌, ℕ, suc, ◌+◌, ◌≤◌, Bool, true, false, not, cond, if◌then◌else◌, ◌||◌, List, [], ◌∷◌, ◌++◌, length, refl, sym, ap, ◌∙◌, arith, nat_cmp, length-append}
 use Rattle.std.proofs.lemmas.Bool.{false≢true}
 pub use Rattle.std.proofs.lemmas.Bool.{or_left, or_right}
 use Rattle.std.specs.List.{Contains}
@@ -65,7 +65,11 @@ fewer_here : (b c : Bool) → (b ≡ true → c ≡ true) → one_unless c ≤ o
 fewer_here true c h = let e : one_unless c ≡ 0 = one_unless-true c (h refl) in omega arith
 fewer_here false c h = one_unless-le c
 
-fewer : (seen seen' all : List (List ℕ)) → ((q : List ℕ) → has_name seen q ≡ true → has_name seen' q ≡ true) → unseen seen' all ≤ unseen seen all
+-- whatever is seen is among the others
+abbrev pub Grows : List (List ℕ) → List (List ℕ) → Type 0
+Grows seen others = (q : List ℕ) → has_name seen q ≡ true → has_name others q ≡ true
+
+pub fewer : (seen seen' all : List (List ℕ)) → Grows seen seen' → unseen seen' all ≤ unseen seen all
 fewer seen seen' [] grows = omega arith
 fewer seen seen' (y ∷ all) grows =
     less_here (one_unless (has_name seen' y)) (one_unless (has_name seen y)) _ _ (fewer_here (has_name seen y) (has_name seen' y) (grows y)) (fewer seen seen' all grows)
@@ -79,7 +83,8 @@ one_here b c m n f t h =
 one_later : (a b m n : ℕ) → a ≤ b → m + 1 ≤ n → (a + m) + 1 ≤ b + n
 one_later a b m n h k = omega arith
 
-one_fewer : (seen seen' : List (List ℕ)) (x : List ℕ) → has_name seen x ≡ false → has_name seen' x ≡ true → ((q : List ℕ) → has_name seen q ≡ true → has_name seen' q ≡ true) → (all : List (List ℕ)) → has_name all x ≡ true → unseen seen' all + 1 ≤ unseen seen all
+-- a name more that is seen
+pub one_fewer : (seen seen' : List (List ℕ)) (x : List ℕ) → has_name seen x ≡ false → has_name seen' x ≡ true → Grows seen seen' → (all : List (List ℕ)) → has_name all x ≡ true → unseen seen' all + 1 ≤ unseen seen all
 one_fewer seen seen' x new now grows [] e = absurd (false≢true e)
 one_fewer seen seen' x new now grows (y ∷ all) e =
     by_bool (same x y)
@@ -89,6 +94,19 @@ one_fewer seen seen' x new now grows (y ∷ all) e =
     (λ f.
     one_later (one_unless (has_name seen' y)) (one_unless (has_name seen y)) _ _ (fewer_here (has_name seen y) (has_name seen' y) (grows y))
     (one_fewer seen seen' x new now grows all (ap (λ b. b || has_name all x) (sym f) ∙ e)))
+
+-- some name is not seen
+pub some_unseen : (seen all : List (List ℕ)) (x : List ℕ) → has_name seen x ≡ false → has_name all x ≡ true → 1 ≤ unseen seen all
+some_unseen seen all x new there =
+    let less = one_fewer seen (x ∷ seen) x new (or_left (same x x) _ (same_self x)) (λ q h. or_right (same q x) _ h) all there in
+    omega (arith, less)
+
+at_most : (a m n : ℕ) → a ≤ 1 → m ≤ n → a + m ≤ suc n
+at_most a m n h k = omega arith
+
+pub all_unseen : (seen all : List (List ℕ)) → unseen seen all ≤ length all
+all_unseen seen [] = omega arith
+all_unseen seen (y ∷ all) = at_most (one_unless (has_name seen y)) _ _ (one_unless-le (has_name seen y)) (all_unseen seen all)
 
 -- ---- the names of one unit
 pub Opens-none : (seen pending : List (List ℕ)) → Opens [] seen pending seen pending
@@ -134,6 +152,29 @@ module _ (names seen pending seen1 pending1 seen2 : List (List ℕ)) (x : List �
         let before = opens.falls all (λ q h. within q (has-push names x q ∙ or_left (has_name names q) (same q x) h)) in
         let less = fewer seen1 seen2 all grown in
         omega (arith, before, less);
+  }
+
+-- opening names, and then others, opens all of them
+pub has-append : (xs ys : List (List ℕ)) (q : List ℕ) → has_name (xs ++ ys) q ≡ (has_name xs q || has_name ys q)
+has-append [] ys q = refl
+has-append (x ∷ xs) ys q = ap (λ b. same q x || b) (has-append xs ys q) ∙ or_assoc (same q x) (has_name xs q) (has_name ys q)
+
+module _ (names others seen pending seen1 pending1 seen2 pending2 : List (List ℕ)) where
+  pub Opens-both : Opens names seen pending seen1 pending1 → Opens others seen1 pending1 seen2 pending2 → Opens (names ++ others) seen pending seen2 pending2
+  Opens-both first second = record {
+    marks = λ q. second.marks q ∙ ap (λ b. b || has_name others q) (first.marks q) ∙ sym (or_assoc (has_name seen q) (has_name names q) (has_name others q))
+        ∙ ap (λ b. has_name seen q || b) (sym (has-append names others q));
+    keeps = λ q h. second.keeps q (first.keeps q h);
+    opened = λ q t f. by_bool (has_name seen1 q) (λ one. second.keeps q (first.opened q one f)) (λ none. second.opened q t none);
+    only = λ q h. or_cases (has_name pending1 q) (has_name others q) (second.only q h)
+        (λ l. or_cases (has_name pending q) (has_name names q) (first.only q l)
+        (λ p. or_left (has_name pending q) _ p)
+        (λ n. or_right (has_name pending q) _ (has-append names others q ∙ or_left (has_name names q) _ n)))
+        (λ r. or_right (has_name pending q) _ (has-append names others q ∙ or_right (has_name names q) _ r));
+    falls = λ all within.
+        let one = first.falls all (λ q h. within q (has-append names others q ∙ or_left (has_name names q) _ h)) in
+        let two = second.falls all (λ q h. within q (has-append names others q ∙ or_right (has_name names q) _ h)) in
+        omega (arith, one, two);
   }
 
 -- what `insert` says of a set, in these words

@@ -1,5 +1,5 @@
 -- What a table has under a name, and at an index.
-use Rattle.std.proofs.Common.{◌≡◌, ℕ, zero, suc, ◌+◌, ◌<◌, ◌≤◌, true, false, List, [], ◌∷◌, ◌++◌, length, take, drop, get_or, refl, sym, ap, ◌∙◌, arith, append_assoc, Option, Some, None}
+use Rattle.std.proofs.Common.{◌≡◌, ℕ, zero, suc, ◌+◌, ◌<◌, ◌≤◌, true, false, List, [], ◌∷◌, ◌++◌, length, map, take, drop, get_or, refl, sym, ap, ◌∙◌, arith, append_assoc, Option, Some, None}
 use Rattle.std.specs.List.{slice_get}
 use Rattle.std.specs.Option.{option_map, is_some}
 use Rattle.std.specs.Map.{lookup}
@@ -9,9 +9,7 @@ use Rattle.std.specs.declared.cmp.Ordering.{Ordering}
 use Rattle.std.specs.declared.cmp.Ordering.TheVariants.{Less, Equal, Greater}
 use Rattle.std.proofs.lemmas.Bool.{false≢true, or_left, or_right}
 use Rattle.fb_parse.specs.Text.Order.{name_cmp}
-use Rattle.fb_library.specs.Entries.{entries_of, shelves_of, entries_in, lasts_in}
 use Rattle.fb_library.specs.Shelves.{names_of, lasts_of, all_on, AreShelves, IsShelfFor, reaches}
-use Rattle.fb_library.specs.declared.shelf.Shelf.{Shelf}
 use Rattle.fb_library.proofs.Appended.{lookup_behind}
 use Rattle.fb_library.proofs.Kept.{row_there, counted}
 use Rattle.fb_library.proofs.OnShelves.{Row, entries_at, below_shelf, lookup_on}
@@ -37,13 +35,6 @@ module _ {V : Type 0} where
   past_row [] i le = refl
   past_row (s ∷ ss) zero le = absurd (omega (arith, le))
   past_row (s ∷ ss) (suc i) le = past_row ss i (omega (arith, le))
-
-  pub found_on : (ss : List (Shelf V)) (n : List ℕ) (i : ℕ) (s : Shelf V) → AreShelves (shelves_of ss) → IsShelfFor (lasts_in ss) n i → i < length ss → s ≡ get_or ss i s → lookup (is_at (name_cmp n)) (entries_of s.places.value.items) ≡ lookup (is_at (name_cmp n)) (entries_in ss)
-  found_on ss n i s are is lt stood = (λ k. lookup (is_at (name_cmp n)) (sym (row_there ss i s lt stood) k).1) ∙ sym (lookup_on (shelves_of ss) n i are is)
-
-  pub none_on : (ss : List (Shelf V)) (n : List ℕ) (i : ℕ) → AreShelves (shelves_of ss) → IsShelfFor (lasts_in ss) n i → length ss ≤ i → None ≡ lookup (is_at (name_cmp n)) (entries_in ss)
-  none_on ss n i are is past =
-      ap (lookup (is_at (name_cmp n))) (sym (past_row (shelves_of ss) i (omega (arith, past, counted ss)))) ∙ sym (lookup_on (shelves_of ss) n i are is)
 
   reaches_by : (s : Row V) (ss : List (Row V)) (n : List ℕ) (r : Ordering) → name_cmp n s.0 ≡ r → (name_cmp s.0 n ≡ Less → reaches (lasts_of ss) n ≡ true) → reaches (lasts_of (s ∷ ss)) n ≡ true
   reaches_by s ss n Less e later = or_left (is_le (name_cmp n s.0)) (reaches (lasts_of ss) n) (ap is_le e)
@@ -72,27 +63,35 @@ module _ {V : Type 0} where
   name_later (x ∷ xs) ys zero j e = absurd (omega (arith, e))
   name_later (x ∷ xs) ys (suc i) j e = name_later xs ys i j (omega (arith, e))
 
-  left_by : (ss : List (Shelf V)) (i : ℕ) (s : Shelf V) → i < length ss → s ≡ get_or ss i s → entries_in (drop i ss) ≡ entries_of s.places.value.items ++ entries_in (drop (suc i) ss)
-  left_by [] i s lt is = absurd (omega (arith, lt))
-  left_by (t ∷ ss) zero s lt is = ap (λ (u : Shelf V). entries_of u.places.value.items ++ entries_in ss) (sym is)
-  left_by (t ∷ ss) (suc i) s lt is = left_by ss i s (omega (arith, lt)) is
-
-  pub entries_left : (ss : List (Shelf V)) (i : ℕ) (s : Shelf V) → i < length ss → s ≡ get_or ss i s → entries_in (drop i ss) ≡ entries_of s.places.value.items ++ entries_in (drop (i + 1) ss)
-  entries_left ss i s lt is =
-      let next : suc i ≡ i + 1 = omega arith in
-      left_by ss i s lt is ∙ ap (λ k. entries_of s.places.value.items ++ entries_in (drop k ss)) next
-
   no_more : (xs : List (List ℕ × V)) → xs ++ [] ≡ xs
   no_more [] = refl
   no_more (x ∷ xs) = ap (λ l. x ∷ l) (no_more xs)
 
-  more_by : (ss : List (Shelf V)) (i : ℕ) (s : Shelf V) → i < length ss → s ≡ get_or ss i s → entries_in (take (suc i) ss) ≡ entries_in (take i ss) ++ entries_of s.places.value.items
-  more_by [] i s lt is = absurd (omega (arith, lt))
-  more_by (t ∷ ss) zero s lt is = no_more (entries_of t.places.value.items) ∙ ap (λ (u : Shelf V). entries_of u.places.value.items) (sym is)
-  more_by (t ∷ ss) (suc i) s lt is =
-      ap (λ l. entries_of t.places.value.items ++ l) (more_by ss i s (omega (arith, lt)) is) ∙ sym (append_assoc (entries_of t.places.value.items) (entries_in (take i ss)) (entries_of s.places.value.items))
+module _ {A V : Type 0} (row : A → Row V) where
+  pub found_on : (xs : List A) (n : List ℕ) (i : ℕ) (x : A) → AreShelves (map row xs) → IsShelfFor (lasts_of (map row xs)) n i → i < length xs → x ≡ get_or xs i x → lookup (is_at (name_cmp n)) (row x).1 ≡ lookup (is_at (name_cmp n)) (all_on (map row xs))
+  found_on xs n i x are is lt stood = (λ k. lookup (is_at (name_cmp n)) (sym (row_there row xs i x lt stood) k).1) ∙ sym (lookup_on (map row xs) n i are is)
 
-  pub entries_more : (ss : List (Shelf V)) (i : ℕ) (s : Shelf V) → i < length ss → s ≡ get_or ss i s → entries_in (take (i + 1) ss) ≡ entries_in (take i ss) ++ entries_of s.places.value.items
-  entries_more ss i s lt is =
+  pub none_on : (xs : List A) (n : List ℕ) (i : ℕ) → AreShelves (map row xs) → IsShelfFor (lasts_of (map row xs)) n i → length xs ≤ i → None ≡ lookup (is_at (name_cmp n)) (all_on (map row xs))
+  none_on xs n i are is past =
+      ap (lookup (is_at (name_cmp n))) (sym (past_row (map row xs) i (omega (arith, past, counted row xs)))) ∙ sym (lookup_on (map row xs) n i are is)
+
+  left_by : (xs : List A) (i : ℕ) (x : A) → i < length xs → x ≡ get_or xs i x → all_on (map row (drop i xs)) ≡ (row x).1 ++ all_on (map row (drop (suc i) xs))
+  left_by [] i x lt is = absurd (omega (arith, lt))
+  left_by (y ∷ xs) zero x lt is = ap (λ (z : A). (row z).1 ++ all_on (map row xs)) (sym is)
+  left_by (y ∷ xs) (suc i) x lt is = left_by xs i x (omega (arith, lt)) is
+
+  pub entries_left : (xs : List A) (i : ℕ) (x : A) → i < length xs → x ≡ get_or xs i x → all_on (map row (drop i xs)) ≡ (row x).1 ++ all_on (map row (drop (i + 1) xs))
+  entries_left xs i x lt is =
+      let next : suc i ≡ i + 1 = omega arith in
+      left_by xs i x lt is ∙ ap (λ k. (row x).1 ++ all_on (map row (drop k xs))) next
+
+  more_by : (xs : List A) (i : ℕ) (x : A) → i < length xs → x ≡ get_or xs i x → all_on (map row (take (suc i) xs)) ≡ all_on (map row (take i xs)) ++ (row x).1
+  more_by [] i x lt is = absurd (omega (arith, lt))
+  more_by (y ∷ xs) zero x lt is = no_more (row y).1 ∙ ap (λ (z : A). (row z).1) (sym is)
+  more_by (y ∷ xs) (suc i) x lt is =
+      ap (λ l. (row y).1 ++ l) (more_by xs i x (omega (arith, lt)) is) ∙ sym (append_assoc (row y).1 (all_on (map row (take i xs))) (row x).1)
+
+  pub entries_more : (xs : List A) (i : ℕ) (x : A) → i < length xs → x ≡ get_or xs i x → all_on (map row (take (i + 1) xs)) ≡ all_on (map row (take i xs)) ++ (row x).1
+  entries_more xs i x lt is =
       let next : i + 1 ≡ suc i = omega arith in
-      ap (λ k. entries_in (take k ss)) next ∙ more_by ss i s lt is
+      ap (λ k. all_on (map row (take k xs))) next ∙ more_by xs i x lt is

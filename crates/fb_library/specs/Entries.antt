@@ -1,6 +1,6 @@
--- The places and shelves of a table as entries.
-use Rattle.std.specs.Prelude.{◌≡◌, ℕ, List, length, map}
-use Rattle.fb_library.specs.Shelves.{names_of, lasts_of, all_on, AreShelves}
+-- The places on shelves as entries.
+use Rattle.std.specs.Prelude.{ℕ, List, map}
+use Rattle.fb_library.specs.Shelves.{names_of, lasts_of, all_on}
 use Rattle.fb_library.specs.declared.shelf.Placed.{Placed}
 use Rattle.fb_library.specs.declared.shelf.Shelf.{Shelf}
 
@@ -28,7 +28,3 @@ module _ {V : Type 0} where
 
   abbrev pub lasts_in : List (Shelf V) → List (List ℕ)
   lasts_in shelves = lasts_of (shelves_of shelves)
-
-  pub record IsTable (shelves : List (Shelf V)) (len : ℕ) : Type 0 where
-    pub order : AreShelves (shelves_of shelves)
-    pub counted : len ≡ length (entries_in shelves)

@@ -1,9 +1,12 @@
 -- What the contracts of this crate cite.
 pub mod Entries
 pub mod Place
+pub mod Rooms
 pub mod Seen
 pub mod Shelves
 pub mod View
+pub mod Opened
+pub mod Near
 pub mod Rests
 pub mod Local
 pub mod Texts

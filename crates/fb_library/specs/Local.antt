@@ -1,9 +1,10 @@
--- What near and far depend on.
+-- What near and far are, and what they depend on.
 use Rattle.std.specs.Prelude.{◌≡◌, ℕ, List, Contains, ◌↔◌}
 use Rattle.std.specs.FinMap.{get}
 use Rattle.std.specs.List.Sorted.{IsStrictlySortedBy}
 use Rattle.fb_parse.specs.Text.Order.{name_cmp}
-use Rattle.fb_library.specs.View.{Sources, near_of}
+use Rattle.fb_library.specs.View.{Sources}
+use Rattle.fb_library.specs.Near.{SomeCarries, IsNear, carried_of, near_of}
 use Rattle.fb_library.specs.Rests.{Rests}
 
 -- under each of the names both have the same text, or none
@@ -13,6 +14,21 @@ Agree names a b = (name : List ℕ) → Contains names name → get a name ≡ g
 -- the same under each name that the unit rests on
 abbrev pub AgreeFar : List ℕ → Sources → Sources → Type 0
 AgreeFar unit a b = (name : List ℕ) → Rests a unit name → get a name ≡ get b name
+
+-- the list of what some units carry is in order, each name once, and has these names and no others
+abbrev pub CarriedIsAll : Type 0
+CarriedIsAll =
+    (sources : Sources) (units : List (List ℕ))
+    → IsStrictlySortedBy name_cmp (carried_of sources units) × ((v : List ℕ) → Contains (carried_of sources units) v ↔ SomeCarries sources units v)
+
+-- and so is that of what is near a unit
+abbrev pub NearIsAll : Type 0
+NearIsAll =
+    (sources : Sources) (unit : List ℕ) → IsStrictlySortedBy name_cmp (near_of sources unit) × ((v : List ℕ) → Contains (near_of sources unit) v ↔ IsNear sources unit v)
+
+-- what some units carry depends on the texts of these and of what they carry alone
+abbrev pub CarriedIsLocal : Type 0
+CarriedIsLocal = (a b : Sources) (units : List (List ℕ)) → Agree units a b → Agree (carried_of a units) a b → carried_of a units ≡ carried_of b units
 
 -- the names near a unit depend on the texts under these names alone
 abbrev pub NearIsLocal : Type 0

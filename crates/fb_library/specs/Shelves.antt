@@ -1,4 +1,4 @@
--- Entries on shelves, one shelf after another.
+-- Entries on shelves, one shelf after another. A room is read as one long shelf.
 use Rattle.std.specs.Prelude.{◌≡◌, ℕ, ◌<◌, ◌≤◌, Bool, true, false, ◌||◌, List, [], ◌∷◌, ◌++◌, length, map, slice_index_or}
 use Rattle.std.specs.List.{AllByRecursion}
 use Rattle.std.specs.List.Sorted.{IsStrictlySortedBy}
@@ -28,6 +28,11 @@ module _ {V : Type 0} where
   abbrev pub AreShelves : List (List ℕ × List (List ℕ × V)) → Type 0
   AreShelves [] = Unit {0}
   AreShelves (s ∷ shelves) = IsShelf s shelves × AreShelves shelves
+
+  -- shelves in order, with so many entries
+  pub record AreCounted (shelves : List (List ℕ × List (List ℕ × V))) (len : ℕ) : Type 0 where
+    pub order : AreShelves shelves
+    pub counted : len ≡ length (all_on shelves)
 
 -- the shelves before it end below the name, and it does not
 pub record IsShelfFor (lasts : List (List ℕ)) (name : List ℕ) (i : ℕ) : Type 0 where

@@ -1,10 +1,10 @@
--- What is known by name, and what the text of a unit rests on.
-use Rattle.std.specs.Prelude.{ℕ, List, [], ◌∷◌, ◌++◌, Option, Some, None}
+-- What is known by name, and what the text of a unit mentions.
+use Rattle.std.specs.Prelude.{ℕ, Bool, List, ◌++◌, Option, Some, None}
 use Rattle.std.specs.Option.{option_and_then}
 use Rattle.std.specs.FinMap.{FinMap, get}
-use Rattle.fb_parse.specs.Text.Order.{name_cmp, names_in_order}
+use Rattle.fb_parse.specs.Text.Order.{name_cmp}
 use Rattle.fb_parse.specs.Tree.Tree.{DeclTree, TypeTree, block_type, adapter_type, subapplication_type, system_configuration, structure_type}
-use Rattle.fb_parse.specs.Tree.Mentions.{parts_of}
+use Rattle.fb_parse.specs.Tree.Mentions.{Mentioned, nothing_mentioned, all_mentions_of}
 use Rattle.fb_parse.specs.Body.{BodyTree, Whole, BrokenAt, body_of}
 
 -- the texts of units, by name
@@ -35,14 +35,41 @@ type_in (structure_type s) = None
 abbrev pub declaration_at : Sources → List ℕ → Option TypeTree
 declaration_at sources unit = option_and_then type_in (tree_at sources unit)
 
-abbrev pub mentions_in : Option DeclTree → List (List ℕ)
-mentions_in None = []
-mentions_in (Some decl) = parts_of decl
+-- what a declaration mentions; nothing where there is none
+abbrev pub mentions_of_tree : Option DeclTree → Mentioned
+mentions_of_tree None = nothing_mentioned
+mentions_of_tree (Some decl) = all_mentions_of decl
 
--- the types that a unit mentions as its parts; none where it is absent or broken
+-- the same of what was found under a name
+abbrev pub or_nothing : Option Mentioned → Mentioned
+or_nothing None = nothing_mentioned
+or_nothing (Some found) = found
+
+abbrev pub parts_in : Option DeclTree → List (List ℕ)
+parts_in tree = (mentions_of_tree tree).parts
+
+abbrev pub values_in : Option DeclTree → List (List ℕ)
+values_in tree = (mentions_of_tree tree).of_values
+
+-- of both sorts
+abbrev pub mentions_in : Option DeclTree → List (List ℕ)
+mentions_in tree = parts_in tree ++ values_in tree
+
+-- what a unit mentions; nothing where it is absent or broken
+abbrev pub mentioned_at : Sources → List ℕ → Mentioned
+mentioned_at sources unit = mentions_of_tree (tree_at sources unit)
+
+-- the types of its instances, plugs and sockets
+abbrev pub parts_at : Sources → List ℕ → List (List ℕ)
+parts_at sources unit = parts_in (tree_at sources unit)
+
+-- the types of its variables or fields, elementary ones apart
+abbrev pub values_at : Sources → List ℕ → List (List ℕ)
+values_at sources unit = values_in (tree_at sources unit)
+
+-- both
 abbrev pub mentions_at : Sources → List ℕ → List (List ℕ)
 mentions_at sources unit = mentions_in (tree_at sources unit)
 
--- the unit and the types of its parts, in order, each once
-abbrev pub near_of : Sources → List ℕ → List (List ℕ)
-near_of sources unit = names_in_order (mentions_at sources unit ++ unit ∷ [])
+abbrev pub is_structure_at : Sources → List ℕ → Bool
+is_structure_at sources unit = (mentioned_at sources unit).is_structure

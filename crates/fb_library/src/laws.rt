@@ -1,5 +1,20 @@
 //! Laws of what is near and far.
-ghost use Rattle.fb_library.specs.Local.{NearIsLocal, FarIsLocal, FarIsOneList};
+ghost use Rattle.fb_library.specs.Local.{CarriedIsAll, CarriedIsLocal, FarIsLocal, FarIsOneList, NearIsAll, NearIsLocal};
+
+/// The list of what units carry has all of that and nothing else.
+pub fn carried_is_all()
+    ensures { CarriedIsAll }
+{}
+
+/// What units carry depends on the texts of these and of what they carry alone.
+pub fn carried_is_local()
+    ensures { CarriedIsLocal }
+{}
+
+/// The list of what is near a unit has all of that and nothing else.
+pub fn near_is_all()
+    ensures { NearIsAll }
+{}
 
 /// The names near a unit depend on the texts under these names alone.
 pub fn near_is_local()

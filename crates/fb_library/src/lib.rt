@@ -6,6 +6,8 @@ mod laws;
 mod library;
 mod look_up;
 mod mentions;
+mod room;
+mod rooms;
 mod seen;
 mod shelf;
 mod shelves;
@@ -13,13 +15,15 @@ mod table;
 mod walk;
 
 pub use change::Change;
-pub use laws::{far_is_local, far_is_one_list, near_is_local};
+pub use laws::{
+    carried_is_all, carried_is_local, far_is_local, far_is_one_list, near_is_all, near_is_local,
+};
 pub use library::Library;
 pub use look_up::{View, declaration_by_name, tree_by_name};
-pub use mentions::{near, part_mentions};
+pub use mentions::{is_structure, mentions_by_name, part_mentions, value_mentions};
 pub use seen::{names_of, open_new};
 pub use table::Table;
-pub use walk::far;
+pub use walk::{carried, far, near};
 
 /// Of `fb_parse`, for the crates above.
 pub mod parse {

@@ -6,8 +6,8 @@ ghost use Rattle.std.specs.Map.{lookup, remove_entry};
 ghost use Rattle.std.specs.BTreeMap.{insert_entry, is_at};
 ghost use Rattle.fb_parse.specs.Text.Order.{name_cmp};
 
-use crate::shelf::{Shelf, push_names};
-use crate::shelves;
+use crate::room::Room;
+use crate::rooms;
 use fb_parse::text::Name;
 use std::alloc::{AllocError, Global};
 use std::marker::Model;
@@ -16,7 +16,7 @@ use std::sync::Arc;
 /// Values by name, in the order of the names. A copy shares all that is not changed after it.
 #[derive(Drop)]
 pub struct Table<V> {
-    shelves: Vec<Shelf<V>>,
+    rooms: Vec<Room<V>>,
     len: usize,
 }
 
@@ -25,11 +25,12 @@ impl<V> Model for Table<V> {
 
     ghost Value = { List (List ℕ × V) };
 
-    ghost use Rattle.fb_library.specs.Entries.{entries_in, IsTable};
+    ghost use Rattle.fb_library.specs.Rooms.{rooms_of, entries_within};
+    ghost use Rattle.fb_library.specs.Shelves.{AreCounted};
 
-    ghost view = { λ it. entries_in it.shelves.items };
+    ghost view = { λ it. entries_within it.rooms.items };
 
-    ghost invariant = { λ it. IsTable it.shelves.items it.len };
+    ghost invariant = { λ it. AreCounted (rooms_of it.rooms.items) it.len };
 }
 
 impl<V: Drop> Table<V> {
@@ -38,7 +39,7 @@ impl<V: Drop> Table<V> {
         ensures { result ≡ [] }
     {
         Table {
-            shelves: Vec::new(alloc),
+            rooms: Vec::new(alloc),
             len: 0,
         }
     }
@@ -55,9 +56,9 @@ impl<V: Drop> Table<V> {
         ensures { option_map (λ it. it.now.value) result
             ≡ lookup (is_at (name_cmp name.now)) self.now }
     {
-        let shelves = self.shelves.as_slice();
-        match shelves.get(shelves::shelf_for(shelves, name)) {
-            Some(shelf) => shelf.get(name),
+        let rooms = self.rooms.as_slice();
+        match rooms.get(rooms::room_for(rooms, name)) {
+            Some(room) => room.shelves.get(name),
             None => None,
         }
     }
@@ -68,11 +69,12 @@ impl<V: Drop> Table<V> {
         ensures sorted { IsStrictlySortedBy name_cmp (map (λ e. e.0) self.now) }
     {
         let mut index = index;
-        for shelf in &self.shelves {
-            match shelf.places.get(index) {
-                Some(placed) => return Some(placed.name),
-                None => index -= shelf.places.len(),
+        for room in &self.rooms {
+            let here = room.shelves.len();
+            if index < here {
+                return room.shelves.name_at(index);
             }
+            index -= here;
         }
         None
     }
@@ -83,8 +85,8 @@ impl<V: Drop> Table<V> {
         ensures sorted { IsStrictlySortedBy name_cmp (map (λ e. e.0) self.now) }
     {
         let mut names = Vec::with_capacity(alloc, self.len)?;
-        for shelf in &self.shelves {
-            push_names(&mut names, shelf.places.as_slice())?;
+        for room in &self.rooms {
+            room.shelves.push_names(&mut names)?;
         }
         Ok(names)
     }
@@ -93,10 +95,10 @@ impl<V: Drop> Table<V> {
     pub fn copy(&self) -> Result<Table<V>, AllocError>
         ensures { IfOk result (λ copy. copy ≡ self.now) }
     {
-        let alloc = *self.shelves.allocator();
-        let shelves = shelves::copies(alloc, self.shelves.as_slice())?;
+        let alloc = *self.rooms.allocator();
+        let rooms = rooms::copies(alloc, self.rooms.as_slice())?;
         Ok(Table {
-            shelves,
+            rooms,
             len: self.len,
         })
     }
@@ -107,7 +109,7 @@ impl<V: Drop> Table<V> {
         ensures ok { OnOk result (self.new ≡ insert_entry name_cmp self.old name value.value) }
         ensures err { OnErr result (self.new ≡ self.old) }
     {
-        self.len = shelves::put(&mut self.shelves, self.len, name, value)?;
+        self.len = rooms::put(&mut self.rooms, self.len, name, value)?;
         Ok(())
     }
 
@@ -117,7 +119,7 @@ impl<V: Drop> Table<V> {
         ensures err { OnErr result (self.new ≡ self.old) }
     {
         if self.get(name).is_some() {
-            shelves::remove(&mut self.shelves, name)?;
+            rooms::remove(&mut self.rooms, name)?;
             self.len -= 1;
         }
         Ok(())

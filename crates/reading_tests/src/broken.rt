@@ -21,7 +21,7 @@ fn compare_place(rt: &impl Abort, alloc: Global, text: &str, expected: &str) -> 
 }
 
 // Broken texts with their places.
-static BROKEN: [(&str, &str); 11] = [
+static BROKEN: [(&str, &str); 18] = [
     // the end of a text that goes no further
     ("FUNCTION_BLOCK A EVENT_INPUT", "28..28"),
     // two names in a row
@@ -49,6 +49,34 @@ static BROKEN: [(&str, &str); 11] = [
         "17..26",
     ),
     ("SYSTEM A FBS END_FBS END_SYSTEM", "9..12"),
+    // the words of structures are reserved, too
+    (
+        "FUNCTION_BLOCK V VAR Type:INT; END_VAR END_FUNCTION_BLOCK",
+        "21..25",
+    ),
+    // one semicolon at most behind the fields
+    ("TYPE S : STRUCT END_STRUCT;; END_TYPE", "27..28"),
+    // no type but a structure
+    ("TYPE S : INT; END_TYPE", "9..12"),
+    // no sections
+    (
+        "TYPE S : STRUCT VAR F:INT; END_VAR END_STRUCT END_TYPE",
+        "16..19",
+    ),
+    // no length behind OF
+    (
+        "TYPE S : STRUCT F:ARRAY[0..1] OF U[3]; END_STRUCT END_TYPE",
+        "34..35",
+    ),
+    // one list of subscripts to a name, and a name behind each point
+    (
+        "FUNCTION_BLOCK V VAR X:INT; END_VAR ALGORITHM P IN ST: X[0][1] := 1; END_ALGORITHM END_FUNCTION_BLOCK",
+        "59..60",
+    ),
+    (
+        "FUNCTION_BLOCK V VAR X:S; END_VAR ALGORITHM P IN ST: X.1 := 1; END_ALGORITHM END_FUNCTION_BLOCK",
+        "55..56",
+    ),
 ];
 
 #[test]
@@ -292,6 +320,47 @@ static SYSTEM: Breaks = (
     ],
 );
 
+static STRUCTURE: Breaks = (
+    "TYPE S : STRUCT F:INT; G,H:ARRAY[0..3] OF U := [1, 2]; N:STRING[8]; END_STRUCT; END_TYPE",
+    &[
+        ("TYPE S", "type s", "whole"),
+        ("TYPE S", "TYPE struct", "5..11"),
+        ("S :", "S", "7..13"),
+        ("STRUCT F", "F", "9..10"),
+        ("STRUCT F", "STRUCT END_TYPE F", "16..24"),
+        ("F:", "IN,ON,ST:", "whole"),
+        ("F:INT", "F:Type", "18..22"),
+        ("INT;", "INT", "22..23"),
+        ("U :=", "U[3] :=", "43..44"),
+        ("N:STRING[8];", "", "whole"),
+        ("N:STRING[8];", ";", "55..56"),
+        ("END_STRUCT;", "END_STRUCT", "whole"),
+        ("END_STRUCT;", "END_STRUCT,", "78..79"),
+        ("END_STRUCT;", "END_VAR;", "68..75"),
+        ("END_STRUCT; ", "", "68..76"),
+        ("END_TYPE", "", "80..80"),
+        ("END_TYPE", "END_TYPE;", "88..89"),
+    ],
+);
+
+static REFERENCES: Breaks = (
+    "FUNCTION_BLOCK V ALGORITHM P IN ST: X.F[0].G := Y[1].H.K[2, 3]; END_ALGORITHM END_FUNCTION_BLOCK",
+    &[
+        ("X.F", "X.IN.ON.ST", "whole"),
+        ("X.F", "X.Type", "38..42"),
+        ("X.F", "X..F", "37..39"),
+        ("X.F", "X.", "38..39"),
+        ("[0].", "[0]", "42..43"),
+        ("[0]", "[]", "40..41"),
+        ("[0]", "[0][1]", "42..43"),
+        (".G", ".1", "43..44"),
+        ("G :=", "G. :=", "46..48"),
+        ("Y[1]", "Y[1.H]", "51..52"),
+        ("[2, 3]", "[2, 3].Z", "whole"),
+        ("[2, 3]", "[2, 3]Z", "62..63"),
+    ],
+);
+
 /// The text with other words in the place of these, which stand in it once.
 fn broken(alloc: Global, whole: &str, old: &str, new: &str) -> Result<String, Fail> {
     if whole.matches(old).count() != 1 {
@@ -314,7 +383,8 @@ fn declarations(rt: &impl Abort, alloc: Global) -> Result<(), Fail> {
     compare(rt, alloc, &EVENTS)?;
     compare(rt, alloc, &VARIABLES)?;
     compare(rt, alloc, &ADAPTER)?;
-    compare(rt, alloc, &INSTANCES)
+    compare(rt, alloc, &INSTANCES)?;
+    compare(rt, alloc, &STRUCTURE)
 }
 
 fn networks_and_charts(rt: &impl Abort, alloc: Global) -> Result<(), Fail> {
@@ -328,7 +398,8 @@ fn statements(rt: &impl Abort, alloc: Global) -> Result<(), Fail> {
     compare(rt, alloc, &ALGORITHMS)?;
     compare(rt, alloc, &CHOICES)?;
     compare(rt, alloc, &LOOPS)?;
-    compare(rt, alloc, &EXPRESSION)
+    compare(rt, alloc, &EXPRESSION)?;
+    compare(rt, alloc, &REFERENCES)
 }
 
 #[test]

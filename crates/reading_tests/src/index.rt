@@ -1,28 +1,93 @@
 //! The index of units by what they mention.
-ghost use Rattle.std.specs.Prelude.{◌≡◌, false, [], ◌∷◌, OnOk};
+ghost use Rattle.std.specs.Prelude.{◌≡◌, false, OnOk};
 ghost use Rattle.std.specs.BTreeMap.{is_at};
 ghost use Rattle.fb_text.specs.Order.{name_cmp};
-ghost use Rattle.fb_index.specs.Near.{IsIndexedAs};
+ghost use Rattle.fb_tree.specs.Mentions.{mentioned, nothing_mentioned};
+ghost use Rattle.fb_index.specs.Indexed.{nothing_indexed, IsIndexedAs};
 
 use crate::told::names_told;
 use fb_index::Index;
 use fb_text::{Name, same_name};
+use fb_tree::Mentions;
 use std::alloc::{AllocError, Global};
 use std::process::Abort;
 use std::test::Fail;
 
-// S mentions A, and A and B mention each other.
-fn fill(index: &mut Index, alloc: Global, a: Name, b: Name, s: Name) -> Result<(), AllocError>
-    requires empty { index.old ≡ [] }
-    requires ab { is_at (name_cmp a) b ≡ false }
-    requires a_s { is_at (name_cmp a) s ≡ false }
-    requires bs { is_at (name_cmp b) s ≡ false }
-    requires sb { is_at (name_cmp s) b ≡ false }
-    ensures { OnOk result (IsIndexedAs index.new b (a ∷ [])) }
+/// What an absent unit mentions.
+pub fn nothing(alloc: Global) -> Mentions
+    ensures { mentioned result ≡ nothing_mentioned }
 {
-    index.replace(alloc, a, &[], &[b])?;
-    index.replace(alloc, b, &[], &[a])?;
-    index.replace(alloc, s, &[], &[a])?;
+    Mentions {
+        parts: Vec::new(alloc),
+        of_values: Vec::new(alloc),
+        is_structure: false,
+    }
+}
+
+/// These parts, and no types of values.
+pub fn parts(alloc: Global, names: &[Name]) -> Result<Mentions, AllocError> {
+    let mut mentions = nothing(alloc);
+    mentions.parts.extend_from_slice(names)?;
+    Ok(mentions)
+}
+
+/// These types of values, and no parts.
+fn values(alloc: Global, names: &[Name], is_structure: bool) -> Result<Mentions, AllocError> {
+    let mut mentions = nothing(alloc);
+    mentions.of_values.extend_from_slice(names)?;
+    mentions.is_structure = is_structure;
+    Ok(mentions)
+}
+
+/// A unit and what it mentions.
+#[derive(Drop)]
+struct Unit {
+    name: Name,
+    mentions: Mentions,
+}
+
+/// A name, and the units near which it is and those that rest on it.
+type Row = (&'static str, &'static str, &'static str);
+
+/// Units that are indexed one after the other.
+#[derive(Drop)]
+struct Case {
+    first: Unit,
+    second: Unit,
+    third: Unit,
+    fourth: Unit,
+    before: &'static [Row],
+    /// What the second unit mentions in the end.
+    change: Mentions,
+    after: &'static [Row],
+}
+
+fn refuse_same(a: &Name, b: &Name) -> Result<(), Fail>
+    ensures { OnOk result (is_at (name_cmp a.now) b.now ≡ false) }
+{
+    if same_name(a, b) {
+        return Err(Fail::from("the same name"));
+    }
+    Ok(())
+}
+
+fn fill(index: &mut Index, alloc: Global, case: &Case) -> Result<(), Fail>
+    requires empty { index.old ≡ nothing_indexed }
+    ensures { OnOk result
+        (IsIndexedAs index.new case.now.second.name (mentioned case.now.second.mentions)) }
+{
+    let [a, b, c, d] = [&case.first, &case.second, &case.third, &case.fourth];
+    refuse_same(&a.name, &b.name)?;
+    refuse_same(&a.name, &c.name)?;
+    refuse_same(&a.name, &d.name)?;
+    refuse_same(&b.name, &c.name)?;
+    refuse_same(&b.name, &d.name)?;
+    refuse_same(&c.name, &d.name)?;
+    let none = nothing(alloc);
+    index.replace(alloc, a.name, &none, &a.mentions)?;
+    index.replace(alloc, b.name, &none, &b.mentions)?;
+    index.replace(alloc, c.name, &none, &c.mentions)?;
+    index.replace(alloc, d.name, &none, &d.mentions)?;
     Ok(())
 }
 
@@ -35,14 +100,6 @@ fn far_told(alloc: Global, index: &Index, name: Name) -> Result<String, AllocErr
     let names = index.far_of(alloc, &[name])?;
     names_told(alloc, &names)
 }
-
-/// A name, and the units of which it is near or far.
-type Row = (&'static str, &'static str, &'static str);
-
-static FILLED: [Row; 1] = [("B", "A B ", "A B S ")];
-
-// Once B mentions nothing any more.
-static CHANGED: [Row; 2] = [("A", "A S ", "A S "), ("X", "", "")];
 
 fn compare(rt: &impl Abort, alloc: Global, index: &Index, rows: &[Row]) -> Result<(), Fail> {
     for (name, near, far) in rows {
@@ -59,33 +116,29 @@ fn compare_copies(rt: &impl Abort, alloc: Global, index: &Index, rows: &[Row]) -
     compare(rt, alloc, &index.copy()?, rows)
 }
 
-/// Has B mention nothing any more in a copy, and compares both then.
+/// Changes a copy, and compares both then.
 fn compare_both(
     rt: &impl Abort,
     alloc: Global,
     index: &Index,
     copy: &mut Index,
-    a: Name,
-    b: Name,
+    case: &Case,
 ) -> Result<(), Fail>
-    requires known { IsIndexedAs copy.old b (a ∷ []) }
+    requires known { IsIndexedAs copy.old case.now.second.name
+        (mentioned case.now.second.mentions) }
 {
-    copy.replace(alloc, b, &[a], &[])?;
-    compare_copies(rt, alloc, index, &FILLED)?;
-    compare_copies(rt, alloc, copy, &CHANGED)
+    let unit = &case.second;
+    copy.replace(alloc, unit.name, &unit.mentions, &case.change)?;
+    compare_copies(rt, alloc, index, case.before)?;
+    compare_copies(rt, alloc, copy, case.after)
 }
 
-fn compare_with_copy(
-    rt: &impl Abort,
-    alloc: Global,
-    index: &Index,
-    a: Name,
-    b: Name,
-) -> Result<(), Fail>
-    requires known { IsIndexedAs index.now b (a ∷ []) }
+fn compare_with_copy(rt: &impl Abort, alloc: Global, index: &Index, case: &Case) -> Result<(), Fail>
+    requires known { IsIndexedAs index.now case.now.second.name
+        (mentioned case.now.second.mentions) }
 {
     let mut copy = index.copy()?;
-    compare_both(rt, alloc, index, &mut copy, a, b)
+    compare_both(rt, alloc, index, &mut copy, case)
 }
 
 /// Fills an index, and compares it with a copy that is changed.
@@ -93,25 +146,74 @@ fn compare_filled(
     rt: &impl Abort,
     alloc: Global,
     index: &mut Index,
-    a: Name,
-    b: Name,
-    s: Name,
+    case: &Case,
 ) -> Result<(), Fail>
-    requires empty { index.old ≡ [] }
-    requires ab { is_at (name_cmp a) b ≡ false }
-    requires a_s { is_at (name_cmp a) s ≡ false }
-    requires bs { is_at (name_cmp b) s ≡ false }
-    requires sb { is_at (name_cmp s) b ≡ false }
+    requires empty { index.old ≡ nothing_indexed }
 {
-    fill(index, alloc, a, b, s)?;
-    compare_with_copy(rt, alloc, index, a, b)
+    fill(index, alloc, case)?;
+    compare_with_copy(rt, alloc, index, case)
+}
+
+/// A mentions B, B mentions A, and S mentions A, until B mentions nothing any more.
+fn recursive(alloc: Global) -> Result<Case, Fail> {
+    let [a, b, s] = [Name::read("A")?, Name::read("B")?, Name::read("S")?];
+    Ok(Case {
+        first: Unit {
+            name: a,
+            mentions: parts(alloc, &[b])?,
+        },
+        second: Unit {
+            name: b,
+            mentions: parts(alloc, &[a])?,
+        },
+        third: Unit {
+            name: s,
+            mentions: parts(alloc, &[a])?,
+        },
+        fourth: Unit {
+            name: Name::read("T")?,
+            mentions: nothing(alloc),
+        },
+        before: &[("B", "A B ", "A B S "), ("T", "T ", "T ")],
+        change: nothing(alloc),
+        after: &[("A", "A S ", "A S "), ("X", "", "")],
+    })
+}
+
+/// V has a value of the structure S, which has a field of the structure U, and W has a part V, until S is no structure any more.
+fn structures(alloc: Global) -> Result<Case, Fail> {
+    let [s, u, v] = [Name::read("S")?, Name::read("U")?, Name::read("V")?];
+    Ok(Case {
+        first: Unit {
+            name: v,
+            mentions: values(alloc, &[s], false)?,
+        },
+        second: Unit {
+            name: s,
+            mentions: values(alloc, &[u], true)?,
+        },
+        third: Unit {
+            name: u,
+            mentions: values(alloc, &[], true)?,
+        },
+        fourth: Unit {
+            name: Name::read("W")?,
+            mentions: parts(alloc, &[v])?,
+        },
+        before: &[("U", "S U V W ", "S U V W "), ("S", "S V W ", "S V W ")],
+        change: values(alloc, &[u], false)?,
+        after: &[("U", "S U ", "S U V W "), ("S", "S V W ", "S V W ")],
+    })
 }
 
 #[test]
 fn near_and_far_of_names(rt: HostRuntime) -> Result<(), Fail> {
-    let [a, b, s] = [Name::read("A")?, Name::read("B")?, Name::read("S")?];
-    assert!(rt; !same_name(&a, &b) && !same_name(&a, &s));
-    assert!(rt; !same_name(&b, &s) && !same_name(&s, &b));
     let mut index = Index::new(rt.alloc());
-    compare_filled(&rt, rt.alloc(), &mut index, a, b, s)
+    compare_filled(&rt, rt.alloc(), &mut index, &recursive(rt.alloc())?)
+}
+
+#[test]
+fn near_through_structures(rt: HostRuntime) -> Result<(), Fail> {
+    let mut index = Index::new(rt.alloc());
+    compare_filled(&rt, rt.alloc(), &mut index, &structures(rt.alloc())?)
 }

@@ -9,6 +9,8 @@ mod broken;
 #[cfg(test)]
 mod index;
 #[cfg(test)]
+mod near;
+#[cfg(test)]
 mod parts;
 #[cfg(test)]
 mod readers;

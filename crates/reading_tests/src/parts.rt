@@ -10,7 +10,7 @@ use std::process::Abort;
 use std::test::Fail;
 
 // Texts with the part that is read at their front, and how many tokens stand behind it, or from the one that does not go on.
-static SECTIONS: [(Part, &str, &str, usize); 25] = [
+static SECTIONS: [(Part, &str, &str, usize); 28] = [
     (
         Part::Listed,
         "A, in ,B_1 ; C",
@@ -44,6 +44,19 @@ static SECTIONS: [(Part, &str, &str, usize); 25] = [
         "VAR A: ARRAY[0..9,1..2] OF INT := [1, T#250ms, X]; END_VAR",
         "Internal A:Array INT 7..30 := [Bit 35..36, Typed(Other) 38..45, X 47..48] 34..49",
         0,
+    ),
+    (
+        Part::Fields,
+        "STRUCT IN,ON:INT := 1; N:STRING[8]; END_STRUCT; END_TYPE",
+        "Field IN,ON:Plain INT 13..16 := Bit 20..21; Field N:Sized STRING 25..34",
+        2,
+    ),
+    (Part::Fields, "STRUCT END_STRUCT", "", 0),
+    (
+        Part::Fields,
+        "STRUCT VAR F:INT; END_VAR END_STRUCT",
+        "stops",
+        7,
     ),
     (
         Part::Blocks,
@@ -108,7 +121,7 @@ static SECTIONS: [(Part, &str, &str, usize); 25] = [
     (Part::Service, "SERVICE a ; -> END_SERVICE", "", 0),
 ];
 
-static EXPRESSIONS: [(Part, &str, &str, usize); 13] = [
+static EXPRESSIONS: [(Part, &str, &str, usize); 18] = [
     (Part::Expression, "A", "A", 0),
     // names of 22, 23 and 64 bytes
     (
@@ -135,6 +148,17 @@ static EXPRESSIONS: [(Part, &str, &str, usize); 13] = [
         "{P.X[Bit][{I Add 9..10 Bit}] Equal 14..15 Typed(Other)}",
         1,
     ),
+    // several names, each with subscripts or none
+    (Part::Expression, "A.B.in.On.st;", "A.B.IN.ON.ST", 1),
+    (
+        Part::Expression,
+        "A[1].B.C[2, I[3].J] . D",
+        "A[Bit].B.C[Whole][I[Whole].J].D",
+        0,
+    ),
+    (Part::Expression, "A.1", "stops", 1),
+    (Part::Expression, "A[1].END_IF", "stops", 1),
+    (Part::Expression, "A.B[1][2].C", "A.B[Bit]", 5),
     (
         Part::Expression,
         "-1 ** 2",
@@ -170,7 +194,7 @@ static STATEMENTS: [(Part, &str, &str, usize); 14] = [
         1,
     ),
     (Part::Statements, "A := 1", "stops", 0),
-    (Part::Statements, "A[1].X := 2;", "stops", 5),
+    (Part::Statements, "A[1].X := 2;", "A[Bit].X := Whole", 0),
     (
         Part::Statements,
         "IF A THEN ; ELSIF B THEN ; ELSE ; END_IF;",
@@ -241,12 +265,14 @@ fn parts_of_texts(rt: HostRuntime) -> Result<(), Fail> {
 }
 
 // What stands so many times before a middle, the middle, and what stands as often behind it; whether it is read, and what is left.
-static NESTED: [(Part, &str, &str, &str, usize, bool, usize); 8] = [
+static NESTED: [(Part, &str, &str, &str, usize, bool, usize); 11] = [
     // the last level is 64
     (Part::Expression, "(", "1", ")", 64, true, 0),
     (Part::Expression, "(", "1", ")", 65, false, 67),
     (Part::Expression, "A[", "1", "]", 64, true, 0),
     (Part::Expression, "A[", "1", "]", 65, false, 67),
+    (Part::Expression, "A.B[", "A.B", "].C", 64, true, 0),
+    (Part::Expression, "A.B[", "1", "].C", 65, false, 197),
     (Part::Statements, "IF A THEN ", ";", " END_IF", 64, true, 0),
     (
         Part::Statements,
@@ -259,6 +285,7 @@ static NESTED: [(Part, &str, &str, &str, usize, bool, usize); 8] = [
     ),
     // long rows and bodies
     (Part::Expression, "1+", "1", "*1", 15_000, true, 0),
+    (Part::Expression, "A[1].", "A", ".A", 10_000, true, 0),
     (Part::Statements, ";", "A:=1;", ";", 30_000, true, 0),
 ];
 
@@ -303,7 +330,8 @@ fn form_of(alloc: Global, text: &str) -> Result<LiteralForm, Fail> {
     }
 }
 
-/// The variable that a text is, in words, with where it and its first name stand.
+/// The variable that a text is, in words: its first name with its place and how many subscripts it has, where the variable stands, and the
+/// further names in the same way.
 fn variable_told(alloc: Global, text: &str) -> Result<String, Fail> {
     let tokens = lexemes(alloc, text)?;
     match expression(alloc, tokens.as_slice())? {
@@ -311,9 +339,11 @@ fn variable_told(alloc: Global, text: &str) -> Result<String, Fail> {
             let Span { start, end } = variable.span;
             let first = variable.name_span();
             let mut told = format!(in alloc; "{} ", variable.name())?;
-            write!(told, "{}..{} in {start}..{end}", first.start, first.end)?;
-            if let Some(member) = variable.member() {
-                write!(told, " with {}", words(alloc, member)?)?;
+            write!(told, "{}..{}", first.start, first.end)?;
+            write!(told, " ({}) in {start}..{end}", variable.subscripts)?;
+            for member in variable.members() {
+                let name = words(alloc, &member.name)?;
+                write!(told, " with {name} ({})", member.subscripts)?;
             }
             Ok(told)
         }
@@ -322,12 +352,18 @@ fn variable_told(alloc: Global, text: &str) -> Result<String, Fail> {
 }
 
 // Variables, with their names and where they stand.
-static VARIABLES: [(&str, &str); 3] = [
-    (" ab [1]", "AB 1..3 in 1..7"),
-    (" p . x", "P 1..2 in 1..6 with X 5..6"),
+static VARIABLES: [(&str, &str); 5] = [
+    (" ab [1]", "AB 1..3 (1) in 1..7"),
+    (" p . x", "P 1..2 (0) in 1..6 with X 5..6 (0)"),
     (
         "abcdefghijklmnopqrst_vw",
-        "ABCDEFGHIJKLMNOPQRST_VW 0..23 in 0..23",
+        "ABCDEFGHIJKLMNOPQRST_VW 0..23 (0) in 0..23",
+    ),
+    // through the last name, or through the last bracket
+    ("x[1, 2].f +", "X 0..1 (2) in 0..9 with F 8..9 (0)"),
+    (
+        "x.f[0] . g[1,2,3] ;",
+        "X 0..1 (0) in 0..17 with F 2..3 (1) with G 9..10 (3)",
     ),
 ];
 

@@ -2,8 +2,8 @@
 use crate::told::{Tell, words};
 use fb_grammar::{Kind, Lexeme, NAMES, NameReader, Stop, lexemes, names, separated, several};
 use fb_sections::{
-    blocks, connections, data_variables, device, events, internal_variables, mappings, plugs,
-    service, sockets, states, subapplications,
+    blocks, connections, data_variables, device, events, fields, internal_variables, mappings,
+    plugs, service, sockets, states, subapplications,
 };
 use fb_structured_text::{expression, statements};
 use std::alloc::Global;
@@ -21,6 +21,7 @@ pub enum Part {
     Events,
     Data,
     Internal,
+    Fields,
     Plugs,
     Sockets,
     Blocks,
@@ -65,6 +66,7 @@ fn read_section(alloc: Global, part: Part, tokens: &[Lexeme]) -> Result<(String,
         Part::Events => told(alloc, events(alloc, tokens)),
         Part::Data => told(alloc, data_variables(alloc, tokens)),
         Part::Internal => told(alloc, internal_variables(alloc, tokens)),
+        Part::Fields => told(alloc, fields(alloc, tokens)),
         Part::States => told(alloc, states(alloc, tokens)),
         Part::Device => told(alloc, device(alloc, tokens)),
         Part::Mappings => told(alloc, mappings(alloc, tokens)),

@@ -1,9 +1,10 @@
 //! Tokens, texts of units, mentions and indexes, of which each allocation is refused in turn.
+use crate::index::{nothing, parts};
 use crate::told::{names_told, words};
 use fb_index::Index;
 use fb_library::parse::{Body, ReadFault, Source};
 use fb_text::{Name, Token, TokenFault, tokens};
-use fb_tree::mentions;
+use fb_tree::{Mentions, mentions, mentions_of};
 use refusing::{Trial, try_call};
 use std::alloc::{AllocError, Global};
 use std::io::Print;
@@ -16,6 +17,13 @@ const BLOCK: &str =
 
 const SYSTEM: &str =
     "SYSTEM Y APPLICATION APP SUBAPPS SUB:SA; END_SUBAPPS END_APPLICATION DEVICE D:DT RESOURCE R1:RT END_RESOURCE END_DEVICE MAPPINGS APP ON D.R1; END_MAPPINGS END_SYSTEM";
+
+const STRUCTURE: &str =
+    "TYPE S : STRUCT F:INT; A,B:ARRAY[0..3] OF T := [1, 2]; G:U; END_STRUCT; END_TYPE";
+
+// References with several names, which have subscripts.
+const ALGORITHM: &str =
+    "FUNCTION_BLOCK V VAR X:S; Y:T; END_VAR ALGORITHM P IN ST: X.F.G := X[1, 2].A[Y.B + 1].C; END_ALGORITHM END_FUNCTION_BLOCK";
 
 const BROKEN: &str = "SUBAPPLICATION S FBS F:TN; G TM; END_FBS END_SUBAPPLICATION";
 
@@ -125,6 +133,40 @@ impl Trial for Mentioned {
     }
 }
 
+/// What a text mentions, of both sorts.
+#[derive(Drop)]
+struct AllMentioned {
+    source: Arc<Source>,
+    found: Option<Mentions>,
+}
+
+impl Trial for AllMentioned {
+    type Setting = &'static str;
+
+    fn new(alloc: Global, text: &'static str) -> Result<AllMentioned, Fail> {
+        Ok(AllMentioned {
+            source: Source::read(alloc, Name::read("U")?, text)?,
+            found: None,
+        })
+    }
+
+    fn call(&mut self, alloc: Global) -> bool {
+        match self.source.body() {
+            Body::Tree(decl) => kept(&mut self.found, mentions_of(alloc, decl)),
+            Body::Broken(_) => true,
+        }
+    }
+
+    fn told(&self, alloc: Global) -> Result<String, Fail> {
+        let mut told = String::new(alloc);
+        if let Some(found) = &self.found {
+            told.push_str(names_told(alloc, &found.parts)?.as_str())?;
+            told.push_str(names_told(alloc, &found.of_values)?.as_str())?;
+        }
+        Ok(told)
+    }
+}
+
 /// A call of an index.
 #[derive(Clone, Copy)]
 enum Which {
@@ -140,6 +182,7 @@ enum Which {
 struct Indexed {
     which: Which,
     names: [Name; 3],
+    mentions: Mentions,
     index: Index,
     copy: Option<Index>,
     found: Option<Vec<Name>>,
@@ -158,9 +201,9 @@ fn index_told(alloc: Global, index: &Index, names: &[Name]) -> Result<String, Al
 }
 
 // A unit in a new index, or a new index as it is.
-fn index_anew(alloc: Global, index: &mut Index, unit: Name, mentioned: &[Name]) -> bool {
+fn index_anew(alloc: Global, index: &mut Index, unit: Name, mentioned: &Mentions) -> bool {
     let mut new = Index::new(alloc);
-    let is_served = new.replace(alloc, unit, &[], mentioned).is_ok();
+    let is_served = new.replace(alloc, unit, &nothing(alloc), mentioned).is_ok();
     *index = new;
     is_served
 }
@@ -182,15 +225,17 @@ impl Trial for Indexed {
     fn new(alloc: Global, which: Which) -> Result<Indexed, Fail> {
         let names = [Name::read("A")?, Name::read("B")?, Name::read("C")?];
         let [a, b, c] = names;
+        let mentions = parts(alloc, &[b, c])?;
         let mut index = Index::new(alloc);
         if let Which::Replace = which {
             // It is new.
-        } else if !index_anew(alloc, &mut index, a, &[b, c]) {
+        } else if !index_anew(alloc, &mut index, a, &mentions) {
             return Err(Fail::from("no index"));
         }
         Ok(Indexed {
             which,
             names,
+            mentions,
             index,
             copy: None,
             found: None,
@@ -200,7 +245,7 @@ impl Trial for Indexed {
     fn call(&mut self, alloc: Global) -> bool {
         let [a, b, c] = self.names;
         match self.which {
-            Which::Replace => index_anew(alloc, &mut self.index, a, &[b, c]),
+            Which::Replace => index_anew(alloc, &mut self.index, a, &self.mentions),
             Which::Copy => kept(&mut self.copy, self.index.copy()),
             Which::NearOf => kept(&mut self.found, self.index.near_of(alloc, &[b, c])),
             Which::FarOf => kept(&mut self.found, self.index.far_of(alloc, &[b, c])),
@@ -229,8 +274,12 @@ fn texts(rt: HostRuntime) -> Result<(), Fail> {
     let alloc: Global = rt.alloc();
     try_text(&rt, alloc, " of a block", BLOCK)?;
     try_text(&rt, alloc, " of a system", SYSTEM)?;
+    try_text(&rt, alloc, " of a structure", STRUCTURE)?;
+    try_text(&rt, alloc, " of an algorithm", ALGORITHM)?;
     try_text(&rt, alloc, " of a broken text", BROKEN)?;
-    try_call::<Mentioned>(&rt, alloc, "mentions", "", BLOCK)
+    try_call::<Mentioned>(&rt, alloc, "mentions", "", BLOCK)?;
+    try_call::<AllMentioned>(&rt, alloc, "mentions_of", " of a block", BLOCK)?;
+    try_call::<AllMentioned>(&rt, alloc, "mentions_of", " of a structure", STRUCTURE)
 }
 
 #[test]

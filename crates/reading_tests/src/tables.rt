@@ -7,11 +7,11 @@ use std::process::Abort;
 use std::sync::Arc;
 use std::test::Fail;
 
-// So many that the table has several shelves.
-const MANY: usize = 300;
+// So many that the table has several rooms of shelves.
+const MANY: usize = 6_000;
 
 fn name(alloc: Global, number: usize) -> Result<Name, Fail> {
-    let text = format!(in alloc; "N{number:03}")?;
+    let text = format!(in alloc; "N{number:04}")?;
     Ok(Name::read(text.as_str())?)
 }
 
@@ -112,18 +112,6 @@ fn compare_names(
     Ok(())
 }
 
-/// Compares these names with those of tables into which they were put in order, rising and falling.
-fn compare_orders(rt: &impl Abort, alloc: Global, names: &[Name]) -> Result<(), Fail> {
-    compare_names(rt, alloc, &table(alloc, 0, 1)?, names)?;
-    compare_names(rt, alloc, &table(alloc, MANY - 1, MANY - 1)?, names)
-}
-
-#[test]
-fn names_may_be_put_in_order(rt: HostRuntime) -> Result<(), Fail> {
-    let names = by_sevens(rt.alloc())?.names(rt.alloc())?;
-    compare_orders(&rt, rt.alloc(), &names)
-}
-
 /// Removes the name of every second number.
 fn remove_from(alloc: Global, table: &mut Table<usize>, first: usize) -> Result<(), Fail> {
     let mut number = first;
@@ -132,6 +120,58 @@ fn remove_from(alloc: Global, table: &mut Table<usize>, first: usize) -> Result<
         number = number.wrapping_add(2);
     }
     Ok(())
+}
+
+/// The names of every second number, in order.
+fn every_second(alloc: Global, first: usize) -> Result<Vec<Name>, Fail> {
+    let mut names = Vec::new(alloc);
+    let mut number = first;
+    for _ in 0..MANY / 2 {
+        names.push(name(alloc, number)?)?;
+        number = number.wrapping_add(2);
+    }
+    Ok(names)
+}
+
+/// Compares a table with a list of its names in order.
+fn compare_with_list(
+    rt: &impl Abort,
+    alloc: Global,
+    table: &Table<usize>,
+    names: &[Name],
+) -> Result<(), Fail> {
+    compare_names(rt, alloc, table, names)?;
+    assert_eq!(rt; table.len(), names.len(), "length");
+    for (index, name) in names.iter().enumerate() {
+        assert_eq!(rt; table.name_at(index), Some(*name), "a place");
+        assert_eq!(rt; table.get(name).is_some(), true, "a value");
+    }
+    Ok(())
+}
+
+/// Compares a table into which the names were put from a number on in steps: with all of them, with the odd ones alone, and without any.
+fn compare_order(rt: &impl Abort, alloc: Global, first: usize, step: usize) -> Result<(), Fail> {
+    let mut table = table(alloc, first, step)?;
+    compare_whole(rt, alloc, &table)?;
+    remove_from(alloc, &mut table, 0)?;
+    compare_with_list(rt, alloc, &table, &every_second(alloc, 1)?)?;
+    remove_from(alloc, &mut table, 1)?;
+    compare_with_list(rt, alloc, &table, &[])
+}
+
+#[test]
+fn names_may_be_put_rising(rt: HostRuntime) -> Result<(), Fail> {
+    compare_order(&rt, rt.alloc(), 0, 1)
+}
+
+#[test]
+fn names_may_be_put_falling(rt: HostRuntime) -> Result<(), Fail> {
+    compare_order(&rt, rt.alloc(), MANY - 1, MANY - 1)
+}
+
+#[test]
+fn names_may_be_put_scattered(rt: HostRuntime) -> Result<(), Fail> {
+    compare_order(&rt, rt.alloc(), 0, 2_003)
 }
 
 /// Removes the even numbers and what is not there, and puts another value under 1.

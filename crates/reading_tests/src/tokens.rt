@@ -1,7 +1,9 @@
 //! Names and tokens.
 use crate::told::{names_told, words};
 use fb_grammar::{Kind, lexemes};
-use fb_text::{Name, NameFault, TypeClass, same_name, sorted_names, tokens, type_class};
+use fb_text::{
+    Name, NameFault, TypeClass, is_elementary, same_name, sorted_names, tokens, type_class,
+};
 use std::alloc::{AllocError, Global};
 use std::test::Fail;
 
@@ -68,11 +70,16 @@ const LONGEST: &str = "ABCDEFGHABCDEFGHABCDEFGHABCDEFGHABCDEFGHABCDEFGHABCDEFGHA
 const TOO_LONG: &str = "ABCDEFGHABCDEFGHABCDEFGHABCDEFGHABCDEFGHABCDEFGHABCDEFGHABCDEFGHI";
 
 // Texts of one token, with its kind.
-static KINDS: [(&str, Kind); 30] = [
+static KINDS: [(&str, Kind); 35] = [
     ("FUNCTION_BLOCK", Kind::FunctionBlock),
     ("end_Function_Block", Kind::EndFunctionBlock),
     ("adapter_connections", Kind::AdapterConnections),
     ("or", Kind::Or),
+    ("Type", Kind::TypeWord),
+    ("end_type", Kind::EndType),
+    ("STRUCT", Kind::Struct),
+    ("End_Struct", Kind::EndStruct),
+    ("TYPES", Kind::Name),
     ("in", Kind::NameIn),
     ("On", Kind::NameOn),
     ("ST", Kind::NameSt),
@@ -220,5 +227,28 @@ static CLASSES: [(&str, TypeClass); 9] = [
 fn classes_of_types(rt: HostRuntime) {
     for (word, class) in &CLASSES {
         assert_eq!(rt; type_class(word.as_bytes()), *class, "{word}");
+    }
+}
+
+// Names of types, and whether values of the type need no declaration of it.
+static ELEMENTARY: [(&str, bool); 12] = [
+    ("bool", true),
+    ("ULINT", true),
+    ("Byte", true),
+    ("ANY", true),
+    ("any_thing", true),
+    ("LReal", true),
+    ("TIME_OF_DAY", true),
+    ("Date_And_Time", true),
+    ("wstring", true),
+    ("ANYTHING", false),
+    ("TIMES", false),
+    ("S", false),
+];
+
+#[test]
+fn types_that_need_no_declaration(rt: HostRuntime) {
+    for (word, expected) in &ELEMENTARY {
+        assert_eq!(rt; is_elementary(word.as_bytes()), *expected, "{word}");
     }
 }

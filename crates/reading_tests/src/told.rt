@@ -3,8 +3,8 @@ use fb_library::parse::{Body, Source};
 use fb_text::{Name, NameUse, Span, Token, TokenFault};
 use fb_tree::{
     Algorithm, Application, Chart, Condition, Connection, Constant, Counting, Decl, Device, End,
-    Event, Expr, Instance, Mapping, Network, Parameter, Reference, Simple, State, Stmt, System,
-    Transition, TypeDeclaration, Variables,
+    Event, Expr, Instance, Mapping, Member, Network, Parameter, Reference, Simple, State, Stmt,
+    Structure, System, Transition, TypeDeclaration, Variables,
 };
 use std::alloc::{AllocError, Global};
 
@@ -300,6 +300,13 @@ impl Tell for System {
     }
 }
 
+impl Tell for Structure {
+    fn tell(&self, told: &mut String) -> Result<(), AllocError> {
+        self.name.tell(told)?;
+        self.fields.tell(told)
+    }
+}
+
 impl Tell for Decl {
     fn tell(&self, told: &mut String) -> Result<(), AllocError> {
         match self {
@@ -318,6 +325,10 @@ impl Tell for Decl {
             Decl::System(system) => {
                 told.push_str("system ")?;
                 system.tell(told)
+            }
+            Decl::Structure(structure) => {
+                told.push_str("structure ")?;
+                structure.tell(told)
             }
         }
     }
@@ -379,7 +390,7 @@ fn tell_expression(expression: &Expr, told: &mut String) -> Result<(), AllocErro
     }
 }
 
-/// A variable with its subscripts, each in brackets.
+/// A reference, with its subscripts behind the names that have them, each in brackets. One that is of no name has a `+` before it.
 #[cycle(tell_expression)]
 fn tell_reference(
     reference: &Reference,
@@ -388,16 +399,36 @@ fn tell_reference(
 ) -> Result<(), AllocError> {
     let name = reference.name();
     told.push_str(name.as_str())?;
-    if let Some(member) = reference.member() {
-        told.push_str(".")?;
-        told.push_str(member.name.as_str())?;
-    }
+    let mut left = reference.subscripts;
+    let mut members = reference.members();
     for subscript in subscripts {
-        told.push_str("[")?;
+        (left, members) = tell_members(left, members, told)?;
+        told.push_str(if left == 0 { "+[" } else { "[" })?;
         tell_expression(subscript, told)?;
         told.push_str("]")?;
+        left = left.saturating_sub(1);
     }
+    tell_members(left, members, told)?;
     Ok(())
+}
+
+/// Adds names, each behind a point, up to one that has subscripts, where none are left of the names before. Gives how many are left then, and
+/// the names behind.
+fn tell_members<'a>(
+    left: usize,
+    members: &'a [Member],
+    told: &mut String,
+) -> Result<(usize, &'a [Member]), AllocError> {
+    if left > 0 {
+        return Ok((left, members));
+    }
+    for (i, member) in members.iter().enumerate() {
+        write!(told, ".{}", member.name.name)?;
+        if member.subscripts > 0 {
+            return Ok((member.subscripts, members.get(i + 1..).unwrap_or(&[])));
+        }
+    }
+    Ok((0, &[]))
 }
 
 /// What is done stands in parentheses behind the condition.

@@ -2,13 +2,13 @@
 use crate::told::{names_told, words};
 use fb_library::parse::{Body, Source};
 use fb_text::Name;
-use fb_tree::{Decl, mentions};
+use fb_tree::{Decl, Mentions, mentions, mentions_of};
 use std::alloc::{AllocError, Global};
 use std::process::Abort;
 use std::test::Fail;
 
 // Units with their texts, and what these declare.
-static UNITS: [(&str, &str, &str); 8] = [
+static UNITS: [(&str, &str, &str); 13] = [
     (
         "q",
         "function_block a_1 EVENT_INPUT E:T WITH X,y; END_EVENT VAR_OUTPUT Z:INT; END_VAR EVENT_OUTPUT O; END_EVENT VAR_INPUT X,Y:ARRAY [0..9] OF INT; END_VAR End_Function_Block // done",
@@ -50,6 +50,33 @@ static UNITS: [(&str, &str, &str); 8] = [
         "FUNCTION_BLOCK A PLUGS P:AD; END_PLUGS SOCKETS END_SOCKETS EC_TRANSITIONS END_TRANSITIONS END_FUNCTION_BLOCK",
         "_ is block A 15..16; Plug P:AD",
     ),
+    // structures, with fields and without; their words stand in any case
+    (
+        "S",
+        "TYPE S : STRUCT F:INT; A:ARRAY[0..3] OF INT; G:U; Q:ARRAY[0..1] OF U; END_STRUCT; END_TYPE",
+        "S is structure S 5..6; Field F:Plain INT 18..21; Field A:Array INT 25..43; Field G:Plain U 47..48; Field Q:Array U 52..68",
+    ),
+    (
+        "U",
+        "TYPE U : STRUCT H:BOOL; N:STRING[8]; END_STRUCT END_TYPE",
+        "U is structure U 5..6; Field H:Plain BOOL 18..22; Field N:Sized STRING 26..35",
+    ),
+    (
+        "S",
+        "type s : struct end_struct end_type",
+        "S is structure S 5..6",
+    ),
+    // names of the words IN, ON and ST
+    (
+        "S",
+        "TYPE S : STRUCT IN,ON:INT; END_STRUCT END_TYPE",
+        "S is structure S 5..6; Field IN,ON:Plain INT 22..25",
+    ),
+    (
+        "V",
+        "FUNCTION_BLOCK V VAR X:S; END_VAR ALGORITHM P IN ST: X.IN := X.ON; END_ALGORITHM END_FUNCTION_BLOCK",
+        "V is block V 15..16; Internal X:Plain S 23..24; P IN ST 1",
+    ),
 ];
 
 /// Compares the text of a unit, and what it declares.
@@ -74,41 +101,93 @@ fn texts_of_units(rt: HostRuntime) -> Result<(), Fail> {
     Ok(())
 }
 
-// Texts with the types that they mention.
-static MENTIONS: [(&str, &str); 3] = [
+// Texts with the types that they mention, each with a blank behind it: those of instances, plugs and sockets, and those of variables and
+// fields that are not elementary.
+static MENTIONS: [(&str, &str, &str); 7] = [
     (
         "SUBAPPLICATION SA FBS F:TN; G:TN(DT:=T#250ms); H:TN; END_FBS EVENT_CONNECTIONS F.O TO G.I; G.O TO H.I; END_CONNECTIONS END_SUBAPPLICATION",
         "TN ",
+        "",
     ),
     (
         "SYSTEM Y APPLICATION APP SUBAPPS SUB:SA; END_SUBAPPS END_APPLICATION DEVICE D:DT RESOURCE R1:RT END_RESOURCE END_DEVICE END_SYSTEM",
         "SA ",
+        "",
     ),
     (
         "FUNCTION_BLOCK B SOCKETS S:Z; END_SOCKETS FBS F:Y; G:Z; END_FBS PLUGS P:X; END_PLUGS END_FUNCTION_BLOCK",
         "X Y Z ",
+        "",
     ),
+    (
+        "TYPE S : STRUCT F:INT; G:U; A:ARRAY[0..1] OF Z; B:ARRAY[0..3] OF byte; N:STRING[8]; M:D[3]; H,I:U; V:ANY_NUM; T:time_of_day; END_STRUCT END_TYPE",
+        "",
+        "D U Z ",
+    ),
+    (
+        "FUNCTION_BLOCK B EVENT_INPUT E:K; END_EVENT VAR_INPUT X:S; Y:REAL; END_VAR VAR_OUTPUT Z:ARRAY[0..1] OF R; END_VAR VAR I:B; END_VAR FBS F:INT; G:S; END_FBS END_FUNCTION_BLOCK",
+        "INT S ",
+        "B R S ",
+    ),
+    (
+        "ADAPTER A VAR_OUTPUT O:ANYTHING; P:ANY; END_VAR END_ADAPTER",
+        "",
+        "ANYTHING ",
+    ),
+    ("type s : struct end_struct end_type", "", ""),
 ];
 
-/// The types that a declaration mentions, each with a blank behind it.
-fn mentions_told(alloc: Global, declared: &Decl) -> Result<String, AllocError> {
-    let names = mentions(alloc, declared)?;
-    names_told(alloc, names.as_slice())
-}
-
-/// The types that a text mentions.
-fn mentioned(alloc: Global, text: &str) -> Result<String, Fail> {
+/// What a text mentions.
+fn mentioned(alloc: Global, text: &str) -> Result<Mentions, Fail> {
     let source = Source::read(alloc, Name::underscore(), text)?;
     match source.body() {
-        Body::Tree(declared) => Ok(mentions_told(alloc, declared)?),
+        Body::Tree(declared) => Ok(mentions_of(alloc, declared)?),
         Body::Broken(_) => Err(Fail::from("a broken text")),
     }
 }
 
+/// The types of instances, plugs and sockets of a declaration.
+fn parts_told(alloc: Global, declared: &Decl) -> Result<String, AllocError> {
+    let names = mentions(alloc, declared)?;
+    names_told(alloc, names.as_slice())
+}
+
+/// The same of a text.
+fn parts_of(alloc: Global, text: &str) -> Result<String, Fail> {
+    let source = Source::read(alloc, Name::underscore(), text)?;
+    match source.body() {
+        Body::Tree(declared) => Ok(parts_told(alloc, declared)?),
+        Body::Broken(_) => Err(Fail::from("a broken text")),
+    }
+}
+
+/// Compares what a text mentions.
+fn compare_mentions(
+    rt: &impl Abort,
+    alloc: Global,
+    (text, parts, values): (&str, &str, &str),
+) -> Result<(), Fail> {
+    let found = mentioned(alloc, text)?;
+    assert_eq!(rt;
+        names_told(alloc, found.parts.as_slice())?.as_str(),
+        parts,
+        "{text}"
+    );
+    assert_eq!(rt;
+        names_told(alloc, found.of_values.as_slice())?.as_str(),
+        values,
+        "{text}"
+    );
+    let is_structure = text.starts_with("TYPE") || text.starts_with("type");
+    assert_eq!(rt; found.is_structure, is_structure, "{text}");
+    assert_eq!(rt; parts_of(alloc, text)?.as_str(), parts, "{text}");
+    Ok(())
+}
+
 #[test]
 fn mentioned_types(rt: HostRuntime) -> Result<(), Fail> {
-    for (text, expected) in &MENTIONS {
-        assert_eq!(rt; mentioned(rt.alloc(), text)?.as_str(), *expected, "{text}");
+    for row in &MENTIONS {
+        compare_mentions(&rt, rt.alloc(), *row)?;
     }
     Ok(())
 }

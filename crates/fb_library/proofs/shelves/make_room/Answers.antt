@@ -1,6 +1,6 @@
 -- What is reached has a shelf.
 use Rattle.std.proofs.Common.{List, subst}
-use Rattle.fb_library.specs.Entries.{lasts_in}
+use Rattle.fb_library.specs.Entries.{lasts_in, shelf_of}
 use Rattle.fb_library.specs.Shelves.{IsShelfFor}
 use Rattle.fb_library.specs.declared.shelf.Shelf.{Shelf}
 use Rattle.fb_library.proofs.Kept.{at_reached}
@@ -10,4 +10,4 @@ pub returns-clause-room : goal.returns-clause-room
 returns-clause-room g c =
     let ss = c.widen.new.shelves.items in
     let is = subst (λ (ss : List (Shelf g.row.V.Denot)). IsShelfFor (lasts_in ss) c.args.name.now c.shelf_for.result) c.as_slice-2.ensures.value c.shelf_for.ensures in
-    at_reached ss c.args.name.now c.shelf_for.result is c.in_ok-widen.ensures.room
+    at_reached shelf_of ss c.args.name.now c.shelf_for.result is c.in_ok-widen.ensures.room

@@ -1,8 +1,9 @@
 -- The shelf that does not end below the name is still there once it is two.
 use Rattle.std.proofs.Common.{arith}
+use Rattle.fb_library.specs.Entries.{shelf_of}
 use Rattle.fb_library.proofs.Kept.{reached_at, always}
 use Rattle.fb_library.proofs.shelves.widen.Goals as goal
 
 pub returns-then-at-len-clause-room : goal.returns-then-at-len-clause-room
 returns-then-at-len-clause-room g c =
-    always c.halve_full.result (c.halve_full.ensures.room c.args.name.now (reached_at c.args.shelves.now.items c.args.name.now c.args.at c.requires.at (omega arith)))
+    always c.halve_full.result (c.halve_full.ensures.room c.args.name.now (reached_at shelf_of c.args.shelves.now.items c.args.name.now c.args.at c.requires.at (omega arith)))

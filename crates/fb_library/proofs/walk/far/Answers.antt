@@ -1,39 +1,38 @@
-use Rattle.std.proofs.Common.{◌≡◌, ◌∷◌, [], ◌++◌, ap, sym, subst, ◌∙◌, arith}
+use Rattle.std.proofs.Common.{◌≡◌, ◌∷◌, [], ◌++◌, refl, ap, sym, subst, ◌∙◌, arith}
 use Rattle.std.proofs.lemmas.Result.{IfOk-weaker}
-use Rattle.fb_library.specs.Seen.{Opens, has_name}
-use Rattle.fb_library.specs.View.{mentions_at}
-use Rattle.fb_library.proofs.WalkLemmas.{IsWalk, IsWalk-begin, IsWalk-step, begun, one_pushed, no_items, opens_falls, complete_at_end, Contains-has, has-Contains}
+use Rattle.fb_library.specs.Near.{in_all_trees}
+use Rattle.fb_library.specs.Seen.{has_name}
+use Rattle.fb_library.specs.View.{mentions_at, mentions_in}
+use Rattle.fb_library.proofs.FarLemmas.{seen_rests, rests_seen}
+use Rattle.fb_library.proofs.WalkLemmas.{IsWalk, IsWalk-one, IsWalk-step, begun, one_pushed, no_items, opens_falls, mentioned_somewhere, Contains-has, has-Contains}
 use Rattle.fb_library.proofs.walk.far.Goals as goal
 
 pub loop-name-init : goal.loop-name-init
 loop-name-init g c =
-    IsWalk-begin (g.V.View.sources c.args.view.now) c.args.unit c.insert.new.self.keys c.push.new.self.items
+    IsWalk-one (mentions_at (g.V.View.sources c.args.view.now)) c.args.unit c.insert.new.self.keys c.push.new.self.items
     (begun c.new-seen.result c.insert.new.self c.args.unit c.new-seen.ensures.empty c.in_ok-insert.ensures.updates)
     (one_pushed c.new-pending.result.items c.push.new.self.items c.args.unit c.new-pending.ensures.items c.in_ok-push.ensures.items)
 
 pub loop-name-preserved : goal.loop-name-preserved
 loop-name-preserved g c =
-    let sources = g.V.View.sources c.args.view.now in
-    let unit = c.args.unit in
+    let next = mentions_at (g.V.View.sources c.args.view.now) in
+    let starts = c.args.unit ∷ [] in
     let name = c.in-Some.name in
-    let before : IsWalk sources unit c.loop-name.seen.keys (c.pop.new.self.items ++ name ∷ []) = subst (IsWalk sources unit c.loop-name.seen.keys) c.in-Some.ensures.items c.loop-name.invariant in
-    let opens : Opens (mentions_at sources name) c.loop-name.seen.keys c.pop.new.self.items c.open_new.new.seen.keys c.open_new.new.pending.items = subst (λ ns. Opens ns c.loop-name.seen.keys c.pop.new.self.items c.open_new.new.seen.keys c.open_new.new.pending.items) c.part_mentions.ensures c.in_ok-open_new.ensures in
-    IsWalk-step sources unit _ _ _ _ name before opens
+    let before : IsWalk next starts c.loop-name.seen.keys (c.pop.new.self.items ++ name ∷ []) = subst (IsWalk next starts c.loop-name.seen.keys) c.in-Some.ensures.items c.loop-name.invariant in
+    IsWalk-step next starts _ _ _ _ name before c.in_ok-open_mentions.ensures
 
 pub loop-name-smaller : goal.loop-name-smaller
 loop-name-smaller g c =
     let sources = g.V.View.sources c.args.view.now in
-    let name = c.in-Some.name in
-    let opens : Opens (mentions_at sources name) c.loop-name.seen.keys c.pop.new.self.items c.open_new.new.seen.keys c.open_new.new.pending.items = subst (λ ns. Opens ns c.loop-name.seen.keys c.pop.new.self.items c.open_new.new.seen.keys c.open_new.new.pending.items) c.part_mentions.ensures c.in_ok-open_new.ensures in
-    opens_falls sources name _ _ _ _ c.loop-name.pending.items opens c.in-Some.ensures.items
+    opens_falls (mentions_at sources) (in_all_trees mentions_in sources) (mentioned_somewhere mentions_in refl sources) c.in-Some.name _ _ _ _ c.loop-name.pending.items c.in_ok-open_mentions.ensures c.in-Some.ensures.items
 
 pub returns-clause-sound : goal.returns-clause-sound
 returns-clause-sound g c =
-    IfOk-weaker c.names_of.result _ _ (λ names is v there. c.loop-name.invariant.sound v (ap (λ l. has_name l v) (sym is) ∙ has-Contains v names.items there)) c.names_of.ensures.items
+    IfOk-weaker c.names_of.result _ _ (λ names is v there. seen_rests c.loop-name.invariant v (ap (λ l. has_name l v) (sym is) ∙ has-Contains v names.items there)) c.names_of.ensures.items
 
 pub returns-clause-complete : goal.returns-clause-complete
 returns-clause-complete g c =
     let sources = g.V.View.sources c.args.view.now in
     let empty : c.loop-name.pending.items ≡ [] = no_items c.loop-name.pending.items (omega (arith, c.in_default.ensures.cases, c.loop-name.pending.ok.0)) in
-    let walk : IsWalk sources c.args.unit c.loop-name.seen.keys [] = subst (IsWalk sources c.args.unit c.loop-name.seen.keys) empty c.loop-name.invariant in
-    IfOk-weaker c.names_of.result _ _ (λ names is v rests. Contains-has v names.items (ap (λ l. has_name l v) is ∙ complete_at_end sources c.args.unit c.loop-name.seen.keys walk v rests)) c.names_of.ensures.items
+    let walk : IsWalk (mentions_at sources) (c.args.unit ∷ []) c.loop-name.seen.keys [] = subst (IsWalk (mentions_at sources) (c.args.unit ∷ []) c.loop-name.seen.keys) empty c.loop-name.invariant in
+    IfOk-weaker c.names_of.result _ _ (λ names is v rests. Contains-has v names.items (ap (λ l. has_name l v) is ∙ rests_seen walk v rests)) c.names_of.ensures.items

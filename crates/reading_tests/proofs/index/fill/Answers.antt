@@ -1,26 +1,44 @@
--- What is indexed for each unit before it is replaced, and for B at the end.
-use Rattle.std.proofs.Common.{ℕ, List, [], ◌∷◌, ap}
-use Rattle.fb_index.specs.Near.{Users, is_near}
-use Rattle.fb_index.proofs.Replacing.{indexed_own, indexed_other}
+-- What is indexed of each unit before it is replaced, and of the second one at the end.
+use Rattle.std.proofs.Common.{◌≡◌, ℕ, List, sym, subst, ◌∙◌}
+use Rattle.fb_tree.specs.Mentions.{Mentioned, mentioned, nothing_mentioned}
+use Rattle.fb_index.specs.Indexed.{Indexed, nothing_indexed, IsIndexedAs}
+use Rattle.fb_index.proofs.Lookups.{flips}
+use Rattle.fb_index.proofs.Replacing.{indexed_none, indexed_other}
 use Rattle.reading_tests.proofs.index.fill.Goals as goal
 
+-- nothing is indexed of a unit at the beginning
+begins : (index : Indexed) (none : Mentioned) → index ≡ nothing_indexed → none ≡ nothing_mentioned → (unit : List ℕ) → IsIndexedAs index unit none
+begins index none empty is unit = subst (λ i. IsIndexedAs i unit none) (sym empty) (subst (IsIndexedAs nothing_indexed unit) (sym is) (indexed_none unit))
+
 pub replace-requires : goal.replace-requires
-replace-requires c = record { known = λ name apart. ap (λ (us : Users). is_near us c.args.a name) c.requires.empty }
+replace-requires c = record { known = begins c.args.index.now (mentioned c.nothing-none.result) c.requires.empty c.nothing-none.ensures c.args.case.now.first.name }
 
 pub replace-requires-2 : goal.replace-requires-2
 replace-requires-2 c = record {
-  known = indexed_other c.args.index.now c.replace.new.self c.args.a c.args.b (c.args.b ∷ []) [] c.in_ok-replace.ensures.ok c.requires.ab
-      (λ name apart. ap (λ (us : Users). is_near us c.args.b name) c.requires.empty);
+  known =
+      indexed_other c.args.index.now c.replace.new.self c.args.case.now.first.name c.args.case.now.second.name _ _ c.in_ok-replace.ensures.ok c.in_ok-refuse_same.ensures
+      (begins c.args.index.now (mentioned c.nothing-none.result) c.requires.empty c.nothing-none.ensures c.args.case.now.second.name);
 }
 
 pub replace-requires-3 : goal.replace-requires-3
 replace-requires-3 c = record {
-  known = indexed_other c.replace.new.self c.replace-2.new.self c.args.b c.args.s (c.args.a ∷ []) [] c.in_ok-replace-2.ensures.ok c.requires.bs
-      (indexed_other c.args.index.now c.replace.new.self c.args.a c.args.s (c.args.b ∷ []) [] c.in_ok-replace.ensures.ok c.requires.a_s
-      (λ name apart. ap (λ (us : Users). is_near us c.args.s name) c.requires.empty));
+  known =
+      indexed_other c.replace.new.self c.replace-2.new.self c.args.case.now.second.name c.args.case.now.third.name _ _ c.in_ok-replace-2.ensures.ok c.in_ok-refuse_same-4.ensures
+      (indexed_other c.args.index.now c.replace.new.self c.args.case.now.first.name c.args.case.now.third.name _ _ c.in_ok-replace.ensures.ok c.in_ok-refuse_same-2.ensures
+      (begins c.args.index.now (mentioned c.nothing-none.result) c.requires.empty c.nothing-none.ensures c.args.case.now.third.name));
+}
+
+pub replace-requires-4 : goal.replace-requires-4
+replace-requires-4 c = record {
+  known =
+      indexed_other c.replace-2.new.self c.replace-3.new.self c.args.case.now.third.name c.args.case.now.fourth.name _ _ c.in_ok-replace-3.ensures.ok c.in_ok-refuse_same-6.ensures
+      (indexed_other c.replace.new.self c.replace-2.new.self c.args.case.now.second.name c.args.case.now.fourth.name _ _ c.in_ok-replace-2.ensures.ok c.in_ok-refuse_same-5.ensures
+      (indexed_other c.args.index.now c.replace.new.self c.args.case.now.first.name c.args.case.now.fourth.name _ _ c.in_ok-replace.ensures.ok c.in_ok-refuse_same-3.ensures
+      (begins c.args.index.now (mentioned c.nothing-none.result) c.requires.empty c.nothing-none.ensures c.args.case.now.fourth.name)));
 }
 
 pub returns : goal.returns
 returns c =
-    indexed_other c.replace-2.new.self c.replace-3.new.self c.args.s c.args.b (c.args.a ∷ []) (c.args.a ∷ []) c.in_ok-replace-3.ensures.ok c.requires.sb
-    (indexed_own c.replace.new.self c.replace-2.new.self c.args.b (c.args.a ∷ []) c.in_ok-replace-2.ensures.ok)
+    indexed_other c.replace-3.new.self c.replace-4.new.self c.args.case.now.fourth.name c.args.case.now.second.name _ _ c.in_ok-replace-4.ensures.ok (flips c.args.case.now.fourth.name c.args.case.now.second.name ∙ c.in_ok-refuse_same-5.ensures)
+    (indexed_other c.replace-2.new.self c.replace-3.new.self c.args.case.now.third.name c.args.case.now.second.name _ _ c.in_ok-replace-3.ensures.ok (flips c.args.case.now.third.name c.args.case.now.second.name ∙ c.in_ok-refuse_same-4.ensures)
+    c.in_ok-replace-2.ensures.ok.own)

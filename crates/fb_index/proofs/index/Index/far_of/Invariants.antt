@@ -1,10 +1,16 @@
-use Rattle.std.proofs.Common.{◌+◌, length}
-use Rattle.fb_library.specs.Seen.{unseen}
-use Rattle.fb_index.proofs.Walks.{IsWalk, all_users}
+use Rattle.std.proofs.Common.{◌+◌, [], ◌++◌, length, take}
+use Rattle.std.specs.List.{flat_map}
+use Rattle.fb_library.specs.Seen.{Opens, unseen}
+use Rattle.fb_library.proofs.WalkLemmas.{IsWalk}
+use Rattle.fb_index.specs.Near.{mentioning}
+use Rattle.fb_index.proofs.Walks.{all_users}
 use Rattle.fb_index.proofs.index.Index.far_of.Given as goal
 
 abbrev pub invariant-loop-name : goal.invariant-loop-name
-invariant-loop-name l = IsWalk l.self l.names l.seen.keys l.pending.items
+invariant-loop-name l = Opens (flat_map (mentioning l.self) (take l.name-index l.names)) [] [] l.seen.keys l.pending.items
 
-abbrev pub decreases-loop-name : goal.decreases-loop-name
-decreases-loop-name l = unseen l.seen.keys (all_users l.self) + length l.pending.items
+abbrev pub invariant-loop-name-2 : goal.invariant-loop-name-2
+invariant-loop-name-2 l = IsWalk (mentioning l.self) (flat_map (mentioning l.self) l.fn.names) l.seen.keys l.pending.items
+
+abbrev pub decreases-loop-name-2 : goal.decreases-loop-name-2
+decreases-loop-name-2 l = unseen l.seen.keys (all_users l.self.parts ++ all_users l.self.of_values) + length l.pending.items

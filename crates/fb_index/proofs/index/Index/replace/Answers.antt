@@ -1,23 +1,19 @@
--- The three steps on a copy, or none where the mentions are the same.
-use Rattle.std.proofs.Common.{◌≡◌, refl, sym, ap, ◌∙◌, ◌&&◌, not}
-use Rattle.std.specs.BTreeMap.{is_at}
-use Rattle.std.specs.BTreeSet as set
+-- The three tables of a copy, or none where the mentions are the same.
+use Rattle.std.proofs.Common.{◌≡◌, ap, subst, ◌∙◌}
+use Rattle.std.specs.BTreeMap.{insert_entry}
 use Rattle.fb_text.specs.Order.{name_cmp}
-use Rattle.fb_library.specs.Seen.{has_name}
-use Rattle.fb_index.specs.Near.{is_near}
-use Rattle.std.proofs.lemmas.Slice.Eq.{slice_eq-Decides}
-use Rattle.std.proofs.lemmas.Bool.Decides.{Decides-eqb}
-use Rattle.fb_index.proofs.Lookups.{replaced, unchanged}
+use Rattle.fb_tree.specs.Mentions.{mentioned}
+use Rattle.fb_index.specs.Indexed.{Indexed}
+use Rattle.fb_index.specs.Users.{NowUses}
+use Rattle.fb_index.proofs.Lookups.{unit_replaced}
 use Rattle.fb_index.proofs.index.Index.replace.Goals as goal
-
-pub returns-then-has-clause-ok : goal.returns-then-has-clause-ok
-returns-then-has-clause-ok c =
-    let same : c.args.old.now ≡ c.args.new.now = (slice_eq-Decides (λ a b. slice_eq-Decides Decides-eqb a b _ refl) _ _ _ c.eq.ensures).0 c.if-eq.true in
-    unchanged c.args.self.now c.args.unit c.args.old.now c.args.new.now c.requires.known same (sym c.has.ensures ∙ c.if-has.true)
 
 pub returns-clause-ok : goal.returns-clause-ok
 returns-clause-ok c =
-    replaced c.args.self.now c.take_out.new.self c.join.new.self c.put_in.new.self c.args.unit c.args.old.now c.args.new.now c.in_ok-before.before c.in_ok-after.after c.in_ok-before.ensures c.in_ok-after.ensures c.requires.known
-    (λ other n. c.in_ok-take_out.ensures other n ∙ ap (λ us. is_near us other n && not (is_at (name_cmp c.args.unit) other && (has_name c.args.old.now n && not (set.contains name_cmp c.in_ok-after.after n)))) c.in_ok-index.ensures)
-    c.in_ok-join.ensures
-    c.in_ok-put_in.ensures
+    let old : Indexed = c.args.self.now in
+    let unit = c.args.unit in
+    let is : record { parts = c.index.inside.parts; of_values = c.index.inside.of_values; units = c.index.inside.units } ≡ old = c.index.view_is ∙ c.in_ok-index.ensures in
+    let parts : NowUses old.parts unit c.args.new.now.parts.items c.replace.new.self = subst (λ us. NowUses us unit c.args.new.now.parts.items c.replace.new.self) (ap (λ (it : Indexed). it.parts) is) (subst (λ ns. NowUses c.index.inside.parts unit ns c.replace.new.self) c.as_slice-2.ensures.value c.in_ok-replace.ensures) in
+    let of_values : NowUses old.of_values unit c.args.new.now.of_values.items c.replace-2.new.self = subst (λ us. NowUses us unit c.args.new.now.of_values.items c.replace-2.new.self) (ap (λ (it : Indexed). it.of_values) is) (subst (λ ns. NowUses c.index.inside.of_values unit ns c.replace-2.new.self) c.as_slice-4.ensures.value c.in_ok-replace-2.ensures) in
+    let units : c.put.new.self ≡ insert_entry name_cmp old.units unit c.args.new.now.is_structure = c.in_ok-put.ensures.ok ∙ ap (λ (it : Indexed). insert_entry name_cmp it.units unit c.in_ok-new.field-0.value) is ∙ ap (insert_entry name_cmp old.units unit) c.in_ok-new.ensures.ok in
+    unit_replaced old (record { parts = c.replace.new.self; of_values = c.replace-2.new.self; units = c.put.new.self }) unit (mentioned c.args.new.now) parts of_values units

@@ -1,46 +1,36 @@
--- A name is on the shelf that the index reaches.
-use Rattle.std.proofs.Common.{◌≡◌, ℕ, ◌+◌, ◌-◌, List, length, drop, slice_get, refl, ap, subst, sym, ◌∙◌, arith}
-use Rattle.std.specs.Option.{option_map}
-use Rattle.std.proofs.lemmas.Option.{slice_get_read}
+-- A name is in the room that the index reaches.
+use Rattle.std.proofs.Common.{◌≡◌, ℕ, ◌+◌, ◌-◌, List, length, drop, slice_get, ap, subst, sym, ◌∙◌, arith}
 use Rattle.std.specs.List.Sorted.{IsStrictlySortedBy}
 use Rattle.fb_parse.specs.Text.Order.{name_cmp}
-use Rattle.fb_library.specs.Entries.{entries_of, names_in, shelves_of, entries_in}
+use Rattle.fb_library.specs.Rooms.{room_of, rooms_of, entries_within}
 use Rattle.fb_library.specs.Shelves.{names_of}
 use Rattle.fb_library.proofs.OnShelves.{all_sorted}
-use Rattle.fb_library.specs.declared.shelf.Placed.{Placed}
-use Rattle.fb_library.proofs.Entries.{entries_counted, name_there}
 use Rattle.fb_library.proofs.Tables.{name_first, name_later, entries_left}
 use Rattle.fb_library.proofs.table.Table.name_at.Goals as goal
 
-pub loop-shelf-preserved : goal.loop-shelf-preserved
-loop-shelf-preserved g c =
-    let shelves = c.deref-shelf-items.result.now in
-    let shelf = c.shelf-item.result in
-    let items : c.deref-in-loop-shelf.result.now ≡ shelf.places.value.items = c.deref-in-loop-shelf.ensures.value ∙ (λ i. (c.deref.ensures i).items) in
-    let left = entries_in (drop (c.loop-shelf.shelf-index + 1) shelves) in
-    let here : c.loop-shelf.index ≡ length (entries_of shelf.places.value.items) + (c.loop-shelf.index - c.len-index.result) = omega (arith, entries_counted shelf.places.value.items, ap length items, c.in-None.ensures.lookup.3, c.len-index.ensures, ap (λ vec. length vec.items) c.deref-in-None.ensures) in
-    sym (name_later (entries_of shelf.places.value.items) left c.loop-shelf.index (c.loop-shelf.index - c.len-index.result) here)
-    ∙ ap (λ (es : List (List ℕ × g.row.V.Denot)). slice_get (names_of es) c.loop-shelf.index) (sym (entries_left shelves c.loop-shelf.shelf-index shelf c.loop-shelf-test.true c.shelf-item.is))
-    ∙ c.loop-shelf.invariant
+pub loop-room-preserved : goal.loop-room-preserved
+loop-room-preserved g c =
+    let rooms = c.deref-room-items.result.now in
+    let room = c.room-item.result in
+    let left = entries_within (drop (c.loop-room.room-index + 1) rooms) in
+    let here : c.loop-room.index ≡ length room.shelves.value + (c.loop-room.index - c.len-here.result) = omega (arith, c.if-index-here.false, c.len-here.ensures, ap length c.deref.ensures) in
+    sym (name_later room.shelves.value left c.loop-room.index (c.loop-room.index - c.len-here.result) here)
+    ∙ ap (λ (es : List (List ℕ × g.row.V.Denot)). slice_get (names_of es) c.loop-room.index) (sym (entries_left room_of rooms c.loop-room.room-index room c.loop-room-test.true c.room-item.is))
+    ∙ c.loop-room.invariant
 
-pub returns-in-Some-clause-name : goal.returns-in-Some-clause-name
-returns-in-Some-clause-name g c =
-    let shelves = c.deref-shelf-items.result.now in
-    let shelf = c.shelf-item.result in
-    let slice = c.deref-in-loop-shelf.result.now in
-    let items : slice ≡ shelf.places.value.items = c.deref-in-loop-shelf.ensures.value ∙ (λ i. (c.deref.ensures i).items) in
-    let left = entries_in (drop (c.loop-shelf.shelf-index + 1) shelves) in
-    let found = c.in-Some.ensures.lookup in
-    let there = slice_get_read slice (length slice) c.loop-shelf.index c.in-Some.placed.now refl found.3.0 found.1 in
-    sym (ap (option_map (λ (p : Placed g.row.V.Denot). p.name)) there) ∙ sym (name_there slice c.loop-shelf.index)
-    ∙ ap (λ (ps : List (Placed g.row.V.Denot)). slice_get (names_in ps) c.loop-shelf.index) items
-    ∙ sym (name_first (entries_of shelf.places.value.items) left c.loop-shelf.index (omega (arith, found.3.0, entries_counted shelf.places.value.items, ap length items)))
-    ∙ ap (λ (es : List (List ℕ × g.row.V.Denot)). slice_get (names_of es) c.loop-shelf.index) (sym (entries_left shelves c.loop-shelf.shelf-index shelf c.loop-shelf-test.true c.shelf-item.is))
-    ∙ c.loop-shelf.invariant
-    ∙ ap (λ (es : List (List ℕ × g.row.V.Denot)). slice_get (names_of es) c.args.index) (ap entries_in c.deref-shelf-items.ensures.value ∙ c.self.view_is)
+pub returns-then-index-here-clause-name : goal.returns-then-index-here-clause-name
+returns-then-index-here-clause-name g c =
+    let rooms = c.deref-room-items.result.now in
+    let room = c.room-item.result in
+    let left = entries_within (drop (c.loop-room.room-index + 1) rooms) in
+    c.name_at.ensures ∙ (λ i. slice_get (names_of (c.deref-then-index-here.ensures i)) c.loop-room.index)
+    ∙ sym (name_first room.shelves.value left c.loop-room.index (omega (arith, c.if-index-here.true, c.len-here.ensures, ap length c.deref.ensures)))
+    ∙ ap (λ (es : List (List ℕ × g.row.V.Denot)). slice_get (names_of es) c.loop-room.index) (sym (entries_left room_of rooms c.loop-room.room-index room c.loop-room-test.true c.room-item.is))
+    ∙ c.loop-room.invariant
+    ∙ ap (λ (es : List (List ℕ × g.row.V.Denot)). slice_get (names_of es) c.args.index) (ap entries_within c.deref-room-items.ensures.value ∙ c.self.view_is)
 
-pub returns-in-Some-clause-sorted : goal.returns-in-Some-clause-sorted
-returns-in-Some-clause-sorted g c = subst (IsStrictlySortedBy name_cmp) (ap names_of c.self.view_is) (all_sorted (shelves_of c.self.inside.shelves.items) c.self.invariant.order)
+pub returns-then-index-here-clause-sorted : goal.returns-then-index-here-clause-sorted
+returns-then-index-here-clause-sorted g c = subst (IsStrictlySortedBy name_cmp) (ap names_of c.self.view_is) (all_sorted (rooms_of c.self.inside.rooms.items) c.self.invariant.order)
 
 pub returns-clause-sorted : goal.returns-clause-sorted
-returns-clause-sorted g c = subst (IsStrictlySortedBy name_cmp) (ap names_of c.self.view_is) (all_sorted (shelves_of c.self.inside.shelves.items) c.self.invariant.order)
+returns-clause-sorted g c = subst (IsStrictlySortedBy name_cmp) (ap names_of c.self.view_is) (all_sorted (rooms_of c.self.inside.rooms.items) c.self.invariant.order)

@@ -1,6 +1,6 @@
 use Rattle.std.proofs.Common.{◌≡◌, take, map}
-use Rattle.fb_library.specs.Entries.{entries_in}
+use Rattle.fb_library.specs.Rooms.{entries_within}
 use Rattle.fb_library.proofs.table.Table.names.Given as goal
 
-abbrev pub invariant-loop-shelf : goal.invariant-loop-shelf
-invariant-loop-shelf g l = l.names.items ≡ map (λ e. e.0) (entries_in (take l.shelf-index l.shelf-items))
+abbrev pub invariant-loop-room : goal.invariant-loop-room
+invariant-loop-room g l = l.names.items ≡ map (λ e. e.0) (entries_within (take l.room-index l.room-items))

@@ -1,0 +1,200 @@
+-- Shelves that make room for a name have the same entries.
+use Rattle.std.proofs.Common.{◌≡◌, ℕ, zero, suc, ◌<◌, true, false, ◌||◌, List, [], ◌∷◌, ◌++◌, length, take, drop, get_or, set, refl, sym, ap, subst, ◌∙◌, arith, append_assoc}
+use Rattle.std.specs.List.{AllByRecursion, insert}
+use Rattle.std.specs.List.Sorted.{IsStrictlySortedBy}
+use Rattle.std.specs.Ordering.{is_le}
+use Rattle.std.specs.declared.cmp.Ordering.TheVariants.{Less}
+use Rattle.std.proofs.lemmas.Bool.{or_left, or_right}
+use Rattle.fb_parse.specs.Text.Order.{name_cmp}
+use Rattle.fb_library.specs.Shelves.{names_of, lasts_of, all_on, AreShelves, reaches}
+use Rattle.fb_library.proofs.Names.{name_total}
+use Rattle.fb_library.proofs.OnShelves.{Row, last_at, entries_at, le_lt, lt_le, le_self, each, or_wider, all_append, all_left, all_right}
+
+module _ {V : Type 0} where
+  all_lasts : (P : List ℕ → Type 0) (ss : List (Row V)) (i : ℕ) (s : Row V) → AllByRecursion P (lasts_of ss) → P s.0 → AllByRecursion P (lasts_of (set ss i s))
+  all_lasts P [] i s all p = tt
+  all_lasts P (t ∷ ss) zero s all p = (p, all.1)
+  all_lasts P (t ∷ ss) (suc i) s all p = (all.0, all_lasts P ss i s all.1 p)
+
+  -- ---- a last shelf that ends at a greater name
+
+  abbrev pub ended_at : List (Row V) → ℕ → List ℕ → List (Row V)
+  ended_at ss i n = set ss i (n, entries_at ss i)
+
+  pub all_ended : (ss : List (Row V)) (i : ℕ) (n : List ℕ) → all_on (ended_at ss i n) ≡ all_on ss
+  all_ended [] i n = refl
+  all_ended (s ∷ ss) zero n = refl
+  all_ended (s ∷ ss) (suc i) n = ap (λ l. s.1 ++ l) (all_ended ss i n)
+
+  pub reaches_ended : (ss : List (Row V)) (i : ℕ) (n : List ℕ) → i < length ss → reaches (lasts_of (ended_at ss i n)) n ≡ true
+  reaches_ended [] i n lt = absurd (omega (arith, lt))
+  reaches_ended (s ∷ ss) zero n lt = or_left (is_le (name_cmp n n)) (reaches (lasts_of ss) n) (le_self n)
+  reaches_ended (s ∷ ss) (suc i) n lt = or_right (is_le (name_cmp n s.0)) (reaches (lasts_of (ended_at ss i n)) n) (reaches_ended ss i n (omega (arith, lt)))
+
+  pub shelves_ended : (ss : List (Row V)) (i : ℕ) (n : List ℕ) → suc i ≡ length ss → AreShelves ss → AllByRecursion (λ m. name_cmp m n ≡ Less) (lasts_of ss) → AreShelves (ended_at ss i n)
+  shelves_ended [] i n end are past = absurd (omega (arith, end))
+  shelves_ended (s ∷ []) zero n end are past = (
+    record {
+      sorted = are.0.sorted;
+      within = each (λ m. is_le (name_cmp m s.0) ≡ true) (λ m. is_le (name_cmp m n) ≡ true) (λ m le. ap is_le (le_lt m s.0 n le past.0)) (names_of s.1) are.0.within;
+      before = tt;
+      rising = tt;
+    },
+    tt,
+  )
+  shelves_ended (s ∷ t ∷ ss) zero n end are past = absurd (omega (arith, end))
+  shelves_ended (s ∷ ss) (suc i) n end are past = (
+    record {
+      sorted = are.0.sorted;
+      within = are.0.within;
+      before = subst (λ (es : List (List ℕ × V)). AllByRecursion (λ m. name_cmp s.0 m ≡ Less) (names_of es)) (sym (all_ended ss i n)) are.0.before;
+      rising = all_lasts (λ m. name_cmp s.0 m ≡ Less) ss i (n, entries_at ss i) are.0.rising past.0;
+    },
+    shelves_ended ss i n (omega (arith, end)) are.1 past.1,
+  )
+
+  -- ---- a shelf more, which is empty
+
+  abbrev pub one_more : List (Row V) → List ℕ → List (Row V)
+  one_more ss n = ss ++ (n, []) ∷ []
+
+  pub all_more : (ss : List (Row V)) (n : List ℕ) → all_on (one_more ss n) ≡ all_on ss
+  all_more [] n = refl
+  all_more (s ∷ ss) n = ap (λ l. s.1 ++ l) (all_more ss n)
+
+  pub reaches_more : (ss : List (Row V)) (n : List ℕ) → reaches (lasts_of (one_more ss n)) n ≡ true
+  reaches_more [] n = or_left (is_le (name_cmp n n)) false (le_self n)
+  reaches_more (s ∷ ss) n = or_right (is_le (name_cmp n s.0)) (reaches (lasts_of (one_more ss n)) n) (reaches_more ss n)
+
+  rising_more : (P : List ℕ → Type 0) (ss : List (Row V)) (n : List ℕ) → AllByRecursion P (lasts_of ss) → P n → AllByRecursion P (lasts_of (one_more ss n))
+  rising_more P [] n all p = (p, tt)
+  rising_more P (s ∷ ss) n all p = (all.0, rising_more P ss n all.1 p)
+
+  pub shelves_more : (ss : List (Row V)) (n : List ℕ) → AreShelves ss → AllByRecursion (λ m. name_cmp m n ≡ Less) (lasts_of ss) → AreShelves (one_more ss n)
+  unfolding IsStrictlySortedBy
+  shelves_more [] n are past = (record { sorted = tt; within = tt; before = tt; rising = tt }, tt)
+  shelves_more (s ∷ ss) n are past = (
+    record {
+      sorted = are.0.sorted;
+      within = are.0.within;
+      before = subst (λ (es : List (List ℕ × V)). AllByRecursion (λ m. name_cmp s.0 m ≡ Less) (names_of es)) (sym (all_more ss n)) are.0.before;
+      rising = rising_more (λ m. name_cmp s.0 m ≡ Less) ss n are.0.rising past.0;
+    },
+    shelves_more ss n are.1 past.1,
+  )
+
+  -- ---- a shelf in two
+
+  abbrev name_at : List (List ℕ × V) → ℕ → List ℕ
+  name_at es k = get_or (names_of es) k []
+
+  joins : (es : List (List ℕ × V)) (k : ℕ) → take k es ++ drop k es ≡ es
+  joins [] zero = refl
+  joins [] (suc k) = refl
+  joins (e ∷ es) zero = refl
+  joins (e ∷ es) (suc k) = ap (λ l. e ∷ l) (joins es k)
+
+  taken : (P : List ℕ → Type 0) (es : List (List ℕ × V)) (k : ℕ) → AllByRecursion P (names_of es) → AllByRecursion P (names_of (take k es))
+  taken P es k all = all_left P (take k es) (drop k es) (subst (λ (l : List (List ℕ × V)). AllByRecursion P (names_of l)) (sym (joins es k)) all)
+
+  dropped : (P : List ℕ → Type 0) (es : List (List ℕ × V)) (k : ℕ) → AllByRecursion P (names_of es) → AllByRecursion P (names_of (drop k es))
+  dropped P es k all = all_right P (take k es) (drop k es) (subst (λ (l : List (List ℕ × V)). AllByRecursion P (names_of l)) (sym (joins es k)) all)
+
+  named : (P : List ℕ → Type 0) (es : List (List ℕ × V)) (k : ℕ) → k < length es → AllByRecursion P (names_of es) → P (name_at es k)
+  named P [] k lt all = absurd (omega (arith, lt))
+  named P (e ∷ es) zero lt all = all.0
+  named P (e ∷ es) (suc k) lt all = named P es k (omega (arith, lt)) all.1
+
+  sorted_low : (es : List (List ℕ × V)) (k : ℕ) → IsStrictlySortedBy name_cmp (names_of es) → IsStrictlySortedBy name_cmp (names_of (take k es))
+  unfolding IsStrictlySortedBy
+  sorted_low [] zero s = tt
+  sorted_low [] (suc k) s = tt
+  sorted_low (e ∷ es) zero s = tt
+  sorted_low (e ∷ es) (suc k) s = (taken (λ m. name_cmp e.0 m ≡ Less) es k s.0, sorted_low es k s.1)
+
+  sorted_high : (es : List (List ℕ × V)) (k : ℕ) → IsStrictlySortedBy name_cmp (names_of es) → IsStrictlySortedBy name_cmp (names_of (drop k es))
+  unfolding IsStrictlySortedBy
+  sorted_high [] zero s = s
+  sorted_high [] (suc k) s = s
+  sorted_high (e ∷ es) zero s = s
+  sorted_high (e ∷ es) (suc k) s = sorted_high es k s.1
+
+  -- the names up to k are not greater than the k-th, and the others are
+  up_to : (es : List (List ℕ × V)) (k : ℕ) → k < length es → IsStrictlySortedBy name_cmp (names_of es) → AllByRecursion (λ m. is_le (name_cmp m (name_at es k)) ≡ true) (names_of (take (suc k) es))
+  unfolding IsStrictlySortedBy
+  up_to [] k lt s = absurd (omega (arith, lt))
+  up_to (e ∷ es) zero lt s = (le_self e.0, taken (λ m. is_le (name_cmp m e.0) ≡ true) [] 0 tt)
+  up_to (e ∷ es) (suc k) lt s = (ap is_le (named (λ m. name_cmp e.0 m ≡ Less) es k (omega (arith, lt)) s.0), up_to es k (omega (arith, lt)) s.1)
+
+  from_on : (es : List (List ℕ × V)) (k : ℕ) → k < length es → IsStrictlySortedBy name_cmp (names_of es) → AllByRecursion (λ m. name_cmp (name_at es k) m ≡ Less) (names_of (drop (suc k) es))
+  unfolding IsStrictlySortedBy
+  from_on [] k lt s = absurd (omega (arith, lt))
+  from_on (e ∷ es) zero lt s = s.0
+  from_on (e ∷ es) (suc k) lt s = from_on es k (omega (arith, lt)) s.1
+
+  next_of : (P : List ℕ → Type 0) (es : List (List ℕ × V)) (k : ℕ) → suc k < length es → AllByRecursion P (names_of (drop (suc k) es)) → P (name_at es (suc k))
+  next_of P [] k lt all = absurd (omega (arith, lt))
+  next_of P (e ∷ []) k lt all = absurd (omega (arith, lt))
+  next_of P (e ∷ f ∷ es) zero lt all = all.0
+  next_of P (e ∷ f ∷ es) (suc k) lt all = next_of P (f ∷ es) k (omega (arith, lt)) all
+
+  -- where a shelf goes on past its k-th name, that name is less than its last
+  pub less_than_last : (es : List (List ℕ × V)) (last : List ℕ) (k : ℕ) → suc k < length es → IsStrictlySortedBy name_cmp (names_of es) → AllByRecursion (λ m. is_le (name_cmp m last) ≡ true) (names_of es) → name_cmp (name_at es k) last ≡ Less
+  less_than_last es last k lt sorted within =
+      lt_le (name_at es k) (name_at es (suc k)) last (next_of (λ m. name_cmp (name_at es k) m ≡ Less) es k lt (from_on es k (omega (arith, lt)) sorted)) (named (λ m. is_le (name_cmp m last) ≡ true) es (suc k) lt within)
+
+  -- other shelves with the same entries, which reach as far
+  pub record IsWider (old news : List (Row V)) : Type 0 where
+    pub order : AreShelves news
+    pub same : all_on news ≡ all_on old
+    pub room : (n : List ℕ) → reaches (lasts_of old) n ≡ true → reaches (lasts_of news) n ≡ true
+
+  abbrev pub in_two : List (Row V) → ℕ → ℕ → List (Row V)
+  in_two ss i k = set (insert ss i (get_or (names_of (entries_at ss i)) k [], take (suc k) (entries_at ss i))) (suc i) (last_at ss i, drop (suc k) (entries_at ss i))
+
+  pub all_in_two : (ss : List (Row V)) (i k : ℕ) → i < length ss → all_on (in_two ss i k) ≡ all_on ss
+  all_in_two [] i k lt = absurd (omega (arith, lt))
+  all_in_two (s ∷ ss) zero k lt = sym (append_assoc (take (suc k) s.1) (drop (suc k) s.1) (all_on ss)) ∙ ap (λ l. l ++ all_on ss) (joins s.1 (suc k))
+  all_in_two (s ∷ ss) (suc i) k lt = ap (λ l. s.1 ++ l) (all_in_two ss i k (omega (arith, lt)))
+
+  pub reaches_in_two : (ss : List (Row V)) (i k : ℕ) (n : List ℕ) → i < length ss → reaches (lasts_of ss) n ≡ true → reaches (lasts_of (in_two ss i k)) n ≡ true
+  reaches_in_two [] i k n lt e = absurd (omega (arith, lt))
+  reaches_in_two (s ∷ ss) zero k n lt e = or_right (is_le (name_cmp n (name_at s.1 k))) (is_le (name_cmp n s.0) || reaches (lasts_of ss) n) e
+  reaches_in_two (s ∷ ss) (suc i) k n lt e =
+      or_wider (is_le (name_cmp n s.0)) (reaches (lasts_of ss) n) (reaches (lasts_of (in_two ss i k)) n) (reaches_in_two ss i k n (omega (arith, lt))) e
+
+  rising_in_two : (P : List ℕ → Type 0) (ss : List (Row V)) (i k : ℕ) → i < length ss → k < length (entries_at ss i) → AllByRecursion P (lasts_of ss) → AllByRecursion P (names_of (all_on ss)) → AllByRecursion P (lasts_of (in_two ss i k))
+  rising_in_two P [] i k lt some lasts all = absurd (omega (arith, lt))
+  rising_in_two P (s ∷ ss) zero k lt some lasts all = (named P s.1 k some (all_left P s.1 (all_on ss) all), lasts)
+  rising_in_two P (s ∷ ss) (suc i) k lt some lasts all = (lasts.0, rising_in_two P ss i k (omega (arith, lt)) some lasts.1 (all_right P s.1 (all_on ss) all))
+
+  pub shelves_in_two : (ss : List (Row V)) (i k : ℕ) → i < length ss → suc k < length (entries_at ss i) → AreShelves ss → AreShelves (in_two ss i k)
+  shelves_in_two [] i k lt some are = absurd (omega (arith, lt))
+  shelves_in_two (s ∷ ss) zero k lt some are =
+      let less = less_than_last s.1 s.0 k some are.0.sorted are.0.within in (
+        record {
+          sorted = sorted_low s.1 (suc k) are.0.sorted;
+          within = up_to s.1 k (omega (arith, some)) are.0.sorted;
+          before = all_append (λ m. name_cmp (name_at s.1 k) m ≡ Less) (drop (suc k) s.1) (all_on ss) (from_on s.1 k (omega (arith, some)) are.0.sorted)
+              (each (λ m. name_cmp s.0 m ≡ Less) (λ m. name_cmp (name_at s.1 k) m ≡ Less) (λ m lt. name_total.trans (name_at s.1 k) s.0 m less lt) (names_of (all_on ss)) are.0.before);
+          rising = (less, each (λ m. name_cmp s.0 m ≡ Less) (λ m. name_cmp (name_at s.1 k) m ≡ Less) (λ m lt. name_total.trans (name_at s.1 k) s.0 m less lt) (lasts_of ss) are.0.rising);
+        },
+        (
+          record {
+            sorted = sorted_high s.1 (suc k) are.0.sorted;
+            within = dropped (λ m. is_le (name_cmp m s.0) ≡ true) s.1 (suc k) are.0.within;
+            before = are.0.before;
+            rising = are.0.rising;
+          },
+          are.1,
+        ),
+      )
+  shelves_in_two (s ∷ ss) (suc i) k lt some are = (
+    record {
+      sorted = are.0.sorted;
+      within = are.0.within;
+      before = subst (λ (es : List (List ℕ × V)). AllByRecursion (λ m. name_cmp s.0 m ≡ Less) (names_of es)) (sym (all_in_two ss i k (omega (arith, lt)))) are.0.before;
+      rising = rising_in_two (λ m. name_cmp s.0 m ≡ Less) ss i k (omega (arith, lt)) (omega (arith, some)) are.0.rising are.0.before;
+    },
+    shelves_in_two ss i k (omega (arith, lt)) some are.1,
+  )

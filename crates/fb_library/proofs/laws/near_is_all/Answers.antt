@@ -1,0 +1,5 @@
+use Rattle.fb_library.proofs.CarriedLemmas as known
+use Rattle.fb_library.proofs.laws.near_is_all.Goals as goal
+
+pub returns : goal.returns
+returns c = known.near_is_all

@@ -1,0 +1,14 @@
+-- The closure gives a room's last name, and these rise.
+use Rattle.std.proofs.Common.{rules}
+use Rattle.std.proofs.lemmas.List.Sorted.{answers_always}
+use Rattle.fb_library.specs.Rooms.{room_of}
+use Rattle.fb_library.proofs.Kept.{shelf_found, shelf_missed}
+use Rattle.fb_library.proofs.rooms.room_for.Goals as goal
+
+pub returns-in-Ok : goal.returns-in-Ok
+returns-in-Ok g c =
+    shelf_found room_of c.args.rooms.now c.args.name.now c.in-Ok.at c.requires c.in-Ok.ensures.bound (c.in-Ok.ensures.position (λ room. room.last) (answers_always _ _ _ (λ f a r s called. search rules)))
+
+pub returns-in-Err : goal.returns-in-Err
+returns-in-Err g c =
+    shelf_missed room_of c.args.rooms.now c.args.name.now c.in-Err.at c.requires c.in-Err.ensures.bound (c.in-Err.ensures.position (λ room. room.last) (answers_always _ _ _ (λ f a r s called. search rules)))
