@@ -15,7 +15,7 @@ const KNOWN: &str =
     "DUPLICATE B #2; UNKNOWN_TYPE NONE; UNKNOWN_TYPE BAD; WRONG_KIND TU; WRONG_KIND TU #2; DUPLICATE Q #2; DUPLICATE J #2";
 
 // VARIABLE_UNKNOWN, and CLASS of what a name stands for.
-static REFERENCES: [(&str, &str); 24] = [
+static REFERENCES: [(&str, &str); 27] = [
     ("X := XI; XO := X; XI := XO;", ""),
     ("x := xo;", ""),
     ("Y := 1;", "VARIABLE_UNKNOWN Y"),
@@ -41,8 +41,8 @@ static REFERENCES: [(&str, &str); 24] = [
         "X := I.V; Y.V := 1; J.V := 1;",
         "VARIABLE_UNKNOWN I.V; VARIABLE_UNKNOWN Y.V; VARIABLE_UNKNOWN J.V",
     ),
-    // a variable has no members
-    ("X := X.V;", "VARIABLE_UNKNOWN X.V"),
+    // a variable of an elementary type has no members
+    ("X := X.V;", "MEMBER_UNKNOWN V"),
     ("X := A[1]; A[X] := 2; B := C[0];", ""),
     ("X := A; B := A[1]; X := C[1];", "CLASS := #2; CLASS := #3"),
     ("A[B] := 1;", "CLASS B"),
@@ -68,6 +68,16 @@ static REFERENCES: [(&str, &str); 24] = [
     ),
     ("X := A[A[A[B]]];", "CLASS B"),
     ("X := A[A[TRUE] AND 2];", "CLASS TRUE; CLASS AND"),
+    // more names, and names behind a subscript, are not judged, but all subscripts are
+    (
+        "X := A[0].V; B := Y[B].V[TRUE]; X.V.W := TRUE; B := P.V.W AND 1;",
+        "CLASS B #2; CLASS TRUE",
+    ),
+    (
+        "P.L[0].V := TRUE; X := P[1].V; B := N.V.W[1.5].U[Y];",
+        "CLASS 1.5; VARIABLE_UNKNOWN Y",
+    ),
+    ("X := A[A[B].V].V + A[A[B]];", "CLASS B; CLASS B #2"),
 ];
 
 // CLASS in expressions.
@@ -209,7 +219,7 @@ fn statements_at_the_last_level(rt: HostRuntime) -> Result<(), Fail> {
 }
 
 // Units with guards, with algorithms, and with neither.
-static UNITS: [(&str, &str); 5] = [
+static UNITS: [(&str, &str); 6] = [
     // guards
     (
         "FUNCTION_BLOCK U EVENT_INPUT E; END_EVENT VAR X:INT; B:BOOL; END_VAR EC_STATES S; END_STATES EC_TRANSITIONS S TO S := E [X]; S TO S := E & Y; S TO S := [B]; S TO S := [(X)]; S TO S := E; S TO S := 1; S TO S := E AND 1; S TO S := [2]; END_TRANSITIONS END_FUNCTION_BLOCK",
@@ -223,6 +233,7 @@ static UNITS: [(&str, &str); 5] = [
     ("ADAPTER U END_ADAPTER", ""),
     ("SUBAPPLICATION U END_SUBAPPLICATION", ""),
     ("SYSTEM U END_SYSTEM", ""),
+    ("TYPE U : STRUCT X:NO; END_STRUCT END_TYPE", ""),
 ];
 
 #[test]

@@ -9,7 +9,7 @@ use std::process::Abort;
 use std::test::Fail;
 
 // Texts, and their ports. A name stands for its first declaration, and internal variables are no ports.
-static INTERFACES: [(&str, &str); 6] = [
+static INTERFACES: [(&str, &str); 7] = [
     (
         "FUNCTION_BLOCK TN EVENT_INPUT I; END_EVENT EVENT_OUTPUT O; END_EVENT VAR_INPUT DT:TIME; END_VAR END_FUNCTION_BLOCK",
         "I | O | DT:TIME |  |  | ",
@@ -27,6 +27,10 @@ static INTERFACES: [(&str, &str); 6] = [
         "E |  |  |  | P:AD | ",
     ),
     ("SYSTEM Y END_SYSTEM", " |  |  |  |  | "),
+    (
+        "TYPE S : STRUCT X:INT; Y:AD; END_STRUCT END_TYPE",
+        " |  |  |  |  | ",
+    ),
     ("SYSTEM Y", "none"),
 ];
 

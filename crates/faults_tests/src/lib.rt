@@ -6,6 +6,8 @@
 #[cfg(test)]
 mod alone;
 #[cfg(test)]
+mod carried;
+#[cfg(test)]
 mod charts;
 #[cfg(test)]
 mod checkers;
@@ -20,6 +22,8 @@ mod libraries;
 #[cfg(test)]
 mod mappings;
 #[cfg(test)]
+mod members;
+#[cfg(test)]
 mod networks;
 #[cfg(test)]
 mod operators;
@@ -27,3 +31,5 @@ mod operators;
 mod plant;
 #[cfg(test)]
 mod refused;
+#[cfg(test)]
+mod structures;

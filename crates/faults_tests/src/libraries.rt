@@ -212,9 +212,9 @@ fn faults_go_by_place_and_then_by_number(rt: HostRuntime) -> Result<(), Fail> {
 
 #[test]
 fn codes_have_words_and_numbers(rt: HostRuntime) -> Result<(), Fail> {
-    let code = Code::NoSuchResource;
-    let word = format!(in rt.alloc(); "{code} {}", code.number())?;
-    assert_eq!(rt; word.as_str(), "NO_SUCH_RESOURCE 22", "a code");
+    let [first, last] = [Code::NoSuchResource, Code::StructRecursive];
+    let words = format!(in rt.alloc(); "{first} {} {last} {}", first.number(), last.number())?;
+    assert_eq!(rt; words.as_str(), "NO_SUCH_RESOURCE 22 STRUCT_RECURSIVE 24", "codes");
     Ok(())
 }
 

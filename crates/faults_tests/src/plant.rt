@@ -12,7 +12,7 @@ use std::alloc::{AllocError, Global};
 use std::process::Abort;
 use std::test::Fail;
 
-static UNITS: [(&str, &str); 14] = [
+static UNITS: [(&str, &str); 15] = [
     (
         "A",
         "ADAPTER A EVENT_INPUT E; END_EVENT VAR_INPUT V:INT; END_VAR END_ADAPTER",
@@ -50,6 +50,7 @@ static UNITS: [(&str, &str); 14] = [
         "QQ",
         "FUNCTION_BLOCK QQ SOCKETS Q:AD; END_SOCKETS END_FUNCTION_BLOCK",
     ),
+    ("REC", "TYPE REC : STRUCT X:INT; Y:INT; END_STRUCT END_TYPE"),
     ("S", "SUBAPPLICATION S END_SUBAPPLICATION"),
     (
         "T",

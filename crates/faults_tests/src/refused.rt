@@ -12,9 +12,12 @@ use std::alloc::{AllocError, Global};
 use std::sync::Arc;
 use std::test::Fail;
 
-// It has faults of each checker.
+// It has faults of each checker, and a structure as a type of values.
 const TEXT: &str =
-    "FUNCTION_BLOCK U EVENT_INPUT E; END_EVENT VAR X:INT; END_VAR FBS F:T; G:NO; END_FBS EVENT_CONNECTIONS E TO F.N; END_CONNECTIONS EC_STATES S: -> O; END_STATES EC_TRANSITIONS S TO Z := E[X]; END_TRANSITIONS ALGORITHM H IN ST: V := 1; END_ALGORITHM PLUGS P:AD; END_PLUGS END_FUNCTION_BLOCK";
+    "FUNCTION_BLOCK U EVENT_INPUT E; END_EVENT VAR X:INT; Y:REC; END_VAR FBS F:T; G:NO; END_FBS EVENT_CONNECTIONS E TO F.N; END_CONNECTIONS EC_STATES S: -> O; END_STATES EC_TRANSITIONS S TO Z := E[X]; END_TRANSITIONS ALGORITHM H IN ST: V := 1; END_ALGORITHM PLUGS P:AD; END_PLUGS END_FUNCTION_BLOCK";
+
+// It carries itself.
+const STRUCTURE: &str = "TYPE U : STRUCT X:REC; Y:U; END_STRUCT END_TYPE";
 
 // Keeps what was found, if there was memory for it.
 fn kept<T: Drop>(slot: &mut Option<T>, found: Result<T, AllocError>) -> bool {
@@ -27,22 +30,25 @@ fn kept<T: Drop>(slot: &mut Option<T>, found: Result<T, AllocError>) -> bool {
     }
 }
 
-/// The faults that a checker finds, or all.
+/// The faults of a text that a checker finds, or all.
 #[derive(Drop)]
 struct Judged {
     checker: Option<Checker>,
+    text: &'static str,
     library: Library,
     unit: Name,
     found: Option<Vec<Fault>>,
 }
 
 impl Trial for Judged {
-    type Setting = Option<Checker>;
+    type Setting = (Option<Checker>, &'static str);
 
-    fn new(alloc: Global, checker: Option<Checker>) -> Result<Judged, Fail> {
+    fn new(alloc: Global, setting: (Option<Checker>, &'static str)) -> Result<Judged, Fail> {
+        let (checker, text) = setting;
         Ok(Judged {
             checker,
-            library: plant_with(alloc, TEXT)?,
+            text,
+            library: plant_with(alloc, text)?,
             unit: Name::read("U")?,
             found: None,
         })
@@ -58,7 +64,7 @@ impl Trial for Judged {
 
     fn told(&self, alloc: Global) -> Result<String, Fail> {
         match &self.found {
-            Some(found) => Ok(all_told(alloc, TEXT, found)?),
+            Some(found) => Ok(all_told(alloc, self.text, found)?),
             None => Ok(String::new(alloc)),
         }
     }
@@ -67,11 +73,14 @@ impl Trial for Judged {
 #[test]
 fn faults_of_units(rt: HostRuntime) -> Result<(), Fail> {
     let alloc: Global = rt.alloc();
-    try_call::<Judged>(&rt, alloc, "iface_faults", "", Some(Checker::Declarations))?;
-    try_call::<Judged>(&rt, alloc, "expr_faults", "", Some(Checker::Expressions))?;
-    try_call::<Judged>(&rt, alloc, "ecc_faults", "", Some(Checker::Charts))?;
-    try_call::<Judged>(&rt, alloc, "net_faults", "", Some(Checker::Networks))?;
-    try_call::<Judged>(&rt, alloc, "faults", "", None)
+    let [declarations, expressions] = [Checker::Declarations, Checker::Expressions];
+    let [charts, networks] = [Checker::Charts, Checker::Networks];
+    try_call::<Judged>(&rt, alloc, "iface_faults", "", (Some(declarations), TEXT))?;
+    try_call::<Judged>(&rt, alloc, "expr_faults", "", (Some(expressions), TEXT))?;
+    try_call::<Judged>(&rt, alloc, "ecc_faults", "", (Some(charts), TEXT))?;
+    try_call::<Judged>(&rt, alloc, "net_faults", "", (Some(networks), TEXT))?;
+    try_call::<Judged>(&rt, alloc, "faults", "", (None, TEXT))?;
+    try_call::<Judged>(&rt, alloc, "faults", "structure", (None, STRUCTURE))
 }
 
 /// The ports of a text.

@@ -1,9 +1,10 @@
 -- What the faults of a chart depend on.
 use Rattle.std.specs.Prelude.{◌≡◌, ℕ, List}
 use Rattle.fb_iface.specs.Library.Local.{Agree}
-use Rattle.fb_iface.specs.Library.View.{Sources, near_of}
+use Rattle.fb_iface.specs.Library.Near.{near_of}
+use Rattle.fb_iface.specs.Library.View.{Sources}
 use Rattle.fb_ecc.specs.Charts.{ecc_faults_of}
 
--- the faults of a unit's chart depend on the texts of the unit and of its mentions alone
+-- the faults of a unit's chart depend on the texts of what is near it alone
 abbrev pub EccIsLocal : Type 0
 EccIsLocal = (a b : Sources) (unit : List ℕ) → Agree (near_of a unit) a b → ecc_faults_of a unit ≡ ecc_faults_of b unit

@@ -1,7 +1,7 @@
 //! Laws of the faults of charts.
 ghost use Rattle.fb_ecc.specs.Local.{EccIsLocal};
 
-/// The faults of a unit's chart depend on its text and the texts of the types that it mentions alone.
+/// The faults of a unit's chart depend on the texts of what is near it alone.
 pub fn ecc_is_local()
     ensures { EccIsLocal }
 {}

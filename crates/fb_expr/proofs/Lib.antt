@@ -1,4 +1,4 @@
 pub mod DemandLemmas
 pub mod Locality
-pub mod ReferenceLemmas
+pub mod MemberLemmas
 pub mod TreeLemmas

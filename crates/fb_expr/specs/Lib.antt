@@ -1,6 +1,7 @@
 -- What the contracts of this crate cite.
 pub mod Classes
 pub mod Rules
+pub mod Names
 pub mod Spans
 pub mod References
 pub mod Expressions

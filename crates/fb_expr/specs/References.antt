@@ -1,5 +1,5 @@
 -- What references stand for (IEC 61499-1, 5.2.2: algorithms; 5.5: adapters).
-use Rattle.std.specs.Prelude.{ℕ, zero, suc, Bool, true, false, List, [], ◌∷◌, Option, Some, None, if◌then◌else◌}
+use Rattle.std.specs.Prelude.{ℕ, nat_lt, Bool, true, false, not, ◌&&◌, List, [], ◌∷◌, Option, Some, None, if◌then◌else◌}
 use Rattle.fb_tree.specs.Text.declared.token.Span.{Span}
 use Rattle.fb_tree.specs.declared.interface.Section.{Section}
 use Rattle.fb_tree.specs.declared.interface.Section.TheVariants as sections
@@ -9,24 +9,30 @@ use Rattle.fb_tree.specs.declared.interface.TypeUse.{TypeUse}
 use Rattle.fb_tree.specs.declared.network.Role.{Role}
 use Rattle.fb_tree.specs.declared.network.Role.TheVariants as roles
 use Rattle.fb_tree.specs.declared.reference.Member.{Member}
-use Rattle.fb_tree.specs.Expression.{ReferenceTree, Expressions, no_expressions, expression_then}
-use Rattle.fb_iface.specs.Class.{class_of_name, class_of_type}
+use Rattle.fb_tree.specs.Expression.{ReferenceTree}
+use Rattle.fb_iface.specs.Class.{class_of_name, class_of_type, is_free}
+use Rattle.fb_iface.specs.Fields.{Fields, NotJudged, NoFields, HasFields}
 use Rattle.fb_iface.specs.Names.{stands_for}
 use Rattle.fb_iface.specs.Ports.{Meanings}
 use Rattle.fb_iface.specs.Scope.{Scope, ports_of}
 use Rattle.fb_iface.specs.declared.classes.Class.{Class}
 use Rattle.fb_iface.specs.declared.classes.Class.TheVariants.{O, Free}
-use Rattle.fb_iface.specs.declared.code.Code.TheVariants.{VariableUnknown}
+use Rattle.fb_iface.specs.declared.code.Code.TheVariants.{MemberUnknown, VariableUnknown}
 use Rattle.fb_iface.specs.declared.fault.Fault.{Fault}
 use Rattle.fb_iface.specs.declared.ports.DeclaredInstance.{DeclaredInstance}
 use Rattle.fb_iface.specs.declared.ports.DeclaredVariable.{DeclaredVariable}
+use Rattle.fb_expr.specs.Names.{Names}
 use Rattle.fb_expr.specs.declared.references.Referent.{Referent}
-use Rattle.fb_expr.specs.declared.references.Referent.TheVariants.{Variable, Unjudged, Unknown}
+use Rattle.fb_expr.specs.declared.references.Referent.TheVariants.{Variable, Unjudged, Unknown, NoMember}
+
+-- whether subscripts stand there
+abbrev pub is_some_count : ℕ → Bool
+is_some_count count = nat_lt 0 count
 
 -- a variable of the unit: input, output or internal
-abbrev pub own_referent : Option DeclaredVariable → Referent
-own_referent None = Unknown
-own_referent (Some variable) = Variable variable.type_use
+abbrev pub own_referent : Option DeclaredVariable → Bool → Referent
+own_referent None subscripted = Unknown
+own_referent (Some variable) subscripted = Variable variable.type_use subscripted
 
 -- whether it is a data input or a data output
 abbrev pub is_data : Section → Bool
@@ -36,14 +42,14 @@ is_data sections.Internal = false
 is_data sections.Field = false
 
 -- a data input or a data output of an adapter type
-abbrev pub data_referent : Option DeclaredVariable → Referent
-data_referent None = Unknown
-data_referent (Some variable) = if is_data variable.section then Variable variable.type_use else Unknown
+abbrev pub data_referent : Option DeclaredVariable → Bool → Referent
+data_referent None subscripted = Unknown
+data_referent (Some variable) subscripted = if is_data variable.section then Variable variable.type_use subscripted else Unknown
 
 -- what a name stands for at a plug or a socket, by the ports of its type; not judged where the type is not usable
-abbrev pub port_referent : Option Meanings → List ℕ → Referent
-port_referent None name = Unjudged
-port_referent (Some ports) name = data_referent (stands_for ports.variables name)
+abbrev pub port_referent : Option Meanings → List ℕ → Bool → Referent
+port_referent None name subscripted = Unjudged
+port_referent (Some ports) name subscripted = data_referent (stands_for ports.variables name) subscripted
 
 abbrev pub is_adapter : Role → Bool
 is_adapter roles.Plug = true
@@ -57,25 +63,69 @@ is_at_adapter None = false
 is_at_adapter (Some instance) = is_adapter instance.role
 
 -- `X` is a variable of the unit
-abbrev pub variable_named : Scope → List ℕ → Referent
-variable_named scope name = own_referent (stands_for scope.own.variables name)
+abbrev pub variable_named : Scope → List ℕ → Bool → Referent
+variable_named scope name subscripted = own_referent (stands_for scope.own.variables name) subscripted
 
--- `p.X` is data of the type of an own plug or socket
-abbrev pub member_named : Scope → List ℕ → List ℕ → Referent
-member_named scope name member =
-    if is_at_adapter (stands_for scope.own.instances name) then port_referent (ports_of scope name) member else Unknown
+-- `p.X` is data of the type of an own plug or socket p
+abbrev pub port_named : Scope → List ℕ → Member → Referent
+port_named scope name m = port_referent (ports_of scope name) m.name.name (is_some_count m.subscripts)
 
--- What a name stands for with so many subscripts behind it and these names behind them: alone a variable, and with one name directly behind it data
--- of a plug or socket. With more names, or with a subscript before another name, it is not judged.
-abbrev pub referent_from : Scope → List ℕ → ℕ → List Member → Referent
-referent_from scope name count [] = variable_named scope name
-referent_from scope name zero (m ∷ []) = member_named scope name m.name.name
-referent_from scope name zero (m ∷ next ∷ others) = Unjudged
-referent_from scope name (suc count) (m ∷ others) = Unjudged
+-- behind a plain type of this name; behind one of class Free no name is judged
+abbrev pub fields_named : (List ℕ → Fields) → List ℕ → Fields
+fields_named fields name = if is_free (class_of_name name) then NotJudged else fields name
+
+-- with a subscript on what is no array: where names are judged there are no fields
+abbrev pub unless_judged : Fields → Fields
+unless_judged NotJudged = NotJudged
+unless_judged NoFields = NoFields
+unless_judged (HasFields found) = NoFields
+
+-- behind a type of this form and name, without or with a subscript
+abbrev pub fields_behind : (List ℕ → Fields) → TypeForm → List ℕ → Bool → Fields
+fields_behind fields forms.Plain name false = fields_named fields name
+fields_behind fields forms.Plain name true = unless_judged (fields_named fields name)
+fields_behind fields forms.Sized name subscripted = NoFields
+fields_behind fields forms.Array name false = NoFields
+fields_behind fields forms.Array name true = fields_named fields name
+
+-- a field of a structure
+abbrev pub field_referent : Option DeclaredVariable → Member → Referent
+field_referent None m = NoMember m.name.span
+field_referent (Some field) m = Variable field.type_use (is_some_count m.subscripts)
+
+abbrev pub member_among : Fields → Member → Referent
+member_among NotJudged m = Unjudged
+member_among NoFields m = NoMember m.name.span
+member_among (HasFields found) m = field_referent (stands_for found m.name.name) m
+
+-- one further name; behind one that is unknown or not judged none is judged
+abbrev pub step : Names → Referent → Member → Referent
+step names (Variable used subscripted) m = member_among (fields_behind names.fields used.form used.name.name subscripted) m
+step names Unjudged m = Unjudged
+step names Unknown m = Unknown
+step names (NoMember span) m = NoMember span
+
+-- all further names
+abbrev pub walk : Names → Referent → List Member → Referent
+walk names base [] = base
+walk names base (m ∷ ms) = walk names (step names base m) ms
+
+-- whether a name, with so many subscripts behind it and a further name behind these, is that of an own plug or socket
+abbrev pub is_before_port : Scope → List ℕ → ℕ → Bool
+is_before_port scope name count = not (is_some_count count) && is_at_adapter (stands_for scope.own.instances name)
+
+-- What a name stands for with so many subscripts and these further names behind it: they begin at data of a plug or a socket where the second name
+-- directly follows that of one, or else at the first name alone.
+abbrev pub referent_from : Names → List ℕ → ℕ → List Member → Referent
+referent_from names name count [] = variable_named names.scope name (is_some_count count)
+referent_from names name count (m ∷ ms) =
+    if is_before_port names.scope name count
+    then walk names (port_named names.scope name m) ms
+    else walk names (variable_named names.scope name (is_some_count count)) (m ∷ ms)
 
 -- what a reference stands for
-abbrev pub referent_of : Scope → ReferenceTree → Referent
-referent_of scope r = referent_from scope r.name.name r.subscripts r.members
+abbrev pub referent_of : Names → ReferenceTree → Referent
+referent_of names r = referent_from names r.name.name r.subscripts r.members
 
 -- with a subscript: the class of the elements of an array; a type that is no array has none
 abbrev pub class_of_element : TypeForm → List ℕ → Class
@@ -83,19 +133,21 @@ class_of_element forms.Plain name = O
 class_of_element forms.Sized name = O
 class_of_element forms.Array name = class_of_name name
 
--- the class of a variable of this type, with or without subscripts
-abbrev pub class_with : TypeUse → Expressions → Class
-class_with used no_expressions = class_of_type used
-class_with used (expression_then e others) = class_of_element used.form used.name.name
+-- the class of a variable of this type, without or with subscripts
+abbrev pub class_with : TypeUse → Bool → Class
+class_with used false = class_of_type used
+class_with used true = class_of_element used.form used.name.name
 
 -- the class of a reference; one that is unknown or not judged meets every rule
-abbrev pub class_of_referent : Referent → Expressions → Class
-class_of_referent (Variable used) subscripts = class_with used subscripts
-class_of_referent Unjudged subscripts = Free
-class_of_referent Unknown subscripts = Free
+abbrev pub class_of_referent : Referent → Class
+class_of_referent (Variable used subscripted) = class_with used subscripted
+class_of_referent Unjudged = Free
+class_of_referent Unknown = Free
+class_of_referent (NoMember span) = Free
 
--- a name that is no variable
-abbrev pub unknown_faults : Referent → Span → List Fault
-unknown_faults (Variable used) span = []
-unknown_faults Unjudged span = []
-unknown_faults Unknown span = record { code = VariableUnknown; span = span } ∷ []
+-- a name that is no variable, or a further one that is no field
+abbrev pub reference_faults : Referent → Span → List Fault
+reference_faults (Variable used subscripted) span = []
+reference_faults Unjudged span = []
+reference_faults Unknown span = record { code = VariableUnknown; span = span } ∷ []
+reference_faults (NoMember at) span = record { code = MemberUnknown; span = at } ∷ []

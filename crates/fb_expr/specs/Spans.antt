@@ -14,7 +14,7 @@ through_second first count [] = first
 through_second first zero (m ∷ others) = across first m.name.span
 through_second first (suc count) (m ∷ others) = first
 
--- the names of a reference that are judged together, without its subscripts
+-- the names of a reference that stand for a variable
 abbrev pub names_span : ReferenceTree → Span
 names_span r = through_second r.name.span r.subscripts r.members
 

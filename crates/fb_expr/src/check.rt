@@ -4,14 +4,15 @@ ghost use Rattle.std.specs.List.{flat_map};
 ghost use Rattle.fb_tree.specs.Tree.{algorithm_tree, chart_tree, condition_tree, decl_tree, transition_tree};
 ghost use Rattle.fb_iface.specs.Library.View.{tree_at};
 ghost use Rattle.fb_iface.specs.Fault.{faults_in_order};
-ghost use Rattle.fb_iface.specs.Kept.{scope_in};
 ghost use Rattle.fb_expr.specs.Charts.{algorithm_faults, expr_faults_of, expression_faults, guard_faults, transition_faults};
+ghost use Rattle.fb_expr.specs.Names.{names_in};
 
 use crate::expressions::judge_at;
+use crate::names::Names;
 use crate::rules::ClassPlace;
 use crate::statements::report_statements;
 use fb_iface::library::{View, tree_by_name};
-use fb_iface::{Fault, Scope, sorted_faults};
+use fb_iface::{Fault, Scope, Structures, sorted_faults};
 use fb_tree::text::Name;
 use fb_tree::{Algorithm, Chart, Condition, Decl, Transition};
 use std::alloc::{AllocError, Global};
@@ -33,69 +34,74 @@ fn reported<V: View>(alloc: Global, view: &V, unit: &Name) -> Result<Vec<Fault>,
     let mut found = Vec::new(alloc);
     if let Some(Decl::Block(declared)) = tree_by_name(view, unit) {
         let scope = Scope::of_type(alloc, view, declared)?;
-        report_expressions(&scope, &declared.chart, &mut found)?;
+        let structures = Structures::near(alloc, view, unit)?;
+        let names = Names {
+            scope: &scope,
+            structures: &structures,
+        };
+        report_expressions(names, &declared.chart, &mut found)?;
     }
     Ok(found)
 }
 
 /// Reports the faults of the expressions of guards and of the statements of algorithms, as they are found.
 pub fn report_expressions(
-    scope: &Scope,
+    names: Names<'_>,
     chart: &Chart,
     found: &mut Vec<Fault>,
 ) -> Result<(), AllocError>
     ensures { OnOk result
         (found.new.items
-        ≡ found.old.items ++ expression_faults (scope_in scope.now) (chart_tree chart.now)) }
+        ≡ found.old.items ++ expression_faults (names_in names.entry) (chart_tree chart.now)) }
 {
-    report_transitions(scope, chart.transitions.as_slice(), found)?;
-    report_algorithms(scope, chart.algorithms.as_slice(), found)
+    report_transitions(names, chart.transitions.as_slice(), found)?;
+    report_algorithms(names, chart.algorithms.as_slice(), found)
 }
 
 fn report_transitions(
-    scope: &Scope,
+    names: Names<'_>,
     transitions: &[Transition],
     found: &mut Vec<Fault>,
 ) -> Result<(), AllocError>
     ensures { OnOk result (found.new.items ≡ found.old.items
         ++ flat_map
-        (λ t. transition_faults (scope_in scope.now) (transition_tree t)) transitions.now) }
+        (λ t. transition_faults (names_in names.entry) (transition_tree t)) transitions.now) }
 {
     for transition in transitions {
-        report_guard(scope, &transition.condition, found)?;
+        report_guard(names, &transition.condition, found)?;
     }
     Ok(())
 }
 
 /// Reports the faults of a guard, where there is one.
 fn report_guard(
-    scope: &Scope,
+    names: Names<'_>,
     condition: &Condition,
     found: &mut Vec<Fault>,
 ) -> Result<(), AllocError>
     ensures { OnOk result
         (found.new.items
-        ≡ found.old.items ++ guard_faults (scope_in scope.now) (condition_tree condition.now)) }
+        ≡ found.old.items ++ guard_faults (names_in names.entry) (condition_tree condition.now)) }
 {
     match condition {
         Condition::Always(_) | Condition::Event(_) => Ok(()),
         Condition::Guarded(_, test) | Condition::Guard(test) => {
-            judge_at(ClassPlace::Condition, scope, test, found)
+            judge_at(ClassPlace::Condition, names, test, found)
         }
     }
 }
 
 fn report_algorithms(
-    scope: &Scope,
+    names: Names<'_>,
     algorithms: &[Algorithm],
     found: &mut Vec<Fault>,
 ) -> Result<(), AllocError>
     ensures { OnOk result (found.new.items ≡ found.old.items
         ++ flat_map
-        (λ a. algorithm_faults (scope_in scope.now) (algorithm_tree a)) algorithms.now) }
+        (λ a. algorithm_faults (names_in names.entry) (algorithm_tree a)) algorithms.now) }
 {
     for algorithm in algorithms {
-        report_statements(scope, algorithm.statements.as_slice(), found)?;
+        report_statements(names, algorithm.statements.as_slice(), found)?;
     }
     Ok(())
 }

@@ -1,81 +1,82 @@
 //! The classes of expressions.
 ghost use Rattle.std.specs.Prelude.{◌≡◌, ◌++◌, IfOk, OnOk, is_some, map};
 ghost use Rattle.fb_tree.specs.Expression.{expression_tree, expressions_of, operands_of, reference_expression, reference_tree};
-ghost use Rattle.fb_iface.specs.Kept.{scope_in};
 ghost use Rattle.fb_expr.specs.Classes.{change, combined, pair_class, unary_class};
 ghost use Rattle.fb_expr.specs.Expressions.{class_in, faults_in, row_class, row_faults, subscript_faults};
+ghost use Rattle.fb_expr.specs.Names.{names_in};
 ghost use Rattle.fb_expr.specs.Rules.{class_faults};
 ghost use Rattle.fb_expr.specs.Statements.{faults_at_place};
 
 use crate::classes::{broken, changed, operated};
-use crate::references::{referred, report_unknown};
+use crate::names::Names;
+use crate::references::{referred, report_reference};
 use crate::rules::{ClassPlace, report_class};
 use crate::spans::{span_of, span_of_names};
-use fb_iface::{Class, Fault, Scope, class_by_form};
+use fb_iface::{Class, Fault, class_by_form};
 use fb_tree::{BinaryUse, Expr, Reference, UnaryUse};
 use std::alloc::AllocError;
 
 /// The class of an expression. The faults in it are reported.
 #[cycle(judge)]
-pub fn judge(scope: &Scope, expr: &Expr, found: &mut Vec<Fault>) -> Result<Class, AllocError>
+pub fn judge(names: Names<'_>, expr: &Expr, found: &mut Vec<Fault>) -> Result<Class, AllocError>
     ensures class { IfOk result
-        (λ class. class ≡ class_in (scope_in scope.now) (expression_tree expr.now)) }
+        (λ class. class ≡ class_in (names_in names.entry) (expression_tree expr.now)) }
     ensures faults { OnOk result
         (found.new.items
-        ≡ found.old.items ++ faults_in (scope_in scope.now) (expression_tree expr.now)) }
+        ≡ found.old.items ++ faults_in (names_in names.entry) (expression_tree expr.now)) }
 {
     match expr {
         Expr::Literal(literal) => Ok(class_by_form(literal.form)),
         Expr::Reference(reference, subscripts) => {
-            judge_reference(scope, reference, subscripts.as_slice(), found)
+            judge_reference(names, reference, subscripts.as_slice(), found)
         }
         Expr::Unary(operator, operand) => {
-            let class = judge(scope, operand, found)?;
+            let class = judge(names, operand, found)?;
             judge_change(operator, class, found)
         }
         Expr::Row(first, operands) => {
-            let left = judge(scope, first, found)?;
-            judge_row(scope, left, operands.as_slice(), found)
+            let left = judge(names, first, found)?;
+            judge_row(names, left, operands.as_slice(), found)
         }
-        Expr::Parentheses(inner, _) => judge(scope, inner, found),
+        Expr::Parentheses(inner, _) => judge(names, inner, found),
     }
 }
 
 /// The class of a variable with its subscripts.
 #[cycle(judge)]
 pub fn judge_reference(
-    scope: &Scope,
+    names: Names<'_>,
     reference: &Reference,
     subscripts: &[Expr],
     found: &mut Vec<Fault>,
 ) -> Result<Class, AllocError>
-    ensures class { IfOk result (λ class. class ≡ class_in (scope_in scope.now)
+    ensures class { IfOk result (λ class. class ≡ class_in (names_in names.entry)
         (reference_expression (reference_tree reference.now)
         (expressions_of (map expression_tree subscripts.now)))) }
     ensures faults { OnOk result
-        (found.new.items ≡ found.old.items ++ faults_in (scope_in scope.now)
+        (found.new.items ≡ found.old.items ++ faults_in (names_in names.entry)
         (reference_expression (reference_tree reference.now)
         (expressions_of (map expression_tree subscripts.now)))) }
 {
-    let referent = referred(scope, reference);
-    report_unknown(&referent, span_of_names(reference), found)?;
-    judge_subscripts(scope, subscripts, found)?;
-    Ok(referent.class(subscripts))
+    let referent = referred(names, reference);
+    report_reference(&referent, span_of_names(reference), found)?;
+    judge_subscripts(names, subscripts, found)?;
+    Ok(referent.class())
 }
 
 /// Reports the faults in subscripts, and those that are no whole numbers.
 #[cycle(judge)]
 fn judge_subscripts(
-    scope: &Scope,
+    names: Names<'_>,
     subscripts: &[Expr],
     found: &mut Vec<Fault>,
 ) -> Result<(), AllocError>
     ensures { OnOk result (found.new.items ≡ found.old.items
-        ++ subscript_faults (scope_in scope.now)
+        ++ subscript_faults (names_in names.entry)
         (expressions_of (map expression_tree subscripts.now))) }
 {
     for subscript in subscripts {
-        judge_at(ClassPlace::Count, scope, subscript, found)?;
+        judge_at(ClassPlace::Count, names, subscript, found)?;
     }
     Ok(())
 }
@@ -84,38 +85,38 @@ fn judge_subscripts(
 #[cycle(judge)]
 pub fn judge_at(
     place: ClassPlace,
-    scope: &Scope,
+    names: Names<'_>,
     expr: &Expr,
     found: &mut Vec<Fault>,
 ) -> Result<(), AllocError>
     ensures { OnOk result
         (found.new.items
         ≡ found.old.items
-        ++ faults_at_place place (scope_in scope.now) (expression_tree expr.now)) }
+        ++ faults_at_place place (names_in names.entry) (expression_tree expr.now)) }
 {
-    let class = judge(scope, expr, found)?;
+    let class = judge(names, expr, found)?;
     report_class(place.is_for(class), span_of(expr), found)
 }
 
 /// The class of a row of operators, from the left, by the class of what stands before them.
 #[cycle(judge)]
 fn judge_row(
-    scope: &Scope,
+    names: Names<'_>,
     first: Class,
     operands: &[(BinaryUse, Expr)],
     found: &mut Vec<Fault>,
 ) -> Result<Class, AllocError>
     ensures class { IfOk result
         (λ class. class
-        ≡ row_class (scope_in scope.now) first
+        ≡ row_class (names_in names.entry) first
         (operands_of (map (λ o. (o.0, expression_tree o.1)) operands.now))) }
     ensures faults { OnOk result (found.new.items ≡ found.old.items
-        ++ row_faults (scope_in scope.now) first
+        ++ row_faults (names_in names.entry) first
         (operands_of (map (λ o. (o.0, expression_tree o.1)) operands.now))) }
 {
     let mut left = first;
     for (operator, operand) in operands {
-        let right = judge(scope, operand, found)?;
+        let right = judge(names, operand, found)?;
         left = judge_pair(operator, left, right, found)?;
     }
     Ok(left)

@@ -2,7 +2,7 @@
 ghost use Rattle.fb_expr.specs.Charts.{ExprFaultsAreLocal};
 ghost use Rattle.fb_expr.specs.Demands.{FaultsAreUnmet};
 
-/// The faults of the expressions and statements of a unit depend on its text and the texts of the types that it mentions alone.
+/// The faults of the expressions and statements of a unit depend on the texts of what is near it alone.
 pub fn expr_faults_are_local()
     ensures { ExprFaultsAreLocal }
 {}

@@ -5,6 +5,7 @@ mod check;
 mod classes;
 mod expressions;
 mod laws;
+mod names;
 mod references;
 mod rules;
 mod spans;
@@ -12,3 +13,4 @@ mod statements;
 
 pub use check::{expr_faults, report_expressions};
 pub use laws::{expr_faults_are_local, expr_faults_are_unmet};
+pub use names::Names;

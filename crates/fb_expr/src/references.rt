@@ -1,73 +1,80 @@
 //! What references stand for (IEC 61499-1, 5.2.2: algorithms; 5.5: adapters).
-ghost use Rattle.std.specs.Prelude.{◌≡◌, ◌++◌, OnOk, map};
-ghost use Rattle.std.specs.Option.{option_copied, option_map};
-ghost use Rattle.fb_tree.specs.Expression.{expressions_of, expression_tree, reference_tree};
+ghost use Rattle.std.specs.Prelude.{◌≡◌, [], ◌∷◌, ◌++◌, OnOk};
+ghost use Rattle.std.specs.Option.{option_copied};
+ghost use Rattle.fb_tree.specs.Expression.{reference_tree};
+ghost use Rattle.fb_iface.specs.KeptFields.{fields_shown, structures_in};
 ghost use Rattle.fb_iface.specs.Names.{stands_for};
 ghost use Rattle.fb_iface.specs.Kept.{scope_in};
+ghost use Rattle.fb_expr.specs.Names.{names_in};
 ghost use Rattle.fb_expr.specs.References.{
   class_of_element,
   class_of_referent,
   class_with,
   data_referent,
+  field_referent,
+  fields_behind,
+  fields_named,
   is_adapter,
   is_at_adapter,
   is_data,
-  member_named,
-  own_referent,
-  port_referent,
+  member_among,
+  port_named,
+  reference_faults,
   referent_of,
-  unknown_faults,
+  step,
+  unless_judged,
   variable_named,
+  walk,
 };
 
-use fb_iface::{Class, Code, DeclaredVariable, Fault, Ports, Scope, class_by_name, class_of};
+use crate::names::Names;
+use fb_iface::{
+    Behind, Class, Code, DeclaredVariable, Fault, Ports, Scope, Structures, class_by_name, class_of,
+};
 use fb_tree::text::{Name, Span};
-use fb_tree::{Expr, Reference, Role, Section, TypeForm, TypeUse};
+use fb_tree::{Member, Reference, Role, Section, TypeForm, TypeUse};
 use std::alloc::AllocError;
 
 /// What a reference stands for.
 #[derive(Clone, Copy, Debug)]
 pub enum Referent {
-    /// A variable of this type.
-    Variable(TypeUse),
-    /// Data of a plug or a socket whose type is not usable, or what more names stand for.
+    /// A variable or a field of this type, and whether subscripts stand behind its name.
+    Variable(TypeUse, bool),
+    /// Data of a plug or a socket whose type is not usable, or a name behind a type that is not
+    /// known.
     Unjudged,
     /// No variable.
     Unknown,
+    /// A further name that is no field. It stands here.
+    NoMember(Span),
 }
 
 /// What a reference stands for.
-pub fn referred(scope: &Scope, reference: &Reference) -> Referent
-    ensures { result ≡ referent_of (scope_in scope.now) (reference_tree reference.now) }
+pub fn referred(names: Names<'_>, reference: &Reference) -> Referent
+    ensures { result ≡ referent_of (names_in names.entry) (reference_tree reference.now) }
 {
     let name = reference.name();
-    match reference.members() {
-        [] => referred_variable(scope, &name),
-        [member] if reference.subscripts == 0 => {
-            referred_member(scope, &name, &member.name.name)
+    let subscripted = reference.subscripts > 0;
+    let members = reference.members();
+    match members.first() {
+        Some(second) if !subscripted && names_adapter(names.scope.own(), &name) => {
+            let port = referred_port(names.scope, &name, second);
+            referred_behind(names, port, &members[1..])
         }
-        _ => Referent::Unjudged,
+        _ => {
+            let variable = referred_variable(names.scope, &name, subscripted);
+            referred_behind(names, variable, members)
+        }
     }
 }
 
 /// What a name stands for alone: a variable of the unit.
-pub fn referred_variable(scope: &Scope, name: &Name) -> Referent
-    ensures { result ≡ variable_named (scope_in scope.now) name.now }
+pub fn referred_variable(scope: &Scope, name: &Name, subscripted: bool) -> Referent
+    ensures { result ≡ variable_named (scope_in scope.now) name.now subscripted }
 {
     match scope.own().variable(name) {
-        Some(variable) => Referent::Variable(variable.type_use),
+        Some(variable) => Referent::Variable(variable.type_use, subscripted),
         None => Referent::Unknown,
-    }
-}
-
-/// What a name stands for at a plug or a socket.
-fn referred_member(scope: &Scope, name: &Name, member: &Name) -> Referent
-    ensures { result ≡ member_named (scope_in scope.now) name.now member.now }
-{
-    if names_adapter(scope.own(), name) {
-        referred_port(scope.ports_of(name), member)
-    } else {
-        Referent::Unknown
     }
 }
 
@@ -90,22 +97,24 @@ fn is_for_adapters(role: Role) -> bool
     }
 }
 
-/// What a name stands for among the ports of an adapter type, where this is usable.
-fn referred_port(ports: Option<&Ports>, name: &Name) -> Referent
-    ensures { result ≡ port_referent (option_map (λ p. p.now) ports.entry) name.now }
+/// What a name stands for behind that of a plug or a socket.
+fn referred_port(scope: &Scope, name: &Name, member: &Member) -> Referent
+    ensures { result ≡ port_named (scope_in scope.now) name.now member.now }
 {
-    match ports {
-        Some(ports) => referred_data(ports, name),
+    match scope.ports_of(name) {
+        Some(ports) => referred_data(ports, &member.name.name, member.subscripts > 0),
         None => Referent::Unjudged,
     }
 }
 
 /// What a name stands for among the data of an adapter type.
-fn referred_data(ports: &Ports, name: &Name) -> Referent
-    ensures { result ≡ data_referent (stands_for ports.now.variables name.now) }
+fn referred_data(ports: &Ports, name: &Name, subscripted: bool) -> Referent
+    ensures { result ≡ data_referent (stands_for ports.now.variables name.now) subscripted }
 {
     match ports.variable(name) {
-        Some(variable) if is_port(variable.section) => Referent::Variable(variable.type_use),
+        Some(variable) if is_port(variable.section) => {
+            Referent::Variable(variable.type_use, subscripted)
+        }
         _ => Referent::Unknown,
     }
 }
@@ -120,27 +129,107 @@ fn is_port(section: Section) -> bool
     }
 }
 
+/// What is referred to by further names behind what these names begin at.
+fn referred_behind(names: Names<'_>, base: Referent, members: &[Member]) -> Referent
+    ensures { result ≡ walk (names_in names.entry) base members.now }
+{
+    let mut referent = base;
+    for member in members {
+        referent = referred_member(names, referent, member);
+    }
+    referent
+}
+
+/// What is referred to by one further name. Behind one that is unknown or not judged none is
+/// judged.
+fn referred_member(names: Names<'_>, referent: Referent, member: &Member) -> Referent
+    ensures { result ≡ step (names_in names.entry) referent member.now }
+{
+    match referent {
+        Referent::Variable(used, subscripted) => {
+            referred_field(behind(names.structures, &used, subscripted), member)
+        }
+        Referent::Unjudged | Referent::Unknown | Referent::NoMember(_) => referent,
+    }
+}
+
+/// What may be named behind a type, without or with a subscript.
+fn behind<'a>(structures: &'a Structures, used: &TypeUse, subscripted: bool) -> Behind<'a>
+    ensures { fields_shown result
+        ≡ fields_behind (structures_in structures.now) used.now.form used.now.name.name
+        subscripted }
+{
+    match (used.form, subscripted) {
+        (TypeForm::Plain, false) | (TypeForm::Array, true) => {
+            behind_named(structures, &used.name.name)
+        }
+        (TypeForm::Plain, true) => without_fields(behind_named(structures, &used.name.name)),
+        (TypeForm::Array, false) | (TypeForm::Sized, _) => Behind::NoFields,
+    }
+}
+
+/// What may be named behind a plain type of this name. Behind one of class Free no name is judged.
+fn behind_named<'a>(structures: &'a Structures, name: &Name) -> Behind<'a>
+    ensures { fields_shown result ≡ fields_named (structures_in structures.now) name.now }
+{
+    if class_by_name(name).is_free() {
+        Behind::NotJudged
+    } else {
+        structures.get(name)
+    }
+}
+
+/// The same with a subscript on what is no array.
+fn without_fields(behind: Behind<'_>) -> Behind<'_>
+    ensures { fields_shown result ≡ unless_judged (fields_shown behind.entry) }
+{
+    match behind {
+        Behind::NotJudged => Behind::NotJudged,
+        Behind::NoFields | Behind::Fields(_) => Behind::NoFields,
+    }
+}
+
+/// What a name stands for among these fields.
+fn referred_field(behind: Behind<'_>, member: &Member) -> Referent
+    ensures { result ≡ member_among (fields_shown behind.entry) member.now }
+{
+    match behind {
+        Behind::NotJudged => Referent::Unjudged,
+        Behind::NoFields => Referent::NoMember(member.name.span),
+        Behind::Fields(fields) => field_referent(fields.field(&member.name.name), member),
+    }
+}
+
+/// What a name stands for by the field that it names.
+fn field_referent(field: Option<&DeclaredVariable>, member: &Member) -> Referent
+    ensures { result ≡ field_referent (option_copied field.entry) member.now }
+{
+    match field {
+        Some(field) => Referent::Variable(field.type_use, member.subscripts > 0),
+        None => Referent::NoMember(member.name.span),
+    }
+}
+
 impl Referent {
-    /// Its class with these subscripts. What is unknown or not judged meets every rule.
-    pub fn class(&self, subscripts: &[Expr]) -> Class
-        ensures { result ≡ class_of_referent self.now
-            (expressions_of (map expression_tree subscripts.now)) }
+    /// Its class. What is unknown or not judged meets every rule.
+    pub fn class(&self) -> Class
+        ensures { result ≡ class_of_referent self.now }
     {
         match self {
-            Referent::Variable(used) => class_of_use(used, subscripts),
-            Referent::Unjudged | Referent::Unknown => Class::Free,
+            Referent::Variable(used, subscripted) => class_of_use(used, *subscripted),
+            Referent::Unjudged | Referent::Unknown | Referent::NoMember(_) => Class::Free,
         }
     }
 }
 
 /// The class of a variable of this type, or of its element.
-fn class_of_use(used: &TypeUse, subscripts: &[Expr]) -> Class
-    ensures { result ≡ class_with used.now (expressions_of (map expression_tree subscripts.now)) }
+fn class_of_use(used: &TypeUse, subscripted: bool) -> Class
+    ensures { result ≡ class_with used.now subscripted }
 {
-    if subscripts.is_empty() {
-        class_of(used)
-    } else {
+    if subscripted {
         element_class(used)
+    } else {
+        class_of(used)
     }
 }
 
@@ -154,19 +243,27 @@ fn element_class(used: &TypeUse) -> Class
     }
 }
 
-/// Reports a name that is no variable.
-pub fn report_unknown(
+/// Reports a name that is no variable, or a further one that is no field. `span` is that of the
+/// names that stand for a variable.
+pub fn report_reference(
     referent: &Referent,
     span: Span,
     found: &mut Vec<Fault>,
 ) -> Result<(), AllocError>
-    ensures { OnOk result (found.new.items ≡ found.old.items ++ unknown_faults referent.now span) }
+    ensures { OnOk result
+        (found.new.items ≡ found.old.items ++ reference_faults referent.now span) }
 {
-    if let Referent::Unknown = referent {
-        found.push(Fault {
-            code: Code::VariableUnknown,
-            span,
-        })?;
+    match referent {
+        Referent::Variable(_, _) | Referent::Unjudged => Ok(()),
+        Referent::Unknown => report_name(Code::VariableUnknown, span, found),
+        Referent::NoMember(at) => report_name(Code::MemberUnknown, *at, found),
     }
+}
+
+fn report_name(code: Code, span: Span, found: &mut Vec<Fault>) -> Result<(), AllocError>
+    ensures { OnOk result
+        (found.new.items ≡ found.old.items ++ (record { code = code; span = span } ∷ [])) }
+{
+    found.push(Fault { code, span })?;
     Ok(())
 }

@@ -16,8 +16,8 @@ fn across(first: Span, last: Span) -> Span
     }
 }
 
-/// Where the first name of a reference stands, through the second one where that follows it
-/// directly.
+/// Where the names of a reference stand that name a variable: the first one, through the second
+/// one where that follows it directly.
 pub fn span_of_names(reference: &Reference) -> Span
     ensures { result ≡ names_span (reference_tree reference.now) }
 {

@@ -2,14 +2,15 @@
 ghost use Rattle.std.specs.Prelude.{◌≡◌, ◌++◌, OnOk, map, option_map};
 ghost use Rattle.fb_tree.specs.Expression.{expression_tree, expressions_of, reference_expression, reference_tree};
 ghost use Rattle.fb_tree.specs.Statement.{statement_tree, statements_of};
-ghost use Rattle.fb_iface.specs.Kept.{scope_in};
+ghost use Rattle.fb_expr.specs.Names.{names_in};
 ghost use Rattle.fb_expr.specs.Statements.{assignment_faults, counter_faults, range_faults, statement_faults, statements_faults};
 
 use crate::classes::joined;
 use crate::expressions::{judge, judge_at, judge_reference};
-use crate::references::{referred_variable, report_unknown};
+use crate::names::Names;
+use crate::references::{referred_variable, report_reference};
 use crate::rules::{ClassPlace, report_class};
-use fb_iface::{Fault, Scope};
+use fb_iface::Fault;
 use fb_tree::text::{NameUse, Span};
 use fb_tree::{Counting, Expr, Reference, Stmt};
 use std::alloc::AllocError;
@@ -17,16 +18,16 @@ use std::alloc::AllocError;
 /// Reports the faults of statements.
 #[cycle(statements)]
 pub fn report_statements(
-    scope: &Scope,
+    names: Names<'_>,
     statements: &[Stmt],
     found: &mut Vec<Fault>,
 ) -> Result<(), AllocError>
     ensures { OnOk result (found.new.items ≡ found.old.items
-        ++ statements_faults (scope_in scope.now)
+        ++ statements_faults (names_in names.entry)
         (statements_of (map statement_tree statements.now))) }
 {
     for statement in statements {
-        report_statement(scope, statement, found)?;
+        report_statement(names, statement, found)?;
     }
     Ok(())
 }
@@ -34,49 +35,49 @@ pub fn report_statements(
 /// Reports the faults of a statement.
 #[cycle(statements)]
 fn report_statement(
-    scope: &Scope,
+    names: Names<'_>,
     statement: &Stmt,
     found: &mut Vec<Fault>,
 ) -> Result<(), AllocError>
     ensures { OnOk result
         (found.new.items
-        ≡ found.old.items ++ statement_faults (scope_in scope.now) (statement_tree statement.now)) }
+        ≡ found.old.items ++ statement_faults (names_in names.entry) (statement_tree statement.now)) }
 {
     match statement {
         Stmt::Empty | Stmt::Exit | Stmt::Return => Ok(()),
         Stmt::Assign(variable, subscripts, place, value) => {
-            report_assignment(scope, variable, subscripts.as_slice(), *place, value, found)
+            report_assignment(names, variable, subscripts.as_slice(), *place, value, found)
         }
         Stmt::If(arms, otherwise) => {
             for (condition, body) in arms {
-                judge_at(ClassPlace::Condition, scope, condition, found)?;
-                report_statements(scope, body.as_slice(), found)?;
+                judge_at(ClassPlace::Condition, names, condition, found)?;
+                report_statements(names, body.as_slice(), found)?;
             }
-            report_statements(scope, otherwise.as_slice(), found)
+            report_statements(names, otherwise.as_slice(), found)
         }
         Stmt::Case(selector, cases, otherwise) => {
-            judge_at(ClassPlace::Selector, scope, selector, found)?;
-            report_statements(scope, cases.as_slice(), found)?;
-            report_statements(scope, otherwise.as_slice(), found)
+            judge_at(ClassPlace::Selector, names, selector, found)?;
+            report_statements(names, cases.as_slice(), found)?;
+            report_statements(names, otherwise.as_slice(), found)
         }
         Stmt::For(counting, body) => {
-            report_counting(scope, counting, found)?;
-            report_statements(scope, body.as_slice(), found)
+            report_counting(names, counting, found)?;
+            report_statements(names, body.as_slice(), found)
         }
         Stmt::While(condition, body) => {
-            judge_at(ClassPlace::Condition, scope, condition, found)?;
-            report_statements(scope, body.as_slice(), found)
+            judge_at(ClassPlace::Condition, names, condition, found)?;
+            report_statements(names, body.as_slice(), found)
         }
         Stmt::Repeat(body, condition) => {
-            report_statements(scope, body.as_slice(), found)?;
-            judge_at(ClassPlace::Condition, scope, condition, found)
+            report_statements(names, body.as_slice(), found)?;
+            judge_at(ClassPlace::Condition, names, condition, found)
         }
     }
 }
 
 /// Reports the faults of an assignment. `place` is that of `:=`.
 fn report_assignment(
-    scope: &Scope,
+    names: Names<'_>,
     variable: &Reference,
     subscripts: &[Expr],
     place: Span,
@@ -84,40 +85,44 @@ fn report_assignment(
     found: &mut Vec<Fault>,
 ) -> Result<(), AllocError>
     ensures { OnOk result
-        (found.new.items ≡ found.old.items ++ assignment_faults (scope_in scope.now)
+        (found.new.items ≡ found.old.items ++ assignment_faults (names_in names.entry)
         (reference_expression (reference_tree variable.now)
         (expressions_of (map expression_tree subscripts.now)))
         place (expression_tree value.now)) }
 {
-    let target = judge_reference(scope, variable, subscripts, found)?;
-    let value = judge(scope, value, found)?;
+    let target = judge_reference(names, variable, subscripts, found)?;
+    let value = judge(names, value, found)?;
     report_class(joined(target, value).is_some(), place, found)
 }
 
 /// Reports the faults of how a `FOR` counts.
 fn report_counting(
-    scope: &Scope,
+    names: Names<'_>,
     counting: &Counting,
     found: &mut Vec<Fault>,
 ) -> Result<(), AllocError>
     ensures { OnOk result (found.new.items ≡ found.old.items
-        ++ (counter_faults (scope_in scope.now) counting.now.variable
-        ++ range_faults (scope_in scope.now) (expression_tree counting.now.from)
+        ++ (counter_faults (names_in names.entry) counting.now.variable
+        ++ range_faults (names_in names.entry) (expression_tree counting.now.from)
         (expression_tree counting.now.to) (option_map expression_tree counting.now.by))) }
 {
-    report_counter(scope, &counting.variable, found)?;
-    report_range(scope, &counting.from, &counting.to, &counting.by, found)
+    report_counter(names, &counting.variable, found)?;
+    report_range(names, &counting.from, &counting.to, &counting.by, found)
 }
 
 /// Reports a variable of a `FOR` that is none, or no whole number.
-fn report_counter(scope: &Scope, name: &NameUse, found: &mut Vec<Fault>) -> Result<(), AllocError>
+fn report_counter(
+    names: Names<'_>,
+    name: &NameUse,
+    found: &mut Vec<Fault>,
+) -> Result<(), AllocError>
     ensures { OnOk result
-        (found.new.items ≡ found.old.items ++ counter_faults (scope_in scope.now) name.now) }
+        (found.new.items ≡ found.old.items ++ counter_faults (names_in names.entry) name.now) }
 {
-    let referent = referred_variable(scope, &name.name);
-    report_unknown(&referent, name.span, found)?;
+    let referent = referred_variable(names.scope, &name.name, false);
+    report_reference(&referent, name.span, found)?;
     report_class(
-        ClassPlace::Counter.is_for(referent.class(&[])),
+        ClassPlace::Counter.is_for(referent.class()),
         name.span,
         found,
     )
@@ -125,20 +130,20 @@ fn report_counter(scope: &Scope, name: &NameUse, found: &mut Vec<Fault>) -> Resu
 
 /// Reports the faults of where a `FOR` begins, where it ends, and its step.
 fn report_range(
-    scope: &Scope,
+    names: Names<'_>,
     from: &Expr,
     to: &Expr,
     by: &Option<Expr>,
     found: &mut Vec<Fault>,
 ) -> Result<(), AllocError>
     ensures { OnOk result (found.new.items ≡ found.old.items
-        ++ range_faults (scope_in scope.now) (expression_tree from.now) (expression_tree to.now)
+        ++ range_faults (names_in names.entry) (expression_tree from.now) (expression_tree to.now)
         (option_map expression_tree by.now)) }
 {
-    judge_at(ClassPlace::Count, scope, from, found)?;
-    judge_at(ClassPlace::Count, scope, to, found)?;
+    judge_at(ClassPlace::Count, names, from, found)?;
+    judge_at(ClassPlace::Count, names, to, found)?;
     match by {
-        Some(by) => judge_at(ClassPlace::Count, scope, by, found),
+        Some(by) => judge_at(ClassPlace::Count, names, by, found),
         None => Ok(()),
     }
 }

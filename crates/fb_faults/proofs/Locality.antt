@@ -1,4 +1,4 @@
--- The faults of a unit depend on the texts of the unit and of its mentions alone.
+-- The faults of a unit depend on the texts of what is near it alone.
 use Rattle.std.proofs.Common.{◌≡◌, ℕ, List, [], ◌∷◌, ◌++◌, Option, Some, None, refl, ap, ◌∙◌, subst, arith}
 use Rattle.std.specs.FinMap.{get}
 use Rattle.std.specs.List.{Contains, flat_map}
@@ -7,11 +7,14 @@ use Rattle.std.proofs.lemmas.List.{map-append}
 use Rattle.std.proofs.lemmas.List.Elements.{Contains-append_right}
 use Rattle.fb_tree.specs.Mentions.{instance_types, types_in}
 use Rattle.fb_tree.specs.Tree.{ApplicationTree, DeclTree, InstanceTree, block_type, adapter_type, subapplication_type, system_configuration, structure_type}
-use Rattle.fb_netcheck.specs.Library.View.{Sources, mentions_in, near_of, tree_at, tree_of}
-use Rattle.fb_netcheck.proofs.Library.Locality.{near_unit}
-use Rattle.fb_netcheck.proofs.Iface.ScopeLocal.{in_order_has, near_mention}
+use Rattle.fb_netcheck.specs.Library.Near.{near_of}
+use Rattle.fb_netcheck.specs.Library.View.{Sources, parts_in, tree_at, tree_of}
+use Rattle.fb_netcheck.proofs.Library.Locality.{near_part, near_unit}
+use Rattle.fb_netcheck.proofs.Iface.FieldsLocal.{recursion_local}
+use Rattle.fb_netcheck.proofs.Iface.ScopeLocal.{in_order_has}
 use Rattle.fb_netcheck.specs.Iface.Declarations.{iface_faults_of, declaration_faults, duplicate_faults, literal_faults_of, mixed_faults, name_faults, with_faults_of}
 use Rattle.fb_netcheck.specs.Iface.Fault.{faults_in_order}
+use Rattle.fb_netcheck.specs.Iface.Recursion.{recursion_faults}
 use Rattle.fb_netcheck.specs.Iface.Types.{instance_faults, instances_of, type_fault, type_faults}
 use Rattle.fb_expr.proofs.Locality.{expr_faults_local}
 use Rattle.fb_ecc.proofs.Locality.{ecc_local}
@@ -29,7 +32,7 @@ types_in-applications (a ∷ others) =
     map-append (λ (i : InstanceTree). i.type_name.name) a.network.instances (flat_map (λ a. a.network.instances) others)
     ∙ ap (λ l. types_in a.network.instances ++ l) (types_in-applications others)
 
--- the mentions are the types of the instances
+-- the parts are the types of the instances
 types_mentioned : (decl : DeclTree) → types_in (instances_of decl) ≡ instance_types decl
 types_mentioned (block_type d) = refl
 types_mentioned (adapter_type d) = refl
@@ -45,16 +48,16 @@ module _ (a b : Sources) where
       let others = types_local xs (λ name h. agree name (Contains-append_right (x.type_name.name ∷ []) (types_in xs) name h)) in
       λ i. type_fault x.role x.type_name (option_and_then tree_of (own i)) ++ others i
 
-  declared_local : (unit : List ℕ) (tree : Option DeclTree) → ((name : List ℕ) → Contains (mentions_in tree) name → get a name ≡ get b name) → declaration_faults a unit tree ≡ declaration_faults b unit tree
-  declared_local unit None agree = refl
-  declared_local unit (Some decl) agree =
+  declared_local : (unit : List ℕ) (tree : Option DeclTree) → ((name : List ℕ) → Contains (parts_in tree) name → get a name ≡ get b name) → ((decl : DeclTree) → recursion_faults a unit decl ≡ recursion_faults b unit decl) → declaration_faults a unit tree ≡ declaration_faults b unit tree
+  declared_local unit None agree recursion = refl
+  declared_local unit (Some decl) agree recursion =
       let types : type_faults a decl ≡ type_faults b decl = types_local (instances_of decl) (λ name h. agree name (in_order_has (instance_types decl) name (subst (λ l. Contains l name) (types_mentioned decl) h))) in
-      λ i. name_faults unit decl ++ duplicate_faults decl ++ mixed_faults decl ++ types i ++ with_faults_of decl ++ literal_faults_of decl
+      λ i. name_faults unit decl ++ duplicate_faults decl ++ mixed_faults decl ++ types i ++ with_faults_of decl ++ literal_faults_of decl ++ recursion decl i
 
 -- what a unit declares
 iface_local : (a b : Sources) (unit : List ℕ) → Agree (near_of a unit) a b → iface_faults_of a unit ≡ iface_faults_of b unit
 iface_local a b unit agree =
-    declared_local a b unit (tree_at a unit) (λ name h. agree name (near_mention a unit name h))
+    declared_local a b unit (tree_at a unit) (λ name h. agree name (near_part a unit name h)) (recursion_local a b unit agree)
     ∙ ap (λ o. declaration_faults b unit (option_and_then tree_of o)) (agree unit (near_unit a unit))
 
 pub faults_local : FaultsAreLocal

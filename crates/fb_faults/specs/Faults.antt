@@ -8,12 +8,15 @@ use Rattle.fb_netcheck.specs.Parse.Body.{BodyTree, Whole, BrokenAt, body_of}
 use Rattle.fb_tree.specs.Tree.{DeclTree, TypeTree}
 use Rattle.fb_tree.specs.declared.kinds.UnitKind.TheVariants.{Block}
 use Rattle.fb_netcheck.specs.Library.Local.{Agree}
-use Rattle.fb_netcheck.specs.Library.View.{Sources, near_of, tree_at, tree_in}
+use Rattle.fb_netcheck.specs.Library.Near.{near_of}
+use Rattle.fb_netcheck.specs.Library.View.{Sources, tree_at, tree_in}
 use Rattle.fb_netcheck.specs.Iface.declared.code.Code.TheVariants.{Syntax}
 use Rattle.fb_netcheck.specs.Iface.declared.fault.Fault.{Fault}
 use Rattle.fb_netcheck.specs.Iface.Fault.{fault_cmp, faults_in_order}
 use Rattle.fb_netcheck.specs.Iface.Declarations.{declaration_faults}
+use Rattle.fb_netcheck.specs.Iface.Fields.{fields_near}
 use Rattle.fb_expr.specs.Charts.{expression_faults, faults_in_unit}
+use Rattle.fb_expr.specs.Names.{Names}
 use Rattle.fb_ecc.specs.Charts.{chart_faults, chart_faults_in}
 use Rattle.fb_netcheck.specs.Settings.{NetworkPlace}
 use Rattle.fb_netcheck.specs.Networks.{network_faults, tree_faults, type_place}
@@ -35,7 +38,7 @@ abbrev pub all_reported : Sources → List ℕ → List Fault → Option DeclTre
 all_reported sources unit syntax tree =
     syntax
     ++ declaration_faults sources unit tree
-    ++ faults_in_unit sources tree
+    ++ faults_in_unit sources unit tree
     ++ chart_faults_in sources tree
     ++ tree_faults sources unit tree
     ++ declared_mapping_faults tree
@@ -52,15 +55,20 @@ faults_of sources unit = faults_in_order (reported_of sources unit)
 abbrev pub reported_in : Sources → List ℕ → BodyTree → List Fault
 reported_in sources unit body = all_reported sources unit (body_faults body) (tree_in body)
 
+-- what the names of expressions stand for, where the network of the unit stands here
+abbrev pub names_here : Sources → NetworkPlace → Names
+names_here sources here = record { scope = here.scope; fields = fields_near sources here.unit }
+
 -- what the checks of expressions, charts and networks report of a type, where its network stands here
 abbrev pub faults_here : Sources → NetworkPlace → TypeTree → List Fault
-faults_here sources here d = expression_faults here.scope d.chart ++ chart_faults here.scope d.chart ++ network_faults sources here d.network
+faults_here sources here d =
+    expression_faults (names_here sources here) d.chart ++ chart_faults here.scope d.chart ++ network_faults sources here d.network
 
 -- the same of a block type
 abbrev pub block_faults : Sources → List ℕ → TypeTree → List Fault
 block_faults sources unit d = faults_here sources (type_place sources unit Block d).0 d
 
--- the faults of a unit depend on the texts of the unit and of its mentions alone
+-- the faults of a unit depend on the texts of what is near it alone
 abbrev pub FaultsAreLocal : Type 0
 FaultsAreLocal = (a b : Sources) (unit : List ℕ) → Agree (near_of a unit) a b → faults_of a unit ≡ faults_of b unit
 

@@ -10,8 +10,10 @@ ghost use Rattle.fb_faults.specs.Faults.{block_faults, faults_here, faults_of, r
 
 use crate::mappings::report_mappings;
 use fb_ecc::report_charts;
-use fb_expr::report_expressions;
-use fb_netcheck::iface::{Code, Fault, Ports, Scope, ports_of, report_declarations, sorted_faults};
+use fb_expr::{Names, report_expressions};
+use fb_netcheck::iface::{
+    Code, Fault, Ports, Scope, Structures, ports_of, report_declarations, sorted_faults,
+};
 use fb_netcheck::library::View;
 use fb_netcheck::parse::Body;
 use fb_netcheck::{Setting, report_network, report_networks};
@@ -132,7 +134,12 @@ fn report_here<V: View>(
     ensures { OnOk result (found.new.items ≡ found.old.items
         ++ faults_here (V.sources view.now) (place_in here.now) (type_tree declared.now)) }
 {
-    report_expressions(&here.scope, &declared.chart, found)?;
+    let structures = Structures::near(alloc, view, &here.unit)?;
+    let names = Names {
+        scope: &here.scope,
+        structures: &structures,
+    };
+    report_expressions(names, &declared.chart, found)?;
     report_charts(alloc, &here.scope, &declared.chart, found)?;
     report_network(alloc, view, here, &declared.network, found)
 }

@@ -1,7 +1,7 @@
 //! Laws of faults.
 ghost use Rattle.fb_faults.specs.Faults.{BrokenTextsHaveOneFault, FaultsAreInOrder, FaultsAreLocal, FaultsAreThoseReported};
 
-/// The faults of a unit depend on its text and the texts of the types that it mentions alone.
+/// The faults of a unit depend on the texts of what is near it alone.
 pub fn faults_are_local()
     ensures { FaultsAreLocal }
 {}

@@ -1,5 +1,5 @@
 -- A name that stands in its name space before is among the faults of declarations.
-use Rattle.std.proofs.Common.{◌≡◌, ℕ, ◌+◌, List, ◌++◌, take, Option, Some, sym, subst, arith}
+use Rattle.std.proofs.Common.{◌≡◌, ℕ, ◌+◌, List, ◌++◌, Option, Some, sym, subst, arith}
 use Rattle.std.specs.List.{Contains, enumerate_from, filter, slice_get}
 use Rattle.std.proofs.lemmas.List.Elements.{Contains-append_left, Contains-append_right}
 use Rattle.fb_tree.specs.Text.declared.name.NameUse.{NameUse}
@@ -11,6 +11,7 @@ use Rattle.fb_iface.specs.declared.fault.Fault.{Fault}
 use Rattle.fb_iface.specs.Declarations.{declaration_faults, duplicate_faults, iface_faults_of, literal_faults_of, mixed_faults, name_faults, space_duplicates, with_faults_of}
 use Rattle.fb_iface.specs.Fault.{fault_at}
 use Rattle.fb_iface.specs.Names.{is_repeated, repeated}
+use Rattle.fb_iface.specs.Recursion.{recursion_faults}
 use Rattle.fb_iface.specs.Spaces.{spaces_of}
 use Rattle.fb_iface.specs.Types.{type_faults}
 use Rattle.fb_iface.proofs.EarlierLemmas.{IsEarlier, at_place, has_earlier}
@@ -30,9 +31,11 @@ duplicate_in_whole sources unit decl f present c =
     let mixed = names ++ mixed_faults decl in
     let types = mixed ++ type_faults sources decl in
     let withs = types ++ with_faults_of decl in
+    let literals = withs ++ literal_faults_of decl in
     let in_names : Contains names f = Contains-append_right (name_faults unit decl) (duplicate_faults decl) f c in
     let in_mixed : Contains mixed f = Contains-append_left names (mixed_faults decl) f in_names in
     let in_types : Contains types f = Contains-append_left mixed (type_faults sources decl) f in_mixed in
     let in_withs : Contains withs f = Contains-append_left types (with_faults_of decl) f in_types in
-    let in_all : Contains (declaration_faults sources unit (Some decl)) f = Contains-append_left withs (literal_faults_of decl) f in_withs in
+    let in_literals : Contains literals f = Contains-append_left withs (literal_faults_of decl) f in_withs in
+    let in_all : Contains (declaration_faults sources unit (Some decl)) f = Contains-append_left literals (recursion_faults sources unit decl) f in_literals in
     subst (λ (o : Option DeclTree). Contains (declaration_faults sources unit o) f) (sym present) in_all

@@ -2,6 +2,8 @@ pub mod CodeLemmas
 pub mod EarlierLemmas
 pub mod DuplicateLemmas
 pub mod FaultLemmas
+pub mod FieldLemmas
+pub mod FieldsLocal
 pub mod NameLemmas
 pub mod PlaceLemmas
 pub mod RepeatLemmas

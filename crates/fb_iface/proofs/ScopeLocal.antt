@@ -1,17 +1,17 @@
 -- What names stand for in a network depends on the texts of the types that it mentions alone.
-use Rattle.std.proofs.Common.{◌≡◌, ℕ, Bool, true, false, cond, ◌||◌, List, [], ◌∷◌, ◌++◌, None, map, refl, ap, sym, subst, true≢false, arith}
+use Rattle.std.proofs.Common.{◌≡◌, ℕ, Bool, true, false, cond, ◌||◌, List, [], ◌∷◌, None, map, refl, ap, sym, subst, true≢false, arith}
 use Rattle.std.specs.FinMap.{get, slice_cmp-IsAntisymmetric, nat_cmp-IsAntisymmetric}
 use Rattle.std.specs.Cmp.Lexicographic.{nat_list_cmp_total}
 use Rattle.std.specs.List.{Contains}
 use Rattle.std.specs.Option.{option_and_then}
-use Rattle.std.proofs.lemmas.List.Elements.{Contains-append_left, Contains-append_right}
+use Rattle.std.proofs.lemmas.List.Elements.{Contains-append_right}
 use Rattle.std.proofs.lemmas.Simd.{map-map}
 use Rattle.fb_tree.specs.Text.Order.{name_cmp, names_in_order}
 use Rattle.fb_tree.specs.Text.declared.name.NameUse.{NameUse}
 use Rattle.fb_tree.proofs.Text.OrderLemmas.{in_order-members}
 use Rattle.fb_tree.specs.Mentions.{types_in}
 use Rattle.fb_tree.specs.Tree.{InstanceTree, NetworkTree, TypeTree}
-use Rattle.fb_library.specs.View.{Sources, mentions_at, near_of, tree_at, tree_of}
+use Rattle.fb_library.specs.View.{Sources, tree_at, tree_of}
 use Rattle.fb_iface.proofs.TableLemmas.{is_it}
 use Rattle.fb_iface.specs.Names.{has_name, is_same}
 use Rattle.fb_iface.specs.Ports.{meanings_in_network, meanings_in_type}
@@ -20,11 +20,6 @@ use Rattle.fb_iface.specs.Scope.{mentioned_type, scope_of_network, scope_of_type
 -- a list in order has its members
 pub in_order_has : (names : List (List ℕ)) (name : List ℕ) → Contains names name → Contains (names_in_order names) name
 in_order_has names name h = (in_order-members name_cmp nat_list_cmp_total (slice_cmp-IsAntisymmetric nat_cmp-IsAntisymmetric) names name).1 h
-
--- what a unit mentions is near it
-pub near_mention : (sources : Sources) (unit name : List ℕ) → Contains (mentions_at sources unit) name → Contains (near_of sources unit) name
-near_mention sources unit name h =
-    in_order_has (mentions_at sources unit ++ unit ∷ []) name (Contains-append_left (mentions_at sources unit) (unit ∷ []) name h)
 
 -- a name that some name of a list is stands there
 named_among : (names : List NameUse) (q : List ℕ) → has_name names q ≡ true → Contains (map (λ n. n.name) names) q

@@ -1,7 +1,7 @@
 -- The numbers and the words of the codes.
 use Rattle.std.specs.Prelude.{ℕ, List, codes}
 use Rattle.fb_iface.specs.declared.code.Code.{Code}
-use Rattle.fb_iface.specs.declared.code.Code.TheVariants.{Syntax, NameDiffers, Duplicate, MixedKind, UnknownType, WrongKind, WithUnknown, StateUnknown, EventUnknown, AlgorithmUnknown, VariableUnknown, Class, PortUnknown, PortSide, DataType, SecondSource, SecondAdapter, PassThrough, ParameterUnknown, Literal, MappedTwice, NoSuchResource}
+use Rattle.fb_iface.specs.declared.code.Code.TheVariants.{Syntax, NameDiffers, Duplicate, MixedKind, UnknownType, WrongKind, WithUnknown, StateUnknown, EventUnknown, AlgorithmUnknown, VariableUnknown, Class, PortUnknown, PortSide, DataType, SecondSource, SecondAdapter, PassThrough, ParameterUnknown, Literal, MappedTwice, NoSuchResource, MemberUnknown, StructRecursive}
 
 -- the number of a code
 abbrev pub code_number : Code → ℕ
@@ -27,6 +27,8 @@ code_number ParameterUnknown = 19
 code_number Literal = 20
 code_number MappedTwice = 21
 code_number NoSuchResource = 22
+code_number MemberUnknown = 23
+code_number StructRecursive = 24
 
 -- the word of a code
 abbrev pub code_word : Code → List ℕ
@@ -52,3 +54,5 @@ code_word ParameterUnknown = codes "PARAMETER_UNKNOWN"
 code_word Literal = codes "LITERAL"
 code_word MappedTwice = codes "MAPPED_TWICE"
 code_word NoSuchResource = codes "NO_SUCH_RESOURCE"
+code_word MemberUnknown = codes "MEMBER_UNKNOWN"
+code_word StructRecursive = codes "STRUCT_RECURSIVE"

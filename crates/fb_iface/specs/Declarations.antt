@@ -10,6 +10,7 @@ use Rattle.fb_iface.specs.Fault.{fault_at, faults_at}
 use Rattle.fb_iface.specs.Literals.{literal_faults}
 use Rattle.fb_iface.specs.Types.{type_faults}
 use Rattle.fb_iface.specs.Names.{is_same, repeated}
+use Rattle.fb_iface.specs.Recursion.{recursion_faults}
 use Rattle.fb_iface.specs.Spaces.{spaces_of}
 use Rattle.fb_iface.specs.Withs.{with_faults}
 
@@ -66,6 +67,7 @@ abbrev pub declaration_faults : Sources → List ℕ → Option DeclTree → Lis
 declaration_faults sources unit None = []
 declaration_faults sources unit (Some decl) =
     name_faults unit decl ++ duplicate_faults decl ++ mixed_faults decl ++ type_faults sources decl ++ with_faults_of decl ++ literal_faults_of decl
+    ++ recursion_faults sources unit decl
 
 -- the faults of what a unit declares; a unit that is absent or broken declares nothing
 abbrev pub iface_faults_of : Sources → List ℕ → List Fault

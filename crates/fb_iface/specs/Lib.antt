@@ -11,6 +11,9 @@ pub mod Literals
 pub mod Types
 pub mod Scope
 pub mod Kept
+pub mod Recursion
+pub mod Fields
+pub mod KeptFields
 pub mod Declarations
 -- Of the crates below, for the crates above.
 pub use Rattle.fb_library.specs.Forms as Forms

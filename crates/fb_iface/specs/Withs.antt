@@ -11,15 +11,15 @@ use Rattle.fb_iface.specs.Fault.{faults_at}
 use Rattle.fb_iface.specs.Names.{stands_for}
 use Rattle.fb_iface.specs.Sides.{goes_with}
 
--- whether an event of this side may carry what a name stands for
-abbrev pub carries : Side → Option DeclaredVariable → Bool
-carries side None = false
-carries side (Some variable) = goes_with side variable.section
+-- whether what a name stands for goes along with an event of this side
+abbrev pub goes_along : Side → Option DeclaredVariable → Bool
+goes_along side None = false
+goes_along side (Some variable) = goes_with side variable.section
 
--- the names behind WITH that the event can't carry, by the variables that names stand for
+-- the names behind WITH that don't go along with the event, by the variables that names stand for
 abbrev pub event_withs : (List ℕ → Option DeclaredVariable) → EventTree → List Fault
 event_withs variable event =
-    faults_at WithUnknown (filter (λ w. not (carries event.side (variable w.name))) event.with)
+    faults_at WithUnknown (filter (λ w. not (goes_along event.side (variable w.name))) event.with)
 
 abbrev pub with_faults : InterfaceTree → List Fault
 with_faults i = flat_map (event_withs (stands_for (variables_in i))) i.events

@@ -49,6 +49,10 @@ pub enum Code {
     MappedTwice,
     /// A mapping names no resource of the system.
     NoSuchResource,
+    /// A further name of a reference is no field of the type before it.
+    MemberUnknown,
+    /// A structure carries itself.
+    StructRecursive,
 }
 
 impl Code {
@@ -82,6 +86,8 @@ impl Code {
             Code::Literal => 20,
             Code::MappedTwice => 21,
             Code::NoSuchResource => 22,
+            Code::MemberUnknown => 23,
+            Code::StructRecursive => 24,
         }
     }
 
@@ -112,6 +118,8 @@ impl Code {
             Code::Literal => "LITERAL",
             Code::MappedTwice => "MAPPED_TWICE",
             Code::NoSuchResource => "NO_SUCH_RESOURCE",
+            Code::MemberUnknown => "MEMBER_UNKNOWN",
+            Code::StructRecursive => "STRUCT_RECURSIVE",
         }
     }
 }

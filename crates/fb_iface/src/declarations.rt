@@ -12,6 +12,7 @@ use crate::initial_values::report_literals;
 use crate::instance_types::report_types;
 use crate::interfaces::ports_of;
 use crate::ports::Ports;
+use crate::recursion::report_recursion;
 use crate::repeats::report_duplicates;
 use crate::withs::report_withs;
 use fb_library::{View, tree_by_name};
@@ -59,7 +60,8 @@ pub fn report_declarations<V: View>(
     report_mixed(decl, found)?;
     report_types(view, decl, found)?;
     report_withs(own, decl, found)?;
-    report_literals(decl, found)
+    report_literals(decl, found)?;
+    report_recursion(alloc, view, unit, decl, found)
 }
 
 /// Reports a declared name that is not the unit's.

@@ -13,8 +13,10 @@ mod literals;
 mod named;
 mod names;
 mod ports;
+mod recursion;
 mod repeats;
 mod scope;
+mod structures;
 mod withs;
 
 pub use classes::{Class, class_by_form, class_by_name, class_of, class_of_constant, is_taken};
@@ -29,6 +31,7 @@ pub use ports::{
     DeclaredEvent, DeclaredInstance, DeclaredVariable, Ports, is_beside, is_same_side,
 };
 pub use scope::Scope;
+pub use structures::{Behind, FieldTable, Structures};
 
 /// Of `fb_parse`, for the crates above.
 pub mod parse {
@@ -39,5 +42,6 @@ pub mod parse {
 pub mod library {
     pub use fb_library::{
         Change, Library, View, far, names_of, near, open_new, part_mentions, tree_by_name,
+        value_mentions,
     };
 }

@@ -1,7 +1,8 @@
 //! The ports of a unit (IEC 61499-1, 5.2: interfaces of function block types; 5.5: adapters).
-ghost use Rattle.std.specs.Prelude.{◌≡◌, ◌++◌, IfOk, OnOk};
+ghost use Rattle.std.specs.Prelude.{◌≡◌, ◌++◌, IfOk, OnOk, map};
+ghost use Rattle.std.specs.List.{flat_map};
 ghost use Rattle.fb_tree.specs.Tree.{interface_tree, network_tree, variables_tree};
-ghost use Rattle.fb_iface.specs.Ports.{events_in, instances_in, same_role, same_side, variables_in, variables_together};
+ghost use Rattle.fb_iface.specs.Ports.{events_in, instances_in, same_role, same_side, variables_together};
 ghost use Rattle.fb_iface.specs.Sides.{is_data_on};
 
 use crate::names::first_declared;
@@ -76,7 +77,7 @@ impl Ports {
         ensures { IfOk result (λ ports. ports ≡ meanings_in_type (type_tree declared.now)) }
     {
         let events = declared_events(alloc, &declared.interface)?;
-        let variables = declared_variables(alloc, &declared.interface)?;
+        let variables = declared_variables(alloc, declared.interface.variables.as_slice())?;
         let instances = declared_instances(alloc, &declared.network)?;
         Ok(Ports {
             events: first_declared(alloc, events.as_slice())?,
@@ -226,7 +227,7 @@ fn is_same_role(a: Role, b: Role) -> bool
     }
 }
 
-/// Whether variables of this section are data of this side, so that its events may carry them.
+/// Whether variables of this section are data of this side, so that they may go along with its events.
 pub fn is_beside(side: Side, section: Section) -> bool
     ensures { result ≡ is_data_on side section }
 {
@@ -254,16 +255,16 @@ fn declared_events(
     Ok(declared)
 }
 
-/// The variables of an interface, in the order of the text.
-fn declared_variables(
+/// Variables or fields, in the order of the text.
+pub(crate) fn declared_variables(
     alloc: Global,
-    interface: &Interface,
+    groups: &[Variables],
 ) -> Result<Vec<(Name, DeclaredVariable)>, AllocError>
-    ensures { IfOk result
-        (λ declared. declared.items ≡ variables_in (interface_tree interface.now)) }
+    ensures { IfOk result (λ declared. declared.items
+        ≡ flat_map variables_together (map variables_tree groups.now)) }
 {
     let mut declared = Vec::new(alloc);
-    for group in &interface.variables {
+    for group in groups {
         declare_together(group, &mut declared)?;
     }
     Ok(declared)

@@ -1,11 +1,11 @@
-//! Names behind `WITH` (IEC 61499-1, 5.2: the data that an event carries).
+//! Names behind `WITH` (IEC 61499-1, 5.2: the data that go along with an event).
 ghost use Rattle.std.specs.Prelude.{◌≡◌, ◌++◌, OnOk};
 ghost use Rattle.std.specs.List.{flat_map};
 ghost use Rattle.fb_tree.specs.Tree.{decl_tree, event_tree, interface_tree};
 ghost use Rattle.fb_iface.specs.Declarations.{with_faults_of};
 ghost use Rattle.fb_iface.specs.Names.{first_ones, stands_for};
 ghost use Rattle.fb_iface.specs.Ports.{meanings_in, variables_in};
-ghost use Rattle.fb_iface.specs.Withs.{carries, event_withs, with_faults};
+ghost use Rattle.fb_iface.specs.Withs.{goes_along, event_withs, with_faults};
 
 use crate::code::Code;
 use crate::fault::Fault;
@@ -58,16 +58,16 @@ fn report_event(own: &Ports, event: &Event, found: &mut Vec<Fault>) -> Result<()
         ≡ found.old.items ++ event_withs (stands_for own.now.variables) (event_tree event.now)) }
 {
     for name in &event.with {
-        if !is_carried(own, event.side, &name.name) {
+        if !goes_along(own, event.side, &name.name) {
             found.push(Fault::at(Code::WithUnknown, name))?;
         }
     }
     Ok(())
 }
 
-/// Whether an event of this side may carry what the name stands for.
-fn is_carried(own: &Ports, side: Side, name: &Name) -> bool
-    ensures { result ≡ carries side (stands_for own.now.variables name.now) }
+/// Whether what the name stands for goes along with an event of this side.
+fn goes_along(own: &Ports, side: Side, name: &Name) -> bool
+    ensures { result ≡ goes_along side (stands_for own.now.variables name.now) }
 {
     match own.variable(name) {
         Some(variable) => is_beside(side, variable.section),

@@ -1,4 +1,4 @@
--- The faults of networks depend on the texts of the unit and of its mentions alone.
+-- The faults of networks depend on the texts of the unit and of its parts alone.
 use Rattle.std.proofs.Common.{◌≡◌, ℕ, Bool, true, false, cond, List, [], ◌∷◌, ◌++◌, Option, Some, None, filter, map, nat_eq, refl, sym, ap, ◌∙◌, ◌+◌, subst, unwrap_or, arith}
 use Rattle.std.specs.Cmp.Lexicographic.{pointwise}
 use Rattle.std.specs.FinMap.{get}
@@ -12,9 +12,9 @@ use Rattle.fb_tree.specs.declared.kinds.UnitKind.{UnitKind}
 use Rattle.fb_tree.specs.declared.kinds.UnitKind.TheVariants.{Block, Subapplication, System}
 use Rattle.fb_tree.specs.declared.network.Connection.{Connection}
 use Rattle.fb_tree.specs.declared.network.End.{End}
-use Rattle.fb_iface.specs.Library.View.{Sources, mentions_in, tree_at, tree_of}
-use Rattle.fb_iface.proofs.Library.Locality.{near_unit}
-use Rattle.fb_iface.proofs.ScopeLocal.{in_order_has, near_mention, network_scope_local, scope_local}
+use Rattle.fb_iface.specs.Library.View.{Sources, parts_in, tree_at, tree_of}
+use Rattle.fb_iface.proofs.Library.Locality.{near_part, near_unit}
+use Rattle.fb_iface.proofs.ScopeLocal.{in_order_has, network_scope_local, scope_local}
 use Rattle.fb_iface.specs.Names.{first_ones, is_same, stands_for}
 use Rattle.fb_iface.specs.Ports.{instances_in}
 use Rattle.fb_iface.specs.Scope.{Scope, scope_of_network, scope_of_type}
@@ -59,7 +59,7 @@ each_stands P (x ∷ xs) h name d e = by (is_same x.0 name) e (each_stands P xs 
     by true e others = let same : x.1 ≡ d = cc in subst P same h.0
     by false e others = others e
 
--- the type of each instance is a mention
+-- the type of each instance is a part
 each_type : (types : List (List ℕ)) (instances : List InstanceTree) → ((name : List ℕ) → Contains (types_in instances) name → Contains types name) → Each (λ (i : InstanceTree). Contains types i.type_name.name) instances
 each_type types [] among = tt
 each_type types (x ∷ xs) among = (among x.type_name.name (0, omega arith, refl), each_type types xs (λ name h. among name (Contains-append_right (x.type_name.name ∷ []) (types_in xs) name h)))
@@ -71,14 +71,14 @@ instance_stands P n each name i e =
     let declared : Each Q (instances_in n) = each_map Q _ n.instances each in
     each_stands P (first_ones (instances_in n)) (each_map Q _ _ (each_filter _ _ _ (each_placed Q 0 (instances_in n) declared))) name i e
 
--- the type of what a name stands for among the instances is a mention
+-- the type of what a name stands for among the instances is a part
 type_mentioned : (n : NetworkTree) (name : List ℕ) (i : DeclaredInstance) → stands_for (first_ones (instances_in n)) name ≡ Some i → Contains (types_in n.instances) i.type_name.name
 type_mentioned n name i e =
     let P : DeclaredInstance → Type 0 = λ d. Contains (types_in n.instances) d.type_name.name in
     instance_stands P n (each_type (types_in n.instances) n.instances (λ name h. h)) name i e
 
 module _ (a b : Sources) (unit : List ℕ) (own : get a unit ≡ get b unit) where
-  -- a port is declared in the unit or in a mention
+  -- a port is declared in the unit or in a part
   home_local : (kind : UnitKind) (scope : Scope) (n : NetworkTree) → scope.own.instances ≡ first_ones (instances_in n) → ((name : List ℕ) → Contains (types_in n.instances) name → get a name ≡ get b name) → (name : NameUse) (port : Option NameUse) → get a (home_of (record { unit = unit; kind = kind; scope = scope }) name port) ≡ get b (home_of (record { unit = unit; kind = kind; scope = scope }) name port)
   home_local kind scope n declared agree name None = own
   home_local kind scope n declared agree name (Some port) = by (stands_for scope.own.instances name.name) (λ i e. type_mentioned n name.name i (ap (λ l. stands_for l name.name) (sym declared) ∙ e))
@@ -119,11 +119,11 @@ module _ (a b : Sources) (unit : List ℕ) (own : get a unit ≡ get b unit) whe
   declared_local (system_configuration s) agree = applications_local s.applications agree
   declared_local (structure_type s) agree = refl
 
-  tree_local : (tree : Option DeclTree) → ((name : List ℕ) → Contains (mentions_in tree) name → get a name ≡ get b name) → tree_faults a unit tree ≡ tree_faults b unit tree
+  tree_local : (tree : Option DeclTree) → ((name : List ℕ) → Contains (parts_in tree) name → get a name ≡ get b name) → tree_faults a unit tree ≡ tree_faults b unit tree
   tree_local None agree = refl
   tree_local (Some decl) agree = declared_local decl (λ name h. agree name (in_order_has (instance_types decl) name h))
 
 pub net_faults_local : NetFaultsAreLocal
 net_faults_local a b unit agree =
     let own = agree unit (near_unit a unit) in
-    tree_local a b unit own (tree_at a unit) (λ name h. agree name (near_mention a unit name h)) ∙ ap (λ o. tree_faults b unit (option_and_then tree_of o)) own
+    tree_local a b unit own (tree_at a unit) (λ name h. agree name (near_part a unit name h)) ∙ ap (λ o. tree_faults b unit (option_and_then tree_of o)) own

@@ -16,6 +16,7 @@ use Rattle.fb_tree.specs.declared.network.Role.{Role}
 use Rattle.fb_tree.specs.declared.network.Sort.{Sort}
 use Rattle.fb_iface.specs.Library.View.{Sources, tree_at}
 use Rattle.fb_iface.specs.Declarations.{declaration_faults, duplicate_faults, literal_faults_of, mixed_faults, name_faults, with_faults_of}
+use Rattle.fb_iface.specs.Recursion.{recursion_faults}
 use Rattle.fb_iface.specs.Names.{first_ones, has_name, is_same, stands_for}
 use Rattle.fb_iface.specs.Ports.{Meanings, instances_in, meanings_in}
 use Rattle.fb_iface.specs.Scope.{instance_ports, mentioned_type, ports_of, type_ports_of, usable}
@@ -115,7 +116,9 @@ right_networks sources unit (structure_type s) types none = All-nil Right
 types_none : (sources : Sources) (unit : List ℕ) (decl : DeclTree) → declaration_faults sources unit (Some decl) ≡ [] → type_faults sources decl ≡ []
 types_none sources unit decl e =
     let front = (name_faults unit decl ++ duplicate_faults decl) ++ mixed_faults decl in
-    right_none front (type_faults sources decl) (left_none (front ++ type_faults sources decl) (with_faults_of decl) (left_none ((front ++ type_faults sources decl) ++ with_faults_of decl) (literal_faults_of decl) e))
+    let types = front ++ type_faults sources decl in
+    let withs = types ++ with_faults_of decl in
+    right_none front (type_faults sources decl) (left_none types (with_faults_of decl) (left_none withs (literal_faults_of decl) (left_none (withs ++ literal_faults_of decl) (recursion_faults sources unit decl) e)))
 
 pub connections_right : ConnectionsAreRight
 connections_right sources unit declared none = by (tree_at sources unit) declared none

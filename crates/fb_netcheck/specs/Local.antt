@@ -1,9 +1,10 @@
 -- What the faults of networks depend on.
 use Rattle.std.specs.Prelude.{◌≡◌, ℕ, List}
 use Rattle.fb_iface.specs.Library.Local.{Agree}
-use Rattle.fb_iface.specs.Library.View.{Sources, near_of}
+use Rattle.fb_iface.specs.Library.Near.{near_of}
+use Rattle.fb_iface.specs.Library.View.{Sources}
 use Rattle.fb_netcheck.specs.Networks.{net_faults_of}
 
--- they depend on the texts of the unit and of its mentions alone
+-- they depend on the texts of what is near the unit alone
 abbrev pub NetFaultsAreLocal : Type 0
 NetFaultsAreLocal = (a b : Sources) (unit : List ℕ) → Agree (near_of a unit) a b → net_faults_of a unit ≡ net_faults_of b unit

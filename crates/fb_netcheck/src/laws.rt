@@ -2,7 +2,7 @@
 ghost use Rattle.fb_netcheck.specs.Clean.{ConnectionsAreRight, FaultlessNetworksAreClean};
 ghost use Rattle.fb_netcheck.specs.Local.{NetFaultsAreLocal};
 
-/// The faults of the networks of a unit depend on its text and the texts of the types that it mentions alone.
+/// The faults of the networks of a unit depend on the texts of what is near it alone.
 pub fn net_faults_are_local()
     ensures { NetFaultsAreLocal }
 {}

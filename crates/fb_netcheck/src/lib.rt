@@ -33,7 +33,7 @@ pub mod library {
 /// Of `fb_iface`, for the crates above.
 pub mod iface {
     pub use fb_iface::{
-        Code, Fault, Ports, Scope, is_beside, is_suited, ports_of, report_constant,
+        Code, Fault, Ports, Scope, Structures, is_beside, is_suited, ports_of, report_constant,
         report_declarations, sorted_faults,
     };
 }

@@ -3,19 +3,19 @@ use Rattle.std.proofs.lemmas.List.Folds.{flat_map-map}
 use Rattle.std.proofs.lemmas.Result.{on_ok_weaker}
 use Rattle.std.specs.List.{flat_map}
 use Rattle.fb_tree.specs.Tree.{algorithm_tree, transition_tree}
-use Rattle.fb_iface.specs.Kept.{scope_in}
+use Rattle.fb_expr.specs.Names.{names_in}
 use Rattle.fb_expr.specs.Charts.{algorithm_faults, transition_faults}
 use Rattle.fb_expr.proofs.check.report_expressions.Goals as goal
 
 pub returns : goal.returns
 returns c =
-    let scope = scope_in c.args.scope.now in
+    let names = names_in c.args.names in
     let chart = c.args.chart.now in
     let old = c.args.found.now.items in
-    let guards : c.report_transitions.new.found.items ≡ old ++ flat_map (λ t. transition_faults scope (transition_tree t)) chart.transitions.items = c.in_ok-report_transitions.ensures ∙ ap (λ l. old ++ flat_map (λ t. transition_faults scope (transition_tree t)) l) c.as_slice.ensures.value in
+    let guards : c.report_transitions.new.found.items ≡ old ++ flat_map (λ t. transition_faults names (transition_tree t)) chart.transitions.items = c.in_ok-report_transitions.ensures ∙ ap (λ l. old ++ flat_map (λ t. transition_faults names (transition_tree t)) l) c.as_slice.ensures.value in
     on_ok_weaker c.report_algorithms.result
     (λ e. e
-    ∙ (λ i. guards i ++ flat_map (λ a. algorithm_faults scope (algorithm_tree a)) (c.as_slice-2.ensures.value i))
+    ∙ (λ i. guards i ++ flat_map (λ a. algorithm_faults names (algorithm_tree a)) (c.as_slice-2.ensures.value i))
     ∙ append_assoc old _ _
-    ∙ (λ i. old ++ (sym (flat_map-map (transition_faults scope) transition_tree chart.transitions.items) i ++ sym (flat_map-map (algorithm_faults scope) algorithm_tree chart.algorithms.items) i)))
+    ∙ (λ i. old ++ (sym (flat_map-map (transition_faults names) transition_tree chart.transitions.items) i ++ sym (flat_map-map (algorithm_faults names) algorithm_tree chart.algorithms.items) i)))
     c.report_algorithms.ensures

@@ -23,7 +23,7 @@ returns-in-Block g c =
     (λ e. e
     ∙ ap (λ l. l ++ block_faults sources unit d) c.in_ok-report_declarations.ensures
     ∙ ap (λ t. (old ++ declaration_faults sources unit (Some (decl_tree t))) ++ block_faults sources unit d) c.in-Block.is
-    ∙ block_joined old (declaration_faults sources unit tree) (faults_in_unit sources tree) (chart_faults_in sources tree) (tree_faults sources unit tree)
+    ∙ block_joined old (declaration_faults sources unit tree) (faults_in_unit sources unit tree) (chart_faults_in sources tree) (tree_faults sources unit tree)
     ∙ ap (λ t. old ++ reported_in sources unit (Whole (decl_tree t))) (sym c.in-Block.is))
     c.report_block.ensures
 

@@ -8,6 +8,6 @@ use Rattle.fb_iface.proofs.ports.declared_variables.Goals as goal
 
 pub returns : goal.returns
 returns c =
-    let groups = c.args.interface.now.variables.items in
+    let groups = c.args.groups.now in
     let all : c.loop-group.declared.items ≡ flat_map (λ v. variables_together (variables_tree v)) groups = grind (arith, common_steps) in
     all ∙ sym (flat_map-map variables_together variables_tree groups)

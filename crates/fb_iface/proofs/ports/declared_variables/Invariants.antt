@@ -6,4 +6,4 @@ use Rattle.fb_iface.proofs.ports.declared_variables.Given as goal
 
 abbrev pub invariant-loop-group : goal.invariant-loop-group
 invariant-loop-group l =
-    l.declared.items ≡ flat_map (λ v. variables_together (variables_tree v)) (take l.group-index l.interface.variables.items)
+    l.declared.items ≡ flat_map (λ v. variables_together (variables_tree v)) (take l.group-index l.groups)

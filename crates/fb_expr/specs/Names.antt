@@ -1,0 +1,22 @@
+-- What the names of expressions stand for: names of the unit and of its plugs and sockets, and fields of structures.
+use Rattle.std.specs.Prelude.{ℕ, List}
+use Rattle.fb_tree.specs.Tree.{TypeTree}
+use Rattle.fb_iface.specs.Library.View.{Sources}
+use Rattle.fb_iface.specs.Fields.{Fields, fields_near}
+use Rattle.fb_iface.specs.Kept.{scope_in}
+use Rattle.fb_iface.specs.KeptFields.{structures_in}
+use Rattle.fb_iface.specs.Scope.{Scope, scope_of_type}
+use Rattle.fb_expr.specs.declared.names.Names as kept
+
+pub record Names : Type 0 where
+  pub scope : Scope
+  -- what may be named behind a plain type of this name
+  pub fields : List ℕ → Fields
+
+-- in the expressions of a block type
+abbrev pub names_of_type : Sources → List ℕ → TypeTree → Names
+names_of_type sources unit d = record { scope = scope_of_type sources d; fields = fields_near sources unit }
+
+-- by what is kept
+abbrev pub names_in : kept.Names → Names
+names_in names = record { scope = scope_in names.scope.now; fields = structures_in names.structures.now }

@@ -1,0 +1,10 @@
+//! What the names of expressions stand for.
+
+use fb_iface::{Scope, Structures};
+
+/// Names of the unit and of its plugs and sockets, and fields of structures.
+#[derive(Clone, Copy)]
+pub struct Names<'a> {
+    pub scope: &'a Scope,
+    pub structures: &'a Structures,
+}

@@ -1,0 +1,157 @@
+//! The structures that references of a unit may go through.
+ghost use Rattle.std.specs.Prelude.{◌≡◌, IfOk, List, ℕ, nat_eq};
+ghost use Rattle.std.specs.Cmp.Lexicographic.{pointwise};
+ghost use Rattle.std.specs.HashMap.{get};
+ghost use Rattle.fb_tree.specs.Tree.{structure_tree};
+ghost use Rattle.fb_library.specs.Near.{bases_at};
+ghost use Rattle.fb_library.specs.View.{tree_at};
+ghost use Rattle.fb_iface.specs.Fields.{fields_among, fields_in, fields_near, fields_of_tree};
+ghost use Rattle.fb_iface.specs.KeptFields.{fields_shown, kept_fields, structures_in};
+ghost use Rattle.fb_iface.specs.Names.{first_ones};
+
+use crate::names::first_declared;
+use crate::ports::{DeclaredVariable, declared_variables};
+use fb_library::{View, carried, part_mentions, tree_by_name};
+use fb_tree::text::Name;
+use fb_tree::{Decl, Structure};
+use indexmap::IndexMap;
+use std::alloc::{AllocError, Global};
+use std::collections::HashMap;
+use std::marker::Model;
+
+/// The fields of a structure by name, in the order of the text. A name that is declared more than once stands for its first
+/// declaration.
+#[derive(Drop)]
+pub struct FieldTable {
+    by_name: IndexMap<Name, DeclaredVariable>,
+}
+
+impl Model for FieldTable {
+    ghost use Rattle.std.specs.Prelude.{List, ℕ};
+    ghost use Rattle.fb_iface.specs.declared.ports.DeclaredVariable.{DeclaredVariable};
+
+    ghost Value = { List (List ℕ × DeclaredVariable) };
+
+    ghost view = { λ t. t.by_name.entries };
+}
+
+impl FieldTable {
+    ghost use Rattle.std.specs.Option.{option_copied};
+    ghost use Rattle.fb_iface.specs.Names.{stands_for};
+
+    /// The fields of a structure.
+    fn of_structure(alloc: Global, structure: &Structure) -> Result<FieldTable, AllocError>
+        ensures { IfOk result
+            (λ fields. fields ≡ first_ones (fields_in (structure_tree structure.now))) }
+    {
+        let fields = declared_variables(alloc, structure.fields.as_slice())?;
+        let by_name = first_declared(alloc, fields.as_slice())?;
+        Ok(FieldTable { by_name })
+    }
+
+    /// The field that the name stands for.
+    #[tactic(auto, using(crate::proofs::TableLemmas::found_by_name))]
+    pub fn field(&self, name: &Name) -> Option<&DeclaredVariable>
+        ensures { option_copied result ≡ stands_for self.now name.now }
+    {
+        self.by_name.get(name)
+    }
+}
+
+/// What is kept of a carried type that a further name may stand behind.
+#[derive(Drop)]
+enum KeptFields {
+    /// The type is absent or broken.
+    NotJudged,
+    /// The fields of a structure.
+    Known(FieldTable),
+}
+
+/// What a further name may name behind a plain type.
+pub enum Behind<'a> {
+    /// Nothing is known of the type, so no name is judged.
+    NotJudged,
+    /// The type is known and has no fields.
+    NoFields,
+    /// The fields of a structure.
+    Fields(&'a FieldTable),
+}
+
+/// The types of values that a unit and its parts carry: structures with their fields, and those that are absent or broken. The fields
+/// of each structure are read once.
+#[derive(Drop)]
+pub struct Structures {
+    by_name: HashMap<Name, KeptFields>,
+}
+
+impl Structures {
+    /// Those that the unit and its parts carry.
+    pub fn near<V: View>(alloc: Global, view: &V, unit: &Name) -> Result<Structures, AllocError>
+        ensures { IfOk result
+            (λ it. structures_in it ≡ fields_near (V.sources view.now) unit.now) }
+    {
+        let bases = bases(alloc, view, unit)?;
+        let names = carried(alloc, view, bases.as_slice())?;
+        let by_name = kept_types(alloc, view, names.as_slice())?;
+        Ok(Structures { by_name })
+    }
+
+    /// What may be named behind a plain type of this name.
+    pub fn get(&self, name: &Name) -> Behind<'_>
+        ensures { fields_shown result ≡ structures_in self.now name.now }
+    {
+        match self.by_name.get(name) {
+            None => Behind::NoFields,
+            Some(KeptFields::NotJudged) => Behind::NotJudged,
+            Some(KeptFields::Known(fields)) => Behind::Fields(fields),
+        }
+    }
+}
+
+/// The unit and its parts.
+fn bases<V: View>(alloc: Global, view: &V, unit: &Name) -> Result<Vec<Name>, AllocError>
+    ensures { IfOk result (λ bases. bases.items ≡ bases_at (V.sources view.now) unit.now) }
+{
+    let mut bases = Vec::new(alloc);
+    bases.extend_from_slice(part_mentions(view, unit))?;
+    bases.push(*unit)?;
+    Ok(bases)
+}
+
+/// What is kept of the types with these names.
+fn kept_types<V: View>(
+    alloc: Global,
+    view: &V,
+    names: &[Name],
+) -> Result<HashMap<Name, KeptFields>, AllocError>
+    ensures { IfOk result
+        (λ types. (name : List ℕ) → kept_fields (get (pointwise nat_eq) types name)
+        ≡ fields_among (V.sources view.now) names.now name) }
+{
+    let mut types = HashMap::new(alloc);
+    for name in names {
+        if let Some(kept) = kept_type(alloc, view, name)? {
+            types.insert(*name, kept)?;
+        }
+    }
+    Ok(types)
+}
+
+/// What is kept of a type; nothing where it is known and no structure.
+fn kept_type<V: View>(
+    alloc: Global,
+    view: &V,
+    name: &Name,
+) -> Result<Option<KeptFields>, AllocError>
+    ensures { IfOk result
+        (λ kept. kept_fields kept ≡ fields_of_tree (tree_at (V.sources view.now) name.now)) }
+{
+    match tree_by_name(view, name) {
+        None => Ok(Some(KeptFields::NotJudged)),
+        Some(Decl::Structure(structure)) => {
+            let fields = FieldTable::of_structure(alloc, structure)?;
+            Ok(Some(KeptFields::Known(fields)))
+        }
+        Some(_) => Ok(None),
+    }
+}
