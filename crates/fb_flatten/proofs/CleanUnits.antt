@@ -12,6 +12,7 @@ use Rattle.fb_wiring.specs.Tree.declared.network.Sort.{Sort}
 use Rattle.fb_wiring.specs.Tree.declared.network.Sort.TheVariants as sorts
 use Rattle.fb_wiring.specs.Library.View.{Sources, tree_at}
 use Rattle.fb_wiring.specs.Iface.Declarations.{declaration_faults, duplicate_faults, literal_faults_of, mixed_faults, name_faults, with_faults_of}
+use Rattle.fb_wiring.specs.Iface.Recursion.{recursion_faults}
 use Rattle.fb_wiring.specs.Iface.Names.{first_ones, is_same, stands_for}
 use Rattle.fb_wiring.specs.Iface.Ports.{events_in, instances_in, meanings_in_type, variables_in}
 use Rattle.fb_wiring.specs.Iface.Spaces.{chart_spaces, interface_spaces, network_spaces, resource_names, spaces_of}
@@ -69,7 +70,7 @@ Fine sources placed = IsCleanNetwork sources placed.0 placed.1
 types_fine : (sources : Sources) (unit : List ℕ) (decl : DeclTree) → declaration_faults sources unit (Some decl) ≡ [] → (i : InstanceTree) → Contains (instances_of decl) i → instance_faults sources i ≡ []
 types_fine sources unit decl e i c =
     let front = (name_faults unit decl ++ duplicate_faults decl) ++ mixed_faults decl in
-    let types = right_none front (type_faults sources decl) (left_none (front ++ type_faults sources decl) (with_faults_of decl) (left_none ((front ++ type_faults sources decl) ++ with_faults_of decl) (literal_faults_of decl) e)) in
+    let types = right_none front (type_faults sources decl) (left_none (front ++ type_faults sources decl) (with_faults_of decl) (left_none ((front ++ type_faults sources decl) ++ with_faults_of decl) (literal_faults_of decl) (left_none (((front ++ type_faults sources decl) ++ with_faults_of decl) ++ literal_faults_of decl) (recursion_faults sources unit decl) e))) in
     All-contains (λ (x : InstanceTree). instance_faults sources x ≡ []) (instances_of decl) i (none_of_each (instance_faults sources) (instances_of decl) types) c
 
 module _ (sources : Sources) (unit : List ℕ) (decl : DeclTree) (is : tree_at sources unit ≡ Some decl) (report : HasNoReport sources unit) where

@@ -6,7 +6,7 @@ use Rattle.std.specs.BTreeMap.{is_at}
 use Rattle.fb_wiring.specs.Text.Order.{name_cmp}
 use Rattle.fb_wiring.specs.Tree.Tree.{DeclTree}
 use Rattle.fb_wiring.specs.Tree.declared.network.Sort.TheVariants.{Adapter}
-use Rattle.fb_wiring.specs.Library.View.{Sources, mentions_at, tree_at}
+use Rattle.fb_wiring.specs.Library.View.{Sources, parts_at, tree_at}
 use Rattle.fb_wiring.specs.Network.Sorts.{same_sort}
 use Rattle.fb_wiring.specs.Network.declared.network.Port.{Port}
 use Rattle.fb_wiring.specs.Network.declared.network.Instance.{Instance}
@@ -24,10 +24,10 @@ use Rattle.fb_flatten.specs.Far.{far_of}
 use Rattle.fb_flatten.specs.Net.{PlainNet}
 use Rattle.fb_flatten.specs.Tables.{IsComposable, IsSoundOrder, IsTable}
 use Rattle.fb_flatten.proofs.ComputedFlats.{clean_with}
-use Rattle.fb_flatten.proofs.ComputedNets.{done_mention, unit_faultless}
+use Rattle.fb_flatten.proofs.ComputedNets.{done_part, unit_faultless}
 use Rattle.fb_flatten.proofs.FlatLocality.{found}
 use Rattle.fb_flatten.proofs.MentionLemmas.{applications_within, declared_within}
-use Rattle.fb_flatten.proofs.SoundLemmas.{clean_network, sound_mention, sound_network}
+use Rattle.fb_flatten.proofs.SoundLemmas.{clean_network, sound_part, sound_network}
 use Rattle.fb_wiring.proofs.FoundUnits.{system_applications}
 
 module _ (table view : View) where
@@ -80,7 +80,7 @@ module _ {sources : Sources} {hints : List ℕ → Option PlainNet} {table : Vie
         there = has.network it.network it.is_declared;
         is = it.is_declared;
         ports = λ port adapter h e.
-            let own = sound_network (sound_mention sound adapter ((declared_within sources name it.network it.is_declared).adapters port adapter h e)) in
+            let own = sound_network (sound_part sound adapter ((declared_within sources name it.network it.is_declared).adapters port adapter h e)) in
             has.adapters it.network it.is_declared port h adapter e own.network own.is_declared ∙ sym own.is_declared;
       }
 
@@ -99,18 +99,18 @@ module _ {sources : Sources} {hints : List ℕ → Option PlainNet} {table : Vie
       }
 
   -- the network of an application of the unit
-  pub application_composable : {nets : Nets} (unit : List ℕ) (tree : DeclTree) → Contains order unit → ((w : List ℕ) → Contains (mentions_at sources unit) w → Contains order w) → tree_at sources unit ≡ Some tree → (a : Application) → Contains (applications_of tree) a → AreFinished (declared sources) a.network nets → IsComposable table (declared sources) nets a.network
-  application_composable unit tree c mentions present a among finished =
+  pub application_composable : {nets : Nets} (unit : List ℕ) (tree : DeclTree) → Contains order unit → ((w : List ℕ) → Contains (parts_at sources unit) w → Contains order w) → tree_at sources unit ≡ Some tree → (a : Application) → Contains (applications_of tree) a → AreFinished (declared sources) a.network nets → IsComposable table (declared sources) nets a.network
+  application_composable unit tree c parts present a among finished =
       let sound = names.sound unit c in
       let is = system_applications sources unit tree present in
       let within = applications_within sources unit (applications_of tree) is a among in
       record {
         same = same_adapters table (declared sources) a.network
-            (λ port adapter h e. same_of (same_type adapter (mentions adapter (within.adapters port adapter h e))))
-            (λ i h. same_type i.type_name (mentions i.type_name (within.types i h)));
+            (λ port adapter h e. same_of (same_type adapter (parts adapter (within.adapters port adapter h e))))
+            (λ i h. same_type i.type_name (parts i.type_name (within.types i h)));
         clean = clean_with sources (length (far_of sources unit)) a.network
             ((applications_clean sources unit (applications_of tree) is (unit_faultless sources unit sound)).sound a among).clean
-            (λ i h. done_mention sources unit sound i.type_name (within.types i h));
+            (λ i h. done_part sources unit sound i.type_name (within.types i h));
         finished = finished;
       }
     where

@@ -6,8 +6,8 @@ use Rattle.std.specs.Ordering.{is_eq}
 use Rattle.std.specs.declared.cmp.Ordering.TheVariants.{Equal}
 use Rattle.fb_wiring.specs.Text.Order.{in_order}
 use Rattle.fb_wiring.proofs.Text.OrderLemmas.{in_order-members, in_order-sorted}
-use Rattle.fb_wiring.specs.Library.View.{Sources, mentions_at}
-use Rattle.fb_wiring.specs.Library.Rests.{Rests, itself, through}
+use Rattle.fb_wiring.specs.Library.View.{Sources, parts_at}
+use Rattle.fb_wiring.specs.Library.Rests.{PartRests, on_itself, through_part}
 use Rattle.fb_wiring.proofs.Text.Members.{contains_here, contains_later}
 use Rattle.fb_faults.specs.Faults.{faults_of}
 use Rattle.fb_wiring.specs.Network.declared.network.InstanceKind.{InstanceKind}
@@ -64,9 +64,9 @@ composed_is view nets network clean finished =
 
 -- ---- depths
 
--- all that the name rests on is there and without faults
+-- all that the name rests on by parts is there and without faults
 abbrev pub AreFaultless : Sources → List ℕ → Type 0
-AreFaultless sources name = (v : List ℕ) → Rests sources name v → (get sources v ≢ None) × (faults_of sources v ≡ [])
+AreFaultless sources name = (v : List ℕ) → PartRests sources name v → (get sources v ≢ None) × (faults_of sources v ≡ [])
 
 -- the type's network is clean, with its flat network and its instances through these depths
 pub record IsDone (sources : Sources) (depth : ℕ) (name : List ℕ) : Type 0 where
@@ -117,9 +117,9 @@ held_next : (depth : ℕ) (view : View) (name : List ℕ) → held_of (suc depth
 unfolding held_of
 held_next depth view name = refl
 
-done_next : (sources : Sources) (depth : ℕ) (name : List ℕ) → AreFaultless sources name → ((w : List ℕ) → Contains (mentions_at sources name) w → IsDone sources depth w) → IsDone sources (suc depth) name
+done_next : (sources : Sources) (depth : ℕ) (name : List ℕ) → AreFaultless sources name → ((w : List ℕ) → Contains (parts_at sources name) w → IsDone sources depth w) → IsDone sources (suc depth) name
 done_next sources depth name faultless inner =
-    let whole = faultless name itself in
+    let whole = faultless name on_itself in
     let t = tree_of_faultless sources name whole.0 whole.1 in
     let network : PlainNetwork = network_of t.tree in
     let is : declared sources name ≡ Some network = ap (option_map network_of) t.present in
@@ -142,4 +142,4 @@ done_next sources depth name faultless inner =
 
 pub all_done : {sources : Sources} {depth : ℕ} {name : List ℕ} → Deep sources depth name → AreFaultless sources name → IsDone sources depth name
 all_done {sources = sources} (deep {depth = depth} {name = name} inner) faultless =
-    done_next sources depth name faultless (λ w m. all_done (inner w m) (λ v r. faultless v (through m r)))
+    done_next sources depth name faultless (λ w m. all_done (inner w m) (λ v r. faultless v (through_part m r)))

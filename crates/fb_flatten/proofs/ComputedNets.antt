@@ -2,7 +2,7 @@
 use Rattle.std.proofs.Common.{◌≡◌, ℕ, Bool, true, false, cond, if◌then◌else◌, List, [], ◌∷◌, length, ◌⊎◌, inl, inr, Option, Some, None, refl, sym, ap, subst, ◌∙◌, arith}
 use Rattle.std.proofs.lemmas.Bool.{false≢true}
 use Rattle.std.proofs.lemmas.Bool.Decides.{nat_tests}
-use Rattle.std.specs.Prelude.{Contains, ◌↔◌, nat_lt, map, filter, option_map}
+use Rattle.std.specs.Prelude.{Contains, ◌≢◌, ◌↔◌, nat_lt, map, filter, option_map}
 use Rattle.std.specs.List.{flat_map}
 use Rattle.std.specs.Option.{option_and_then}
 use Rattle.std.specs.FinMap.{get}
@@ -12,10 +12,10 @@ use Rattle.fb_wiring.proofs.Text.OrderLemmas.{in_order-sorted}
 use Rattle.fb_wiring.specs.Tree.Tree.{DeclTree, SystemTree, TypeTree, block_type, adapter_type, subapplication_type, system_configuration, structure_type}
 use Rattle.fb_wiring.specs.Tree.Mentions.{unit_kind_of}
 use Rattle.fb_wiring.specs.Tree.declared.kinds.UnitKind.TheVariants as kinds
-use Rattle.fb_wiring.specs.Library.View.{Sources, mentions_at, tree_at, tree_of}
-use Rattle.fb_wiring.specs.Library.Rests.{Rests, itself, through}
+use Rattle.fb_wiring.specs.Library.View.{Sources, parts_at, tree_at, tree_of}
+use Rattle.fb_wiring.specs.Library.Rests.{Rests, itself, PartRests, on_itself, through_part}
 use Rattle.fb_wiring.specs.Library.Local.{AgreeFar}
-use Rattle.fb_wiring.proofs.Library.Locality.{far_local}
+use Rattle.fb_wiring.proofs.Library.Locality.{far_local, part_mention, parts_both, parts_rest, rests_more}
 use Rattle.fb_wiring.proofs.Text.Members.{contains_nothing, contains_filter, passes_in_filter, contains_here, contains_later}
 use Rattle.fb_wiring.specs.Iface.declared.fault.Fault.{Fault}
 use Rattle.fb_faults.specs.Faults.{faults_of}
@@ -34,18 +34,21 @@ use Rattle.fb_wiring.specs.ByName.{applications_at, declared}
 use Rattle.fb_wiring.specs.Networks.{network_of}
 use Rattle.fb_wiring.specs.declared.systems.Application.{Application}
 use Rattle.fb_flatten.proofs.CleanUnits.{applications_clean, networks_clean}
-use Rattle.fb_flatten.specs.Blocking.{AreThose, IsBlocking, is_blocking}
+use Rattle.fb_flatten.specs.Blocking.{AreThose, IsBlocking, IsPartBelow, is_blocking, is_part_among}
 use Rattle.fb_flatten.specs.Net.{PlainNet, too_large, flat_net, IsNet, IsSound}
 use Rattle.fb_wiring.specs.Units.{HasNet, has_net_tree, own_instances, AreFlatApplications, NoApplication, ThenApplication, Holds, IsUnitFlat, OfSubapplication, OfSystem}
 use Rattle.fb_wiring.proofs.KindLemmas.{net_kind, no_net_kind}
 use Rattle.fb_flatten.proofs.MentionLemmas.{applications_within, declared_within, own_within}
 use Rattle.fb_flatten.proofs.NetLemmas.{blocking_those, recursive_those}
+use Rattle.fb_flatten.proofs.OrderLemmas.{present_of_tree}
+use Rattle.fb_wiring.specs.Library.Seen.{has_name}
+use Rattle.fb_wiring.proofs.Library.WalkLemmas.{Contains-has, has-Contains}
 use Rattle.fb_flatten.proofs.NetLocality.{net_local}
 use Rattle.fb_flatten.proofs.OneNet.{one_net_only}
 use Rattle.fb_flatten.specs.Far.{far_of}
 use Rattle.fb_flatten.specs.Nets.{composed, flats_of, flat_application, joined, flat_of_tree, held_by, held_of, is_recursive, sized_net, finite_net, first_net, net_of_tree, has_net_in, net_in, net_at, HasNetByText, NetAtIsNet, NetAtIsLocal}
 use Rattle.fb_flatten.proofs.FarNames.{far_is_all}
-use Rattle.fb_flatten.proofs.Depths.{far_deep, recursive_is}
+use Rattle.fb_flatten.proofs.Depths.{far_deep, recursive_is, some_of, some_passes}
 use Rattle.fb_flatten.proofs.ComputedFlats.{AreFaultless, IsDone, all_done, flat_with, held_with, links_ordered}
 
 module _ (sources : Sources) (unit : List ℕ) where
@@ -55,8 +58,24 @@ module _ (sources : Sources) (unit : List ℕ) where
   names_complete : (v : List ℕ) → Rests sources unit v → Contains (far_of sources unit) v
   names_complete v r = ((far_is_all sources unit).1 v).1 r
 
-  those_blocking : AreThose sources unit (IsBlocking sources) (filter (is_blocking sources) (far_of sources unit))
-  those_blocking = blocking_those (far_of sources unit) (filter (is_blocking sources) (far_of sources unit)) (far_is_all sources unit).0 names_sound (λ v r b. names_complete v r) refl
+  -- whether a name is a part of what the unit rests on
+  abbrev is_part : List ℕ → Bool
+  is_part = is_part_among sources (far_of sources unit)
+
+  part_below : (v : List ℕ) → is_part v ≡ true → IsPartBelow sources unit v
+  part_below v told =
+      let s = some_passes (λ holder. has_name (parts_at sources holder) v) (far_of sources unit) told in
+      (s.name, names_sound s.name (Contains-has s.name (far_of sources unit) s.among), Contains-has v (parts_at sources s.name) s.passes)
+
+  below_part : (v : List ℕ) → IsPartBelow sources unit v → is_part v ≡ true
+  below_part v below =
+      some_of (λ holder. has_name (parts_at sources holder) v) (far_of sources unit) below.0
+      (has-Contains below.0 (far_of sources unit) (names_complete below.0 below.1)) (has-Contains v (parts_at sources below.0) below.2)
+
+  those_blocking : AreThose sources unit (IsBlocking sources unit) (filter (is_blocking sources (is_part_among sources (far_of sources unit))) (far_of sources unit))
+  those_blocking =
+      blocking_those (is_part_among sources (far_of sources unit)) (far_of sources unit) (filter (is_blocking sources (is_part_among sources (far_of sources unit))) (far_of sources unit)) (far_is_all sources unit).0 names_sound (λ v r b. names_complete v r)
+      (λ v c absent told. part_below v told) (λ v c absent below. below_part v below) refl
 
   those_recursive : AreThose sources unit (IsRecursive sources) (filter (is_recursive sources) (far_of sources unit))
   those_recursive =
@@ -69,28 +88,35 @@ module _ (sources : Sources) (unit : List ℕ) where
 
   -- ---- a sound unit
 
-  pub faultless : IsSound sources unit → (u : List ℕ) → Rests sources unit u → AreFaultless sources u
-  faultless sound u r v s = (λ e. contains_nothing v ((sound.whole.members v).1 (rests_on r s, inl e)), by (faults_of sources v) refl)
+  -- what it rests on has no faults
+  no_faults : IsSound sources unit → (v : List ℕ) → Rests sources unit v → faults_of sources v ≡ []
+  no_faults sound v r = by (faults_of sources v) refl
     where
-      rests_on : {a b c : List ℕ} → Rests sources a b → Rests sources b c → Rests sources a c
-      rests_on itself k = k
-      rests_on (through m h) k = through m (rests_on h k)
-
       by : (fs : List Fault) → faults_of sources v ≡ fs → faults_of sources v ≡ []
       by [] f = f
-      by (x ∷ fs) f = absurd (contains_nothing v ((sound.whole.members v).1 (rests_on r s, inr (λ n. let no : ⊥ = cc in no))))
+      by (x ∷ fs) f = absurd (contains_nothing v ((sound.whole.members v).1 (r, inl (λ n. let no : ⊥ = cc in no))))
+
+  pub unit_faultless : IsSound sources unit → faults_of sources unit ≡ []
+  unit_faultless sound = no_faults sound unit itself
+
+  -- and what it rests on by parts is present
+  pub present_below : IsSound sources unit → {u v : List ℕ} → Rests sources unit u → get sources u ≢ None → PartRests sources u v → get sources v ≢ None
+  present_below sound r here on_itself = here
+  present_below sound {u} r here (through_part {w = w} m rest) =
+      let next : Rests sources unit w = rests_more r (part_mention sources u w m) in
+      present_below sound next (λ absent. contains_nothing w ((sound.whole.members w).1 (next, inr (absent, (u, r, m))))) rest
+
+  faultless : IsSound sources unit → (u : List ℕ) → PartRests sources unit u → AreFaultless sources u
+  faultless sound u r v s = (present_below sound itself sound.present (parts_both r s), no_faults sound v (parts_rest sources (parts_both r s)))
 
   finite : IsSound sources unit → (v : List ℕ) → Rests sources unit v → IsRecursive sources v → ⊥
   finite sound v r rec = contains_nothing v ((sound.finite.members v).1 (r, rec))
 
-  pub done : IsSound sources unit → (v : List ℕ) → Rests sources unit v → IsDone sources (length (far_of sources unit)) v
-  done sound v r = all_done (far_deep sources unit (finite sound) v r) (faultless sound v r)
+  pub done : IsSound sources unit → (v : List ℕ) → PartRests sources unit v → IsDone sources (length (far_of sources unit)) v
+  done sound v r = all_done (far_deep sources unit (finite sound) v (parts_rest sources r)) (faultless sound v r)
 
-  pub done_mention : IsSound sources unit → (v : List ℕ) → Contains (mentions_at sources unit) v → IsDone sources (length (far_of sources unit)) v
-  done_mention sound v m = done sound v (through m itself)
-
-  pub unit_faultless : IsSound sources unit → faults_of sources unit ≡ []
-  unit_faultless sound = (faultless sound unit itself unit itself).1
+  pub done_part : IsSound sources unit → (v : List ℕ) → Contains (parts_at sources unit) v → IsDone sources (length (far_of sources unit)) v
+  done_part sound v m = done sound v (through_part m on_itself)
 
   -- ---- its flat network
 
@@ -121,7 +147,7 @@ module _ (sources : Sources) (unit : List ℕ) where
       let clean = applications_clean sources unit list is (unit_faultless sound) in
       OfSystem list flats (ap (option_map unit_kind_of) present) is
       (flat_applications view depth list
-      (λ a c. flat_with sources depth a.network (clean.sound a c).clean (λ i h. done_mention sound i.type_name ((applications_within sources unit list is a c).types i h))))
+      (λ a c. flat_with sources depth a.network (clean.sound a c).clean (λ i h. done_part sound i.type_name ((applications_within sources unit list is a c).types i h))))
       (joined_is flats)
 
   type_flat : (d : TypeTree) → tree_at sources unit ≡ Some (subapplication_type d) → IsSound sources unit → IsUnitFlat sources unit (flat_of_tree (declared sources) (flats_of (length (far_of sources unit)) (declared sources)) (subapplication_type d))
@@ -130,7 +156,7 @@ module _ (sources : Sources) (unit : List ℕ) where
       let is : declared sources unit ≡ Some network = ap (option_map network_of) present in
       OfSubapplication network (ap (option_map unit_kind_of) present) is
       (flat_with sources (length (far_of sources unit)) network (networks_clean sources unit network is (unit_faultless sound)).clean
-      (λ i h. done_mention sound i.type_name ((declared_within sources unit network is).types i h)))
+      (λ i h. done_part sound i.type_name ((declared_within sources unit network is).types i h)))
 
   unit_flat : (tree : DeclTree) → tree_at sources unit ≡ Some tree → has_net_tree tree ≡ true → IsSound sources unit → IsUnitFlat sources unit (flat_of_tree (declared sources) (flats_of (length (far_of sources unit)) (declared sources)) tree)
   unit_flat (block_type d) present has sound = absurd (false≢true has)
@@ -145,7 +171,7 @@ module _ (sources : Sources) (unit : List ℕ) where
   unit_held tree present sound = record {
     tree = tree;
     present = present;
-    instances = held_with sources (length (far_of sources unit)) (own_instances tree) (λ i c. done_mention sound i.type_name (own_within sources unit tree present i c));
+    instances = held_with sources (length (far_of sources unit)) (own_instances tree) (λ i c. done_part sound i.type_name (own_within sources unit tree present i c));
   }
 
   sized_is : (held : List Held) (flat : PlainFlat) → IsSound sources unit → Holds sources unit held → IsUnitFlat sources unit flat → IsNet sources unit (sized_net held flat)
@@ -158,13 +184,13 @@ module _ (sources : Sources) (unit : List ℕ) where
   finite_is : (tree : DeclTree) → tree_at sources unit ≡ Some tree → has_net_tree tree ≡ true → IsSound sources unit → IsNet sources unit (finite_net (length (far_of sources unit)) sources tree)
   finite_is tree present has sound = sized_is _ _ sound (unit_held tree present sound) (unit_flat tree present has sound)
 
-  first_is : (xs ys : List (List ℕ)) (net : PlainNet) → AreThose sources unit (IsBlocking sources) xs → AreThose sources unit (IsRecursive sources) ys → (IsSound sources unit → IsNet sources unit net) → IsNet sources unit (first_net xs ys net)
-  first_is [] [] net b r last = last (record { whole = b; finite = r })
-  first_is [] (y ∷ ys) net b r last = (b, r, λ e. let no : ⊥ = cc in no)
-  first_is (x ∷ xs) ys net b r last = (b, λ e. let no : ⊥ = cc in no)
+  first_is : (xs ys : List (List ℕ)) (net : PlainNet) → get sources unit ≢ None → AreThose sources unit (IsBlocking sources unit) xs → AreThose sources unit (IsRecursive sources) ys → (IsSound sources unit → IsNet sources unit net) → IsNet sources unit (first_net xs ys net)
+  first_is [] [] net present b r last = last (record { present = present; whole = b; finite = r })
+  first_is [] (y ∷ ys) net present b r last = (b, r, λ e. let no : ⊥ = cc in no)
+  first_is (x ∷ xs) ys net present b r last = (b, λ e. let no : ⊥ = cc in no)
 
   net_of_tree_is : (tree : DeclTree) → tree_at sources unit ≡ Some tree → has_net_tree tree ≡ true → IsNet sources unit (net_of_tree sources unit tree)
-  net_of_tree_is tree present has = first_is _ _ _ those_blocking those_recursive (finite_is tree present has)
+  net_of_tree_is tree present has = first_is _ _ _ (present_of_tree sources unit tree present) those_blocking those_recursive (finite_is tree present has)
 
   -- the computed net of a unit that has one
   record Computed : Type 0 where

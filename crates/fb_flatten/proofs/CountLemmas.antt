@@ -8,7 +8,7 @@ use Rattle.fb_wiring.specs.Text.Order.{name_cmp}
 use Rattle.fb_wiring.specs.Tree.Tree.{DeclTree, block_type, adapter_type, subapplication_type, system_configuration, structure_type}
 use Rattle.fb_wiring.specs.Tree.declared.kinds.UnitKind.TheVariants as kinds
 use Rattle.fb_wiring.specs.Tree.Mentions.{unit_kind_of}
-use Rattle.fb_wiring.specs.Library.View.{Sources, mentions_at, tree_at}
+use Rattle.fb_wiring.specs.Library.View.{Sources, parts_at, tree_at}
 use Rattle.fb_wiring.specs.Network.declared.count.TheConstants.{INSTANCE_LIMIT}
 use Rattle.fb_wiring.specs.Network.declared.network.InstanceKind.TheVariants.{Subapplication}
 use Rattle.fb_wiring.specs.Network.declared.network.Instance.{Instance}
@@ -27,7 +27,7 @@ use Rattle.fb_wiring.specs.Counts.{IsCounted, AreCounted, CountsAll, HasCount}
 use Rattle.fb_wiring.specs.Order.{IsOrdered}
 use Rattle.fb_wiring.specs.Holders.{holders_of, is_holder}
 use Rattle.fb_wiring.proofs.LeftLemmas.{get_holder}
-use Rattle.fb_flatten.proofs.KeptLemmas.{mentioned}
+use Rattle.fb_flatten.proofs.KeptLemmas.{part_kept}
 use Rattle.fb_flatten.specs.Net.{PlainNet, IsSound}
 use Rattle.fb_flatten.specs.Tables.{AllCounted, AreRightCounts, IsSmallType, IsSoundOrder, IsTable, IsUnitCount, SameOthers, is_subapplication_in, is_subapplication_tree}
 use Rattle.fb_wiring.specs.Units.{has_net_in, own_instances}
@@ -86,7 +86,7 @@ module _ {sources : Sources} {hints : List ℕ → Option PlainNet} {table : Vie
       ap is_some ((t.types name c).network it.network it.is_declared)
 
 -- the types of the instances of a sound unit are counted where the names that it mentions are
-own_counted : {sources : Sources} {counts : List ℕ → Option ℕ} (unit : List ℕ) (tree : DeclTree) → IsSound sources unit → tree_at sources unit ≡ Some tree → ((w : List ℕ) → Contains (mentions_at sources unit) w → kind_at sources w ≡ Some kinds.Subapplication → IsCounted (declared sources) counts w) → AreCounted (declared sources) (own_instances tree) counts
+own_counted : {sources : Sources} {counts : List ℕ → Option ℕ} (unit : List ℕ) (tree : DeclTree) → IsSound sources unit → tree_at sources unit ≡ Some tree → ((w : List ℕ) → Contains (parts_at sources unit) w → kind_at sources w ≡ Some kinds.Subapplication → IsCounted (declared sources) counts w) → AreCounted (declared sources) (own_instances tree) counts
 own_counted {sources = sources} unit tree sound present mentioned i c k = mentioned i.type_name (own_within sources unit tree present i c) (own_kind sources unit tree sound present i c k)
 
 type_counted : (sources : Sources) {old new : List ℕ → Option ℕ} (name : List ℕ) (tree : DeclTree) → kind_at sources name ≡ Some kinds.Subapplication → tree_at sources name ≡ Some tree → AreCounted (declared sources) (own_instances tree) old → HasCount old new tree name → IsCounted (declared sources) new name
@@ -97,9 +97,9 @@ type_counted sources name (structure_type s) kind present all has = let two : ki
 type_counted sources name (subapplication_type d) kind present all has =
     record { inner = network_of (subapplication_type d); declared = ap (option_map network_of) present; count = has.count; found = has.found; counted = has.counted (declared sources) all }
 
--- a unit with instances that count has all its mentions among such units
-pub holder_mention : (sources : Sources) (name w : List ℕ) → has_net_in (tree_at sources name) ≡ true → Contains (mentions_at sources name) w → Contains (mentions_at (holders_of sources) name) w
-holder_mention sources name w = mentioned sources (holders_of sources) (is_holder sources) (get_holder sources) name w
+-- a unit with instances that count has all its parts among such units
+pub holder_part : (sources : Sources) (name w : List ℕ) → has_net_in (tree_at sources name) ≡ true → Contains (parts_at sources name) w → Contains (parts_at (holders_of sources) name) w
+holder_part sources name w = part_kept sources (holders_of sources) (is_holder sources) (get_holder sources) name w
 
 -- the next name of an order is counted by the counts of those before it
 pub next_counted : {sources : Sources} {order : List (List ℕ)} {old new : List ℕ → Option ℕ} (i : ℕ) (name : List ℕ) → IsOrdered (holders_of sources) order → IsSound sources name → i < length order → name ≡ get_or order i name → AllCounted sources old (take i order) → ((tree : DeclTree) → tree_at sources name ≡ Some tree → is_subapplication_tree tree ≡ true → HasCount old new tree name) → kind_at sources name ≡ Some kinds.Subapplication → IsCounted (declared sources) new name
@@ -109,7 +109,7 @@ next_counted {sources = sources} {order = order} i name ordered sound lt e all h
     let holds = (has_by_text sources name).1 (inl kind) in
     type_counted sources name t.tree kind t.present
     (own_counted name t.tree sound t.present
-    (λ w m. all w (ordered.inner_first i lt w (subst (λ (n : List ℕ). Contains (mentions_at (holders_of sources) n) w) place (holder_mention sources name w holds m)))))
+    (λ w m. all w (ordered.inner_first i lt w (subst (λ (n : List ℕ). Contains (parts_at (holders_of sources) n) w) place (holder_part sources name w holds m)))))
     (has t.tree t.present (sym (ap is_subapplication_in t.present) ∙ subapplication_told sources name kind))
 
 counted_still : {view : View} {old new : List ℕ → Option ℕ} (name : List ℕ) → new name ≡ old name → IsCounted view old name → IsCounted view new name
@@ -130,7 +130,7 @@ right_more sources old new name right others kept one q count found = by_test (i
     by_test false t = let e = others q (at_not name q t) in counted_still q e (right q count (sym e ∙ found))
 
 -- the unit is counted by the counts of what it mentions
-pub unit_counted : {sources : Sources} {unit : List ℕ} {counts : List ℕ → Option ℕ} (tree : DeclTree) (count : ℕ) → IsSound sources unit → tree_at sources unit ≡ Some tree → AllCounted sources counts (mentions_at sources unit) → CountsAll counts (own_instances tree) count → IsUnitCount sources unit count
+pub unit_counted : {sources : Sources} {unit : List ℕ} {counts : List ℕ → Option ℕ} (tree : DeclTree) (count : ℕ) → IsSound sources unit → tree_at sources unit ≡ Some tree → AllCounted sources counts (parts_at sources unit) → CountsAll counts (own_instances tree) count → IsUnitCount sources unit count
 unit_counted {sources = sources} {unit = unit} tree count sound present all counted =
     let c = counted (declared sources) (own_counted unit tree sound present all) in
     record { held = c.held; holds = record { tree = tree; present = present; instances = c.instances }; count_is = c.count_is }

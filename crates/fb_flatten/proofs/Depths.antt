@@ -8,21 +8,23 @@ use Rattle.std.specs.Ordering.{eq_by_cmp}
 use Rattle.std.specs.FinMap.{slice_cmp-IsAntisymmetric, nat_cmp-IsAntisymmetric}
 use Rattle.fb_wiring.proofs.Text.Tests.{by_bool, or_cases}
 use Rattle.fb_wiring.specs.Text.Order.{name_cmp}
-use Rattle.fb_wiring.specs.Library.View.{Sources, mentions_at}
-use Rattle.fb_wiring.specs.Library.Rests.{Rests, itself, through}
+use Rattle.fb_wiring.specs.Library.View.{Sources, parts_at}
+use Rattle.fb_wiring.specs.Library.Rests.{Rests, PartRests, on_itself, through_part}
 use Rattle.fb_wiring.specs.Library.Seen.{has_name, unseen}
 use Rattle.fb_wiring.proofs.Library.WalkLemmas.{Contains-has, has-Contains}
 use Rattle.fb_wiring.specs.Reaches.{Reaches, directly, onward, IsRecursive}
 use Rattle.fb_wiring.proofs.StackLemmas.{reaches_more}
 use Rattle.fb_wiring.proofs.Text.Members.{contains_here}
-use Rattle.fb_flatten.specs.Far.{far_of}
+use Rattle.fb_flatten.specs.Far.{far_of, part_far_of}
 use Rattle.fb_flatten.specs.Nets.{is_recursive}
-use Rattle.fb_flatten.proofs.FarNames.{far_is_all, one_fewer, some_unseen, all_unseen}
+use Rattle.fb_flatten.proofs.FarNames.{far_is_all, part_far_is_all}
+use Rattle.fb_wiring.proofs.Library.SeenLemmas.{one_fewer, some_unseen, all_unseen}
+use Rattle.fb_wiring.proofs.Library.Locality.{part_mention, rests_more}
 
--- the type mentions others through fewer depths than this
+-- the type holds parts through fewer depths than this
 pub data Deep (sources : Sources) : ℕ → List ℕ → Type 0 where
   deep :
-      {depth : ℕ} {name : List ℕ} → ((w : List ℕ) → Contains (mentions_at sources name) w → Deep sources depth w)
+      {depth : ℕ} {name : List ℕ} → ((w : List ℕ) → Contains (parts_at sources name) w → Deep sources depth w)
       → Deep sources (suc depth) name
 
 pub same_is : (x y : List ℕ) → eq_by_cmp name_cmp x y ≡ true → x ≡ y
@@ -30,32 +32,32 @@ same_is x y = tells_apart (slice_cmp-IsAntisymmetric nat_cmp-IsAntisymmetric) x 
 
 -- ---- recursion
 
-reaches_through : {sources : Sources} {u w v : List ℕ} → Contains (mentions_at sources u) w → Rests sources w v → Reaches sources u v
-reaches_through m itself = directly m
-reaches_through m (through k r) = onward m (reaches_through k r)
+reaches_through : {sources : Sources} {u w v : List ℕ} → Contains (parts_at sources u) w → PartRests sources w v → Reaches sources u v
+reaches_through m on_itself = directly m
+reaches_through m (through_part k r) = onward m (reaches_through k r)
 
-pub rests_of_reach : {sources : Sources} {u v : List ℕ} → Reaches sources u v → Rests sources u v
-rests_of_reach (directly m) = through m itself
-rests_of_reach (onward m r) = through m (rests_of_reach r)
+pub rests_of_reach : {sources : Sources} {u v : List ℕ} → Reaches sources u v → PartRests sources u v
+rests_of_reach (directly m) = through_part m on_itself
+rests_of_reach (onward m r) = through_part m (rests_of_reach r)
 
--- a mention from which the name is rested on
+-- a part from which the name is rested on
 record RestsBack (sources : Sources) (u v : List ℕ) : Type 0 where
   pub by : List ℕ
-  pub mentioned : Contains (mentions_at sources u) by
-  pub rests : Rests sources by v
+  pub mentioned : Contains (parts_at sources u) by
+  pub rests : PartRests sources by v
 
 by_first : {sources : Sources} {u v : List ℕ} → Reaches sources u v → RestsBack sources u v
-by_first {v = v} (directly m) = record { by = v; mentioned = m; rests = itself }
+by_first {v = v} (directly m) = record { by = v; mentioned = m; rests = on_itself }
 by_first (onward {w = w} m r) = record { by = w; mentioned = m; rests = rests_of_reach r }
 
-some_of : (p : List ℕ → Bool) (xs : List (List ℕ)) (x : List ℕ) → has_name xs x ≡ true → p x ≡ true → list_any p xs ≡ true
+pub some_of : (p : List ℕ → Bool) (xs : List (List ℕ)) (x : List ℕ) → has_name xs x ≡ true → p x ≡ true → list_any p xs ≡ true
 some_of p [] x h t = absurd (false≢true h)
 some_of p (y ∷ xs) x h t =
     or_cases (eq_by_cmp name_cmp x y) (has_name xs x) h
     (λ s. ap (λ b. b || list_any p xs) (ap p (sym (same_is x y s)) ∙ t))
     (λ more. or_right (p y) (list_any p xs) (some_of p xs x more t))
 
-record SomeName (p : List ℕ → Bool) (xs : List (List ℕ)) : Type 0 where
+pub record SomeName (p : List ℕ → Bool) (xs : List (List ℕ)) : Type 0 where
   pub name : List ℕ
   pub among : has_name xs name ≡ true
   pub passes : p name ≡ true
@@ -66,7 +68,7 @@ same_self x = has-Contains x (x ∷ []) (contains_here x [])
 here_name : (x : List ℕ) (xs : List (List ℕ)) → has_name (x ∷ xs) x ≡ true
 here_name x xs = has-Contains x (x ∷ xs) (contains_here x xs)
 
-some_passes : (p : List ℕ → Bool) (xs : List (List ℕ)) → list_any p xs ≡ true → SomeName p xs
+pub some_passes : (p : List ℕ → Bool) (xs : List (List ℕ)) → list_any p xs ≡ true → SomeName p xs
 some_passes p [] h = absurd (false≢true h)
 some_passes p (y ∷ xs) h =
     or_cases (p y) (list_any p xs) h
@@ -77,41 +79,41 @@ some_passes p (y ∷ xs) h =
 pub recursive_is : (sources : Sources) (name : List ℕ) → (is_recursive sources name ≡ true) ↔ IsRecursive sources name
 recursive_is sources name = (
   λ h.
-      let s = some_passes (λ inner. has_name (far_of sources inner) name) (mentions_at sources name) h in
-      reaches_through (Contains-has s.name (mentions_at sources name) s.among) (((far_is_all sources s.name).1 name).0 (Contains-has name (far_of sources s.name) s.passes)),
+      let s = some_passes (λ inner. has_name (part_far_of sources inner) name) (parts_at sources name) h in
+      reaches_through (Contains-has s.name (parts_at sources name) s.among) ((part_far_is_all sources s.name name).0 (Contains-has name (part_far_of sources s.name) s.passes)),
   λ r.
       let b = by_first r in
-      some_of (λ inner. has_name (far_of sources inner) name) (mentions_at sources name) b.by (has-Contains b.by (mentions_at sources name) b.mentioned) (has-Contains name (far_of sources b.by) (((far_is_all sources b.by).1 name).1 b.rests)),
+      some_of (λ inner. has_name (part_far_of sources inner) name) (parts_at sources name) b.by (has-Contains b.by (parts_at sources name) b.mentioned) (has-Contains name (part_far_of sources b.by) ((part_far_is_all sources b.by name).1 b.rests)),
 )
 
 -- ---- depths
 
 module _ (sources : Sources) (names : List (List ℕ)) where
   abbrev IsClosed : Type 0
-  IsClosed = (n q : List ℕ) → Contains names n → Contains (mentions_at sources n) q → Contains names q
+  IsClosed = (n q : List ℕ) → Contains names n → Contains (parts_at sources n) q → Contains names q
 
   abbrev AreFinite : Type 0
   AreFinite = (n : List ℕ) → Contains names n → IsRecursive sources n → ⊥
 
   -- along a path of names of which each reaches the next, no name comes again
   depth_along : (depth : ℕ) (path : List (List ℕ)) (name : List ℕ) → IsClosed → AreFinite → unseen path names ≤ depth → Contains names name → has_name path name ≡ false → ((q : List ℕ) → has_name path q ≡ true → Reaches sources q name) → Deep sources depth name
-  depth_along zero path name closed finite le among new reach = let one = some_unseen path names name new among in absurd (omega (arith, one, le))
+  depth_along zero path name closed finite le among new reach = let one = some_unseen path names name new (has-Contains name names among) in absurd (omega (arith, one, le))
   depth_along (suc depth) path name closed finite le among new reach =
       deep
       (λ w m.
       depth_along depth (name ∷ path) w closed finite
-      (let less = one_fewer path (name ∷ path) name new (here_name name path) (λ q h. or_right (eq_by_cmp name_cmp q name) (has_name path q) h) names among in omega (arith, less, le))
+      (let less = one_fewer path (name ∷ path) name new (here_name name path) (λ q h. or_right (eq_by_cmp name_cmp q name) (has_name path q) h) names (has-Contains name names among) in omega (arith, less, le))
       (closed name w among m)
       (by_bool (has_name (name ∷ path) w)
       (λ t.
       absurd
       (or_cases (eq_by_cmp name_cmp w name) (has_name path w) t
-      (λ s. finite name among (directly (subst (Contains (mentions_at sources name)) (same_is w name s) m)))
+      (λ s. finite name among (directly (subst (Contains (parts_at sources name)) (same_is w name s) m)))
       (λ p. finite w (closed name w among m) (reaches_more (reach w p) m))))
       (λ f. f))
       (λ q h.
       or_cases (eq_by_cmp name_cmp q name) (has_name path q) h
-      (λ s. directly (subst (λ n. Contains (mentions_at sources n) w) (sym (same_is q name s)) m))
+      (λ s. directly (subst (λ n. Contains (parts_at sources n) w) (sym (same_is q name s)) m))
       (λ p. reaches_more (reach q p) m)))
 
 -- what a unit rests on, where none of it reaches itself
@@ -119,13 +121,9 @@ pub far_deep : (sources : Sources) (unit : List ℕ) → ((v : List ℕ) → Res
 far_deep sources unit finite name r =
     let all = (far_is_all sources unit).1 in
     depth_along sources (far_of sources unit) (length (far_of sources unit)) [] name
-    (λ n q c m. (all q).1 (rests_on ((all n).0 c) m))
+    (λ n q c m. (all q).1 (rests_more ((all n).0 c) (part_mention sources n q m)))
     (λ n c rec. finite n ((all n).0 c) rec)
     (all_unseen [] (far_of sources unit))
     ((all name).1 r)
     refl
     (λ q h. absurd (false≢true h))
-  where
-    rests_on : {u v w : List ℕ} → Rests sources u v → Contains (mentions_at sources v) w → Rests sources u w
-    rests_on itself m = through m itself
-    rests_on (through k r) m = through k (rests_on r m)

@@ -11,7 +11,7 @@ use Rattle.fb_wiring.specs.Tree.Mentions.{unit_kind_of}
 use Rattle.fb_wiring.specs.Tree.Tree.{DeclTree, block_type, adapter_type, subapplication_type, system_configuration, structure_type}
 use Rattle.fb_wiring.specs.Tree.declared.kinds.UnitKind.{UnitKind}
 use Rattle.fb_wiring.specs.Tree.declared.kinds.UnitKind.TheVariants as kinds
-use Rattle.fb_wiring.specs.Library.View.{Sources, mentions_at, tree_at}
+use Rattle.fb_wiring.specs.Library.View.{Sources, parts_at, tree_at}
 use Rattle.fb_wiring.specs.Network.declared.network.InstanceKind.TheVariants.{Subapplication}
 use Rattle.fb_wiring.specs.Network.declared.network.Instance.{Instance}
 use Rattle.fb_wiring.specs.Network.Plain.{PlainNetwork}
@@ -25,7 +25,7 @@ use Rattle.fb_wiring.specs.Networks.{network_of}
 use Rattle.fb_wiring.proofs.Text.Members.{contains_cases, contains_here, contains_later, contains_nothing}
 use Rattle.fb_wiring.proofs.Network.Equals.{same_bytes, not_at, at_not}
 use Rattle.fb_wiring.specs.Network.Ready.{Nets, IsFinished, AreFinished}
-use Rattle.fb_flatten.specs.Hints.{AreRightHints, flat_of_hint, is_sound_hint}
+use Rattle.fb_flatten.specs.Hints.{AreRightHints, flat_of_hint, is_whole_hint}
 use Rattle.fb_flatten.specs.Net.{PlainNet}
 use Rattle.fb_flatten.specs.Tables.{AllFinished, AreComposedTogether, AreMissing, IsAdded, IsComposed, IsSmallType, IsTable, IsUnitOrder, SameOthers, is_missing, is_subapplication_in, is_system_tree, known_flats}
 use Rattle.fb_wiring.specs.Units.{HasNet, IsUnitFlat, IsWithinLimit, OfSubapplication, OfSystem, own_instances}
@@ -97,13 +97,13 @@ module _ (sources : Sources) (hints : List ℕ → Option PlainNet) (unit : List
   pub finished_skip : (composed : Nets) → AreRightHints sources hints → is_missing sources hints unit name ≡ false → AllFinished sources (known_flats hints composed) unit names → AllFinished sources (known_flats hints composed) unit (names ++ name ∷ [])
   finished_skip composed right here all q c other kind small = by_case (Contains-push_cases names name q c)
     where
-      told : (n : List ℕ) → n ≢ unit → kind_at sources n ≡ Some kinds.Subapplication → is_missing sources hints unit n ≡ false → is_sound_hint (hints n) ≡ true
-      told n apart k here_false = by_bool (is_sound_hint (hints n))
+      told : (n : List ℕ) → n ≢ unit → kind_at sources n ≡ Some kinds.Subapplication → is_missing sources hints unit n ≡ false → is_whole_hint (hints n) ≡ true
+      told n apart k here_false = by_bool (is_whole_hint (hints n))
           (λ t. t)
           (λ f. absurd
           (false≢true
           (sym here_false
-          ∙ ap (λ b. not b && (not (is_sound_hint (hints n)) && is_subapplication_in (tree_at sources n))) (not_at unit n apart)
+          ∙ ap (λ b. not b && (not (is_whole_hint (hints n)) && is_subapplication_in (tree_at sources n))) (not_at unit n apart)
           ∙ ap (λ b. not b && is_subapplication_in (tree_at sources n)) f
           ∙ subapplication_told sources n k)))
 
@@ -114,11 +114,11 @@ module _ (sources : Sources) (hints : List ℕ → Option PlainNet) (unit : List
           (told q other kind (subst (λ (n : List ℕ). is_missing sources hints unit n ≡ false) s here)) small
 
 module _ {sources : Sources} {hints : List ℕ → Option PlainNet} {table : View} {unit : List ℕ} {order : List (List ℕ)} (o : IsUnitOrder sources hints unit order) (t : IsTable sources table order) where
-  apart : (name w : List ℕ) → Contains order name → Contains (mentions_at sources name) w → w ≢ unit
-  apart name w c m e = not_mentioned (o.names.sound unit o.own) name (o.below name c) (subst (λ (n : List ℕ). Contains (mentions_at sources name) n) e m)
+  apart : (name w : List ℕ) → Contains order name → Contains (parts_at sources name) w → w ≢ unit
+  apart name w c m e = not_mentioned (o.names.sound unit o.own) name (o.below name c) (subst (λ (n : List ℕ). Contains (parts_at sources name) n) e m)
 
   -- the types that a small type of the order holds are finished
-  inner_finished : (nets : Nets) (names : List (List ℕ)) (name : List ℕ) (network : PlainNetwork) → Contains order name → declared sources name ≡ Some network → AllFinished sources nets unit names → ((w : List ℕ) → Contains (mentions_at sources name) w → Contains names w) → IsSmallType (declared sources) name → AreFinished (declared sources) network nets
+  inner_finished : (nets : Nets) (names : List (List ℕ)) (name : List ℕ) (network : PlainNetwork) → Contains order name → declared sources name ≡ Some network → AllFinished sources nets unit names → ((w : List ℕ) → Contains (parts_at sources name) w → Contains names w) → IsSmallType (declared sources) name → AreFinished (declared sources) network nets
   inner_finished nets names name network c d all held small i h k =
       let m = (declared_within sources name network d).types i h in
       let own = small.declared in
@@ -129,7 +129,7 @@ module _ {sources : Sources} {hints : List ℕ → Option PlainNet} {table : Vie
   -- what is composed of the next name that is missing is its flat network
   pub added_finished : (old new : Nets) (i : ℕ) (name : List ℕ) → i < length order → name ≡ get_or order i name → is_missing sources hints unit name ≡ true → AllFinished sources (known_flats hints old) unit (take i order) → IsAdded table (known_flats hints old) new name → IsSmallType (declared sources) name → IsFinished (declared sources) (known_flats hints new) name
   added_finished old new i name lt e missing all added small =
-      let unknown = not_of_not (is_sound_hint (hints name)) (and_first (not (is_sound_hint (hints name))) _ (and_second (not (is_at (name_cmp unit) name)) _ missing)) in
+      let unknown = not_of_not (is_whole_hint (hints name)) (and_first (not (is_whole_hint (hints name))) _ (and_second (not (is_at (name_cmp unit) name)) _ missing)) in
       let c : Contains order name = (i, lt, sym e) in
       let it = sound_network (o.names.sound name c) in
       let made = added.composed in
@@ -137,7 +137,7 @@ module _ {sources : Sources} {hints : List ℕ → Option PlainNet} {table : Vie
       let has = (t.types name c).network it.network it.is_declared in
       let same : it.network ≡ made.network = cc in
       let d : declared sources name ≡ Some made.network = it.is_declared ∙ ap (λ (n : PlainNetwork). Some n) same in
-      let first : (w : List ℕ) → Contains (mentions_at sources name) w → Contains (take i order) w = λ w m. o.names.inner_first i name w lt e unknown m in
+      let first : (w : List ℕ) → Contains (parts_at sources name) w → Contains (take i order) w = λ w m. o.names.inner_first i name w lt e unknown m in
       let finished = inner_finished (known_flats hints old) (take i order) name made.network c d all first small in
       let fit = type_composable o.names t name made.network c there (λ j h. in_take i order j.type_name (first j.type_name ((declared_within sources name made.network d).types j h))) finished in
       record {
@@ -156,7 +156,7 @@ module _ {sources : Sources} {hints : List ℕ → Option PlainNet} {table : Vie
       let other = small.holds.present in
       let same : small.holds.tree ≡ tree = cc in
       let instances = subst (λ (d : DeclTree). AreInstances (declared sources) (own_instances d) small.held) same small.holds.instances in
-      all i.type_name (o.mentions i.type_name m) (apart unit i.type_name o.own m) (own_kind sources unit tree (o.names.sound unit o.own) present i c k) (inner_small i instances small.within c k)
+      all i.type_name (o.parts i.type_name m) (apart unit i.type_name o.own m) (own_kind sources unit tree (o.names.sound unit o.own) present i c k) (inner_small i instances small.within c k)
 
   -- what is composed of a type that has a net, which is a subapplication
   pub flat_of_type_is : {nets : Nets} {flat : PlainFlat} (tree : DeclTree) → HasNet sources unit → tree_at sources unit ≡ Some tree → is_system_tree tree ≡ false → AllFinished sources nets unit order → IsWithinLimit sources unit → IsComposed table nets unit flat → IsUnitFlat sources unit flat
@@ -178,7 +178,7 @@ module _ {sources : Sources} {hints : List ℕ → Option PlainNet} {table : Vie
 
       is : IsFlat (declared sources) made.network flat
       is =
-          let fit = type_composable o.names t unit made.network o.own made.there (λ i h. o.mentions i.type_name ((declared_within sources unit made.network d).types i h)) finished in
+          let fit = type_composable o.names t unit made.network o.own made.there (λ i h. o.parts i.type_name ((declared_within sources unit made.network d).types i h)) finished in
           made.whole (declared sources) fit.same fit.clean fit.finished
 
       not_system : (tree' : DeclTree) → is_system_tree tree' ≡ false → Some (unit_kind_of tree') ≡ Some kinds.System → ⊥
@@ -195,7 +195,7 @@ module _ {sources : Sources} {hints : List ℕ → Option PlainNet} {table : Vie
   -- what is composed of the applications of a system
   pub flat_of_system_is : (nets : Nets) {flat : PlainFlat} (tree : DeclTree) → tree_at sources unit ≡ Some tree → is_system_tree tree ≡ true → AllFinished sources nets unit order → IsWithinLimit sources unit → AreComposedTogether table nets (applications_of tree) flat → IsUnitFlat sources unit flat
   flat_of_system_is nets tree present system all small together =
-      let f = together (declared sources) (λ a c. application_composable o.names t unit tree o.own o.mentions present a c (λ i h k. own_finished nets tree present all small i (own_of_application tree a i c h) k)) in
+      let f = together (declared sources) (λ a c. application_composable o.names t unit tree o.own o.parts present a c (λ i h k. own_finished nets tree present all small i (own_of_application tree a i c h) k)) in
       OfSystem (applications_of tree) f.flats kind (system_applications sources unit tree present) f.each f.joined
     where
       is_kind : (tree' : DeclTree) → is_system_tree tree' ≡ true → unit_kind_of tree' ≡ kinds.System

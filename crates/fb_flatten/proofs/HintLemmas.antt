@@ -1,59 +1,75 @@
 -- What kept nets tell of their units.
-use Rattle.std.proofs.Common.{ℕ, ◌≡◌, Bool, true, false, not, arith, length, List, Option, Some, None, refl, sym, ap, subst}
+use Rattle.std.proofs.Common.{ℕ, ◌≡◌, Bool, true, false, not, arith, length, List, Option, Some, None, refl, sym, ap, subst, ◌∙◌}
 use Rattle.std.proofs.lemmas.Bool.{false≢true}
-use Rattle.std.specs.Prelude.{option_map}
+use Rattle.std.specs.Prelude.{◌≢◌, ◌||◌, ◌&&◌, is_none, option_map}
+use Rattle.std.specs.FinMap.{get}
 use Rattle.std.specs.Option.{option_or}
 use Rattle.fb_wiring.specs.Tree.Mentions.{unit_kind_of}
 use Rattle.fb_wiring.specs.Tree.Tree.{DeclTree, block_type, adapter_type, subapplication_type, system_configuration, structure_type}
 use Rattle.fb_wiring.specs.Tree.declared.kinds.UnitKind.TheVariants as kinds
 use Rattle.fb_wiring.specs.Library.View.{Sources, tree_at}
-use Rattle.fb_wiring.specs.Library.Rests.{itself}
 use Rattle.fb_wiring.specs.Network.Plain.{PlainNetwork}
 use Rattle.fb_wiring.specs.Network.PlainFlat.{PlainFlat}
 use Rattle.fb_wiring.specs.Network.Instances.{Held, AreInstances}
-use Rattle.fb_wiring.proofs.Text.Members.{contains_nothing}
+use Rattle.fb_faults.specs.Faults.{faults_of}
 use Rattle.fb_wiring.specs.ByName.{declared, kind_at}
 use Rattle.fb_wiring.specs.Networks.{network_of}
 use Rattle.fb_wiring.specs.Network.Ready.{Nets, IsFinished}
 use Rattle.fb_wiring.proofs.Network.BlockLemmas.{same_instances}
-use Rattle.fb_flatten.specs.Blocking.{is_blocking}
-use Rattle.fb_flatten.specs.Hints.{AreRightHints, flat_of_hint, is_sound_hint, is_sound_net, is_whole_hint, is_whole_net}
-use Rattle.fb_flatten.specs.Net.{PlainNet, blocked, recursive, too_large, flat_net, IsNet, IsWhole}
+use Rattle.fb_flatten.specs.Blocking.{is_absent_or_faulty, is_blocking, is_some_fault}
+use Rattle.fb_flatten.specs.Hints.{AreRightHints, flat_of_hint, is_whole_hint, is_whole_net}
+use Rattle.fb_flatten.specs.Net.{PlainNet, blocked, recursive, too_large, flat_net, IsNet, IsSound}
 use Rattle.fb_flatten.specs.Tables.{IsSmallType, known_flats}
 use Rattle.fb_wiring.specs.Units.{IsTooLarge, IsUnitFlat, OfSubapplication, OfSystem, own_instances}
-use Rattle.fb_flatten.proofs.ComputedNets.{net_at_is}
-use Rattle.fb_flatten.proofs.NetLemmas.{blocking_is}
+use Rattle.fb_flatten.proofs.ComputedNets.{net_at_is, unit_faultless}
 
 -- ---- faults
-not_blocking : (sources : Sources) (name : List ℕ) → IsWhole sources name → is_blocking sources name ≡ false
-not_blocking sources name whole = by (is_blocking sources name) refl
+
+sound_net : (sources : Sources) (name : List ℕ) (net : PlainNet) → IsNet sources name net → is_whole_net net ≡ true → IsSound sources name
+sound_net sources name (blocked names) is e = absurd (false≢true e)
+sound_net sources name (recursive names) is e = absurd (false≢true e)
+sound_net sources name too_large is e = is.0
+sound_net sources name (flat_net flat) is e = is.0
+
+-- a unit of which the kept net tells that it is whole
+pub known_sound : (sources : Sources) (hints : List ℕ → Option PlainNet) (name : List ℕ) → AreRightHints sources hints → is_whole_hint (hints name) ≡ true → IsSound sources name
+known_sound sources hints name right known = by (hints name) refl known
   where
-    by : (b : Bool) → is_blocking sources name ≡ b → is_blocking sources name ≡ false
-    by false e = e
-    by true e = absurd (contains_nothing name ((whole.members name).1 (itself, blocking_is sources name e)))
+    by : (o : Option PlainNet) → hints name ≡ o → is_whole_hint o ≡ true → IsSound sources name
+    by None e k = absurd (false≢true k)
+    by (Some net) e k = sound_net sources name net ((net_at_is sources name net).0 (right name net e)).1 k
 
-whole_net : (sources : Sources) (name : List ℕ) (net : PlainNet) → IsNet sources name net → is_whole_net net ≡ true → IsWhole sources name
-whole_net sources name (blocked names) is e = absurd (let no : ⊥ = cc in no)
-whole_net sources name (recursive names) is e = is.0
-whole_net sources name too_large is e = is.0.whole
-whole_net sources name (flat_net flat) is e = is.0.whole
-
--- a unit of which the kept net tells it is whole
-pub whole_hint : (sources : Sources) (hints : List ℕ → Option PlainNet) (name : List ℕ) → AreRightHints sources hints → is_whole_hint (hints name) ≡ true → IsWhole sources name
-whole_hint sources hints name right known = by (hints name) refl known
+-- it is present and has no faults
+pub known_whole : (sources : Sources) (hints : List ℕ → Option PlainNet) (name : List ℕ) → AreRightHints sources hints → is_whole_hint (hints name) ≡ true → is_absent_or_faulty sources name ≡ false
+known_whole sources hints name right known =
+    let sound = known_sound sources hints name right known in
+    by (get sources name) refl sound.present ∙ ap is_some_fault (unit_faultless sources name sound)
   where
-    by : (o : Option PlainNet) → hints name ≡ o → is_whole_hint o ≡ true → IsWhole sources name
-    by None e k = absurd (let no : ⊥ = cc in no)
-    by (Some net) e k = whole_net sources name net ((net_at_is sources name net).0 (right name net e)).1 k
+    by : (o : Option (List ℕ)) → get sources name ≡ o → get sources name ≢ None → (is_none o || is_some_fault (faults_of sources name)) ≡ is_some_fault (faults_of sources name)
+    by None e here = absurd (here e)
+    by (Some t) e here = refl
 
--- it does not block
-pub known_whole : (sources : Sources) (hints : List ℕ → Option PlainNet) (name : List ℕ) → AreRightHints sources hints → is_whole_hint (hints name) ≡ true → is_blocking sources name ≡ false
-known_whole sources hints name right known = not_blocking sources name (whole_hint sources hints name right known)
+-- what is present and has no faults does not block
+pub not_blocking : (sources : Sources) (name : List ℕ) (is_part : List ℕ → Bool) → is_absent_or_faulty sources name ≡ false → is_blocking sources is_part name ≡ false
+not_blocking sources name is_part neither = by (is_none (get sources name)) (is_some_fault (faults_of sources name)) neither
+  where
+    by : (absent faulty : Bool) → (absent || faulty) ≡ false → (faulty || (absent && is_part name)) ≡ false
+    by false false e = refl
+    by false true e = e
+    by true faulty e = absurd (false≢true (sym e))
+
+-- what is absent is a name of no unit
+pub not_absent : (sources : Sources) (name : List ℕ) → is_absent_or_faulty sources name ≡ false → is_none (get sources name) ≡ false
+not_absent sources name neither = by (is_none (get sources name)) (is_some_fault (faults_of sources name)) neither
+  where
+    by : (absent faulty : Bool) → (absent || faulty) ≡ false → absent ≡ false
+    by false faulty e = refl
+    by true faulty e = e
 
 -- ---- instances and flat networks
 
--- a net that does not tell that its unit is sound is not flat
-pub no_flat : (o : Option PlainNet) → is_sound_hint o ≡ false → flat_of_hint o ≡ None
+-- a net that does not tell that its unit is whole is not flat
+pub no_flat : (o : Option PlainNet) → is_whole_hint o ≡ false → flat_of_hint o ≡ None
 no_flat None e = refl
 no_flat (Some (blocked names)) e = refl
 no_flat (Some (recursive names)) e = refl
@@ -96,16 +112,16 @@ module _ (sources : Sources) (name : List ℕ) (kind : kind_at sources name ≡ 
   finished_unit nets flat found (OfSystem applications flats k at each joined) = let two = kind in absurd (let no : ⊥ = cc in no)
 
   module _ (hints : List ℕ → Option PlainNet) (right : AreRightHints sources hints) where
-    -- a kept net that tells that its unit is sound is flat where that is not too large
-    pub kept_finished : (composed : Nets) → is_sound_hint (hints name) ≡ true → IsSmallType (declared sources) name → IsFinished (declared sources) (known_flats hints composed) name
+    -- a kept net that tells that its unit is whole is flat where that is not too large
+    pub kept_finished : (composed : Nets) → is_whole_hint (hints name) ≡ true → IsSmallType (declared sources) name → IsFinished (declared sources) (known_flats hints composed) name
     kept_finished composed known small = by (hints name) refl known
       where
-        by_net : (net : PlainNet) → hints name ≡ Some net → IsNet sources name net → is_sound_net net ≡ true → IsFinished (declared sources) (known_flats hints composed) name
+        by_net : (net : PlainNet) → hints name ≡ Some net → IsNet sources name net → is_whole_net net ≡ true → IsFinished (declared sources) (known_flats hints composed) name
         by_net (blocked names) e is k = absurd (false≢true k)
         by_net (recursive names) e is k = absurd (false≢true k)
         by_net too_large e is k = absurd (not_large is.1 small)
         by_net (flat_net flat) e is k = finished_unit (known_flats hints composed) flat (ap (λ (o : Option PlainNet). option_or (flat_of_hint o) (composed name)) e) is.2
 
-        by : (o : Option PlainNet) → hints name ≡ o → is_sound_hint o ≡ true → IsFinished (declared sources) (known_flats hints composed) name
+        by : (o : Option PlainNet) → hints name ≡ o → is_whole_hint o ≡ true → IsFinished (declared sources) (known_flats hints composed) name
         by None e k = absurd (false≢true k)
         by (Some net) e k = by_net net e ((net_at_is sources name net).0 (right name net e)).1 k

@@ -21,7 +21,8 @@ use Rattle.fb_wiring.specs.Networks.{network_of}
 use Rattle.fb_wiring.specs.Units.{Holds, IsUnitFlat, IsWithinLimit, OfSubapplication}
 use Rattle.fb_wiring.proofs.KindLemmas.{subapplication_by_tree}
 use Rattle.fb_wiring.proofs.Network.Equals.{bytes_same}
-use Rattle.fb_flatten.specs.Hints.{is_sound_hint}
+use Rattle.fb_wiring.proofs.Library.Locality.{parts_rest}
+use Rattle.fb_flatten.specs.Hints.{is_whole_hint}
 use Rattle.fb_flatten.specs.Inner.{IsCountedFlat, IsCountedWithin, IsInnerNet}
 use Rattle.fb_flatten.specs.Net.{PlainNet, flat_net}
 use Rattle.fb_flatten.specs.Nets.{net_at}
@@ -82,8 +83,8 @@ module _ {sources : Sources} {hints : List ℕ → Option PlainNet} {unit : List
   counted_net : (flats : Nets) (counts : List ℕ → Option ℕ) (name : List ℕ) (flat : PlainFlat) → AreRightCounts sources counts → AllFinished sources (known_flats hints flats) unit order → Contains order name → is_missing sources hints unit name ≡ true → flats name ≡ Some flat → IsCountedWithin counts name → net_at sources name ≡ Some (flat_net flat)
   counted_net flats counts name flat right finished c missing found small =
       let rest = and_second (not (is_at (name_cmp unit) name)) _ missing in
-      let unknown = not_of_not (is_sound_hint (hints name)) (and_first (not (is_sound_hint (hints name))) _ rest) in
-      let kind = subapplication_by_tree sources name (and_second (not (is_sound_hint (hints name))) _ rest) in
+      let unknown = not_of_not (is_whole_hint (hints name)) (and_first (not (is_whole_hint (hints name))) _ rest) in
+      let kind = subapplication_by_tree sources name (and_second (not (is_whole_hint (hints name))) _ rest) in
       let known = right name small.count small.counted in
       let f = finished name c (apart name missing) kind (small_type sources name kind small.count known small.counted small.within) in
       let composed : flats name ≡ Some f.net = sym (ap (λ (p : Option PlainFlat). option_or p (flats name)) (no_flat (hints name) unknown)) ∙ f.found in
@@ -95,6 +96,6 @@ module _ {sources : Sources} {hints : List ℕ → Option PlainNet} {unit : List
   inner_net flats counts right finished missing it is =
       let m = missing it.unit is.flat is.found in
       record {
-        below = o.below it.unit m.0;
+        below = parts_rest sources (o.below it.unit m.0);
         net_is = counted_net flats counts it.unit is.flat right finished m.0 m.1 is.found is.small ∙ ap (λ (n : PlainNet). Some n) (sym is.net_is);
       }

@@ -14,7 +14,7 @@ use Rattle.fb_wiring.specs.Tree.declared.interface.Side.{Side}
 use Rattle.fb_wiring.specs.Tree.declared.interface.Side.TheVariants.{Input, Output}
 use Rattle.fb_wiring.specs.Tree.declared.network.Role.{Role}
 use Rattle.fb_wiring.specs.Tree.declared.network.Role.TheVariants as roles
-use Rattle.fb_wiring.specs.Library.View.{Sources, tree_at, mentions_at, mentions_in}
+use Rattle.fb_wiring.specs.Library.View.{Sources, tree_at, parts_at, parts_in}
 use Rattle.fb_wiring.specs.Iface.Names.{first_ones, stands_for}
 use Rattle.fb_wiring.specs.Iface.Ports.{meanings_in_type, events_on, data_on, instances_as, instances_in as declared_instances, same_role}
 use Rattle.fb_wiring.specs.Iface.declared.ports.DeclaredInstance.{DeclaredInstance}
@@ -152,16 +152,16 @@ network_within (subapplication_type d) =
 network_within (system_configuration s) = record { types = λ i c. absurd (contains_nothing i c); adapters = λ port name c e. absurd (contains_nothing port c) }
 network_within (structure_type s) = record { types = λ i c. absurd (contains_nothing i c); adapters = λ port name c e. absurd (contains_nothing port c) }
 
--- the network of a declared unit is within its mentions
-pub declared_within : (sources : Sources) (name : List ℕ) (network : PlainNetwork) → declared sources name ≡ Some network → Within (Contains (mentions_at sources name)) network
+-- the network of a declared unit is within its parts
+pub declared_within : (sources : Sources) (name : List ℕ) (network : PlainNetwork) → declared sources name ≡ Some network → Within (Contains (parts_at sources name)) network
 declared_within sources name network e = by_tree (tree_at sources name) refl e
   where
-    by_tree : (o : Option DeclTree) → tree_at sources name ≡ o → option_map network_of o ≡ Some network → Within (Contains (mentions_at sources name)) network
+    by_tree : (o : Option DeclTree) → tree_at sources name ≡ o → option_map network_of o ≡ Some network → Within (Contains (parts_at sources name)) network
     by_tree None t e = absurd (let no : ⊥ = cc in no)
     by_tree (Some decl) t e =
         let same : network_of decl ≡ network = cc in
-        subst (λ (n : PlainNetwork). Within (Contains (mentions_at sources name)) n) same
-        (subst (λ (o : Option DeclTree). Within (Contains (mentions_in o)) (network_of decl)) (sym t) (network_within decl))
+        subst (λ (n : PlainNetwork). Within (Contains (parts_at sources name)) n) same
+        (subst (λ (o : Option DeclTree). Within (Contains (parts_in o)) (network_of decl)) (sym t) (network_within decl))
 
 own_mentioned : (decl : DeclTree) (i : Instance) → Contains (own_instances decl) i → Contains (parts_of decl) i.type_name
 own_mentioned (block_type d) i c = absurd (contains_nothing i c)
@@ -174,9 +174,9 @@ own_mentioned (system_configuration s) i c =
     let has : Contains (plain_application a.origin).network.instances i = subst (λ (x : Application). Contains x.network.instances i) (sym a.gives) o.has in
     listed (system_configuration s) i.type_name (contains_flat_map (λ (x : ApplicationTree). types_in x.network.instances) s.applications a.origin i.type_name a.among (instance_mentioned a.origin.network.instances i has))
 
--- the types of a unit's own instances are among its mentions
-pub own_within : (sources : Sources) (unit : List ℕ) (decl : DeclTree) → tree_at sources unit ≡ Some decl → (i : Instance) → Contains (own_instances decl) i → Contains (mentions_at sources unit) i.type_name
-own_within sources unit decl t i c = subst (λ (o : Option DeclTree). Contains (mentions_in o) i.type_name) (sym t) (own_mentioned decl i c)
+-- the types of a unit's own instances are among its parts
+pub own_within : (sources : Sources) (unit : List ℕ) (decl : DeclTree) → tree_at sources unit ≡ Some decl → (i : Instance) → Contains (own_instances decl) i → Contains (parts_at sources unit) i.type_name
+own_within sources unit decl t i c = subst (λ (o : Option DeclTree). Contains (parts_in o) i.type_name) (sym t) (own_mentioned decl i c)
 
 plain_within : (decl : DeclTree) (a : Application) → Contains (applications_of decl) a → Within (Contains (parts_of decl)) a.network
 plain_within (block_type d) a c = absurd (contains_nothing a c)
@@ -194,13 +194,13 @@ plain_within (system_configuration s) a c =
         let o = origin_in_map plain_application s.applications a c in
         absurd (contains_nothing port (subst (λ (x : Application). Contains x.network.ports port) (sym o.gives) h))
 
--- the networks of a system's applications are within its mentions
-pub applications_within : (sources : Sources) (unit : List ℕ) (applications : List Application) → applications_at sources unit ≡ Some applications → (a : Application) → Contains applications a → Within (Contains (mentions_at sources unit)) a.network
+-- the networks of a system's applications are within its parts
+pub applications_within : (sources : Sources) (unit : List ℕ) (applications : List Application) → applications_at sources unit ≡ Some applications → (a : Application) → Contains applications a → Within (Contains (parts_at sources unit)) a.network
 applications_within sources unit applications e a c = by_tree (tree_at sources unit) refl e
   where
-    by_tree : (o : Option DeclTree) → tree_at sources unit ≡ o → option_map applications_of o ≡ Some applications → Within (Contains (mentions_at sources unit)) a.network
+    by_tree : (o : Option DeclTree) → tree_at sources unit ≡ o → option_map applications_of o ≡ Some applications → Within (Contains (parts_at sources unit)) a.network
     by_tree None t e = absurd (let no : ⊥ = cc in no)
     by_tree (Some decl) t e =
         let same : applications_of decl ≡ applications = cc in
-        subst (λ (o : Option DeclTree). Within (Contains (mentions_in o)) a.network) (sym t)
+        subst (λ (o : Option DeclTree). Within (Contains (parts_in o)) a.network) (sym t)
         (plain_within decl a (subst (λ (l : List Application). Contains l a) (sym same) c))

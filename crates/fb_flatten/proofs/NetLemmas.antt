@@ -1,6 +1,7 @@
 -- Which names keep a unit from having a flat network.
-use Rattle.std.proofs.Common.{ℕ, ◌≡◌, true, false, List, [], ◌∷◌, Option, Some, None, inl, inr, refl, sym, ap, subst}
-use Rattle.std.specs.Prelude.{Contains, ◌≢◌, ◌↔◌, ◌||◌, is_none, filter}
+use Rattle.std.proofs.Common.{ℕ, ◌≡◌, Bool, true, false, ◌∙◌, List, [], ◌∷◌, Option, Some, None, inl, inr, refl, sym, ap, subst}
+use Rattle.std.specs.Prelude.{Contains, ◌≢◌, ◌↔◌, ◌||◌, ◌&&◌, is_none, filter}
+use Rattle.std.proofs.lemmas.Bool.{false≢true, or_right}
 use Rattle.std.specs.FinMap.{get}
 use Rattle.std.specs.List.Sorted.{IsStrictlySortedBy}
 use Rattle.std.proofs.lemmas.List.Kept.{IsStrictlySortedBy-filter}
@@ -11,36 +12,39 @@ use Rattle.fb_wiring.specs.Iface.declared.fault.Fault.{Fault}
 use Rattle.fb_wiring.proofs.Text.Members.{contains_nothing, contains_filter, passes_in_filter}
 use Rattle.fb_faults.specs.Faults.{faults_of}
 use Rattle.fb_wiring.specs.Reaches.{IsRecursive, RestsOnRecursive}
-use Rattle.fb_flatten.specs.Blocking.{AreThose, IsBlocking, is_blocking, is_some_fault, is_some_name}
+use Rattle.fb_flatten.specs.Blocking.{AreThose, IsBlocking, IsPartBelow, is_blocking, is_some_fault, is_some_name}
 
-pub blocking_is : (sources : Sources) (v : List ℕ) → is_blocking sources v ≡ true → IsBlocking sources v
-blocking_is sources v h = by (get sources v) refl (faults_of sources v) refl h
+pub blocking_is : (sources : Sources) (unit v : List ℕ) (is_part : List ℕ → Bool) → (get sources v ≡ None → is_part v ≡ true → IsPartBelow sources unit v) → is_blocking sources is_part v ≡ true → IsBlocking sources unit v
+blocking_is sources unit v is_part below h = by (faults_of sources v) refl (get sources v) refl h
   where
-    by : (o : Option (List ℕ)) → get sources v ≡ o → (fs : List Fault) → faults_of sources v ≡ fs → (is_none o || is_some_fault fs) ≡ true → IsBlocking sources v
-    by None e fs f h = inl e
-    by (Some t) e [] f h = absurd (let no : ⊥ = cc in no)
-    by (Some t) e (x ∷ fs) f h = inr (λ n. let no : ⊥ = cc in no)
+    by : (fs : List Fault) → faults_of sources v ≡ fs → (o : Option (List ℕ)) → get sources v ≡ o → (is_some_fault fs || (is_none o && is_part v)) ≡ true → IsBlocking sources unit v
+    by (x ∷ fs) f o e h = inl (λ n. let no : ⊥ = cc in no)
+    by [] f None e h = inr (e, below e h)
+    by [] f (Some t) e h = absurd (false≢true h)
 
-is_found_blocking : (sources : Sources) (v : List ℕ) → IsBlocking sources v → is_blocking sources v ≡ true
-is_found_blocking sources v (inl e) = ap (λ (o : Option (List ℕ)). is_none o || is_some_fault (faults_of sources v)) e
-is_found_blocking sources v (inr n) = by (get sources v) (faults_of sources v) refl
+is_found_blocking : (sources : Sources) (unit v : List ℕ) (is_part : List ℕ → Bool) → (get sources v ≡ None → IsPartBelow sources unit v → is_part v ≡ true) → IsBlocking sources unit v → is_blocking sources is_part v ≡ true
+is_found_blocking sources unit v is_part told (inl n) = by (faults_of sources v) refl
   where
-    by : (o : Option (List ℕ)) (fs : List Fault) → faults_of sources v ≡ fs → (is_none o || is_some_fault fs) ≡ true
-    by None fs f = refl
-    by (Some t) [] f = absurd (n f)
-    by (Some t) (x ∷ fs) f = refl
+    by : (fs : List Fault) → faults_of sources v ≡ fs → (is_some_fault fs || (is_none (get sources v) && is_part v)) ≡ true
+    by [] f = absurd (n f)
+    by (x ∷ fs) f = refl
+is_found_blocking sources unit v is_part told (inr p) =
+    or_right (is_some_fault (faults_of sources v)) (is_none (get sources v) && is_part v)
+    (ap (λ (o : Option (List ℕ)). is_none o && is_part v) p.0 ∙ told p.0 p.1)
 
--- the blocking ones among names that a unit rests on, where all of them are among the names
-pub blocking_those : {sources : Sources} {unit : List ℕ} (names found : List (List ℕ)) → IsStrictlySortedBy name_cmp names → ((v : List ℕ) → Contains names v → Rests sources unit v) → ((v : List ℕ) → Rests sources unit v → IsBlocking sources v → Contains names v) → found ≡ filter (is_blocking sources) names → AreThose sources unit (IsBlocking sources) found
-blocking_those {sources = sources} {unit = unit} names found sorted sound complete is =
-    subst (λ (l : List (List ℕ)). AreThose sources unit (IsBlocking sources) l) (sym is)
-    (record { sorted = IsStrictlySortedBy-filter name_cmp (is_blocking sources) names sorted; members = λ v. (inside v, listed v) })
+-- the blocking ones among names that a unit rests on, where all of them are among the names, and a test tells which absent ones are parts
+pub blocking_those : {sources : Sources} {unit : List ℕ} (is_part : List ℕ → Bool) (names found : List (List ℕ)) → IsStrictlySortedBy name_cmp names → ((v : List ℕ) → Contains names v → Rests sources unit v) → ((v : List ℕ) → Rests sources unit v → IsBlocking sources unit v → Contains names v) → ((v : List ℕ) → Contains names v → get sources v ≡ None → is_part v ≡ true → IsPartBelow sources unit v) → ((v : List ℕ) → Contains names v → get sources v ≡ None → IsPartBelow sources unit v → is_part v ≡ true) → found ≡ filter (is_blocking sources is_part) names → AreThose sources unit (IsBlocking sources unit) found
+blocking_those {sources = sources} {unit = unit} is_part names found sorted sound complete below told is =
+    subst (λ (l : List (List ℕ)). AreThose sources unit (IsBlocking sources unit) l) (sym is)
+    (record { sorted = IsStrictlySortedBy-filter name_cmp (is_blocking sources is_part) names sorted; members = λ v. (inside v, listed v) })
   where
-    inside : (v : List ℕ) → Contains (filter (is_blocking sources) names) v → Rests sources unit v × IsBlocking sources v
-    inside v c = let p = passes_in_filter (is_blocking sources) names v c in (sound v p.among, blocking_is sources v p.passes)
+    inside : (v : List ℕ) → Contains (filter (is_blocking sources is_part) names) v → Rests sources unit v × IsBlocking sources unit v
+    inside v c = let p = passes_in_filter (is_blocking sources is_part) names v c in (sound v p.among, blocking_is sources unit v is_part (below v p.among) p.passes)
 
-    listed : (v : List ℕ) → Rests sources unit v × IsBlocking sources v → Contains (filter (is_blocking sources) names) v
-    listed v r = contains_filter (is_blocking sources) names v (complete v r.0 r.1) (is_found_blocking sources v r.1)
+    listed : (v : List ℕ) → Rests sources unit v × IsBlocking sources unit v → Contains (filter (is_blocking sources is_part) names) v
+    listed v r =
+        let there = complete v r.0 r.1 in
+        contains_filter (is_blocking sources is_part) names v there (is_found_blocking sources unit v is_part (told v there) r.1)
 
 -- the recursive ones among the names that a unit rests on
 pub recursive_those : {sources : Sources} {unit : List ℕ} (names found : List (List ℕ)) → ((v : List ℕ) → Contains names v → Rests sources unit v) → ((v : List ℕ) → Rests sources unit v → Contains names v) → IsStrictlySortedBy name_cmp found → ((v : List ℕ) → Contains found v ↔ (Contains names v × IsRecursive sources v)) → AreThose sources unit (IsRecursive sources) found

@@ -5,8 +5,8 @@ use Rattle.std.specs.Option.{option_and_then}
 use Rattle.std.specs.FinMap.{get}
 use Rattle.fb_wiring.specs.Tree.Tree.{DeclTree}
 use Rattle.fb_wiring.specs.Parse.Body.{BodyTree, Whole, BrokenAt, body_of}
-use Rattle.fb_wiring.specs.Library.View.{Sources, tree_at, tree_in, tree_of, mentions_at}
-use Rattle.fb_wiring.specs.Library.Rests.{Rests, itself, through}
+use Rattle.fb_wiring.specs.Library.View.{Sources, tree_at, tree_in, tree_of, parts_at}
+use Rattle.fb_wiring.specs.Library.Rests.{PartRests, on_itself, through_part}
 use Rattle.fb_wiring.specs.Iface.declared.code.Code.TheVariants.{Syntax}
 use Rattle.fb_wiring.specs.Iface.declared.fault.Fault.{Fault}
 use Rattle.fb_faults.specs.Faults.{faults_of, syntax_faults_of, text_faults, body_faults}
@@ -37,14 +37,12 @@ tree_of_faultless sources name here none = by_text (get sources name) refl
     by_text None e = absurd (here e)
     by_text (Some text) e = by_body text e (body_of text) refl
 
-pub rests_on : {sources : Sources} {u v w : List ℕ} → Rests sources u v → Contains (mentions_at sources v) w → Rests sources u w
-rests_on itself m = through m itself
-rests_on (through k r) m = through k (rests_on r m)
+pub reaches_part : {sources : Sources} {u v w : List ℕ} → PartRests sources u v → Contains (parts_at sources v) w → Reaches sources u w
+reaches_part on_itself m = directly m
+reaches_part (through_part k r) m = onward k (reaches_part r m)
 
-pub rests_both : {sources : Sources} {u v w : List ℕ} → Rests sources u v → Rests sources v w → Rests sources u w
-rests_both itself s = s
-rests_both (through m r) s = through m (rests_both r s)
-
-pub reaches_mentioned : {sources : Sources} {u v w : List ℕ} → Rests sources u v → Contains (mentions_at sources v) w → Reaches sources u w
-reaches_mentioned itself m = directly m
-reaches_mentioned (through k r) m = onward k (reaches_mentioned r m)
+-- a unit with a tree is present
+pub present_of_tree : (sources : Sources) (name : List ℕ) (tree : DeclTree) → tree_at sources name ≡ Some tree → get sources name ≢ None
+present_of_tree sources name tree is none =
+    let absent : tree_at sources name ≡ None = ap (option_and_then tree_of) none in
+    let no : ⊥ = cc in no

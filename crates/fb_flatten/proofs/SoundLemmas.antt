@@ -1,19 +1,21 @@
--- What is known of a unit of which all that it rests on is present, without faults and does not reach itself.
-use Rattle.std.proofs.Common.{ℕ, ◌≡◌, List, [], Some, subst}
-use Rattle.std.specs.Prelude.{Contains}
+-- What is known of a unit that nothing blocks, and of which none of what it rests on reaches itself.
+use Rattle.std.proofs.Common.{ℕ, ◌≡◌, List, [], Some, None, inl, inr, subst}
+use Rattle.std.specs.Prelude.{Contains, ◌≢◌}
+use Rattle.std.specs.FinMap.{get}
 use Rattle.std.specs.List.Sorted.{IsStrictlySortedBy}
 use Rattle.fb_wiring.specs.Text.Order.{name_cmp}
-use Rattle.fb_wiring.specs.Library.View.{Sources, mentions_at}
-use Rattle.fb_wiring.specs.Library.Rests.{Rests, itself, through}
+use Rattle.fb_wiring.specs.Library.View.{Sources, parts_at}
+use Rattle.fb_wiring.specs.Library.Rests.{Rests, itself, PartRests, on_itself, through_part}
+use Rattle.fb_wiring.proofs.Library.Locality.{parts_rest, rests_both}
 use Rattle.fb_wiring.proofs.Text.Members.{contains_nothing}
 use Rattle.fb_wiring.specs.Reaches.{IsRecursive}
 use Rattle.fb_wiring.specs.Network.Plain.{PlainNetwork}
 use Rattle.fb_wiring.specs.Network.Clean.{IsCleanThroughout}
 use Rattle.fb_wiring.specs.ByName.{declared}
-use Rattle.fb_flatten.specs.Blocking.{AreThose}
+use Rattle.fb_flatten.specs.Blocking.{AreThose, IsBlocking}
 use Rattle.fb_flatten.specs.Net.{IsSound, IsWhole}
-use Rattle.fb_flatten.proofs.ComputedNets.{done, faultless}
-use Rattle.fb_flatten.proofs.OrderLemmas.{HasTree, reaches_mentioned, rests_both, tree_of_faultless}
+use Rattle.fb_flatten.proofs.ComputedNets.{done, present_below, unit_faultless}
+use Rattle.fb_flatten.proofs.OrderLemmas.{HasTree, reaches_part, tree_of_faultless}
 
 no_names_sorted : IsStrictlySortedBy name_cmp []
 unfolding IsStrictlySortedBy
@@ -22,27 +24,35 @@ no_names_sorted = tt
 none_those : {sources : Sources} {unit : List ℕ} {property : List ℕ → Type 0} → ((v : List ℕ) → Rests sources unit v → property v → ⊥) → AreThose sources unit property []
 none_those none = record { sorted = no_names_sorted; members = λ v. (λ c. absurd (contains_nothing v c), λ r. absurd (none v r.0 r.1)) }
 
--- where none blocks and none reaches itself
-pub sound_where : {sources : Sources} {unit : List ℕ} → IsWhole sources unit → ((v : List ℕ) → Rests sources unit v → IsRecursive sources v → ⊥) → IsSound sources unit
-sound_where whole finite = record { whole = whole; finite = none_those finite }
+-- what blocks something that the unit rests on blocks the unit
+pub blocks_above : {sources : Sources} {unit name v : List ℕ} → Rests sources unit name → IsBlocking sources name v → IsBlocking sources unit v
+blocks_above r (inl faulty) = inl faulty
+blocks_above r (inr (absent, (holder, below, part))) = inr (absent, (holder, rests_both r below, part))
+
+-- where nothing blocks and none reaches itself
+pub sound_where : {sources : Sources} {unit : List ℕ} → get sources unit ≢ None → IsWhole sources unit → ((v : List ℕ) → Rests sources unit v → IsRecursive sources v → ⊥) → IsSound sources unit
+sound_where present whole finite = record { present = present; whole = whole; finite = none_those finite }
 
 module _ {sources : Sources} {unit : List ℕ} (sound : IsSound sources unit) where
-  -- what it rests on is as sound
-  pub sound_below : (name : List ℕ) → Rests sources unit name → IsSound sources name
-  sound_below name r = record {
-    whole = none_those (λ v s blocks. contains_nothing v ((sound.whole.members v).1 (rests_both r s, blocks)));
-    finite = none_those (λ v s rec. contains_nothing v ((sound.finite.members v).1 (rests_both r s, rec)));
-  }
+  -- what it rests on by parts is as sound
+  pub sound_below : (name : List ℕ) → PartRests sources unit name → IsSound sources name
+  sound_below name r =
+      let rests = parts_rest sources r in
+      record {
+        present = present_below sources unit sound itself sound.present r;
+        whole = none_those (λ v s blocks. contains_nothing v ((sound.whole.members v).1 (rests_both rests s, blocks_above rests blocks)));
+        finite = none_those (λ v s rec. contains_nothing v ((sound.finite.members v).1 (rests_both rests s, rec)));
+      }
 
-  pub sound_mention : (name : List ℕ) → Contains (mentions_at sources unit) name → IsSound sources name
-  sound_mention name m = sound_below name (through m itself)
+  pub sound_part : (name : List ℕ) → Contains (parts_at sources unit) name → IsSound sources name
+  sound_part name m = sound_below name (through_part m on_itself)
 
-  -- nothing below it mentions it
-  pub not_mentioned : (name : List ℕ) → Rests sources unit name → Contains (mentions_at sources name) unit → ⊥
-  not_mentioned name r m = contains_nothing unit ((sound.finite.members unit).1 (itself, reaches_mentioned r m))
+  -- nothing below it has it as a part
+  pub not_mentioned : (name : List ℕ) → PartRests sources unit name → Contains (parts_at sources name) unit → ⊥
+  not_mentioned name r m = contains_nothing unit ((sound.finite.members unit).1 (itself, reaches_part r m))
 
   pub sound_tree : HasTree sources unit
-  sound_tree = let f = faultless sources unit sound unit itself unit itself in tree_of_faultless sources unit f.0 f.1
+  sound_tree = tree_of_faultless sources unit sound.present (unit_faultless sources unit sound)
 
   -- its network
   pub record SoundNetwork : Type 0 where
@@ -51,7 +61,7 @@ module _ {sources : Sources} {unit : List ℕ} (sound : IsSound sources unit) wh
     pub clean : IsCleanThroughout (declared sources) network
 
   pub sound_network : SoundNetwork
-  sound_network = let it = done sources unit sound unit itself in record { network = it.network; is_declared = it.is_declared; clean = it.clean }
+  sound_network = let it = done sources unit sound unit on_itself in record { network = it.network; is_declared = it.is_declared; clean = it.clean }
 
   pub clean_network : (network : PlainNetwork) → declared sources unit ≡ Some network → IsCleanThroughout (declared sources) network
   clean_network network is =

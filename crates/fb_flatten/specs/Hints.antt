@@ -1,8 +1,8 @@
 -- Nets that are kept from before.
 use Rattle.std.specs.Prelude.{◌≡◌, ℕ, Bool, true, false, List, Option, Some}
 use Rattle.fb_wiring.specs.Library.View.{Sources}
-pub use Rattle.fb_wiring.specs.Hints.{flat_of_net, flat_of_hint, is_whole_net, is_whole_hint, is_sound_net, is_sound_hint, is_left, left_of}
-use Rattle.fb_flatten.specs.Blocking.{is_blocking}
+pub use Rattle.fb_wiring.specs.Hints.{flat_of_net, flat_of_hint, is_whole_net, is_whole_hint, is_left, left_of}
+use Rattle.fb_flatten.specs.Blocking.{is_absent_or_faulty}
 use Rattle.fb_flatten.specs.Net.{PlainNet}
 use Rattle.fb_flatten.specs.Nets.{net_at}
 
@@ -13,4 +13,4 @@ AreRightHints sources hints =
 
 -- each unit that is known to be without faults is there and has none
 abbrev pub AreFaultless : Sources → (List ℕ → Bool) → Type 0
-AreFaultless sources faultless = (name : List ℕ) → faultless name ≡ true → is_blocking sources name ≡ false
+AreFaultless sources faultless = (name : List ℕ) → faultless name ≡ true → is_absent_or_faulty sources name ≡ false

@@ -1,5 +1,6 @@
 -- The net of a unit: its flat network, or why it has none.
-use Rattle.std.specs.Prelude.{ℕ, ◌≢◌, List, []}
+use Rattle.std.specs.Prelude.{ℕ, ◌≢◌, List, [], None}
+use Rattle.std.specs.FinMap.{get}
 use Rattle.fb_wiring.specs.Library.View.{Sources}
 use Rattle.fb_wiring.specs.Reaches.{IsRecursive}
 use Rattle.fb_wiring.specs.Network.PlainFlat.{PlainFlat}
@@ -7,19 +8,20 @@ pub use Rattle.fb_wiring.specs.Net.{PlainNet, blocked, recursive, too_large, fla
 use Rattle.fb_flatten.specs.Blocking.{IsBlocking, AreThose}
 use Rattle.fb_wiring.specs.Units.{IsTooLarge, IsWithinLimit, IsUnitFlat}
 
--- all that the unit rests on is present and without faults
+-- nothing blocks the unit: all that it rests on is without faults, and all parts of that are present
 abbrev pub IsWhole : Sources → List ℕ → Type 0
-IsWhole sources unit = AreThose sources unit (IsBlocking sources) []
+IsWhole sources unit = AreThose sources unit (IsBlocking sources unit) []
 
--- and none of it reaches itself
+-- the unit is present, nothing blocks it, and none of what it rests on reaches itself
 pub record IsSound (sources : Sources) (unit : List ℕ) : Type 0 where
+  pub present : get sources unit ≢ None
   pub whole : IsWhole sources unit
   pub finite : AreThose sources unit (IsRecursive sources) []
 
--- The first of these that applies: the names that the unit rests on that are absent or have faults, if any; those that reach
--- themselves, if any; too many instances; the flat network.
+-- The first of these that applies: the names that the unit rests on that have faults, or are absent and a part of something that it rests
+-- on, if any; those that reach themselves, if any; too many instances; the flat network.
 abbrev pub IsNet : Sources → List ℕ → PlainNet → Type 0
-IsNet sources unit (blocked names) = AreThose sources unit (IsBlocking sources) names × (names ≢ [])
+IsNet sources unit (blocked names) = AreThose sources unit (IsBlocking sources unit) names × (names ≢ [])
 IsNet sources unit (recursive names) = IsWhole sources unit × AreThose sources unit (IsRecursive sources) names × (names ≢ [])
 IsNet sources unit too_large = IsSound sources unit × IsTooLarge sources unit
 IsNet sources unit (flat_net flat) = IsSound sources unit × IsWithinLimit sources unit × IsUnitFlat sources unit flat

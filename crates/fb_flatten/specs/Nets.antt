@@ -3,7 +3,7 @@ use Rattle.std.specs.Prelude.{◌≡◌, ℕ, zero, suc, Bool, true, if◌then�
 use Rattle.std.specs.List.{flat_map, list_any}
 use Rattle.fb_wiring.specs.Text.Order.{in_order}
 use Rattle.fb_wiring.specs.Tree.Tree.{DeclTree, block_type, adapter_type, subapplication_type, system_configuration, structure_type}
-use Rattle.fb_wiring.specs.Library.View.{Sources, mentions_at, tree_at}
+use Rattle.fb_wiring.specs.Library.View.{Sources, parts_at, tree_at}
 use Rattle.fb_wiring.specs.Library.Local.{AgreeFar}
 use Rattle.fb_wiring.specs.Library.Seen.{has_name}
 use Rattle.fb_wiring.specs.Network.declared.count.TheConstants.{INSTANCE_LIMIT}
@@ -23,10 +23,10 @@ use Rattle.fb_wiring.specs.Applications.{applications_of}
 use Rattle.fb_wiring.specs.ByName.{declared}
 use Rattle.fb_wiring.specs.Networks.{network_of}
 use Rattle.fb_wiring.specs.declared.systems.Application.{Application}
-use Rattle.fb_flatten.specs.Blocking.{is_blocking}
+use Rattle.fb_flatten.specs.Blocking.{is_blocking, is_part_among}
 use Rattle.fb_flatten.specs.Net.{PlainNet, blocked, recursive, too_large, flat_net, IsNet}
 pub use Rattle.fb_wiring.specs.Units.{HasNet, has_net_tree, has_net_in, own_instances}
-use Rattle.fb_flatten.specs.Far.{far_of}
+use Rattle.fb_flatten.specs.Far.{far_of, part_far_of}
 
 -- ---- flat networks
 
@@ -89,9 +89,9 @@ held_of (suc depth) view name = held_at (held_of depth view) (view name)
 
 -- ---- nets
 
--- whether the type reaches itself
+-- whether the type reaches itself by parts
 abbrev pub is_recursive : Sources → List ℕ → Bool
-is_recursive sources name = list_any (λ inner. has_name (far_of sources inner) name) (mentions_at sources name)
+is_recursive sources name = list_any (λ inner. has_name (part_far_of sources inner) name) (parts_at sources name)
 
 abbrev pub sized_net : List Held → PlainFlat → PlainNet
 sized_net held flat = if nat_lt INSTANCE_LIMIT (length held) then too_large else flat_net flat
@@ -111,7 +111,7 @@ first_net (x ∷ xs) others net = blocked (x ∷ xs)
 abbrev pub net_of_tree : Sources → List ℕ → DeclTree → PlainNet
 net_of_tree sources unit tree =
     let names = far_of sources unit in
-    first_net (filter (is_blocking sources) names) (filter (is_recursive sources) names) (finite_net (length names) sources tree)
+    first_net (filter (is_blocking sources (is_part_among sources names)) names) (filter (is_recursive sources) names) (finite_net (length names) sources tree)
 
 -- a unit has its net by its own text
 abbrev pub HasNetByText : Type 0

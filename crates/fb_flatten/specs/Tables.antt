@@ -1,30 +1,29 @@
 -- Orders of names, and what is found by tables.
 use Rattle.std.specs.Prelude.{◌≡◌, ℕ, ◌<◌, true, false, List, Option, Some, Contains, length, take, slice_index_or}
-use Rattle.fb_wiring.specs.Library.View.{Sources, mentions_at}
-use Rattle.fb_wiring.specs.Library.Rests.{Rests}
+use Rattle.fb_wiring.specs.Library.View.{Sources, parts_at}
+use Rattle.fb_wiring.specs.Library.Rests.{PartRests}
 pub use Rattle.fb_wiring.specs.Tables.{IsTrue, Has, HasAdapter, HasAdapters, Grows, HasType, IsTable, AllCounted, SameOthers, IsUnitCount, IsSmallType, known_flats, IsComposed, IsAdded, AllFinished, is_subapplication_tree, is_subapplication_in, is_missing, IsComposable, AreComposable, IsComposedApplication, AreComposedApplications, IsFlatTogether, AreComposedTogether, is_system_tree, is_system_in}
 use Rattle.fb_wiring.specs.Network.PlainFlat.{PlainFlat}
 use Rattle.fb_wiring.specs.Network.Ready.{Nets}
 use Rattle.fb_wiring.specs.Counts.{IsCounted}
 use Rattle.fb_wiring.specs.ByName.{declared}
-use Rattle.fb_flatten.specs.Hints.{is_sound_hint}
+use Rattle.fb_flatten.specs.Hints.{is_whole_hint}
 use Rattle.fb_flatten.specs.Net.{PlainNet, IsSound}
 
--- Names with inner types first, as far as kept nets do not tell that they are sound. All that each name rests on is present, without faults
--- and does not reach itself.
+-- Names with inner types first, as far as kept nets do not tell that they are whole. Each of them is sound.
 pub record IsSoundOrder (sources : Sources) (hints : List ℕ → Option PlainNet) (order : List (List ℕ)) : Type 0 where
   pub inner_first :
       (k : ℕ) (name w : List ℕ)
-      → k < length order → name ≡ slice_index_or order k name → is_sound_hint (hints name) ≡ false → Contains (mentions_at sources name) w
+      → k < length order → name ≡ slice_index_or order k name → is_whole_hint (hints name) ≡ false → Contains (parts_at sources name) w
       → Contains (take k order) w
   pub sound : (name : List ℕ) → Contains order name → IsSound sources name
 
--- the same of names that the unit rests on, among them the unit and what it mentions
+-- the same of names that the unit rests on by parts, among them the unit and its parts
 pub record IsUnitOrder (sources : Sources) (hints : List ℕ → Option PlainNet) (unit : List ℕ) (order : List (List ℕ)) : Type 0 where
   pub names : IsSoundOrder sources hints order
   pub own : Contains order unit
-  pub mentions : (w : List ℕ) → Contains (mentions_at sources unit) w → Contains order w
-  pub below : (name : List ℕ) → Contains order name → Rests sources unit name
+  pub parts : (w : List ℕ) → Contains (parts_at sources unit) w → Contains order w
+  pub below : (name : List ℕ) → Contains order name → PartRests sources unit name
 
 -- what is composed is that of names of the order that are missing for the unit
 abbrev pub AreMissing : Sources → (List ℕ → Option PlainNet) → List ℕ → List (List ℕ) → Nets → Type 0

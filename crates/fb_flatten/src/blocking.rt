@@ -1,5 +1,6 @@
 //! What keeps a unit from having a flat network.
 ghost use Rattle.std.specs.Prelude.{◌≡◌, IfOk, filter};
+ghost use Rattle.fb_wiring.specs.Library.Seen.{has_name};
 ghost use Rattle.fb_flatten.specs.Blocking.{is_blocking, is_some_name};
 ghost use Rattle.fb_flatten.specs.Hints.{AreFaultless, AreRightHints};
 
@@ -8,17 +9,19 @@ use fb_wiring::library::View;
 use fb_wiring::text::Name;
 use fb_wiring::{Hints, Known, is_known_whole};
 use std::alloc::{AllocError, Global};
+use std::collections::BTreeSet;
 
-/// Whether the name is that of no unit, or of one with faults.
+/// Whether the name is that of a unit with faults, or of none and among the parts.
 fn blocks<V: View, K: Hints + Known>(
     alloc: Global,
     view: &V,
     known: &K,
+    parts: &BTreeSet<Name>,
     name: &Name,
 ) -> Result<bool, AllocError>
     requires right { AreRightHints (V.sources view.now) (K.hints known.now) }
     requires faultless { AreFaultless (V.sources view.now) (K.faultless known.now) }
-    ensures { IfOk result (λ is. is ≡ is_blocking (V.sources view.now) name.now) }
+    ensures { IfOk result (λ is. is ≡ is_blocking (V.sources view.now) (has_name parts.now.keys) name.now) }
 {
     if is_known_whole(known, name) {
         return Ok(false);
@@ -27,27 +30,28 @@ fn blocks<V: View, K: Hints + Known>(
         return Ok(false);
     }
     if view.get(name).is_none() {
-        return Ok(true);
+        return Ok(parts.contains(name));
     }
     let found = faults(alloc, view, name)?;
     Ok(!found.is_empty())
 }
 
-/// The names among these that are those of no unit, or of one with faults, in the same order.
+/// The names among these that are those of a unit with faults, or of none and among the parts, in the same order.
 pub(crate) fn blocking<V: View, K: Hints + Known>(
     alloc: Global,
     view: &V,
     known: &K,
+    parts: &BTreeSet<Name>,
     names: &[Name],
 ) -> Result<Vec<Name>, AllocError>
     requires right { AreRightHints (V.sources view.now) (K.hints known.now) }
     requires faultless { AreFaultless (V.sources view.now) (K.faultless known.now) }
     ensures { IfOk result
-        (λ found. found.items ≡ filter (is_blocking (V.sources view.now)) names.now) }
+        (λ found. found.items ≡ filter (is_blocking (V.sources view.now) (has_name parts.now.keys)) names.now) }
 {
     let mut found = Vec::new(alloc);
     for name in names {
-        if blocks(alloc, view, known, name)? {
+        if blocks(alloc, view, known, parts, name)? {
             found.push(*name)?;
         }
     }

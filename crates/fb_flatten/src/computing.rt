@@ -1,22 +1,26 @@
 //! The nets of units, with those that are found on the way.
-ghost use Rattle.std.specs.Prelude.{◌≡◌, true, All, [], IfOk, Some};
+ghost use Rattle.std.specs.Prelude.{◌≡◌, ℕ, List, true, All, [], IfOk, IfSome, IsNone, Some, Contains, ◌↔◌, ◌⊎◌};
+ghost use Rattle.fb_wiring.specs.Library.Rests.{PartRests};
+ghost use Rattle.fb_wiring.specs.Order.{IsOrdered};
+ghost use Rattle.fb_wiring.specs.Reaches.{PartRestsOnRecursive, SomePartRestsOnRecursive};
 ghost use Rattle.fb_wiring.specs.Library.View.{tree_at};
 ghost use Rattle.fb_wiring.specs.Units.{HasNet, has_net_in};
 ghost use Rattle.fb_flatten.specs.Hints.{AreFaultless, AreRightHints};
 ghost use Rattle.fb_flatten.specs.Inner.{IsInnerNet};
 ghost use Rattle.fb_flatten.specs.Net.{IsNet, plain_net};
 ghost use Rattle.fb_flatten.specs.Nets.{net_at};
+ghost use Rattle.fb_flatten.specs.Suspects.{AreFinite};
 ghost use Rattle.fb_flatten.specs.Tables.{IsUnitOrder};
 
 use crate::blocking::{blocking, has_some};
 use crate::counts::counts_below;
 use crate::inner::{Inner, inner_nets};
-use crate::suspects::suspects;
+use crate::suspects::{parts_where_absent, suspects};
 use crate::units::{Composed, flat_of_unit, instances_of_unit};
 use fb_wiring::library::{View, far};
 use fb_wiring::plain::INSTANCE_LIMIT;
 use fb_wiring::text::Name;
-use fb_wiring::{Hints, Known, Net, Rest, inner_first, networks_of, recursive};
+use fb_wiring::{Hints, Known, Net, Rest, all_inner_first, inner_first, networks_of, recursive};
 use std::alloc::{AllocError, Global};
 
 /// The net of a unit, and nets of other units that were composed on the way.
@@ -51,7 +55,8 @@ pub fn compute<V: View, K: Hints + Known>(
     ensures inner { IfOk result (λ it. All (IsInnerNet (V.sources view.now) unit) it.inner.items) }
 {
     let suspects = suspects(alloc, view, known, unit)?;
-    let found = blocking(alloc, view, known, suspects.as_slice())?;
+    let parts = parts_where_absent(alloc, view, known, suspects.as_slice())?;
+    let found = blocking(alloc, view, known, &parts, suspects.as_slice())?;
     if has_some(found.as_slice()) {
         return Ok(alone(alloc, Net::Blocked(found)));
     }
@@ -60,7 +65,7 @@ pub fn compute<V: View, K: Hints + Known>(
         hints: known,
         unit,
     };
-    match inner_first(alloc, &rest, unit)? {
+    match order_of(alloc, &rest, unit, suspects.as_slice())? {
         None => {
             let names = far(alloc, view, unit)?;
             let back = recursive(alloc, view, names.as_slice())?;
@@ -70,7 +75,30 @@ pub fn compute<V: View, K: Hints + Known>(
     }
 }
 
-/// The same where all that the unit rests on is without faults, and what is left to look at stands in an order with inner types first.
+/// All names that the unit rests on by parts, each after its own parts. None where one of the suspects, or of these names, reaches itself.
+fn order_of<V: View>(
+    alloc: Global,
+    view: &V,
+    unit: Name,
+    suspects: &[Name],
+) -> Result<Option<Vec<Name>>, AllocError>
+    ensures ordered { IfOk result
+        (λ found. IfSome found (λ order. IsOrdered (V.sources view.now) order.items)) }
+    ensures whole { IfOk result (λ found. IfSome found
+        (λ order. (v : List ℕ) → Contains order.items v ↔ PartRests (V.sources view.now) unit v)) }
+    ensures finite { IfOk result (λ found. IfSome found
+        (λ order. AreFinite (V.sources view.now) suspects.now)) }
+    ensures recursive { IfOk result (λ found. IsNone found
+        → (SomePartRestsOnRecursive (V.sources view.now) suspects.now
+        ⊎ PartRestsOnRecursive (V.sources view.now) unit)) }
+{
+    if all_inner_first(alloc, view, suspects)?.is_none() {
+        return Ok(None);
+    }
+    inner_first(alloc, view, unit)
+}
+
+/// The same where nothing blocks the unit, and what is left to look at stands in an order with inner types first.
 fn compute_in_order<V: View, H: Hints>(
     alloc: Global,
     view: &V,

@@ -2,7 +2,7 @@
 ghost use Rattle.std.specs.Prelude.{ℕ, List, Contains, IfOk};
 ghost use Rattle.std.specs.BTreeMap.{get};
 ghost use Rattle.fb_wiring.specs.Holders.{holders_of};
-ghost use Rattle.fb_wiring.specs.Library.View.{mentions_at};
+ghost use Rattle.fb_wiring.specs.Library.View.{parts_at};
 ghost use Rattle.fb_wiring.specs.Order.{IsOrdered};
 ghost use Rattle.fb_wiring.specs.Text.Order.{name_cmp};
 ghost use Rattle.fb_wiring.specs.Units.{HasNet};
@@ -31,7 +31,7 @@ fn counts_in_order<V: View>(alloc: Global, view: &V, order: &[Name]) -> Result<C
     Ok(counts)
 }
 
-/// How many instances each subapplication holds that the unit mentions, and each below these.
+/// How many instances each subapplication holds that is a part of the unit, and each below these.
 pub(crate) fn counts_below<V: View>(
     alloc: Global,
     view: &V,
@@ -41,7 +41,7 @@ pub(crate) fn counts_below<V: View>(
     requires sound { IsSound (V.sources view.now) unit.now }
     ensures own { IfOk result (λ counts.
         AllCounted (V.sources view.now) (get name_cmp counts)
-        (mentions_at (V.sources view.now) unit.now)) }
+        (parts_at (V.sources view.now) unit.now)) }
     ensures right { IfOk result
         (λ counts. AreRightCounts (V.sources view.now) (get name_cmp counts)) }
 {

@@ -1,7 +1,7 @@
 //! The instances and the flat networks of units whose inner types come first in an order.
 ghost use Rattle.std.specs.Prelude.{IfOk};
 ghost use Rattle.std.specs.BTreeMap.{get};
-ghost use Rattle.fb_wiring.specs.Library.View.{mentions_at};
+ghost use Rattle.fb_wiring.specs.Library.View.{parts_at};
 ghost use Rattle.fb_wiring.specs.Text.Order.{name_cmp};
 ghost use Rattle.fb_wiring.specs.Units.{HasNet, IsUnitFlat, IsWithinLimit};
 ghost use Rattle.fb_flatten.specs.Hints.{AreRightHints};
@@ -19,11 +19,11 @@ use fb_wiring::{
 use std::alloc::{AllocError, Global};
 use std::collections::BTreeMap;
 
-/// How many instances a unit holds at all depths, up to one past the limit, by the counts of what it mentions.
+/// How many instances a unit holds at all depths, up to one past the limit, by the counts of its parts.
 pub(crate) fn instances_of_unit<V: View>(view: &V, counts: &Counts, unit: &Name) -> u32
     requires sound { IsSound (V.sources view.now) unit.now }
     requires counted { AllCounted (V.sources view.now) (get name_cmp counts.now)
-        (mentions_at (V.sources view.now) unit.now) }
+        (parts_at (V.sources view.now) unit.now) }
     ensures { IsUnitCount (V.sources view.now) unit.now result }
 {
     let decl = tree_by_name(view, unit).unwrap();

@@ -9,8 +9,9 @@ use Rattle.fb_tree.specs.Text.Order.{name_cmp}
 use Rattle.fb_tree.proofs.Text.OrderLemmas.{in_order-members}
 use Rattle.fb_tree.specs.Tree.{ApplicationTree, DeclTree, InstanceTree, block_type, adapter_type, subapplication_type, system_configuration, structure_type}
 use Rattle.fb_tree.specs.Mentions.{instance_types, types_in}
-use Rattle.fb_netcheck.specs.Library.View.{Sources, tree_at, tree_of, mentions_at, mentions_in}
-use Rattle.fb_netcheck.specs.Library.Rests.{Rests, itself, through}
+use Rattle.fb_netcheck.specs.Library.View.{Sources, tree_at, tree_of, parts_at, parts_in}
+use Rattle.fb_netcheck.specs.Library.Rests.{Rests, itself}
+use Rattle.fb_netcheck.proofs.Library.Locality.{part_mention, rests_more}
 use Rattle.fb_netcheck.specs.Library.Local.{AgreeFar}
 use Rattle.fb_tree.proofs.Text.Members.{contains_nothing, contains_here, contains_later, contains_flat_map, contains_map}
 use Rattle.fb_placing.specs.Firsts.{first_at}
@@ -32,10 +33,9 @@ found_in {X = X} {Y = Y} key value (x ∷ xs) q y e = by_test (bytes_eq (key x) 
     by_test true e more = record { item = x; among = contains_here x xs; gives = cc }
     by_test false e more = let f = more e in record { item = f.item; among = contains_later x xs f.item f.among; gives = f.gives }
 
--- what is rested on may mention more
-rests_on : {sources : Sources} {u v w : List ℕ} → Rests sources u v → Contains (mentions_at sources v) w → Rests sources u w
-rests_on itself m = through m itself
-rests_on (through k r) m = through k (rests_on r m)
+-- what is rested on has parts that are rested on too
+rests_on : {sources : Sources} {u v w : List ℕ} → Rests sources u v → Contains (parts_at sources v) w → Rests sources u w
+rests_on {sources} {v = v} {w = w} r m = rests_more r (part_mention sources v w m)
 
 -- the type of an instance
 abbrev type_of : PlainStanding → List ℕ
@@ -46,10 +46,10 @@ among_typed unit instances name s e =
     let f = found_in (λ (i : InstanceTree). i.name.name) (λ (i : InstanceTree). let it : PlainStanding = record { unit = unit; instance = i } in it) instances name s e in
     subst (λ (t : List ℕ). Contains (types_in instances) t) (ap type_of f.gives) (contains_map (λ (i : InstanceTree). i.type_name.name) instances f.item f.among)
 
-mentioned : (tree : DeclTree) (v : List ℕ) → Contains (instance_types tree) v → Contains (mentions_in (Some tree)) v
+mentioned : (tree : DeclTree) (v : List ℕ) → Contains (instance_types tree) v → Contains (parts_in (Some tree)) v
 mentioned tree v c = (in_order-members name_cmp nat_list_cmp_total (slice_cmp-IsAntisymmetric nat_cmp-IsAntisymmetric) (instance_types tree) v).1 c
 
-inner_mentioned : (tree : Option DeclTree) (v : List ℕ) → Contains (types_in (inner_instances tree)) v → Contains (mentions_in tree) v
+inner_mentioned : (tree : Option DeclTree) (v : List ℕ) → Contains (types_in (inner_instances tree)) v → Contains (parts_in tree) v
 inner_mentioned None v c = absurd (contains_nothing v c)
 inner_mentioned (Some (block_type d)) v c = absurd (contains_nothing v c)
 inner_mentioned (Some (adapter_type d)) v c = absurd (contains_nothing v c)
@@ -57,7 +57,7 @@ inner_mentioned (Some (subapplication_type d)) v c = mentioned (subapplication_t
 inner_mentioned (Some (system_configuration s)) v c = absurd (contains_nothing v c)
 inner_mentioned (Some (structure_type s)) v c = absurd (contains_nothing v c)
 
-application_mentioned : (tree : Option DeclTree) (a : ApplicationTree) (v : List ℕ) → Contains (applications_in tree) a → Contains (types_in a.network.instances) v → Contains (mentions_in tree) v
+application_mentioned : (tree : Option DeclTree) (a : ApplicationTree) (v : List ℕ) → Contains (applications_in tree) a → Contains (types_in a.network.instances) v → Contains (parts_in tree) v
 application_mentioned None a v c d = absurd (contains_nothing a c)
 application_mentioned (Some (block_type t)) a v c d = absurd (contains_nothing a c)
 application_mentioned (Some (adapter_type t)) a v c d = absurd (contains_nothing a c)

@@ -11,15 +11,15 @@ use Rattle.std.specs.declared.alloc.Global.{Global}
 use Rattle.fb_tree.proofs.Text.Tests.{by_bool, or_cases, or_assoc, or_false, no_both}
 use Rattle.fb_tree.specs.Text.Order.{name_cmp}
 use Rattle.fb_iface.proofs.Library.SeenLemmas.{same, same_is, same_self}
-use Rattle.fb_iface.specs.Library.View.{Sources, mentions_at}
+use Rattle.fb_iface.specs.Library.View.{Sources, parts_at, parts_in}
 use Rattle.fb_iface.specs.Library.Seen.{has_name}
-use Rattle.fb_iface.proofs.Library.WalkLemmas.{Contains-has, has-Contains, has-push, all_mentions, mentioned_somewhere}
+use Rattle.fb_iface.proofs.Library.WalkLemmas.{Contains-has, has-Contains, has-push, mentioned_somewhere}
 use Rattle.fb_wiring.specs.Graph.{Edges, edges_at, IsReverse, IsGraph}
 use Rattle.fb_wiring.specs.Steps.{enters}
 use Rattle.fb_wiring.specs.declared.search.Step.{Step}
 use Rattle.fb_wiring.specs.declared.search.Step.TheVariants.{Enter, Leave}
 use Rattle.fb_wiring.proofs.NameLemmas.{or_none_left, or_none_right, same_swap}
-use Rattle.fb_wiring.proofs.SearchLemmas.{reachable, fuel, fuel_opens, at_step}
+use Rattle.fb_wiring.proofs.SearchLemmas.{all_parts, reachable, fuel, fuel_opens, at_step}
 
 -- ---- names that are still to be entered
 abbrev pub awaits : List Step → List ℕ → Bool
@@ -45,8 +45,8 @@ awaits-left steps w q = awaits-append steps (Leave w ∷ []) q ∙ or_false (awa
 -- ---- what the search keeps
 pub record IsExplored (sources : Sources) (begun names : List (List ℕ)) (forth back : Edges) (steps : List Step) : Type 0 where
   pub begins : (u : List ℕ) → has_name begun u ≡ true → (has_name names u || awaits steps u) ≡ true
-  pub closed : (u v : List ℕ) → has_name names u ≡ true → has_name (mentions_at sources u) v ≡ true → (has_name names v || awaits steps v) ≡ true
-  pub mentions : (u : List ℕ) → has_name names u ≡ true → edges_at forth u ≡ mentions_at sources u
+  pub closed : (u v : List ℕ) → has_name names u ≡ true → has_name (parts_at sources u) v ≡ true → (has_name names v || awaits steps v) ≡ true
+  pub mentions : (u : List ℕ) → has_name names u ≡ true → edges_at forth u ≡ parts_at sources u
   pub outside : (u : List ℕ) → has_name names u ≡ false → edges_at forth u ≡ []
   pub reverse : IsReverse forth back
   pub bounded : (u : List ℕ) → awaits steps u ≡ true → has_name (reachable sources begun) u ≡ true
@@ -101,10 +101,10 @@ edge_more first old new from x to adds had u v =
 
 module _ (sources : Sources) (begun : List (List ℕ)) where
   in_begun : (u : List ℕ) → has_name begun u ≡ true → has_name (reachable sources begun) u ≡ true
-  in_begun u h = has-Contains u (reachable sources begun) (Contains-append_left begun (all_mentions sources) u (Contains-has u begun h))
+  in_begun u h = has-Contains u (reachable sources begun) (Contains-append_left begun (all_parts sources) u (Contains-has u begun h))
 
-  mentioned : (w u : List ℕ) → has_name (mentions_at sources w) u ≡ true → has_name (reachable sources begun) u ≡ true
-  mentioned w u h = has-Contains u (reachable sources begun) (Contains-append_right begun (all_mentions sources) u (Contains-has u (all_mentions sources) (mentioned_somewhere sources w u h)))
+  mentioned : (w u : List ℕ) → has_name (parts_at sources w) u ≡ true → has_name (reachable sources begun) u ≡ true
+  mentioned w u h = has-Contains u (reachable sources begun) (Contains-append_right begun (all_parts sources) u (mentioned_somewhere parts_in refl sources w u (Contains-has u (parts_at sources w) h)))
 
   pub IsExplored-begin : (names : List (List ℕ)) (forth back : Edges) (none steps : List Step) → names ≡ [] → forth.entries ≡ [] → back.entries ≡ [] → none ≡ [] → steps ≡ none ++ enters begun → IsExplored sources begun names forth back steps
   IsExplored-begin names forth back none steps no_names no_forth no_back no_steps is =
@@ -156,12 +156,12 @@ module _ (sources : Sources) (begun : List (List ℕ)) where
         }
 
     -- a new name, with what it mentions
-    module _ (is : step ≡ Enter w) (new : has_name names w ≡ false) (names' leads : List (List ℕ)) (forth' back' : Edges) (pushed steps' : List Step) (adds : (q : List ℕ) → has_name names' q ≡ (has_name names q || same q w)) (known : leads ≡ mentions_at sources w) (pushes : pushed ≡ steps ++ Leave w ∷ []) (enter : steps' ≡ pushed ++ enters leads) where
-      opened : steps' ≡ steps ++ Leave w ∷ enters (mentions_at sources w)
+    module _ (is : step ≡ Enter w) (new : has_name names w ≡ false) (names' leads : List (List ℕ)) (forth' back' : Edges) (pushed steps' : List Step) (adds : (q : List ℕ) → has_name names' q ≡ (has_name names q || same q w)) (known : leads ≡ parts_at sources w) (pushes : pushed ≡ steps ++ Leave w ∷ []) (enter : steps' ≡ pushed ++ enters leads) where
+      opened : steps' ≡ steps ++ Leave w ∷ enters (parts_at sources w)
       opened = enter ∙ ap (λ s. s ++ enters leads) pushes ∙ append_assoc steps (Leave w ∷ []) (enters leads) ∙ ap (λ n. steps ++ Leave w ∷ enters n) known
 
-      awaits-opened : (u : List ℕ) → awaits steps' u ≡ (awaits steps u || has_name (mentions_at sources w) u)
-      awaits-opened u = ap (λ s. awaits s u) opened ∙ awaits-append steps (Leave w ∷ enters (mentions_at sources w)) u ∙ ap (λ b. awaits steps u || b) (awaits-enters (mentions_at sources w) u)
+      awaits-opened : (u : List ℕ) → awaits steps' u ≡ (awaits steps u || has_name (parts_at sources w) u)
+      awaits-opened u = ap (λ s. awaits s u) opened ∙ awaits-append steps (Leave w ∷ enters (parts_at sources w)) u ∙ ap (λ b. awaits steps u || b) (awaits-enters (parts_at sources w) u)
 
       grows : (u : List ℕ) → has_name names u ≡ true → has_name names' u ≡ true
       grows u h = adds u ∙ or_left (has_name names u) _ h
@@ -180,7 +180,7 @@ module _ (sources : Sources) (begun : List (List ℕ)) where
           fuel_opens sources begun names names' before steps steps' w (at_step before steps step (Enter w) popped is) there new adds opened
 
       module _ (inserts : (u : List ℕ) → edges_at forth' u ≡ cond (same w u) leads (edges_at forth u)) (turns : (u v : List ℕ) → has_name (edges_at back' u) v ≡ (has_name (edges_at back u) v || (has_name leads u && same v w))) where
-        here : (u : List ℕ) → same u w ≡ true → edges_at forth' u ≡ mentions_at sources w
+        here : (u : List ℕ) → same u w ≡ true → edges_at forth' u ≡ parts_at sources w
         here u s = inserts u ∙ ap (λ b. cond b leads (edges_at forth u)) (same_swap w u ∙ s) ∙ known
 
         elsewhere : (u : List ℕ) → same u w ≡ false → edges_at forth' u ≡ edges_at forth u
@@ -201,15 +201,15 @@ module _ (sources : Sources) (begun : List (List ℕ)) where
               begins = λ u h. onward u (at.begins u h);
               closed = λ u v h m. or_cases (has_name names u) (same u w) (sym (adds u) ∙ h)
                   (λ t. onward v (at.closed u v t m))
-                  (λ s. or_right (has_name names' v) _ (awaits-opened v ∙ or_right (awaits steps v) _ (sym (ap (λ n. has_name (mentions_at sources n) v) (same_is u w s)) ∙ m)));
+                  (λ s. or_right (has_name names' v) _ (awaits-opened v ∙ or_right (awaits steps v) _ (sym (ap (λ n. has_name (parts_at sources n) v) (same_is u w s)) ∙ m)));
               mentions = λ u h. by_bool (same u w)
-                  (λ s. here u s ∙ sym (ap (mentions_at sources) (same_is u w s)))
+                  (λ s. here u s ∙ sym (ap (parts_at sources) (same_is u w s)))
                   (λ f. elsewhere u f ∙ at.mentions u (or_cases (has_name names u) (same u w) (sym (adds u) ∙ h) (λ t. t) (λ s. no_both (same u w) s f)));
               outside = λ u h.
                   let apart : (has_name names u || same u w) ≡ false = sym (adds u) ∙ h in
                   elsewhere u (or_none_right (has_name names u) (same u w) apart) ∙ at.outside u (or_none_left (has_name names u) (same u w) apart);
               reverse = turned;
-              bounded = λ u h. or_cases (awaits steps u) (has_name (mentions_at sources w) u) (sym (awaits-opened u) ∙ h)
+              bounded = λ u h. or_cases (awaits steps u) (has_name (parts_at sources w) u) (sym (awaits-opened u) ∙ h)
                   (λ t. at.bounded u (awaits-last steps w u ∙ or_left (awaits steps u) _ t))
                   (mentioned w u);
             }

@@ -3,8 +3,8 @@ use Rattle.std.proofs.Common.{◌≡◌, ℕ, ◌+◌, ◌<◌, ◌≤◌, true,
 use Rattle.std.proofs.lemmas.List.{take-append-le, take_at, get_or_append_left, get_or_at, get_or_default, get_or-take, length-take-le}
 use Rattle.std.specs.List.{Contains}
 use Rattle.fb_tree.proofs.Text.Tests.{no_both}
-use Rattle.fb_iface.specs.Library.View.{Sources, mentions_at}
-use Rattle.fb_iface.specs.Library.Rests.{Rests, itself, through}
+use Rattle.fb_iface.specs.Library.View.{Sources, parts_at}
+use Rattle.fb_iface.specs.Library.Rests.{PartRests, on_itself, through_part}
 use Rattle.fb_iface.specs.Library.Seen.{has_name}
 use Rattle.fb_iface.proofs.Library.WalkLemmas.{has-Contains, Contains-has}
 use Rattle.fb_wiring.specs.Reaches.{Reaches, directly, onward}
@@ -56,9 +56,9 @@ listed_of_take order k below v there =
 module _ (sources : Sources) (order : List (List ℕ)) (ordered : IsOrdered sources order) where
   -- all that the name at a place reaches comes before it
   pub falls_back : {u v : List ℕ} → Reaches sources u v → (k : ℕ) → k < length order → get_or order k [] ≡ u → Contains (take k order) v
-  falls_back {v = v} (directly m) k below is = ordered.inner_first k below v (subst (λ (n : List ℕ). Contains (mentions_at sources n) v) (sym is) m)
+  falls_back {v = v} (directly m) k below is = ordered.inner_first k below v (subst (λ (n : List ℕ). Contains (parts_at sources n) v) (sym is) m)
   falls_back {v = v} (onward {w = w} m r) k below is =
-      let at = within_take order k (omega arith) w (ordered.inner_first k below w (subst (λ (n : List ℕ). Contains (mentions_at sources n) w) (sym is) m)) in
+      let at = within_take order k (omega arith) w (ordered.inner_first k below w (subst (λ (n : List ℕ). Contains (parts_at sources n) w) (sym is) m)) in
       let lower : at.place < k = at.below in
       wider order at.place k lower below v (falls_back r at.place (omega arith) at.named)
 
@@ -68,15 +68,15 @@ module _ (sources : Sources) (order : List (List ℕ)) (ordered : IsOrdered sour
       ordered.once there.0 there.1 (subst (λ (n : List ℕ). Contains (take there.0 order) n) (sym is) (falls_back loop there.0 there.1 is))
 
   -- what a listed name mentions is listed
-  pub closed : (u w : List ℕ) → Contains order u → Contains (mentions_at sources u) w → Contains order w
+  pub closed : (u w : List ℕ) → Contains order u → Contains (parts_at sources u) w → Contains order w
   closed u w there m =
       let is : get_or order there.0 [] ≡ u = placed order there.0 u [] there.1 there.2 in
-      listed_of_take order there.0 there.1 w (ordered.inner_first there.0 there.1 w (subst (λ (n : List ℕ). Contains (mentions_at sources n) w) (sym is) m))
+      listed_of_take order there.0 there.1 w (ordered.inner_first there.0 there.1 w (subst (λ (n : List ℕ). Contains (parts_at sources n) w) (sym is) m))
 
   -- and all that it rests on
-  pub all_listed : {u v : List ℕ} → Rests sources u v → Contains order u → Contains order v
-  all_listed itself there = there
-  all_listed {u} (through {w = w} m r) there = all_listed r (closed u w there m)
+  pub all_listed : {u v : List ℕ} → PartRests sources u v → Contains order u → Contains order v
+  all_listed on_itself there = there
+  all_listed {u} (through_part {w = w} m r) there = all_listed r (closed u w there m)
 
 pub ordered_not_recursive : OrderedIsNotRecursive
 ordered_not_recursive sources order ordered name there = not_recursive sources order ordered name there
@@ -88,9 +88,9 @@ IsOrdered-none sources = record {
   once = λ k below there. absurd (omega arith);
 }
 
-module _ (sources : Sources) (order : List (List ℕ)) (v : List ℕ) (ordered : IsOrdered sources order) (unlisted : has_name order v ≡ false) (ready : (w : List ℕ) → Contains (mentions_at sources v) w → has_name order w ≡ true) where
+module _ (sources : Sources) (order : List (List ℕ)) (v : List ℕ) (ordered : IsOrdered sources order) (unlisted : has_name order v ≡ false) (ready : (w : List ℕ) → Contains (parts_at sources v) w → has_name order w ≡ true) where
   abbrev InnerAt : ℕ → Type 0
-  InnerAt k = (w : List ℕ) → Contains (mentions_at sources (get_or (order ++ v ∷ []) k [])) w → Contains (take k (order ++ v ∷ [])) w
+  InnerAt k = (w : List ℕ) → Contains (parts_at sources (get_or (order ++ v ∷ []) k [])) w → Contains (take k (order ++ v ∷ [])) w
 
   abbrev OnceAt : ℕ → Type 0
   OnceAt k = Contains (take k (order ++ v ∷ [])) (get_or (order ++ v ∷ []) k []) → ⊥
@@ -98,12 +98,12 @@ module _ (sources : Sources) (order : List (List ℕ)) (v : List ℕ) (ordered :
   inner_before : (k : ℕ) → k < length order → InnerAt k
   inner_before k below w m =
       subst (λ (l : List (List ℕ)). Contains l w) (sym (take-append-le k order (v ∷ []) (omega arith)))
-      (ordered.inner_first k below w (subst (λ (n : List ℕ). Contains (mentions_at sources n) w) (get_or_append_left order (v ∷ []) [] k below) m))
+      (ordered.inner_first k below w (subst (λ (n : List ℕ). Contains (parts_at sources n) w) (get_or_append_left order (v ∷ []) [] k below) m))
 
   inner_last : InnerAt (length order)
   inner_last w m =
       subst (λ (l : List (List ℕ)). Contains l w) (sym (take_at order (v ∷ []) (length order) refl))
-      (Contains-has w order (ready w (subst (λ (n : List ℕ). Contains (mentions_at sources n) w) (get_or_at order v [] [] (length order) refl) m)))
+      (Contains-has w order (ready w (subst (λ (n : List ℕ). Contains (parts_at sources n) w) (get_or_at order v [] [] (length order) refl) m)))
 
   once_before : (k : ℕ) → k < length order → OnceAt k
   once_before k below there =

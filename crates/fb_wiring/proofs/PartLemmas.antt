@@ -7,11 +7,11 @@ use Rattle.std.specs.List.Sorted.{IsStrictlySortedBy}
 use Rattle.fb_tree.proofs.Text.Tests.{by_bool, or_cases, no_both}
 use Rattle.fb_tree.specs.Text.Order.{name_cmp}
 use Rattle.fb_iface.proofs.Library.SeenLemmas.{same, same_is, same_self}
-use Rattle.fb_iface.specs.Library.View.{Sources, mentions_at}
-use Rattle.fb_iface.specs.Library.Rests.{itself}
+use Rattle.fb_iface.specs.Library.View.{Sources, parts_at}
+use Rattle.fb_iface.specs.Library.Rests.{on_itself}
 use Rattle.fb_iface.specs.Library.Seen.{has_name}
 use Rattle.fb_iface.proofs.Library.WalkLemmas.{Contains-has, has-Contains}
-use Rattle.fb_wiring.specs.Reaches.{Reaches, directly, onward, IsRecursive, RecursivePart, none, keeps, skips, SomeRestsOnRecursive}
+use Rattle.fb_wiring.specs.Reaches.{Reaches, directly, onward, IsRecursive, RecursivePart, none, keeps, skips, SomePartRestsOnRecursive}
 use Rattle.fb_wiring.specs.Graph.{Edges, edges_at, Follows, one, more, IsGraph}
 use Rattle.fb_wiring.proofs.GraphLemmas.{follow_first}
 use Rattle.fb_wiring.proofs.StackLemmas.{reaches_more}
@@ -22,8 +22,8 @@ module _ (sources : Sources) where
   part_empty [] free = none
   part_empty (x ∷ names) free = skips (free x (or_left (same x x) (has_name names x) (same_self x))) (part_empty names (λ q h. free q (or_right (same q x) (has_name names q) h)))
 
-  pub part_of_none : (names : List (List ℕ)) → ¬ SomeRestsOnRecursive sources names → RecursivePart sources names []
-  part_of_none names free = part_empty names (λ q h loop. free (q, ((q, (Contains-has q names h, itself)), loop)))
+  pub part_of_none : (names : List (List ℕ)) → ¬ SomePartRestsOnRecursive sources names → RecursivePart sources names []
+  part_of_none names free = part_empty names (λ q h loop. free (q, ((q, (Contains-has q names h, on_itself)), loop)))
 
   of_found : {names found : List (List ℕ)} → RecursivePart sources names found → (q : List ℕ) → has_name found q ≡ true → IsRecursive sources q
   of_found none q h = absurd (false≢true h)
@@ -67,7 +67,7 @@ module _ (sources : Sources) where
 
 -- ---- the edges of a graph are the mentions
 module _ (sources : Sources) (begun names : List (List ℕ)) (forth back : Edges) (graph : IsGraph sources begun names forth back) where
-  edge_mentions : (u v : List ℕ) → Contains (edges_at forth u) v → Contains (mentions_at sources u) v
+  edge_mentions : (u v : List ℕ) → Contains (edges_at forth u) v → Contains (parts_at sources u) v
   edge_mentions u v m = by_bool (has_name names u)
       (λ t. subst (λ (l : List (List ℕ)). Contains l v) (graph.mentions u t) m)
       (λ f. absurd (false≢true (sym (ap (λ l. has_name l v) (graph.outside u f)) ∙ has-Contains v (edges_at forth u) m)))
@@ -76,12 +76,12 @@ module _ (sources : Sources) (begun names : List (List ℕ)) (forth back : Edges
   to_reaches {u} {v} (one m) = directly (edge_mentions u v m)
   to_reaches {v = v} (more {w = w} r m) = reaches_more (to_reaches r) (edge_mentions w v m)
 
-  mention_edge : (u v : List ℕ) → has_name names u ≡ true → Contains (mentions_at sources u) v → Contains (edges_at forth u) v
+  mention_edge : (u v : List ℕ) → has_name names u ≡ true → Contains (parts_at sources u) v → Contains (edges_at forth u) v
   mention_edge u v t m = subst (λ (l : List (List ℕ)). Contains l v) (sym (graph.mentions u t)) m
 
   to_follows : {u v : List ℕ} → has_name names u ≡ true → Reaches sources u v → Follows (edges_at forth) u v
   to_follows {u} {v} t (directly m) = one (mention_edge u v t m)
-  to_follows {u} t (onward {w = w} m r) = follow_first (edges_at forth) (mention_edge u w t m) (to_follows (graph.closed u w t (has-Contains w (mentions_at sources u) m)) r)
+  to_follows {u} t (onward {w = w} m r) = follow_first (edges_at forth) (mention_edge u w t m) (to_follows (graph.closed u w t (has-Contains w (parts_at sources u) m)) r)
 
   -- what a test keeps that holds at the names that reach themselves
   part_of_test : (p : List ℕ → Bool) (some : List (List ℕ)) → ((u : List ℕ) → has_name some u ≡ true → (p u ≡ true → IsRecursive sources u) × (IsRecursive sources u → p u ≡ true)) → RecursivePart sources some (filter p some)

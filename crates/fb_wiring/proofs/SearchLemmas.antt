@@ -7,12 +7,14 @@ use Rattle.std.specs.List.{Contains}
 use Rattle.std.proofs.lemmas.List.Elements.{Contains-append_left, Contains-append_right}
 use Rattle.fb_tree.proofs.Text.Tests.{by_bool, or_cases, or_assoc, or_false, no_both}
 use Rattle.fb_iface.proofs.Library.SeenLemmas.{same, same_is, same_self}
-use Rattle.fb_iface.specs.Library.View.{Sources, mentions_at}
-use Rattle.fb_iface.specs.Library.Rests.{Rests, itself, through}
+use Rattle.fb_iface.specs.Library.View.{Sources, parts_at, parts_in}
+use Rattle.fb_iface.specs.Library.Rests.{PartRests, on_itself, through_part}
 use Rattle.fb_iface.specs.Library.Seen.{has_name}
-use Rattle.fb_iface.proofs.Library.WalkLemmas.{Contains-has, has-Contains, has-push, all_mentions, mentioned_somewhere}
+use Rattle.fb_iface.proofs.Library.WalkLemmas.{Contains-has, has-Contains, has-push, mentioned_somewhere}
+use Rattle.fb_iface.specs.Library.Near.{in_all_trees}
+use Rattle.fb_iface.proofs.Library.Locality.{parts_more}
 use Rattle.fb_wiring.specs.Order.{IsOrdered}
-use Rattle.fb_wiring.specs.Reaches.{SomeRests, SomeRestsOnRecursive}
+use Rattle.fb_wiring.specs.Reaches.{SomePartRests, SomePartRestsOnRecursive}
 use Rattle.fb_wiring.specs.Steps.{enters}
 use Rattle.fb_wiring.specs.declared.search.Step.{Step}
 use Rattle.fb_wiring.specs.declared.search.Step.TheVariants.{Enter, Leave}
@@ -47,10 +49,6 @@ path_with : (steps : List Step) (v : List ℕ) (names : List (List ℕ)) (q : Li
 path_with steps v names q =
     on_path-append steps (Leave v ∷ enters names) q ∙ ap (λ b. on_path steps q || (same q v || b)) (on_path-enters names q) ∙ ap (λ b. on_path steps q || b) (or_false (same q v))
 
-rests_more : {sources : Sources} {u v w : List ℕ} → Rests sources u v → Contains (mentions_at sources v) w → Rests sources u w
-rests_more itself m = through m itself
-rests_more (through n r) m = through n (rests_more r m)
-
 -- ---- what the search keeps
 pub record IsSearch (sources : Sources) (names entered left order : List (List ℕ)) (steps : List Step) : Type 0 where
   pub ordered : IsOrdered sources order
@@ -58,7 +56,7 @@ pub record IsSearch (sources : Sources) (names entered left order : List (List �
   pub marked : (q : List ℕ) → has_name entered q ≡ (has_name order q || on_path steps q)
   pub same_left : (q : List ℕ) → has_name left q ≡ has_name order q
   pub begun : (q : List ℕ) → has_name names q ≡ true → (has_name order q || has_step steps q) ≡ true
-  pub sound : (q : List ℕ) → (has_name order q || has_step steps q) ≡ true → SomeRests sources names q
+  pub sound : (q : List ℕ) → (has_name order q || has_step steps q) ≡ true → SomePartRests sources names q
 
 module _ (sources : Sources) (names : List (List ℕ)) where
   none_yet : IsSearch sources names [] [] [] (enters names)
@@ -68,7 +66,7 @@ module _ (sources : Sources) (names : List (List ℕ)) where
     marked = λ q. sym (on_path-enters names q);
     same_left = λ q. refl;
     begun = λ q h. has_step-enters names q ∙ h;
-    sound = λ q h. (q, (Contains-has q names (sym (has_step-enters names q) ∙ h), itself));
+    sound = λ q h. (q, (Contains-has q names (sym (has_step-enters names q) ∙ h), on_itself));
   }
 
   pub IsSearch-begin : (entered left order : List (List ℕ)) (before steps : List Step) → entered ≡ [] → left ≡ [] → order ≡ [] → before ≡ [] → steps ≡ before ++ enters names → IsSearch sources names entered left order steps
@@ -100,31 +98,31 @@ module _ (sources : Sources) (names : List (List ℕ)) where
 
     -- a new name is entered
     pub IsSearch-enter : (entered' : List (List ℕ)) (w : List ℕ) → IsSearch sources names entered left order (steps ++ Enter w ∷ []) → has_name left w ≡ false → has_name entered w ≡ false
-        → ((q : List ℕ) → has_name entered' q ≡ (has_name entered q || same q w)) → IsSearch sources names entered' left order (steps ++ Leave w ∷ enters (mentions_at sources w))
+        → ((q : List ℕ) → has_name entered' q ≡ (has_name entered q || same q w)) → IsSearch sources names entered' left order (steps ++ Leave w ∷ enters (parts_at sources w))
     IsSearch-enter entered' w s unleft new adds =
         let unlisted : has_name order w ≡ false = sym (s.same_left w) ∙ unleft in
         let off : on_path steps w ≡ false = sym (path_without steps w w) ∙ or_none_right (has_name order w) _ (sym (s.marked w) ∙ new) in
-        let rests : SomeRests sources names w = s.sound w (or_right (has_name order w) _ (there_last steps w)) in
+        let rests : SomePartRests sources names w = s.sound w (or_right (has_name order w) _ (there_last steps w)) in
         record {
           ordered = s.ordered;
           stands = opens sources order [] steps w unlisted off s.stands;
           marked = λ q. adds q
               ∙ ap (λ b. b || same q w) (s.marked q ∙ ap (λ b. has_name order q || b) (path_without steps w q))
               ∙ sym (or_assoc (has_name order q) (on_path steps q) (same q w))
-              ∙ ap (λ b. has_name order q || b) (sym (path_with steps w (mentions_at sources w) q));
+              ∙ ap (λ b. has_name order q || b) (sym (path_with steps w (parts_at sources w) q));
           same_left = s.same_left;
           begun = λ q h. or_cases (has_name order q) (has_step (steps ++ Enter w ∷ []) q) (s.begun q h)
               (λ l. or_left (has_name order q) _ l)
               (λ a. or_right (has_name order q) _ (last_enter steps w q a
-              (λ b. kept steps (Leave w ∷ enters (mentions_at sources w)) q b)
-              (λ is. has_step-append steps (Leave w ∷ enters (mentions_at sources w)) q ∙ or_right (has_step steps q) _ (or_left (same q w) _ (ap (λ n. same n w) is ∙ same_self w)))));
-          sound = λ q h. or_cases (has_name order q) (has_step (steps ++ Leave w ∷ enters (mentions_at sources w)) q) h
+              (λ b. kept steps (Leave w ∷ enters (parts_at sources w)) q b)
+              (λ is. has_step-append steps (Leave w ∷ enters (parts_at sources w)) q ∙ or_right (has_step steps q) _ (or_left (same q w) _ (ap (λ n. same n w) is ∙ same_self w)))));
+          sound = λ q h. or_cases (has_name order q) (has_step (steps ++ Leave w ∷ enters (parts_at sources w)) q) h
               (λ l. s.sound q (or_left (has_name order q) _ l))
-              (λ a. or_cases (has_step steps q) (same q w || has_step (enters (mentions_at sources w)) q) (sym (has_step-append steps (Leave w ∷ enters (mentions_at sources w)) q) ∙ a)
+              (λ a. or_cases (has_step steps q) (same q w || has_step (enters (parts_at sources w)) q) (sym (has_step-append steps (Leave w ∷ enters (parts_at sources w)) q) ∙ a)
               (λ b. s.sound q (or_right (has_name order q) _ (kept steps (Enter w ∷ []) q b)))
-              (λ b. or_cases (same q w) (has_step (enters (mentions_at sources w)) q) b
-              (λ is. subst (λ (n : List ℕ). SomeRests sources names n) (sym (same_is q w is)) rests)
-              (λ m. (rests.0, (rests.1.0, rests_more rests.1.1 (Contains-has q (mentions_at sources w) (sym (has_step-enters (mentions_at sources w) q) ∙ m)))))));
+              (λ b. or_cases (same q w) (has_step (enters (parts_at sources w)) q) b
+              (λ is. subst (λ (n : List ℕ). SomePartRests sources names n) (sym (same_is q w is)) rests)
+              (λ m. (rests.0, (rests.1.0, parts_more rests.1.1 (Contains-has q (parts_at sources w) (sym (has_step-enters (parts_at sources w) q) ∙ m)))))));
         }
 
     -- a name is left and listed
@@ -151,16 +149,16 @@ module _ (sources : Sources) (names : List (List ℕ)) where
     }
 
     -- a name that is entered again before it was left reaches itself
-    pub found_again : (w : List ℕ) → IsSearch sources names entered left order (steps ++ Enter w ∷ []) → has_name left w ≡ false → has_name entered w ≡ true → SomeRestsOnRecursive sources names
+    pub found_again : (w : List ℕ) → IsSearch sources names entered left order (steps ++ Enter w ∷ []) → has_name left w ≡ false → has_name entered w ≡ true → SomePartRestsOnRecursive sources names
     found_again w s unleft old =
-        let rests : SomeRests sources names w = s.sound w (or_right (has_name order w) _ (there_last steps w)) in
+        let rests : SomePartRests sources names w = s.sound w (or_right (has_name order w) _ (there_last steps w)) in
         let on : on_path steps w ≡ true = or_cases (has_name order w) (on_path steps w) (sym (s.marked w ∙ ap (λ b. has_name order w || b) (path_without steps w w)) ∙ old)
         (λ l. no_both (has_name left w) (s.same_left w ∙ l) unleft)
         (λ p. p) in
         (w, (rests, meets sources order [] steps w s.stands on))
 
   -- ---- at the end
-  pub whole_at_end : (entered left order : List (List ℕ)) → IsSearch sources names entered left order [] → (v : List ℕ) → (Contains order v → SomeRests sources names v) × (SomeRests sources names v → Contains order v)
+  pub whole_at_end : (entered left order : List (List ℕ)) → IsSearch sources names entered left order [] → (v : List ℕ) → (Contains order v → SomePartRests sources names v) × (SomePartRests sources names v → Contains order v)
   whole_at_end entered left order s v = (
     λ there. s.sound v (or_left (has_name order v) _ (has-Contains v order there)),
     λ r.
@@ -168,13 +166,13 @@ module _ (sources : Sources) (names : List (List ℕ)) where
         all_listed sources order s.ordered r.1.1 (Contains-has r.0 order begun),
   )
 
-  pub none_at_end : (entered left order : List (List ℕ)) → IsSearch sources names entered left order [] → ¬ SomeRestsOnRecursive sources names
+  pub none_at_end : (entered left order : List (List ℕ)) → IsSearch sources names entered left order [] → ¬ SomePartRestsOnRecursive sources names
   none_at_end entered left order s r = not_recursive sources order s.ordered r.0 ((whole_at_end entered left order s r.0).1 r.1.0) r.1.1
 
 -- ---- that it ends
 -- what entering a name can still cost
 abbrev weight : Sources → List ℕ → ℕ
-weight sources x = length (mentions_at sources x) + 2
+weight sources x = length (parts_at sources x) + 2
 
 part : Bool → ℕ → ℕ
 part b n = cond b 0 n
@@ -227,17 +225,20 @@ module _ (sources : Sources) (entered entered' : List (List ℕ)) (grows : (q : 
       (cost_less x new now all (ap (λ b. b || has_name all x) (sym f) ∙ there)))
 
 -- ---- the names that can be entered
-abbrev pub reachable : Sources → List (List ℕ) → List (List ℕ)
-reachable sources names = names ++ all_mentions sources
+abbrev pub all_parts : Sources → List (List ℕ)
+all_parts sources = in_all_trees parts_in sources
 
-rests_within : (sources : Sources) (names : List (List ℕ)) {u v : List ℕ} → Rests sources u v → Contains (reachable sources names) u → Contains (reachable sources names) v
-rests_within sources names itself there = there
-rests_within sources names {u} (through {w = w} m r) there =
-    rests_within sources names r (Contains-append_right names (all_mentions sources) w (Contains-has w (all_mentions sources) (mentioned_somewhere sources u w (has-Contains w (mentions_at sources u) m))))
+abbrev pub reachable : Sources → List (List ℕ) → List (List ℕ)
+reachable sources names = names ++ all_parts sources
+
+rests_within : (sources : Sources) (names : List (List ℕ)) {u v : List ℕ} → PartRests sources u v → Contains (reachable sources names) u → Contains (reachable sources names) v
+rests_within sources names on_itself there = there
+rests_within sources names {u} (through_part {w = w} m r) there =
+    rests_within sources names r (Contains-append_right names (all_parts sources) w (mentioned_somewhere parts_in refl sources u w m))
 
 module _ (sources : Sources) (names : List (List ℕ)) where
-  within : (v : List ℕ) → SomeRests sources names v → has_name (reachable sources names) v ≡ true
-  within v r = has-Contains v (reachable sources names) (rests_within sources names r.1.1 (Contains-append_left names (all_mentions sources) r.0 r.1.0))
+  within : (v : List ℕ) → SomePartRests sources names v → has_name (reachable sources names) v ≡ true
+  within v r = has-Contains v (reachable sources names) (rests_within sources names r.1.1 (Contains-append_left names (all_parts sources) r.0 r.1.0))
 
   pub fuel : List (List ℕ) → List Step → ℕ
   fuel entered steps = cost sources entered (reachable sources names) + length steps
@@ -251,17 +252,17 @@ module _ (sources : Sources) (names : List (List ℕ)) where
 
   -- a new name is entered
   pub fuel_opens : (entered entered' : List (List ℕ)) (before steps steps' : List Step) (w : List ℕ) → before ≡ steps ++ Enter w ∷ [] → has_name (reachable sources names) w ≡ true → has_name entered w ≡ false
-      → ((q : List ℕ) → has_name entered' q ≡ (has_name entered q || same q w)) → steps' ≡ steps ++ Leave w ∷ enters (mentions_at sources w) → fuel entered' steps' < fuel entered before
+      → ((q : List ℕ) → has_name entered' q ≡ (has_name entered q || same q w)) → steps' ≡ steps ++ Leave w ∷ enters (parts_at sources w) → fuel entered' steps' < fuel entered before
   unfolding fuel
   fuel_opens entered entered' before steps steps' w is there new adds opened =
       let less = cost_less sources entered entered' (λ q h. adds q ∙ or_left (has_name entered q) _ h) w new (adds w ∙ or_right (has_name entered w) _ (same_self w)) (reachable sources names) there in
       let long = ap length is ∙ length-append steps (Enter w ∷ []) in
-      let long' = ap length opened ∙ length-append steps (Leave w ∷ enters (mentions_at sources w)) in
-      let mentioned = length-map (mentions_at sources w) (λ (n : List ℕ). Enter n) in
+      let long' = ap length opened ∙ length-append steps (Leave w ∷ enters (parts_at sources w)) in
+      let mentioned = length-map (parts_at sources w) (λ (n : List ℕ). Enter n) in
       omega (arith, less, long, long', mentioned)
 
   pub fuel_enter : (entered left order entered' : List (List ℕ)) (before steps steps' : List Step) (w : List ℕ) → before ≡ steps ++ Enter w ∷ [] → IsSearch sources names entered left order before → has_name entered w ≡ false
-      → ((q : List ℕ) → has_name entered' q ≡ (has_name entered q || same q w)) → steps' ≡ steps ++ Leave w ∷ enters (mentions_at sources w) → fuel entered' steps' < fuel entered before
+      → ((q : List ℕ) → has_name entered' q ≡ (has_name entered q || same q w)) → steps' ≡ steps ++ Leave w ∷ enters (parts_at sources w) → fuel entered' steps' < fuel entered before
   fuel_enter entered left order entered' before steps steps' w is s new adds opened =
       let at : IsSearch sources names entered left order (steps ++ Enter w ∷ []) = subst (λ (x : List Step). IsSearch sources names entered left order x) is s in
       fuel_opens entered entered' before steps steps' w is (within w (at.sound w (or_right (has_name order w) _ (there_last steps w)))) new adds opened
@@ -280,12 +281,12 @@ module _ (sources : Sources) (names entered left order : List (List ℕ)) (befor
   pub left_last : step ≡ Leave w → (left' : List (List ℕ)) → ((q : List ℕ) → has_name left' q ≡ (has_name left q || same q w)) → IsSearch sources names entered left' (order ++ w ∷ []) steps
   left_last is left' adds = IsSearch-leave sources names entered left order steps left' w (at_popped (Leave w) is) adds
 
-  pub found_loop : step ≡ Enter w → has_name left w ≡ false → has_name entered w ≡ true → SomeRestsOnRecursive sources names
+  pub found_loop : step ≡ Enter w → has_name left w ≡ false → has_name entered w ≡ true → SomePartRestsOnRecursive sources names
   found_loop is unleft old = found_again sources names entered left order steps w (at_popped (Enter w) is) unleft old
 
   -- a name is entered, its leaving is pushed, and then what it mentions
-  module _ (is : step ≡ Enter w) (unleft : has_name left w ≡ false) (new : has_name entered w ≡ false) (entered' mentioned : List (List ℕ)) (adds : (q : List ℕ) → has_name entered' q ≡ (has_name entered q || same q w)) (known : mentioned ≡ mentions_at sources w) (pushed steps' : List Step) (pushes : pushed ≡ steps ++ Leave w ∷ []) (more : steps' ≡ pushed ++ enters mentioned) where
-    pub opened : steps' ≡ steps ++ Leave w ∷ enters (mentions_at sources w)
+  module _ (is : step ≡ Enter w) (unleft : has_name left w ≡ false) (new : has_name entered w ≡ false) (entered' mentioned : List (List ℕ)) (adds : (q : List ℕ) → has_name entered' q ≡ (has_name entered q || same q w)) (known : mentioned ≡ parts_at sources w) (pushed steps' : List Step) (pushes : pushed ≡ steps ++ Leave w ∷ []) (more : steps' ≡ pushed ++ enters mentioned) where
+    pub opened : steps' ≡ steps ++ Leave w ∷ enters (parts_at sources w)
     opened = more ∙ ap (λ s. s ++ enters mentioned) pushes ∙ append_assoc steps (Leave w ∷ []) (enters mentioned) ∙ ap (λ n. steps ++ Leave w ∷ enters n) known
 
     pub entered_next : IsSearch sources names entered' left order steps'

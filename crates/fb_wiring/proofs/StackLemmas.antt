@@ -4,7 +4,7 @@ use Rattle.std.proofs.lemmas.Bool.{or_left, or_right}
 use Rattle.std.specs.List.{Contains}
 use Rattle.fb_tree.proofs.Text.Tests.{or_cases, or_assoc, or_false}
 use Rattle.fb_iface.proofs.Library.SeenLemmas.{same, same_is, same_self}
-use Rattle.fb_iface.specs.Library.View.{Sources, mentions_at}
+use Rattle.fb_iface.specs.Library.View.{Sources, parts_at}
 use Rattle.fb_iface.specs.Library.Seen.{has_name}
 use Rattle.fb_iface.proofs.Library.WalkLemmas.{Contains-has, has-Contains, has-push}
 use Rattle.fb_wiring.specs.Reaches.{Reaches, directly, onward}
@@ -14,7 +14,7 @@ use Rattle.fb_wiring.specs.declared.search.Step.TheVariants.{Enter, Leave}
 use Rattle.fb_wiring.proofs.NameLemmas.{or_none, or_none_left, or_none_right, or_under, same_swap}
 
 -- ---- reaching
-pub reaches_more : {sources : Sources} {u v w : List ℕ} → Reaches sources u v → Contains (mentions_at sources v) w → Reaches sources u w
+pub reaches_more : {sources : Sources} {u v w : List ℕ} → Reaches sources u v → Contains (parts_at sources v) w → Reaches sources u w
 reaches_more (directly m) n = onward m (directly n)
 reaches_more (onward m r) n = onward m (reaches_more r n)
 
@@ -59,7 +59,7 @@ module _ (sources : Sources) where
     pub reached : AllReach path v
     pub unlisted : has_name order v ≡ false
     pub once : on_path above v ≡ false
-    pub covered : (w : List ℕ) → Contains (mentions_at sources v) w → (has_name order w || has_step above w) ≡ true
+    pub covered : (w : List ℕ) → Contains (parts_at sources v) w → (has_name order w || has_step above w) ≡ true
 
   -- each name on the path reaches what stands above it
   abbrev pub Stands : List (List ℕ) → List (List ℕ) → List Step → Type 0
@@ -91,16 +91,16 @@ module _ (sources : Sources) where
   )
 
   -- a name is entered, and what it mentions stands above it
-  pub opens : (order path : List (List ℕ)) (steps : List Step) (w : List ℕ) → has_name order w ≡ false → on_path steps w ≡ false → Stands order path (steps ++ Enter w ∷ []) → Stands order path (steps ++ Leave w ∷ enters (mentions_at sources w))
+  pub opens : (order path : List (List ℕ)) (steps : List Step) (w : List ℕ) → has_name order w ≡ false → on_path steps w ≡ false → Stands order path (steps ++ Enter w ∷ []) → Stands order path (steps ++ Leave w ∷ enters (parts_at sources w))
   opens order path [] w unlisted off h = (
     record {
       reached = h.0;
       unlisted = unlisted;
-      once = on_path-enters (mentions_at sources w) w;
-      covered = λ q m. or_right (has_name order q) _ (has_step-enters (mentions_at sources w) q ∙ has-Contains q (mentions_at sources w) m);
+      once = on_path-enters (parts_at sources w) w;
+      covered = λ q m. or_right (has_name order q) _ (has_step-enters (parts_at sources w) q ∙ has-Contains q (parts_at sources w) m);
     },
-    enters_stand order (w ∷ path) (mentions_at sources w) (λ q there u on.
-        let mentioned : Contains (mentions_at sources w) q = Contains-has q (mentions_at sources w) there in
+    enters_stand order (w ∷ path) (parts_at sources w) (λ q there u on.
+        let mentioned : Contains (parts_at sources w) q = Contains-has q (parts_at sources w) there in
         or_cases (same u w) (has_name path u) on
         (λ s. subst (λ n. Reaches sources n q) (sym (same_is u w s)) (directly mentioned))
         (λ p. reaches_more (h.0 u p) mentioned)),
@@ -111,12 +111,12 @@ module _ (sources : Sources) where
         record {
           reached = h.0.reached;
           unlisted = h.0.unlisted;
-          once = on_path-append steps (Leave w ∷ enters (mentions_at sources w)) u
+          once = on_path-append steps (Leave w ∷ enters (parts_at sources w)) u
               ∙ or_none (on_path steps u) _ (or_none_left (on_path steps u) false (sym (on_path-append steps (Enter w ∷ []) u) ∙ h.0.once))
-              (or_none (same u w) _ other (on_path-enters (mentions_at sources w) u));
+              (or_none (same u w) _ other (on_path-enters (parts_at sources w) u));
           covered = λ q m. or_cases (has_name order q) (has_step (steps ++ Enter w ∷ []) q) (h.0.covered q m)
               (λ l. or_left (has_name order q) _ l)
-              (λ a. or_right (has_name order q) _ (has_step-append steps (Leave w ∷ enters (mentions_at sources w)) q
+              (λ a. or_right (has_name order q) _ (has_step-append steps (Leave w ∷ enters (parts_at sources w)) q
               ∙ or_cases (has_step steps q) (same q w || false) (sym (has_step-append steps (Enter w ∷ []) q) ∙ a)
               (λ b. or_left (has_step steps q) _ b)
               (λ s. or_right (has_step steps q) _ (or_left (same q w) _ (sym (or_false (same q w)) ∙ s)))));
@@ -150,7 +150,7 @@ module _ (sources : Sources) where
   unlisted_last order path (Enter u ∷ steps) v h = unlisted_last order path steps v h.1
   unlisted_last order path (Leave u ∷ steps) v h = unlisted_last order (u ∷ path) steps v h.1
 
-  pub ready_last : (order path : List (List ℕ)) (steps : List Step) (v : List ℕ) → Stands order path (steps ++ Leave v ∷ []) → (w : List ℕ) → Contains (mentions_at sources v) w → has_name order w ≡ true
+  pub ready_last : (order path : List (List ℕ)) (steps : List Step) (v : List ℕ) → Stands order path (steps ++ Leave v ∷ []) → (w : List ℕ) → Contains (parts_at sources v) w → has_name order w ≡ true
   ready_last order path [] v h w m = sym (or_false (has_name order w)) ∙ h.0.covered w m
   ready_last order path (Enter u ∷ steps) v h w m = ready_last order path steps v h.1 w m
   ready_last order path (Leave u ∷ steps) v h w m = ready_last order (u ∷ path) steps v h.1 w m

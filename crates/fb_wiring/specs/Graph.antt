@@ -7,7 +7,7 @@ use Rattle.std.specs.declared.vec.Vec.{Vec}
 use Rattle.std.specs.declared.alloc.Global.{Global}
 use Rattle.fb_tree.specs.Text.Order.{name_cmp}
 use Rattle.fb_iface.specs.Library.Seen.{has_name}
-use Rattle.fb_iface.specs.Library.View.{Sources, mentions_at}
+use Rattle.fb_iface.specs.Library.View.{Sources, parts_at}
 
 abbrev pub Edges : Type 0
 Edges = BTreeMap (List ℕ) (Vec (List ℕ) Global)
@@ -32,8 +32,8 @@ IsReverse forth back = (u v : List ℕ) → has_name (edges_at back v) u ≡ has
 -- the graph of all that some names rest on: these are among its names, and so is what those mention; its edges are the mentions, forth and back
 pub record IsGraph (sources : Sources) (begun names : List (List ℕ)) (forth back : Edges) : Type 0 where
   pub begins : (u : List ℕ) → has_name begun u ≡ true → has_name names u ≡ true
-  pub closed : (u v : List ℕ) → has_name names u ≡ true → has_name (mentions_at sources u) v ≡ true → has_name names v ≡ true
-  pub mentions : (u : List ℕ) → has_name names u ≡ true → edges_at forth u ≡ mentions_at sources u
+  pub closed : (u v : List ℕ) → has_name names u ≡ true → has_name (parts_at sources u) v ≡ true → has_name names v ≡ true
+  pub mentions : (u : List ℕ) → has_name names u ≡ true → edges_at forth u ≡ parts_at sources u
   pub outside : (u : List ℕ) → has_name names u ≡ false → edges_at forth u ≡ []
   pub reverse : IsReverse forth back
 

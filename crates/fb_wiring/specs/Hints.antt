@@ -18,10 +18,10 @@ abbrev pub flat_of_hint : Option PlainNet → Option PlainFlat
 flat_of_hint None = None
 flat_of_hint (Some net) = flat_of_net net
 
--- the net of a unit of which all that it rests on is present and without faults
+-- the net of a unit that is not blocked, and of which none of what it rests on reaches itself
 abbrev pub is_whole_net : PlainNet → Bool
 is_whole_net (blocked names) = false
-is_whole_net (recursive names) = true
+is_whole_net (recursive names) = false
 is_whole_net too_large = true
 is_whole_net (flat_net flat) = true
 
@@ -29,21 +29,10 @@ abbrev pub is_whole_hint : Option PlainNet → Bool
 is_whole_hint None = false
 is_whole_hint (Some net) = is_whole_net net
 
--- the net of a unit of which none of what it rests on reaches itself either
-abbrev pub is_sound_net : PlainNet → Bool
-is_sound_net (blocked names) = false
-is_sound_net (recursive names) = false
-is_sound_net too_large = true
-is_sound_net (flat_net flat) = true
-
-abbrev pub is_sound_hint : Option PlainNet → Bool
-is_sound_hint None = false
-is_sound_hint (Some net) = is_sound_net net
-
--- whether the text of the name has to be looked at for the unit: its kept net, if there is one, does not tell that it is sound, or the
+-- whether the text of the name has to be looked at for the unit: its kept net, if there is one, does not tell that it is whole, or the
 -- name is the unit
 abbrev pub is_left : (List ℕ → Option PlainNet) → List ℕ → List ℕ → Bool
-is_left hints unit name = is_at (name_cmp unit) name || not (is_sound_hint (hints name))
+is_left hints unit name = is_at (name_cmp unit) name || not (is_whole_hint (hints name))
 
 -- the texts that have to be looked at
 abbrev pub left_of : (List ℕ → Option PlainNet) → Sources → List ℕ → Sources

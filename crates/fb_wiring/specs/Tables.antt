@@ -20,7 +20,7 @@ use Rattle.fb_network.specs.SystemFlat.{IsSystemFlat}
 use Rattle.fb_network.specs.declared.application.FlatApplication.{FlatApplication}
 use Rattle.fb_wiring.specs.ByName.{declared, kind_at}
 use Rattle.fb_wiring.specs.declared.systems.Application.{Application}
-use Rattle.fb_wiring.specs.Hints.{flat_of_hint, is_sound_hint}
+use Rattle.fb_wiring.specs.Hints.{flat_of_hint, is_whole_hint}
 use Rattle.fb_wiring.specs.Net.{PlainNet}
 use Rattle.fb_wiring.specs.Units.{AreFlatApplications, Holds, IsFlatApplication}
 
@@ -120,7 +120,7 @@ is_subapplication_in (Some tree) = is_subapplication_tree tree
 -- whether the flat network of the name is to be composed for the unit: that of a subapplication below the unit whose kept net does not tell
 abbrev pub is_missing : Sources → (List ℕ → Option PlainNet) → List ℕ → List ℕ → Bool
 is_missing sources hints unit name =
-    not (is_at (name_cmp unit) name) && (not (is_sound_hint (hints name)) && is_subapplication_in (tree_at sources name))
+    not (is_at (name_cmp unit) name) && (not (is_whole_hint (hints name)) && is_subapplication_in (tree_at sources name))
 
 -- the network can be composed by the table: it has the adapters, the network is clean throughout, and its inner types are finished
 pub record IsComposable (table whole : View) (nets : Nets) (network : PlainNetwork) : Type 0 where

@@ -4,7 +4,7 @@ ghost use Rattle.std.specs.BTreeMap.{get};
 ghost use Rattle.fb_tree.specs.Text.Order.{name_cmp};
 ghost use Rattle.fb_wiring.specs.Tables.{IsAdded, IsComposed, SameOthers, is_missing, known_flats};
 
-use crate::hints::{Hints, KnownFlats, is_known_sound};
+use crate::hints::{Hints, KnownFlats, is_known_whole};
 use crate::kinds::is_subapplication;
 use crate::tables::Table;
 use fb_iface::library::View;
@@ -32,7 +32,7 @@ pub fn flat_of_type<N: Nets>(
 pub fn is_missing<V: View, H: Hints>(view: &V, hints: &H, unit: &Name, name: &Name) -> bool
     ensures { result ≡ is_missing (V.sources view.now) (H.hints hints.now) unit.now name.now }
 {
-    !same_name(unit, name) && !is_known_sound(hints, name) && is_subapplication(view, name)
+    !same_name(unit, name) && !is_known_whole(hints, name) && is_subapplication(view, name)
 }
 
 /// Adds the flat network of a type.

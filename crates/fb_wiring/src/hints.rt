@@ -3,7 +3,7 @@ ghost use Rattle.std.specs.Prelude.{◌≡◌, ℕ, Bool, false, List, Option, N
 ghost use Rattle.std.specs.BTreeMap.{get};
 ghost use Rattle.fb_tree.specs.Text.Order.{name_cmp};
 ghost use Rattle.fb_network.specs.Ready as ready;
-ghost use Rattle.fb_wiring.specs.Hints.{flat_of_hint, is_sound_hint, is_whole_hint};
+ghost use Rattle.fb_wiring.specs.Hints.{flat_of_hint, is_whole_hint};
 ghost use Rattle.fb_wiring.specs.Net.{PlainNet, plain_net};
 ghost use Rattle.fb_wiring.specs.Tables.{known_flats};
 
@@ -91,19 +91,9 @@ impl<H: Hints> Nets for KnownFlats<'_, H> {
     }
 }
 
-/// Whether the kept net of the unit tells that all that it rests on is present and without faults.
+/// Whether the kept net of the unit tells that it is not blocked, and that none of what it rests on reaches itself.
 pub fn is_known_whole<H: Hints>(hints: &H, name: &Name) -> bool
     ensures { result ≡ is_whole_hint (H.hints hints.now name.now) }
-{
-    match hints.net_of(name) {
-        Some(Net::Recursive(_) | Net::TooLarge | Net::Flat(_)) => true,
-        Some(Net::Blocked(_)) | None => false,
-    }
-}
-
-/// Whether the kept net of the unit tells that all that it rests on is present, without faults and does not reach itself.
-pub fn is_known_sound<H: Hints>(hints: &H, name: &Name) -> bool
-    ensures { result ≡ is_sound_hint (H.hints hints.now name.now) }
 {
     match hints.net_of(name) {
         Some(Net::TooLarge | Net::Flat(_)) => true,

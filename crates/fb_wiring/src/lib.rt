@@ -24,7 +24,7 @@ mod tables;
 pub use composed::flat_of_applications;
 pub use counts::{Counts, add_count, count_of_unit};
 pub use flats::{add_flat, flat_of_type, is_missing};
-pub use hints::{Hints, Known, KnownFlats, NetsAlone, NoHints, is_known_sound, is_known_whole};
+pub use hints::{Hints, Known, KnownFlats, NetsAlone, NoHints, is_known_whole};
 pub use holders::Holders;
 pub use kinds::{has_net, is_of_system, is_subapplication};
 pub use laws::networks_are_local;
@@ -33,7 +33,7 @@ pub use nets::Net;
 pub use networks::network;
 pub use order_laws::{ordered_is_not_recursive, recursion_is_local};
 pub use rest::Rest;
-pub use search::inner_first;
+pub use search::{all_inner_first, inner_first};
 pub use systems::{Application, applications};
 pub use tables::{Table, networks_of};
 
@@ -51,6 +51,7 @@ pub mod parse {
 pub mod library {
     pub use fb_iface::library::{
         Change, Library, View, far, names_of, near, open_new, part_mentions, tree_by_name,
+        value_mentions,
     };
 }
 

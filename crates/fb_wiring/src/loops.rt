@@ -7,7 +7,7 @@ ghost use Rattle.fb_wiring.specs.Reaches.{IsRecursive, RecursivePart};
 
 use crate::cycles::cycles;
 use crate::graph::explore;
-use crate::search::search;
+use crate::search::all_inner_first;
 use fb_iface::library::View;
 use fb_tree::text::Name;
 use std::alloc::{AllocError, Global};
@@ -29,7 +29,7 @@ pub fn recursive<V: View>(alloc: Global, view: &V, names: &[Name]) -> Result<Vec
 fn recursive_part<V: View>(alloc: Global, view: &V, names: &[Name]) -> Result<Vec<Name>, AllocError>
     ensures { IfOk result (λ found. RecursivePart (V.sources view.now) names.now found.items) }
 {
-    let order = search(alloc, view, names)?;
+    let order = all_inner_first(alloc, view, names)?;
     if order.is_some() {
         return Ok(Vec::new(alloc));
     }

@@ -4,13 +4,13 @@ ghost use Rattle.std.specs.Option.{option_map};
 ghost use Rattle.std.specs.FinMap as map;
 ghost use Rattle.fb_wiring.specs.Hints.{is_left, left_of};
 
-use crate::hints::{Hints, is_known_sound};
+use crate::hints::{Hints, is_known_whole};
 use fb_iface::library::View;
 use fb_iface::parse::Source;
 use fb_tree::text::{Name, same_name};
 
-/// The sources that have to be looked at for the net of a unit: none of other units whose kept nets tell that all that they rest on is
-/// present, without faults and does not reach itself.
+/// The sources that have to be looked at for the net of a unit: none of other units whose kept nets tell that they are not blocked
+/// and that none of what they rest on reaches itself.
 #[derive(Clone, Copy)]
 pub struct Rest<'a, V, H> {
     pub view: &'a V,
@@ -21,7 +21,7 @@ pub struct Rest<'a, V, H> {
 fn is_left<H: Hints>(hints: &H, unit: &Name, name: &Name) -> bool
     ensures { result ≡ is_left (H.hints hints.now) unit.now name.now }
 {
-    same_name(unit, name) || !is_known_sound(hints, name)
+    same_name(unit, name) || !is_known_whole(hints, name)
 }
 
 /// The source of a name that has to be looked at.

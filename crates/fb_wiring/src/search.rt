@@ -1,8 +1,8 @@
 //! The search that lists inner types first.
 ghost use Rattle.std.specs.Prelude.{◌≡◌, ℕ, List, [], ◌∷◌, ◌++◌, Contains, ◌↔◌, IsNone, IfSome, IfOk, OnOk};
-ghost use Rattle.fb_iface.specs.Library.Rests.{Rests};
+ghost use Rattle.fb_iface.specs.Library.Rests.{PartRests};
 ghost use Rattle.fb_wiring.specs.Order.{IsOrdered};
-ghost use Rattle.fb_wiring.specs.Reaches.{RestsOnRecursive, SomeRests, SomeRestsOnRecursive};
+ghost use Rattle.fb_wiring.specs.Reaches.{PartRestsOnRecursive, SomePartRests, SomePartRestsOnRecursive};
 ghost use Rattle.fb_wiring.specs.Steps.{enters};
 
 use fb_iface::library::{View, part_mentions};
@@ -10,14 +10,14 @@ use fb_tree::text::Name;
 use std::alloc::{AllocError, Global};
 use std::collections::BTreeSet;
 
-/// A step of the search. A name is left when all that it mentions is listed.
+/// A step of the search. A name is left when all its parts are listed.
 #[derive(Clone, Copy)]
 pub(crate) enum Step {
     Enter(Name),
     Leave(Name),
 }
 
-/// All names that the unit rests on, each after those that it mentions. None where one of them reaches itself.
+/// All names that the unit rests on by parts, itself included, each after its own parts. None where one of them reaches itself.
 pub fn inner_first<V: View>(
     alloc: Global,
     view: &V,
@@ -26,15 +26,15 @@ pub fn inner_first<V: View>(
     ensures ordered { IfOk result
         (λ found. IfSome found (λ order. IsOrdered (V.sources view.now) order.items)) }
     ensures whole { IfOk result (λ found. IfSome found
-        (λ order. (v : List ℕ) → Contains order.items v ↔ Rests (V.sources view.now) unit v)) }
+        (λ order. (v : List ℕ) → Contains order.items v ↔ PartRests (V.sources view.now) unit v)) }
     ensures recursive { IfOk result
-        (λ found. IsNone found ↔ RestsOnRecursive (V.sources view.now) unit) }
+        (λ found. IsNone found ↔ PartRestsOnRecursive (V.sources view.now) unit) }
 {
-    search(alloc, view, &[unit])
+    all_inner_first(alloc, view, &[unit])
 }
 
-/// All names that some of these rest on, each after those that it mentions. None where one of them reaches itself.
-pub(crate) fn search<V: View>(
+/// All names that some of these rest on by parts, each after its own parts. None where one of them reaches itself.
+pub fn all_inner_first<V: View>(
     alloc: Global,
     view: &V,
     names: &[Name],
@@ -43,9 +43,9 @@ pub(crate) fn search<V: View>(
         (λ found. IfSome found (λ order. IsOrdered (V.sources view.now) order.items)) }
     ensures whole { IfOk result (λ found. IfSome found
         (λ order. (v : List ℕ) → Contains order.items v
-        ↔ SomeRests (V.sources view.now) names.now v)) }
+        ↔ SomePartRests (V.sources view.now) names.now v)) }
     ensures recursive { IfOk result
-        (λ found. IsNone found ↔ SomeRestsOnRecursive (V.sources view.now) names.now) }
+        (λ found. IsNone found ↔ SomePartRestsOnRecursive (V.sources view.now) names.now) }
 {
     let mut entered = BTreeSet::new(alloc);
     let mut left = BTreeSet::new(alloc);

@@ -1,20 +1,25 @@
 -- The names that block, then those that reach themselves, then an order of all.
 use Rattle.std.proofs.Common.{◌≡◌, true, false, List, [], ℕ, sym, ◌∙◌, ap, subst, is_some}
 use Rattle.std.proofs.lemmas.List.Elements.{All-nil, All-same}
-use Rattle.std.specs.Prelude.{Contains, ◌↔◌, filter, Some}
+use Rattle.std.specs.Prelude.{Contains, ◌↔◌, ◌⊎◌, filter, Some, None}
+use Rattle.std.specs.FinMap.{get}
+use Rattle.fb_wiring.specs.Library.Seen.{has_name}
 use Rattle.std.specs.List.Sorted.{IsStrictlySortedBy}
 use Rattle.fb_wiring.specs.Text.Order.{name_cmp}
-use Rattle.fb_wiring.specs.Reaches.{IsRecursive}
+use Rattle.fb_wiring.specs.Reaches.{IsRecursive, PartRestsOnRecursive, SomePartRestsOnRecursive}
 use Rattle.fb_wiring.specs.declared.nets.Net.{Net}
 use Rattle.fb_wiring.proofs.FoundUnits.{if_ok}
 use Rattle.fb_flatten.specs.Blocking.{AreThose, IsBlocking, is_blocking, is_some_name}
+use Rattle.fb_flatten.specs.Suspects.{AreFinite, is_part_beyond}
+use Rattle.fb_flatten.specs.Hints.{left_of}
 use Rattle.fb_flatten.specs.Inner.{IsInnerNet}
 use Rattle.fb_flatten.specs.Net.{plain_net}
 use Rattle.fb_flatten.specs.Nets.{net_at}
 use Rattle.fb_flatten.specs.Tables.{IsUnitOrder}
 use Rattle.fb_flatten.proofs.ComputedNets.{has_by_text, net_at_is}
-use Rattle.fb_flatten.proofs.NetLemmas.{blocking_those, none_of_not, recursive_those, some_not_none, some_recursive}
-use Rattle.fb_flatten.proofs.RestLemmas.{recursive_within, unit_order}
+use Rattle.fb_flatten.proofs.NetLemmas.{none_of_not, recursive_those, some_not_none, some_recursive}
+use Rattle.fb_flatten.proofs.RestLemmas.{recursive_within, sound_of_finite, unit_order}
+use Rattle.fb_flatten.proofs.SuspectLemmas.{blocking_found, present_of_net}
 use Rattle.fb_flatten.proofs.computing.compute.Goals as goal
 
 pub returns-then-has_some : goal.returns-then-has_some
@@ -24,12 +29,17 @@ returns-then-has_some g c =
     let names = c.in_ok-suspects.suspects.items in
     let found = c.in_ok-found.found.items in
     let known = c.in_ok-suspects.ensures in
-    let is : found ≡ filter (is_blocking sources) names = c.in_ok-found.ensures ∙ ap (filter (is_blocking sources)) c.as_slice.ensures.value in
-    let some : is_some_name found ≡ true = ap is_some_name (sym c.as_slice-2.ensures.value) ∙ sym c.has_some.ensures ∙ c.if-has_some.true in
+    let is_part = has_name c.in_ok-parts.parts.keys in
+    let same_names : c.as_slice-2.result.now ≡ names = c.as_slice-2.ensures.value in
+    let is : found ≡ filter (is_blocking sources is_part) names = c.in_ok-found.ensures ∙ ap (filter (is_blocking sources is_part)) same_names in
+    let told : (v : List ℕ) → Contains names v → get sources v ≡ None → is_part v ≡ is_part_beyond (g.K.Hints.hints c.args.known.now) sources names v =
+    subst (λ (l : List (List ℕ)). (v : List ℕ) → Contains l v → get sources v ≡ None → is_part v ≡ is_part_beyond (g.K.Hints.hints c.args.known.now) sources l v) c.as_slice.ensures.value c.in_ok-parts.ensures in
+    let those = blocking_found (g.K.Hints.hints c.args.known.now) sources unit names found is_part known told is in
+    let some : is_some_name found ≡ true = ap is_some_name (sym c.as_slice-3.ensures.value) ∙ sym c.has_some.ensures ∙ c.if-has_some.true in
     record {
       net =
           subst (λ (n : Net). net_at sources unit ≡ Some (plain_net n)) (sym c.alone.ensures.net)
-          ((net_at_is sources unit _).1 ((has_by_text sources unit).0 c.requires.net, (blocking_those names found known.sorted known.sound known.complete is, some_not_none found some)));
+          ((net_at_is sources unit _).1 ((has_by_text sources unit).0 c.requires.net, (those, some_not_none found some)));
       inner = All-same (IsInnerNet sources unit) c.alone.result.inner.items [] c.alone.ensures.inner (All-nil (IsInnerNet sources unit));
     }
 
@@ -40,15 +50,20 @@ returns-in-None g c =
     let names = c.in_ok-suspects.suspects.items in
     let found = c.in_ok-found.found.items in
     let known = c.in_ok-suspects.ensures in
-    let is : found ≡ filter (is_blocking sources) names = c.in_ok-found.ensures ∙ ap (filter (is_blocking sources)) c.as_slice.ensures.value in
-    let none : is_some_name found ≡ false = ap is_some_name (sym c.as_slice-2.ensures.value) ∙ sym c.has_some.ensures ∙ c.if-has_some.false in
-    let whole : AreThose sources unit (IsBlocking sources) [] =
-    subst (λ (l : List (List ℕ)). AreThose sources unit (IsBlocking sources) l) (none_of_not found none) (blocking_those names found known.sorted known.sound known.complete is) in
+    let is_part = has_name c.in_ok-parts.parts.keys in
+    let same_names : c.as_slice-2.result.now ≡ names = c.as_slice-2.ensures.value in
+    let is : found ≡ filter (is_blocking sources is_part) names = c.in_ok-found.ensures ∙ ap (filter (is_blocking sources is_part)) same_names in
+    let told : (v : List ℕ) → Contains names v → get sources v ≡ None → is_part v ≡ is_part_beyond (g.K.Hints.hints c.args.known.now) sources names v =
+    subst (λ (l : List (List ℕ)). (v : List ℕ) → Contains l v → get sources v ≡ None → is_part v ≡ is_part_beyond (g.K.Hints.hints c.args.known.now) sources l v) c.as_slice.ensures.value c.in_ok-parts.ensures in
+    let those = blocking_found (g.K.Hints.hints c.args.known.now) sources unit names found is_part known told is in
+    let none : is_some_name found ≡ false = ap is_some_name (sym c.as_slice-3.ensures.value) ∙ sym c.has_some.ensures ∙ c.if-has_some.false in
+    let whole : AreThose sources unit (IsBlocking sources unit) [] =
+    subst (λ (l : List (List ℕ)). AreThose sources unit (IsBlocking sources unit) l) (none_of_not found none) those in
     let all = c.in_ok-names-in-None.names.items in
     let far = c.in_ok-names-in-None.ensures in
     let back = c.in_ok-back-in-None.back.items in
     let same = c.as_slice-in-None.ensures.value in
-    let those : AreThose sources unit (IsRecursive sources) back =
+    let loops : AreThose sources unit (IsRecursive sources) back =
     recursive_those all back far.sound far.complete
     (c.in_ok-back-in-None.ensures.sorted (subst (λ (l : List (List ℕ)). IsStrictlySortedBy name_cmp l) (sym same) far.ordered))
     (λ v. subst (λ (l : List (List ℕ)). Contains back v ↔ (Contains l v × IsRecursive sources v)) same (c.in_ok-back-in-None.ensures.members v)) in
@@ -56,7 +71,7 @@ returns-in-None g c =
       net =
           subst (λ (n : Net). net_at sources unit ≡ Some (plain_net n)) (sym c.alone-in-None.ensures.net)
           ((net_at_is sources unit _).1
-          ((has_by_text sources unit).0 c.requires.net, (whole, those, some_recursive back those (recursive_within (g.K.Hints.hints c.args.known.now) sources unit (c.in_ok-inner_first.ensures.recursive.0 (ap is_some c.in-None.is))))));
+          ((has_by_text sources unit).0 c.requires.net, (whole, loops, some_recursive back loops (recursive_within (g.K.Hints.hints c.args.known.now) sources unit names known.sound (subst (λ (l : List (List ℕ)). SomePartRestsOnRecursive (left_of (g.K.Hints.hints c.args.known.now) sources unit) l ⊎ PartRestsOnRecursive (left_of (g.K.Hints.hints c.args.known.now) sources unit) unit) c.as_slice-4.ensures.value (c.in_ok-order_of.ensures.recursive (ap is_some c.in-None.is)))))));
       inner = All-same (IsInnerNet sources unit) c.alone-in-None.result.inner.items [] c.alone-in-None.ensures.inner (All-nil (IsInnerNet sources unit));
     }
 
@@ -66,16 +81,24 @@ compute_in_order-requires-clause-net g c = (has_by_text (g.V.View.sources c.args
 pub compute_in_order-requires-clause-order : goal.compute_in_order-requires-clause-order
 compute_in_order-requires-clause-order g c =
     let sources = g.V.View.sources c.args.view.now in
+    let unit = c.args.unit in
     let names = c.in_ok-suspects.suspects.items in
     let found = c.in_ok-found.found.items in
     let known = c.in_ok-suspects.ensures in
-    let is : found ≡ filter (is_blocking sources) names = c.in_ok-found.ensures ∙ ap (filter (is_blocking sources)) c.as_slice.ensures.value in
-    let none : is_some_name found ≡ false = ap is_some_name (sym c.as_slice-2.ensures.value) ∙ sym c.has_some.ensures ∙ c.if-has_some.false in
-    let whole : AreThose sources c.args.unit (IsBlocking sources) [] =
-    subst (λ (l : List (List ℕ)). AreThose sources c.args.unit (IsBlocking sources) l) (none_of_not found none) (blocking_those names found known.sorted known.sound known.complete is) in
+    let is_part = has_name c.in_ok-parts.parts.keys in
+    let same_names : c.as_slice-2.result.now ≡ names = c.as_slice-2.ensures.value in
+    let is : found ≡ filter (is_blocking sources is_part) names = c.in_ok-found.ensures ∙ ap (filter (is_blocking sources is_part)) same_names in
+    let told : (v : List ℕ) → Contains names v → get sources v ≡ None → is_part v ≡ is_part_beyond (g.K.Hints.hints c.args.known.now) sources names v =
+    subst (λ (l : List (List ℕ)). (v : List ℕ) → Contains l v → get sources v ≡ None → is_part v ≡ is_part_beyond (g.K.Hints.hints c.args.known.now) sources l v) c.as_slice.ensures.value c.in_ok-parts.ensures in
+    let those = blocking_found (g.K.Hints.hints c.args.known.now) sources unit names found is_part known told is in
+    let none : is_some_name found ≡ false = ap is_some_name (sym c.as_slice-3.ensures.value) ∙ sym c.has_some.ensures ∙ c.if-has_some.false in
+    let whole : AreThose sources unit (IsBlocking sources unit) [] =
+    subst (λ (l : List (List ℕ)). AreThose sources unit (IsBlocking sources unit) l) (none_of_not found none) those in
     let hints = g.K.Hints.hints c.args.known.now in
-    subst (λ (l : List (List ℕ)). IsUnitOrder sources hints c.args.unit l) (sym c.as_slice-in-Some.ensures.value)
-    (unit_order hints sources c.args.unit c.requires.right c.in-Some.order.items whole (rw c.in-Some.is at c.in_ok-inner_first.ensures.ordered) (rw c.in-Some.is at c.in_ok-inner_first.ensures.whole))
+    let finite : AreFinite (left_of hints sources unit) names = subst (AreFinite (left_of hints sources unit)) c.as_slice-4.ensures.value (rw c.in-Some.is at c.in_ok-order_of.ensures.finite) in
+    let sound = sound_of_finite hints sources unit c.requires.right names (present_of_net sources unit c.requires.net) whole known.recursive finite in
+    subst (λ (l : List (List ℕ)). IsUnitOrder sources hints unit l) (sym c.as_slice-in-Some.ensures.value)
+    (unit_order hints sources unit c.requires.right c.in-Some.order.items sound (rw c.in-Some.is at c.in_ok-order_of.ensures.ordered) (rw c.in-Some.is at c.in_ok-order_of.ensures.whole))
 
 pub returns : goal.returns
 returns g c =

@@ -3,14 +3,15 @@ use Rattle.std.proofs.Common.{◌≡◌, ℕ, true, false, List, Option, Some, N
 use Rattle.std.proofs.lemmas.Result.{IfOk-weaker}
 use Rattle.std.specs.Prelude.{Contains}
 use Rattle.fb_wiring.specs.Holders.{holders_of, is_holder}
-use Rattle.fb_wiring.specs.Library.Rests.{Rests, itself, through}
+use Rattle.fb_wiring.specs.Library.Rests.{PartRests, on_itself, through_part}
 use Rattle.fb_wiring.specs.Library.View.{Sources}
 use Rattle.fb_wiring.specs.Order.{IsOrdered}
 use Rattle.fb_wiring.specs.Reaches.{Reaches}
 use Rattle.fb_wiring.proofs.LeftLemmas.{get_holder}
+use Rattle.fb_wiring.proofs.Library.Locality.{parts_rest}
 use Rattle.fb_wiring.proofs.Text.Members.{contains_nothing}
 use Rattle.fb_flatten.proofs.ComputedNets.{has_by_text}
-use Rattle.fb_flatten.proofs.CountLemmas.{holder_mention}
+use Rattle.fb_flatten.proofs.CountLemmas.{holder_part}
 use Rattle.fb_flatten.proofs.KeptLemmas.{reaches_within, rests_within}
 use Rattle.fb_flatten.proofs.SoundLemmas.{sound_below}
 use Rattle.fb_flatten.proofs.counts.counts_below.Goals as goal
@@ -21,7 +22,7 @@ some_of (Some x) h = refl
 
 -- what rests on what among units with instances that count does so among all
 module _ (sources : Sources) where
-  within : {u v : List ℕ} → Rests (holders_of sources) u v → Rests sources u v
+  within : {u v : List ℕ} → PartRests (holders_of sources) u v → PartRests sources u v
   within r = rests_within sources (holders_of sources) (is_holder sources) (get_holder sources) r
 
   round : {u v : List ℕ} → Reaches (holders_of sources) u v → Reaches sources u v
@@ -33,7 +34,7 @@ unwrap-order-requires g c =
     some_of c.in_ok-inner_first.field-0
     (λ none.
     let r = c.in_ok-inner_first.ensures.recursive.0 none in
-    contains_nothing r.0 ((c.requires.sound.finite.members r.0).1 (within sources r.1.0, round sources r.1.1)))
+    contains_nothing r.0 ((c.requires.sound.finite.members r.0).1 (parts_rest sources (within sources r.1.0), round sources r.1.1)))
 
 pub counts_in_order-requires : goal.counts_in_order-requires
 counts_in_order-requires g c =
@@ -55,7 +56,7 @@ returns g c =
           IfOk-weaker c.counts_in_order.result _ _
           (λ counts all w m kind.
           all w
-          (subst (λ (l : List (List ℕ)). Contains l w) (sym c.as_slice.ensures.value) ((whole w).1 (through (holder_mention sources unit w holds m) itself))) kind)
+          (subst (λ (l : List (List ℕ)). Contains l w) (sym c.as_slice.ensures.value) ((whole w).1 (through_part (holder_part sources unit w holds m) on_itself))) kind)
           c.counts_in_order.ensures.all;
       right = c.counts_in_order.ensures.right;
     }

@@ -5,7 +5,7 @@ use Rattle.std.specs.List.Sorted.{IsStrictlySortedBy}
 use Rattle.fb_wiring.specs.Text.Order.{name_cmp}
 use Rattle.fb_wiring.specs.Library.Seen.{has_name}
 use Rattle.fb_wiring.proofs.Library.WalkLemmas.{begun, one_pushed, no_items, Contains-has, has-Contains}
-use Rattle.fb_flatten.proofs.SuspectLemmas.{IsSearch, IsSearch-begin, IsSearch-step, all_seen, search_falls}
+use Rattle.fb_flatten.proofs.SuspectLemmas.{IsSearch, IsSearch-begin, IsSearch-step, all_seen, part_seen, recursive_seen, search_falls}
 use Rattle.fb_flatten.proofs.suspects.suspects.Goals as goal
 
 pub loop-name-init : goal.loop-name-init
@@ -40,5 +40,7 @@ returns g c =
       sorted = subst (λ (l : List (List ℕ)). IsStrictlySortedBy name_cmp l) (sym is) c.names_of.ensures.ordered;
       sound = λ v there. walk.sound v (ap (λ l. has_name l v) (sym is) ∙ has-Contains v names.items there);
       complete = λ v rests blocks. Contains-has v names.items (ap (λ l. has_name l v) is ∙ all_seen hints sources unit c.requires seen walk v rests blocks);
+      recursive = λ v rests back. Contains-has v names.items (ap (λ l. has_name l v) is ∙ recursive_seen hints sources unit c.requires seen walk v rests back);
+      holders = λ v absent below. part_seen hints sources unit c.requires seen walk names.items is v absent below;
     })
     c.names_of.ensures.items

@@ -1,8 +1,7 @@
 -- What a search keeps, and how it ends.
 use Rattle.std.proofs.Common.{◌+◌, length}
 use Rattle.fb_wiring.specs.Library.Seen.{unseen}
-use Rattle.fb_wiring.proofs.Library.WalkLemmas.{all_mentions}
-use Rattle.fb_flatten.proofs.SuspectLemmas.{IsSearch}
+use Rattle.fb_flatten.proofs.SuspectLemmas.{IsSearch, all_mentions}
 use Rattle.fb_flatten.proofs.suspects.suspects.Given as goal
 
 abbrev pub invariant-loop-name : goal.invariant-loop-name

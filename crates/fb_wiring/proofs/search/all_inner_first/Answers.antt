@@ -3,7 +3,7 @@ use Rattle.std.proofs.lemmas.Bool.{false≢true}
 use Rattle.fb_iface.proofs.Library.WalkLemmas.{has-updates, not_true, not_false}
 use Rattle.fb_wiring.specs.declared.search.Step.{Step}
 use Rattle.fb_wiring.proofs.SearchLemmas.{IsSearch, IsSearch-begin, fuel_pop, skipped, left_last, found_loop, entered_next, entered_falls, whole_at_end, none_at_end, no_steps}
-use Rattle.fb_wiring.proofs.search.search.Goals as goal
+use Rattle.fb_wiring.proofs.search.all_inner_first.Goals as goal
 
 pub loop-step-init : goal.loop-step-init
 loop-step-init g c =

@@ -1,5 +1,5 @@
 use Rattle.fb_wiring.proofs.SearchLemmas.{IsSearch, fuel}
-use Rattle.fb_wiring.proofs.search.search.Given as goal
+use Rattle.fb_wiring.proofs.search.all_inner_first.Given as goal
 
 abbrev pub invariant-loop-step : goal.invariant-loop-step
 invariant-loop-step g l = IsSearch (g.V.View.sources l.view) l.names l.entered.keys l.left.keys l.order.items l.steps.items

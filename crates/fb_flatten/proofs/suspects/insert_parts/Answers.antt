@@ -1,0 +1,11 @@
+-- What is known to be whole has no part beyond.
+use Rattle.std.proofs.Common.{◌≡◌, ◌||◌, List, [], ℕ, if◌then◌else◌, sym, ap, subst, ◌∙◌}
+use Rattle.fb_wiring.proofs.Text.Tests.{or_false}
+use Rattle.fb_wiring.specs.Library.Seen.{has_name}
+use Rattle.fb_wiring.specs.Library.View.{parts_at}
+use Rattle.fb_flatten.proofs.suspects.insert_parts.Goals as goal
+
+pub returns-then-is_known_whole : goal.returns-then-is_known_whole
+returns-then-is_known_whole g c =
+    λ v. sym (or_false (has_name c.args.parts.now.keys v))
+    ∙ sym (ap (λ b. has_name c.args.parts.now.keys v || has_name (if b then [] else parts_at (g.V.View.sources c.args.view.now) c.args.name.now) v) (sym c.is_known_whole.ensures ∙ c.if-is_known_whole.true))
