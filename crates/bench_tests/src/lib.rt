@@ -19,6 +19,8 @@ mod refusals;
 #[cfg(test)]
 mod streams;
 #[cfg(test)]
+mod structures;
+#[cfg(test)]
 mod talk;
 #[cfg(test)]
 mod units;

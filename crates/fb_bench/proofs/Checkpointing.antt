@@ -5,7 +5,7 @@ use Rattle.std.specs.BTreeSet as set
 use Rattle.fb_entries.specs.Library.Texts.{Texts}
 use Rattle.fb_entries.specs.Jobs.declared.key.Key.{Key}
 use Rattle.fb_entries.specs.declared.entry.Entry.{Entry}
-use Rattle.fb_entries.specs.Index.Near.{Users}
+use Rattle.fb_entries.specs.Index.Indexed.{Indexed}
 use Rattle.fb_history.specs.Checkpoints.{checkpointed, restarted}
 use Rattle.fb_history.specs.Limits.{Bounds}
 use Rattle.fb_history.specs.Machine.{State, keys_of}
@@ -19,7 +19,7 @@ pub restarted_is : (limits : Bounds) (story : Story) (units : Texts) (commits : 
 restarted_is limits story units commits pending out units_are commits_are pending_are out_are =
     λ i. restarted limits (units_are i) (commits_are i) (pending_are i) (out_are i) story
 
-pub kept_checkpointed : (units : Texts) (commits : ℕ) (entries : tree.BTreeMap Key Entry) (ready : set.BTreeSet Key) (index : Users) (limits : Bounds) (story : Story) → IsKept units commits entries ready index story → IsKept units commits entries ready index (checkpointed limits story)
+pub kept_checkpointed : (units : Texts) (commits : ℕ) (entries : tree.BTreeMap Key Entry) (ready : set.BTreeSet Key) (index : Indexed) (limits : Bounds) (story : Story) → IsKept units commits entries ready index story → IsKept units commits entries ready index (checkpointed limits story)
 unfolding replies
 kept_checkpointed units commits entries ready index limits story kept =
     let s : State = state_of story in

@@ -12,7 +12,7 @@ use Rattle.fb_entries.specs.Jobs.KeyOrder.{key_cmp}
 use Rattle.fb_entries.specs.declared.entry.Entry.{Entry}
 use Rattle.fb_history.specs.Story.{Story, empty_origin, new_story, opened, replay, replies}
 use Rattle.fb_bench.specs.Kept.{Agrees, IsKept, EntryFits}
-use Rattle.fb_entries.specs.Index.Near.{Users}
+use Rattle.fb_entries.specs.Index.Indexed.{Indexed, nothing_indexed}
 use Rattle.fb_entries.proofs.Indexing.{indexed_none}
 use Rattle.fb_entries.proofs.Jobs.KindLemmas.{no_kind}
 use Rattle.fb_history.proofs.AfterCalls.{begins_empty}
@@ -29,11 +29,11 @@ agrees_empty most entries ready no_entries no_keys = record {
   ready_are = λ key. ap (λ ks. list_any (is_at (key_cmp key)) ks) no_keys;
 }
 
-kept_start : (most limit : ℕ) (entries : tree.BTreeMap Key Entry) (ready : set.BTreeSet Key) (index : Users) → entries.entries ≡ [] → ready.keys ≡ [] → index ≡ [] → IsKept [] 0 entries ready index (new_story most limit)
+kept_start : (most limit : ℕ) (entries : tree.BTreeMap Key Entry) (ready : set.BTreeSet Key) (index : Indexed) → entries.entries ≡ [] → ready.keys ≡ [] → index ≡ nothing_indexed → IsKept [] 0 entries ready index (new_story most limit)
 unfolding replay replies
 kept_start most limit entries ready index no_entries no_keys empty = record { begins = begins_empty most; agrees = agrees_empty most entries ready no_entries no_keys; replayed = refl; indexed = indexed_none [] index refl empty; few = omega arith }
 
-pub kept_empty : (most limit : ℕ) (units : Texts) (entries : tree.BTreeMap Key Entry) (ready : set.BTreeSet Key) (index : Users) (story : Story) → units ≡ [] → entries.entries ≡ [] → ready.keys ≡ [] → index ≡ [] → story ≡ new_story most limit → IsKept units 0 entries ready index story
+pub kept_empty : (most limit : ℕ) (units : Texts) (entries : tree.BTreeMap Key Entry) (ready : set.BTreeSet Key) (index : Indexed) (story : Story) → units ≡ [] → entries.entries ≡ [] → ready.keys ≡ [] → index ≡ nothing_indexed → story ≡ new_story most limit → IsKept units 0 entries ready index story
 kept_empty most limit units entries ready index story no_units no_entries no_keys empty is =
     subst (λ st. IsKept units 0 entries ready index st) (sym is)
     (subst (λ us. IsKept us 0 entries ready index (new_story most limit)) (sym no_units)

@@ -14,7 +14,7 @@ use Rattle.fb_history.specs.Machine.{State, is_ready}
 use Rattle.fb_history.specs.Story.{Story, IsOrigin, last_number, state_of, IsReplay}
 use Rattle.fb_entries.specs.declared.entries.Entries.{Entries}
 use Rattle.fb_entries.specs.declared.entry.Entry.{Entry}
-use Rattle.fb_entries.specs.Index.Near.{Users}
+use Rattle.fb_entries.specs.Index.Indexed.{Indexed}
 use Rattle.fb_entries.specs.Indexed.{IsIndexOf}
 
 -- a kept value is the key's value from scratch
@@ -36,7 +36,7 @@ pub record Agrees (units : Texts) (commits : ℕ) (entries : tree.BTreeMap Key E
   pub ready_are : (key : Key) → set.contains key_cmp ready key ≡ is_ready state key
 
 -- and so does the history: each stored answer is the machine's. The index is that of the texts
-pub record IsKept (units : Texts) (commits : ℕ) (entries : tree.BTreeMap Key Entry) (ready : set.BTreeSet Key) (index : Users) (story : Story) : Type 0 where
+pub record IsKept (units : Texts) (commits : ℕ) (entries : tree.BTreeMap Key Entry) (ready : set.BTreeSet Key) (index : Indexed) (story : Story) : Type 0 where
   pub begins : IsOrigin story.origin
   pub agrees : Agrees units commits entries ready (state_of story)
   pub replayed : IsReplay story
@@ -44,5 +44,5 @@ pub record IsKept (units : Texts) (commits : ℕ) (entries : tree.BTreeMap Key E
   pub few : commits ≤ last_number story
 
 -- the same of all that is kept of the keys
-abbrev pub KeepsAll : Texts → ℕ → Entries → Users → Story → Type 0
+abbrev pub KeepsAll : Texts → ℕ → Entries → Indexed → Story → Type 0
 KeepsAll units commits it index story = IsKept units commits it.by_key it.ready index story

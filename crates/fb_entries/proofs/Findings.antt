@@ -13,7 +13,7 @@ use Rattle.fb_jobs.specs.Kinds.{all_keys}
 use Rattle.fb_jobs.specs.Reach.{reaches}
 use Rattle.fb_entries.specs.Marking.{is_of}
 use Rattle.fb_entries.specs.Renew.{is_own, is_renewed, IsRenewal, HasRoom, IsTakenBack}
-use Rattle.fb_index.specs.Near.{Users}
+use Rattle.fb_index.specs.Indexed.{Indexed}
 use Rattle.fb_entries.specs.Indexed.{IsIndexOf, IsReached}
 use Rattle.fb_jobs.proofs.Members.{of_filtered}
 use Rattle.fb_entries.proofs.Reached.{reached_by}
@@ -28,7 +28,7 @@ and_found true true r same = same refl
 and_found false true r same = same refl
 and_found a false r same = and_false a
 
-module _ (U : Texts) (index : Users) (names : List (List ℕ)) (old_entries : tree.BTreeMap Key Entry) (old_ready : set.BTreeSet Key) (it : Renewal) (own present reached : List Key) where
+module _ (U : Texts) (index : Indexed) (names : List (List ℕ)) (old_entries : tree.BTreeMap Key Entry) (old_ready : set.BTreeSet Key) (it : Renewal) (own present reached : List Key) where
   pub found : IsIndexOf U index → own ≡ all_keys names → present ≡ filter (has_key U) own → it.fresh.items ≡ filter (λ k. is_none (tree.get key_cmp old_entries k)) present → it.gone.items ≡ filter (λ k. not (has_key U k)) own → ((q : Key) → (is_of q reached ≡ true) ↔ IsReached index names q.kind q.unit) → it.renewed.items ≡ filter (has_key U) reached → it.unready.items ≡ filter (λ k. not (set.contains key_cmp old_ready k)) it.renewed.items → IsRenewal U names old_entries old_ready it
   found indexed own_is present_is fresh_is gone_is reached_is renewed_is unready_is =
       let owns : (q : Key) → is_of q own ≡ is_own names q = λ q. ap (λ ks. is_of q ks) own_is in

@@ -5,29 +5,21 @@ use Rattle.std.specs.BTreeMap.{is_at}
 use Rattle.std.specs.Option.{option_and_then}
 use Rattle.fb_text.proofs.Tests.{by_bool, or_cases, or_false, no_both}
 use Rattle.fb_text.specs.Order.{name_cmp}
-use Rattle.fb_text.proofs.OrderLemmas.{has-in_order}
-use Rattle.fb_index.specs.Near.{Users, is_near, IsIndexedAs, IsReplaced}
+use Rattle.fb_tree.specs.Mentions.{Mentioned, nothing_mentioned}
+use Rattle.fb_index.specs.Indexed.{Indexed, is_indexed, nothing_indexed, IsIndexedAs, IsReplaced}
 use Rattle.fb_index.proofs.Lookups.{flips}
-use Rattle.fb_index.proofs.Library.Names.{name_total}
+use Rattle.fb_index.proofs.Replacing.{indexed_none as nothing_known, still_indexed}
 use Rattle.fb_index.proofs.Library.SeenLemmas.{or_left, or_right, same_is, same_self, has-push}
 use Rattle.fb_index.specs.Library.Texts.{Texts, sources_of, text_at}
-use Rattle.fb_index.specs.Library.View.{Sources, tree_of, mentions_in, mentions_at, near_of}
+use Rattle.fb_index.specs.Library.View.{tree_of, mentions_of_tree, mentioned_at}
 use Rattle.fb_index.proofs.Library.Sources.{get_source}
 use Rattle.fb_jobs.specs.Reads.{is_among}
 use Rattle.fb_entries.specs.Indexed.{IsIndexOf}
 use Rattle.fb_jobs.specs.Reach.{AgreeApartFrom}
 use Rattle.fb_entries.proofs.Again.{repeated_after}
 
--- ---- near names
-
-pub near_names : (sources : Sources) (unit n : List ℕ) → is_among n (near_of sources unit) ≡ (is_among n (mentions_at sources unit) || is_at (name_cmp n) unit)
-near_names sources unit n = has-in_order name_cmp name_total (mentions_at sources unit ++ unit ∷ []) n ∙ has-push (mentions_at sources unit) unit n
-
-pub near_apart : (sources : Sources) (unit n : List ℕ) → is_at (name_cmp unit) n ≡ false → is_among n (near_of sources unit) ≡ is_among n (mentions_at sources unit)
-near_apart sources unit n apart = near_names sources unit n ∙ ap (λ b. is_among n (mentions_at sources unit) || b) (flips n unit ∙ apart) ∙ or_false (is_among n (mentions_at sources unit))
-
-same_mentions : (a b : Texts) (unit : List ℕ) → text_at a unit ≡ text_at b unit → mentions_at (sources_of a) unit ≡ mentions_at (sources_of b) unit
-same_mentions a b unit same = ap (λ o. mentions_in (option_and_then tree_of o)) (get_source a unit ∙ same ∙ sym (get_source b unit))
+same_mentioned : (a b : Texts) (unit : List ℕ) → text_at a unit ≡ text_at b unit → mentioned_at (sources_of a) unit ≡ mentioned_at (sources_of b) unit
+same_mentioned a b unit same = ap (λ o. mentions_of_tree (option_and_then tree_of o)) (get_source a unit ∙ same ∙ sym (get_source b unit))
 
 -- ---- one unit after the other
 
@@ -37,12 +29,12 @@ or_parts false b e = (refl, e)
 
 module _ (before after : Texts) where
   -- these units are indexed as after the commit, and the others as before it
-  pub record IsReindexed (units : List (List ℕ)) (old new : Users) : Type 0 where
-    pub changed : (unit : List ℕ) → is_among unit units ≡ true → IsIndexedAs new unit (mentions_at (sources_of after) unit)
-    pub kept : (unit : List ℕ) → is_among unit units ≡ false → IsIndexedAs new unit (mentions_at (sources_of before) unit)
-    pub own : (unit : List ℕ) → is_near new unit unit ≡ (is_among unit units || is_near old unit unit)
+  pub record IsReindexed (units : List (List ℕ)) (old new : Indexed) : Type 0 where
+    pub changed : (unit : List ℕ) → is_among unit units ≡ true → IsIndexedAs new unit (mentioned_at (sources_of after) unit)
+    pub kept : (unit : List ℕ) → is_among unit units ≡ false → IsIndexedAs new unit (mentioned_at (sources_of before) unit)
+    pub own : (unit : List ℕ) → is_indexed new unit ≡ (is_among unit units || is_indexed old unit)
 
-  pub reindexed_none : (old new : Users) → IsIndexOf before old → new ≡ old → IsReindexed [] old new
+  pub reindexed_none : (old new : Indexed) → IsIndexOf before old → new ≡ old → IsReindexed [] old new
   reindexed_none old new index same =
       subst (λ us. IsReindexed [] old us) (sym same) (record {
         changed = λ unit among. absurd (false≢true among);
@@ -50,26 +42,25 @@ module _ (before after : Texts) where
         own = λ unit. refl;
       })
 
-  pub known_here : (front : List (List ℕ)) (x : List ℕ) (old made : Users) (names : List (List ℕ)) → IsReindexed front old made → is_among x front ≡ false → names ≡ near_of (sources_of before) x → IsIndexedAs made x names
-  known_here front x old made names so_far none is name apart =
-      so_far.kept x none name apart ∙ sym (near_apart (sources_of before) x name apart) ∙ ap (is_among name) (sym is)
+  pub known_here : (front : List (List ℕ)) (x : List ℕ) (old made : Indexed) (m : Mentioned) → IsReindexed front old made → is_among x front ≡ false → m ≡ mentioned_at (sources_of before) x → IsIndexedAs made x m
+  known_here front x old made m so_far none is = subst (IsIndexedAs made x) (sym is) (so_far.kept x none)
 
-  module _ (front now : List (List ℕ)) (x : List ℕ) (old made new : Users) (names : List (List ℕ)) where
-    pub reindexed_more : now ≡ front ++ x ∷ [] → is_among x front ≡ false → IsReindexed front old made → names ≡ near_of (sources_of after) x → IsReplaced made x names new → IsReindexed now old new
-    reindexed_more is none so_far names_is it = record {
+  module _ (front now : List (List ℕ)) (x : List ℕ) (old made new : Indexed) (m : Mentioned) where
+    pub reindexed_more : now ≡ front ++ x ∷ [] → is_among x front ≡ false → IsReindexed front old made → m ≡ mentioned_at (sources_of after) x → IsReplaced made x m new → IsReindexed now old new
+    reindexed_more is none so_far m_is it = record {
       changed = λ unit among. or_cases (is_among unit front) (is_at (name_cmp unit) x) (sym (now_has unit) ∙ among)
-          (λ l name away. it.others unit name (apart unit l) ∙ so_far.changed unit l name away)
-          (λ r. subst (λ u. IsIndexedAs new u (mentions_at (sources_of after) u)) (sym (same_is unit x r)) here);
+          (λ l. still_indexed (it.others unit (apart unit l)) (so_far.changed unit l))
+          (λ r. subst (λ u. IsIndexedAs new u (mentioned_at (sources_of after) u)) (sym (same_is unit x r)) (subst (IsIndexedAs new x) m_is it.own));
       kept = λ unit left.
           let parts = or_parts (is_among unit front) (is_at (name_cmp unit) x) (sym (now_has unit) ∙ left) in
-          λ name away. it.others unit name (flips x unit ∙ parts.1) ∙ so_far.kept unit parts.0 name away;
+          still_indexed (it.others unit (flips x unit ∙ parts.1)) (so_far.kept unit parts.0);
       own = λ unit. by_bool (is_at (name_cmp unit) x)
           (λ r.
-          subst (λ u. is_near new u u ≡ true) (sym (same_is unit x r)) (it.own x ∙ or_left (is_at (name_cmp x) x) _ (same_self x))
+          subst (λ u. is_indexed new u ≡ true) (sym (same_is unit x r)) it.there
           ∙ sym (or_left (is_among unit now) _ (now_has unit ∙ or_right (is_among unit front) _ r)))
           (λ f.
-          it.others unit unit (flips x unit ∙ f) ∙ so_far.own unit
-          ∙ ap (λ b. b || is_near old unit unit) (sym (now_has unit ∙ ap (λ b. is_among unit front || b) f ∙ or_false (is_among unit front))));
+          ap is_some (it.others unit (flips x unit ∙ f)).mark ∙ so_far.own unit
+          ∙ ap (λ b. b || is_indexed old unit) (sym (now_has unit ∙ ap (λ b. is_among unit front || b) f ∙ or_false (is_among unit front))));
     }
       where
         now_has : (unit : List ℕ) → is_among unit now ≡ (is_among unit front || is_at (name_cmp unit) x)
@@ -78,14 +69,11 @@ module _ (before after : Texts) where
         apart : (unit : List ℕ) → is_among unit front ≡ true → is_at (name_cmp x) unit ≡ false
         apart unit among = by_bool (is_at (name_cmp x) unit) (λ t. no_both (is_among x front) (ap (λ u. is_among u front) (same_is x unit t) ∙ among) none) (λ f. f)
 
-        here : IsIndexedAs new x (mentions_at (sources_of after) x)
-        here name away = it.own name ∙ ap (λ b. b || is_among name names) away ∙ ap (is_among name) names_is ∙ near_apart (sources_of after) x name away
-
-  pub indexed_after : (units : List (List ℕ)) (old new : Users) → IsIndexOf before old → AgreeApartFrom units before after → IsReindexed units old new → IsIndexOf after new
+  pub indexed_after : (units : List (List ℕ)) (old new : Indexed) → IsIndexOf before old → AgreeApartFrom units before after → IsReindexed units old new → IsIndexOf after new
   indexed_after units old new index others it = record {
     mentions = λ unit. by_bool (is_among unit units)
         (it.changed unit)
-        (λ f. subst (IsIndexedAs new unit) (same_mentions before after unit (others unit f)) (it.kept unit f));
+        (λ f. subst (IsIndexedAs new unit) (same_mentioned before after unit (others unit f)) (it.kept unit f));
     units = λ unit there.
         it.own unit
         ∙ by_bool (is_among unit units)
@@ -95,11 +83,11 @@ module _ (before after : Texts) where
 
 -- ---- no texts
 
-pub indexed_none : (texts : Texts) (index : Users) → texts ≡ [] → index ≡ [] → IsIndexOf texts index
+pub indexed_none : (texts : Texts) (index : Indexed) → texts ≡ [] → index ≡ nothing_indexed → IsIndexOf texts index
 indexed_none texts index none empty =
     subst (λ us. IsIndexOf texts us) (sym empty)
-    (subst (λ us. IsIndexOf us []) (sym none) (record {
-      mentions = λ unit name apart. sym (ap (is_among name) (ap (λ o. mentions_in (option_and_then tree_of o)) (get_source [] unit)));
+    (subst (λ us. IsIndexOf us nothing_indexed) (sym none) (record {
+      mentions = λ unit. subst (IsIndexedAs nothing_indexed unit) (sym (ap (λ o. mentions_of_tree (option_and_then tree_of o)) (get_source [] unit))) (nothing_known unit);
       units = λ unit there. absurd (false≢true there);
     }))
 

@@ -2,13 +2,17 @@
 ghost use Rattle.std.specs.Prelude.{◌≡◌, ◌↔◌, true, None, IfOk};
 ghost use Rattle.fb_jobs.specs.declared.key.Key.{Key};
 ghost use Rattle.fb_jobs.specs.Reach.{first_repeated, AgreeApartFrom};
+ghost use Rattle.fb_index.specs.Library.Texts.{sources_of};
+ghost use Rattle.fb_index.specs.Library.View.{mentioned_at};
+ghost use Rattle.fb_tree.specs.Mentions.{mentioned, nothing_mentioned};
 ghost use Rattle.fb_entries.specs.Indexed.{IsIndexOf, IsReached};
 ghost use Rattle.fb_entries.specs.Marking.{is_of};
 
 use fb_index::Index;
-use fb_index::library::{Library, near};
+use fb_index::library::{Library, mentions_by_name};
 use fb_jobs::{Key, keys_near_and_far};
 use fb_text::Name;
+use fb_tree::Mentions;
 use std::alloc::{AllocError, Global};
 
 /// The index of the library after, which has other texts than the one before under these names alone.
@@ -25,16 +29,32 @@ pub(crate) fn reindexed(
     ensures { IfOk result (IsIndexOf after.now) }
 {
     let mut index = index.copy()?;
+    let none = Mentions {
+        parts: Vec::new(alloc),
+        of_values: Vec::new(alloc),
+        is_structure: false,
+    };
     for unit in units {
-        let old = near(alloc, before, *unit)?;
-        let new = near(alloc, after, *unit)?;
-        index.replace(alloc, *unit, &old, &new)?;
+        let old = mentions_or(before, unit, &none);
+        let new = mentions_or(after, unit, &none);
+        index.replace(alloc, *unit, old, new)?;
     }
     Ok(index)
 }
 
-/// The keys whose values one of the changed names decides: those of what the name is far of for the kinds that need all that a
-/// unit rests on, those of what it is near for the others.
+/// What the unit mentions; nothing where it is absent.
+fn mentions_or<'a>(library: &'a Library, unit: &Name, none: &'a Mentions) -> &'a Mentions
+    requires nothing { mentioned none.now ≡ nothing_mentioned }
+    ensures { mentioned result.now ≡ mentioned_at (sources_of library.now) unit.now }
+{
+    match mentions_by_name(library, unit) {
+        Some(mentions) => mentions,
+        None => none,
+    }
+}
+
+/// The keys whose values one of the changed names decides: those of the units that rest on it for the kinds that need all that a
+/// unit rests on, those of the units that it is near for the others.
 pub(crate) fn reached_keys(
     alloc: Global,
     index: &Index,

@@ -12,7 +12,8 @@ use Rattle.std.proofs.lemmas.Cmp.{tied_itself}
 use Rattle.std.proofs.lemmas.List.Folds.{list_any-append}
 use Rattle.fb_text.proofs.Tests.{and_false}
 use Rattle.fb_text.specs.Order.{name_cmp}
-use Rattle.fb_deploy.specs.Library.View.{Sources, near_of}
+use Rattle.fb_deploy.specs.Library.View.{Sources}
+use Rattle.fb_deploy.specs.Library.Near.{near_of}
 use Rattle.fb_deploy.specs.Flatten.Far.{far_of}
 use Rattle.fb_jobs.specs.declared.key.Kind.{Kind}
 use Rattle.fb_jobs.specs.declared.key.Kind.TheVariants.{Faults, Net, Deploy}

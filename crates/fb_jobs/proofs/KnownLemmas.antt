@@ -17,13 +17,15 @@ use Rattle.fb_text.specs.Order.{name_cmp}
 use Rattle.fb_text.proofs.OrderLemmas.{in_order-members}
 use Rattle.fb_text.proofs.Members.{contains_nothing, contains_cases, contains_here}
 use Rattle.fb_deploy.specs.Library.Texts.{Texts, sources_of, text_at}
-use Rattle.fb_deploy.specs.Library.View.{Sources, near_of, mentions_at}
-use Rattle.fb_deploy.specs.Library.Rests.{Rests, itself, through}
+use Rattle.fb_deploy.specs.Library.View.{Sources}
+use Rattle.fb_deploy.specs.Library.Near.{near_of}
+use Rattle.fb_deploy.proofs.Library.Locality.{near_far, rests_both}
+use Rattle.fb_deploy.specs.Library.Rests.{Rests}
 use Rattle.fb_deploy.proofs.Library.Sources.{get_source}
 use Rattle.fb_deploy.proofs.Library.WalkLemmas.{has-Contains, Contains-has}
 use Rattle.fb_deploy.specs.Faults.Faults.{faults_of}
 use Rattle.fb_deploy.specs.Iface.declared.fault.Fault.{Fault}
-use Rattle.fb_deploy.specs.Flatten.Blocking.{is_blocking, is_some_fault}
+use Rattle.fb_deploy.specs.Flatten.Blocking.{is_absent_or_faulty, is_some_fault}
 use Rattle.fb_deploy.specs.Flatten.Far.{far_of}
 use Rattle.fb_deploy.specs.Flatten.Hints.{AreFaultless, AreRightHints}
 use Rattle.fb_deploy.specs.Flatten.Net.{PlainNet, plain_net}
@@ -47,7 +49,7 @@ use Rattle.fb_jobs.specs.Values.{all_seen, finding_of}
 use Rattle.fb_jobs.specs.Work.{IsOwnIn}
 use Rattle.fb_jobs.proofs.SameNeeds.{has_key_local, scratch_local, same_at, at_itself, unit_needed}
 use Rattle.fb_jobs.proofs.Currents.{agree_for, names_under}
-use Rattle.fb_jobs.proofs.HintLemmas.{chosen_hints, hints_stay, net_stays, rests_on}
+use Rattle.fb_jobs.proofs.HintLemmas.{chosen_hints, hints_stay, net_stays}
 
 -- ---- nets by the names of their units
 
@@ -127,25 +129,15 @@ own_in T unit own is value there = is value there
 
 -- ---- units without faults
 
-near_far : (sources : Sources) (unit v : List ℕ) → Rests sources unit v → (n : List ℕ) → Contains (near_of sources v) n → Rests sources unit n
-near_far sources unit v r n c =
-    let listed = (in_order-members name_cmp nat_list_cmp_total (slice_cmp-IsAntisymmetric nat_cmp-IsAntisymmetric) (mentions_at sources v ++ v ∷ []) n).0 c in
-    by_case (Contains-append_cases (mentions_at sources v) (v ∷ []) n listed)
-  where
-    by_last : (v ≡ n) ⊎ Contains [] n → Rests sources unit n
-    by_last (inl e) = subst (λ (w : List ℕ). Rests sources unit w) e r
-    by_last (inr d) = absurd (contains_nothing n d)
-
-    by_case : Contains (mentions_at sources v) n ⊎ Contains (v ∷ []) n → Rests sources unit n
-    by_case (inl m) = rests_on r (through m itself)
-    by_case (inr d) = by_last (contains_cases v [] n d)
+near_below : (sources : Sources) (unit v : List ℕ) → Rests sources unit v → (n : List ℕ) → Contains (near_of sources v) n → Rests sources unit n
+near_below sources unit v r n c = rests_both r (near_far sources v n c)
 
 near_within : (kind : Kind) (sources : Sources) (unit name n : List ℕ) → needs_all kind ≡ true → is_among name (needs_of kind sources unit) ≡ true → is_among n (near_of sources name) ≡ true → is_among n (needs_of kind sources unit) ≡ true
 near_within kind.Faults sources unit name n far first second = cc
 near_within kind.Net sources unit name n far first second =
-    has-Contains n (far_of sources unit) (((far_is_all sources unit).1 n).1 (near_far sources unit name (((far_is_all sources unit).1 name).0 (Contains-has name (far_of sources unit) first)) n (Contains-has n (near_of sources name) second)))
+    has-Contains n (far_of sources unit) (((far_is_all sources unit).1 n).1 (near_below sources unit name (((far_is_all sources unit).1 name).0 (Contains-has name (far_of sources unit) first)) n (Contains-has n (near_of sources name) second)))
 near_within kind.Deploy sources unit name n far first second =
-    has-Contains n (far_of sources unit) (((far_is_all sources unit).1 n).1 (near_far sources unit name (((far_is_all sources unit).1 name).0 (Contains-has name (far_of sources unit) first)) n (Contains-has n (near_of sources name) second)))
+    has-Contains n (far_of sources unit) (((far_is_all sources unit).1 n).1 (near_below sources unit name (((far_is_all sources unit).1 name).0 (Contains-has name (far_of sources unit) first)) n (Contains-has n (near_of sources name) second)))
 
 faults_needed : (T : Texts) (key : Key) (name n : List ℕ) → needs_all key.kind ≡ true → is_among name (needs T key) ≡ true → is_among n (needs T (faults_key name)) ≡ true → is_among n (needs T key) ≡ true
 unfolding needs
@@ -201,7 +193,7 @@ pub adds_unit : (T : Texts) (kept : Key → Option Finding) (name : List ℕ) (o
 adds_unit T kept name old new there none now other has =
     put_unit T kept name other (set.contains name_cmp old other) (set.contains name_cmp new other) (is_at (name_cmp name) other) refl (now other) there none has
 
-unblocked : (T : Texts) (name : List ℕ) → IsThere T name → scratch T (faults_key name) ≡ FaultsFound [] → is_blocking (sources_of T) name ≡ false
+unblocked : (T : Texts) (name : List ℕ) → IsThere T name → scratch T (faults_key name) ≡ FaultsFound [] → is_absent_or_faulty (sources_of T) name ≡ false
 unfolding has_key scratch
 unblocked T name there none =
     by (get (sources_of T) name) (sym (get_source T name)) (faults_of (sources_of T) name) none

@@ -8,7 +8,9 @@ use Rattle.std.proofs.lemmas.Cmp.{tied_itself}
 use Rattle.fb_text.specs.Order.{name_cmp}
 use Rattle.fb_text.proofs.OrderLemmas.{in_order-sorted, is_equal}
 use Rattle.fb_deploy.specs.Library.Texts.{Texts, sources_of}
-use Rattle.fb_deploy.specs.Library.View.{Sources, near_of, mentions_at}
+use Rattle.fb_deploy.specs.Library.View.{Sources}
+use Rattle.fb_deploy.specs.Library.Near.{near_of}
+use Rattle.fb_deploy.proofs.Library.CarriedLemmas.{near_is_all}
 use Rattle.fb_deploy.specs.Library.Local as local
 use Rattle.fb_deploy.proofs.Library.Names.{name_total, exact_name}
 use Rattle.fb_deploy.proofs.Library.Sources.{get_source}
@@ -74,7 +76,7 @@ unfolding needs scratch
 scratch_local T T' k agree = same_scratch T T' k.kind k.unit agree
 
 needs_of_rise : (kind : Kind) (sources : Sources) (u : List ℕ) → IsStrictlySortedBy name_cmp (needs_of kind sources u)
-needs_of_rise Faults sources u = in_order-sorted name_cmp name_total (mentions_at sources u ++ u ∷ [])
+needs_of_rise Faults sources u = (near_is_all sources u).0
 needs_of_rise Net sources u = (far_is_all sources u).0
 needs_of_rise Deploy sources u = (far_is_all sources u).0
 

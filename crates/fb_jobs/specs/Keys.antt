@@ -2,7 +2,8 @@
 use Rattle.std.specs.Prelude.{ℕ, Bool, List, Option, Some, None, is_some}
 use Rattle.std.specs.Option.{option_and_then}
 use Rattle.fb_deploy.specs.Library.Texts.{Texts, text_at, sources_of}
-use Rattle.fb_deploy.specs.Library.View.{Sources, near_of, tree_of}
+use Rattle.fb_deploy.specs.Library.View.{Sources, tree_of}
+use Rattle.fb_deploy.specs.Library.Near.{near_of}
 use Rattle.fb_deploy.specs.Iface.declared.fault.Fault.{Fault}
 use Rattle.fb_deploy.specs.Faults.Faults.{faults_of}
 use Rattle.fb_deploy.specs.Flatten.Net.{PlainNet}

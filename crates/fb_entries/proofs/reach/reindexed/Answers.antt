@@ -1,6 +1,7 @@
 -- One more unit is indexed as after the commit.
 use Rattle.std.proofs.Common.{◌≡◌, ◌+◌, ◌++◌, ◌∷◌, [], None, ap, sym, subst, ◌∙◌, arith, take, drop}
 use Rattle.std.proofs.lemmas.Grind.{common_steps}
+use Rattle.fb_tree.specs.Mentions.{mentioned}
 use Rattle.fb_entries.proofs.Again.{repeated_after, again}
 use Rattle.fb_entries.proofs.Indexing.{IsReindexed, reindexed_none, reindexed_more, known_here, indexed_after, not_again, none_again}
 use Rattle.fb_entries.proofs.reach.reindexed.Goals as goal
@@ -18,7 +19,7 @@ replace-requires c =
     let x = c.unit-item.result in
     let rest : drop i units ≡ x ∷ drop (i + 1) units = grind (arith, common_steps) in
     let once : repeated_after (take i units) (x ∷ drop (i + 1) units) ≡ None = ap (repeated_after (take i units)) (sym rest) ∙ c.loop-unit.invariant.0 in
-    record { known = known_here c.args.before.now c.args.after.now (take i units) x c.args.index.now c.loop-unit.index c.deref.result.now c.loop-unit.invariant.1 (not_again (take i units) (drop (i + 1) units) x once) (c.deref.ensures.value ∙ c.in_ok-old.ensures) }
+    record { known = known_here c.args.before.now c.args.after.now (take i units) x c.args.index.now c.loop-unit.index (mentioned c.mentions_or-old.result.now) c.loop-unit.invariant.1 (not_again (take i units) (drop (i + 1) units) x once) c.mentions_or-old.ensures }
 
 pub loop-unit-preserved : goal.loop-unit-preserved
 loop-unit-preserved c =
@@ -29,7 +30,7 @@ loop-unit-preserved c =
     let rest : drop i units ≡ x ∷ drop (i + 1) units = grind (arith, common_steps) in
     let once : repeated_after (take i units) (x ∷ drop (i + 1) units) ≡ None = ap (repeated_after (take i units)) (sym rest) ∙ c.loop-unit.invariant.0 in (
       ap (λ us. repeated_after us (drop (i + 1) units)) more ∙ none_again (take i units) (drop (i + 1) units) x once,
-      reindexed_more c.args.before.now c.args.after.now (take i units) (take (i + 1) units) x c.args.index.now c.loop-unit.index c.replace.new.self c.deref-in-loop-unit.result.now more (not_again (take i units) (drop (i + 1) units) x once) c.loop-unit.invariant.1 (c.deref-in-loop-unit.ensures.value ∙ c.in_ok-new.ensures) c.in_ok-replace.ensures.ok,
+      reindexed_more c.args.before.now c.args.after.now (take i units) (take (i + 1) units) x c.args.index.now c.loop-unit.index c.replace.new.self (mentioned c.mentions_or-new.result.now) more (not_again (take i units) (drop (i + 1) units) x once) c.loop-unit.invariant.1 c.mentions_or-new.ensures c.in_ok-replace.ensures.ok,
     )
 
 pub returns : goal.returns
