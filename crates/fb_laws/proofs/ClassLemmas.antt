@@ -1,26 +1,30 @@
 -- The class of each expression, by the function of the check.
-use Rattle.std.proofs.Common.{◌≡◌, ◌≢◌, Option, Some, None, unwrap_or, refl, sym, ap, ◌∙◌, subst}
-use Rattle.fb_tree.specs.Expression.{ReferenceTree, Expression, literal_expression, reference_expression, unary_expression, row_expression, parentheses, Expressions, no_expressions, expression_then, Operands, no_operands, operand_then}
-use Rattle.fb_tree.specs.Tree.{TypeTree}
+use Rattle.std.proofs.Common.{◌≡◌, ◌≢◌, ℕ, Bool, true, false, true≢false, List, Option, Some, None, unwrap_or, refl, sym, ap, ◌∙◌, subst}
+use Rattle.fb_tree.specs.Expression.{ReferenceTree, Expression, literal_expression, reference_expression, unary_expression, row_expression, parentheses, Expressions, Operands, no_operands, operand_then}
+use Rattle.fb_tree.specs.Tree.{TypeTree, block_type}
 use Rattle.fb_tree.specs.declared.expression.BinaryUse.{BinaryUse}
 use Rattle.fb_tree.specs.declared.expression.UnaryUse.{UnaryUse}
 use Rattle.fb_tree.specs.declared.interface.TypeForm.{TypeForm}
 use Rattle.fb_tree.specs.declared.interface.TypeForm.TheVariants.{Plain, Sized, Array}
 use Rattle.fb_tree.specs.declared.interface.TypeUse.{TypeUse}
-use Rattle.fb_deploy.specs.Library.View.{Sources}
-use Rattle.fb_deploy.specs.Iface.Scope.{Scope, scope_of_type}
+use Rattle.fb_deploy.specs.Library.View.{Sources, tree_at}
 use Rattle.fb_deploy.specs.Iface.declared.classes.Class.{Class}
 use Rattle.fb_deploy.specs.Iface.declared.classes.Class.TheVariants.{O, Free}
 use Rattle.fb_expr.specs.Classes.{change, pair_class, unary_class}
 use Rattle.fb_expr.specs.Expressions.{class_in, row_class}
+use Rattle.fb_expr.specs.Names.{Names, names_of_type}
 use Rattle.fb_expr.specs.References.{class_of_element, class_of_referent, class_with, referent_of}
 use Rattle.fb_expr.specs.declared.references.Referent.{Referent}
-use Rattle.fb_expr.specs.declared.references.Referent.TheVariants.{Variable, Unjudged, Unknown}
+use Rattle.fb_expr.specs.declared.references.Referent.TheVariants.{Variable, Unjudged, Unknown, NoMember}
 use Rattle.fb_laws.specs.Classes.{Changes, HasClass, of_literal, of_variable, of_element, of_no_array, of_no_variable, of_operator, of_broken, of_row, of_parentheses, RowHasClass, at_end, behind, IsPairIn, first_pair, later_pair}
-use Rattle.fb_laws.specs.Variables.{IsOfVariable}
+use Rattle.fb_laws.specs.Variables.{NamesType}
 use Rattle.fb_laws.proofs.ExpressionLemmas.{IsPairOf, first_pair as first_of, later_pair as later_of}
-use Rattle.fb_laws.proofs.ReferentLemmas.{Stands, as_variable, as_unjudged, as_unknown, stands, told_reference}
+use Rattle.fb_laws.proofs.ReferentLemmas.{names_type, told_type_of}
 use Rattle.fb_laws.proofs.RuleLemmas.{Known, gives, fails, changes, no_change, none_change, results, told_change, told_results}
+
+abbrev is_variable : Referent → Bool
+is_variable (Variable used subscripted) = true
+is_variable other = false
 
 plain_differs : Plain ≢ Array
 plain_differs e = let no : ⊥ = cc in no
@@ -33,35 +37,30 @@ no_array used Plain other = refl
 no_array used Sized other = refl
 no_array used Array other = absurd (other refl)
 
-module _ (sources : Sources) (d : TypeTree) where
-  abbrev scope : Scope
-  scope = scope_of_type sources d
+module _ (sources : Sources) (unit : List ℕ) (d : TypeTree) (declared : tree_at sources unit ≡ Some (block_type d)) where
+  abbrev names : Names
+  names = names_of_type sources unit d
 
-  of_subscripts : (r : ReferenceTree) (used : TypeUse) (subscripts : Expressions) → IsOfVariable sources d r used → HasClass sources d (reference_expression r subscripts) (class_with used subscripts)
-  of_subscripts r used no_expressions n = of_variable used n
-  of_subscripts r used (expression_then e others) n = by_form used.form refl
+  of_type : (r : ReferenceTree) (subscripts : Expressions) (used : TypeUse) (subscripted : Bool) → NamesType sources d r used subscripted → HasClass sources d (reference_expression r subscripts) (class_with used subscripted)
+  of_type r subscripts used false n = of_variable used n
+  of_type r subscripts used true n = by_form used.form refl
     where
-      by_form : (form : TypeForm) → used.form ≡ form → HasClass sources d (reference_expression r (expression_then e others)) (class_of_element form used.name.name)
+      by_form : (form : TypeForm) → used.form ≡ form → HasClass sources d (reference_expression r subscripts) (class_of_element form used.name.name)
       by_form Plain is = of_no_array used n (λ array. plain_differs (sym is ∙ array))
       by_form Sized is = of_no_array used n (λ array. sized_differs (sym is ∙ array))
       by_form Array is = of_element used n is
 
-  names_nothing : (r : ReferenceTree) (t : Referent) → referent_of scope r ≡ t → (used : TypeUse) → (t ≡ Variable used → ⊥) → ¬ IsOfVariable sources d r used
-  names_nothing r t is used other n = other (sym is ∙ told_reference sources d r used n)
+  names_nothing : (r : ReferenceTree) (t : Referent) → referent_of names r ≡ t → is_variable t ≡ false → (used : TypeUse) (subscripted : Bool) → ¬ NamesType sources d r used subscripted
+  names_nothing r t is other used subscripted n = true≢false (ap is_variable (sym (told_type_of sources unit d declared r used subscripted n) ∙ is) ∙ other)
 
-  unjudged_differs : (used : TypeUse) → Unjudged ≡ Variable used → ⊥
-  unjudged_differs used e = let no : ⊥ = cc in no
-
-  unknown_differs : (used : TypeUse) → Unknown ≡ Variable used → ⊥
-  unknown_differs used e = let no : ⊥ = cc in no
-
-  of_reference : (r : ReferenceTree) (subscripts : Expressions) → HasClass sources d (reference_expression r subscripts) (class_of_referent (referent_of scope r) subscripts)
-  of_reference r subscripts = by_referent (referent_of scope r) refl (stands sources d r)
+  of_reference : (r : ReferenceTree) (subscripts : Expressions) → HasClass sources d (reference_expression r subscripts) (class_of_referent (referent_of names r))
+  of_reference r subscripts = by_referent (referent_of names r) refl
     where
-      by_referent : (t : Referent) → referent_of scope r ≡ t → Stands sources d r t → HasClass sources d (reference_expression r subscripts) (class_of_referent t subscripts)
-      by_referent (Variable used) is (as_variable n) = of_subscripts r used subscripts n
-      by_referent Unjudged is as_unjudged = of_no_variable (λ used. names_nothing r Unjudged is used (unjudged_differs used))
-      by_referent Unknown is as_unknown = of_no_variable (λ used. names_nothing r Unknown is used (unknown_differs used))
+      by_referent : (t : Referent) → referent_of names r ≡ t → HasClass sources d (reference_expression r subscripts) (class_of_referent t)
+      by_referent (Variable used subscripted) is = of_type r subscripts used subscripted (names_type sources unit d declared r used subscripted is)
+      by_referent Unjudged is = of_no_variable (names_nothing r Unjudged is refl)
+      by_referent Unknown is = of_no_variable (names_nothing r Unknown is refl)
+      by_referent (NoMember at) is = of_no_variable (names_nothing r (NoMember at) is refl)
 
   of_unary : (used : UnaryUse) (x : Expression) (c : Class) → HasClass sources d x c → HasClass sources d (unary_expression used x) (unary_class used.operator c)
   of_unary used x c has = by_case (change used.operator c) refl (changes used.operator c)
@@ -71,66 +70,67 @@ module _ (sources : Sources) (d : TypeTree) where
       by_case None is fails = of_broken c has (none_change used.operator c is)
 
   mutual
-    pub class_of : (e : Expression) → HasClass sources d e (class_in scope e)
+    pub class_of : (e : Expression) → HasClass sources d e (class_in names e)
     class_of (literal_expression l) = of_literal
     class_of (reference_expression r subscripts) = of_reference r subscripts
-    class_of (unary_expression used x) = of_unary used x (class_in scope x) (class_of x)
-    class_of (row_expression x operands) = of_row (class_in scope x) (class_of x) (row_of (class_in scope x) operands)
+    class_of (unary_expression used x) = of_unary used x (class_in names x) (class_of x)
+    class_of (row_expression x operands) = of_row (class_in names x) (class_of x) (row_of (class_in names x) operands)
     class_of (parentheses x span) = of_parentheses (class_of x)
 
-    row_of : (left : Class) (operands : Operands) → RowHasClass sources d left operands (row_class scope left operands)
+    row_of : (left : Class) (operands : Operands) → RowHasClass sources d left operands (row_class names left operands)
     row_of left no_operands = at_end
     row_of left (operand_then used x others) =
-        let after = pair_class used.operator left (class_in scope x) in
-        behind (class_in scope x) after (class_of x) (results used.operator left (class_in scope x)) (row_of after others)
+        let after = pair_class used.operator left (class_in names x) in
+        behind (class_in names x) after (class_of x) (results used.operator left (class_in names x)) (row_of after others)
 
   -- and no other
 
-  free_of : (r : ReferenceTree) (subscripts : Expressions) → ((used : TypeUse) → ¬ IsOfVariable sources d r used) → class_of_referent (referent_of scope r) subscripts ≡ Free
-  free_of r subscripts none = by_referent (referent_of scope r) (stands sources d r)
+  free_of : (r : ReferenceTree) → ((used : TypeUse) (subscripted : Bool) → ¬ NamesType sources d r used subscripted) → class_of_referent (referent_of names r) ≡ Free
+  free_of r none = by_referent (referent_of names r) refl
     where
-      by_referent : (t : Referent) → Stands sources d r t → class_of_referent t subscripts ≡ Free
-      by_referent (Variable used) (as_variable n) = absurd (none used n)
-      by_referent Unjudged as_unjudged = refl
-      by_referent Unknown as_unknown = refl
+      by_referent : (t : Referent) → referent_of names r ≡ t → class_of_referent t ≡ Free
+      by_referent (Variable used subscripted) is = absurd (none used subscripted (names_type sources unit d declared r used subscripted is))
+      by_referent Unjudged is = refl
+      by_referent Unknown is = refl
+      by_referent (NoMember at) is = refl
 
-  named_class : (r : ReferenceTree) (subscripts : Expressions) (used : TypeUse) → IsOfVariable sources d r used → class_of_referent (referent_of scope r) subscripts ≡ class_with used subscripts
-  named_class r subscripts used n = ap (λ (t : Referent). class_of_referent t subscripts) (told_reference sources d r used n)
+  named_class : (r : ReferenceTree) (used : TypeUse) (subscripted : Bool) → NamesType sources d r used subscripted → class_of_referent (referent_of names r) ≡ class_with used subscripted
+  named_class r used subscripted n = ap class_of_referent (told_type_of sources unit d declared r used subscripted n)
 
   mutual
-    pub told_class : (e : Expression) (c : Class) → HasClass sources d e c → class_in scope e ≡ c
+    pub told_class : (e : Expression) (c : Class) → HasClass sources d e c → class_in names e ≡ c
     told_class (literal_expression l) c of_literal = refl
-    told_class (reference_expression r no_expressions) c (of_variable used n) = named_class r no_expressions used n
-    told_class (reference_expression r (expression_then e others)) c (of_element used n array) =
-        named_class r (expression_then e others) used n ∙ ap (λ (form : TypeForm). class_of_element form used.name.name) array
-    told_class (reference_expression r (expression_then e others)) c (of_no_array used n other) = named_class r (expression_then e others) used n ∙ no_array used used.form other
-    told_class (reference_expression r subscripts) c (of_no_variable none) = free_of r subscripts none
+    told_class (reference_expression r subscripts) c (of_variable used n) = named_class r used false n
+    told_class (reference_expression r subscripts) c (of_element used n array) =
+        named_class r used true n ∙ ap (λ (form : TypeForm). class_of_element form used.name.name) array
+    told_class (reference_expression r subscripts) c (of_no_array used n other) = named_class r used true n ∙ no_array used used.form other
+    told_class (reference_expression r subscripts) c (of_no_variable none) = free_of r none
     told_class (unary_expression used x) g (of_operator c has k) =
         ap (unary_class used.operator) (told_class x c has) ∙ ap (λ (o : Option Class). unwrap_or o Free) (told_change used.operator c g k)
     told_class (unary_expression used x) g (of_broken c has none) =
         ap (unary_class used.operator) (told_class x c has) ∙ ap (λ (o : Option Class). unwrap_or o Free) (no_change used.operator c none)
-    told_class (row_expression x operands) g (of_row c has row) = ap (λ k. row_class scope k operands) (told_class x c has) ∙ told_row c operands g row
+    told_class (row_expression x operands) g (of_row c has row) = ap (λ k. row_class names k operands) (told_class x c has) ∙ told_row c operands g row
     told_class (parentheses x span) c (of_parentheses has) = told_class x c has
 
-    told_row : (left : Class) (operands : Operands) (h : Class) → RowHasClass sources d left operands h → row_class scope left operands ≡ h
+    told_row : (left : Class) (operands : Operands) (h : Class) → RowHasClass sources d left operands h → row_class names left operands ≡ h
     told_row left no_operands h at_end = refl
     told_row left (operand_then used x others) h (behind c g has gives_class row) =
-        ap (λ k. row_class scope (pair_class used.operator left k) others) (told_class x c has)
-        ∙ ap (λ k. row_class scope k others) (told_results used.operator left c g gives_class)
+        ap (λ k. row_class names (pair_class used.operator left k) others) (told_class x c has)
+        ∙ ap (λ k. row_class names k others) (told_results used.operator left c g gives_class)
         ∙ told_row g others h row
 
   -- operators of rows, by what stands before them
 
-  pub pair_in : (used : BinaryUse) (before : Class) (x : Expression) (left : Class) (operands : Operands) → IsPairOf scope used before x left operands → IsPairIn sources d used before x left operands
+  pub pair_in : (used : BinaryUse) (before : Class) (x : Expression) (left : Class) (operands : Operands) → IsPairOf names used before x left operands → IsPairIn sources d used before x left operands
   pair_in used before x left no_operands none = elim none [ ]
   pair_in used before x left (operand_then first y others) first_of = first_pair
   pair_in used before x left (operand_then first y others) (later_of is) =
-      let after = pair_class first.operator left (class_in scope y) in
-      later_pair (class_in scope y) after (class_of y) (results first.operator left (class_in scope y)) (pair_in used before x after others is)
+      let after = pair_class first.operator left (class_in names y) in
+      later_pair (class_in names y) after (class_of y) (results first.operator left (class_in names y)) (pair_in used before x after others is)
 
-  pub pair_of : (used : BinaryUse) (before : Class) (x : Expression) (left : Class) (operands : Operands) → IsPairIn sources d used before x left operands → IsPairOf scope used before x left operands
+  pub pair_of : (used : BinaryUse) (before : Class) (x : Expression) (left : Class) (operands : Operands) → IsPairIn sources d used before x left operands → IsPairOf names used before x left operands
   pair_of used before x left no_operands none = elim none [ ]
   pair_of used before x left (operand_then first y others) first_pair = first_of
   pair_of used before x left (operand_then first y others) (later_pair c g has gives_class is) =
-      let same : pair_class first.operator left (class_in scope y) ≡ g = ap (pair_class first.operator left) (told_class y c has) ∙ told_results first.operator left c g gives_class in
-      later_of (subst (λ k. IsPairOf scope used before x k others) (sym same) (pair_of used before x g others is))
+      let same : pair_class first.operator left (class_in names y) ≡ g = ap (pair_class first.operator left) (told_class y c has) ∙ told_results first.operator left c g gives_class in
+      later_of (subst (λ k. IsPairOf names used before x k others) (sym same) (pair_of used before x g others is))

@@ -4,13 +4,13 @@ use Rattle.std.specs.List.{Contains}
 use Rattle.fb_text.specs.declared.token.Span.{Span}
 use Rattle.fb_deploy.specs.Library.View.{Sources}
 use Rattle.fb_deploy.specs.Iface.declared.code.Code.{Code}
-use Rattle.fb_deploy.specs.Iface.declared.code.Code.TheVariants.{AlgorithmUnknown, DataType, Duplicate, EventUnknown, Literal, MappedTwice, MixedKind, NameDiffers, NoSuchResource, ParameterUnknown, PassThrough, PortSide, PortUnknown, SecondAdapter, SecondSource, StateUnknown, UnknownType, WithUnknown, WrongKind}
+use Rattle.fb_deploy.specs.Iface.declared.code.Code.TheVariants.{AlgorithmUnknown, DataType, Duplicate, EventUnknown, Literal, MappedTwice, MixedKind, NameDiffers, NoSuchResource, ParameterUnknown, PassThrough, PortSide, PortUnknown, SecondAdapter, SecondSource, StateUnknown, StructRecursive, UnknownType, WithUnknown, WrongKind}
 use Rattle.fb_deploy.specs.Iface.declared.fault.Fault.{Fault}
 use Rattle.fb_tree.specs.Tree.{NetworkTree}
-use Rattle.fb_expr.specs.Demands.{Demand, code_of_demand, names_variable}
+use Rattle.fb_expr.specs.Demands.{Demand, code_of_demand, names_field, names_variable}
 use Rattle.fb_netcheck.specs.Settings.{NetworkPlace}
 use Rattle.fb_text.proofs.Members.{contains_nothing}
-use Rattle.fb_laws.specs.UnitParts.{IsCodeOf, Declarations, Expressions, Charts, Networks, Mappings, PartsHaveOwnCodes, other_name, duplicate, mixed_kind, unknown_type, wrong_kind, unknown_with, initial_value, unknown_variable, class, unknown_state, unknown_event, unknown_algorithm, unknown_port, wrong_side, other_type, second_source, second_adapter, passage, unknown_parameter, parameter_value, second_mapping, lost_mapping}
+use Rattle.fb_laws.specs.UnitParts.{IsCodeOf, Declarations, Expressions, Charts, Networks, Mappings, PartsHaveOwnCodes, other_name, duplicate, mixed_kind, unknown_type, wrong_kind, unknown_with, initial_value, recursive_structure, unknown_variable, unknown_member, class, unknown_state, unknown_event, unknown_algorithm, unknown_port, wrong_side, other_type, second_source, second_adapter, passage, unknown_parameter, parameter_value, second_mapping, lost_mapping}
 use Rattle.fb_laws.proofs.ChartRows as charts
 use Rattle.fb_laws.proofs.DeclarationRows as declarations
 use Rattle.fb_laws.proofs.MappingRows as mappings
@@ -26,6 +26,7 @@ module _ (sources : Sources) (unit : List ℕ) (span : Span) where
   declared_code WrongKind h = wrong_kind
   declared_code WithUnknown h = unknown_with
   declared_code Literal h = initial_value
+  declared_code StructRecursive h = recursive_structure
   declared_code code h = absurd h
 
   chart_code : (code : Code) → charts.Has code sources unit span → IsCodeOf Charts code
@@ -41,6 +42,7 @@ module _ (sources : Sources) (unit : List ℕ) (span : Span) where
 
 demand_code : (demand : Demand) → IsCodeOf Expressions (code_of_demand demand)
 demand_code (names_variable r) = unknown_variable
+demand_code (names_field r before m) = unknown_member
 demand_code demand = class
 
 network_code : (sources : Sources) (here : NetworkPlace) (n : NetworkTree) (f : Fault) (code : Code) → Contains (part sources here n code) f → IsCodeOf Networks code

@@ -12,9 +12,10 @@ use Rattle.fb_tree.specs.declared.interface.Side.{Side}
 use Rattle.fb_tree.specs.declared.interface.TypeForm.{TypeForm}
 use Rattle.fb_tree.specs.declared.interface.TypeForm.TheVariants as forms
 use Rattle.fb_tree.specs.declared.interface.TypeUse.{TypeUse}
+use Rattle.fb_deploy.specs.Library.Near.{Carries, carried_of}
 use Rattle.fb_deploy.specs.Library.View.{Sources, tree_at, type_in}
 use Rattle.fb_deploy.specs.Iface.declared.code.Code.{Code}
-use Rattle.fb_deploy.specs.Iface.declared.code.Code.TheVariants.{Duplicate, Literal, MixedKind, NameDiffers, UnknownType, WithUnknown, WrongKind}
+use Rattle.fb_deploy.specs.Iface.declared.code.Code.TheVariants.{Duplicate, Literal, MixedKind, NameDiffers, StructRecursive, UnknownType, WithUnknown, WrongKind}
 use Rattle.fb_deploy.specs.Iface.declared.fault.Fault.{Fault}
 use Rattle.fb_deploy.specs.Iface.declared.ports.DeclaredVariable.{DeclaredVariable}
 use Rattle.fb_deploy.specs.Iface.Class.{class_of_name, class_of_simple, class_of_type, is_free, takes}
@@ -23,16 +24,19 @@ use Rattle.fb_deploy.specs.Iface.Fault.{fault_at}
 use Rattle.fb_deploy.specs.Iface.Literals.{constant_faults, fits_alone, initial_faults, list_faults, literal_fault, simple_span}
 use Rattle.fb_deploy.specs.Iface.Names.{has_name, is_repeated, is_same, repeated, stands_for}
 use Rattle.fb_deploy.specs.Iface.Ports.{variables_in}
-use Rattle.fb_laws.specs.Declarations.{DuplicatesAreReported, HasDuplicate, HasMisfit, HasMixedKind, HasOtherName, HasUnknownType, HasUnknownWith, HasWrongKind, IsDeclaredAt, IsMisfit, MisfitsAreReported, MixedKindsAreReported, OtherNamesAreReported, UnknownTypesAreReported, UnknownWithsAreReported, WrongKindsAreReported, alone, element, no_array, no_list}
+use Rattle.fb_deploy.specs.Iface.Recursion.{carries_itself, recursion_faults}
+use Rattle.fb_laws.specs.Declarations.{DuplicatesAreReported, HasDuplicate, HasMisfit, HasMixedKind, HasOtherName, HasSelfCarrying, HasUnknownType, HasUnknownWith, HasWrongKind, IsDeclaredAt, IsMisfit, MisfitsAreReported, MixedKindsAreReported, OtherNamesAreReported, RecursiveStructuresAreReported, UnknownTypesAreReported, UnknownWithsAreReported, WrongKindsAreReported, alone, element, no_array, no_list}
 use Rattle.fb_laws.specs.Declared.{AreDeclaredIn, IsType, fields_of_structure, of_adapter, of_block, of_subapplication, variables_of_type}
 use Rattle.fb_deploy.specs.Iface.Sides.{goes_with}
 use Rattle.fb_deploy.specs.Iface.Spaces.{spaces_of}
 use Rattle.fb_deploy.specs.Iface.Types.{instance_faults, instances_of, suits, type_fault, type_faults}
-use Rattle.fb_deploy.specs.Iface.Withs.{carries, event_withs, with_faults}
+use Rattle.fb_deploy.specs.Iface.Withs.{goes_along, event_withs, with_faults}
 use Rattle.fb_text.proofs.Members.{contains_filter, contains_flat_map, contains_here, contains_map, contains_nothing, contains_single, origin_in_flat_map, origin_in_map, in_unless, in_written, passes_in_filter, unless, written}
 use Rattle.fb_deploy.proofs.Iface.EarlierLemmas.{IsEarlier, earlier_name, in_places}
 use Rattle.fb_deploy.proofs.Iface.DuplicateLemmas.{duplicate_reported}
 use Rattle.fb_deploy.proofs.Iface.NameLemmas.{same_exact, same_itself}
+use Rattle.fb_deploy.proofs.Library.CarriedLemmas.{carried_is_all}
+use Rattle.fb_deploy.proofs.Library.SeenLemmas.{Contains-has, has-Contains}
 use Rattle.fb_laws.proofs.Joined.{of_either, in_joined, in_where, is_false, where_passes}
 
 -- what is so where a unit has a fault of this code
@@ -44,6 +48,7 @@ Has UnknownType = HasUnknownType
 Has WrongKind = HasWrongKind
 Has WithUnknown = HasUnknownWith
 Has Literal = HasMisfit
+Has StructRecursive = HasSelfCarrying
 Has code = λ sources unit span. ⊥
 
 -- names behind WITH
@@ -52,10 +57,10 @@ withs_by_type : (decl : DeclTree) → with_faults_of decl ≡ option_map_or (λ 
 withs_by_type (block_type d) = refl
 withs_by_type decl = refl
 
-no_data_where : (side : Side) (o : Option DeclaredVariable) → carries side o ≡ false → (v : DeclaredVariable) → o ≡ Some v → goes_with side v.section ≡ false
-no_data_where side o e v is = sym (ap (carries side) is) ∙ e
+no_data_where : (side : Side) (o : Option DeclaredVariable) → goes_along side o ≡ false → (v : DeclaredVariable) → o ≡ Some v → goes_with side v.section ≡ false
+no_data_where side o e v is = sym (ap (goes_along side) is) ∙ e
 
-uncarried_where : (side : Side) (o : Option DeclaredVariable) → ((v : DeclaredVariable) → o ≡ Some v → goes_with side v.section ≡ false) → carries side o ≡ false
+uncarried_where : (side : Side) (o : Option DeclaredVariable) → ((v : DeclaredVariable) → o ≡ Some v → goes_with side v.section ≡ false) → goes_along side o ≡ false
 uncarried_where side None fails = refl
 uncarried_where side (Some v) fails = fails v refl
 
@@ -134,6 +139,17 @@ misfit_reported used (value_list values s) span (no_array other fails) = by used
     by forms.Plain not_so = unless (is_free (class_of_type used)) (literal_fault s) fails
     by forms.Sized not_so = unless (is_free (class_of_type used)) (literal_fault s) fails
 
+-- what carries itself
+
+carried_by_itself : (sources : Sources) (unit : List ℕ) → carries_itself sources unit ≡ true → Carries sources unit unit
+carried_by_itself sources unit e =
+    let some = ((carried_is_all sources (unit ∷ [])).1 unit).0 (Contains-has unit (carried_of sources (unit ∷ [])) e) in
+    subst (λ (u : List ℕ). Carries sources u unit) (sym (contains_single unit some.0 some.1)) some.2
+
+is_found_there : (sources : Sources) (unit : List ℕ) → Carries sources unit unit → carries_itself sources unit ≡ true
+is_found_there sources unit r =
+    has-Contains unit (carried_of sources (unit ∷ [])) (((carried_is_all sources (unit ∷ [])).1 unit).1 (unit, contains_here unit [], r))
+
 -- the faults of a declaration, list by list
 
 module _ (sources : Sources) (unit : List ℕ) where
@@ -151,6 +167,15 @@ module _ (sources : Sources) (unit : List ℕ) where
       by false b s n e is = absurd (true≢false (sym e))
   mixed_found (adapter_type d) declared f c = absurd (contains_nothing f c)
   mixed_found decl declared f c = absurd (contains_nothing f c)
+
+  recursion_found : (decl : DeclTree) → IsDeclaredAt sources unit decl → (f : Fault) → Contains (recursion_faults sources unit decl) f → Finds f
+  recursion_found (structure_type s) declared f c =
+      let found = in_where (carries_itself sources unit) (fault_at StructRecursive s.name) f c in
+      subst Finds found.1 (record { structure = s; declared = declared; carries = carried_by_itself sources unit found.0; place = refl })
+  recursion_found (block_type d) declared f c = absurd (contains_nothing f c)
+  recursion_found (adapter_type d) declared f c = absurd (contains_nothing f c)
+  recursion_found (subapplication_type d) declared f c = absurd (contains_nothing f c)
+  recursion_found (system_configuration s) declared f c = absurd (contains_nothing f c)
 
   module _ (decl : DeclTree) (declared : IsDeclaredAt sources unit decl) where
     name_found : (f : Fault) → Contains (name_faults unit decl) f → Finds f
@@ -186,9 +211,9 @@ module _ (sources : Sources) (unit : List ℕ) where
         let t = in_written (λ (d : TypeTree). with_faults d.interface) (type_in decl) f (subst (λ (l : List Fault). Contains l f) (withs_by_type decl) c) in
         let variable = stands_for (variables_in t.item.interface) in
         let e = origin_in_flat_map (event_withs variable) t.item.interface.events f t.has in
-        let n = origin_in_map (fault_at WithUnknown) (filter (λ w. not (carries e.origin.side (variable w.name))) e.origin.with) f e.has in
-        let p = passes_in_filter (λ w. not (carries e.origin.side (variable w.name))) e.origin.with n.origin n.among in
-        let none = no_data_where e.origin.side (variable n.origin.name) (not_true (carries e.origin.side (variable n.origin.name)) p.passes) in
+        let n = origin_in_map (fault_at WithUnknown) (filter (λ w. not (goes_along e.origin.side (variable w.name))) e.origin.with) f e.has in
+        let p = passes_in_filter (λ w. not (goes_along e.origin.side (variable w.name))) e.origin.with n.origin n.among in
+        let none = no_data_where e.origin.side (variable n.origin.name) (not_true (goes_along e.origin.side (variable n.origin.name)) p.passes) in
         subst Finds n.gives
         (record { decl = decl; declared = declared; type = t.item; is_type = t.is; event = e.origin; among = e.among; name = n.origin; behind = p.among; no_data = none; place = refl })
 
@@ -201,12 +226,12 @@ module _ (sources : Sources) (unit : List ℕ) where
         (record { decl = decl; declared = declared; variables = v.origin; among = declared_in decl v.origin v.among; initial = w.item; written = w.is; misfit = m.1 })
 
     declared_found : (f : Fault) → Contains (declaration_faults sources unit (Some decl)) f → Finds f
-    declared_found = of_either _ _ (of_either _ _ (of_either _ _ (of_either _ _ (of_either _ _ name_found duplicate_found) (mixed_found decl declared)) type_found) with_found) literal_found
+    declared_found = of_either _ _ (of_either _ _ (of_either _ _ (of_either _ _ (of_either _ _ (of_either _ _ name_found duplicate_found) (mixed_found decl declared)) type_found) with_found) literal_found) (recursion_found decl declared)
 
     -- and the other way, a fault of the list at this place
-    reported : {code : Code} {span there : Span} (place : ℕ) (list : List Fault) → slice_get (name_faults unit decl ∷ duplicate_faults decl ∷ mixed_faults decl ∷ type_faults sources decl ∷ with_faults_of decl ∷ literal_faults_of decl ∷ []) place ≡ Some list → span ≡ there → Contains list (record { code = code; span = there }) → Contains (iface_faults_of sources unit) (record { code = code; span = span })
+    reported : {code : Code} {span there : Span} (place : ℕ) (list : List Fault) → slice_get (name_faults unit decl ∷ duplicate_faults decl ∷ mixed_faults decl ∷ type_faults sources decl ∷ with_faults_of decl ∷ literal_faults_of decl ∷ recursion_faults sources unit decl ∷ []) place ≡ Some list → span ≡ there → Contains list (record { code = code; span = there }) → Contains (iface_faults_of sources unit) (record { code = code; span = span })
     reported {code = code} {span = span} place list e at c =
-        let others = duplicate_faults decl ∷ mixed_faults decl ∷ type_faults sources decl ∷ with_faults_of decl ∷ literal_faults_of decl ∷ [] in
+        let others = duplicate_faults decl ∷ mixed_faults decl ∷ type_faults sources decl ∷ with_faults_of decl ∷ literal_faults_of decl ∷ recursion_faults sources unit decl ∷ [] in
         let one = subst (λ (s : Span). Contains list (record { code = code; span = s })) (sym at) c in
         subst (λ (o : Option DeclTree). Contains (declaration_faults sources unit o) (record { code = code; span = span })) (sym declared) (in_joined (name_faults unit decl) others place list (record { code = code; span = span }) e one)
 
@@ -268,7 +293,7 @@ unknown_withs sources unit span = (found sources unit _, from)
     from : HasUnknownWith sources unit span → Contains (iface_faults_of sources unit) (record { code = WithUnknown; span = span })
     from h =
         let variable = stands_for (variables_in h.type.interface) in
-        let uncarried = λ (w : NameUse). not (carries h.event.side (variable w.name)) in
+        let uncarried = λ (w : NameUse). not (goes_along h.event.side (variable w.name)) in
         let fails = ap not (uncarried_where h.event.side (variable h.name.name) h.no_data) in
         let one = contains_map (fault_at WithUnknown) (filter uncarried h.event.with) h.name (contains_filter uncarried h.event.with h.name h.behind fails) in
         let listed = contains_flat_map (event_withs variable) h.type.interface.events h.event (fault_at WithUnknown h.name) h.among one in
@@ -283,3 +308,10 @@ misfits_reported sources unit span = (found sources unit _, from)
         let one = written (constant_faults h.variables.type_use) h.variables.initial h.initial (literal_fault span) h.written (misfit_reported h.variables.type_use h.initial span h.misfit) in
         let listed = contains_flat_map initial_faults (variables_of h.decl) h.variables (literal_fault span) (among_declared h.decl h.variables h.among) one in
         reported sources unit h.decl h.declared 5 (literal_faults_of h.decl) refl refl listed
+
+pub recursive_structures : RecursiveStructuresAreReported
+recursive_structures sources unit span = (found sources unit _, from)
+  where
+    from : HasSelfCarrying sources unit span → Contains (iface_faults_of sources unit) (record { code = StructRecursive; span = span })
+    from h =
+        reported sources unit (structure_type h.structure) h.declared 6 (recursion_faults sources unit (structure_type h.structure)) refl h.place (where_passes (carries_itself sources unit) (fault_at StructRecursive h.structure.name) (is_found_there sources unit h.carries))

@@ -1,5 +1,5 @@
 -- The homes of blocks are resources of the system.
-use Rattle.std.proofs.Common.{ℕ, ◌≡◌, Bool, true, false, cond, List, [], ◌∷◌, ◌++◌, Option, Some, None, inr, refl, sym, ◌∙◌, ap, subst, map}
+use Rattle.std.proofs.Common.{ℕ, ◌≡◌, Bool, true, false, cond, List, [], ◌∷◌, ◌++◌, Option, Some, None, inl, refl, sym, ◌∙◌, ap, subst, map}
 use Rattle.std.specs.Prelude.{Contains, find, option_map}
 use Rattle.std.specs.Option.{option_map_or}
 use Rattle.std.specs.List.{flat_map}
@@ -40,7 +40,7 @@ no_faults sources system flat is = by (faults_of sources system) refl
   where
     by : (found : List Fault) → faults_of sources system ≡ found → faults_of sources system ≡ []
     by [] e = e
-    by (f ∷ fs) e = absurd (contains_nothing system ((is.0.whole.members system).1 (itself, inr (λ none. let both : f ∷ fs ≡ [] = sym e ∙ none in cc))))
+    by (f ∷ fs) e = absurd (contains_nothing system ((is.0.whole.members system).1 (itself, inl (λ none. let both : f ∷ fs ≡ [] = sym e ∙ none in cc))))
 
 no_mapping_fault : (sources : Sources) (system : List ℕ) (flat : PlainFlat) → HasFlat sources system flat → (f : Fault) → Contains (mapping_faults_of sources system) f → ⊥
 no_mapping_fault sources system flat is f c =

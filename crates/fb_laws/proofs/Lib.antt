@@ -33,6 +33,7 @@ pub mod ParameterRows
 pub mod ExpressionLemmas
 pub mod StatementLemmas
 pub mod UnitDemands
+pub mod CarriedTypes
 pub mod ReferentLemmas
 pub mod VariableRows
 pub mod ExpressionPlaces

@@ -8,7 +8,7 @@ use Rattle.fb_deploy.specs.Parse.Body.{BodyTree, BrokenAt, Whole, body_of}
 use Rattle.fb_deploy.specs.Library.View.{Sources, tree_at, tree_in, tree_of}
 use Rattle.fb_deploy.specs.Iface.Declarations.{iface_faults_of}
 use Rattle.fb_deploy.specs.Iface.declared.code.Code.{Code}
-use Rattle.fb_deploy.specs.Iface.declared.code.Code.TheVariants.{Syntax, NameDiffers, Duplicate, MixedKind, UnknownType, WrongKind, WithUnknown, StateUnknown, EventUnknown, AlgorithmUnknown, VariableUnknown, Class, PortUnknown, PortSide, DataType, SecondSource, SecondAdapter, PassThrough, ParameterUnknown, Literal, MappedTwice, NoSuchResource}
+use Rattle.fb_deploy.specs.Iface.declared.code.Code.TheVariants.{Syntax, NameDiffers, Duplicate, MixedKind, UnknownType, WrongKind, WithUnknown, StateUnknown, EventUnknown, AlgorithmUnknown, VariableUnknown, Class, PortUnknown, PortSide, DataType, SecondSource, SecondAdapter, PassThrough, ParameterUnknown, Literal, MappedTwice, NoSuchResource, MemberUnknown, StructRecursive}
 use Rattle.fb_deploy.specs.Iface.declared.fault.Fault.{Fault}
 use Rattle.fb_expr.specs.Charts.{expr_faults_of}
 use Rattle.fb_ecc.specs.Charts.{ecc_faults_of}
@@ -17,7 +17,7 @@ use Rattle.fb_deploy.specs.Faults.Mappings.{mapping_faults_of}
 use Rattle.fb_deploy.specs.Faults.Faults.{body_faults, faults_of, reported_of, syntax_faults_of, text_faults}
 use Rattle.fb_text.proofs.Members.{contains_nothing, contains_single, in_written}
 use Rattle.fb_deploy.proofs.Faults.OrderLemmas.{those_reported}
-use Rattle.fb_laws.specs.UnitParts.{CodesAreOfTheirParts, ConstantsAreOfTwoParts, HasPart, IsCodeOf, IsOfConstants, IsOfPart, Part, Declarations, Expressions, Charts, Networks, Mappings, PartsHaveAllOtherCodes, PartsShareOneCode, WholeUnitsHaveFaultsOfParts, faults_by, of_constant, other_name, duplicate, mixed_kind, unknown_type, wrong_kind, unknown_with, initial_value, unknown_variable, class, unknown_state, unknown_event, unknown_algorithm, unknown_port, wrong_side, other_type, second_source, second_adapter, passage, unknown_parameter, parameter_value, second_mapping, lost_mapping}
+use Rattle.fb_laws.specs.UnitParts.{CodesAreOfTheirParts, ConstantsAreOfTwoParts, HasPart, IsCodeOf, IsOfConstants, IsOfPart, Part, Declarations, Expressions, Charts, Networks, Mappings, PartsHaveAllOtherCodes, PartsShareOneCode, WholeUnitsHaveFaultsOfParts, faults_by, of_constant, other_name, duplicate, mixed_kind, unknown_type, wrong_kind, unknown_with, initial_value, recursive_structure, unknown_variable, unknown_member, class, unknown_state, unknown_event, unknown_algorithm, unknown_port, wrong_side, other_type, second_source, second_adapter, passage, unknown_parameter, parameter_value, second_mapping, lost_mapping}
 use Rattle.fb_laws.specs.Texts.{broken_at}
 use Rattle.fb_laws.proofs.CodeLemmas.{own_codes}
 use Rattle.fb_laws.proofs.Joined.{in_joined, of_either}
@@ -27,6 +27,7 @@ use Rattle.fb_laws.proofs.Joined.{in_joined, of_either}
 -- the part that has a code, for that of constants the first
 abbrev own_part : Code → Part
 own_part VariableUnknown = Expressions
+own_part MemberUnknown = Expressions
 own_part Class = Expressions
 own_part StateUnknown = Charts
 own_part EventUnknown = Charts
@@ -90,6 +91,8 @@ listed_code ParameterUnknown other = record { part = Networks; is = unknown_para
 listed_code Literal other = record { part = Declarations; is = initial_value }
 listed_code MappedTwice other = record { part = Mappings; is = second_mapping }
 listed_code NoSuchResource other = record { part = Mappings; is = lost_mapping }
+listed_code MemberUnknown other = record { part = Expressions; is = unknown_member }
+listed_code StructRecursive other = record { part = Declarations; is = recursive_structure }
 
 pub all_other_codes : PartsHaveAllOtherCodes
 all_other_codes code = (listed_code code, λ p. no_text_code p.part code p.is)

@@ -1,179 +1,477 @@
--- What names of references stand for, by the tests of the check.
-use Rattle.std.proofs.Common.{◌≡◌, ℕ, zero, suc, Bool, true, List, [], ◌∷◌, Option, Some, None, inl, inr, refl, sym, ap, subst, ◌∙◌, if◌then◌else◌}
-use Rattle.std.specs.Option.{option_and_then, option_map_or}
-use Rattle.fb_text.specs.declared.name.NameUse.{NameUse}
+-- What references stand for by the check: what they begin at, and what their further names lead to.
+use Rattle.std.proofs.Common.{◌≡◌, ℕ, Bool, true, false, true≢false, cond, not, ◌&&◌, ◌||◌, List, [], ◌∷◌, ◌++◌, Option, Some, None, ◌⊎◌, inl, inr, refl, sym, ap, subst, ◌∙◌, append-nil, arith}
+use Rattle.std.specs.Option.{option_and_then}
+use Rattle.std.proofs.lemmas.Bool.{ltb-false}
+use Rattle.fb_text.specs.Elementary.{has_own_class, is_elementary, type_class_of}
+use Rattle.fb_text.specs.declared.elementary.TypeClass.{TypeClass}
+use Rattle.fb_text.specs.declared.elementary.TypeClass.TheVariants as types
+use Rattle.fb_text.specs.declared.token.Span.{Span}
 use Rattle.fb_tree.specs.Expression.{ReferenceTree}
-use Rattle.fb_tree.specs.Tree.{TypeTree}
+use Rattle.fb_tree.specs.Tree.{DeclTree, TypeTree, adapter_type, block_type, structure_type}
 use Rattle.fb_tree.specs.declared.interface.Section.{Section}
 use Rattle.fb_tree.specs.declared.interface.Section.TheVariants.{Input, Output, Internal, Field}
+use Rattle.fb_tree.specs.declared.interface.TypeForm.{TypeForm}
+use Rattle.fb_tree.specs.declared.interface.TypeForm.TheVariants as forms
 use Rattle.fb_tree.specs.declared.interface.TypeUse.{TypeUse}
 use Rattle.fb_tree.specs.declared.network.Role.{Role}
 use Rattle.fb_tree.specs.declared.network.Role.TheVariants.{Plug, Socket, Block, Subapplication}
 use Rattle.fb_tree.specs.declared.reference.Member.{Member}
 use Rattle.fb_deploy.specs.Library.View.{Sources, tree_at}
-use Rattle.fb_deploy.specs.Iface.Names.{stands_for}
+use Rattle.fb_deploy.specs.Iface.Class.{class_of_name, is_free, named_class}
+use Rattle.fb_deploy.specs.Iface.Fields.{Fields, NotJudged, NoFields, HasFields, fields_in, fields_of_tree}
+use Rattle.fb_deploy.specs.Iface.Names.{first_ones, stands_for}
 use Rattle.fb_deploy.specs.Iface.Ports.{Meanings, meanings_in_type}
-use Rattle.fb_deploy.specs.Iface.Scope.{Scope, instance_ports, scope_of_type, usable}
+use Rattle.fb_deploy.specs.Iface.Scope.{instance_ports, ports_of, usable}
 use Rattle.fb_deploy.specs.Iface.declared.ports.DeclaredInstance.{DeclaredInstance}
 use Rattle.fb_deploy.specs.Iface.declared.ports.DeclaredVariable.{DeclaredVariable}
-use Rattle.fb_expr.specs.Demands.{name_alone}
-use Rattle.fb_expr.specs.References.{data_referent, is_adapter, is_at_adapter, is_data, member_named, own_referent, port_referent, referent_from, referent_of, variable_named}
+use Rattle.fb_deploy.proofs.Iface.TableLemmas.{stands_for-first_ones}
+use Rattle.fb_expr.specs.Demands.{is_known, referent_through}
+use Rattle.fb_expr.specs.Names.{Names, names_of_type}
+use Rattle.fb_expr.specs.References.{data_referent, field_referent, fields_behind, fields_named, is_adapter, is_at_adapter, is_before_port, is_data, is_some_count, member_among, own_referent, port_named, port_referent, referent_of, step, unless_judged, variable_named, walk}
 use Rattle.fb_expr.specs.declared.references.Referent.{Referent}
-use Rattle.fb_expr.specs.declared.references.Referent.TheVariants.{Variable, Unjudged, Unknown}
-use Rattle.fb_laws.specs.Usable.{IsAdapter, IsNotJudged, IsUsable, of_unusable}
-use Rattle.fb_laws.specs.Variables.{IsData, NamesVariable, own, of_adapter, Follows, no_name, one_name, IsOfVariable}
-use Rattle.fb_laws.proofs.UsableTypes.{known_type, no_type, own_type, told_type, type_missing}
+use Rattle.fb_expr.specs.declared.references.Referent.TheVariants.{Variable, Unjudged, Unknown, NoMember}
+use Rattle.fb_laws.specs.Usable.{IsAdapter, IsUsable, as_plug, as_socket, as_block, as_subapplication}
+use Rattle.fb_laws.specs.Variables.{IsData, IsAtPort, Begins, own, of_adapter, IsOfNoAdapter, Shows, plain, element, IsOpen, generic, unknown, HasField, GoesOn, at_end, through, NamesType}
+use Rattle.fb_laws.proofs.CarriedTypes.{IsKnown, data_known, field_known, known_fields, own_known}
+use Rattle.fb_laws.proofs.UsableTypes.{known_type, own_type}
 
--- what the names of a reference stand for
-abbrev pub referent : Scope → NameUse → Option NameUse → Referent
-referent scope name member = option_map_or (λ m. member_named scope name.name m.name) member (variable_named scope name.name)
+-- a type that has to be declared is none of class Free
 
-pub data Refers (sources : Sources) (d : TypeTree) (name : NameUse) (member : Option NameUse) : Referent → Type 0 where
-  variable : {used : TypeUse} → NamesVariable sources d name member used → Refers sources d name member (Variable used)
-  not_judged : IsNotJudged sources (meanings_in_type d) IsAdapter name member → Refers sources d name member Unjudged
-  nothing : Refers sources d name member Unknown
+own_class : (c : TypeClass) → has_own_class c ≡ false → is_free (named_class c) ≡ false
+own_class types.Truth e = refl
+own_class types.Integer e = refl
+own_class types.Bits e = refl
+own_class types.Free e = absurd (true≢false e)
+own_class types.Other e = refl
+
+left_false : (a b : Bool) → (a || b) ≡ false → a ≡ false
+left_false true b e = absurd (true≢false e)
+left_false false b e = refl
+
+not_free : (name : List ℕ) → is_elementary name ≡ false → is_free (class_of_name name) ≡ false
+unfolding is_elementary
+not_free name e = own_class (type_class_of name) (left_false (has_own_class (type_class_of name)) _ e)
+
+-- whether a subscript stands on a plain type
+abbrev shown : Bool → Fields → Fields
+shown false fields = fields
+shown true fields = unless_judged fields
+
+open_shown : (on : Bool) → shown on NotJudged ≡ NotJudged
+open_shown false = refl
+open_shown true = refl
+
+none_shown : (on : Bool) → shown on NoFields ≡ NoFields
+none_shown false = refl
+none_shown true = refl
+
+found_known : (o : Option DeclaredVariable) (m : Member) → is_known (field_referent o m) ≡ true
+found_known None m = refl
+found_known (Some v) m = refl
+
+among_known : (fields : Fields) (m : Member) → is_known (member_among fields m) ≡ true
+among_known NotJudged m = refl
+among_known NoFields m = refl
+among_known (HasFields found) m = found_known (stands_for found m.name.name) m
 
 data_section : (s : Section) → IsData s → is_data s ≡ true
 data_section s (inl input) = ap is_data input
 data_section s (inr output) = ap is_data output
 
-module _ (sources : Sources) (d : TypeTree) where
-  abbrev scope : Scope
-  scope = scope_of_type sources d
+has_role : (i : DeclaredInstance) → IsAdapter i → is_adapter i.role ≡ true
+has_role i (inl r) = ap is_adapter r
+has_role i (inr r) = ap is_adapter r
 
-  has_role : (i : DeclaredInstance) → IsAdapter i → is_adapter i.role ≡ true
-  has_role i (inl r) = ap is_adapter r
-  has_role i (inr r) = ap is_adapter r
+of_role : (i : DeclaredInstance) → is_adapter i.role ≡ true → IsAdapter i
+of_role i e = by i.role refl e
+  where
+    by : (role : Role) → i.role ≡ role → is_adapter role ≡ true → IsAdapter i
+    by Plug is e = inl is
+    by Socket is e = inr is
+    by Block is e = absurd (true≢false (sym e))
+    by Subapplication is e = absurd (true≢false (sym e))
 
-  -- what a name stands for at an instance
-  abbrev at_instance : NameUse → Option DeclaredInstance → Referent
-  at_instance X o = if is_at_adapter o then port_referent (option_and_then (instance_ports scope) o) X.name else Unknown
+-- an adapter type with these ports
+record HasAdapter (sources : Sources) (name : List ℕ) (ports : Meanings) : Type 0 where
+  type : TypeTree
+  is : tree_at sources name ≡ Some (adapter_type type)
+  has : meanings_in_type type ≡ ports
 
-  refers_own : (X : NameUse) (o : Option DeclaredVariable) → stands_for scope.own.variables X.name ≡ o → Refers sources d X None (own_referent o)
-  refers_own X None e = nothing
-  refers_own X (Some v) e = variable (own v e)
+module _ (sources : Sources) where
+  adapter_used : (i : DeclaredInstance) → IsAdapter i → (a : TypeTree) → tree_at sources i.type_name.name ≡ Some (adapter_type a) → usable i.role (tree_at sources i.type_name.name) ≡ Some (meanings_in_type a)
+  adapter_used i (inl role) a e = λ k. usable (role k) (e k)
+  adapter_used i (inr role) a e = λ k. usable (role k) (e k)
 
-  module _ (p X : NameUse) (i : DeclaredInstance) (stands : stands_for scope.own.instances p.name ≡ Some i) (adapter : IsAdapter i) where
-    by_section : (ports : Meanings) (v : DeclaredVariable) → IsUsable sources i.type_name.name i.role ports → stands_for ports.variables X.name ≡ Some v → (s : Section) → v.section ≡ s → Refers sources d p (Some X) (if is_data s then Variable v.type_use else Unknown)
-    by_section ports v u e Input is = variable (of_adapter i ports v stands adapter u e (inl is))
-    by_section ports v u e Output is = variable (of_adapter i ports v stands adapter u e (inr is))
-    by_section ports v u e Internal is = nothing
-    by_section ports v u e Field is = nothing
+  adapter_found : (name : List ℕ) (role : Role) (ports : Meanings) → role ≡ Plug ⊎ role ≡ Socket → IsUsable sources name role ports → HasAdapter sources name ports
+  adapter_found name role ports adapter (as_plug a e) = record { type = a; is = e; has = refl }
+  adapter_found name role ports adapter (as_socket a e) = record { type = a; is = e; has = refl }
+  adapter_found name role ports (inl r) (as_block a e) = absurd (let no : ⊥ = cc in no)
+  adapter_found name role ports (inr r) (as_block a e) = absurd (let no : ⊥ = cc in no)
+  adapter_found name role ports (inl r) (as_subapplication a e) = absurd (let no : ⊥ = cc in no)
+  adapter_found name role ports (inr r) (as_subapplication a e) = absurd (let no : ⊥ = cc in no)
 
-    by_data : (ports : Meanings) → IsUsable sources i.type_name.name i.role ports → (o : Option DeclaredVariable) → stands_for ports.variables X.name ≡ o → Refers sources d p (Some X) (data_referent o)
-    by_data ports u None e = nothing
-    by_data ports u (Some v) e = by_section ports v u e v.section refl
+module _ (sources : Sources) (unit : List ℕ) (d : TypeTree) (declared : tree_at sources unit ≡ Some (block_type d)) where
+  abbrev names : Names
+  names = names_of_type sources unit d
 
-    by_ports : (o : Option Meanings) → usable i.role (tree_at sources i.type_name.name) ≡ o → Refers sources d p (Some X) (port_referent o X.name)
-    by_ports None u = not_judged (of_unusable i stands adapter (no_type sources i.type_name.name i.role u))
-    by_ports (Some ports) u = by_data ports (known_type sources i.type_name.name i.role ports u) (stands_for ports.variables X.name) refl
+  abbrev Known : TypeUse → Type 0
+  Known used = IsKnown sources unit used.name.name
 
-    refers_behind : Refers sources d p (Some X) (port_referent (instance_ports scope i) X.name)
-    refers_behind = by_ports (instance_ports scope i) (sym (own_type sources d p.name i stands))
+  -- One further name
 
-  by_role : (p X : NameUse) (i : DeclaredInstance) → stands_for scope.own.instances p.name ≡ Some i → (role : Role) → i.role ≡ role → Refers sources d p (Some X) (if is_adapter role then port_referent (instance_ports scope i) X.name else Unknown)
-  by_role p X i e Plug r = refers_behind p X i e (inl r)
-  by_role p X i e Socket r = refers_behind p X i e (inr r)
-  by_role p X i e Block r = nothing
-  by_role p X i e Subapplication r = nothing
+  -- what may be named behind a type that needs a declaration, by this
+  abbrev declared_fields : List ℕ → Fields
+  declared_fields name = cond (is_elementary name) NoFields (fields_of_tree (tree_at sources name))
 
-  refers_at : (p X : NameUse) (o : Option DeclaredInstance) → stands_for scope.own.instances p.name ≡ o → Refers sources d p (Some X) (at_instance X o)
-  refers_at p X None e = nothing
-  refers_at p X (Some i) e = by_role p X i e i.role refl
+  named_known : (name : List ℕ) → IsKnown sources unit name → fields_named names.fields name ≡ fields_named declared_fields name
+  named_known name known = ap (λ fields. cond (is_free (class_of_name name)) NotJudged fields) (known_fields sources unit name known)
 
-  pub refers : (name : NameUse) (member : Option NameUse) → Refers sources d name member (referent scope name member)
-  refers name None = refers_own name (stands_for scope.own.variables name.name) refl
-  refers name (Some X) = refers_at name X (stands_for scope.own.instances name.name) refl
+  behind_shown : (used : TypeUse) (s on : Bool) → Shows used s on → fields_behind names.fields used.form used.name.name s ≡ shown on (fields_named names.fields used.name.name)
+  behind_shown used false false (plain is) = ap (λ form. fields_behind names.fields form used.name.name false) is
+  behind_shown used true true (plain is) = ap (λ form. fields_behind names.fields form used.name.name true) is
+  behind_shown used true false (element is) = ap (λ form. fields_behind names.fields form used.name.name true) is
+  behind_shown used false true none = elim none [ ]
 
-  at_adapter : (p X : NameUse) (i : DeclaredInstance) (ports : Option Meanings) → stands_for scope.own.instances p.name ≡ Some i → IsAdapter i → usable i.role (tree_at sources i.type_name.name) ≡ ports → referent scope p (Some X) ≡ port_referent ports X.name
-  at_adapter p X i ports e adapter u =
-      let is = own_type sources d p.name i e ∙ u in
-      ap (at_instance X) e
-      ∙ (λ k. if has_role i adapter k then port_referent (is k) X.name else Unknown)
+  pub told_open : (used : TypeUse) (s : Bool) (m : Member) → Known used → IsOpen sources used s → step names (Variable used s) m ≡ Unjudged
+  told_open used s m known (generic on shows free) =
+      ap (λ fields. member_among fields m)
+      (behind_shown used s on shows
+      ∙ ap (λ b. shown on (cond b NotJudged (names.fields used.name.name))) free
+      ∙ open_shown on)
+  told_open used s m known (unknown on shows elementary absent) =
+      ap (λ fields. member_among fields m)
+      (behind_shown used s on shows
+      ∙ ap (shown on) (named_known used.name.name known)
+      ∙ (λ k. shown on (cond (not_free used.name.name elementary k) NotJudged (cond (elementary k) NoFields (fields_of_tree (absent k)))))
+      ∙ open_shown on)
 
-  pub told_variable : (name : NameUse) (member : Option NameUse) (used : TypeUse) → NamesVariable sources d name member used → referent scope name member ≡ Variable used
-  told_variable name None used (own v e) = ap own_referent e
-  told_variable name (Some X) used (of_adapter i ports v stands adapter u e data_port) =
-      at_adapter name X i (Some ports) stands adapter (told_type sources i.type_name.name i.role ports u)
-      ∙ ap data_referent e
-      ∙ ap (λ (b : Bool). if b then Variable v.type_use else Unknown) (data_section v.section data_port)
+  pub told_field : (used : TypeUse) (s : Bool) (m : Member) (v : DeclaredVariable) → Known used → HasField sources used s m.name.name v → step names (Variable used s) m ≡ Variable v.type_use (is_some_count m.subscripts)
+  told_field used s m v known h =
+      ap (λ fields. member_among fields m)
+      (behind_shown used s false h.shown
+      ∙ named_known used.name.name known
+      ∙ (λ k. cond (not_free used.name.name h.declared k) NotJudged (cond (h.declared k) NoFields (fields_of_tree (h.is_structure k)))))
+      ∙ ap (λ o. field_referent o m) (stands_for-first_ones (fields_in h.structure) m.name.name ∙ h.found)
 
-  pub told_unusable : (name : NameUse) (member : Option NameUse) → IsNotJudged sources (meanings_in_type d) IsAdapter name member → referent scope name member ≡ Unjudged
-  told_unusable name None none = elim none [ ]
-  told_unusable name (Some X) (of_unusable i stands adapter none) = at_adapter name X i None stands adapter (type_missing sources i.type_name.name i.role none)
+  -- what a further name stands for
+  pub data Looks (used : TypeUse) (s : Bool) (m : Member) : Referent → Type 0 where
+    is_open : IsOpen sources used s → Looks used s m Unjudged
+    is_none : Looks used s m (NoMember m.name.span)
+    is_found : (v : DeclaredVariable) → HasField sources used s m.name.name v → Looks used s m (Variable v.type_use (is_some_count m.subscripts))
 
-  pub names_none : (name : NameUse) (member : Option NameUse) → referent scope name member ≡ Unknown → (used : TypeUse) → ¬ NamesVariable sources d name member used
-  names_none name member e used n = let both : Variable used ≡ Unknown = sym (told_variable name member used n) ∙ e in let fails : ⊥ = cc in fails
+  module _ (used : TypeUse) (m : Member) (known : Known used) where
+    abbrev name : List ℕ
+    name = used.name.name
 
-  pub is_judged : (name : NameUse) (member : Option NameUse) → referent scope name member ≡ Unknown → ¬ IsNotJudged sources (meanings_in_type d) IsAdapter name member
-  is_judged name member e j = let both : Unjudged ≡ Unknown = sym (told_unusable name member j) ∙ e in let fails : ⊥ = cc in fails
+    no_field : (s on : Bool) → Looks used s m (member_among (shown on NoFields) m)
+    no_field s on = subst (λ fields. Looks used s m (member_among fields m)) (sym (none_shown on)) is_none
 
-  pub is_unknown : (name : NameUse) (member : Option NameUse) → ((used : TypeUse) → ¬ NamesVariable sources d name member used) → ¬ IsNotJudged sources (meanings_in_type d) IsAdapter name member → referent scope name member ≡ Unknown
-  is_unknown name member none judged = by_case (referent scope name member) (refers name member)
+    not_judged : (s on : Bool) → IsOpen sources used s → Looks used s m (member_among (shown on NotJudged) m)
+    not_judged s on o = subst (λ fields. Looks used s m (member_among fields m)) (sym (open_shown on)) (is_open o)
+
+    by_tree : (s on : Bool) → Shows used s on → is_elementary name ≡ false → (o : Option DeclTree) → tree_at sources name ≡ o → Looks used s m (member_among (shown on (fields_of_tree o)) m)
+    by_tree s on shows elementary None t = not_judged s on (unknown on shows elementary t)
+    by_tree s false shows elementary (Some (structure_type structure)) t = by_found (stands_for (first_ones (fields_in structure)) m.name.name) refl
+      where
+        by_found : (o : Option DeclaredVariable) → stands_for (first_ones (fields_in structure)) m.name.name ≡ o → Looks used s m (field_referent o m)
+        by_found None e = is_none
+        by_found (Some v) e = is_found v (record {
+          shown = shows;
+          declared = elementary;
+          structure = structure;
+          is_structure = t;
+          found = sym (stands_for-first_ones (fields_in structure) m.name.name) ∙ e;
+        })
+    by_tree s true shows elementary (Some (structure_type structure)) t = is_none
+    by_tree s on shows elementary (Some decl) t = no_field s on
+
+    by_elementary : (s on : Bool) → Shows used s on → (b : Bool) → is_elementary name ≡ b → Looks used s m (member_among (shown on (cond b NoFields (fields_of_tree (tree_at sources name)))) m)
+    by_elementary s on shows true e = no_field s on
+    by_elementary s on shows false e = by_tree s on shows e (tree_at sources name) refl
+
+    by_free : (s on : Bool) → Shows used s on → (b : Bool) → is_free (class_of_name name) ≡ b → Looks used s m (member_among (shown on (cond b NotJudged (declared_fields name))) m)
+    by_free s on shows true e = not_judged s on (generic on shows e)
+    by_free s on shows false e = by_elementary s on shows (is_elementary name) refl
+
+    by_shown : (s on : Bool) → Shows used s on → Looks used s m (member_among (shown on (fields_named names.fields name)) m)
+    by_shown s on shows = subst (λ fields. Looks used s m (member_among (shown on fields) m)) (sym (named_known name known)) (by_free s on shows (is_free (class_of_name name)) refl)
+
+    by_form : (form : TypeForm) → used.form ≡ form → (s : Bool) → Looks used s m (member_among (fields_behind names.fields form name s) m)
+    by_form forms.Plain is false = by_shown false false (plain is)
+    by_form forms.Plain is true = by_shown true true (plain is)
+    by_form forms.Sized is s = is_none
+    by_form forms.Array is false = is_none
+    by_form forms.Array is true = by_shown true false (element is)
+
+    pub looks : (s : Bool) → Looks used s m (step names (Variable used s) m)
+    looks s = by_form used.form refl s
+
+  -- All further names
+
+  pub open_stays : (ms : List Member) → walk names Unjudged ms ≡ Unjudged
+  open_stays [] = refl
+  open_stays (m ∷ ms) = open_stays ms
+
+  pub unknown_stays : (ms : List Member) → walk names Unknown ms ≡ Unknown
+  unknown_stays [] = refl
+  unknown_stays (m ∷ ms) = unknown_stays ms
+
+  wrong_stays : (at : Span) (ms : List Member) → walk names (NoMember at) ms ≡ NoMember at
+  wrong_stays at [] = refl
+  wrong_stays at (m ∷ ms) = wrong_stays at ms
+
+  -- what begins at a variable is not unknown
+  walk_unknown : (base : Referent) (ms : List Member) → walk names base ms ≡ Unknown → base ≡ Unknown
+  walk_unknown base [] e = e
+  walk_unknown (Variable used s) (m ∷ ms) e =
+      let it = walk_unknown (step names (Variable used s) m) ms e in
+      absurd (true≢false (sym (among_known (fields_behind names.fields used.form used.name.name s) m) ∙ ap is_known it))
+  walk_unknown Unjudged (m ∷ ms) e = let both : Unjudged ≡ Unknown = sym (open_stays ms) ∙ e in absurd (let no : ⊥ = cc in no)
+  walk_unknown Unknown (m ∷ ms) e = refl
+  walk_unknown (NoMember at) (m ∷ ms) e = let both : NoMember at ≡ Unknown = sym (wrong_stays at ms) ∙ e in absurd (let no : ⊥ = cc in no)
+
+  next_known : (used : TypeUse) (s : Bool) (m : Member) (v : DeclaredVariable) → Known used → HasField sources used s m.name.name v → Known v.type_use
+  next_known used s m v known h = field_known sources unit used.name.name h.structure m.name.name v known h.declared h.is_structure h.found
+
+  pub told_goes : (used : TypeUse) (s : Bool) (ms : List Member) (last : TypeUse) (t : Bool) → Known used → GoesOn sources used s ms last t → walk names (Variable used s) ms ≡ Variable last t
+  told_goes used s [] last t known at_end = refl
+  told_goes used s (m ∷ ms) last t known (through v has more) =
+      ap (λ r. walk names r ms) (told_field used s m v known has)
+      ∙ told_goes v.type_use (is_some_count m.subscripts) ms last t (next_known used s m v known has) more
+
+  pub last_known : (used : TypeUse) (s : Bool) (ms : List Member) (last : TypeUse) (t : Bool) → Known used → GoesOn sources used s ms last t → Known last
+  last_known used s [] last t known at_end = known
+  last_known used s (m ∷ ms) last t known (through v has more) = last_known v.type_use (is_some_count m.subscripts) ms last t (next_known used s m v known has) more
+
+  pub goes : (used : TypeUse) (s : Bool) (ms : List Member) (last : TypeUse) (t : Bool) → Known used → walk names (Variable used s) ms ≡ Variable last t → GoesOn sources used s ms last t
+  goes used s [] last t known e =
+      let type : used ≡ last = cc in
+      let on : s ≡ t = cc in
+      subst (λ (l : TypeUse). GoesOn sources used s [] l t) type (subst (λ (b : Bool). GoesOn sources used s [] used b) on at_end)
+  goes used s (m ∷ ms) last t known e =
+      by (step names (Variable used s) m) (looks used m known s) e
+      (λ v has. goes v.type_use (is_some_count m.subscripts) ms last t (next_known used s m v known has))
     where
-      by_case : (t : Referent) → Refers sources d name member t → t ≡ Unknown
-      by_case (Variable used) (variable n) = absurd (none used n)
-      by_case Unjudged (not_judged j) = absurd (judged j)
-      by_case Unknown nothing = refl
+      More : DeclaredVariable → Type 0
+      More v = walk names (Variable v.type_use (is_some_count m.subscripts)) ms ≡ Variable last t → GoesOn sources v.type_use (is_some_count m.subscripts) ms last t
 
-  -- Whole references
+      by : (r : Referent) → Looks used s m r → walk names r ms ≡ Variable last t → ((v : DeclaredVariable) → HasField sources used s m.name.name v → More v) → GoesOn sources used s (m ∷ ms) last t
+      by Unknown none e more = elim none [ ]
+      by Unjudged (is_open o) e more = let both : Unjudged ≡ Variable last t = sym (open_stays ms) ∙ e in absurd (let no : ⊥ = cc in no)
+      by (NoMember at) is_none e more = let both : NoMember at ≡ Variable last t = sym (wrong_stays at ms) ∙ e in absurd (let no : ⊥ = cc in no)
+      by (Variable next on) (is_found v has) e more = through v has (more v has e)
 
-  -- what a reference stands for, by the names that are judged
-  pub data Judged (r : ReferenceTree) : Type 0 where
-    short : (member : Option NameUse) → Follows r member → Judged r
-    long : referent_of scope r ≡ Unjudged → ((member : Option NameUse) → ¬ Follows r member) → Judged r
+  -- Where a reference begins
 
-  -- a name with a subscript behind it, or with more than one name
-  follows_none : (r : ReferenceTree) (m : Member) (others : List Member) → r.members ≡ m ∷ others → (r.subscripts ≡ 0 → others ≡ [] → ⊥) → (member : Option NameUse) → ¬ Follows r member
-  follows_none r m others is other None (no_name none) = let both : m ∷ others ≡ [] = sym is ∙ none in cc both
-  follows_none r m others is other (Some X) (one_name n zero_is one) =
-      let both : m ∷ others ≡ n ∷ [] = sym is ∙ one in
-      other zero_is (ap rest both)
+  port_told : (r : ReferenceTree) (i : DeclaredInstance) (m : Member) (behind : List Member) → IsAtPort d r i m behind → is_before_port names.scope r.name.name r.subscripts ≡ true
+  port_told r i m behind at = (λ k. not (is_some_count (at.plain k)) && is_at_adapter (at.stands k)) ∙ has_role i at.adapter
+
+  -- a reference at a plug or a socket
+  record AtPort (r : ReferenceTree) (m : Member) (behind : List Member) : Type 0 where
+    instance : DeclaredInstance
+    at_port : IsAtPort d r instance m behind
+
+  port_found : (r : ReferenceTree) (m : Member) (behind : List Member) → r.members ≡ m ∷ behind → is_before_port names.scope r.name.name r.subscripts ≡ true → AtPort r m behind
+  port_found r m behind second e = by_count (is_some_count r.subscripts) refl e
     where
-      rest : List Member → List Member
-      rest [] = []
-      rest (x ∷ xs) = xs
+      by_instance : r.subscripts ≡ 0 → (o : Option DeclaredInstance) → stands_for (meanings_in_type d).instances r.name.name ≡ o → is_at_adapter o ≡ true → AtPort r m behind
+      by_instance none None stands e = absurd (true≢false (sym e))
+      by_instance none (Some i) stands e = record { instance = i; at_port = record { stands = stands; adapter = of_role i e; plain = none; second = second } }
 
-  pub judged : (r : ReferenceTree) → Judged r
-  judged r = by_names r.members r.subscripts refl refl
+      by_count : (b : Bool) → is_some_count r.subscripts ≡ b → (not b && is_at_adapter (stands_for (meanings_in_type d).instances r.name.name)) ≡ true → AtPort r m behind
+      by_count false none e = let few = ltb-false 0 r.subscripts none in by_instance (omega (arith, few)) (stands_for (meanings_in_type d).instances r.name.name) refl e
+      by_count true some e = absurd (true≢false (sym e))
+
+  -- what a reference begins at, the names of that behind the first one, and the further ones
+  pub data Starts (r : ReferenceTree) : Referent → List Member → List Member → Type 0 where
+    at_first : ((i : DeclaredInstance) (m : Member) (behind : List Member) → ¬ IsAtPort d r i m behind) → Starts r (variable_named names.scope r.name.name (is_some_count r.subscripts)) [] r.members
+    at_second : (i : DeclaredInstance) (m : Member) (behind : List Member) → IsAtPort d r i m behind → Starts r (port_named names.scope r.name.name m) (m ∷ []) behind
+
+  pub record Start (r : ReferenceTree) : Type 0 where
+    pub base : Referent
+    pub skipped : List Member
+    pub behind : List Member
+    pub starts : Starts r base skipped behind
+
+  pub start : (r : ReferenceTree) → Start r
+  start r = by_members r.members refl
     where
-      by_names : (members : List Member) (count : ℕ) → r.members ≡ members → r.subscripts ≡ count → Judged r
-      by_names [] count is n = short None (no_name is)
-      by_names (m ∷ []) zero is n = short (Some m.name) (one_name m n is)
-      by_names (m ∷ next ∷ others) zero is n =
-          long (λ k. referent_from scope r.name.name (n k) (is k)) (follows_none r m (next ∷ others) is (λ zero_is none. let no : ⊥ = cc none in no))
-      by_names (m ∷ others) (suc count) is n =
-          long (λ k. referent_from scope r.name.name (n k) (is k)) (follows_none r m others is (λ zero_is none. let both : suc count ≡ 0 = sym n ∙ zero_is in cc both))
+      by_port : (m : Member) (behind : List Member) → r.members ≡ m ∷ behind → (b : Bool) → is_before_port names.scope r.name.name r.subscripts ≡ b → Start r
+      by_port m behind second true e =
+          let at = port_found r m behind second e in
+          record { base = port_named names.scope r.name.name m; skipped = m ∷ []; behind = behind; starts = at_second at.instance m behind at.at_port }
+      by_port m behind second false e = record {
+        base = variable_named names.scope r.name.name (is_some_count r.subscripts);
+        skipped = [];
+        behind = r.members;
+        starts = at_first (λ i n others at. true≢false (sym (port_told r i n others at) ∙ e));
+      }
 
-  pub told_follows : (r : ReferenceTree) (member : Option NameUse) → Follows r member → referent_of scope r ≡ referent scope r.name member
-  told_follows r None (no_name is) = ap (referent_from scope r.name.name r.subscripts) is
-  told_follows r (Some X) (one_name m n is) = λ k. referent_from scope r.name.name (n k) (is k)
+      by_members : (members : List Member) → r.members ≡ members → Start r
+      by_members [] none = record {
+        base = variable_named names.scope r.name.name (is_some_count r.subscripts);
+        skipped = [];
+        behind = r.members;
+        starts = at_first (λ i n others at. let both : [] ≡ n ∷ others = sym none ∙ at.second in cc both);
+      }
+      by_members (m ∷ behind) second = by_port m behind second (is_before_port names.scope r.name.name r.subscripts) refl
 
-  pub data Stands (r : ReferenceTree) : Referent → Type 0 where
-    as_variable : {used : TypeUse} → IsOfVariable sources d r used → Stands r (Variable used)
-    as_unjudged : Stands r Unjudged
-    as_unknown : Stands r Unknown
+  pub parts : (r : ReferenceTree) (base : Referent) (skipped behind : List Member) → Starts r base skipped behind → r.members ≡ skipped ++ behind
+  parts r base [] behind (at_first none) = refl
+  parts r base (n ∷ []) behind (at_second i m others at) = at.second
+  parts r base (n ∷ (q ∷ qs)) behind none = elim none [ ]
 
-  stands_short : (r : ReferenceTree) (member : Option NameUse) → Follows r member → (t : Referent) → Refers sources d r.name member t → Stands r t
-  stands_short r member f (Variable used) (variable n) = as_variable (record { member = member; follows = f; variable = n })
-  stands_short r member f Unjudged (not_judged j) = as_unjudged
-  stands_short r member f Unknown nothing = as_unknown
-
-  -- what a reference stands for
-  pub stands : (r : ReferenceTree) → Stands r (referent_of scope r)
-  stands r = by_case (judged r)
+  -- behind what it begins at a reference is walked through
+  pub walked : (r : ReferenceTree) (base : Referent) (skipped behind : List Member) → Starts r base skipped behind → (before others : List Member) → behind ≡ before ++ others → referent_through names r (skipped ++ before) ≡ walk names base before
+  walked r base [] behind (at_first none) [] others parted = refl
+  walked r base [] behind (at_first none) (m ∷ ms) others parted = by (is_before_port names.scope r.name.name r.subscripts) refl
     where
-      by_case : Judged r → Stands r (referent_of scope r)
-      by_case (short member f) = subst (Stands r) (sym (told_follows r member f)) (stands_short r member f (referent scope r.name member) (refers r.name member))
-      by_case (long unjudged none) = subst (Stands r) (sym unjudged) as_unjudged
+      by : (b : Bool) → is_before_port names.scope r.name.name r.subscripts ≡ b → cond b (walk names (port_named names.scope r.name.name m) ms) (walk names base (m ∷ ms)) ≡ walk names base (m ∷ ms)
+      by true e = let at = port_found r m (ms ++ others) parted e in absurd (none at.instance m (ms ++ others) at.at_port)
+      by false e = refl
+  walked r base (n ∷ []) behind (at_second i m rest at) before others parted =
+      ap (λ b. cond b (walk names (port_named names.scope r.name.name m) before) (walk names (variable_named names.scope r.name.name (is_some_count r.subscripts)) (m ∷ before))) (port_told r i m rest at)
+  walked r base (n ∷ (q ∷ qs)) behind none before others parted = elim none [ ]
 
-  pub told_reference : (r : ReferenceTree) (used : TypeUse) → IsOfVariable sources d r used → referent_of scope r ≡ Variable used
-  told_reference r used n = told_follows r n.member n.follows ∙ told_variable r.name n.member used n.variable
+  pub whole : (r : ReferenceTree) (base : Referent) (skipped behind : List Member) → Starts r base skipped behind → referent_of names r ≡ walk names base behind
+  whole r base skipped behind starts =
+      ap (referent_through names r) (parts r base skipped behind starts)
+      ∙ walked r base skipped behind starts behind [] (sym (append-nil behind))
 
-  -- a name alone
-  pub named_alone : (name : NameUse) (used : TypeUse) → IsOfVariable sources d (name_alone name) used → NamesVariable sources d name None used
-  named_alone name used n = by_case n.member n.follows n.variable
+  -- the ports of an own plug or socket
+  port_ports : (r : ReferenceTree) (i : DeclaredInstance) (m : Member) (behind : List Member) → IsAtPort d r i m behind → ports_of names.scope r.name.name ≡ usable i.role (tree_at sources i.type_name.name)
+  port_ports r i m behind at = ap (option_and_then (instance_ports names.scope)) at.stands ∙ own_type sources d r.name.name i at.stands
+
+  -- what a reference begins at
+  pub data Base (r : ReferenceTree) (behind : List Member) : Referent → Type 0 where
+    variable : {used : TypeUse} {s : Bool} → Begins sources d r used s behind → Base r behind (Variable used s)
+    not_judged_port : IsOfNoAdapter sources d r → Base r behind Unjudged
+    nothing : Base r behind Unknown
+
+  module _ (r : ReferenceTree) (i : DeclaredInstance) (m : Member) (behind : List Member) (at : IsAtPort d r i m behind) where
+    abbrev on : Bool
+    on = is_some_count m.subscripts
+
+    by_section : (a : TypeTree) → tree_at sources i.type_name.name ≡ Some (adapter_type a) → (v : DeclaredVariable) → stands_for (meanings_in_type a).variables m.name.name ≡ Some v → (s : Section) → v.section ≡ s → Base r behind (cond (is_data s) (Variable v.type_use on) Unknown)
+    by_section a is v e Input s = variable (of_adapter i m a v at is e (inl s))
+    by_section a is v e Output s = variable (of_adapter i m a v at is e (inr s))
+    by_section a is v e Internal s = nothing
+    by_section a is v e Field s = nothing
+
+    by_data : (a : TypeTree) → tree_at sources i.type_name.name ≡ Some (adapter_type a) → (o : Option DeclaredVariable) → stands_for (meanings_in_type a).variables m.name.name ≡ o → Base r behind (data_referent o on)
+    by_data a is None e = nothing
+    by_data a is (Some v) e = by_section a is v e v.section refl
+
+    by_ports : (o : Option Meanings) → usable i.role (tree_at sources i.type_name.name) ≡ o → Base r behind (port_referent o m.name.name on)
+    by_ports None u = not_judged_port (record {
+      instance = i;
+      member = m;
+      behind = behind;
+      at_port = at;
+      none = λ a is. let both : Some (meanings_in_type a) ≡ None = sym (adapter_used sources i at.adapter a is) ∙ u in cc both;
+    })
+    by_ports (Some ports) u =
+        let a = adapter_found sources i.type_name.name i.role ports at.adapter (known_type sources i.type_name.name i.role ports u) in
+        subst (λ (p : Meanings). Base r behind (port_referent (Some p) m.name.name on)) a.has (by_data a.type a.is (stands_for (meanings_in_type a.type).variables m.name.name) refl)
+
+    base_at_port : Base r behind (port_named names.scope r.name.name m)
+    base_at_port = subst (λ (o : Option Meanings). Base r behind (port_referent o m.name.name on)) (sym (port_ports r i m behind at)) (by_ports (usable i.role (tree_at sources i.type_name.name)) refl)
+
+  pub base_of : (r : ReferenceTree) (base : Referent) (skipped behind : List Member) → Starts r base skipped behind → Base r behind base
+  base_of r base [] behind (at_first none) = by (stands_for names.scope.own.variables r.name.name) refl
     where
-      by_case : (member : Option NameUse) → Follows (name_alone name) member → NamesVariable sources d name member used → NamesVariable sources d name None used
-      by_case None (no_name is) v = v
-      by_case (Some X) (one_name m n is) v = absurd (let no : ⊥ = cc is in no)
+      by : (o : Option DeclaredVariable) → stands_for names.scope.own.variables r.name.name ≡ o → Base r r.members (own_referent o (is_some_count r.subscripts))
+      by None e = nothing
+      by (Some v) e = variable (own v e none)
+  base_of r base (n ∷ []) behind (at_second i m others at) = base_at_port r i m behind at
+  base_of r base (n ∷ (q ∷ qs)) behind none = elim none [ ]
+
+  -- a reference that begins at a variable
+  pub record Begun (r : ReferenceTree) (used : TypeUse) (s : Bool) (behind : List Member) : Type 0 where
+    pub base : Referent
+    pub skipped : List Member
+    pub starts : Starts r base skipped behind
+    pub is : base ≡ Variable used s
+
+  pub begun : (r : ReferenceTree) (used : TypeUse) (s : Bool) (behind : List Member) → Begins sources d r used s behind → Begun r used s behind
+  begun r used s behind (own v e none) = record {
+    base = variable_named names.scope r.name.name (is_some_count r.subscripts);
+    skipped = [];
+    starts = at_first none;
+    is = ap (λ o. own_referent o (is_some_count r.subscripts)) e;
+  }
+  begun r used s behind (of_adapter i m a v at is e data_port) = record {
+    base = port_named names.scope r.name.name m;
+    skipped = m ∷ [];
+    starts = at_second i m behind at;
+    is =
+        ap (λ o. port_referent o m.name.name (is_some_count m.subscripts)) (port_ports r i m behind at ∙ adapter_used sources i at.adapter a is)
+        ∙ ap (λ o. data_referent o (is_some_count m.subscripts)) e
+        ∙ ap (λ b. cond b (Variable v.type_use (is_some_count m.subscripts)) Unknown) (data_section v.section data_port);
+  }
+
+  pub begins_known : (r : ReferenceTree) (used : TypeUse) (s : Bool) (behind : List Member) → Begins sources d r used s behind → Known used
+  begins_known r used s behind (own v e none) = own_known sources unit d declared r.name.name v e
+  begins_known r used s behind (of_adapter i m a v at is e data_port) = data_known sources unit d declared r.name.name i a m.name.name v at.stands is e
+
+  -- References that begin at no variable
+
+  pub none_begins : (r : ReferenceTree) → referent_of names r ≡ Unknown → (used : TypeUse) (s : Bool) (behind : List Member) → ¬ Begins sources d r used s behind
+  none_begins r e used s behind n =
+      let b = begun r used s behind n in
+      let both : Variable used s ≡ Unknown = sym b.is ∙ walk_unknown b.base behind (sym (whole r b.base b.skipped behind b.starts) ∙ e) in
+      cc both
+
+  pub is_judged : (r : ReferenceTree) → referent_of names r ≡ Unknown → ¬ IsOfNoAdapter sources d r
+  is_judged r e n =
+      let i = n.instance in
+      let starts = at_second i n.member n.behind n.at_port in
+      let none = by (usable i.role (tree_at sources i.type_name.name)) refl in
+      let is : port_named names.scope r.name.name n.member ≡ Unjudged = ap (λ o. port_referent o n.member.name.name (is_some_count n.member.subscripts)) (port_ports r i n.member n.behind n.at_port ∙ none) in
+      let both : Unjudged ≡ Unknown = sym is ∙ walk_unknown (port_named names.scope r.name.name n.member) n.behind (sym (whole r (port_named names.scope r.name.name n.member) (n.member ∷ []) n.behind starts) ∙ e) in
+      cc both
+    where
+      by : (o : Option Meanings) → usable n.instance.role (tree_at sources n.instance.type_name.name) ≡ o → usable n.instance.role (tree_at sources n.instance.type_name.name) ≡ None
+      by None u = u
+      by (Some ports) u =
+          let a = adapter_found sources n.instance.type_name.name n.instance.role ports n.at_port.adapter (known_type sources n.instance.type_name.name n.instance.role ports u) in
+          absurd (n.none a.type a.is)
+
+  pub is_unknown : (r : ReferenceTree) → ((used : TypeUse) (s : Bool) (behind : List Member) → ¬ Begins sources d r used s behind) → ¬ IsOfNoAdapter sources d r → referent_of names r ≡ Unknown
+  is_unknown r none judged = by_base (start r)
+    where
+      by_case : (base : Referent) (skipped behind : List Member) → Starts r base skipped behind → Base r behind base → referent_of names r ≡ Unknown
+      by_case (Variable used s) skipped behind starts (variable n) = absurd (none used s behind n)
+      by_case Unjudged skipped behind starts (not_judged_port n) = absurd (judged n)
+      by_case (NoMember at) skipped behind starts none = elim none [ ]
+      by_case Unknown skipped behind starts nothing = whole r Unknown skipped behind starts ∙ unknown_stays behind
+
+      by_base : Start r → referent_of names r ≡ Unknown
+      by_base s = by_case s.base s.skipped s.behind s.starts (base_of r s.base s.skipped s.behind s.starts)
+
+  -- The type of a whole reference
+
+  pub told_type_of : (r : ReferenceTree) (last : TypeUse) (t : Bool) → NamesType sources d r last t → referent_of names r ≡ Variable last t
+  told_type_of r last t n =
+      let b = begun r n.first n.at_first n.behind n.begins in
+      whole r b.base b.skipped n.behind b.starts
+      ∙ ap (λ base. walk names base n.behind) b.is
+      ∙ told_goes n.first n.at_first n.behind last t (begins_known r n.first n.at_first n.behind n.begins) n.leads
+
+  pub names_type : (r : ReferenceTree) (last : TypeUse) (t : Bool) → referent_of names r ≡ Variable last t → NamesType sources d r last t
+  names_type r last t e = by_base (start r)
+    where
+      by_case : (base : Referent) (skipped behind : List Member) → Base r behind base → walk names base behind ≡ Variable last t → NamesType sources d r last t
+      by_case (Variable used s) skipped behind (variable n) w = record {
+        first = used;
+        at_first = s;
+        behind = behind;
+        begins = n;
+        leads = goes used s behind last t (begins_known r used s behind n) w;
+      }
+      by_case Unjudged skipped behind (not_judged_port n) w = let both : Unjudged ≡ Variable last t = sym (open_stays behind) ∙ w in absurd (let no : ⊥ = cc in no)
+      by_case (NoMember at) skipped behind none w = elim none [ ]
+      by_case Unknown skipped behind nothing w = let both : Unknown ≡ Variable last t = sym (unknown_stays behind) ∙ w in absurd (let no : ⊥ = cc in no)
+
+      by_base : Start r → NamesType sources d r last t
+      by_base s = by_case s.base s.skipped s.behind (base_of r s.base s.skipped s.behind s.starts) (sym (whole r s.base s.skipped s.behind s.starts) ∙ e)

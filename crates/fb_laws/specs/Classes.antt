@@ -1,6 +1,6 @@
 -- The rules of classes, as relations: which classes join, what operators make of classes, what places ask for, and the class of each expression.
-use Rattle.std.specs.Prelude.{◌≡◌, ◌≢◌}
-use Rattle.fb_tree.specs.Expression.{ReferenceTree, Expression, literal_expression, reference_expression, unary_expression, row_expression, parentheses, Expressions, no_expressions, expression_then, Operands, no_operands, operand_then}
+use Rattle.std.specs.Prelude.{◌≡◌, ◌≢◌, Bool, true, false}
+use Rattle.fb_tree.specs.Expression.{ReferenceTree, Expression, literal_expression, reference_expression, unary_expression, row_expression, parentheses, Expressions, Operands, no_operands, operand_then}
 use Rattle.fb_tree.specs.Tree.{TypeTree}
 use Rattle.fb_tree.specs.declared.constant.Literal.{Literal}
 use Rattle.fb_tree.specs.declared.expression.BinaryOperator.{BinaryOperator}
@@ -18,7 +18,7 @@ use Rattle.fb_deploy.specs.Iface.declared.classes.Class.{Class}
 use Rattle.fb_deploy.specs.Iface.declared.classes.Class.TheVariants.{B, I, W, O, Free, Num, Any}
 use Rattle.fb_expr.specs.declared.rules.ClassPlace.{ClassPlace}
 use Rattle.fb_expr.specs.declared.rules.ClassPlace.TheVariants.{Condition, Count, Counter, Selector}
-use Rattle.fb_laws.specs.Variables.{IsOfVariable}
+use Rattle.fb_laws.specs.Variables.{NamesType}
 
 -- Two classes join to a third: equal ones to themselves, Any with another to that, Num with I, W or O to that, I with O to O, and Free with
 -- anything to Free.
@@ -127,17 +127,17 @@ pub data Fits : ClassPlace → Class → Type 0 where
 mutual
   pub data HasClass (sources : Sources) (d : TypeTree) : Expression → Class → Type 0 where
     of_literal : {l : Literal} → HasClass sources d (literal_expression l) (class_of_literal l.form)
-    of_variable : {r : ReferenceTree} (used : TypeUse)
-        → IsOfVariable sources d r used
-        → HasClass sources d (reference_expression r no_expressions) (class_of_type used)
-    of_element : {r : ReferenceTree} {e : Expression} {others : Expressions} (used : TypeUse)
-        → IsOfVariable sources d r used → used.form ≡ forms.Array
-        → HasClass sources d (reference_expression r (expression_then e others)) (class_of_name used.name.name)
-    of_no_array : {r : ReferenceTree} {e : Expression} {others : Expressions} (used : TypeUse)
-        → IsOfVariable sources d r used → used.form ≢ forms.Array
-        → HasClass sources d (reference_expression r (expression_then e others)) O
+    of_variable : {r : ReferenceTree} {subscripts : Expressions} (used : TypeUse)
+        → NamesType sources d r used false
+        → HasClass sources d (reference_expression r subscripts) (class_of_type used)
+    of_element : {r : ReferenceTree} {subscripts : Expressions} (used : TypeUse)
+        → NamesType sources d r used true → used.form ≡ forms.Array
+        → HasClass sources d (reference_expression r subscripts) (class_of_name used.name.name)
+    of_no_array : {r : ReferenceTree} {subscripts : Expressions} (used : TypeUse)
+        → NamesType sources d r used true → used.form ≢ forms.Array
+        → HasClass sources d (reference_expression r subscripts) O
     of_no_variable : {r : ReferenceTree} {subscripts : Expressions}
-        → ((used : TypeUse) → ¬ IsOfVariable sources d r used)
+        → ((used : TypeUse) (subscripted : Bool) → ¬ NamesType sources d r used subscripted)
         → HasClass sources d (reference_expression r subscripts) Free
     of_operator : {used : UnaryUse} {x : Expression} {g : Class} (c : Class)
         → HasClass sources d x c → Changes used.operator c g

@@ -3,12 +3,13 @@ use Rattle.std.specs.Prelude.{◌≡◌, ◌≢◌, ℕ, ◌<◌, true, false, L
 use Rattle.fb_text.specs.declared.token.Span.{Span}
 use Rattle.fb_text.specs.declared.name.NameUse.{NameUse}
 use Rattle.fb_tree.specs.Mentions.{unit_kind_of}
-use Rattle.fb_tree.specs.Tree.{ConstantTree, DeclTree, EventTree, InstanceTree, TypeTree, VariablesTree, block_type, one_value, value_list}
+use Rattle.fb_tree.specs.Tree.{ConstantTree, DeclTree, EventTree, InstanceTree, StructureTree, TypeTree, VariablesTree, block_type, structure_type, one_value, value_list}
 use Rattle.fb_tree.specs.declared.constant.Simple.{Simple}
 use Rattle.fb_tree.specs.declared.interface.TypeForm.TheVariants as forms
 use Rattle.fb_tree.specs.declared.interface.TypeUse.{TypeUse}
+use Rattle.fb_deploy.specs.Library.Near.{Carries}
 use Rattle.fb_deploy.specs.Library.View.{Sources, tree_at, type_in}
-use Rattle.fb_deploy.specs.Iface.declared.code.Code.TheVariants.{Duplicate, Literal, MixedKind, NameDiffers, UnknownType, WithUnknown, WrongKind}
+use Rattle.fb_deploy.specs.Iface.declared.code.Code.TheVariants.{Duplicate, Literal, MixedKind, NameDiffers, StructRecursive, UnknownType, WithUnknown, WrongKind}
 use Rattle.fb_deploy.specs.Iface.declared.ports.DeclaredVariable.{DeclaredVariable}
 use Rattle.fb_deploy.specs.Iface.Class.{class_of_name, class_of_simple, class_of_type, is_free, takes}
 use Rattle.fb_deploy.specs.Iface.Declarations.{declared_name}
@@ -107,6 +108,13 @@ pub record HasMisfit (sources : Sources) (unit : List ℕ) (span : Span) : Type 
   pub written : variables.initial ≡ Some initial
   pub misfit : IsMisfit variables.type_use initial span
 
+-- a structure that carries itself
+pub record HasSelfCarrying (sources : Sources) (unit : List ℕ) (span : Span) : Type 0 where
+  pub structure : StructureTree
+  pub declared : IsDeclaredAt sources unit (structure_type structure)
+  pub carries : Carries sources unit unit
+  pub place : span ≡ structure.name.span
+
 abbrev pub OtherNamesAreReported : Type 0
 OtherNamesAreReported = IsReportedWhere Declarations NameDiffers HasOtherName
 
@@ -127,3 +135,6 @@ UnknownWithsAreReported = IsReportedWhere Declarations WithUnknown HasUnknownWit
 
 abbrev pub MisfitsAreReported : Type 0
 MisfitsAreReported = IsReportedWhere Declarations Literal HasMisfit
+
+abbrev pub RecursiveStructuresAreReported : Type 0
+RecursiveStructuresAreReported = IsReportedWhere Declarations StructRecursive HasSelfCarrying

@@ -1,5 +1,5 @@
 -- Each code of expressions and statements in words of its own: where the list of faults has it.
-use Rattle.std.specs.Prelude.{◌≡◌, ℕ, List, Option, None}
+use Rattle.std.specs.Prelude.{◌≡◌, ℕ, Bool, List, ◌∷◌, ◌++◌, Option, Some}
 use Rattle.fb_text.specs.declared.name.NameUse.{NameUse}
 use Rattle.fb_text.specs.declared.token.Span.{Span}
 use Rattle.fb_tree.specs.Expression.{ReferenceTree, Expression, reference_expression, unary_expression, row_expression, Expressions, Operands}
@@ -8,39 +8,65 @@ use Rattle.fb_tree.specs.Tree.{TypeTree}
 use Rattle.fb_tree.specs.declared.expression.BinaryUse.{BinaryUse}
 use Rattle.fb_tree.specs.declared.expression.UnaryUse.{UnaryUse}
 use Rattle.fb_tree.specs.declared.interface.TypeUse.{TypeUse}
+use Rattle.fb_tree.specs.declared.reference.Member.{Member}
 use Rattle.fb_deploy.specs.Library.View.{Sources}
 use Rattle.fb_deploy.specs.Iface.Class.{class_of_type}
+use Rattle.fb_deploy.specs.Iface.Names.{stands_for}
 use Rattle.fb_deploy.specs.Iface.Ports.{meanings_in_type}
 use Rattle.fb_deploy.specs.Iface.declared.classes.Class.{Class as ValueClass}
-use Rattle.fb_deploy.specs.Iface.declared.code.Code.TheVariants.{Class, VariableUnknown}
+use Rattle.fb_deploy.specs.Iface.declared.code.Code.TheVariants.{Class, MemberUnknown, VariableUnknown}
+use Rattle.fb_deploy.specs.Iface.declared.ports.DeclaredVariable.{DeclaredVariable}
+use Rattle.fb_expr.specs.Demands.{name_alone}
 use Rattle.fb_expr.specs.declared.rules.ClassPlace.{ClassPlace}
 use Rattle.fb_expr.specs.declared.rules.ClassPlace.TheVariants.{Condition, Count, Counter}
 use Rattle.fb_laws.specs.Classes.{Changes, Combines, Fits, HasClass, IsPairIn, Joins}
 use Rattle.fb_laws.specs.Occurrences.{Asks, IsOneOf, IsRunIn, IsTestedIn, IsWrittenIn}
 use Rattle.fb_laws.specs.Declared.{IsBlockAt}
-use Rattle.fb_laws.specs.Places.{StandsAt, span_through}
+use Rattle.fb_laws.specs.Places.{BeginsAt, StandsAt}
 use Rattle.fb_laws.specs.UnitParts.{IsReportedWhere}
 use Rattle.fb_laws.specs.UnitParts as parts
-use Rattle.fb_laws.specs.Usable.{IsAdapter, IsNotJudged}
-use Rattle.fb_laws.specs.Variables.{Follows, NamesVariable}
+use Rattle.fb_laws.specs.Variables.{Begins, GoesOn, HasField, IsOfNoAdapter, IsOpen}
 
--- the names of a reference that is judged in the guards and the algorithms of a type, or the name behind FOR in an algorithm
-pub data IsNamedIn (d : TypeTree) : NameUse → Option NameUse → Type 0 where
-  in_reference : (r : ReferenceTree) (subscripts : Expressions) (member : Option NameUse)
-      → IsWrittenIn d (reference_expression r subscripts) → Follows r member → IsNamedIn d r.name member
+-- a reference in the guards and the algorithms of a type, or the name behind FOR in an algorithm
+pub data IsNamedIn (d : TypeTree) : ReferenceTree → Type 0 where
+  in_reference : (r : ReferenceTree) (subscripts : Expressions)
+      → IsWrittenIn d (reference_expression r subscripts) → IsNamedIn d r
   behind_for : (name : NameUse) (from to : Expression) (by : Option Expression) (body : Statements)
-      → IsRunIn d (count name from to by body) → IsNamedIn d name None
+      → IsRunIn d (count name from to by body) → IsNamedIn d (name_alone name)
 
--- a reference, or a name behind FOR, that names no variable
+-- a reference, or a name behind FOR, that begins at no variable
 pub record HasUnknownVariable (sources : Sources) (unit : List ℕ) (span : Span) : Type 0 where
   pub block : TypeTree
   pub declared : IsBlockAt sources unit block
-  pub name : NameUse
-  pub member : Option NameUse
-  pub named : IsNamedIn block name member
-  pub unknown : (used : TypeUse) → ¬ NamesVariable sources block name member used
-  pub judged : ¬ IsNotJudged sources (meanings_in_type block) IsAdapter name member
-  pub place : span ≡ span_through name member
+  pub reference : ReferenceTree
+  pub named : IsNamedIn block reference
+  pub unknown : (used : TypeUse) (subscripted : Bool) (behind : List Member)
+      → ¬ Begins sources block reference used subscripted behind
+  pub judged : ¬ IsOfNoAdapter sources block reference
+  pub place : BeginsAt reference span
+
+-- A further name of a reference that is no field of the type before it, where this is judged. Those before it are fields, so none is judged behind
+-- it.
+pub record HasUnknownMember (sources : Sources) (unit : List ℕ) (span : Span) : Type 0 where
+  pub block : TypeTree
+  pub declared : IsBlockAt sources unit block
+  pub reference : ReferenceTree
+  pub subscripts : Expressions
+  pub written : IsWrittenIn block (reference_expression reference subscripts)
+  pub first : TypeUse
+  pub at_first : Bool
+  pub behind : List Member
+  pub begins : Begins sources block reference first at_first behind
+  pub before : List Member
+  pub member : Member
+  pub others : List Member
+  pub parted : behind ≡ before ++ member ∷ others
+  pub used : TypeUse
+  pub subscripted : Bool
+  pub leads : GoesOn sources first at_first before used subscripted
+  pub judged : ¬ IsOpen sources used subscripted
+  pub none : (v : DeclaredVariable) → ¬ HasField sources used subscripted member.name.name v
+  pub place : span ≡ member.name.span
 
 -- A rule of classes that is broken in the type, with the place of its fault: at an operator before an operand that it has no rule for; at one
 -- between operands that don't join, or whose join it has no rule for; at a subscript, a guard, or an expression in a statement that doesn't fit its
@@ -62,9 +88,9 @@ pub data BreaksRule (sources : Sources) (d : TypeTree) : Span → Type 0 where
   in_statement : {span : Span} (s : Statement) (place : ClassPlace) (x : Expression) (c : ValueClass)
       → IsRunIn d s → Asks s place x → HasClass sources d x c → ¬ Fits place c → StandsAt x span
       → BreaksRule sources d span
-  at_counter : (name : NameUse) (from to : Expression) (by : Option Expression) (body : Statements) (used : TypeUse)
-      → IsRunIn d (count name from to by body) → NamesVariable sources d name None used
-      → ¬ Fits Counter (class_of_type used) → BreaksRule sources d name.span
+  at_counter : (name : NameUse) (from to : Expression) (by : Option Expression) (body : Statements) (v : DeclaredVariable)
+      → IsRunIn d (count name from to by body) → stands_for (meanings_in_type d).variables name.name ≡ Some v
+      → ¬ Fits Counter (class_of_type v.type_use) → BreaksRule sources d name.span
   at_assignment : (r : ReferenceTree) (subscripts : Expressions) (place : Span) (e : Expression) (a b : ValueClass)
       → IsRunIn d (assignment r subscripts place e)
       → HasClass sources d (reference_expression r subscripts) a → HasClass sources d e b
@@ -79,10 +105,13 @@ pub record HasBrokenRule (sources : Sources) (unit : List ℕ) (span : Span) : T
 abbrev pub VariablesAreKnown : Type 0
 VariablesAreKnown = IsReportedWhere parts.Expressions VariableUnknown HasUnknownVariable
 
+abbrev pub MembersAreKnown : Type 0
+MembersAreKnown = IsReportedWhere parts.Expressions MemberUnknown HasUnknownMember
+
 abbrev pub ClassesAreRight : Type 0
 ClassesAreRight = IsReportedWhere parts.Expressions Class HasBrokenRule
 
--- each expression has exactly one class
+-- each expression has exactly one class in a block type
 abbrev pub ExpressionsHaveOneClass : Type 0
-ExpressionsHaveOneClass = (sources : Sources) (d : TypeTree) (e : Expression)
+ExpressionsHaveOneClass = (sources : Sources) (unit : List ℕ) (d : TypeTree) → IsBlockAt sources unit d → (e : Expression)
     → (c : ValueClass) × HasClass sources d e c × ((other : ValueClass) → HasClass sources d e other → other ≡ c)

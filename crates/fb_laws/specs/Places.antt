@@ -1,16 +1,25 @@
 -- Where names and expressions stand.
-use Rattle.std.specs.Prelude.{Option, Some, None}
+use Rattle.std.specs.Prelude.{◌≡◌, ◌≢◌, List, [], ◌∷◌, Option, Some, None}
 use Rattle.fb_text.specs.declared.name.NameUse.{NameUse}
 use Rattle.fb_text.specs.declared.token.Span.{Span}
 use Rattle.fb_tree.specs.Expression.{ReferenceTree, Expression, literal_expression, reference_expression, unary_expression, row_expression, parentheses, Expressions, Operands, no_operands, operand_then}
 use Rattle.fb_tree.specs.declared.constant.Literal.{Literal}
 use Rattle.fb_tree.specs.declared.expression.BinaryUse.{BinaryUse}
 use Rattle.fb_tree.specs.declared.expression.UnaryUse.{UnaryUse}
+use Rattle.fb_tree.specs.declared.reference.Member.{Member}
 
 -- from the first name through the last
 abbrev pub span_through : NameUse → Option NameUse → Span
 span_through name None = name.span
 span_through name (Some last) = record { start = name.span.start; end = last.span.end }
+
+-- the place of the names that a reference begins at a variable by: the first one, through a second one that follows it directly, with no subscript
+-- between them
+pub data BeginsAt (r : ReferenceTree) : Span → Type 0 where
+  alone : r.members ≡ [] → BeginsAt r r.name.span
+  subscripted : r.subscripts ≢ 0 → BeginsAt r r.name.span
+  with_second : (m : Member) (others : List Member) → r.subscripts ≡ 0 → r.members ≡ m ∷ others
+      → BeginsAt r (span_through r.name (Some m.name))
 
 -- the last operand of a row
 pub data IsLast (e : Expression) : Operands → Type 0 where

@@ -5,7 +5,7 @@ use Rattle.fb_tree.specs.Tree.{DeclTree}
 use Rattle.fb_deploy.specs.Library.View.{Sources, tree_at}
 use Rattle.fb_deploy.specs.Iface.Declarations.{iface_faults_of}
 use Rattle.fb_deploy.specs.Iface.declared.code.Code.{Code}
-use Rattle.fb_deploy.specs.Iface.declared.code.Code.TheVariants.{Syntax, NameDiffers, Duplicate, MixedKind, UnknownType, WrongKind, WithUnknown, StateUnknown, EventUnknown, AlgorithmUnknown, VariableUnknown, Class, PortUnknown, PortSide, DataType, SecondSource, SecondAdapter, PassThrough, ParameterUnknown, Literal, MappedTwice, NoSuchResource}
+use Rattle.fb_deploy.specs.Iface.declared.code.Code.TheVariants.{Syntax, NameDiffers, Duplicate, MixedKind, UnknownType, WrongKind, WithUnknown, StateUnknown, EventUnknown, AlgorithmUnknown, VariableUnknown, Class, PortUnknown, PortSide, DataType, SecondSource, SecondAdapter, PassThrough, ParameterUnknown, Literal, MappedTwice, NoSuchResource, MemberUnknown, StructRecursive}
 use Rattle.fb_deploy.specs.Iface.declared.fault.Fault.{Fault}
 use Rattle.fb_expr.specs.Charts.{expr_faults_of}
 use Rattle.fb_ecc.specs.Charts.{ecc_faults_of}
@@ -43,7 +43,9 @@ pub data IsCodeOf : Part → Code → Type 0 where
   wrong_kind : IsCodeOf Declarations WrongKind
   unknown_with : IsCodeOf Declarations WithUnknown
   initial_value : IsCodeOf Declarations Literal
+  recursive_structure : IsCodeOf Declarations StructRecursive
   unknown_variable : IsCodeOf Expressions VariableUnknown
+  unknown_member : IsCodeOf Expressions MemberUnknown
   class : IsCodeOf Expressions Class
   unknown_state : IsCodeOf Charts StateUnknown
   unknown_event : IsCodeOf Charts EventUnknown

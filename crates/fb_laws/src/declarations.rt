@@ -1,5 +1,5 @@
 //! Laws of the faults of declarations: where each code is reported.
-ghost use Rattle.fb_laws.specs.Declarations.{DuplicatesAreReported, MisfitsAreReported, MixedKindsAreReported, OtherNamesAreReported, UnknownTypesAreReported, UnknownWithsAreReported, WrongKindsAreReported};
+ghost use Rattle.fb_laws.specs.Declarations.{DuplicatesAreReported, MisfitsAreReported, MixedKindsAreReported, OtherNamesAreReported, RecursiveStructuresAreReported, UnknownTypesAreReported, UnknownWithsAreReported, WrongKindsAreReported};
 
 /// The declared name is a fault where it is not the unit's.
 pub fn other_names_are_reported()
@@ -34,4 +34,9 @@ pub fn unknown_withs_are_reported()
 /// A constant, or an element of a list, is a fault where it does not fit the type that it is the initial value of.
 pub fn misfits_are_reported()
     ensures { MisfitsAreReported }
+{}
+
+/// The declared name is a fault where a structure carries itself.
+pub fn recursive_structures_are_reported()
+    ensures { RecursiveStructuresAreReported }
 {}

@@ -1,10 +1,16 @@
 //! Laws of the faults of expressions and statements: where each code is reported.
-ghost use Rattle.fb_laws.specs.Expressions.{ClassesAreRight, ExpressionsHaveOneClass, VariablesAreKnown};
+ghost use Rattle.fb_laws.specs.Expressions.{ClassesAreRight, ExpressionsHaveOneClass, MembersAreKnown, VariablesAreKnown};
 
-/// A reference in a guard or an algorithm, of one name or of two with no subscript between them, or the name behind `FOR`, is a fault exactly where it
-/// names no variable of the unit and no data of an own plug or socket, and rests on no type that is not usable. Longer references are not judged.
+/// A reference in a guard or an algorithm, or the name behind `FOR`, is a fault exactly where it begins at no variable of the unit and at no data of an
+/// own plug or socket, and rests on no type of one that is not usable.
 pub fn variables_are_known()
     ensures { VariablesAreKnown }
+{}
+
+/// A further name of a reference is a fault exactly where those before it lead to a type that has no field of this name and is known: it is neither
+/// generic nor absent or broken.
+pub fn members_are_known()
+    ensures { MembersAreKnown }
 {}
 
 /// An operator, a subscript, a guard, an expression in a statement, the variable of a `FOR`, or the `:=` of an assignment is a fault exactly
@@ -13,7 +19,7 @@ pub fn classes_are_right()
     ensures { ClassesAreRight }
 {}
 
-/// Each expression has exactly one class.
+/// Each expression of a block type has exactly one class.
 pub fn expressions_have_one_class()
     ensures { ExpressionsHaveOneClass }
 {}

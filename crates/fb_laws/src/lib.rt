@@ -14,10 +14,12 @@ mod units;
 pub use charts::{algorithms_are_declared, events_are_known, states_are_listed};
 pub use declarations::{
     duplicates_are_reported, misfits_are_reported, mixed_kinds_are_reported,
-    other_names_are_reported, unknown_types_are_reported, unknown_withs_are_reported,
-    wrong_kinds_are_reported,
+    other_names_are_reported, recursive_structures_are_reported, unknown_types_are_reported,
+    unknown_withs_are_reported, wrong_kinds_are_reported,
 };
-pub use expressions::{classes_are_right, expressions_have_one_class, variables_are_known};
+pub use expressions::{
+    classes_are_right, expressions_have_one_class, members_are_known, variables_are_known,
+};
 pub use networks::{
     adapters_have_one_end, destinations_have_one_source, nothing_passes_through,
     parameters_are_known, parameters_fit, ports_are_known, ports_are_of_right_sides, types_agree,

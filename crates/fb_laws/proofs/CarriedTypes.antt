@@ -1,0 +1,135 @@
+-- The types of values that references of a block type meet: it carries them, or one of its parts does, so the check knows their fields.
+use Rattle.std.proofs.Common.{◌≡◌, ℕ, Bool, true, false, true≢false, cond, not, List, [], ◌∷◌, filter, Option, Some, None, refl, sym, ap, ◌∙◌, subst}
+use Rattle.std.specs.Cmp.Lexicographic.{nat_list_cmp_total}
+use Rattle.std.specs.FinMap.{slice_cmp-IsAntisymmetric, nat_cmp-IsAntisymmetric}
+use Rattle.std.specs.List.{Contains, flat_map}
+use Rattle.std.proofs.lemmas.List.Elements.{Contains-append_left, Contains-append_right}
+use Rattle.fb_text.specs.Elementary.{is_elementary}
+use Rattle.fb_text.specs.Order.{name_cmp}
+use Rattle.fb_text.specs.declared.name.NameUse.{NameUse}
+use Rattle.fb_text.proofs.Members.{contains_filter, contains_here, contains_later, contains_map, contains_nothing, origin_in_flat_map, origin_in_map, passes_in_filter}
+use Rattle.fb_text.proofs.OrderLemmas.{in_order-members}
+use Rattle.fb_tree.specs.Mentions.{types_in, value_types, variable_types}
+use Rattle.fb_tree.specs.Tree.{DeclTree, InstanceTree, NetworkTree, StructureTree, TypeTree, VariablesTree, adapter_type, block_type, structure_type}
+use Rattle.fb_deploy.specs.Library.Near.{Carries, directly, onward, bases_at, carried_of}
+use Rattle.fb_deploy.specs.Library.Seen.{has_name}
+use Rattle.fb_deploy.specs.Library.View.{Sources, mentions_of_tree, parts_at, parts_in, tree_at, values_at, values_in}
+use Rattle.fb_deploy.specs.Iface.Fields.{NoFields, fields_in, fields_near, fields_of_tree}
+use Rattle.fb_deploy.specs.Iface.Names.{is_same, stands_for}
+use Rattle.fb_deploy.specs.Iface.Ports.{instances_in, meanings_in_type, variables_in, variables_together}
+use Rattle.fb_deploy.specs.Iface.declared.ports.DeclaredInstance.{DeclaredInstance}
+use Rattle.fb_deploy.specs.Iface.declared.ports.DeclaredVariable.{DeclaredVariable}
+use Rattle.fb_deploy.proofs.Iface.ScopeLocal.{in_order_has}
+use Rattle.fb_deploy.proofs.Iface.TableLemmas.{stands_for-first_ones}
+use Rattle.fb_deploy.proofs.Library.CarriedLemmas.{carried_is_all}
+use Rattle.fb_deploy.proofs.Library.SeenLemmas.{Contains-has, has-Contains}
+
+-- what a name stands for is declared, under some name
+record IsDeclared {D : Type 0} (all : List (List ℕ × D)) (d : D) : Type 0 where
+  name : List ℕ
+  among : Contains all (name, d)
+
+declared_among : {D : Type 0} (all : List (List ℕ × D)) (q : List ℕ) (d : D) → stands_for all q ≡ Some d → IsDeclared all d
+declared_among [] q d e = absurd (let no : ⊥ = cc in no)
+declared_among {D = D} (x ∷ xs) q d e = by (is_same x.0 q) e (declared_among xs q d)
+  where
+    by : (b : Bool) → cond b (Some x.1) (stands_for xs q) ≡ Some d → (stands_for xs q ≡ Some d → IsDeclared xs d) → IsDeclared (x ∷ xs) d
+    by true e more = let same : x.1 ≡ d = cc in record { name = x.0; among = subst (λ (y : D). Contains (x ∷ xs) (x.0, y)) same (contains_here x xs) }
+    by false e more = let o = more e in record { name = o.name; among = contains_later x xs (o.name, d) o.among }
+
+-- the type of a variable or field is one of those of the groups
+typed_among : (groups : List VariablesTree) (q : List ℕ) (v : DeclaredVariable) → stands_for (flat_map variables_together groups) q ≡ Some v → Contains (variable_types groups) v.type_use.name.name
+typed_among groups q v e =
+    let it = declared_among (flat_map variables_together groups) q v e in
+    let g = origin_in_flat_map variables_together groups (it.name, v) it.among in
+    let variable : NameUse → List ℕ × DeclaredVariable = λ n. (n.name, record { section = g.origin.section; type_use = g.origin.type_use }) in
+    let n = origin_in_map variable g.origin.names (it.name, v) g.has in
+    subst (λ (t : List ℕ). Contains (variable_types groups) t) (ap (λ (p : List ℕ × DeclaredVariable). p.1.type_use.name.name) n.gives)
+    (contains_map (λ (w : VariablesTree). w.type_use.name.name) groups g.origin g.among)
+
+-- the type of an instance is one of those of the network
+part_among : (n : NetworkTree) (q : List ℕ) (i : DeclaredInstance) → stands_for (instances_in n) q ≡ Some i → Contains (types_in n.instances) i.type_name.name
+part_among n q i e =
+    let it = declared_among (instances_in n) q i e in
+    let instance : InstanceTree → List ℕ × DeclaredInstance = λ x. (x.name.name, record { role = x.role; type_name = x.type_name }) in
+    let o = origin_in_map instance n.instances (it.name, i) it.among in
+    subst (λ (t : List ℕ). Contains (types_in n.instances) t) (ap (λ (p : List ℕ × DeclaredInstance). p.1.type_name.name) o.gives)
+    (contains_map (λ (x : InstanceTree). x.type_name.name) n.instances o.origin o.among)
+
+abbrev is_plain : List ℕ → Bool
+is_plain name = not (is_elementary name)
+
+module _ (sources : Sources) where
+  -- a type that is not elementary is a value mention
+  value_of : (u : List ℕ) (decl : DeclTree) → tree_at sources u ≡ Some decl → (t : List ℕ) → Contains (value_types decl) t → is_elementary t ≡ false → Contains (values_at sources u) t
+  value_of u decl is t c elementary =
+      subst (λ (o : Option DeclTree). Contains (values_in o) t) (sym is)
+      (in_order_has (filter is_plain (value_types decl)) t (contains_filter is_plain (value_types decl) t c (ap not elementary)))
+
+  -- and only such a type is one
+  no_elementary : (o : Option DeclTree) (t : List ℕ) → Contains (values_in o) t → is_elementary t ≡ false
+  no_elementary None t c = absurd (contains_nothing t c)
+  no_elementary (Some decl) t c =
+      let among = (in_order-members name_cmp nat_list_cmp_total (slice_cmp-IsAntisymmetric nat_cmp-IsAntisymmetric) (filter is_plain (value_types decl)) t).0 c in
+      plain (is_elementary t) (passes_in_filter is_plain (value_types decl) t among).passes
+    where
+      plain : (b : Bool) → not b ≡ true → b ≡ false
+      plain true e = absurd (true≢false (sym e))
+      plain false e = refl
+
+  none_carried : {u t : List ℕ} → Carries sources u t → is_elementary t ≡ false
+  none_carried {t = t} (directly {u = u} c) = no_elementary (tree_at sources u) t c
+  none_carried {t = t} (onward {w = w} before structure c) = no_elementary (tree_at sources w) t c
+
+  module _ (unit : List ℕ) where
+    abbrev carried : List (List ℕ)
+    carried = carried_of sources (bases_at sources unit)
+
+    -- the check knows the type of this name, if it has to be declared
+    abbrev pub IsKnown : List ℕ → Type 0
+    IsKnown name = is_elementary name ≡ false → Contains carried name
+
+    carried_by : (u t : List ℕ) → Contains (bases_at sources unit) u → Carries sources u t → Contains carried t
+    carried_by u t base c = ((carried_is_all sources (bases_at sources unit)).1 t).1 (u, base, c)
+
+    none_listed : (name : List ℕ) → is_elementary name ≡ true → has_name carried name ≡ false
+    none_listed name elementary = by (has_name carried name) refl
+      where
+        by : (b : Bool) → has_name carried name ≡ b → b ≡ false
+        by true e =
+            let some = ((carried_is_all sources (bases_at sources unit)).1 name).0 (Contains-has name carried e) in
+            absurd (true≢false (sym elementary ∙ none_carried some.2))
+        by false e = refl
+
+    -- what may be named behind it, by its declaration
+    pub known_fields : (name : List ℕ) → IsKnown name → fields_near sources unit name ≡ cond (is_elementary name) NoFields (fields_of_tree (tree_at sources name))
+    known_fields name known = by (is_elementary name) refl
+      where
+        by : (b : Bool) → is_elementary name ≡ b → fields_near sources unit name ≡ cond b NoFields (fields_of_tree (tree_at sources name))
+        by true e = ap (λ has. cond has (fields_of_tree (tree_at sources name)) NoFields) (none_listed name e)
+        by false e = ap (λ has. cond has (fields_of_tree (tree_at sources name)) NoFields) (has-Contains name carried (known e))
+
+    -- the type of a field of a structure that is known
+    pub field_known : (name : List ℕ) (s : StructureTree) (q : List ℕ) (v : DeclaredVariable) → IsKnown name → is_elementary name ≡ false → tree_at sources name ≡ Some (structure_type s) → stands_for (fields_in s) q ≡ Some v → IsKnown v.type_use.name.name
+    field_known name s q v known plain is e elementary =
+        let t = v.type_use.name.name in
+        let some = ((carried_is_all sources (bases_at sources unit)).1 name).0 (known plain) in
+        carried_by some.0 t some.1 (onward some.2 (ap (λ (o : Option DeclTree). (mentions_of_tree o).is_structure) is) (value_of name (structure_type s) is t (typed_among s.fields q v e) elementary))
+
+    module _ (d : TypeTree) (declared : tree_at sources unit ≡ Some (block_type d)) where
+      -- the type of a variable of the unit
+      pub own_known : (q : List ℕ) (v : DeclaredVariable) → stands_for (meanings_in_type d).variables q ≡ Some v → IsKnown v.type_use.name.name
+      own_known q v e elementary =
+          let t = v.type_use.name.name in
+          let typed = typed_among d.interface.variables q v (sym (stands_for-first_ones (variables_in d.interface) q) ∙ e) in
+          carried_by unit t (Contains-append_right (parts_at sources unit) (unit ∷ []) unit (contains_here unit [])) (directly (value_of unit (block_type d) declared t typed elementary))
+
+      -- the type of data of an own plug or socket
+      pub data_known : (p : List ℕ) (i : DeclaredInstance) (a : TypeTree) (q : List ℕ) (v : DeclaredVariable) → stands_for (meanings_in_type d).instances p ≡ Some i → tree_at sources i.type_name.name ≡ Some (adapter_type a) → stands_for (meanings_in_type a).variables q ≡ Some v → IsKnown v.type_use.name.name
+      data_known p i a q v stands is e elementary =
+          let t = v.type_use.name.name in
+          let u = i.type_name.name in
+          let typed = typed_among a.interface.variables q v (sym (stands_for-first_ones (variables_in a.interface) q) ∙ e) in
+          let mentioned = part_among d.network p i (sym (stands_for-first_ones (instances_in d.network) p) ∙ stands) in
+          let part : Contains (parts_at sources unit) u = subst (λ (o : Option DeclTree). Contains (parts_in o) u) (sym declared) (in_order_has (types_in d.network.instances) u mentioned) in
+          carried_by u t (Contains-append_left (parts_at sources unit) (unit ∷ []) u part) (directly (value_of u (adapter_type a) is t typed elementary))
