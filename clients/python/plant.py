@@ -2,6 +2,8 @@
 from __future__ import annotations
 
 import gc
+import math
+import time
 from collections import defaultdict
 from collections.abc import Iterable, Iterator
 from functools import cached_property
@@ -10,8 +12,13 @@ from pathlib import Path
 from bench61499 import Places
 from declarations import INSTANCE, Declaration, Key, Unit, Use
 from explain import Names
-from positions import Range, range_of, range_of_name
+from positions import Range, line_character, range_of, range_of_name
 from reader import read
+from rpc import written
+
+
+_FREEZE_EACH = 50
+"""Texts after which what was read is passed over by the garbage collector."""
 
 
 class Text:
@@ -34,10 +41,13 @@ class Text:
         return Places(self.text)
 
     @cached_property
-    def head(self) -> Range | None:
-        """Where the name of the unit is declared."""
-        its = self.unit.declared[:1] if self.unit.kind else []
-        return self.name_range(its[0].start, its[0].end) if its else None
+    def _written_uri(self) -> str:
+        return written(self.uri)
+
+    @cached_property
+    def head(self) -> str | None:
+        """The location of the name of the unit, written."""
+        return next(self.written_locations(self.unit.declared[:1]), None) if self.unit.kind else None
 
     def prepare(self) -> None:
         """Has all that is made of the text made now, and not when somebody asks."""
@@ -50,6 +60,14 @@ class Text:
     def name_range(self, start: int, end: int) -> Range:
         return range_of_name(self.places, start, end)
 
+    def written_locations(self, names: Iterable[Declaration | Use]) -> Iterator[str]:
+        """Where names stand, written: of each `{"uri": .., "range": ..}`."""
+        head, places = f'{{"uri":{self._written_uri},"range":{{"start":{{"line":', self.places
+        for it in names:
+            line, first = line_character(places, it.start)
+            last = first + it.end - it.start
+            yield f'{head}{line},"character":{first}}},"end":{{"line":{line},"character":{last}}}}}}}'
+
 
 class Plant:
     """The texts by file, and an index of them that is brought up to date by `refresh`."""
@@ -61,7 +79,7 @@ class Plant:
         self._declaring: defaultdict[str, set[Path]] = defaultdict(set)
         self._using: defaultdict[str, set[Path]] = defaultdict(set)
         self._walking: set[Path] = set()
-        self._frozen = 50
+        self._frozen = 0
         self._near: dict[str, tuple[frozenset[str], Names]] = {}
 
     def put(self, file: Path, text: str | None, uri: str | None = None) -> None:
@@ -75,20 +93,20 @@ class Plant:
     def is_read(self) -> bool:
         return not self._unread
 
-    def refresh(self, most: int | None = None) -> None:
-        """Reads the texts that have changed, or so many of them."""
-        for file in list(self._unread)[:most]:
-            self._unread.discard(file)
+    def refresh(self, end: float = math.inf) -> None:
+        """Reads the texts that have changed: all of them, or some until a time of the monotonic clock."""
+        while self._unread and time.monotonic() < end:
+            file = self._unread.pop()
             self._forget(file)
             if text := self._texts.get(file):
                 self._index(text)
-        if self.is_read() and len(self._names) >= 2 * self._frozen:
             self._freeze()
 
     def _freeze(self) -> None:
-        """Tells the garbage collector to pass over what is there, which otherwise takes a third of a second in a large plant."""
-        self._frozen = max(100, len(self._names))
-        gc.freeze()
+        """Tells the garbage collector now and then to pass over what is there, which otherwise takes a third of a second in a large plant."""
+        if len(self._names) >= self._frozen + _FREEZE_EACH:
+            self._frozen = len(self._names)
+            gc.freeze()
 
     def _forget(self, file: Path) -> None:
         for name in self._names.pop(file, ()):

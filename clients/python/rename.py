@@ -5,7 +5,7 @@ from typing import Any
 
 from bench61499 import CHANGES_LIMIT, NAME_LIMIT, TEXT_LIMIT
 from declarations import TYPE, Key
-from navigation import Found, references
+from navigation import Found, occurrences
 from plant import Plant
 from tokens import RESERVED, is_name, tokens
 
@@ -37,8 +37,8 @@ def renamed(plant: Plant, found: Found | None, name: str) -> dict[str, Any]:
     if name.upper() != key.name:
         _check_free(plant, key, name)
     changes: dict[str, list[dict[str, Any]]] = {}
-    for it in references(plant, key, with_declaration=True):
-        changes.setdefault(it["uri"], []).append({"range": it["range"], "newText": name})
+    for text, those in occurrences(plant, key, with_declaration=True):
+        changes.setdefault(text.uri, []).extend({"range": text.name_range(it.start, it.end), "newText": name} for it in those)
     _check_size(plant, key, name, changes)
     return {"changes": changes}
 
