@@ -21,6 +21,7 @@ class SymbolKind(IntEnum):
     CLASS = 5
     METHOD = 6
     PROPERTY = 7
+    FIELD = 8
     INTERFACE = 11
     VARIABLE = 13
     OBJECT = 19
@@ -34,11 +35,13 @@ SYMBOL_KINDS = {
     "ADAPTER": SymbolKind.INTERFACE,
     "SUBAPPLICATION": SymbolKind.PACKAGE,
     "SYSTEM": SymbolKind.NAMESPACE,
+    "TYPE": SymbolKind.STRUCT,
     "EVENT_INPUT": SymbolKind.EVENT,
     "EVENT_OUTPUT": SymbolKind.EVENT,
     "VAR_INPUT": SymbolKind.PROPERTY,
     "VAR_OUTPUT": SymbolKind.PROPERTY,
     "VAR": SymbolKind.VARIABLE,
+    "STRUCT": SymbolKind.FIELD,
     "PLUGS": SymbolKind.INTERFACE,
     "SOCKETS": SymbolKind.INTERFACE,
     "FBS": SymbolKind.OBJECT,
@@ -97,7 +100,7 @@ def references(plant: Plant, key: Key, with_declaration: bool) -> Written:
 def highlights(plant: Plant, text: Text, key: Key) -> list[dict[str, Range]]:
     """The declaration and the uses of a name in one text."""
     places = [(it.start, it.end) for it in text.unit.declared if it.key == key]
-    places += [(use.start, use.end) for use in text.unit.uses if plant.key(use) == key]
+    places += [(use.start, use.end) for use in plant.uses_in(text, key)]
     return [{"range": text.name_range(*it)} for it in places]
 
 

@@ -10,7 +10,7 @@ from functools import cached_property
 from pathlib import Path
 
 from bench61499 import Places
-from declarations import INSTANCE, Declaration, Key, Unit, Use
+from declarations import FIELD, INSTANCE, Declaration, Key, Unit, Use, Walk, type_with_fields
 from explain import Names
 from positions import Range, line_character, range_of, range_of_name
 from reader import read
@@ -78,7 +78,7 @@ class Plant:
         self._names: dict[Path, set[str]] = {}
         self._declaring: defaultdict[str, set[Path]] = defaultdict(set)
         self._using: defaultdict[str, set[Path]] = defaultdict(set)
-        self._walking: set[Path] = set()
+        self._walking: defaultdict[str, set[Path]] = defaultdict(set)
         self._frozen = 0
         self._near: dict[str, tuple[frozenset[str], Names]] = {}
 
@@ -112,7 +112,7 @@ class Plant:
         for name in self._names.pop(file, ()):
             self._declaring[name].discard(file)
             self._using[name].discard(file)
-        self._walking.discard(file)
+            self._walking[name].discard(file)
 
     def _index(self, text: Text) -> None:
         text.prepare()
@@ -121,9 +121,10 @@ class Plant:
         self._declaring[unit.name].add(file)
         for name in used:
             self._using[name].add(file)
-        self._names[file] = {unit.name, *used}
-        if any(use.walk for use in unit.uses):
-            self._walking.add(file)
+        walking = {use.key.name for use in unit.uses if use.walk}
+        for name in walking:
+            self._walking[name].add(file)
+        self._names[file] = {unit.name, *used, *walking}
 
     # What is there. All of it is of what was read.
 
@@ -162,27 +163,37 @@ class Plant:
     def declaration(self, key: Key) -> Declaration | None:
         return next((found for _, found in self.declarations(key)), None)
 
-    def texts_of(self, unit: str) -> list[Text]:
-        """The texts that may have a name of a unit: its own, those that mention it, and those with paths deep into others."""
-        files = self._declaring.get(unit, set()) | self._using.get(unit, set()) | self._walking
+    def texts_of(self, key: Key) -> list[Text]:
+        """The texts that may have a name: that of its unit, those that mention this one, and those with such a name deep in a path."""
+        files = self._declaring.get(key.unit, set()) | self._using.get(key.unit, set()) | self._walking.get(key.name, set())
         return [self._texts[file] for file in sorted(files, key=str)]
 
     def uses(self, key: Key) -> Iterator[tuple[Text, list[Use]]]:
         """All uses of what a name stands for, by text."""
-        for text in self.texts_of(key.unit):
-            found = text.unit.by_key.get(key, [])
-            if key.space == INSTANCE and text.file in self._walking:
-                found = found + [use for use in text.unit.uses if use.walk and self.key(use) == key]
-            if found:
+        for text in self.texts_of(key):
+            if found := self.uses_in(text, key):
                 yield text, found
+
+    def uses_in(self, text: Text, key: Key) -> list[Use]:
+        """The uses of what a name stands for in one text."""
+        found = text.unit.by_key.get(key, [])
+        if text.file in self._walking.get(key.name, ()):
+            deep = text.unit.by_key.get(Key("", key.space, "", key.name), [])
+            found = [use for use in found if not use.walk] + [use for use in deep if use.walk and self.key(use) == key]
+        return found
 
     def key(self, use: Use) -> Key:
         """What a used name stands for, also where only other units tell."""
-        if not use.walk:
-            return use.key
-        of, *instances = use.walk
-        for instance in instances:
+        return use.key._replace(unit=self.owner(use.walk)) if use.walk else use.key
+
+    def owner(self, walk: Walk) -> str:
+        """The unit that a way leads to; empty where it leads nowhere."""
+        of, space = walk.unit, walk.space
+        for step in walk.steps:
             unit = self.unit(of)
-            its = unit.instance("", instance) if unit else None
-            of = its.type.upper() if its else ""
-        return use.key._replace(unit=of)
+            its = unit.first.get(Key(of, space, "", step.name)) if unit else None
+            if not its:
+                return ""
+            of = its.type.upper() if space == INSTANCE else type_with_fields(its.type, step.is_subscripted)
+            space = INSTANCE if space == INSTANCE else FIELD
+        return of
