@@ -179,7 +179,8 @@ class Plant:
         found = text.unit.by_key.get(key, [])
         if text.file in self._walking.get(key.name, ()):
             deep = text.unit.by_key.get(Key("", key.space, "", key.name), [])
-            found = [use for use in found if not use.walk] + [use for use in deep if use.walk and self.key(use) == key]
+            its = {walk for walk in {use.walk for use in deep} if walk and self.owner(walk) == key.unit}
+            found = [use for use in found if not use.walk] + [use for use in deep if use.walk in its]
         return found
 
     def key(self, use: Use) -> Key:
