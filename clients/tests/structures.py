@@ -16,11 +16,22 @@ UNITS = [f"S{at}" for at in range(5)]
 
 
 @cache
-def knows_structures() -> bool:
+def reads_structures() -> bool:
     """Whether the workbench under test reads structures."""
+    return not _codes(S="TYPE S : STRUCT F : U; END_STRUCT END_TYPE")
+
+
+@cache
+def judges_fields() -> bool:
+    """Whether it has the codes of fields and structures too."""
+    block = "FUNCTION_BLOCK V VAR X : S; END_VAR ALGORITHM A IN ST: X.K := 1; END_ALGORITHM END_FUNCTION_BLOCK"
+    return _codes(S="TYPE S : STRUCT F : S; END_STRUCT END_TYPE", V=block) == {"STRUCT_RECURSIVE", "MEMBER_UNKNOWN"}
+
+
+def _codes(**texts: str) -> set[str]:
     with Session.script(workbench()) as session:
-        session.commit([Put("S", 0, "TYPE S : STRUCT END_STRUCT END_TYPE")])
-        return session.settle()["S"] == ()
+        session.commit([Put(name, 0, text) for name, text in texts.items()])
+        return {it.code for faults in session.settle().values() for it in faults}
 
 
 def structured_libraries(seed: int) -> Iterator[dict[str, str]]:

@@ -10,7 +10,7 @@ from pathlib import Path
 
 from editing import Editor, LspTest
 from generated import at_tokens, faults_of
-from structures import UNITS, knows_structures, structured_libraries
+from structures import judges_fields, reads_structures, structured_libraries
 from support import workbench
 from test_rename import file_of, some_name
 
@@ -383,6 +383,46 @@ class FixesTest(PlantTest):
         self.assertEqual(self.fixed("SIZED.LEVEL", "SIZDE.LEVEL", "VARIABLE_UNKNOWN", "SIZDE.LEVEL"), ["Change SIZDE to SIZED"])
 
 
+class NoFieldsTest(unittest.TestCase):
+    """The names behind points that are no fields. Each has a `!` before it."""
+
+    UNITS = {
+        "S": "TYPE S : STRUCT F:INT; A:ARRAY[0..3] OF INT; G:U; Q:ARRAY[0..1] OF U; Y:ANY; END_STRUCT; END_TYPE",
+        "U": "TYPE U : STRUCT H:BOOL; N:STRING[8]; END_STRUCT END_TYPE",
+        "AD": "ADAPTER AD VAR_OUTPUT V:S; I:INT; END_VAR END_ADAPTER",
+        "B": "FUNCTION_BLOCK B VAR_INPUT F:INT; END_VAR END_FUNCTION_BLOCK",
+        "BROKEN": "TYPE BROKEN : STRUCT F:INT",
+        "INT": "TYPE INT : STRUCT F:BOOL; END_STRUCT END_TYPE",
+    }
+
+    def check(self, declared: str, statements: str, more: str = "") -> None:
+        marked = f"FUNCTION_BLOCK W {more} VAR {declared} END_VAR ALGORITHM R IN ST: {statements} END_ALGORITHM END_FUNCTION_BLOCK"
+        plant = plant_of({**self.UNITS, "W": marked.replace("!", "")})
+        text = text_of(plant, "W")
+        expected = [text.places.words(*it) for it in unknown_members(plant, text)]
+        starts = [at - number for number, at in enumerate(at for at, it in enumerate(marked) if it == "!")]
+        self.assertEqual([start for start, _ in unknown_members(plant, text)], starts, expected)
+
+    def test_fields_of_fields(self):
+        self.check("X:S;", "X.F := 1; X.G.H := 2; X.!K := 1; X.G.!K.L := 1; X.F.!F.F := 1;")
+
+    def test_arrays(self):
+        self.check("X:ARRAY[0..1] OF S;", "X[0].A[1] := TRUE; X[0].Q[1].H := 2; X.!F := 1; X[0].Q.!H := 1; X[0].A[1].!F := 1;")
+        self.check("X:S;", "X[0].!F := 1; X.F[0] := TRUE; X.G[0].!H := 1; X.!K[TRUE].L[Y] := 1; X.A[X.F, X.!L] := 1;")
+
+    def test_types_without_fields(self):
+        self.check("I:INT; T:STRING[4]; Z:ANY_INT[3]; M:ARRAY[0..1] OF ANY;", "I[0].!F := 1; I.!F.G := 1; T.!F := 1; Z.!F := 1; M.!F := 1; M[0].F := 1;")
+        self.check("X:B; Y:AD; L:S[3];", "X.!F := 1; X[0].!F := 1; Y.!V := 1; L.!F := 1; L[0].!F := 1;")
+
+    def test_what_is_not_judged(self):
+        self.check("X:ABSENT; Y:BROKEN; Z:ANY; S:S;", "X.F := 1; X[0].F.G := 1; Y.F := 1; Y[0].F := 1; Z.F.G := 1; Z[0].F := 1; S.Y.F := 1; NOTHING.F.G := 1;")
+        self.check("X:ARRAY[0..1] OF ABSENT; Z:ABSENT[3];", "X.!F := 1; X[0].F := 1; Z.!F := 1; Z[0].!F := 1;")
+
+    def test_plugs_and_variables_of_one_name(self):
+        self.check("P:S;", "P.V.F := 1; P.I.!F := 1; P.A[0] := 1; P[0].!F := 1; P.V.!K := 1; P.V[0].!F := 1;", "PLUGS P:AD; END_PLUGS")
+        self.check("P:S;", "P.F := 1; P.!V := 1;", "FBS P:B; END_FBS PLUGS P:AD; END_PLUGS")
+
+
 class RandomTest(unittest.TestCase):
     """Of random libraries, whatever the workbench knows."""
 
@@ -405,14 +445,24 @@ class RandomTest(unittest.TestCase):
                 self.assertEqual(formatted(after), [])
 
 
-class ProductTest(unittest.TestCase):
-    """What the workbench says of random libraries; nothing where it knows no structures."""
+class OfWorkbenchTest(unittest.TestCase):
+    """What the workbench says of random libraries."""
 
     def setUp(self) -> None:
-        if not knows_structures():
+        if not self.is_known():
             self.skipTest("the workbench knows no structures")
         self.session = Session.script(workbench())
         self.addCleanup(self.session.close)
+
+    def is_known(self) -> bool:
+        return reads_structures()
+
+
+class FieldsTest(OfWorkbenchTest):
+    """Faults of fields and of structures."""
+
+    def is_known(self) -> bool:
+        return judges_fields()
 
     def test_unknown_members(self):
         """The reader and the workbench find the same names that are no fields."""
@@ -434,6 +484,16 @@ class ProductTest(unittest.TestCase):
             count += len(expected)
         self.assertGreater(count, 30)
 
+
+class FaultsTest(OfWorkbenchTest):
+    """Faults of all codes."""
+
+    def test_what_is_read(self):
+        """The workbench reads the same texts; whether it has more faults, is not asked here."""
+        for texts in islice(structured_libraries(8), 60):
+            for name, faults in faults_of(self.session, texts).items():
+                self.assertEqual(any(it.code == "SYNTAX" for it in faults), is_broken(texts[name]), texts[name])
+
     def test_a_rename_changes_no_fault(self):
         chance, spaces = random.Random(5), Counter()
         for texts in islice(structured_libraries(5), 150):
@@ -447,7 +507,7 @@ class ProductTest(unittest.TestCase):
             for name, text in texts.items():
                 self.assertEqual(at_tokens(new[name], after[names.get(name, name)]), at_tokens(text, faults[name]), (found, texts))
             spaces[found.key.space] += 1
-        self.assertGreater(min(spaces[it] for it in (TYPE, VARIABLE, FIELD, INSTANCE)), 5, spaces)
+        self.assertGreater(min(spaces[it] for it in (TYPE, VARIABLE, FIELD)), 5, spaces)
 
     def test_a_layout_changes_no_fault(self):
         for texts in islice(structured_libraries(6), 30):
@@ -486,8 +546,13 @@ def is_judged(plant: Plant, spelled: str, is_subscripted: bool) -> bool:
     if is_array and not is_subscripted or not is_array and "[" in spelled:
         return True
     its = plant.unit(name)
-    is_sound = its is not None and name in UNITS + ["B0", "B1", "AD"] and not any(text.text.endswith(" : ") for text in plant.declaring(name))
+    is_sound = its is not None and not is_broken(text_of(plant, name).text)
     return not name.startswith("ANY") and (is_elementary(name) or is_sound)
+
+
+def is_broken(text: str) -> bool:
+    """Whether a text of the random libraries is: it breaks off."""
+    return "END_" not in text
 
 
 def holds(plant: Plant, name: str, inner: str) -> bool:
@@ -495,7 +560,7 @@ def holds(plant: Plant, name: str, inner: str) -> bool:
     seen, ahead = set(), [name]
     while ahead:
         unit = plant.unit(ahead.pop())
-        if unit and unit.kind == "TYPE" and "END_TYPE" in text_of(plant, unit.name).text:
+        if unit and unit.kind == "TYPE" and not is_broken(text_of(plant, unit.name).text):
             of = {type_of_data(it.type) for it in unit.declared if it.key.space == FIELD and not is_elementary(type_of_data(it.type))}
             ahead += of - seen
             seen |= of
