@@ -223,12 +223,13 @@ class Explainer:
         return f"no variable {words} in this block: {first} is no plug or socket with data {port}{meant}"
 
     def _explain_member_unknown(self, at: int, words: str) -> str:
-        begin = self._reference_begin(at - 2)
-        before, first = self._spelled(begin, at - 1), self._tokens[begin]
+        last = max(at - 2, 0)
+        begin = self._reference_begin(last)
+        before, first = self._spelled(begin, last + 1), self._tokens[begin]
         its = self._unit.first.get(Key(self._unit.name, VARIABLE, "", first.upper))
-        if not its or begin != self._name_of(at - 2):
+        if not its or begin != self._name_of(last):
             return f"no field {words} in {before}"
-        is_subscripted = begin != at - 2
+        is_subscripted = begin != last
         if of := type_with_fields(its.type, is_subscripted):
             return f"no field {words} in {of}, the type of {before}"
         if type_with_fields(its.type, True):

@@ -88,7 +88,7 @@ class Folder:
 
 
 def stamps_of(paths: Iterable[str | Path], with_inner: bool = True) -> Iterator[tuple[str, Stamp | None]]:
-    """The state of each file that can be a unit, as the folders, and perhaps their inner ones, tell it; of a folder that can't be read, that it can't."""
+    """The state of each file that can be a unit, as the folders, and perhaps inner ones, tell it; of a folder that can't be read, that it can't."""
     for path in paths:
         try:
             with os.scandir(path) as entries:

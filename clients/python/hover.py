@@ -46,9 +46,10 @@ def described(plant: Plant, key: Key) -> str | None:
 
 def _type(plant: Plant, it: Declaration) -> Text | None:
     """The type of an instance, or the structure that a variable or a field is of."""
-    name = it.type.upper() if it.key.space == INSTANCE else type_of_data(it.type) if it.key.space in (VARIABLE, FIELD) else ""
+    name = it.type.upper() if it.key.space == INSTANCE else type_of_data(it.type)
     of = next(iter(plant.declaring(name)), None)
-    return of if of and (it.key.space == INSTANCE or of.unit.kind == "TYPE" and not is_elementary(name)) else None
+    is_structure = of is not None and of.unit.kind == "TYPE" and it.key.space in (VARIABLE, FIELD) and not is_elementary(name)
+    return of if it.key.space == INSTANCE or is_structure else None
 
 
 def _line(it: Declaration) -> str:

@@ -16,7 +16,6 @@ from positions import Range, line_character, range_of, range_of_name
 from reader import read
 from rpc import written
 
-
 _FREEZE_EACH = 50
 """Texts after which what was read is passed over by the garbage collector."""
 
@@ -94,13 +93,15 @@ class Plant:
         return not self._unread
 
     def refresh(self, end: float = math.inf) -> None:
-        """Reads the texts that have changed: all of them, or some until a time of the monotonic clock."""
-        while self._unread and time.monotonic() < end:
+        """Reads the texts that have changed: all of them, or one and then more until a time of the monotonic clock."""
+        while self._unread:
             file = self._unread.pop()
             self._forget(file)
             if text := self._texts.get(file):
                 self._index(text)
             self._freeze()
+            if time.monotonic() >= end:
+                return
 
     def _freeze(self) -> None:
         """Tells the garbage collector now and then to pass over what is there, which otherwise takes a third of a second in a large plant."""

@@ -202,6 +202,7 @@ class Reader:
             self._open.append(self._add(Key(token.upper, TYPE, "", token.upper), token))
 
     def _structure(self) -> None:
+        """What stands before the STRUCT of a structure."""
         self._head()
         self._is_inside = self._is_over()
         if self._skip(":"):
@@ -369,9 +370,10 @@ class Reader:
 
     def _member(self, path: tuple[Step, ...]) -> tuple[Step, ...]:
         """A name behind a point; gives the path with it."""
-        is_followed = len(path) < _LONGEST_PATH
-        name = self._name(Wanted(VARIABLE, self._section, path=path) if is_followed else None)
-        return (*path, Step(name.upper)) if name and is_followed else path if name else ()
+        if len(path) == _LONGEST_PATH:
+            return path if self._name(None) else ()
+        name = self._name(Wanted(VARIABLE, self._section, path=path))
+        return (*path, Step(name.upper)) if name else ()
 
     def _expect_in_expression(self, are_statements: bool) -> None:
         before = self._tokens[-1]

@@ -59,10 +59,11 @@ class Neovim:
         while not (folder / "socket").exists():
             time.sleep(0.02)
 
-    def ask(self, function: str, *words: str) -> str:
+    def ask(self, function: str, *arguments: str) -> str:
         """What a function of the script gives."""
-        call = f"{function}({', '.join(f'[[{it}]]' for it in words)})"
-        ran = subprocess.run(["nvim", "--server", "socket", "--remote-expr", f"luaeval('{call}')"], cwd=self._folder, capture_output=True, text=True, timeout=30)
+        call = f"{function}({', '.join(f'[[{it}]]' for it in arguments)})"
+        words = ["nvim", "--server", "socket", "--remote-expr", f"luaeval('{call}')"]
+        ran = subprocess.run(words, cwd=self._folder, capture_output=True, text=True, timeout=30)
         return (ran.stdout + ran.stderr).strip()
 
     def await_shown(self, file: str, expected: str) -> str:
