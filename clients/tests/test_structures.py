@@ -15,7 +15,7 @@ from support import workbench
 from test_rename import file_of, some_name
 
 from bench61499 import Fault, Places, Session
-from board_state import Board, Row, Source
+from board_state import Row, Source
 from board_views import row_view
 from board_watch import Mentions
 from completion import candidates
