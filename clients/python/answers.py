@@ -46,15 +46,15 @@ class CantAnswer(Exception):
 
 
 class Answers:
-    """Answers by the texts as they are now. `shown` gives what the editor shows of a file."""
+    """Answers by the texts as they are now. `catch_up` has all of them read, and `shown` gives what the editor shows of a file."""
 
-    def __init__(self, plant: Plant, shown: Callable[[Path], list[Diagnostic]]):
-        self._plant, self._shown = plant, shown
+    def __init__(self, plant: Plant, catch_up: Callable[[], None], shown: Callable[[Path], list[Diagnostic]]):
+        self._plant, self._catch_up, self._shown = plant, catch_up, shown
 
     def answer(self, method: str, params: Any) -> Any:
         """Raises `CantAnswer`, and `KeyError`, `TypeError` and the like where the parameters make no sense."""
         if method not in self._OF_ONE_TEXT:
-            self._plant.refresh()
+            self._catch_up()
         if method == "workspace/symbol":
             return units_named(self._plant, params["query"])
         path = path_of(params["textDocument"]["uri"])

@@ -4,13 +4,17 @@ from __future__ import annotations
 import re
 import time
 from collections.abc import Iterable
+from functools import cached_property
 from typing import Protocol
 
 from bench61499 import (
     CHANGES_LIMIT, Blocked, Flat, NoSuchKey, Put, Recursive, Refused, Remove, Session, Stopped, WorkbenchError, batches,
 )
 from board_state import Board, Key, NoEntry, Row, Source, Value
+from declarations import FIELD, VARIABLE, type_of_data
 from folder import Folder
+from reader import read
+from tokens import declared_kind
 from units import Misuse, Unit
 
 TURNS = 20
@@ -56,22 +60,41 @@ def words_of(text: str) -> frozenset[str]:
     return frozenset(it.upper() for it in re.findall(r"[A-Za-z_]\w*", text, re.ASCII))
 
 
+class _Mentioned:
+    """What one text can mention."""
+
+    def __init__(self, text: str):
+        self.text, self.words, self.is_structure = text, words_of(text), declared_kind(text) == "TYPE"
+
+    @cached_property
+    def types_of_data(self) -> frozenset[str]:
+        """The names in the types of its variables or fields."""
+        return frozenset(type_of_data(it.type) for it in read(self.text).declared if it.key.space in (VARIABLE, FIELD))
+
+
 class Mentions:
     """Which units a change can reach, as far as texts are known."""
 
     def __init__(self) -> None:
-        self._words: dict[str, tuple[str, frozenset[str]]] = {}
+        self._known: dict[str, _Mentioned] = {}
 
     def reached(self, changed: Iterable[str], rows: Iterable[Row]) -> set[str]:
-        """The units that are changed or mention one that is."""
-        names = frozenset(changed)
-        return {row.unit for row in rows if row.unit in names or (row.source and names & self._of(row.unit, row.source.text))}
+        """The units that are changed, those that mention one of these or a structure that holds it, and those that mention a unit whose data do."""
+        rows = list(rows)
+        names = set(changed)
+        its = {row.unit: self._of(row.unit, row.source.text) for row in rows if row.source}
+        held = set(names)
+        while more := {unit for unit, it in its.items() if it.is_structure and unit not in held and not held.isdisjoint(it.words)}:
+            held |= more
+        using = {unit for unit, it in its.items() if not held.isdisjoint(it.words)}
+        parts = {unit for unit in using if not held.isdisjoint(its[unit].types_of_data)}
+        return {row.unit for row in rows if row.unit in names or row.unit in using or row.unit in its and not parts.isdisjoint(its[row.unit].words)}
 
-    def _of(self, unit: str, text: str) -> frozenset[str]:
-        known = self._words.get(unit)
-        if not known or known[0] != text:
-            known = self._words[unit] = text, words_of(text)
-        return known[1]
+    def _of(self, unit: str, text: str) -> _Mentioned:
+        known = self._known.get(unit)
+        if not known or known.text != text:
+            known = self._known[unit] = _Mentioned(text)
+        return known
 
 
 class Asking:

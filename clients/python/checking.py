@@ -1,6 +1,7 @@
 """What is between the texts of an editor and a workbench: the one is brought into the other, and faults are shown."""
 from __future__ import annotations
 
+import math
 import time
 from collections.abc import Callable
 from concurrent.futures import Future, ThreadPoolExecutor
@@ -9,18 +10,20 @@ from pathlib import Path
 from typing import Any
 
 from bench61499 import TEXT_LIMIT, Fault, NoSuchKey, Places, Session, WorkbenchError
-from documents import Diagnostic, Document, Source, path_of, stamp_of
+from documents import Diagnostic, Document, Source, path_of
 from explain import Explainer, Names
+from folder import Stamp, stamp_of, stamps_of
 from plant import Plant
 from positions import changed, range_of, sound
 from rpc import ERROR, WARNING, Message, tell
 from shared import SharedTexts
 from tokens import declaration, declared_name
-from units import Misuse, find_files, read_text, stand_in_name
+from units import Misuse, read_text, stand_in_name
 
 MOST_JOBS = 16
 """Jobs that are asked for at once. It begins with one, as faults come first, and networks are not wanted here."""
-TEXTS_AT_ONCE = 50
+PIECE = 0.01
+"""Seconds for which files and texts are read before the next message is looked for."""
 SHORT_PAUSE = 0.05
 """Seconds between two questions for faults that somebody else is computing."""
 LOOK_AGAIN = 5.0
@@ -53,6 +56,8 @@ class Checking:
         self._texts: SharedTexts | None = None
         self._sources: dict[Path, Source] = {}
         self._owners: dict[str, Path] = {}
+        self._is_to_look = False
+        self._to_take: list[Path] = []
         self._changed: dict[Path, Source | None] = {}
         self._expected: dict[Path, str] = {}
         self._held_until = 0.0
@@ -65,7 +70,7 @@ class Checking:
 
     def patience(self) -> float | None:
         """How long to wait for a message before the next step; None where there is nothing to do without one."""
-        if not self.plant.is_read():
+        if self._is_to_look or self._to_take or not self.plant.is_read():
             return 0
         if self._task and not self._task.done():
             return None
@@ -117,16 +122,35 @@ class Checking:
     # Files
 
     def refresh_files(self) -> None:
-        """Looks for a workbench where there is none, and at the files again: those of the folders, and those beside open documents."""
+        """Looks for a workbench where there is none; the next steps look at the files again."""
         if not self._texts:
             self._find_workbench()
+        self._is_to_look = True
+
+    def catch_up(self) -> None:
+        """Reads all files and texts that have changed. What needs one text alone doesn't wait for it."""
+        self._read_files(math.inf)
+        self.plant.refresh()
+
+    def _read_files(self, end: float) -> None:
+        """Takes in the files that have changed: all of them, or some until a time."""
+        if self._is_to_look:
+            self._is_to_look = False
+            self._to_take = self._changed_files()
+        while self._to_take and time.monotonic() < end:
+            self._take(self._to_take.pop())
+
+    def _changed_files(self) -> list[Path]:
+        """The files that have changed, of those in the folders, those beside open documents, and those that were known."""
         beside = {path.parent for path in self.documents if not any(path.is_relative_to(folder) for folder in self.folders)}
-        files = find_files(folder for folder in self.folders if folder.is_dir())
-        files += [file for folder in sorted(beside) for file in folder.glob("*.fb")]
-        for file in {*(file.resolve() for file in files), *self._sources} - self.documents.keys():
-            known = self._changed.get(file) or self._sources.get(file)
-            if not known or known.stamp != stamp_of(file):
-                self._take(file)
+        stamps = {**dict(stamps_of(self.folders)), **dict(stamps_of(beside, with_inner=False))}
+        found = {Path(file): stamp for file, stamp in stamps.items() if stamp}
+        found |= {file: stamp_of(file) for file in (self._sources.keys() | self._changed.keys()) - found.keys()}
+        return [file for file, stamp in found.items() if file not in self.documents and not self._is_known(file, stamp)]
+
+    def _is_known(self, file: Path, stamp: Stamp | None) -> bool:
+        known = self._changed.get(file) or self._sources.get(file)
+        return known is not None and known.stamp == stamp
 
     def _take(self, path: Path) -> None:
         """Takes in the text of a document, or of a file that is not open; the workbench gets it with the next step."""
@@ -171,14 +195,16 @@ class Checking:
 
     def step(self) -> None:
         """What can be done without a message."""
+        end = time.monotonic() + PIECE
+        self._read_files(end)
         if not self._texts:
             self._changed.clear()
-        elif (not self._task or self._task.done()) and not self._hold():
+        elif not self._to_take and (not self._task or self._task.done()) and not self._hold():
             try:
                 self._settle_some(self._texts)
             except WorkbenchError as error:
                 self._lose(error)
-        self.plant.refresh(TEXTS_AT_ONCE)
+        self.plant.refresh(end)
 
     def _settle_some(self, texts: SharedTexts) -> None:
         """Shows what the last task has settled, and begins the next one: at once, or after a pause where others have the jobs in hand."""
@@ -203,7 +229,7 @@ class Checking:
         self._expected = {}
         if self._changed:
             self._jobs, self._waiting = 1, set(self.documents)
-        taken, self._changed = sorted(self._changed.items()), {}
+        taken, self._changed = sorted(self._changed.items(), key=lambda it: it[0].parts), {}
         of_documents, of_files = Changes(), Changes()
         for path, source in taken:
             self._place(path, source, of_documents if path in self.documents else of_files)

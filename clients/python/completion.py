@@ -6,8 +6,8 @@ from enum import IntEnum
 from typing import NamedTuple
 
 from declarations import (
-    ALGORITHM, APPLICATION, CONNECTION_SECTIONS, DATA_TYPE, DESTINATION, DEVICE, EVENT, INSTANCE, PARAMETERS, RESOURCE, SOURCE, STATE, TYPE,
-    VARIABLE, Declaration, Unit, Wanted,
+    ALGORITHM, APPLICATION, CONNECTION_SECTIONS, DATA_TYPE, DESTINATION, DEVICE, ELEMENTARY, EVENT, FIELD, INSTANCE, PARAMETERS, RESOURCE, SOURCE,
+    STATE, TYPE, VARIABLE, Declaration, Step, Unit, Wanted, is_elementary,
 )
 from plant import Plant, Text
 from reader import read
@@ -40,10 +40,6 @@ class Candidate(NamedTuple):
 
 TYPE_KINDS = {"PLUGS": "ADAPTER", "SOCKETS": "ADAPTER", "FBS": "FUNCTION_BLOCK", "SUBAPPS": "SUBAPPLICATION"}
 _TYPE_ITEMS = {"ADAPTER": ItemKind.INTERFACE, "FUNCTION_BLOCK": ItemKind.CLASS, "SUBAPPLICATION": ItemKind.MODULE}
-_DATA_TYPES = (
-    *("BOOL", "SINT", "INT", "DINT", "LINT", "USINT", "UINT", "UDINT", "ULINT", "BYTE", "WORD", "DWORD", "LWORD", "REAL", "LREAL"),
-    *("TIME", "DATE", "TOD", "DT", "STRING", "WSTRING", "ANY"),
-)
 _INPUTS = {EVENT: ("EVENT_INPUT",), VARIABLE: ("VAR_INPUT",), INSTANCE: ("SOCKETS",)}
 _OUTPUTS = {EVENT: ("EVENT_OUTPUT",), VARIABLE: ("VAR_OUTPUT",), INSTANCE: ("PLUGS",)}
 _OWN = {SOURCE: _INPUTS, DESTINATION: _OUTPUTS}
@@ -55,6 +51,7 @@ _PORTS = {"PLUGS": _OWN, "SOCKETS": ACROSS, "FBS": ACROSS, "SUBAPPS": ACROSS}
 _ITEMS = {
     EVENT: ItemKind.EVENT,
     VARIABLE: ItemKind.VARIABLE,
+    FIELD: ItemKind.FIELD,
     INSTANCE: ItemKind.FIELD,
     STATE: ItemKind.ENUM_MEMBER,
     ALGORITHM: ItemKind.METHOD,
@@ -97,7 +94,8 @@ def named(plant: Plant, unit: Unit, wanted: Wanted) -> Iterator[Candidate]:
         kind = TYPE_KINDS[wanted.section]
         yield from (Candidate(name, _TYPE_ITEMS[kind]) for name in sorted(plant.kinds(kind)) if name != unit.name)
     elif wanted.space == DATA_TYPE:
-        yield from (Candidate(name, ItemKind.STRUCT) for name in _DATA_TYPES)
+        structures = sorted(name for name in plant.kinds("TYPE") if name != unit.name and not is_elementary(name))
+        yield from (Candidate(name, ItemKind.STRUCT) for name in (*structures, *ELEMENTARY))
         yield Candidate("ARRAY", ItemKind.KEYWORD)
     else:
         yield from (_candidate(it) for it in declared(plant, unit, wanted))
@@ -118,29 +116,40 @@ def declared(plant: Plant, unit: Unit, wanted: Wanted) -> Iterable[Declaration]:
         return unit.of("RESOURCE", scope=wanted.scope)
     if wanted.space in _SECTIONS:
         return unit.of(_SECTIONS[wanted.space])
+    if wanted.is_member:
+        return _members(plant, unit, wanted)
     if wanted.path:
         its = plant.unit(_type_of(unit, wanted))
         return its.of(*port_sections(unit, wanted)) if its else ()
     return [*_own(unit, wanted), *_leading(unit, wanted)]
 
 
+def _members(plant: Plant, unit: Unit, wanted: Wanted) -> Iterable[Declaration]:
+    """The data of a plug or a socket, or the fields of a structure, that may stand behind a point in an expression."""
+    way = unit.way(wanted.path)
+    its = plant.unit(plant.owner(way)) if way else None
+    if not way or not its:
+        return ()
+    return its.of(*("VAR_INPUT", "VAR_OUTPUT") if way.space == VARIABLE and not way.steps else ("STRUCT",))
+
+
 def _mapped(plant: Plant, unit: Unit, wanted: Wanted) -> Iterable[Declaration]:
     """The instances that a mapping may name behind others."""
     if not wanted.path:
         return unit.of("FBS", "SUBAPPS", scope=wanted.scope)
-    return _inside(plant, unit.instance(wanted.scope, wanted.path[0]), wanted.path[1:])
+    return _inside(plant, unit.instance(wanted.scope, wanted.path[0].name), wanted.path[1:])
 
 
-def _inside(plant: Plant, instance: Declaration | None, path: tuple[str, ...]) -> Iterable[Declaration]:
+def _inside(plant: Plant, instance: Declaration | None, path: tuple[Step, ...]) -> Iterable[Declaration]:
     """The instances in a subapplication that a path leads to."""
     its = plant.unit(instance.type.upper()) if instance else None
     if not its or its.kind != "SUBAPPLICATION":
         return ()
-    return _inside(plant, its.instance("", path[0]), path[1:]) if path else its.of("FBS", "SUBAPPS")
+    return _inside(plant, its.instance("", path[0].name), path[1:]) if path else its.of("FBS", "SUBAPPS")
 
 
 def _type_of(unit: Unit, wanted: Wanted) -> str:
-    instance = unit.instance(wanted.scope, wanted.path[0])
+    instance = unit.instance(wanted.scope, wanted.path[0].name)
     return instance.type.upper() if instance else ""
 
 
@@ -148,10 +157,10 @@ def port_sections(unit: Unit, wanted: Wanted) -> tuple[str, ...]:
     """The sections that may have a wanted port: of the type of the instance before it, or of the unit itself."""
     if not wanted.path:
         return () if wanted.scope else _OWN[wanted.side][wanted.space]
-    instance = unit.instance(wanted.scope, wanted.path[0])
+    instance = unit.instance(wanted.scope, wanted.path[0].name)
     if not instance:
         return ()
-    return _PORTS[instance.section][wanted.side][wanted.space] if wanted.side else ("VAR_INPUT", "VAR_OUTPUT")
+    return _PORTS[instance.section][wanted.side][wanted.space]
 
 
 def _own(unit: Unit, wanted: Wanted) -> Iterable[Declaration]:

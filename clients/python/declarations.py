@@ -1,6 +1,7 @@
 """What a unit's text declares and which names it uses, as `reader` reads it."""
 from __future__ import annotations
 
+import re
 from collections import defaultdict
 from collections.abc import Iterator
 from dataclasses import dataclass, field
@@ -9,14 +10,16 @@ from typing import NamedTuple
 
 TYPE, EVENT, VARIABLE, INSTANCE, STATE, ALGORITHM = "type", "event", "variable", "instance", "state", "algorithm"
 APPLICATION, DEVICE, RESOURCE = "application", "device", "resource"
+FIELD = "field"
 DATA_TYPE = "data type"
+"""The space of elementary types alone: another type of data is a unit."""
 SOURCE, DESTINATION = "source", "destination"
 PARAMETERS = "parameters"
 """The section, as it were, of what stands in parentheses behind the type of an instance."""
 NAMELESS = "-"
 """The unit of a text that declares no name. It is no name, so nothing else can stand for it."""
 
-KINDS = ("FUNCTION_BLOCK", "ADAPTER", "SUBAPPLICATION", "SYSTEM")
+KINDS = ("FUNCTION_BLOCK", "ADAPTER", "SUBAPPLICATION", "SYSTEM", "TYPE")
 EVENT_SECTIONS = ("EVENT_INPUT", "EVENT_OUTPUT")
 DATA_SECTIONS = ("VAR_INPUT", "VAR_OUTPUT")
 ADAPTER_SECTIONS = ("PLUGS", "SOCKETS")
@@ -28,6 +31,7 @@ PARTS = {
     "ADAPTER": (*EVENT_SECTIONS, *DATA_SECTIONS, "SERVICE"),
     "SUBAPPLICATION": (*INTERFACE, "FBS", "SUBAPPS", *CONNECTION_SECTIONS, "SERVICE"),
     "SYSTEM": ("APPLICATION", "DEVICE", "MAPPINGS"),
+    "TYPE": (),
     "APPLICATION": ("FBS", "SUBAPPS", *CONNECTION_SECTIONS),
     "DEVICE": ("RESOURCE",),
     "RESOURCE": (),
@@ -36,7 +40,7 @@ PARTS = {
 ENDS = {
     **dict.fromkeys(EVENT_SECTIONS, "END_EVENT"),
     **dict.fromkeys([*DATA_SECTIONS, "VAR"], "END_VAR"),
-    **{word: f"END_{word}" for word in (*ADAPTER_SECTIONS, "FBS", "SUBAPPS", "MAPPINGS", "ALGORITHM", "SERVICE")},
+    **{word: f"END_{word}" for word in (*ADAPTER_SECTIONS, "FBS", "SUBAPPS", "MAPPINGS", "ALGORITHM", "SERVICE", "STRUCT")},
     **dict.fromkeys(CONNECTION_SECTIONS, "END_CONNECTIONS"),
     "EC_STATES": "END_STATES",
     "EC_TRANSITIONS": "END_TRANSITIONS",
@@ -47,12 +51,36 @@ LEVELS = {**dict.fromkeys(KINDS, 0), "APPLICATION": 1, "DEVICE": 1, "RESOURCE": 
 """How deep units and the parts of a system stand in each other."""
 STATEMENTS = ("IF", "CASE", "FOR", "WHILE", "REPEAT")
 """The words that begin statements which an END_ ends."""
+ELEMENTARY = (
+    *("BOOL", "SINT", "INT", "DINT", "LINT", "USINT", "UINT", "UDINT", "ULINT", "BYTE", "WORD", "DWORD", "LWORD", "REAL", "LREAL"),
+    *("TIME", "DATE", "TOD", "TIME_OF_DAY", "DT", "DATE_AND_TIME", "STRING", "WSTRING", "ANY"),
+)
+"""Types of data that no unit declares; names that begin with ANY_ are such types too."""
+_ELEMENTS = re.compile(r"ARRAY\b.*\bOF\s+(\w+)", re.IGNORECASE | re.DOTALL)
+
+
+def is_elementary(name: str) -> bool:
+    return name in ELEMENTARY or name.startswith("ANY_")
+
+
+def type_of_data(spelled: str) -> str:
+    """The name, in upper case, in the type of a variable: of an array that of its elements."""
+    elements = _ELEMENTS.fullmatch(spelled)
+    return (elements[1] if elements else spelled.partition("[")[0]).strip().upper()
+
+
+def type_with_fields(spelled: str, is_subscripted: bool) -> str:
+    """The unit whose fields may stand behind a variable of this type; empty where there is none. An array has fields behind subscripts alone, and
+    what is no array has none there."""
+    has_fields = bool(_ELEMENTS.fullmatch(spelled)) if is_subscripted else spelled.isidentifier()
+    name = type_of_data(spelled)
+    return name if has_fields and not is_elementary(name) else ""
 
 
 class Key(NamedTuple):
     """What a name stands for: the unit that declares it, its name space, the application or device it is in, and the name; in upper case.
 
-    The unit is empty where nothing tells whose name it is: that of a port whose instance is not declared, or of a data type. A second
+    The unit is empty where nothing tells whose name it is: that of a port whose instance is not declared, or of an elementary type. A second
     application or device of a name is a scope of its own.
     """
 
@@ -67,31 +95,50 @@ class Key(NamedTuple):
         return self.scope.partition("#")[0] or self.unit
 
 
+class Step(NamedTuple):
+    """A name that leads on to others, and whether subscripts stand behind it."""
+
+    name: str
+    is_subscripted: bool = False
+
+
 class Wanted(NamedTuple):
     """A name that is read, or that may stand at the end of the tokens.
 
-    `path` are the instances before it, as in `BELT.START`; `owner` is the type whose name it is, where that is written; `side` is that of an
-    end of a connection.
+    `path` are the names before it, as in `BELT.START` or `LEVELS[0].MOST`; `owner` is the type whose name it is, where that is written; `side`
+    is that of an end of a connection. `leads_on` is whether a point follows on the first name of a reference.
     """
 
     space: str
     section: str
     scope: str = ""
-    path: tuple[str, ...] = ()
+    path: tuple[Step, ...] = ()
     owner: str = ""
     side: str = ""
+    leads_on: bool = False
+
+    @property
+    def is_member(self) -> bool:
+        """Whether it stands behind a point in an expression: data of a plug or a socket, or a field."""
+        return self.space == VARIABLE and bool(self.path) and not self.side
+
+
+class Walk(NamedTuple):
+    """The way to the unit that declares a name: from a unit through names of it and of others. `space` is that of the first step; further
+    ones are instances behind instances, and fields behind data."""
+
+    unit: str
+    space: str
+    steps: tuple[Step, ...]
 
 
 class Use(NamedTuple):
-    """A name that is used, with its place in bytes.
-
-    Deep in a mapping only other units tell whose name it is: `walk` is a type and then the instances that lead to the owner.
-    """
+    """A name that is used, with its place in bytes. Deep in a path only other units tell whose name it is: there `walk` leads to the owner."""
 
     key: Key
     start: int
     end: int
-    walk: tuple[str, ...] = ()
+    walk: Walk | None = None
 
 
 class Connection(NamedTuple):
@@ -159,3 +206,17 @@ class Unit:
 
     def instance(self, scope: str, name: str) -> Declaration | None:
         return self.first.get(Key(self.name, INSTANCE, scope, name))
+
+    def plug_or_socket(self, name: str) -> Declaration | None:
+        its = self.instance("", name)
+        return its if its and its.section in ADAPTER_SECTIONS else None
+
+    def way(self, path: tuple[Step, ...]) -> Walk | None:
+        """The way to the owner of a member behind these names of a reference; None where they can have no members."""
+        first, *rest = path
+        port = None if first.is_subscripted else self.plug_or_socket(first.name)
+        if port:
+            return Walk(port.type.upper(), VARIABLE, tuple(rest))
+        its = self.first.get(Key(self.name, VARIABLE, "", first.name))
+        owner = type_with_fields(its.type, first.is_subscripted) if its else ""
+        return Walk(owner, FIELD, tuple(rest)) if owner else None

@@ -7,6 +7,7 @@ from typing import Any
 from urllib.parse import unquote, urlsplit
 
 from bench61499 import TEXT_LIMIT, Fault
+from folder import Stamp
 
 Diagnostic = dict[str, Any]
 
@@ -46,7 +47,7 @@ class Source:
 
     file: Path
     text: str | None
-    stamp: tuple[int, int] | None = None
+    stamp: Stamp | None = None
     unit: str | None = None
 
 
@@ -56,11 +57,3 @@ def path_of(uri: str) -> Path:
     if parts.scheme == "file":
         return Path(unquote(parts.path)).resolve()
     return Path("/nowhere") / unquote(uri).replace("/", "_")
-
-
-def stamp_of(file: Path) -> tuple[int, int] | None:
-    try:
-        state = file.stat()
-    except OSError:
-        return None
-    return state.st_mtime_ns, state.st_size

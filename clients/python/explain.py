@@ -8,21 +8,22 @@ from functools import cached_property
 from heapq import nlargest
 
 from bench61499 import NAME_LIMIT, Fault
-from declarations import Unit
+from declarations import ADAPTER_SECTIONS, DATA_SECTIONS, VARIABLE, Key, Unit, type_with_fields
 from reader import read
 from tokens import RESERVED, Token, spelled, tokens
 
 _SECTIONS = frozenset(
     """EVENT_INPUT EVENT_OUTPUT VAR VAR_INPUT VAR_OUTPUT PLUGS SOCKETS FBS SUBAPPS EVENT_CONNECTIONS DATA_CONNECTIONS ADAPTER_CONNECTIONS
-    EC_STATES EC_TRANSITIONS ALGORITHM MAPPINGS""".split()
+    EC_STATES EC_TRANSITIONS ALGORITHM MAPPINGS STRUCT""".split()
 )
-_BEGINNINGS = "FUNCTION_BLOCK", "ADAPTER", "SUBAPPLICATION", "SYSTEM"
+_BEGINNINGS = "FUNCTION_BLOCK", "ADAPTER", "SUBAPPLICATION", "SYSTEM", "TYPE"
 _KINDS = {"PLUGS": "adapter", "SOCKETS": "adapter", "FBS": "function block", "SUBAPPS": "subapplication"}
 _SPACES = {
     **dict.fromkeys(["EVENT_INPUT", "EVENT_OUTPUT"], "events"),
     **dict.fromkeys(["VAR", "VAR_INPUT", "VAR_OUTPUT"], "variables"),
     **dict.fromkeys(["PLUGS", "SOCKETS", "FBS", "SUBAPPS"], "instances"),
     "EC_STATES": "states",
+    "STRUCT": "fields",
 }
 _OWN_SPACES = {"ALGORITHM": "algorithms", "APPLICATION": "applications", "DEVICE": "devices", "RESOURCE": "resources of this device"}
 _PORTS = {
@@ -108,6 +109,21 @@ class Explainer:
         while at > 0 and self._tokens[at].words != "(":
             at -= 1
         return (self._tokens[at - 3].words, self._tokens[at - 1].words) if at >= 3 else ("", "")
+
+    def _reference_begin(self, at: int) -> int:
+        """The first token of the reference that ends with the token at `at`, be that a name or the end of its subscripts."""
+        at = self._name_of(at)
+        while at >= 2 and self._tokens[at - 1].words == ".":
+            at = self._name_of(at - 2)
+        return at
+
+    def _name_of(self, at: int) -> int:
+        """The name at `at`, or the one whose subscripts end there."""
+        depth = 0
+        while at > 0 and (depth or self._tokens[at].words == "]"):
+            depth += {"]": 1, "[": -1}.get(self._tokens[at].words, 0)
+            at -= 1
+        return at
 
     def _back_to(self, words: str, at: int) -> int:
         """The last token before `at` that is spelled so; 0 where there is none."""
@@ -199,10 +215,29 @@ class Explainer:
         return f"no algorithm {words} in this block{self._meant(words, 'ALGORITHM')}"
 
     def _explain_variable_unknown(self, at: int, words: str) -> str:
-        if "." in words:
-            adapter, _, port = words.partition(".")
-            return f"no variable {words} in this block: {adapter} is no plug or socket with data {port}"
-        return f"no variable {words} in this block{self._meant(words, 'VAR', 'VAR_INPUT', 'VAR_OUTPUT')}"
+        first, dot, port = words.partition(".")
+        its = (*DATA_SECTIONS, "VAR")
+        if not dot:
+            return f"no variable {words} in this block{self._meant(words, *its)}"
+        meant = "" if first in self._names(*its, *ADAPTER_SECTIONS) else self._meant(first, *its, *ADAPTER_SECTIONS)
+        return f"no variable {words} in this block: {first} is no plug or socket with data {port}{meant}"
+
+    def _explain_member_unknown(self, at: int, words: str) -> str:
+        last = max(at - 2, 0)
+        begin = self._reference_begin(last)
+        before, first = self._spelled(begin, last + 1), self._tokens[begin]
+        its = self._unit.first.get(Key(self._unit.name, VARIABLE, "", first.upper))
+        if not its or begin != self._name_of(last):
+            return f"no field {words} in {before}"
+        is_subscripted = begin != last
+        if of := type_with_fields(its.type, is_subscripted):
+            return f"no field {words} in {of}, the type of {before}"
+        if type_with_fields(its.type, True):
+            return f"no field {words} in {before}, which is an array: its elements have fields"
+        return f"no field {words} in {before}: {first.words} is of the type {_one_line(its.type)}"
+
+    def _explain_struct_recursive(self, at: int, words: str) -> str:
+        return f"{words} contains itself, by the types of its fields"
 
     def _explain_class(self, at: int, words: str) -> str:
         return self._operator(at, words) or self._wanted(at, words)
@@ -224,14 +259,8 @@ class Explainer:
         return None
 
     def _assigned(self, at: int) -> str:
-        """The variable left of the `:=` at `at`, with its subscripts."""
-        begin = at - 1
-        depth = 0
-        while begin > 0 and (depth or self._tokens[begin].words == "]"):
-            depth += {"]": 1, "[": -1}.get(self._tokens[begin].words, 0)
-            begin -= 1
-        dotted = begin >= 2 and self._tokens[begin - 1].words == "."
-        return self._spelled(begin - 2 if dotted else begin, at)
+        """The variable left of the `:=` at `at`, with its fields and subscripts."""
+        return self._spelled(self._reference_begin(at - 1), at)
 
     def _wanted(self, at: int, words: str) -> str:
         """Of a condition, a bound, a subscript or a selector: told by the word before it."""

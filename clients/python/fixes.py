@@ -5,7 +5,7 @@ from collections.abc import Iterator
 from dataclasses import dataclass
 
 from completion import ACROSS, TYPE_KINDS, declared, port_sections
-from declarations import CONNECTION_SECTIONS, ENDS, EVENT, INSTANCE, TYPE, Key, Use, Wanted
+from declarations import CONNECTION_SECTIONS, ENDS, EVENT, INSTANCE, TYPE, VARIABLE, Key, Use, Wanted
 from explain import Names
 from hover import WHAT
 from nesting import Nesting
@@ -17,7 +17,7 @@ _MOST_TYPES = 5
 """Types that are offered for a missing instance."""
 _NAMES = frozenset(
     """UNKNOWN_TYPE WITH_UNKNOWN STATE_UNKNOWN EVENT_UNKNOWN ALGORITHM_UNKNOWN VARIABLE_UNKNOWN PORT_UNKNOWN PARAMETER_UNKNOWN
-    NO_SUCH_RESOURCE""".split()
+    NO_SUCH_RESOURCE MEMBER_UNKNOWN""".split()
 )
 """The faults of names that nothing declares."""
 
@@ -77,7 +77,8 @@ def _wrong(plant: Plant, text: Text, start: int, end: int) -> Wrong | None:
 
 def _names(plant: Plant, wrong: Wrong) -> list[str]:
     """The declared names that may stand where the wrong one stands."""
-    return [it.words for it in declared(plant, wrong.text.unit, wrong.wanted) if it.key.space == wrong.use.key.space]
+    spaces = {wrong.use.key.space} | ({INSTANCE} if wrong.use.key.space == VARIABLE and _point_follows(wrong.text, wrong.use) else set())
+    return [it.words for it in declared(plant, wrong.text.unit, wrong.wanted) if it.key.space in spaces]
 
 
 def _nearest(plant: Plant, wrong: Wrong) -> Iterator[Fix]:

@@ -2,6 +2,7 @@
 from __future__ import annotations
 
 import os
+import stat
 from collections.abc import Iterable, Iterator
 from dataclasses import dataclass
 from pathlib import Path
@@ -42,7 +43,7 @@ class Folder:
         Raises `Misuse` where a folder is not there at the first look; later that is a problem, and the units stay. A look that finds nothing
         new is cheap.
         """
-        stamps = dict(_stamps(self._paths))
+        stamps = dict(stamps_of(self._paths))
         if self._looked and stamps == self._stamps:
             return False
         try:
@@ -64,7 +65,7 @@ class Folder:
     def _read_all(self, found: list[Path]) -> Iterator[tuple[Path, _File]]:
         """The files, each read again only where it has changed."""
         for file in found:
-            if stamp := _stamp(file):
+            if stamp := stamp_of(file):
                 known = self._files.get(file)
                 yield file, known if known and known.stamp == stamp else _read(file, stamp)
 
@@ -86,28 +87,29 @@ class Folder:
         self.problems = tuple(problems)
 
 
-def _stamps(paths: Iterable[str | Path]) -> Iterator[tuple[str, Stamp | None]]:
-    """The state of each file that can be a unit, as the folders tell it; of a folder that can't be read, that it can't."""
+def stamps_of(paths: Iterable[str | Path], with_inner: bool = True) -> Iterator[tuple[str, Stamp | None]]:
+    """The state of each file that can be a unit, as the folders, and perhaps inner ones, tell it; of a folder that can't be read, that it can't."""
     for path in paths:
         try:
             with os.scandir(path) as entries:
                 for entry in entries:
                     if entry.is_dir(follow_symlinks=False):
-                        yield from _stamps([entry.path])
+                        yield from stamps_of([entry.path] if with_inner else ())
                     elif entry.name.endswith(".fb"):
-                        yield entry.path, _stamp(entry)
+                        yield os.path.realpath(entry.path) if entry.is_symlink() else entry.path, stamp_of(entry)
         except NotADirectoryError:
-            yield str(path), _stamp(Path(path))
+            yield str(path), stamp_of(Path(path))
         except OSError:
             yield str(path), None
 
 
-def _stamp(file: Path | os.DirEntry[str]) -> Stamp | None:
+def stamp_of(file: Path | os.DirEntry[str]) -> Stamp | None:
+    """The state of a file; None of what is no file, or can't be looked at."""
     try:
         state = file.stat()
     except OSError:
         return None
-    return state.st_mtime_ns, state.st_size
+    return (state.st_mtime_ns, state.st_size) if stat.S_ISREG(state.st_mode) else None
 
 
 def _read(file: Path, stamp: Stamp) -> _File:

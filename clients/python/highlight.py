@@ -5,7 +5,7 @@ from collections.abc import Iterator
 
 from bench61499 import Places
 from declarations import (
-    ALGORITHM, APPLICATION, DATA_TYPE, DEVICE, EVENT, INSTANCE, RESOURCE, STATE, TYPE, VARIABLE,
+    ALGORITHM, APPLICATION, DATA_TYPE, DEVICE, EVENT, FIELD, INSTANCE, RESOURCE, STATE, TYPE, VARIABLE, Declaration, Unit,
 )
 from plant import Text
 from positions import position, units
@@ -17,6 +17,8 @@ TOKEN_TYPES = (
 )
 TOKEN_MODIFIERS = ("declaration",)
 _BY_KIND = {"comment": "comment", "unclosed": "comment", "string": "string", "number": "number", "typed": "number"}
+_STRUCTURE = "structure"
+"""The space of a structure's own name, as it were."""
 _BY_SPACE = {
     TYPE: "class",
     EVENT: "event",
@@ -27,7 +29,9 @@ _BY_SPACE = {
     APPLICATION: "namespace",
     DEVICE: "struct",
     RESOURCE: "struct",
+    FIELD: "property",
     DATA_TYPE: "type",
+    _STRUCTURE: "struct",
 }
 _WORDS = frozenset(["IN", "ON", "ST"])
 """Names that the grammar spells out."""
@@ -50,13 +54,25 @@ def semantic_tokens(text: Text, start: int, end: int) -> list[int]:
 
 def _kinds(text: Text) -> Iterator[tuple[Token, str, bool]]:
     """The tokens that have a colour, and whether they declare a name."""
-    declared = {it.start: it.key.space for it in text.unit.declared}
-    used = {it.start: it.key.space for it in text.unit.uses}
+    spaces = _spaces(text.unit)
+    declared = {it.start for it in text.unit.declared}
     for token in pieces(text.text):
-        if space := declared.get(token.start) or used.get(token.start):
+        if space := spaces.get(token.start):
             yield token, _BY_SPACE[space], token.start in declared
         elif kind := _kind(token):
             yield token, kind, False
+
+
+def _spaces(unit: Unit) -> dict[int, str]:
+    """The name spaces by which names are coloured, by their places. A type of data is one, be it elementary or a unit."""
+    found: dict[int, str] = {}
+    before = ""
+    for it in sorted((*unit.declared, *unit.uses), key=lambda it: it.start):
+        found[it.start] = DATA_TYPE if it.key.space == TYPE and before in (VARIABLE, FIELD) else it.key.space
+        before = it.key.space if isinstance(it, Declaration) else before
+    if unit.kind == "TYPE":
+        found |= {it.start: _STRUCTURE for it in unit.declared[:1]}
+    return found
 
 
 def _kind(token: Token) -> str | None:

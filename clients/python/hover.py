@@ -4,18 +4,19 @@ from __future__ import annotations
 from collections.abc import Iterator
 
 from declarations import (
-    ALGORITHM, INSTANCE, INTERFACE, KINDS, STATE, TYPE, VARIABLE, Declaration, Key, Unit,
+    ALGORITHM, FIELD, INSTANCE, INTERFACE, KINDS, STATE, TYPE, VARIABLE, Declaration, Key, Unit, is_elementary, type_of_data,
 )
 from plant import Plant, Text
 from tokens import Token, pieces
 
 WHAT = {
-    **dict(zip(KINDS, ("function block", "adapter", "subapplication", "system"))),
+    **dict(zip(KINDS, ("function block", "adapter", "subapplication", "system", "structure"))),
     "EVENT_INPUT": "event input",
     "EVENT_OUTPUT": "event output",
     "VAR_INPUT": "data input",
     "VAR_OUTPUT": "data output",
     "VAR": "internal variable",
+    "STRUCT": "field",
     "PLUGS": "plug",
     "SOCKETS": "socket",
     "FBS": "block instance",
@@ -38,10 +39,17 @@ def described(plant: Plant, key: Key) -> str | None:
     if key.space == TYPE:
         return "\n".join(_interface(text.unit, it, comments))
     lines = [_line(it), *comments.of(it)]
-    of = next(iter(plant.declaring(it.type.upper())), None) if key.space == INSTANCE else None
-    if of:
+    if of := _type(plant, it):
         lines += ["", *_interface(of.unit, of.unit.declared[0], Comments(of))]
     return "\n".join(lines)
+
+
+def _type(plant: Plant, it: Declaration) -> Text | None:
+    """The type of an instance, or the structure that a variable or a field is of."""
+    name = it.type.upper() if it.key.space == INSTANCE else type_of_data(it.type)
+    of = next(iter(plant.declaring(name)), None)
+    is_structure = of is not None and of.unit.kind == "TYPE" and it.key.space in (VARIABLE, FIELD) and not is_elementary(name)
+    return of if it.key.space == INSTANCE or is_structure else None
 
 
 def _line(it: Declaration) -> str:
@@ -61,15 +69,15 @@ def _spelled(it: Declaration) -> str:
     if it.companions:
         words += f" WITH {', '.join(it.companions)}"
     if it.value:
-        words += f" := {it.value}" if it.key.space == VARIABLE else it.value
+        words += f" := {it.value}" if it.key.space in (VARIABLE, FIELD) else it.value
     return words
 
 
 def _interface(unit: Unit, head: Declaration, comments: Comments) -> Iterator[str]:
-    """The ports of a type, section by section, each with its comment."""
+    """The ports of a type, or the fields of a structure, section by section, each with its comment."""
     yield f"{head.section} {head.words}"
     yield from comments.of(head)
-    for section in INTERFACE:
+    for section in (*INTERFACE, "STRUCT"):
         ports = list(unit.of(section))
         if ports:
             yield f"  {section}"

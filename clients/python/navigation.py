@@ -2,6 +2,7 @@
 from __future__ import annotations
 
 import re
+from collections.abc import Iterator, Sequence
 from dataclasses import dataclass
 from enum import IntEnum
 from typing import Any
@@ -9,6 +10,7 @@ from typing import Any
 from declarations import APPLICATION, DEVICE, TYPE, Declaration, Key, Use
 from plant import Plant, Text
 from positions import Range
+from rpc import Written, joined
 
 
 class SymbolKind(IntEnum):
@@ -19,6 +21,7 @@ class SymbolKind(IntEnum):
     CLASS = 5
     METHOD = 6
     PROPERTY = 7
+    FIELD = 8
     INTERFACE = 11
     VARIABLE = 13
     OBJECT = 19
@@ -32,11 +35,13 @@ SYMBOL_KINDS = {
     "ADAPTER": SymbolKind.INTERFACE,
     "SUBAPPLICATION": SymbolKind.PACKAGE,
     "SYSTEM": SymbolKind.NAMESPACE,
+    "TYPE": SymbolKind.STRUCT,
     "EVENT_INPUT": SymbolKind.EVENT,
     "EVENT_OUTPUT": SymbolKind.EVENT,
     "VAR_INPUT": SymbolKind.PROPERTY,
     "VAR_OUTPUT": SymbolKind.PROPERTY,
     "VAR": SymbolKind.VARIABLE,
+    "STRUCT": SymbolKind.FIELD,
     "PLUGS": SymbolKind.INTERFACE,
     "SOCKETS": SymbolKind.INTERFACE,
     "FBS": SymbolKind.OBJECT,
@@ -80,16 +85,22 @@ def definitions(plant: Plant, key: Key) -> list[dict[str, Any]]:
     return [location(text, it.start, it.end) for text, it in plant.declarations(key)]
 
 
-def references(plant: Plant, key: Key, with_declaration: bool) -> list[dict[str, Any]]:
-    """All uses of a name in all units, perhaps with its declarations before them."""
-    declared = [location(text, it.start, it.end) for text, it in plant.declarations(key)] if with_declaration else []
-    return declared + [location(text, use.start, use.end) for text, uses in plant.uses(key) for use in uses]
+def occurrences(plant: Plant, key: Key, with_declaration: bool) -> Iterator[tuple[Text, Sequence[Declaration | Use]]]:
+    """All uses of a name in all units by text, perhaps with its declarations before them."""
+    if with_declaration:
+        yield from ((text, [it]) for text, it in plant.declarations(key))
+    yield from plant.uses(key)
+
+
+def references(plant: Plant, key: Key, with_declaration: bool) -> Written:
+    """The same as locations."""
+    return joined(it for text, those in occurrences(plant, key, with_declaration) for it in text.written_locations(those))
 
 
 def highlights(plant: Plant, text: Text, key: Key) -> list[dict[str, Range]]:
     """The declaration and the uses of a name in one text."""
     places = [(it.start, it.end) for it in text.unit.declared if it.key == key]
-    places += [(use.start, use.end) for use in text.unit.uses if plant.key(use) == key]
+    places += [(use.start, use.end) for use in plant.uses_in(text, key)]
     return [{"range": text.name_range(*it)} for it in places]
 
 
@@ -118,10 +129,10 @@ def _symbol(text: Text, it: Declaration) -> dict[str, Any]:
     }
 
 
-def units_named(plant: Plant, query: str) -> list[dict[str, Any]]:
+def units_named(plant: Plant, query: str) -> Written:
     """The units of the folder whose names have the letters of the query in their order; those that begin with it first."""
     wanted = query.upper()
     letters = re.compile(".*".join(map(re.escape, wanted)))
     found = [it for it in plant.texts() if it.head and letters.search(it.unit.name)]
     found.sort(key=lambda it: (not it.unit.name.startswith(wanted), wanted not in it.unit.name, it.unit.name))
-    return [{"name": it.unit.name, "kind": SYMBOL_KINDS[it.unit.kind], "location": {"uri": it.uri, "range": it.head}} for it in found]
+    return joined(f'{{"name":"{it.unit.name}","kind":{SYMBOL_KINDS[it.unit.kind]:d},"location":{it.head}}}' for it in found)

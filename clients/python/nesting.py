@@ -8,8 +8,8 @@ from tokens import Token
 
 _ENDS = {**ENDS, **{word: f"END_{word}" for word in STATEMENTS}}
 _SECTION, _STATEMENT = 3, 4
-_BETWEEN = frozenset(["ELSE", "ELSIF", "UNTIL"])
-"""Words that stand as deep as the word that begins their statement."""
+_BETWEEN = frozenset(["ELSE", "ELSIF", "UNTIL", "END_STRUCT"])
+"""Words that stand as deep as the word that begins their statement, or their structure."""
 
 
 class Nesting:
@@ -25,15 +25,19 @@ class Nesting:
         self._of = of
         self._open: list[int] = []
         for at, token in enumerate(of):
-            self.depths.append(len(self._open) if at in self.foreign or token.kind != "word" else self._depth(at, token.upper))
+            self.depths.append(self._inside() if at in self.foreign or token.kind != "word" else self._depth(at, token.upper))
 
     def _depth(self, at: int, word: str) -> int:
         if word in _ENDS:
             self._begin(at, word)
-            return len(self._open) - 1
+            return self._inside() - 1
         if word.startswith("END_"):
             self._end(at, word)
-        return len(self._open) - (word in _BETWEEN and bool(self._open))
+        return self._inside() - (word in _BETWEEN and bool(self._open))
+
+    def _inside(self) -> int:
+        """How deep it is behind what is open. A STRUCT stands as deep as its TYPE."""
+        return len(self._open) - (len(self._open) > 1 and self._word(self._open[1]) == "STRUCT")
 
     def _begin(self, at: int, word: str) -> None:
         level = _level(word)

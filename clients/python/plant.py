@@ -2,16 +2,22 @@
 from __future__ import annotations
 
 import gc
+import math
+import time
 from collections import defaultdict
 from collections.abc import Iterable, Iterator
 from functools import cached_property
 from pathlib import Path
 
 from bench61499 import Places
-from declarations import INSTANCE, Declaration, Key, Unit, Use
+from declarations import FIELD, INSTANCE, Declaration, Key, Unit, Use, Walk, type_with_fields
 from explain import Names
-from positions import Range, range_of, range_of_name
+from positions import Range, line_character, range_of, range_of_name
 from reader import read
+from rpc import written
+
+_FREEZE_EACH = 50
+"""Texts after which what was read is passed over by the garbage collector."""
 
 
 class Text:
@@ -34,10 +40,13 @@ class Text:
         return Places(self.text)
 
     @cached_property
-    def head(self) -> Range | None:
-        """Where the name of the unit is declared."""
-        its = self.unit.declared[:1] if self.unit.kind else []
-        return self.name_range(its[0].start, its[0].end) if its else None
+    def _written_uri(self) -> str:
+        return written(self.uri)
+
+    @cached_property
+    def head(self) -> str | None:
+        """The location of the name of the unit, written."""
+        return next(self.written_locations(self.unit.declared[:1]), None) if self.unit.kind else None
 
     def prepare(self) -> None:
         """Has all that is made of the text made now, and not when somebody asks."""
@@ -50,6 +59,14 @@ class Text:
     def name_range(self, start: int, end: int) -> Range:
         return range_of_name(self.places, start, end)
 
+    def written_locations(self, names: Iterable[Declaration | Use]) -> Iterator[str]:
+        """Where names stand, written: of each `{"uri": .., "range": ..}`."""
+        head, places = f'{{"uri":{self._written_uri},"range":{{"start":{{"line":', self.places
+        for it in names:
+            line, first = line_character(places, it.start)
+            last = first + it.end - it.start
+            yield f'{head}{line},"character":{first}}},"end":{{"line":{line},"character":{last}}}}}}}'
+
 
 class Plant:
     """The texts by file, and an index of them that is brought up to date by `refresh`."""
@@ -60,8 +77,8 @@ class Plant:
         self._names: dict[Path, set[str]] = {}
         self._declaring: defaultdict[str, set[Path]] = defaultdict(set)
         self._using: defaultdict[str, set[Path]] = defaultdict(set)
-        self._walking: set[Path] = set()
-        self._frozen = 50
+        self._walking: defaultdict[str, set[Path]] = defaultdict(set)
+        self._frozen = 0
         self._near: dict[str, tuple[frozenset[str], Names]] = {}
 
     def put(self, file: Path, text: str | None, uri: str | None = None) -> None:
@@ -75,26 +92,28 @@ class Plant:
     def is_read(self) -> bool:
         return not self._unread
 
-    def refresh(self, most: int | None = None) -> None:
-        """Reads the texts that have changed, or so many of them."""
-        for file in list(self._unread)[:most]:
-            self._unread.discard(file)
+    def refresh(self, end: float = math.inf) -> None:
+        """Reads the texts that have changed: all of them, or one and then more until a time of the monotonic clock."""
+        while self._unread:
+            file = self._unread.pop()
             self._forget(file)
             if text := self._texts.get(file):
                 self._index(text)
-        if self.is_read() and len(self._names) >= 2 * self._frozen:
             self._freeze()
+            if time.monotonic() >= end:
+                return
 
     def _freeze(self) -> None:
-        """Tells the garbage collector to pass over what is there, which otherwise takes a third of a second in a large plant."""
-        self._frozen = max(100, len(self._names))
-        gc.freeze()
+        """Tells the garbage collector now and then to pass over what is there, which otherwise takes a third of a second in a large plant."""
+        if len(self._names) >= self._frozen + _FREEZE_EACH:
+            self._frozen = len(self._names)
+            gc.freeze()
 
     def _forget(self, file: Path) -> None:
         for name in self._names.pop(file, ()):
             self._declaring[name].discard(file)
             self._using[name].discard(file)
-        self._walking.discard(file)
+            self._walking[name].discard(file)
 
     def _index(self, text: Text) -> None:
         text.prepare()
@@ -103,9 +122,10 @@ class Plant:
         self._declaring[unit.name].add(file)
         for name in used:
             self._using[name].add(file)
-        self._names[file] = {unit.name, *used}
-        if any(use.walk for use in unit.uses):
-            self._walking.add(file)
+        walking = {use.key.name for use in unit.uses if use.walk}
+        for name in walking:
+            self._walking[name].add(file)
+        self._names[file] = {unit.name, *used, *walking}
 
     # What is there. All of it is of what was read.
 
@@ -144,27 +164,38 @@ class Plant:
     def declaration(self, key: Key) -> Declaration | None:
         return next((found for _, found in self.declarations(key)), None)
 
-    def texts_of(self, unit: str) -> list[Text]:
-        """The texts that may have a name of a unit: its own, those that mention it, and those with paths deep into others."""
-        files = self._declaring.get(unit, set()) | self._using.get(unit, set()) | self._walking
+    def texts_of(self, key: Key) -> list[Text]:
+        """The texts that may have a name: that of its unit, those that mention this one, and those with such a name deep in a path."""
+        files = self._declaring.get(key.unit, set()) | self._using.get(key.unit, set()) | self._walking.get(key.name, set())
         return [self._texts[file] for file in sorted(files, key=str)]
 
     def uses(self, key: Key) -> Iterator[tuple[Text, list[Use]]]:
         """All uses of what a name stands for, by text."""
-        for text in self.texts_of(key.unit):
-            found = text.unit.by_key.get(key, [])
-            if key.space == INSTANCE and text.file in self._walking:
-                found = found + [use for use in text.unit.uses if use.walk and self.key(use) == key]
-            if found:
+        for text in self.texts_of(key):
+            if found := self.uses_in(text, key):
                 yield text, found
+
+    def uses_in(self, text: Text, key: Key) -> list[Use]:
+        """The uses of what a name stands for in one text."""
+        found = text.unit.by_key.get(key, [])
+        if text.file in self._walking.get(key.name, ()):
+            deep = text.unit.by_key.get(Key("", key.space, "", key.name), [])
+            its = {walk for walk in {use.walk for use in deep} if walk and self.owner(walk) == key.unit}
+            found = [use for use in found if not use.walk] + [use for use in deep if use.walk in its]
+        return found
 
     def key(self, use: Use) -> Key:
         """What a used name stands for, also where only other units tell."""
-        if not use.walk:
-            return use.key
-        of, *instances = use.walk
-        for instance in instances:
+        return use.key._replace(unit=self.owner(use.walk)) if use.walk else use.key
+
+    def owner(self, walk: Walk) -> str:
+        """The unit that a way leads to; empty where it leads nowhere."""
+        of, space = walk.unit, walk.space
+        for step in walk.steps:
             unit = self.unit(of)
-            its = unit.instance("", instance) if unit else None
-            of = its.type.upper() if its else ""
-        return use.key._replace(unit=of)
+            its = unit.first.get(Key(of, space, "", step.name)) if unit else None
+            if not its:
+                return ""
+            of = its.type.upper() if space == INSTANCE else type_with_fields(its.type, step.is_subscripted)
+            space = INSTANCE if space == INSTANCE else FIELD
+        return of

@@ -15,10 +15,16 @@ _UNIT = 2
 """Bytes of a UTF-16 code unit."""
 
 
+def line_character(places: Places, place: int) -> tuple[int, int]:
+    """The line and the column, as an editor counts them, of a place in bytes of UTF-8."""
+    line, column = places.line_column(place)
+    return line - 1, column - 1 if places.is_plain else units(places.line(line)[: column - 1])
+
+
 def position(places: Places, place: int) -> Position:
     """Where a place, in bytes of UTF-8, is for an editor."""
-    line, column = places.line_column(place)
-    return {"line": line - 1, "character": column - 1 if places.is_plain else units(places.line(line)[: column - 1])}
+    line, character = line_character(places, place)
+    return {"line": line, "character": character}
 
 
 def range_of(places: Places, start: int, end: int) -> Range:
@@ -27,9 +33,8 @@ def range_of(places: Places, start: int, end: int) -> Range:
 
 def range_of_name(places: Places, start: int, end: int) -> Range:
     """The same of a name, which stands in one line and has characters of one byte and one unit alone."""
-    line, column = places.line_column(start)
-    character = column - 1 if places.is_plain else position(places, start)["character"]
-    return {"start": {"line": line - 1, "character": character}, "end": {"line": line - 1, "character": character + end - start}}
+    line, character = line_character(places, start)
+    return {"start": {"line": line, "character": character}, "end": {"line": line, "character": character + end - start}}
 
 
 def place(places: Places, at: Position) -> int:

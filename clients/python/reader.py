@@ -9,8 +9,8 @@ from collections.abc import Callable
 
 from declarations import (
     ADAPTER_SECTIONS, ALGORITHM, APPLICATION, CONNECTION_SECTIONS, DATA_SECTIONS, DATA_TYPE, DESTINATION, DEVICE, ENDS, EVENT, EVENT_SECTIONS,
-    INSTANCE, INTERFACE, KINDS, LEVELS, PARAMETERS, PARTS, RESOURCE, SOURCE, STATE, STATEMENTS, TYPE, VARIABLE, Connection, Declaration, Key, Unit, Use,
-    Wanted,
+    FIELD, INSTANCE, INTERFACE, KINDS, LEVELS, PARAMETERS, PARTS, RESOURCE, SOURCE, STATE, STATEMENTS, TYPE, VARIABLE, Connection, Declaration, Key,
+    Step, Unit, Use, Walk, Wanted, is_elementary,
 )
 from tokens import Token, is_name, spelled, tokens
 
@@ -20,6 +20,8 @@ _WITH_WORDS = frozenset([TYPE, ALGORITHM, APPLICATION, DEVICE, RESOURCE])
 _STATEMENT_ENDS = tuple(f"END_{word}" for word in STATEMENTS)
 _STATEMENT_WORDS = (*STATEMENTS, "EXIT", "RETURN", "ELSIF", "ELSE", "UNTIL", *_STATEMENT_ENDS)
 _OPERATORS = ("AND", "OR", "XOR", "MOD", "THEN", "DO", "OF", "TO", "BY")
+_LONGEST_PATH = 64
+"""Names of a reference whose owners are looked for; of those behind them nothing is told."""
 _BEFORE_STATEMENTS = frozenset([";", ":", "ST", "THEN", "ELSE", "DO", "REPEAT", *_STATEMENT_ENDS])
 
 
@@ -199,6 +201,18 @@ class Reader:
             self._unit.name = token.upper
             self._open.append(self._add(Key(token.upper, TYPE, "", token.upper), token))
 
+    def _structure(self) -> None:
+        """What stands before the STRUCT of a structure."""
+        self._head()
+        self._is_inside = self._is_over()
+        if self._skip(":"):
+            self._is_inside = self._is_over()
+            self._is("STRUCT")
+
+    def _fields(self) -> None:
+        self._items(lambda: self._data(FIELD))
+        self._skip(";")
+
     def _events(self) -> None:
         self._items(self._event)
 
@@ -220,9 +234,9 @@ class Reader:
     def _variables(self) -> None:
         self._items(self._data)
 
-    def _data(self) -> None:
-        those = [made] if (made := self._declare(VARIABLE)) else []
-        while those and self._skip(",") and (made := self._declare(VARIABLE)):
+    def _data(self, space: str = VARIABLE) -> None:
+        those = [made] if (made := self._declare(space)) else []
+        while those and self._skip(",") and (made := self._declare(space)):
             those.append(made)
         if not those or not self._skip(":"):
             return
@@ -285,12 +299,12 @@ class Reader:
             self._connected.append((space, self._scope, begin, middle, len(self._used)))
 
     def _end(self, space: str, side: str) -> Token | None:
-        """A name, or two with a point between them: an end of a connection, an event of a chart, a variable."""
+        """A name, or two with a point between them: an end of a connection, an event of a chart."""
         follower = self._tokens[self._at + 1] if self._at + 1 < len(self._tokens) else None
         is_path = follower is not None and follower.words == "."
         first = self._name(Wanted(INSTANCE if is_path else space, self._section, self._scope, side=side))
         if first and self._skip("."):
-            port = self._name(Wanted(space, self._section, self._scope, (first.upper,), side=side))
+            port = self._name(Wanted(space, self._section, self._scope, (Step(first.upper),), side=side))
             return first if port or not self._is_over() else None
         return first
 
@@ -328,15 +342,38 @@ class Reader:
                 self._references(";")
 
     def _references(self, stop: str) -> None:
-        """The variables of an expression or of statements."""
+        """The variables of an expression or of statements, with their members."""
+        path: tuple[Step, ...] = ()
+        outer: list[tuple[Step, ...]] = []
         while not self._is_over() and not self._is_boundary():
             if stop and self._is(stop):
                 return
-            begin = self._at
-            self._end(VARIABLE, "")
-            self._at += self._at == begin
+            if self._skip("["):
+                outer.append((*path[:-1], path[-1]._replace(is_subscripted=True)) if path else ())
+                path = ()
+            elif self._skip("]"):
+                path = outer.pop() if outer else ()
+            elif path and self._skip("."):
+                path = self._member(path)
+            else:
+                path = self._variable()
         if self._is_over():
             self._expect_in_expression(not stop)
+
+    def _variable(self) -> tuple[Step, ...]:
+        """The first name of a reference, or another token; gives the path that it begins."""
+        is_path = self._at + 1 < len(self._tokens) and self._tokens[self._at + 1].words == "."
+        if name := self._name(Wanted(VARIABLE, self._section, leads_on=is_path)):
+            return (Step(name.upper),)
+        self._at += 1
+        return ()
+
+    def _member(self, path: tuple[Step, ...]) -> tuple[Step, ...]:
+        """A name behind a point; gives the path with it."""
+        if len(path) == _LONGEST_PATH:
+            return path if self._name(None) else ()
+        name = self._name(Wanted(VARIABLE, self._section, path=path))
+        return (*path, Step(name.upper)) if name else ()
 
     def _expect_in_expression(self, are_statements: bool) -> None:
         before = self._tokens[-1]
@@ -404,34 +441,47 @@ class Reader:
 
     def _mapping(self) -> None:
         first = self._name(Wanted(APPLICATION, self._section))
-        path: tuple[str, ...] = ()
+        path: tuple[Step, ...] = ()
         while first and self._skip("."):
             if not (part := self._name(Wanted(INSTANCE, self._section, first.upper, path))):
                 return
-            path = (*path, part.upper)
+            path = (*path, Step(part.upper))
         if first and self._skip("ON") and (device := self._name(Wanted(DEVICE, self._section))) and self._skip("."):
             self._name(Wanted(RESOURCE, self._section, device.upper))
 
     # Whose name it is
 
     def _use(self, wanted: Wanted, token: Token) -> Use:
-        name, space, unit, walk = token.upper, wanted.space, self._unit.name, ()
-        scope = wanted.scope if space in (INSTANCE, RESOURCE) else ""
-        if space == TYPE:
-            unit = name
-        elif space == DATA_TYPE:
-            unit = ""
-        elif wanted.section == PARAMETERS:
-            unit = wanted.owner
-        elif wanted.path:
-            its = self._unit.instance(wanted.scope, wanted.path[0])
-            unit, scope = its.type.upper() if its else "", ""
-            if len(wanted.path) > 1 and unit:
-                unit, walk = "", (unit, *wanted.path[1:])
-        return Use(Key(unit, space, scope, name), token.start, token.end, walk)
+        walk = self._walk(wanted)
+        return Use(self._key(wanted, token.upper, walk), token.start, token.end, walk if walk and walk.steps else None)
+
+    def _walk(self, wanted: Wanted) -> Walk | None:
+        """The way to the owner of a name that stands behind others; None where nothing is known of these."""
+        if wanted.is_member:
+            return self._unit.way(wanted.path)
+        its = self._unit.instance(wanted.scope, wanted.path[0].name) if wanted.path else None
+        return Walk(its.type.upper(), wanted.space, wanted.path[1:]) if its else None
+
+    def _key(self, wanted: Wanted, name: str, walk: Walk | None) -> Key:
+        space = wanted.space
+        if wanted.path:
+            if walk and not walk.steps:
+                return Key(walk.unit, walk.space, "", name)
+            return Key("", FIELD if wanted.is_member else space, "", name)
+        if space == TYPE or space == DATA_TYPE and not is_elementary(name):
+            return Key(name, TYPE, "", name)
+        if space == DATA_TYPE:
+            return Key("", DATA_TYPE, "", name)
+        if wanted.section == PARAMETERS:
+            return Key(wanted.owner, space, "", name)
+        if wanted.leads_on and self._unit.plug_or_socket(name):
+            space = INSTANCE
+        return Key(self._unit.name, space, wanted.scope if space in (INSTANCE, RESOURCE) else "", name)
 
     _PARTS = {
         **dict.fromkeys(KINDS, _head),
+        "TYPE": _structure,
+        "STRUCT": _fields,
         **dict.fromkeys(EVENT_SECTIONS, _events),
         **dict.fromkeys([*DATA_SECTIONS, "VAR"], _variables),
         **dict.fromkeys([*ADAPTER_SECTIONS, "FBS", "SUBAPPS"], _instances),

@@ -4,8 +4,8 @@ from __future__ import annotations
 from typing import Any
 
 from bench61499 import CHANGES_LIMIT, NAME_LIMIT, TEXT_LIMIT
-from declarations import TYPE, Key
-from navigation import Found, references
+from declarations import INSTANCE, TYPE, VARIABLE, Key, is_elementary
+from navigation import Found, occurrences
 from plant import Plant
 from tokens import RESERVED, is_name, tokens
 
@@ -37,8 +37,8 @@ def renamed(plant: Plant, found: Found | None, name: str) -> dict[str, Any]:
     if name.upper() != key.name:
         _check_free(plant, key, name)
     changes: dict[str, list[dict[str, Any]]] = {}
-    for it in references(plant, key, with_declaration=True):
-        changes.setdefault(it["uri"], []).append({"range": it["range"], "newText": name})
+    for text, those in occurrences(plant, key, with_declaration=True):
+        changes.setdefault(text.uri, []).extend({"range": text.name_range(it.start, it.end), "newText": name} for it in those)
     _check_size(plant, key, name, changes)
     return {"changes": changes}
 
@@ -48,7 +48,7 @@ def _check_size(plant: Plant, key: Key, name: str, changes: dict[str, list[dict[
     needed = len(changes) + (key.space == TYPE)
     if needed > CHANGES_LIMIT:
         raise CantRename(f"{key.name} stands in {len(changes):,} units. This takes {needed:,} changes, and a commit has at most {CHANGES_LIMIT}")
-    for text in plant.texts_of(key.unit):
+    for text in plant.texts_of(key):
         grown = len(text.places.encoded) + len(changes.get(text.uri, ())) * (len(name) - len(key.name))
         if grown > TEXT_LIMIT:
             raise CantRename(f"{text.unit.name} would have {grown:,} bytes, and the text of a unit has at most {TEXT_LIMIT:,}")
@@ -68,12 +68,24 @@ def _check_name(name: str) -> None:
 def _check_free(plant: Plant, key: Key, name: str) -> None:
     """The new name has to be new in its name space, and nothing may be waiting for it."""
     upper = name.upper()
+    if key.space == TYPE and is_elementary(upper):
+        raise CantRename(f"{name} is an elementary type")
+    _check_members(plant, key, upper)
     new = key._replace(name=upper, unit=upper if key.space == TYPE else key.unit)
     if taken := plant.declaration(new):
         where = "there is a unit" if key.space == TYPE else f"{key.owner} has the {key.space}"
         raise CantRename(f"{where} {taken.words} already")
     for text, _ in plant.uses(new):
         raise CantRename(f"{text.unit.name} uses the {key.space} {upper} already, though nothing declares it")
+
+
+def _check_members(plant: Plant, key: Key, name: str) -> None:
+    """Before a point a plug or a socket hides a variable of its name, so neither may come to have the name of the other."""
+    its = plant.unit(key.unit)
+    if its and its.kind == "FUNCTION_BLOCK" and key.space in (VARIABLE, INSTANCE):
+        variable, port = Key(key.unit, VARIABLE, "", name), its.plug_or_socket(name)
+        if key.space == VARIABLE and port or its.plug_or_socket(key.name) and (variable in its.first or variable in its.by_key):
+            raise CantRename(f"{name} is a {VARIABLE if key.space == INSTANCE else 'plug or a socket'} of {key.unit} already")
 
 
 def _listed(words: list[str]) -> str:

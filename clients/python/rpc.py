@@ -2,6 +2,7 @@
 from __future__ import annotations
 
 import json
+from collections.abc import Iterable
 from typing import Any, BinaryIO
 
 Message = dict[str, Any]
@@ -19,6 +20,10 @@ ERROR, WARNING = 1, 2
 
 class BadMessage(Exception):
     """A message that is no JSON object."""
+
+
+class Written(str):
+    """The JSON of a value. Thousands of small values take longer to make, and then to write, than to write at once."""
 
 
 def read_content(stream: BinaryIO) -> bytes | None:
@@ -49,10 +54,22 @@ def read_message(stream: BinaryIO) -> Message | None:
 
 
 def write_message(stream: BinaryIO, message: Message) -> None:
-    words = json.dumps({"jsonrpc": "2.0", **message}, ensure_ascii=False, check_circular=False, separators=(",", ":"))
-    content = words.encode(errors="replace")
+    words = ",".join(f"{written(name)}:{written(value)}" for name, value in {"jsonrpc": "2.0", **message}.items())
+    content = f"{{{words}}}".encode(errors="replace")
     stream.write(b"Content-Length: %d\r\n\r\n%b" % (len(content), content))
     stream.flush()
+
+
+def written(value: Any) -> Written:
+    """The JSON of a value, in one line."""
+    if isinstance(value, Written):
+        return value
+    return Written(json.dumps(value, ensure_ascii=False, check_circular=False, separators=(",", ":")))
+
+
+def joined(parts: Iterable[str]) -> Written:
+    """The JSON of a list of values that are written."""
+    return Written(f"[{','.join(parts)}]")
 
 
 def tell(severity: int, words: str) -> Message:

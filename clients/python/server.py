@@ -28,7 +28,7 @@ class Server:
     def __init__(self, open_workbench: Callable[[], Session], shared: bool, send: Callable[[Message], None], wake: Callable[[], None]):
         self._send = send
         self._checking = Checking(open_workbench, shared, send, wake)
-        self._answers = Answers(self._checking.plant, self._shown)
+        self._answers = Answers(self._checking.plant, self._checking.catch_up, self._shown)
         self._initialized = self._shut_down = False
         self.status: int | None = None
 

@@ -1,4 +1,5 @@
 """Questions at random places of random texts, most of them with faults: each is answered, and what is answered lies in a text."""
+import json
 import random
 import unittest
 from pathlib import Path
@@ -10,6 +11,7 @@ from bench61499 import Places
 from plant import Plant
 from positions import place, position, range_of
 from rename import CantRename
+from rpc import Written
 
 AT_PLACES = ("definition", "references", "documentHighlight", "hover", "completion", "prepareRename", "rename")
 OF_TEXTS = ("documentSymbol", "semanticTokens/full", "foldingRange", "formatting")
@@ -26,11 +28,13 @@ class AnswersTest(unittest.TestCase):
             for name, text in library.texts.items():
                 plant.put(Path(f"/plant/{name}.fb"), text)
             self.places = {f"file:///plant/{name}.fb": Places(text) for name, text in library.texts.items()}
-            yield library, Answers(plant, lambda path: [])
+            yield library, Answers(plant, plant.refresh, lambda path: [])
 
     def check(self, answer):
-        """All ranges of an answer are ranges of the texts that it names."""
-        if isinstance(answer, list):
+        """All ranges of an answer, as it is sent, are ranges of the texts that it names."""
+        if isinstance(answer, Written):
+            self.check(json.loads(answer))
+        elif isinstance(answer, list):
             for it in answer:
                 self.check(it)
         elif isinstance(answer, dict):

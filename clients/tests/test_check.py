@@ -110,8 +110,8 @@ class FilesTest(InFolder):
         self.write("other.fb", "FUNCTION_BLOCK EMPTY")
         ran = run("check", ".", "--quiet", "--program", workbench(), folder=self.folder)
         expected = [
-            "9 - ü.fb:2:1: SYNTAX: there is nothing here: a unit begins with FUNCTION_BLOCK, ADAPTER, SUBAPPLICATION or SYSTEM",
-            "empty.fb:1:1: SYNTAX: there is nothing here: a unit begins with FUNCTION_BLOCK, ADAPTER, SUBAPPLICATION or SYSTEM",
+            "9 - ü.fb:2:1: SYNTAX: there is nothing here: a unit begins with FUNCTION_BLOCK, ADAPTER, SUBAPPLICATION, SYSTEM or TYPE",
+            "empty.fb:1:1: SYNTAX: there is nothing here: a unit begins with FUNCTION_BLOCK, ADAPTER, SUBAPPLICATION, SYSTEM or TYPE",
             "if.fb:1:16: SYNTAX: the reserved word IF can't follow FUNCTION_BLOCK",
             "other.fb:1:16: SYNTAX: the text ends too early, behind EMPTY: END_FUNCTION_BLOCK is missing",
         ]

@@ -206,13 +206,12 @@ def undeclared(unit: Unit, space: str):
 
 
 def types_of_no_use(library: Library, unit: Unit):
-    """Types that are not there, broken, or of a kind that the section doesn't take."""
-    sections = {it.type.upper(): it.section for it in unit.declared}
+    """Types of instances that are not there, broken, or of a kind that the section doesn't take."""
     for use in unit.uses:
-        if use.key.space == TYPE:
+        section = next((it.section for it in unit.declared if it.begin < use.start < it.last and it.key.space == INSTANCE), None)
+        if use.key.space == TYPE and section:
             text = library.texts.get(use.key.name)
             is_good = text is not None and "SYNTAX" not in library.codes(use.key.name)
-            section = next(it.section for it in unit.declared if it.begin < use.start < it.last and it.key.space == INSTANCE)
             if not is_good or read(text).kind != KINDS[section]:
                 yield use.start, use.end
 

@@ -64,7 +64,7 @@ class ExplainTest(unittest.TestCase):
 
     def test_syntax(self):
         self.check("SYNTAX", "SYSTEM A ¦(* ..¦", "this comment is never closed: *) is missing")
-        self.check("SYNTAX", "¦STRUCT¦ A", "a unit begins with FUNCTION_BLOCK, ADAPTER, SUBAPPLICATION or SYSTEM, and not with STRUCT")
+        self.check("SYNTAX", "¦STRUCT¦ A", "a unit begins with FUNCTION_BLOCK, ADAPTER, SUBAPPLICATION, SYSTEM or TYPE, and not with STRUCT")
         self.check("SYNTAX", "VAR A : STRING := ¦'¦abc\n;", "the text behind this ' is not closed on its line")
         self.check("SYNTAX", "¦\ufeff¦SYSTEM", "a byte order mark is no part of the language; save the file as UTF-8 without one")
         self.check("SYNTAX", "SYSTEM ¦\x07¦", "U+0007 can't follow SYSTEM")

@@ -269,7 +269,7 @@ class CompletionTest(ConveyorTest):
 
     def test_words(self):
         self.check("FEEDER", "END_TRANSITIONS\n  ", *PARTS["FUNCTION_BLOCK"], "END_FUNCTION_BLOCK", with_words=True)
-        self.check("LAMP", "FUNCTION_", "FUNCTION_BLOCK", "ADAPTER", "SUBAPPLICATION", "SYSTEM", with_words=True)
+        self.check("LAMP", "FUNCTION_", "FUNCTION_BLOCK", "ADAPTER", "SUBAPPLICATION", "SYSTEM", "TYPE", with_words=True)
         self.check("PLANT", "LINE.FIRST ", "ON", with_words=True)
         self.check("FEEDER", "IF LOAD > LIMIT ", "AND", "OR", "XOR", "MOD", "THEN", "DO", "OF", "TO", "BY", with_words=True)
 

@@ -1,6 +1,7 @@
 """lsp: its messages, by pipe, as an editor sends and reads them."""
 from __future__ import annotations
 
+import os
 import threading
 import unittest
 
@@ -189,6 +190,33 @@ class CheckingTest(InFolder):
             self.woken.clear()
             self.checking.step()
         self.assertEqual(self.shown, expected)
+
+    def test_files_are_read_behind_the_open_text(self):
+        """The text that is open is there at once, and the others when somebody asks about all, or some with each step."""
+        self.write("one.fb", GOOD)
+        others = [self.write(f"other_{number}.fb", GOOD.replace(" A ", f" B{number} ")) for number in range(100)]
+        self.checking.open((self.folder / "one.fb").as_uri(), 1, GOOD)
+        plant = self.checking.plant
+        self.assertEqual([it.unit.name for it in plant.texts()], ["A"])
+        self.assertEqual(self.checking.patience(), 0)
+        self.checking.catch_up()
+        self.assertTrue(plant.is_read() and all(plant.text(file) for file in others))
+        others[0].unlink()
+        self.checking.refresh_files()
+        while self.checking.patience() == 0:
+            self.checking.step()
+        self.assertEqual(len(list(plant.texts())), 100)
+
+    def test_what_is_no_file_is_not_read(self):
+        os.mkfifo(self.folder / "pipe.fb")
+        (self.folder / "folder.fb").mkdir()
+        (self.folder / "nowhere.fb").symlink_to(self.folder / "not_there.fb")
+        (self.folder / "round.fb").symlink_to(self.folder / "round.fb")
+        (self.folder / "link.fb").symlink_to(self.write("folder.fb/one.fb", GOOD))
+        self.checking.folders = [self.folder]
+        self.checking.refresh_files()
+        self.checking.catch_up()
+        self.assertEqual([it.file.name for it in self.checking.plant.texts()], ["one.fb"])
 
     def test_a_double_that_changes_with_the_other(self):
         one, other = (self.write(f"{name}.fb", GOOD).as_uri() for name in ("one", "other"))
