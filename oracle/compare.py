@@ -1,5 +1,6 @@
 """compare.py [--level L] [--steps] LIBS.json REPLIES ..: compares each reply with the oracle; prints differences and counts.
-With --steps the files are of the kind steps of generate.py. compare.py --self [--level L] LIBS.json ..: counts the oracle's faults alone."""
+With --steps the files are of the kinds steps and nets of generate.py.
+compare.py --self [--level L] LIBS.json ..: counts the oracle's faults alone."""
 import argparse
 import json
 from collections import Counter
@@ -60,8 +61,11 @@ class Comparison:
 
 
 def kind_of(got):
+    """What sort of a reply it is, to be counted."""
     inner = got.get("net", got.get("deploy"))
-    return ", ".join(sorted(inner)) if isinstance(inner, dict) else inner or ", ".join(str(v) for v in got.values() if isinstance(v, str))
+    if isinstance(inner, dict):
+        return ", ".join(sorted(inner))
+    return inner or ", ".join(v for v in got.values() if isinstance(v, str))
 
 
 def net_reply(lib, name):

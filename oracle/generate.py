@@ -1,7 +1,8 @@
-"""Random small libraries. generate.py SEED COUNT OUT.jsonl [plain|tokens|deep|steps] [plain|read|structures] writes request lines for
-COUNT libraries, and beside it OUT.json, the list of libraries (name -> text) in the same order. The last word is the level of the
-language (see oracle.py); with structures nets and plans are asked for too. Of the kind steps each library but every eighth is the one
-before it with a unit or two changed, and all is asked for before the work as well."""
+"""Random small libraries. generate.py SEED COUNT OUT.jsonl [plain|tokens|deep|steps|nets] [plain|read|structures] writes
+request lines for COUNT libraries, and beside it OUT.json, the list of libraries (name -> text) in the same order. The last word
+is the level of the language (see oracle.py); above plain nets and plans are asked for too. Of the kinds steps and nets each
+library but every eighth is the one before it with a unit or two changed, and all is asked for before the work as well; nets have
+units with hardly a fault, that only hold and carry one another."""
 import json
 import random
 import sys
@@ -45,6 +46,9 @@ RETURN AND OR XOR NOT MOD TRUE FALSE IN ON ST""".split()
 SYMS = [":=", "<=", ">=", "<>", "**", "->", "..", ";", ":", ",", ".", "(", ")", "[", "]", "=", "<", ">", "+", "-", "*",
         "/", "&"]
 STRUCTURE_UNITS = UNITS + ["R", "S", "T", "U", "ANY_S", "REAL"]
+# Names of types that never stand for a unit, and some that look like them.
+ELEMENTARY_NAMES = """BOOL SINT INT DINT LINT USINT UINT UDINT ULINT BYTE WORD DWORD LWORD ANY ANY_ ANY_BIT REAL LREAL TIME DATE TOD
+TIME_OF_DAY DT DATE_AND_TIME STRING WSTRING ANYX ANY1 CHAR LTIME""".split()
 STRUCTURE_WORDS = ["TYPE", "END_TYPE", "STRUCT", "END_STRUCT"]
 LONG64, LONG65 = "L" * 64, "L" * 65
 
@@ -89,8 +93,11 @@ class Gen:
         r = self.r
         self.noise = r.choice([0.0, 0.1, 0.3, 0.6, 1.0, 1.0])
         names = r.sample(self.units, r.randint(3, 8))
-        self.plan = {}
+        self.plan, self.odd = {}, None
         if self.structures:
+            if self.chance(0.3):
+                self.odd = self.pick(ELEMENTARY_NAMES)
+                names = [n for n in names if n != self.odd] + [self.odd]
             self.plan = {n: dict(kind=self.kind()) for n in names}
         for n in names:
             kind = self.plan[n]["kind"] if self.structures else self.kind()
@@ -147,6 +154,8 @@ class Gen:
 
     def type_of_value(self, name):
         """A type of a variable or field of the unit; with structures half of them are the names of units."""
+        if self.structures and self.odd and self.chance(0.2):
+            return self.pick([[self.odd], [self.odd], ["ARRAY", "[", "0", "..", "1", "]", "OF", self.odd], [self.odd, "[", "3", "]"]])
         if not self.structures or self.chance(0.5):
             return self.pick(TYPES)
         present = list(self.plan)
@@ -154,7 +163,8 @@ class Gen:
         if name in good and not self.bad(0.3):
             good = good[good.index(name) + 1:]
         x = self.r.random()
-        n = self.pick(good) if good and x < 0.75 else self.pick(present) if self.bad(0.5) else self.pick(self.units + ["NOPE"])
+        n = self.pick(present) if self.bad(0.5) else self.pick(self.units + ["NOPE"])
+        n = self.pick(good) if good and x < 0.75 else n
         x = self.r.random()
         if x < 0.55:
             return [n]
@@ -757,13 +767,14 @@ ATOMS = list("aEe_19#.+-:'\"$(*)/<>=&;, \t\r\n\u00e9\u20ac") + ["T#", "D#", "REA
         "\U0001f600", "\x0b", "\x00", "\x7f", "NOT", "[", "]", "Date_And_Time#", "D", "1_", "0"]
 
 
-STRUCTURE_PREFIXES = ["TYPE ", "TYPE %s ", "TYPE %s:STRUCT ", "TYPE %s:STRUCT X:INT;END_STRUCT", "TYPE %s:STRUCT X:",
-                      "FUNCTION_BLOCK %s VAR X:A;END_VAR ALGORITHM A IN ST X", "FUNCTION_BLOCK %s VAR X:A;END_VAR ALGORITHM A IN ST X.",
-                      "FUNCTION_BLOCK %s VAR X:A;END_VAR ALGORITHM A IN ST X[0].F", "FUNCTION_BLOCK %s VAR X:INT;END_VAR ALGORITHM A IN ST X:="]
-STRUCTURE_SUFFIXES = [" END_STRUCT END_TYPE", ";END_STRUCT;END_TYPE", " END_TYPE", ":=1;END_ALGORITHM END_FUNCTION_BLOCK",
-                      ";END_ALGORITHM END_FUNCTION_BLOCK", ""]
+USES = "FUNCTION_BLOCK %s VAR X:A;END_VAR ALGORITHM A IN ST X"
+STRUCTURE_PREFIXES = ["TYPE ", "TYPE %s ", "TYPE %s:STRUCT ", "TYPE %s:STRUCT X:INT;END_STRUCT", "TYPE %s:STRUCT X:", USES,
+                      USES + ".", USES + "[0].F", USES + ":="]
+STRUCTURE_SUFFIXES = [" END_STRUCT END_TYPE", ";END_STRUCT;END_TYPE", " END_TYPE",
+                      ":=1;END_ALGORITHM END_FUNCTION_BLOCK", ";END_ALGORITHM END_FUNCTION_BLOCK", ""]
 STRUCTURE_FAMILY = [[0, 2], [0, 1], [0, 1], [2], [0, 1], [3], [3], [3], [4]]
-STRUCTURE_ATOMS = ATOMS + [".", "X.Y", ".F", "[0]", "[", "]", "TYPE", "end_struct", "STRUCT", ":", ";", "X:INT;", "A", "[1,2].G"] * 2
+STRUCTURE_ATOMS = ATOMS + [".", "X.Y", ".F", "[0]", "[", "]", ";;", "TYPE", "end_struct", "STRUCT", ":", ";", "X:INT;", "A",
+                           "[1,2].G"] * 2
 
 
 def token_library(rng, level="plain"):
@@ -773,7 +784,8 @@ def token_library(rng, level="plain"):
         if level != "plain" and rng.random() < 0.6:
             i = rng.randrange(len(STRUCTURE_PREFIXES))
             odd = "".join(rng.choice(STRUCTURE_ATOMS) for _ in range(rng.randint(0, 5)))
-            out[n] = STRUCTURE_PREFIXES[i].replace("%s", n) + odd + STRUCTURE_SUFFIXES[rng.choice(STRUCTURE_FAMILY[i])]
+            end = STRUCTURE_SUFFIXES[rng.choice(STRUCTURE_FAMILY[i])]
+            out[n] = STRUCTURE_PREFIXES[i].replace("%s", n) + odd + end
             continue
         i = rng.randrange(len(PREFIXES))
         j = rng.choice(FAMILY[i]) if i in FAMILY and rng.random() < 0.75 else rng.randrange(len(SUFFIXES))
@@ -796,6 +808,57 @@ def deep_library(rng, level="plain"):
                        "IN", "ST"] + g.deep() + ["END_ALGORITHM", "END_FUNCTION_BLOCK"])
         out[n] = text
     return out
+
+
+class Nets:
+    """Units of all kinds that hold one another as instances and carry one another as values, and nothing else."""
+    HEADS = {"block": "FUNCTION_BLOCK", "subapp": "SUBAPPLICATION", "adapter": "ADAPTER", "system": "SYSTEM", "structure": "TYPE"}
+
+    def __init__(self, rng, level):
+        self.r, self.names = rng, STRUCTURE_UNITS
+        self.kinds = ["block"] * 4 + ["subapp"] * 3 + ["system", "adapter"] + ["structure"] * (0 if level == "plain" else 4)
+
+    def library(self):
+        self.plan = {n: self.r.choice(self.kinds) for n in self.r.sample(self.names, self.r.randint(3, 8))}
+        return {n: self.text(n) for n in self.plan}
+
+    def changed(self, lib):
+        lib = dict(lib)
+        for _ in range(self.r.randint(1, 2)):
+            n = self.r.choice(list(lib) if self.r.random() < 0.8 else self.names)
+            if n in lib and len(lib) > 1 and self.r.random() < 0.2:
+                del lib[n], self.plan[n]
+                continue
+            if n not in self.plan or self.r.random() < 0.3:
+                self.plan[n] = self.r.choice(self.kinds)
+            lib[n] = self.text(n)
+        return lib
+
+    def held(self, section, kind, low, high):
+        """A section with instances of units of the kind; now and then of any name."""
+        items, good = [], [n for n, k in self.plan.items() if k == kind]
+        for i in range(self.r.randint(low, high)):
+            if good or self.r.random() < 0.1:
+                n = self.r.choice(good) if good and self.r.random() < 0.97 else self.r.choice(self.names)
+                items.append("%s%d:%s; " % (section[0], i, n))
+        return "%s %sEND_%s " % (section, "".join(items), section) if items else ""
+
+    def values(self, low, high):
+        forms = ["F%d:%s; ", "F%d:ARRAY[0..1] OF %s; ", "F%d:%s[2]; "]
+        return "".join(self.r.choice(forms) % (i, self.r.choice(list(self.plan) if self.r.random() < 0.85 else self.names))
+                       for i in range(self.r.randint(low, high)))
+
+    def text(self, name):
+        kind = self.plan[name]
+        head = self.HEADS[kind]
+        if kind == "structure":
+            return "TYPE %s : STRUCT %sEND_STRUCT END_TYPE" % (name, self.values(0, 2))
+        data = "VAR_INPUT %sEND_VAR " % self.values(0, 2)
+        body = {"block": self.held("FBS", "block", 0, 1) + self.held("PLUGS", "adapter", 0, 1) + data,
+                "subapp": self.held("FBS", "block", 0, 2) + self.held("SUBAPPS", "subapp", 0, 1) + data,
+                "system": "APPLICATION P %sEND_APPLICATION " % (self.held("FBS", "block", 0, 2) + self.held("SUBAPPS", "subapp", 0, 2)),
+                "adapter": data}[kind]
+        return "%s %s %sEND_%s" % (head, name, body, head)
 
 
 def step_libraries(g, count):
@@ -844,9 +907,11 @@ def main():
     assert level in ("plain", "read", "structures"), level
     g = Gen(random.Random(seed), level)
     make = {"plain": g.library, "tokens": lambda: token_library(g.r, level), "deep": lambda: deep_library(g.r, level)}
-    libs = step_libraries(g, count) if kind == "steps" else [make[kind]() for _ in range(count)]
+    steps = kind in ("steps", "nets")
+    g = Nets(g.r, level) if kind == "nets" else g
+    libs = step_libraries(g, count) if steps else [make[kind]() for _ in range(count)]
     with open(out, "w") as f:
-        f.write(requests(libs, level, kind == "steps"))
+        f.write(requests(libs, level, steps))
     with open(out.rsplit(".", 1)[0] + ".json", "w") as f:
         json.dump(libs, f, ensure_ascii=False)
 
