@@ -1,5 +1,8 @@
-"""Random small libraries. generate.py SEED COUNT OUT.jsonl [plain|tokens|deep] writes request lines for COUNT libraries, and beside it
-OUT.json, the list of libraries (name -> text) in the same order."""
+"""Random small libraries. generate.py SEED COUNT OUT.jsonl [plain|tokens|deep|steps|nets] [plain|read|structures] writes
+request lines for COUNT libraries, and beside it OUT.json, the list of libraries (name -> text) in the same order. The last word
+is the level of the language (see oracle.py); above plain nets and plans are asked for too. Of the kinds steps and nets each
+library but every eighth is the one before it with a unit or two changed, and all is asked for before the work as well; nets have
+units with hardly a fault, that only hold and carry one another."""
 import json
 import random
 import sys
@@ -42,6 +45,11 @@ TO ARRAY OF IF THEN ELSIF ELSE END_IF CASE END_CASE FOR BY DO END_FOR WHILE END_
 RETURN AND OR XOR NOT MOD TRUE FALSE IN ON ST""".split()
 SYMS = [":=", "<=", ">=", "<>", "**", "->", "..", ";", ":", ",", ".", "(", ")", "[", "]", "=", "<", ">", "+", "-", "*",
         "/", "&"]
+STRUCTURE_UNITS = UNITS + ["R", "S", "T", "U", "ANY_S", "REAL"]
+# Names of types that never stand for a unit, and some that look like them.
+ELEMENTARY_NAMES = """BOOL SINT INT DINT LINT USINT UINT UDINT ULINT BYTE WORD DWORD LWORD ANY ANY_ ANY_BIT REAL LREAL TIME DATE TOD
+TIME_OF_DAY DT DATE_AND_TIME STRING WSTRING ANYX ANY1 CHAR LTIME""".split()
+STRUCTURE_WORDS = ["TYPE", "END_TYPE", "STRUCT", "END_STRUCT"]
 LONG64, LONG65 = "L" * 64, "L" * 65
 
 
@@ -63,9 +71,12 @@ def type_element(ty):
 
 
 class Gen:
-    def __init__(self, rng):
+    def __init__(self, rng, level="plain"):
         self.r = rng
         self.subs = 0
+        self.level, self.structures = level, level != "plain"
+        self.units = STRUCTURE_UNITS if self.structures else UNITS
+        self.words = WORDS + STRUCTURE_WORDS if self.structures else WORDS
 
     def chance(self, p):
         return self.r.random() < p
@@ -81,17 +92,44 @@ class Gen:
     def library(self):
         r = self.r
         self.noise = r.choice([0.0, 0.1, 0.3, 0.6, 1.0, 1.0])
-        names = r.sample(UNITS, r.randint(3, 8))
-        self.plan = {}
+        names = r.sample(self.units, r.randint(3, 8))
+        self.plan, self.odd = {}, None
+        if self.structures:
+            if self.chance(0.3):
+                self.odd = self.pick(ELEMENTARY_NAMES)
+                names = [n for n in names if n != self.odd] + [self.odd]
+            self.plan = {n: dict(kind=self.kind()) for n in names}
         for n in names:
-            kind = r.choices(["basic", "composite", "adapter", "subapp", "system"], [30, 22, 20, 18, 10])[0]
-            self.plan[n] = self.interface(kind)
+            kind = self.plan[n]["kind"] if self.structures else self.kind()
+            self.plan[n] = self.interface(kind, n)
         for n, p in self.plan.items():
             self.instances(n, p)
         out = {}
         for n in names:
             out[n] = self.text(n)
         return out
+
+    def kind(self):
+        kinds, weights = ["basic", "composite", "adapter", "subapp", "system"], [30, 22, 20, 18, 10]
+        if self.structures:
+            kinds, weights = kinds + ["structure"], [30, 12, 16, 10, 5, 32]
+        return self.r.choices(kinds, weights)[0]
+
+    def changed(self, lib):
+        """A library with a unit or two put anew, put for the first time or taken away; the plans follow."""
+        lib = dict(lib)
+        for _ in range(self.several(1, 2)):
+            n = self.pick(list(lib)) if self.chance(0.75) else self.pick(self.units)
+            if n in lib and len(lib) > 1 and self.chance(0.15):
+                del lib[n], self.plan[n]
+                continue
+            if n not in self.plan or self.chance(0.6):
+                kind = self.plan[n]["kind"] if n in self.plan and self.chance(0.6) else self.kind()
+                self.plan[n] = dict(kind=kind)
+                self.plan[n] = self.interface(kind, n)
+                self.instances(n, self.plan[n])
+            lib[n] = self.text(n)
+        return lib
 
     def several(self, low, high):
         return self.r.randint(low, high)
@@ -104,20 +142,42 @@ class Gen:
             out.append(self.pick(out))
         return out
 
-    def interface(self, kind):
+    def interface(self, kind, name):
         p = dict(kind=kind, events=[], vars=[], insts=[], apps=[])
         if kind != "system":
             p["events"] = [(n, self.pick(["in", "out"])) for n in self.distinct(PORTS, 0, 4)]
             sides = ["in", "in", "out", "out", "var"] if kind in ("basic", "composite") else ["in", "out"]
-            p["vars"] = [(n, self.pick(sides), self.pick(TYPES)) for n in self.distinct(PORTS, 0, 6)]
+            if kind == "structure":
+                p["events"], sides = [], ["var"]
+            p["vars"] = [(n, self.pick(sides), self.type_of_value(name)) for n in self.distinct(PORTS, 0, 6)]
         return p
+
+    def type_of_value(self, name):
+        """A type of a variable or field of the unit; with structures half of them are the names of units."""
+        if self.structures and self.odd and self.chance(0.2):
+            return self.pick([[self.odd], [self.odd], ["ARRAY", "[", "0", "..", "1", "]", "OF", self.odd], [self.odd, "[", "3", "]"]])
+        if not self.structures or self.chance(0.5):
+            return self.pick(TYPES)
+        present = list(self.plan)
+        good = [n for n in present if self.plan[n]["kind"] == "structure"]
+        if name in good and not self.bad(0.3):
+            good = good[good.index(name) + 1:]
+        x = self.r.random()
+        n = self.pick(present) if self.bad(0.5) else self.pick(self.units + ["NOPE"])
+        n = self.pick(good) if good and x < 0.75 else n
+        x = self.r.random()
+        if x < 0.55:
+            return [n]
+        if x < 0.9:
+            return ["ARRAY", "[", "0", "..", "1"] + self.pick([[], [",", "0", "..", "2"]]) + ["]", "OF", n]
+        return [n, "[", "3", "]"]
 
     def of_kind(self, role):
         want = {"plug": ("adapter",), "socket": ("adapter",), "fb": ("basic", "composite"), "sub": ("subapp",)}[role]
         good = [n for n, p in self.plan.items() if p["kind"] in want]
         if good and not self.bad(0.12):
             return self.pick(good)
-        return self.pick(list(self.plan) + UNITS + ["NOPE"])
+        return self.pick(list(self.plan) + self.units + ["NOPE"])
 
     def some_instances(self, roles, low, high):
         out = []
@@ -145,9 +205,9 @@ class Gen:
         p = self.plan[name]
         k = p["kind"]
         word = {"basic": "FUNCTION_BLOCK", "composite": "FUNCTION_BLOCK", "adapter": "ADAPTER",
-                "subapp": "SUBAPPLICATION", "system": "SYSTEM"}[k]
-        said = name if not self.bad(0.05) else self.pick(UNITS + [LONG64])
-        body = self.system(p) if k == "system" else self.sections(p)
+                "subapp": "SUBAPPLICATION", "system": "SYSTEM", "structure": "TYPE"}[k]
+        said = name if not self.bad(0.05) else self.pick(self.units + [LONG64])
+        body = self.system(p) if k == "system" else self.fields(p) if k == "structure" else self.sections(p)
         toks = [word, said] + body + ["END_" + word]
         if self.bad(0.07):
             for _ in range(self.several(1, 2)):
@@ -168,9 +228,9 @@ class Gen:
         if how == 0:
             return toks[:i] + toks[i + 1:]
         if how == 1:
-            return toks[:i] + [self.pick(WORDS + SYMS + ODD)] + toks[i:]
+            return toks[:i] + [self.pick(self.words + SYMS + ODD)] + toks[i:]
         if how == 2:
-            return toks[:i] + [self.pick(WORDS + SYMS + ODD + [LONG65])] + toks[i + 1:]
+            return toks[:i] + [self.pick(self.words + SYMS + ODD + [LONG65])] + toks[i + 1:]
         if how == 3:
             return toks[:i]
         if how == 4:
@@ -180,7 +240,7 @@ class Gen:
             toks = list(toks)
             toks[i], toks[j] = toks[j], toks[i]
             return toks
-        return toks + [self.pick(WORDS + SYMS + ODD)]
+        return toks + [self.pick(self.words + SYMS + ODD)]
 
     def join(self, toks):
         r, out, last = self.r, [], ""
@@ -202,6 +262,11 @@ class Gen:
         if r.random() < 0.1:
             out.append(self.pick([" ", "\n", " // end", " (* end *)"]))
         return "".join(out)
+
+    def fields(self, p):
+        """A structure behind its name."""
+        items = self.vardecls([(n, t) for n, _, t in p["vars"]])
+        return [":", "STRUCT"] + sum(items, []) + ["END_STRUCT"] + ([";"] if self.chance(0.5) else [])
 
     # -- sections of a block, adapter or subapplication
     def sections(self, p):
@@ -465,6 +530,8 @@ class Gen:
     def variables(self, p):
         out = [([n], t) for n, _, t in p["vars"]]
         for n, ro, ty in p["insts"]:
+            if self.structures and ro not in ("plug", "socket") and not self.bad(0.3):
+                continue
             out += [([n, ".", v[0]], v[2]) for v in self.plan.get(ty, {"vars": []})["vars"]]
         return out
 
@@ -494,8 +561,13 @@ class Gen:
         for k in kinds:
             out += heads[k]
         inner = [self.pick(["X", "1", "X"])]
+        if self.structures:
+            inner = self.pick([["X"], ["1"], ["X", ".", "F"], ["X", ".", "F", ".", "G"], ["X", "[", "1", "]"],
+                               ["X", ".", "F", "[", "1", "]"]])
         for i in range(parens):
             inner = ["("] + inner + [")"] if self.chance(0.7) else ["X", "["] + inner + ["]"]
+            if self.structures and inner[0] == "X" and self.chance(0.5):
+                inner = self.pick([inner + [".", "F"], ["X", "."] + inner])
         out += ["X", ":="] + inner + [";"]
         for k in reversed(kinds):
             out += tails[k]
@@ -558,6 +630,8 @@ class Gen:
 
     def reference(self, cls=None):
         """A reference (tokens) and its class; of class cls where one is there and chance will."""
+        if self.structures:
+            return self.path(cls)
         good = []
         for n, t in self.scope:
             if cls is None or type_class(t) == cls:
@@ -573,12 +647,71 @@ class Gen:
         g = self.pick(good)
         out = list(g[0])
         if (len(g) > 2 and g[2]) or self.bad(0.03):
-            self.subs += 1
-            deep = self.subs > 2
-            out += ["["] + self.commas([[self.pick(LITERALS["Num"])] if deep else self.expr("I", self.several(0, 1))
-                                        for _ in range(self.several(1, 2))]) + ["]"]
-            self.subs -= 1
+            out += self.subscripts()
         return out, g[1]
+
+    def subscripts(self):
+        self.subs += 1
+        deep = self.subs > 2
+        out = ["["] + self.commas([[self.pick(LITERALS["Num"])] if deep else self.expr("I", self.several(0, 1))
+                                   for _ in range(self.several(1, 2))]) + ["]"]
+        self.subs -= 1
+        return out
+
+    def path(self, cls):
+        """A reference that may go through fields (tokens) and its class: the first of some tries that has class cls."""
+        for _ in range(6 if self.scope or cls is None or self.bad(1) else 0):
+            walk, got = self.walk()
+            if cls is None or got == cls:
+                break
+        else:
+            if not self.scope or not self.bad(1):
+                return [self.pick(LITERALS[cls])], cls
+        out = []
+        for t in walk:
+            out += self.subscripts() if t == "[]" else [t]
+        return out, got
+
+    def walk(self):
+        """Names and points with [] for subscripts, and the class at the end; Free behind something wrong."""
+        if self.scope and not self.bad(0.05):
+            start, ty = self.one_with_fields(self.scope)
+        else:
+            start = [self.pick(PORTS)] if self.chance(0.6) else [self.pick(INSTS), ".", self.pick(PORTS)]
+            ty = None
+        out = list(start)
+        for _ in range(5):
+            array = ty is not None and ty[0] == "ARRAY"
+            subscripted = self.chance(0.8) if array else self.bad(0.06)
+            out += ["[]"] if subscripted else []
+            unjudged = ty is None or len(ty) == 1 and (type_class(ty) == "Free" or ty[0] not in self.plan)
+            fields = self.fields_of(ty) if subscripted == array else None
+            if not (self.chance(0.7) if fields else self.chance(0.2) if unjudged else self.bad(0.15)):
+                return out, self.class_at_end(ty, array, subscripted)
+            if self.level == "read" and len(out) == 1 and self.chance(0.6):
+                return out, self.class_at_end(ty, array, subscripted)
+            name, ty = self.one_with_fields(fields) if fields and not self.bad(0.1) else (self.pick(PORTS), None)
+            out += [".", name]
+        return out, "Free"
+
+    def one_with_fields(self, declared):
+        """One of these (name, type), rather one that has fields itself."""
+        good = [d for d in declared if self.fields_of(d[1])]
+        return self.pick(good) if good and self.chance(0.5) else self.pick(declared)
+
+    def class_at_end(self, ty, array, subscripted):
+        if ty is None:
+            return "Free"
+        if subscripted:
+            return type_element(ty) if array else "O"
+        return type_class(ty)
+
+    def fields_of(self, ty):
+        """The fields behind a plain type or the elements of an array, by the plans."""
+        if ty is None or len(ty) > 1 and ty[0] != "ARRAY":
+            return None
+        p = self.plan.get(ty[-1].upper())
+        return [(n, t) for n, _, t in p["vars"]] if p and p["kind"] == "structure" else None
 
     def expr(self, cls, depth):
         if self.bad(0.07):
@@ -634,10 +767,26 @@ ATOMS = list("aEe_19#.+-:'\"$(*)/<>=&;, \t\r\n\u00e9\u20ac") + ["T#", "D#", "REA
         "\U0001f600", "\x0b", "\x00", "\x7f", "NOT", "[", "]", "Date_And_Time#", "D", "1_", "0"]
 
 
-def token_library(rng):
+USES = "FUNCTION_BLOCK %s VAR X:A;END_VAR ALGORITHM A IN ST X"
+STRUCTURE_PREFIXES = ["TYPE ", "TYPE %s ", "TYPE %s:STRUCT ", "TYPE %s:STRUCT X:INT;END_STRUCT", "TYPE %s:STRUCT X:", USES,
+                      USES + ".", USES + "[0].F", USES + ":="]
+STRUCTURE_SUFFIXES = [" END_STRUCT END_TYPE", ";END_STRUCT;END_TYPE", " END_TYPE",
+                      ":=1;END_ALGORITHM END_FUNCTION_BLOCK", ";END_ALGORITHM END_FUNCTION_BLOCK", ""]
+STRUCTURE_FAMILY = [[0, 2], [0, 1], [0, 1], [2], [0, 1], [3], [3], [3], [4]]
+STRUCTURE_ATOMS = ATOMS + [".", "X.Y", ".F", "[0]", "[", "]", ";;", "TYPE", "end_struct", "STRUCT", ":", ";", "X:INT;", "A",
+                           "[1,2].G"] * 2
+
+
+def token_library(rng, level="plain"):
     """Units with odd characters at one place each."""
     out = {}
     for n in UNITS[:8]:
+        if level != "plain" and rng.random() < 0.6:
+            i = rng.randrange(len(STRUCTURE_PREFIXES))
+            odd = "".join(rng.choice(STRUCTURE_ATOMS) for _ in range(rng.randint(0, 5)))
+            end = STRUCTURE_SUFFIXES[rng.choice(STRUCTURE_FAMILY[i])]
+            out[n] = STRUCTURE_PREFIXES[i].replace("%s", n) + odd + end
+            continue
         i = rng.randrange(len(PREFIXES))
         j = rng.choice(FAMILY[i]) if i in FAMILY and rng.random() < 0.75 else rng.randrange(len(SUFFIXES))
         odd = "".join(rng.choice(ATOMS) for _ in range(rng.randint(1, 9)))
@@ -645,45 +794,124 @@ def token_library(rng):
     return out
 
 
-def deep_library(rng):
+def deep_library(rng, level="plain"):
     """Units with nesting near level 64."""
-    g = Gen(rng)
+    g = Gen(rng, level)
+    types = [["INT"], ["BOOL"]]
     out = {}
+    if g.structures:
+        types += [["S"], ["ARRAY", "[", "0", "..", "1", "]", "OF", "S"]]
+        out["S"] = "TYPE S:STRUCT F:ARRAY[0..1]OF INT;X:ARRAY[0..1]OF S;END_STRUCT END_TYPE"
     for n in UNITS[:4]:
         g.noise = 0.0
-        text = g.join(["FUNCTION_BLOCK", n, "VAR", "X", ":", rng.choice(["INT", "BOOL"]), ";", "END_VAR", "ALGORITHM", "A",
+        text = g.join(["FUNCTION_BLOCK", n, "VAR", "X", ":"] + rng.choice(types) + [";", "END_VAR", "ALGORITHM", "A",
                        "IN", "ST"] + g.deep() + ["END_ALGORITHM", "END_FUNCTION_BLOCK"])
         out[n] = text
     return out
 
 
-def requests(libraries):
+class Nets:
+    """Units of all kinds that hold one another as instances and carry one another as values, and nothing else."""
+    HEADS = {"block": "FUNCTION_BLOCK", "subapp": "SUBAPPLICATION", "adapter": "ADAPTER", "system": "SYSTEM", "structure": "TYPE"}
+
+    def __init__(self, rng, level):
+        self.r, self.names = rng, STRUCTURE_UNITS
+        self.kinds = ["block"] * 4 + ["subapp"] * 3 + ["system", "adapter"] + ["structure"] * (0 if level == "plain" else 4)
+
+    def library(self):
+        self.plan = {n: self.r.choice(self.kinds) for n in self.r.sample(self.names, self.r.randint(3, 8))}
+        return {n: self.text(n) for n in self.plan}
+
+    def changed(self, lib):
+        lib = dict(lib)
+        for _ in range(self.r.randint(1, 2)):
+            n = self.r.choice(list(lib) if self.r.random() < 0.8 else self.names)
+            if n in lib and len(lib) > 1 and self.r.random() < 0.2:
+                del lib[n], self.plan[n]
+                continue
+            if n not in self.plan or self.r.random() < 0.3:
+                self.plan[n] = self.r.choice(self.kinds)
+            lib[n] = self.text(n)
+        return lib
+
+    def held(self, section, kind, low, high):
+        """A section with instances of units of the kind; now and then of any name."""
+        items, good = [], [n for n, k in self.plan.items() if k == kind]
+        for i in range(self.r.randint(low, high)):
+            if good or self.r.random() < 0.1:
+                n = self.r.choice(good) if good and self.r.random() < 0.97 else self.r.choice(self.names)
+                items.append("%s%d:%s; " % (section[0], i, n))
+        return "%s %sEND_%s " % (section, "".join(items), section) if items else ""
+
+    def values(self, low, high):
+        forms = ["F%d:%s; ", "F%d:ARRAY[0..1] OF %s; ", "F%d:%s[2]; "]
+        return "".join(self.r.choice(forms) % (i, self.r.choice(list(self.plan) if self.r.random() < 0.85 else self.names))
+                       for i in range(self.r.randint(low, high)))
+
+    def text(self, name):
+        kind = self.plan[name]
+        head = self.HEADS[kind]
+        if kind == "structure":
+            return "TYPE %s : STRUCT %sEND_STRUCT END_TYPE" % (name, self.values(0, 2))
+        data = "VAR_INPUT %sEND_VAR " % self.values(0, 2)
+        body = {"block": self.held("FBS", "block", 0, 1) + self.held("PLUGS", "adapter", 0, 1) + data,
+                "subapp": self.held("FBS", "block", 0, 2) + self.held("SUBAPPS", "subapp", 0, 1) + data,
+                "system": "APPLICATION P %sEND_APPLICATION " % (self.held("FBS", "block", 0, 2) + self.held("SUBAPPS", "subapp", 0, 2)),
+                "adapter": data}[kind]
+        return "%s %s %sEND_%s" % (head, name, body, head)
+
+
+def step_libraries(g, count):
+    """Libraries that are the one before with a unit or two changed, with a new one now and then."""
+    out = []
+    while len(out) < count:
+        lib = g.changed(out[-1]) if len(out) % 8 else g.library()
+        if not out or lib != out[-1]:
+            out.append(lib)
+    return out
+
+
+def questions(lib, level, steps):
+    """What is asked of a library, in order."""
+    kinds = ["faults", "net", "deploy"] if steps or level != "plain" else ["faults"]
+    return [(k, n) for k in kinds for n in lib]
+
+
+def requests(libraries, level="plain", steps=False):
     """Request lines for the libraries one after the other, and the names asked of each."""
-    lines, revision, commits = [], {}, 0
+    lines, revision, commits, before = [], {}, 0, {}
     for lib in libraries:
         changes = [{"remove": n, "base": revision.pop(n)} for n in list(revision) if n not in lib]
         if changes and len(changes) + len(lib) > 16:
             commits += 1
             lines.append({"op": "commit", "changes": changes})
             changes = []
-        changes += [{"put": n, "base": revision.get(n, 0), "text": t} for n, t in lib.items()]
+        put = {n: t for n, t in lib.items() if not steps or before.get(n) != t}
+        changes += [{"put": n, "base": revision.get(n, 0), "text": t} for n, t in put.items()]
+        before = lib
         commits += 1
-        for n in lib:
+        for n in put:
             revision[n] = commits
+        asks = [{"op": "ask", "kind": k, "unit": n} for k, n in questions(lib, level, steps)]
         lines.append({"op": "commit", "changes": changes})
+        lines += asks if steps else []
         lines.append({"op": "work", "turns": 1000})
-        lines += [{"op": "ask", "kind": "faults", "unit": n} for n in lib]
+        lines += asks
     return "".join(json.dumps(x, ensure_ascii=False) + "\n" for x in lines)
 
 
 def main():
     seed, count, out = int(sys.argv[1]), int(sys.argv[2]), sys.argv[3]
-    g = Gen(random.Random(seed))
     kind = sys.argv[4] if len(sys.argv) > 4 else "plain"
-    make = {"plain": g.library, "tokens": lambda: token_library(g.r), "deep": lambda: deep_library(g.r)}[kind]
-    libs = [make() for _ in range(count)]
+    level = sys.argv[5] if len(sys.argv) > 5 else "plain"
+    assert level in ("plain", "read", "structures"), level
+    g = Gen(random.Random(seed), level)
+    make = {"plain": g.library, "tokens": lambda: token_library(g.r, level), "deep": lambda: deep_library(g.r, level)}
+    steps = kind in ("steps", "nets")
+    g = Nets(g.r, level) if kind == "nets" else g
+    libs = step_libraries(g, count) if steps else [make[kind]() for _ in range(count)]
     with open(out, "w") as f:
-        f.write(requests(libs))
+        f.write(requests(libs, level, steps))
     with open(out.rsplit(".", 1)[0] + ".json", "w") as f:
         json.dump(libs, f, ensure_ascii=False)
 

@@ -1,7 +1,14 @@
-"""An independent reading of the language and its 22 faults, written from the rules alone.
+"""An independent reading of the language and its 24 faults, written from the rules alone.
 
 faults(library, unit) gives the sorted list of (code, start, end); library maps upper-case names to texts.
+Library(texts, level) answers more: what a unit mentions, what is near and far, and of nets all but links and borders.
 COUNT counts what was reached: operators, statements, ends, conditions, kinds of types and constants.
+
+The levels of the language are
+  plain       without structures: codes 1 to 22
+  read        structures and references through fields are read, and nothing more is made of them: a reference of more than two
+              names, or with a subscript before a further name, is not judged; near and far go by parts alone
+  structures  all of it: codes 1 to 24
 """
 import re
 from collections import Counter
@@ -9,7 +16,8 @@ from collections import Counter
 CODES = ["", "SYNTAX", "NAME_DIFFERS", "DUPLICATE", "MIXED_KIND", "UNKNOWN_TYPE", "WRONG_KIND", "WITH_UNKNOWN",
          "STATE_UNKNOWN", "EVENT_UNKNOWN", "ALGORITHM_UNKNOWN", "VARIABLE_UNKNOWN", "CLASS", "PORT_UNKNOWN",
          "PORT_SIDE", "DATA_TYPE", "SECOND_SOURCE", "SECOND_ADAPTER", "PASS_THROUGH", "PARAMETER_UNKNOWN",
-         "LITERAL", "MAPPED_TWICE", "NO_SUCH_RESOURCE"]
+         "LITERAL", "MAPPED_TWICE", "NO_SUCH_RESOURCE", "MEMBER_UNKNOWN", "STRUCT_RECURSIVE"]
+LEVELS = ["plain", "read", "structures"]
 COUNT = Counter()
 
 # ---------------------------------------------------------------- tokens
@@ -21,6 +29,7 @@ END_SUBAPPS EVENT_CONNECTIONS DATA_CONNECTIONS ADAPTER_CONNECTIONS END_CONNECTIO
 EC_TRANSITIONS END_TRANSITIONS ALGORITHM END_ALGORITHM SERVICE END_SERVICE WITH TO ARRAY OF IF THEN ELSIF ELSE END_IF
 CASE END_CASE FOR BY DO END_FOR WHILE END_WHILE REPEAT UNTIL END_REPEAT EXIT RETURN AND OR XOR NOT MOD TRUE
 FALSE""".split())
+STRUCTURE_WORDS = {"TYPE", "END_TYPE", "STRUCT", "END_STRUCT"}
 
 W = r"[A-Za-z_][A-Za-z0-9_]*"
 WORD = re.compile(W)
@@ -36,14 +45,14 @@ DATES = {"D", "DATE", "TOD", "TIME_OF_DAY", "DT", "DATE_AND_TIME"}
 
 
 class Tok:
-    def __init__(self, kind, text, start, end):
+    def __init__(self, kind, text, start, end, structures):
         self.kind, self.text, self.start, self.end = kind, text, start, end
         self.up = text.upper() if text.isascii() else text
-        self.reserved = kind == "WORD" and self.up in RESERVED
+        self.reserved = kind == "WORD" and (self.up in RESERVED or structures and self.up in STRUCTURE_WORDS)
         self.name = kind == "WORD" and not self.reserved and len(text) <= 64
 
 
-def tokens(text):
+def tokens(text, structures=False):
     """The tokens of a text with byte places, or ("bad", start, end)."""
     size = len(text.encode())
     if text.isascii():
@@ -87,7 +96,7 @@ def tokens(text):
         if tries:
             best = max(tries, key=lambda t: t[1])
         kind, j = best
-        out.append(Tok(kind, text[i:j], at[i], at[j]))
+        out.append(Tok(kind, text[i:j], at[i], at[j], structures))
         i = j
     return out
 
@@ -108,6 +117,15 @@ def class_of_name(up):
     if up == "ANY" or up.startswith("ANY_"):
         return "Free"
     return "O"
+
+
+ELEMENTARY = {"BOOL", "REAL", "LREAL", "TIME", "DATE", "TOD", "TIME_OF_DAY", "DT", "DATE_AND_TIME", "STRING",
+              "WSTRING"} | I_TYPES | W_TYPES
+
+
+def is_elementary(up):
+    """Whether a name in the place of a value's type never stands for a unit."""
+    return up in ELEMENTARY or class_of_name(up) == "Free"
 
 
 def class_of_number(text):
@@ -167,8 +185,8 @@ class Bag:
 
 
 class Parser:
-    def __init__(self, toks, size):
-        self.t, self.i, self.size = toks, 0, size
+    def __init__(self, toks, size, structures):
+        self.t, self.i, self.size, self.structures = toks, 0, size, structures
 
     # -- small steps
     def peek(self):
@@ -213,6 +231,8 @@ class Parser:
     # -- units
     def unit(self):
         kinds = {"FUNCTION_BLOCK": "block", "ADAPTER": "adapter", "SUBAPPLICATION": "subapp", "SYSTEM": "system"}
+        if self.structures:
+            kinds["TYPE"] = "structure"
         kw = self.need_word(*kinds).up
         u = Bag(kind=kinds[kw], name=self.name(), events=[], vars=[], inits=[], insts=[], conns=[], states=[], trans=[],
                 algs=[], has_states=False, has_net=False, apps=[], devices=[], mappings=[])
@@ -245,6 +265,12 @@ class Parser:
     def in_subapp(self, u):
         while self.iface(u) or self.fbs(u) or self.subapps(u) or self.conns(u) or self.service():
             pass
+
+    def in_structure(self, u):
+        self.need_sym(":")
+        self.need_word("STRUCT")
+        self.vardecls(u, "field", "END_STRUCT")
+        self.try_sym(";")
 
     def in_system(self, u):
         while True:
@@ -328,7 +354,7 @@ class Parser:
         self.vardecls(u, side)
         return True
 
-    def vardecls(self, u, side):
+    def vardecls(self, u, side, closing="END_VAR"):
         while self.is_name():
             names = [self.name()]
             while self.try_sym(","):
@@ -340,10 +366,11 @@ class Parser:
             self.need_sym(";")
             for n in names:
                 u.vars.append(Bag(name=n, side=side, type=ty))
-        self.need_word("END_VAR")
+        self.need_word(closing)
 
     def type(self):
-        first = self.i
+        """A type of a value: its class, that of its elements if it is an array, the name in it, and how that stands."""
+        first, form = self.i, "plain"
         if self.word("ARRAY"):
             self.take()
             self.need_sym("[")
@@ -352,17 +379,18 @@ class Parser:
                 self.range()
             self.need_sym("]")
             self.need_word("OF")
-            element = class_of_name(self.name().up)
-            cls = "O"
+            name, form = self.name().up, "array"
+            cls, element = "O", class_of_name(name)
             COUNT["type array"] += 1
         else:
-            cls, element = class_of_name(self.name().up), None
+            name = self.name().up
+            cls, element = class_of_name(name), None
             if self.try_sym("["):
                 self.take() if self.kind("NUMBER") else self.fail()
                 self.need_sym("]")
-                cls = "O"
+                cls, form = "O", "length"
                 COUNT["type with length"] += 1
-        return Bag(cls=cls, element=element, spelling=" ".join(t.up for t in self.t[first:self.i]))
+        return Bag(cls=cls, element=element, name=name, form=form, spelling=" ".join(t.up for t in self.t[first:self.i]))
 
     def range(self):
         self.bound()
@@ -650,17 +678,23 @@ class Parser:
 
     # -- expressions
     def ref(self, k):
-        names = [self.name()]
-        if self.try_sym("."):
-            names.append(self.name())
-        e = End(names)
-        subs, end = None, e.end
+        """Names with subscripts or without; before structures two names at most, and subscripts behind the last one alone."""
+        steps = [self.step(k)]
+        while self.sym(".") and (self.structures or len(steps) == 1 and steps[0].subs is None):
+            self.take()
+            steps.append(self.step(k))
+        return Bag(form="ref", steps=steps, start=steps[0].name.start, end=steps[-1].end)
+
+    def step(self, k):
+        """name ['[' expr {',' expr} ']']"""
+        name, subs = self.name(), None
+        end = name.end
         if k < 64 and self.try_sym("["):
             subs = [self.expr(k + 1)]
             while self.try_sym(","):
                 subs.append(self.expr(k + 1))
             end = self.need_sym("]").end
-        return Bag(form="ref", names=e, subs=subs, start=e.start, end=end)
+        return Bag(name=name, subs=subs, end=end)
 
     LEVELS = [("OR",), ("XOR",), ("&", "AND"), ("=", "<>"), ("<", ">", "<=", ">="), ("+", "-"), ("*", "/", "MOD"),
               ("**",)]
@@ -708,18 +742,134 @@ class Parser:
 _cache = {}
 
 
-def read(text):
+def read(text, structures=False):
     """("tree", unit) or ("broken", start, end)"""
-    if text not in _cache:
-        ts = tokens(text)
+    key = (text, structures)
+    if key not in _cache:
+        ts = tokens(text, structures)
         if isinstance(ts, tuple):
-            _cache[text] = ("broken", ts[1], ts[2])
+            _cache[key] = ("broken", ts[1], ts[2])
         else:
             try:
-                _cache[text] = ("tree", Parser(ts, len(text.encode())).unit())
+                _cache[key] = ("tree", Parser(ts, len(text.encode()), structures).unit())
             except Broken as b:
-                _cache[text] = ("broken",) + b.span
-    return _cache[text]
+                _cache[key] = ("broken",) + b.span
+    return _cache[key]
+
+
+# ---------------------------------------------------------------- what units mention, near and far, nets
+
+LARGEST = 4096
+
+
+class Library:
+    """Texts by upper-case names, and what is to be said of them at a level of the language."""
+    def __init__(self, texts, level="plain"):
+        assert level in LEVELS, level
+        self.texts, self.level, self.judged = texts, level, {}
+
+    def read(self, name):
+        """As read; None where the name is absent."""
+        text = self.texts.get(name)
+        return None if text is None else read(text, self.level != "plain")
+
+    def tree(self, name):
+        """The unit of a name, None where it is absent or broken."""
+        r = self.read(name)
+        return r[1] if r is not None and r[0] == "tree" else None
+
+    def faults(self, name):
+        if name not in self.judged:
+            self.judged[name] = Check(self, name).run()
+        return self.judged[name]
+
+    def parts(self, name):
+        """The types of a unit's plugs, sockets and instances."""
+        u = self.tree(name)
+        nets = [] if u is None else [u] + u.apps
+        return {i.type.up for net in nets for i in net.insts}
+
+    def values(self, name):
+        """The types of a unit's variables or fields, elementary ones left out."""
+        u = self.tree(name)
+        names = [] if u is None else [v.type.name for v in u.vars]
+        return {n for n in names if not is_elementary(n)}
+
+    def is_structure(self, name):
+        u = self.tree(name)
+        return u is not None and u.kind == "structure"
+
+    def carries(self, name):
+        """The value mentions of a unit, and those of the structures among them, and so on."""
+        if self.level != "structures":
+            return set()
+        return reached(self.values(name), lambda n: self.values(n) if self.is_structure(n) else ())
+
+    def near(self, name):
+        around = {name} | self.parts(name)
+        return around.union(*(self.carries(n) for n in around))
+
+    def far(self, name):
+        both = self.level == "structures"
+        return reached({name}, lambda n: self.parts(n) | (self.values(n) if both else set()))
+
+    def net(self, name):
+        """None where the unit has no net; else ("blocked", names), ("recursive", names), ("too_large", None) or
+        ("blocks", [(path, type)])."""
+        u = self.tree(name)
+        if u is None or u.kind not in ("subapp", "system"):
+            return None
+        far = self.far(name)
+        missing = {m for n in far for m in self.parts(n) if m not in self.texts}
+        blocked = missing | {n for n in far if n in self.texts and self.faults(n)}
+        if blocked:
+            return "blocked", sorted(blocked)
+        recursive = [n for n in far if n in reached(self.parts(n), self.parts)]
+        if recursive:
+            return "recursive", sorted(recursive)
+        if self.size(u, {}) > LARGEST:
+            return "too_large", None
+        return "blocks", self.blocks(u)
+
+    def size(self, u, known):
+        """How many instances a unit has, those in its subapplications counted."""
+        if u.name.up not in known:
+            inner = [i for net in [u] + u.apps for i in net.insts if i.role in ("fb", "sub")]
+            subs = [self.size(self.tree(i.type.up), known) for i in inner if i.role == "sub"]
+            known[u.name.up] = len(inner) + sum(subs)
+        return known[u.name.up]
+
+    def blocks(self, u, path=""):
+        """The blocks of a unit with their types, those of its subapplications in their places."""
+        out = []
+        for prefix, net in [(path, u)] + [(a.name.up + ".", a) for a in u.apps]:
+            for i in net.insts:
+                if i.role == "fb":
+                    out.append((prefix + i.name.up, i.type.up))
+                elif i.role == "sub":
+                    out += self.blocks(self.tree(i.type.up), prefix + i.name.up + ".")
+        return out
+
+    def keys(self):
+        """What is kept of all units: pairs of a kind and a name."""
+        out = {("faults", n) for n in self.texts}
+        out |= {("net", n) for n in self.texts if self.tree(n) and self.tree(n).kind in ("subapp", "system")}
+        return out | {("deploy", n) for n in self.texts if self.tree(n) and self.tree(n).kind == "system"}
+
+    def reached_by(self, changed):
+        """The keys that a change of these names reaches."""
+        return {(kind, n) for kind, n in self.keys() if (self.near(n) if kind == "faults" else self.far(n)) & set(changed)}
+
+
+def reached(start, following):
+    """All names that one comes to from those of start."""
+    seen, open_names = set(), list(start)
+    while open_names:
+        n = open_names.pop()
+        if n not in seen:
+            seen.add(n)
+            open_names += following(n)
+    return seen
 
 
 # ---------------------------------------------------------------- faults
@@ -737,13 +887,13 @@ WANTED = {"plug": "adapter", "socket": "adapter", "fb": "block", "sub": "subapp"
 
 class Check:
     def __init__(self, library, unit):
-        self.lib, self.unit, self.out = library, unit, set()
+        self.lib, self.unit, self.level, self.out = library, unit, library.level, set()
 
     def add(self, code, at, end=None):
         self.out.add((at.start, (end or at).end, code))
 
     def run(self):
-        r = read(self.lib[self.unit])
+        r = self.lib.read(self.unit)
         if r[0] == "broken":
             return [(1, r[1], r[2])]
         u = self.u = r[1]
@@ -751,6 +901,8 @@ class Check:
             self.add(2, u.name)
         if u.kind == "block" and u.has_states and u.has_net:
             self.add(4, u.name)
+        if u.kind == "structure" and self.unit in self.lib.carries(self.unit):
+            self.add(24, u.name)
         self.doubled([e.name for e in u.events])
         self.doubled([v.name for v in u.vars])
         self.doubled([s.name for s in u.states])
@@ -783,11 +935,8 @@ class Check:
 
     def type_of(self, inst):
         """The tree of an instance's type where it is usable, else None."""
-        text = self.lib.get(inst.type.up)
-        if text is None:
-            return None
-        r = read(text)
-        return r[1] if r[0] == "tree" and r[1].kind == WANTED[inst.role] else None
+        t = self.lib.tree(inst.type.up)
+        return t if t is not None and t.kind == WANTED[inst.role] else None
 
     def fit(self, ty, c, where):
         if c.items is None:
@@ -809,11 +958,10 @@ class Check:
         ins = first(net.insts)
         self.doubled([i.name for i in net.insts])
         for i in net.insts:
-            text = self.lib.get(i.type.up)
-            r = read(text) if text is not None else ("broken",)
-            if r[0] == "broken":
+            t = self.lib.tree(i.type.up)
+            if t is None:
                 self.add(5, i.type)
-            elif r[1].kind != WANTED[i.role]:
+            elif t.kind != WANTED[i.role]:
                 self.add(6, i.type)
             self.doubled([n for n, _ in i.params])
             t = self.type_of(i)
@@ -1010,29 +1158,74 @@ class Check:
 
     def ref(self, r):
         """The class of a reference, and the faults of it."""
-        for s in r.subs or []:
-            self.want(s, ("I", "Num", "Any"), "subscript")
-        names, var = r.names.names, None
-        if len(names) == 1:
-            var = self.va.get(names[0])
-            what = "X"
-        else:
-            i = self.ins.get(names[0])
-            what = "?.X" if i is None else i.role + ".X"
-            if i is not None and i.role in ("plug", "socket"):
-                t = self.type_of(i)
-                if t is None:
-                    COUNT["ref %s not judged" % what] += 1
-                    return "Free"
-                var = first(t.vars).get(names[1])
-        COUNT["ref %s%s %s" % (what, "[]" if r.subs else "", "unknown" if var is None else
+        for step in r.steps:
+            for e in step.subs or []:
+                self.want(e, ("I", "Num", "Any"), "subscript")
+        if self.level == "read" and (len(r.steps) > 2 or len(r.steps) == 2 and r.steps[0].subs is not None):
+            COUNT["ref through fields not judged"] += 1
+            return "Free"
+        base = self.base(r)
+        if base is None:
+            return "Free"
+        ty, subs, rest = base
+        for step in rest:
+            fields = self.fields(ty, subs is not None)
+            if fields is None:
+                return "Free"
+            if step.name.up not in fields:
+                self.add(23, step.name)
+                return "Free"
+            ty, subs = fields[step.name.up].type, step.subs
+        COUNT["ref ends %s%s after %d fields" % (ty.form, "[]" if subs else "", len(rest))] += 1
+        if subs is None:
+            return ty.cls
+        return ty.element if ty.form == "array" else "O"
+
+    def base(self, r):
+        """What a reference begins with: its type, the subscripts behind it and the steps that follow. None with a fault, and
+        where it is not judged."""
+        one, two = r.steps[0], r.steps[1] if len(r.steps) > 1 and r.steps[0].subs is None else None
+        i = self.ins.get(one.name.up)
+        what, var, used = "X", self.va.get(one.name.up), 1
+        if two is not None and i is not None and i.role in ("plug", "socket"):
+            what, used = i.role + ".X", 2
+            t = self.type_of(i)
+            if t is None:
+                COUNT["ref %s not judged" % what] += 1
+                return None
+            var = first(t.vars).get(two.name.up)
+        elif two is not None and self.level != "structures":
+            what, var = "?.X" if i is None else i.role + ".X", None
+        elif two is not None:
+            what = "X.F" if i is None else "X.F beside " + i.role
+        subs = r.steps[used - 1].subs
+        COUNT["ref %s%s %s" % (what, "[]" if subs else "", "unknown" if var is None else
                                ("array" if var.type.element else var.type.cls))] += 1
         if var is None:
-            self.add(11, r.names)
-            return "Free"
-        if r.subs is None:
-            return var.type.cls
-        return var.type.element if var.type.element is not None else "O"
+            self.add(11, one.name, two and two.name)
+            return None
+        return var.type, subs, r.steps[used:]
+
+    def fields(self, ty, subscripted):
+        """The fields behind a type, with subscripts or without: {} where there are none, None where it is not judged."""
+        form = ty.form
+        if form == "array" and subscripted:
+            form, subscripted = "plain", False
+        what = "elementary"
+        out = {}
+        if form != "plain":
+            what = form
+        elif class_of_name(ty.name) == "Free":
+            what, out = "generic", None
+        elif not is_elementary(ty.name):
+            t = self.lib.tree(ty.name)
+            what = "absent" if ty.name not in self.lib.texts else "broken" if t is None else t.kind
+            if t is None:
+                out = None
+            elif t.kind == "structure" and not subscripted:
+                out = first(t.vars)
+        COUNT["fields of %s%s%s" % (ty.form + " of " if form != ty.form else "", what, "[]" if subscripted else "")] += 1
+        return out
 
     def cls(self, e):
         f = e.form
@@ -1074,5 +1267,5 @@ class Check:
         return "Num" if j == "Any" and op not in ("OR", "XOR", "AND", "&") else j
 
 
-def faults(library, unit):
-    return Check(library, unit).run()
+def faults(library, unit, level="plain"):
+    return Library(library, level).faults(unit)
