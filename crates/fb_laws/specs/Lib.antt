@@ -8,6 +8,7 @@ pub mod Declared
 pub mod Ports
 pub mod UnitParts
 pub mod Declarations
+pub mod DueByPlaces
 pub mod Places
 pub mod Usable
 pub mod Charts

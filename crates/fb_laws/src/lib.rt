@@ -1,10 +1,11 @@
 //! Laws in words of their own, for readers: the definitions that contracts cite, said a second time in other words. Where the parts of a
-//! tree stand; which ports a unit has; where each fault is reported; and what a plan has.
+//! tree stand; which ports a unit has; where each fault is reported; what a plan has; and when a key waits.
 #![tactic(auto)]
 
 mod charts;
 mod declarations;
 mod expressions;
+mod machine;
 mod networks;
 mod plans;
 mod ports;
@@ -20,6 +21,7 @@ pub use declarations::{
 pub use expressions::{
     classes_are_right, expressions_have_one_class, members_are_known, variables_are_known,
 };
+pub use machine::keys_wait_by_places;
 pub use networks::{
     adapters_have_one_end, destinations_have_one_source, nothing_passes_through,
     parameters_are_known, parameters_fit, ports_are_known, ports_are_of_right_sides, types_agree,

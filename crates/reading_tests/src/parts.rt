@@ -360,7 +360,7 @@ static VARIABLES: [(&str, &str); 5] = [
         "ABCDEFGHIJKLMNOPQRST_VW 0..23 (0) in 0..23",
     ),
     // through the last name, or through the last bracket
-    ("x[1, 2].f +", "X 0..1 (2) in 0..9 with F 8..9 (0)"),
+    ("x[1, 2].f ;", "X 0..1 (2) in 0..9 with F 8..9 (0)"),
     (
         "x.f[0] . g[1,2,3] ;",
         "X 0..1 (0) in 0..17 with F 2..3 (1) with G 9..10 (3)",

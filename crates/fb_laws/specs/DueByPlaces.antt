@@ -1,0 +1,38 @@
+-- When a key waits, said by places in the list of calls alone.
+use Rattle.std.specs.Prelude.{◌≡◌, ℕ, ◌<◌, true, ◌⊎◌, ◌↔◌, List, Some, take, slice_get}
+use Rattle.fb_jobs.specs.declared.key.Key.{Key}
+use Rattle.fb_history.specs.Limits.{Bounds}
+use Rattle.fb_history.specs.Machine.{State, Call}
+use Rattle.fb_history.specs.Story.{Story, replay}
+use Rattle.fb_history.specs.Due.{marks, settles, due_from, is_due}
+use Rattle.fb_history.specs.Checkpoints.{checkpointed}
+
+-- the call at a place, and that it marks the key where the calls before it have led
+abbrev pub IsMarkedAt : State → List Call → Key → ℕ → Type 0
+IsMarkedAt state calls key place = (call : Call) × (slice_get calls place ≡ Some call) × (marks (replay state (take place calls)) call key ≡ true)
+
+-- the same, that it settles the key
+abbrev pub IsSettledAt : State → List Call → Key → ℕ → Type 0
+IsSettledAt state calls key place = (call : Call) × (slice_get calls place ≡ Some call) × (settles (replay state (take place calls)) call key ≡ true)
+
+-- a place marks the key, and none behind it marks or settles it
+pub record IsMarkedLast (state : State) (calls : List Call) (key : Key) : Type 0 where
+  pub place : ℕ
+  pub marked : IsMarkedAt state calls key place
+  pub last : (later : ℕ) → place < later → IsMarkedAt state calls key later → ⊥
+  pub unsettled : (later : ℕ) → place < later → IsSettledAt state calls key later → ⊥
+
+-- the key is pending where the calls begin, and no place marks or settles it
+pub record IsLeftPending (state : State) (calls : List Call) (key : Key) : Type 0 where
+  pub pending : state.pending key ≡ true
+  pub unmarked : (place : ℕ) → IsMarkedAt state calls key place → ⊥
+  pub unsettled : (place : ℕ) → IsSettledAt state calls key place → ⊥
+
+-- ---- laws
+
+abbrev pub IsDueByPlaces : State → List Call → Key → Type 0
+IsDueByPlaces state calls key = (due_from state calls key ≡ true) ↔ (IsMarkedLast state calls key ⊎ IsLeftPending state calls key)
+
+-- a key waits after a checkpoint exactly where it waits before
+abbrev pub DueGoesOn : Bounds → Story → Type 0
+DueGoesOn limits story = (key : Key) → is_due (checkpointed limits story) key ≡ is_due story key
