@@ -138,7 +138,11 @@ fn compare_units(
     rows: &[(&str, &str, &str)],
 ) -> Result<(), Fail> {
     for (unit, text, expected) in rows {
-        assert_eq!(rt; near_told(alloc, library, unit)?.as_str(), *expected, "{text}");
+        assert_eq!(rt;
+            near_told(alloc, library, unit)?.as_str(),
+            *expected,
+            "{text}"
+        );
     }
     Ok(())
 }

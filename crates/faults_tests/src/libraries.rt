@@ -214,7 +214,11 @@ fn faults_go_by_place_and_then_by_number(rt: HostRuntime) -> Result<(), Fail> {
 fn codes_have_words_and_numbers(rt: HostRuntime) -> Result<(), Fail> {
     let [first, last] = [Code::NoSuchResource, Code::StructRecursive];
     let words = format!(in rt.alloc(); "{first} {} {last} {}", first.number(), last.number())?;
-    assert_eq!(rt; words.as_str(), "NO_SUCH_RESOURCE 22 STRUCT_RECURSIVE 24", "codes");
+    assert_eq!(rt;
+        words.as_str(),
+        "NO_SUCH_RESOURCE 22 STRUCT_RECURSIVE 24",
+        "codes"
+    );
     Ok(())
 }
 
