@@ -68,16 +68,19 @@ static REFERENCES: [(&str, &str); 27] = [
     ),
     ("X := A[A[A[B]]];", "CLASS B"),
     ("X := A[A[TRUE] AND 2];", "CLASS TRUE; CLASS AND"),
-    // more names, and names behind a subscript, are not judged, but all subscripts are
+    // no elementary type has a field, a plug has no subscripts, and all subscripts are judged
     (
         "X := A[0].V; B := Y[B].V[TRUE]; X.V.W := TRUE; B := P.V.W AND 1;",
-        "CLASS B #2; CLASS TRUE",
+        "MEMBER_UNKNOWN V; VARIABLE_UNKNOWN Y; CLASS B #2; CLASS TRUE; MEMBER_UNKNOWN V #3; MEMBER_UNKNOWN W #2",
     ),
     (
         "P.L[0].V := TRUE; X := P[1].V; B := N.V.W[1.5].U[Y];",
-        "CLASS 1.5; VARIABLE_UNKNOWN Y",
+        "MEMBER_UNKNOWN V; VARIABLE_UNKNOWN P #2; CLASS 1.5; VARIABLE_UNKNOWN Y",
     ),
-    ("X := A[A[B].V].V + A[A[B]];", "CLASS B; CLASS B #2"),
+    (
+        "X := A[A[B].V].V + A[A[B]];",
+        "CLASS B; MEMBER_UNKNOWN V; MEMBER_UNKNOWN V #2; CLASS B #2",
+    ),
 ];
 
 // CLASS in expressions.
