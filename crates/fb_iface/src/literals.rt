@@ -22,7 +22,7 @@ pub fn report_constant(
 {
     match constant {
         Constant::One(value) => report_alone(used, value, found),
-        Constant::List(values, span) => report_list(used, values.as_slice(), *span, found),
+        Constant::List(values, span) => report_list(used, values.as_slice(), span.span(), found),
     }
 }
 
@@ -57,7 +57,7 @@ fn report_list(
         (found.new.items ≡ found.old.items ++ list_faults used.now.form used.now values.now span) }
 {
     match used.form {
-        TypeForm::Array => report_elements(class_by_name(&used.name.name), values, found),
+        TypeForm::Array => report_elements(class_by_name(&used.name.name.name()), values, found),
         TypeForm::Plain | TypeForm::Sized => {
             if !class_of(used).is_free() {
                 found.push(misfit(span))?;
@@ -97,7 +97,7 @@ fn span_of(constant: &Simple) -> Span
     ensures { result ≡ simple_span constant.now }
 {
     match constant {
-        Simple::Literal(literal) => literal.span,
-        Simple::Name(name) => name.span,
+        Simple::Literal(literal) => literal.span.span(),
+        Simple::Name(name) => name.span.span(),
     }
 }
