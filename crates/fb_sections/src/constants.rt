@@ -74,9 +74,16 @@ impl Reader for RangeReader {
         _alloc: Global,
         tokens: &'a [Lexeme],
     ) -> Result<((), &'a [Lexeme]), Stop<'a>> {
-        let (_, rest) = number(tokens)?;
+        // Not by `?`, which takes no copied place beside a reference.
+        let rest = match number(tokens) {
+            Ok((_, rest)) => rest,
+            Err(stop) => return Err(stop),
+        };
         let (_, rest) = key(rest, Kind::Range)?;
-        let (_, rest) = number(rest)?;
+        let rest = match number(rest) {
+            Ok((_, rest)) => rest,
+            Err(stop) => return Err(stop),
+        };
         Ok(((), rest))
     }
 }
@@ -163,8 +170,10 @@ fn simple(alloc: Global, tokens: &[Lexeme]) -> Result<(Simple, &[Lexeme]), Stop<
         let (token, rest) = one_of(tokens, &OTHER_LITERALS)?;
         Ok((Simple::Literal(literal_use(token)), rest))
     } else {
-        let (number, rest) = number(tokens)?;
-        Ok((Simple::Literal(number), rest))
+        match number(tokens) {
+            Ok((number, rest)) => Ok((Simple::Literal(number), rest)),
+            Err(stop) => Err(stop),
+        }
     }
 }
 
