@@ -46,9 +46,10 @@ pub fn joined(
     let mut members = Vec::with_capacity(alloc, others.len())?;
     let mut end = first.end;
     for part in others {
+        let name = part.name.keep(alloc)?;
         let mut behind = part.subscripts;
         members.push(Member {
-            name: part.name.keep(alloc)?,
+            name,
             subscripts: behind.len(),
         })?;
         subscripts.append(&mut behind)?;
