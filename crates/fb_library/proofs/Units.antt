@@ -38,7 +38,7 @@ equal Less h = absurd (false≢true h)
 equal Equal h = refl
 equal Greater h = absurd (false≢true h)
 
-own_by : (b : Bool) (it found : FiledTextText) (rest : Option FiledText) {P : Type 0} → cond b (Some it) rest ≡ Some found → (b ≡ true → it ≡ found → P) → (rest ≡ Some found → P) → P
+own_by : (b : Bool) (it found : FiledText) (rest : Option FiledText) {P : Type 0} → cond b (Some it) rest ≡ Some found → (b ≡ true → it ≡ found → P) → (rest ≡ Some found → P) → P
 own_by true it found rest is here later = here refl (cc)
 own_by false it found rest is here later = later is
 
