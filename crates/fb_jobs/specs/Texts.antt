@@ -1,5 +1,5 @@
 -- What is kept of reads: the text that was there under each name, and beside these the names where none was.
-use Rattle.std.specs.Prelude.{◌≡◌, ℕ, List, [], ◌∷◌, map, length, count_by, is_none, Option, Some, None}
+use Rattle.std.specs.Prelude.{◌≡◌, ℕ, List, [], ◌∷◌, suc, map, length, Option, Some, None}
 use Rattle.std.specs.declared.sync.Arc.{Arc}
 use Rattle.std.specs.declared.alloc.Global.{Global}
 use Rattle.fb_deploy.specs.Library.Texts.{FiledText}
@@ -27,9 +27,15 @@ seen_in (None ∷ texts) (name ∷ names) = nothing name ∷ seen_in texts names
 abbrev pub texts_seen : List (Option (Arc Version Global)) → List (List ℕ) → List Seen
 texts_seen versions names = seen_in (map text_of versions) names
 
--- there is a name for each that has no text
+-- how many have no text
+abbrev pub missing : List (Option FiledText) → ℕ
+missing [] = 0
+missing (Some it ∷ texts) = missing texts
+missing (None ∷ texts) = suc (missing texts)
+
+-- there is a name for each of these
 abbrev pub AreNamed : List (Option FiledText) → List (List ℕ) → Type 0
-AreNamed texts names = length names ≡ count_by is_none texts
+AreNamed texts names = length names ≡ missing texts
 
 -- what was read under a name, as a text or nothing
 abbrev pub seen_under : List ℕ → Option FiledText → Seen

@@ -1,6 +1,6 @@
 -- Reads and values of the program as what they say.
 use Rattle.std.specs.Prelude.{◌≡◌, ℕ, List, map, Option, Some, None}
-use Rattle.std.specs.Option.{MatchOption}
+use Rattle.std.specs.Option.{MatchOption, option_map, option_copied}
 use Rattle.std.specs.declared.sync.Arc.{Arc}
 use Rattle.std.specs.declared.alloc.Global.{Global}
 use Rattle.fb_deploy.specs.Library.Texts.{Held}
@@ -27,12 +27,11 @@ abbrev pub all_seen : List Read → List Seen
 all_seen reads = map seen_of reads
 
 -- what is kept of a read
-abbrev pub text_held : Option (& Version) → Option Held
-text_held None = None
-text_held (Some version) = Some (filed_text version.now).held
+abbrev pub version_held : Version → Held
+version_held it = (filed_text it).held
 
 abbrev pub text_seen : TextRead → Seen
-text_seen it = record { name = it.name; found = text_held it.version }
+text_seen it = record { name = it.name; found = option_map version_held (option_copied it.version) }
 
 -- a source of that name, or nothing with revision 0
 abbrev pub IsOwn : Read → Type 0

@@ -15,7 +15,7 @@ pub struct TextRead<'a> {
     pub version: Option<&'a Version>,
 }
 
-/// The texts of reads, in their order, without the trees that they spell. Each is shared with whoever else keeps it, so that a read of a text takes 8 bytes here.
+/// The texts of reads, in their order, without the trees that they spell. Each is shared with whoever else keeps it, so that a read of a text takes 16 bytes here.
 #[derive(Drop)]
 pub struct TextReads {
     versions: Vec<Option<Arc<Version>>>,
@@ -23,7 +23,7 @@ pub struct TextReads {
     absent: Vec<Name>,
 }
 
-const _: () = prove!(size_of::<Option<Arc<Version>>>() == 8);
+const _: () = prove!(size_of::<Option<Arc<Version>>>() == 16);
 
 impl Model for TextReads {
     ghost use Rattle.std.specs.Prelude.{List, map};
