@@ -12,7 +12,8 @@ invariant_of-self c =
     let units = c.self.inside.units in
     let filed = c.in_ok-filed.filed.value in
     let own : c.args.source.value.unit ≡ unit = search rules in
-    kept AreOwn c.put.result units c.put.new.self (insert_entry name_cmp units unit filed) c.put.ensures.ok c.put.ensures.err c.self.invariant (own_put units unit filed (ap (λ it. it.unit) c.in_ok-filed.ensures.ok ∙ own) c.self.invariant)
+    let made = c.in_ok-filed.ensures.ok ∙ c.in_ok-new.ensures in
+    kept AreOwn c.put.result units c.put.new.self (insert_entry name_cmp units unit filed) c.put.ensures.ok c.put.ensures.err c.self.invariant (own_put units unit filed (ap (λ it. it.unit) made ∙ own) c.self.invariant)
 
 pub returns : goal.returns
 returns c =
@@ -20,5 +21,6 @@ returns c =
     let units = c.self.inside.units in
     let filed = c.in_ok-filed.filed.value in
     let own : unit ≡ c.args.source.value.unit = search rules in
+    let made = c.in_ok-filed.ensures.ok ∙ c.in_ok-new.ensures in
     shown texts_of c.put.result c.put.new.self (insert_entry name_cmp units unit filed) _ c.put.ensures.ok
-    (texts_put units unit filed ∙ (λ i. insert_entry name_cmp (c.self.view_is i) (own i) (held_in (c.in_ok-filed.ensures.ok i))))
+    (texts_put units unit filed ∙ (λ i. insert_entry name_cmp (c.self.view_is i) (own i) (held_in (made i))))
