@@ -58,7 +58,7 @@ fn report_event(own: &Ports, event: &Event, found: &mut Vec<Fault>) -> Result<()
         ≡ found.old.items ++ event_withs (stands_for own.now.variables) (event_tree event.now)) }
 {
     for name in &event.with {
-        if !goes_along(own, event.side, &name.name) {
+        if !goes_along(own, event.side, &name.name.name()) {
             found.push(Fault::at(Code::WithUnknown, name))?;
         }
     }

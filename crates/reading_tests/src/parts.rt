@@ -336,8 +336,8 @@ fn variable_told(alloc: Global, text: &str) -> Result<String, Fail> {
     let tokens = lexemes(alloc, text)?;
     match expression(alloc, tokens.as_slice())? {
         (Expr::Reference(variable, _), _) => {
-            let Span { start, end } = variable.span;
-            let first = variable.name_span();
+            let Span { start, end } = variable.span.span();
+            let first = variable.name_span().span();
             let mut told = format!(in alloc; "{} ", variable.name())?;
             write!(told, "{}..{}", first.start, first.end)?;
             write!(told, " ({}) in {start}..{end}", variable.subscripts)?;

@@ -133,7 +133,7 @@ fn names_and_places(rt: HostRuntime) -> Result<(), Fail> {
         return Err(Fail::from("not four tokens"));
     };
     assert!(rt; name.kind.is_among(&names) && !symbol.kind.is_among(&names));
-    let used = words(rt.alloc(), &name.name_use())?;
+    let used = words(rt.alloc(), &name.name_use(rt.alloc())?)?;
     assert_eq!(rt; used.as_str(), "A_1 0..3");
     assert_eq!(rt; number.name.as_str(), "_");
     Ok(())
