@@ -169,7 +169,9 @@ impl Tell for Instance {
         write!(
             told,
             "{:?} {}:{}",
-            self.role, self.name.name.as_str(), self.type_name.name.as_str()
+            self.role,
+            self.name.name.as_str(),
+            self.type_name.name.as_str()
         )?;
         tell_parameters(self.parameters.as_slice(), told)
     }
@@ -234,7 +236,8 @@ impl Tell for Transition {
         write!(
             told,
             "{} TO {} := ",
-            self.source.name.as_str(), self.destination.name.as_str()
+            self.source.name.as_str(),
+            self.destination.name.as_str()
         )?;
         self.condition.tell(told)
     }
@@ -270,10 +273,20 @@ impl Tell for Application {
 
 impl Tell for Device {
     fn tell(&self, told: &mut String) -> Result<(), AllocError> {
-        write!(told, "DEVICE {}:{}", self.name.name.as_str(), self.type_name.name.as_str())?;
+        write!(
+            told,
+            "DEVICE {}:{}",
+            self.name.name.as_str(),
+            self.type_name.name.as_str()
+        )?;
         tell_parameters(self.parameters.as_slice(), told)?;
         for resource in &self.resources {
-            write!(told, " {}:{}", resource.name.name.as_str(), resource.type_name.name.as_str())?;
+            write!(
+                told,
+                " {}:{}",
+                resource.name.name.as_str(),
+                resource.type_name.name.as_str()
+            )?;
             tell_parameters(resource.parameters.as_slice(), told)?;
         }
         Ok(())
@@ -283,7 +296,12 @@ impl Tell for Device {
 impl Tell for Mapping {
     fn tell(&self, told: &mut String) -> Result<(), AllocError> {
         tell_names("", ".", self.path.as_slice(), told)?;
-        write!(told, " ON {}.{}", self.device.name.as_str(), self.resource.name.as_str())
+        write!(
+            told,
+            " ON {}.{}",
+            self.device.name.as_str(),
+            self.resource.name.as_str()
+        )
     }
 }
 
