@@ -74,17 +74,20 @@ fn standing_inside<'a, V: View>(
 fn standing_beyond<'a, V: View>(
     alloc: Global,
     view: &'a V,
-    start: Standing<'a>,
+    start: &Standing<'a>,
     names: &[&str],
     units: &mut Units<'a>,
 ) -> Result<Option<Standing<'a>>, AllocError>
     requires { AreUnits (V.sources view.now) (get name_cmp units.old) }
     ensures right { OnOk result (AreUnits (V.sources view.now) (get name_cmp units.new)) }
     ensures found { IfOk result (λ found. option_map plain_standing found
-        ≡ standing_beyond (V.sources view.now) (Some (plain_standing start.entry))
+        ≡ standing_beyond (V.sources view.now) (Some (plain_standing start.now))
         (map (λ n. n.now) names.now)) }
 {
-    let mut found = start;
+    let mut found = Standing {
+        unit: start.unit,
+        instance: start.instance,
+    };
     for name in names {
         match standing_inside(alloc, view, *name, &found, units) {
             Ok(Some(inner)) => found = inner,
@@ -112,7 +115,7 @@ fn standing_from<'a, V: View>(
 {
     match names.split_first() {
         Some((first, others)) => match standing_among(*unit, instances, *first) {
-            Some(start) => standing_beyond(alloc, view, start, others, units),
+            Some(start) => standing_beyond(alloc, view, &start, others, units),
             None => Ok(None),
         },
         None => Ok(None),
