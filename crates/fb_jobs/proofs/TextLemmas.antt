@@ -1,15 +1,16 @@
 -- Texts and names as what was read.
-use Rattle.std.proofs.Common.{◌≡◌, ℕ, zero, suc, ◌+◌, ◌<◌, List, [], ◌∷◌, ◌++◌, map, length, take, get_or, slice_get, Option, Some, None, is_none, cond, refl, sym, ap, ◌∙◌, arith, count_by}
+use Rattle.std.proofs.Common.{◌≡◌, ℕ, zero, suc, ◌+◌, ◌<◌, ◌≤◌, List, [], ◌∷◌, ◌++◌, map, length, take, get_or, slice_get, Option, Some, None, is_none, cond, refl, sym, ap, ◌∙◌, arith, count_by}
 use Rattle.std.specs.Option.{option_map}
 use Rattle.std.specs.declared.sync.Arc.{Arc}
 use Rattle.std.specs.declared.alloc.Global.{Global}
-use Rattle.std.proofs.lemmas.List.{map-append, length-append}
+use Rattle.std.proofs.lemmas.Option.{slice_get-map, slice_get_read, slice_get_past, get_or_from_slice_get}
+use Rattle.std.proofs.lemmas.List.{map-append, length-append, take-map}
 use Rattle.std.proofs.lemmas.List.Recursion.{is_count_by}
 use Rattle.fb_deploy.specs.Library.Filed.{filed_text}
 use Rattle.fb_deploy.specs.Library.Texts.{FiledText, Held}
 use Rattle.fb_deploy.specs.Library.declared.filed.Version.{Version}
 use Rattle.fb_jobs.specs.Reads.{Seen}
-use Rattle.fb_jobs.specs.Texts.{text_of, there, nothing, seen_in, missing, AreNamed, seen_under}
+use Rattle.fb_jobs.specs.Texts.{text_of, there, nothing, seen_in, texts_seen, missing, AreNamed, seen_under}
 
 abbrev Texts : Type 0
 Texts = List (Option FiledText)
@@ -117,3 +118,37 @@ more_seen vs None old new name named is =
     (λ i. seen_in (map-append text_of vs (None ∷ []) i) (is i)) ∙ one_more_name (map text_of vs) old name named
 more_seen vs (Some v) old new name named is =
     (λ i. seen_in (map-append text_of vs (Some v ∷ []) i) (is i)) ∙ one_more_text (map text_of vs) old (filed_text v.value) named
+
+-- ---- what is read at a place
+
+twice : {A B C : Type 0} (f : B → C) (g : A → B) (o : Option A) → option_map f (option_map g o) ≡ option_map (λ x. f (g x)) o
+twice f g None = refl
+twice f g (Some x) = refl
+
+module _ (vs : List (Option (Arc Version Global))) (names : List (List ℕ)) (i : ℕ) (named : AreNamed (map text_of vs) names) where
+  counted : missing (take i (map text_of vs)) ≡ count_by is_none (take i vs)
+  counted = ap missing (take-map text_of i vs) ∙ missing_counted (take i vs)
+
+  texts_at : slice_get (texts_seen vs names) i ≡ option_map (λ v. seen_under (get_or names (count_by is_none (take i vs)) []) (text_of v)) (slice_get vs i)
+  texts_at =
+      seen_at (map text_of vs) names i named
+      ∙ (λ k. option_map (seen_under (get_or names (counted k) [])) (slice_get-map text_of vs i k))
+      ∙ twice (seen_under (get_or names (count_by is_none (take i vs)) [])) text_of (slice_get vs i)
+
+  pub read_past : length vs ≤ i → None ≡ slice_get (texts_seen vs names) i
+  read_past past = sym (texts_at ∙ ap (option_map (λ v. seen_under (get_or names (count_by is_none (take i vs)) []) (text_of v))) (slice_get_past vs i past))
+
+  pub read_there : (version : Arc Version Global) → i < length vs → Some version ≡ get_or vs i (Some version) → Some (there (filed_text version.value)) ≡ slice_get (texts_seen vs names) i
+  read_there version below is =
+      sym (texts_at ∙ ap (option_map (λ v. seen_under (get_or names (count_by is_none (take i vs)) []) (text_of v))) (slice_get_read vs (length vs) i (Some version) refl below is))
+
+  pub absent_below : (n : ℕ) → i < length vs → None ≡ get_or vs i None → n ≡ count_by is_none (take i vs) → n < length names
+  absent_below n below is n_is =
+      let here : slice_get (map text_of vs) i ≡ Some None = slice_get-map text_of vs i ∙ ap (option_map text_of) (slice_get_read vs (length vs) i None refl below is) in
+      omega (arith, missing_before (map text_of vs) i here, counted, named, n_is)
+
+  pub read_nothing : (n : ℕ) (name : List ℕ) → i < length vs → None ≡ get_or vs i None → n ≡ count_by is_none (take i vs) → name ≡ get_or names n name → Some (nothing name) ≡ slice_get (texts_seen vs names) i
+  read_nothing n name below is n_is name_is =
+      let there : slice_get names n ≡ Some name = slice_get_read names (length names) n name refl (absent_below n below is n_is) name_is in
+      sym (texts_at ∙ ap (option_map (λ v. seen_under (get_or names (count_by is_none (take i vs)) []) (text_of v))) (slice_get_read vs (length vs) i None refl below is)
+      ∙ ap (λ (m : ℕ). Some (nothing (get_or names m []))) (sym n_is) ∙ ap (λ (it : List ℕ). Some (nothing it)) (get_or_from_slice_get names n name [] there))
