@@ -249,11 +249,16 @@ def named(uses, texts):
     return [(*place, word) for word in words if (place := home(uses[word], word))]
 
 
+def promised(it):
+    """The function with the contract of a call: itself, or that of the trait that it meets without one of its own."""
+    return trait_function(it) if it.trait and not it.contract else it
+
+
 def cited(it):
     """The definitions that a contract cites, in its order."""
-    met = trait_function(it) if it.trait and not it.contract else None
-    if met:
-        return named(it.uses | met.uses, [met.contract, *re.findall(r"^    ghost \w+ = \{(.*)\};", it.block, re.M)])
+    by = promised(it)
+    if by and by is not it:
+        return named(it.uses | by.uses, [by.contract, *re.findall(r"^    ghost \w+ = \{(.*)\};", it.block, re.M)])
     return named(it.uses, [it.contract])
 
 

@@ -31,7 +31,7 @@ where the page is not what it would make now.
 
 Why a cell says **none** stands in [TRUST.md](TRUST.md#what-has-no-second-form-wrong-body-or-test).
 """
-GAPS = ("No second form", "No wrong body", "No test", "No refused allocation")
+GAPS = ("No second form", "No wrong body", "No test", "No refused allocation", "No definition")
 
 
 @dataclass
@@ -172,7 +172,7 @@ def place_of(name):
 def defined_of_call(row, calls):
     """What the contracts of the calls cite, or else what their types are seen as, and what the types that they give keep."""
     found = [place_of(it) for it in row.has("defined")] + [it for call in calls for it in parts.cited(call)]
-    for call in calls if not found else []:
+    for call in [it for it in calls if not found and (by := parts.promised(it)) and by.contract]:
         found += parts.models().get(call.owner, ([], []))[0]
         given = re.findall(r"\w+", call.signature.rpartition("->")[2])
         found += [it for name in given if name not in ("Name", call.owner) for it in parts.models().get(name, ([], []))[1]]
@@ -285,13 +285,15 @@ def call_row(row, gaps):
     has_form = row.has("laws") or again(row)
     without = {
         GAPS[0]: [] if has_form else row.names,
-        **{gap: [it for it, found in zip(row.names, cells) if not found] for gap, cells in zip(GAPS[1:], (edits, tests, memory))},
+        **{gap: [it for it, found in zip(row.names, cells) if not found] for gap, cells in zip(GAPS[1:4], (edits, tests, memory))},
     }
+    places = defined_of_call(row, calls)
+    without[GAPS[4]] = row.names if places == NONE else []
     for gap, names in without.items():
         gaps[gap] += names
     return [
         ", ".join(f"[`{it}`](../{call.file})" for it, call in zip(row.names, calls)) + (f" ({', '.join(promises)})" if promises else ""),
-        defined_of_call(row, calls),
+        places,
         laws(row) if has_form else NONE,
         again(row),
         counted(count_edits(sum(edits, [])), without[GAPS[1]]),
@@ -313,7 +315,7 @@ def refused_row(row, gaps):
     edits = [it for it in parts.edits() if has.search(it.text) or f"{it.crate}: {it.name}" in row.has("edits")]
     tests = tests_that(lambda item: variant in item.words and has.search(item.text), row)
     places = [place_of(it) for it in row.has("defined")] or parts.defining(enum, variant)
-    for gap, found in zip(GAPS[1:3], (edits, tests)):
+    for gap, found in zip((*GAPS[1:3], GAPS[4]), (edits, tests, places)):
         gaps[gap] += [] if found else row.names
     return [
         f"`{variant}` of `{row.crate}: {enum}`",
