@@ -29,7 +29,8 @@ where the page is not what it would make now.
 | Tests | how many tests make the call, by itself or through the calls above it, or send its request |
 | No memory | the test that refuses each allocation of the call in turn; "conversations" where `tools/refuse --program` alone does; – where it wants none ([TRUST.md](TRUST.md)) |
 
-Why a cell says **none** stands in [TRUST.md](TRUST.md#what-has-no-second-form-wrong-body-or-test).
+Why a cell says **none** is said in [TRUST.md](TRUST.md#what-has-no-second-form-wrong-body-or-test). The tests of what no contract sees are named
+[there](TRUST.md#tested-only) too.
 """
 GAPS = ("No second form", "No wrong body", "No test", "No refused allocation", "No definition")
 
