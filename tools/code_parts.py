@@ -41,7 +41,7 @@ class Edit:
 
 @dataclass
 class Item:
-    """A function, a constant or a type of a crate of tests: its text, from what file of the crate its names come, and which come from other crates."""
+    """A function, a constant or a type of a crate of tests: its text, from what file of the crate its names come, and which come from the crates that are tested."""
 
     crate: str
     file: str
@@ -113,7 +113,7 @@ def function_at(lines, at, place):
     end = end_of_body(lines, behind, head[1]) if has_body else behind
     crate, file, owner, trait, uses, block = place
     signature, contract, body = ("\n".join(it) for it in (lines[at:clause], lines[clause:behind], lines[behind:end]))
-    return Function(crate, file, owner, trait, head[3], bool(head[2]), signature, contract, body, uses, block), end
+    return Function(crate, file, owner, trait, head[3], head[2] == "pub ", signature, contract, body, uses, block), end
 
 
 def functions_in(crate, file):
@@ -162,7 +162,9 @@ def trait_function(it):
 
 @functools.cache
 def all_functions():
-    return {it.full_name: it for crate in crates() for it in functions(crate)}
+    """Each function of the crates by its name, those that other crates can call before others of that name."""
+    found = [it for crate in crates() for it in functions(crate)]
+    return {it.full_name: it for it in sorted(found, key=lambda it: it.is_public)}
 
 
 # ---- what may want memory
@@ -294,7 +296,7 @@ def calls_in(cell):
         found += [f"{of_type[2]}::{of_type[1]}"] if of_type else [] if five else re.findall(r"`([\w:]+)`", part)
     owners = {it.partition("::")[0] for it in found if "::" in it}
     inner = [name for part in within for name in re.findall(r"`(\w+)`", part)]
-    return found + [f"{owner}::{name}" for owner in owners for name in inner]
+    return found + ([f"{owner}::{name}" for owner in owners for name in inner] or inner)
 
 
 @functools.cache
@@ -321,13 +323,13 @@ ITEM = re.compile(r"^(?:pub(?:\(\w+\))? )?(?:fn|const|static|struct|enum|type|tr
 
 
 def imports_of(text):
-    """From each name that a file of tests takes from another file of its crate to that file, and the names that come from other crates."""
+    """From each name that a file of tests takes from another file of its crate to that file, and the names that it takes from other crates of the project."""
     inside, outside = {}, set()
     for path, names, name in re.findall(r"^use ([\w:]+)::(?:\{([^}]*)\}|(\w+));", text, re.M):
         own = {it.strip() for it in (names or name).split(",") if it.strip()}
         if path.startswith("crate::"):
             inside |= {it: path.rpartition("::")[2] for it in own}
-        else:
+        elif path.startswith("fb_"):
             outside |= own
     return inside, outside
 
@@ -361,13 +363,21 @@ def helpers(crate):
     return found
 
 
+def used_by(item):
+    """The items of its crate that an item names: those of its file, those that its file imports by name, and what imported files do for a type that it names."""
+    by_place = helpers(item.crate)
+    imported_files = {item.inside[word] for word in item.words if word in item.inside}
+    for word in item.words:
+        yield from by_place.get((item.inside.get(word, item.file), word), [])
+        for file in imported_files:
+            yield from (it for it in by_place.get((file, word), []) if it.text.startswith("impl"))
+
+
 def closure(test):
-    by_place, seen, todo, items = helpers(test.crate), set(), [test], []
+    items, todo = {id(test): test}, [test]
     while todo:
-        it = todo.pop()
-        items.append(it)
-        places = {it.file} | {it.inside[word] for word in it.words if word in it.inside}
-        for place in {(file, word) for word in it.words for file in places} & by_place.keys() - seen:
-            seen.add(place)
-            todo += by_place[place]
-    return items
+        for it in used_by(todo.pop()):
+            if id(it) not in items:
+                items[id(it)] = it
+                todo.append(it)
+    return list(items.values())

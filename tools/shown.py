@@ -27,7 +27,7 @@ where the page is not what it would make now.
 | Written again | parts of the second implementation ([`oracle`](../oracle/README.md)), and of the ordinary program with the same replies ([`plain`](../benchmarks/plain/README.md)) |
 | Wrong bodies | how many edits of this call the gate tries and how many stand beside it. `must-fail/README.md` of each crate names them |
 | Tests | how many tests make the call, by itself or through the calls above it, or send its request |
-| No memory | the test that refuses each allocation of the call in turn; "conversations" where `tools/refuse --program` alone does; – where it wants none ([TRUST.md](TRUST.md)) |
+| No memory | the test that refuses each allocation of the call in turn, or the call above through which one does; "conversations" if only `tools/refuse --program` does; – if it needs none ([TRUST.md](TRUST.md)) |
 
 Why a cell says **none** is said in [TRUST.md](TRUST.md#what-has-no-second-form-wrong-body-or-test). The tests of what no contract sees are named
 [there](TRUST.md#tested-only) too.
@@ -228,8 +228,9 @@ def memory_of(call, row):
     if not parts.wants_memory(call) and (is_maker or "alloc: Global" not in call.signature):
         return "–"
     tried = ", ".join(trials().get(call.full_name, {}))
+    above = ", ".join(f"`{it}`" for it in row.has("through") if it in trials())
     by_program = all(f'op="{it}"' in parts.text_of("tools/refuse") for it in row.has("lines"))
-    return tried or ("conversations" if row.has("lines") and by_program else "")
+    return tried or (f"through {above}" if above else "conversations" if row.has("lines") and by_program else "")
 
 
 def counted(counts, absent):
