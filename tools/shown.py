@@ -141,15 +141,13 @@ def faults_of_rows():
 
 
 def left_out():
+    """Variants of the enums of refusals without a row, rows of variants that are not there, and laws of fb_laws that no row names."""
     refused = {(row.crate, name) for row in rows("refused") for name in row.names}
     named = refused | {(row.crate, name) for row in rows("besides") for name in row.names}
-    for crate, enum in sorted({(crate, name.partition(".")[0]) for crate, name in refused}):
-        if enum not in parts.types(crate):
-            yield f"{ROWS}: {crate} has no enum {enum}"
-            continue
-        there = {f"{enum}.{it}" for it in parts.variants(crate, enum) if it != "Memory"}
-        yield from (f"{ROWS}: {crate} has no {it}" for it in sorted(name for at, name in named if at == crate and name.startswith(f"{enum}.")) if it not in there)
-        yield from (f"{ROWS}: no row is for {crate}: {it}" for it in sorted(there) if (crate, it) not in named)
+    enums = {(crate, name.partition(".")[0]) for crate, name in refused}
+    there = {(crate, f"{enum}.{it}") for crate, enum in enums if enum in parts.types(crate) for it in parts.variants(crate, enum) if it != "Memory"}
+    yield from (f"{ROWS}: no row is for {crate}: {name}" for crate, name in sorted(there - named))
+    yield from (f"{ROWS}: {crate} has no {name}" for crate, name in sorted(named - there))
     said = {law for _, some in sections() for row in some for law in row.has("laws")}
     yield from (f"{ROWS}: no row names the law {name} of fb_laws" for name, crate in sorted(parts.laws().items()) if crate == "fb_laws" and name not in said)
 
@@ -190,7 +188,7 @@ def makes(call, item):
     if call.name not in item.words:
         return False
     if not call.owner:
-        return call.name in item.outside and bool(re.search(rf"(?<![\w.:]){call.name}(?:::<[^;{{}}]*?>)?\b(?=[(,)])", item.text))
+        return call.name in item.outside and bool(re.search(rf"(?<![\w.:]){call.name}(?:::<[^;{{}}]*?>)?\(", item.text))
     if call.owner not in item.words:
         return False
     return bool(re.search(rf"\.{call.name}\(|\b{call.owner}(?:::<[^;{{}}]*?>)?::{call.name}\b", item.text))
@@ -349,7 +347,8 @@ def code_row(cells, gaps):
         gaps[gap] += [] if some else [word]
     places = {"oracle": [ORACLE], "plain": parts.files(f"{PLAIN}/faults/*.rs")}
     written = [name for name, paths in places.items() if any(f'"{word}"' in parts.text_of(it) for it in paths)]
-    return [code, ", ".join(f"`{it}`" for it in re.findall(r"\[`(\w+)`\]", law)), ", ".join(written) or NONE, counted(count_edits(edits), []), str(len(found))]
+    says = ", ".join(f"`{it}`" for it in re.findall(r"\[`(\w+)`\]", law))
+    return [code, says, ", ".join(written) or NONE, counted(count_edits(edits), []), str(len(found))]
 
 
 # ---- limits
