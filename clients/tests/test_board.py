@@ -16,7 +16,7 @@ from bench61499 import Put, Remove, Session
 from board_state import Board
 from board_watch import HEARTBEAT, SharedWatch
 
-STATES = {"FEEDER", "HANDOVER", "LAMP", "LIFTER", "PLANT", "STATION"}
+STATES = {"FEEDER", "HANDOVER", "ITEM", "LAMP", "LIFTER", "PLANT", "STATION"}
 WRONG = "FUNCTION_BLOCK A EVENT_INPUT E WITH X; END_EVENT END_FUNCTION_BLOCK"
 MARKUP = """FUNCTION_BLOCK A (* <script>alert(1)</script> *)
   VAR TEXT : STRING := '<img src=x onerror=alert(2)>'; END_VAR
@@ -54,7 +54,7 @@ class FolderTest(BoardTest):
         at = self.conveyor()
         self.assertEqual(at.line, f"the board of . is at http://127.0.0.1:{at.port}/\n")
         with at.viewer() as viewer:
-            viewer.settled(6)
+            viewer.settled(len(STATES))
         self.assertEqual(viewer.units.keys(), STATES)
         self.assertEqual(viewer.units["FEEDER"], {"kind": "FUNCTION_BLOCK", "revision": 1, "state": "fine", "faults": 0, "file": "FEEDER.fb"})
         self.assertEqual((viewer.about["title"], viewer.about["shared"], viewer.changes, viewer.ended), (".", False, [], ""))
@@ -62,7 +62,7 @@ class FolderTest(BoardTest):
     def test_a_file_that_is_changed(self) -> None:
         at = self.conveyor()
         with at.viewer() as viewer:
-            viewer.settled(6)
+            viewer.settled(len(STATES))
             self.edit("FEEDER.fb", "DONE TO IDLE", "DONE TO IDEL")
             viewer.until(lambda it: it.state("FEEDER") == "faulty")
             (change,) = viewer.changes
@@ -78,7 +78,7 @@ class FolderTest(BoardTest):
     def test_files_that_come_and_go(self) -> None:
         at = self.conveyor()
         with at.viewer() as viewer:
-            viewer.settled(6)
+            viewer.settled(len(STATES))
             (self.folder / "LAMP.fb").unlink()
             viewer.until(lambda it: it.state("LAMP") == "absent" and it.state("PLANT") == "faulty")
             self.write("inner/A.fb", WRONG)
@@ -94,7 +94,7 @@ class FolderTest(BoardTest):
         self.write("BYTES.fb", b"FUNCTION_BLOCK \xff")
         at = self.start(".")
         with at.viewer() as viewer:
-            viewer.settled(6)
+            viewer.settled(len(STATES))
             self.assertEqual(viewer.problems, ["BYTES.fb:1: is not UTF-8: byte 15 is 0xff", "LAMP.fb and SECOND.fb both declare the unit LAMP; the first one counts"])
             (self.folder / "BYTES.fb").unlink()
             self.write("SECOND.fb", "1 2")
@@ -145,7 +145,7 @@ os._exit(child.wait() and 1)
 """)
         at = self.start(".", program=program)
         with at.viewer() as viewer:
-            viewer.settled(6)
+            viewer.settled(len(STATES))
             subprocess.run(["kill", "-KILL", (self.folder / "child").read_text()], check=True)
             viewer.until(lambda it: it.ended)
             self.assertEqual(viewer.ended, "the workbench ended before it answered (status 1)")
@@ -161,7 +161,7 @@ os._exit(child.wait() and 1)
     def test_ctrl_c(self) -> None:
         at = self.conveyor()
         with at.viewer() as viewer:
-            viewer.settled(6)
+            viewer.settled(len(STATES))
         at.process.send_signal(signal.SIGINT)
         self.assertEqual((at.process.wait(30), at.process.stderr.read()), (130, ""))
 
@@ -172,14 +172,14 @@ class AnswersTest(BoardTest):
     def test_a_network(self) -> None:
         at = self.conveyor()
         with at.viewer() as viewer:
-            viewer.settled(6)
+            viewer.settled(len(STATES))
             net = self.known(at, viewer, "/net", "STATION")
         names = [box[0] for box in net["boxes"]]
         self.assertEqual(names, ["BELT", "LIFT", "READY", "SEEN", "START", "STOP", "LOAD", "TOTAL"])
         wires = {(names[it[1]], names[it[4]], it[0], it[7], it[8], it[9]) for it in net["wires"]}
         self.assertEqual(wires, {
             ("BELT", "LIFT", "event", "OFFER", False, "forth"), ("BELT", "LIFT", "event", "TAKEN", False, "back"),
-            ("BELT", "LIFT", "data", "WEIGHT", False, "forth"), ("LOAD", "BELT", "data", "", False, "forth"),
+            ("BELT", "LIFT", "data", "PIECE", False, "forth"), ("LOAD", "BELT", "data", "", False, "forth"),
             ("START", "BELT", "event", "", False, "forth"), ("SEEN", "BELT", "event", "", False, "forth"),
             ("STOP", "LIFT", "event", "", False, "forth"), ("LIFT", "READY", "event", "", False, "forth"),
             ("LIFT", "TOTAL", "data", "", False, "forth"),
@@ -188,7 +188,7 @@ class AnswersTest(BoardTest):
     def test_a_port_that_nothing_leads_to(self) -> None:
         at = self.conveyor()
         with at.viewer() as viewer:
-            viewer.settled(6)
+            viewer.settled(len(STATES))
             before = self.known(at, viewer, "/net", "STATION")
             self.edit("LIFTER.fb", "EVENT_INPUT STOP;", "EVENT_INPUT STOP; PAUSE;")
             viewer.until(lambda it: it.answers["net", "STATION"][0] > before["serial"])
@@ -200,7 +200,7 @@ class AnswersTest(BoardTest):
     def test_a_system(self) -> None:
         at = self.conveyor()
         with at.viewer() as viewer:
-            viewer.settled(6)
+            viewer.settled(len(STATES))
             self.known(at, viewer, "/plan", "PLANT")
             net, plan = self.known(at, viewer, "/net", "PLANT"), self.known(at, viewer, "/plan", "PLANT")
             homes = {box[0]: box[2] for box in net["boxes"]}
@@ -221,7 +221,7 @@ class AnswersTest(BoardTest):
         (self.folder / "LAMP.fb").unlink()
         at = self.start(".")
         with at.viewer() as viewer:
-            viewer.settled(5)
+            viewer.settled(len(STATES) - 1)
             for path in ("/net", "/plan"):
                 answer = self.known(at, viewer, path, "PLANT")
                 self.assertEqual((answer["state"], answer["missing"], answer["faulty"]), ("blocked", ["LAMP"], ["FEEDER", "PLANT"]))
@@ -230,7 +230,7 @@ class AnswersTest(BoardTest):
     def test_where_an_instance_is_declared(self) -> None:
         at = self.conveyor()
         with at.viewer() as viewer:
-            viewer.settled(6)
+            viewer.settled(len(STATES))
         for unit, path, place in [
             ("PLANT", "LINE.SECOND.LIFT", {"unit": "STATION", "line": 9}), ("PLANT", "LINE.PANEL", {"unit": "PLANT", "line": 5}),
             ("STATION", "BELT", {"unit": "STATION", "line": 8}), ("PLANT", "LINE.NOBODY", None), ("NOTHING", "A", None),
@@ -268,7 +268,7 @@ class SharedTest(BoardTest):
         self.check()
         at = self.shared("--files", ".")
         with at.viewer() as viewer:
-            viewer.settled(6)
+            viewer.settled(len(STATES))
             base = self.engineer.revision("FEEDER")
             text = (CONVEYOR / "FEEDER.fb").read_text().replace("DONE TO IDLE", "DONE TO IDEL")
             number = self.engineer.commit([Put("FEEDER", base, text)])
@@ -284,7 +284,7 @@ class SharedTest(BoardTest):
         before = {unit: self.engineer.revision(unit) for unit in STATES}
         at = self.shared("--files", ".")
         with at.viewer() as viewer:
-            viewer.settled(6)
+            viewer.settled(len(STATES))
             self.edit("LAMP.fb", "SHOW", "SHINE")
             viewer.until(lambda it: "SHINE" in self.pieces(at.json("/unit", name="LAMP")))
         self.assertEqual({unit: self.engineer.revision(unit) for unit in STATES}, before)
@@ -343,7 +343,7 @@ class SharedTest(BoardTest):
         with at.viewer() as viewer:
             viewer.until(lambda it: it.states() == {"absent"})
             self.check()
-            viewer.settled(6)
+            viewer.settled(len(STATES))
             base = self.engineer.revision("FEEDER")
             self.engineer.commit([Put("FEEDER", base, (CONVEYOR / "FEEDER.fb").read_text().replace("DONE TO IDLE", "DONE TO IDEL"))])
             viewer.until(lambda it: it.state("FEEDER") == "faulty")
@@ -478,7 +478,7 @@ class RefusalsTest(BoardTest):
             self.assertNotIn(b" 200 ", answer.splitlines()[0] if answer else b"")
             self.assertNotIn(b"<", answer)
         with at.viewer() as viewer:
-            viewer.settled(6)
+            viewer.settled(len(STATES))
 
     def test_this_machine_alone(self) -> None:
         at = self.conveyor()
@@ -497,7 +497,7 @@ class ViewersTest(BoardTest):
         at = self.conveyor()
         with at.viewer() as one, at.viewer() as other:
             for viewer in (one, other):
-                viewer.settled(6)
+                viewer.settled(len(STATES))
             self.edit("LAMP.fb", "VAR_INPUT VALUE", "VAR_INPUT VALU")
             for viewer in (one, other):
                 viewer.until(lambda it: it.state("LAMP") == "faulty")
@@ -505,9 +505,9 @@ class ViewersTest(BoardTest):
     def test_a_viewer_that_goes_away(self) -> None:
         at = self.conveyor()
         with at.viewer() as gone:
-            gone.settled(6)
+            gone.settled(len(STATES))
         with at.viewer() as viewer:
-            viewer.settled(6)
+            viewer.settled(len(STATES))
             self.edit("LAMP.fb", "VAR_INPUT VALUE", "VAR_INPUT VALU")
             viewer.until(lambda it: it.state("LAMP") == "faulty")
         at.process.send_signal(signal.SIGINT)
@@ -517,14 +517,14 @@ class ViewersTest(BoardTest):
     def test_a_viewer_that_comes_back(self) -> None:
         at = self.conveyor()
         with at.viewer() as viewer:
-            viewer.settled(6)
+            viewer.settled(len(STATES))
             last = viewer.about["last"]
         self.edit("LAMP.fb", "VAR_INPUT VALUE", "VAR_INPUT VALU")
         with at.viewer() as other:
             other.until(lambda it: it.state("LAMP") == "faulty")
         with at.viewer(f"?change={last}") as back, at.viewer() as new:
-            back.settled(6)
-            new.settled(6)
+            back.settled(len(STATES))
+            new.settled(len(STATES))
         self.assertEqual(([it["unit"] for it in back.changes], new.changes), (["LAMP"], []))
 
     def test_texts_are_no_markup(self) -> None:

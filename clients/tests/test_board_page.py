@@ -9,7 +9,7 @@ from pathlib import Path
 from boards import Address
 from browser import Browser
 from support import CONVEYOR, serving
-from test_board import MARKUP, BoardTest
+from test_board import MARKUP, STATES, BoardTest
 
 from bench61499 import Put, Session
 
@@ -40,7 +40,7 @@ class PageTest(BoardTest):
 
     def see_conveyor(self, place: str = "") -> Address:
         at = self.conveyor()
-        self.see(at, 6, place)
+        self.see(at, len(STATES), place)
         return at
 
     def words(self, selector: str) -> str:
@@ -55,12 +55,12 @@ class PageTest(BoardTest):
 class UnitsTest(PageTest):
     def test_a_fault_comes_and_goes(self) -> None:
         self.see_conveyor("#FEEDER/text")
-        self.assertEqual(self.words("#counts").split(), "6 units 0 faults 0 pending".split())
+        self.assertEqual(self.words("#counts").split(), "7 units 0 faults 0 pending".split())
         self.edit("FEEDER.fb", "DONE TO IDLE", "DONE TO IDEL")
         self.until_words("mark", "IDEL")
         self.assertEqual(self.words(".told"), "STATE_UNKNOWN no state IDEL in this chart; did you mean IDLE?")
         self.assertEqual(self.words(".faults").split("\n"), ["19:13", "STATE_UNKNOWN", "no state IDEL in this chart; did you mean IDLE?"])
-        self.assertEqual(self.words("#counts").split(), "6 units 1 fault in 1 unit 0 pending".split())
+        self.assertEqual(self.words("#counts").split(), "7 units 1 fault in 1 unit 0 pending".split())
         self.assertEqual(self.browser.value("document.title"), "1 fault – .")
         self.until_words("#said", "FEEDER: 1 fault")
         self.edit("FEEDER.fb", "DONE TO IDEL", "DONE TO IDLE")
@@ -103,7 +103,7 @@ class UnitsTest(PageTest):
         self.copy_conveyor()
         with serving(sessions=1) as port:
             at = self.start("--connect", f":{port}", "--files", ".")
-            self.see(at, 6, "#LAMP/text")
+            self.see(at, len(STATES), "#LAMP/text")
             self.browser.until("document.querySelector('.text')")
         self.browser.until("!document.getElementById('ended').hidden")
         self.assertRegex(self.words("#ended"), "^The workbench answers no more: .* This is what it last knew.$")
@@ -253,7 +253,7 @@ class EverybodyTest(PageTest):
         self.copy_conveyor()
         self.edit("FEEDER.fb", "DONE TO IDLE", "DONE TO IDEL")
         at = self.start(".")
-        self.see(at, 6)
+        self.see(at, len(STATES))
         focus = "document.activeElement.id || document.activeElement.className"
         for key, wanted in (("u", "units"), ("c", "changes"), ("v", "panel")):
             self.browser.press(key)
@@ -267,7 +267,7 @@ class EverybodyTest(PageTest):
         self.browser.press("u", "/")
         self.assertEqual(self.browser.value("document.activeElement.tagName"), "BODY")
         self.browser.value("location.reload()")
-        self.browser.until(f"{SETTLED}6")
+        self.browser.until(f"{SETTLED}{len(STATES)}")
         self.assertFalse(self.browser.value("$('single').checked"))
 
     def test_enter_in_the_picture(self) -> None:
@@ -326,7 +326,7 @@ class PictureTest(PageTest):
             self.write(f"plant/{file.name}", file.read_bytes())
         at = self.start("plant")
         self.browser.devtools("Emulation.setDeviceMetricsOverride", width=1360, height=765, deviceScaleFactor=1, mobile=False)
-        self.see(at, 6, "#PLANT/network")
+        self.see(at, len(STATES), "#PLANT/network")
         self.write("plant/PUSHER.fb", "FUNCTION_BLOCK PUSHER\n  EVENT_INPUT PUSH WITH FORCE; END_EVENT\nEND_FUNCTION_BLOCK\n")
         self.browser.until("board.units.get('PUSHER')?.state === 'faulty'")
         self.edit("plant/FEEDER.fb", "LOAD > 0 AND", "LOAD > 1 AND")
@@ -334,7 +334,7 @@ class PictureTest(PageTest):
         self.browser.value("network.choose(network.blocks.find((it) => it.path === 'LINE.SECOND.LIFT'), false)")
         self.browser.until("document.querySelector('.block h3') && !network.planned")
         self.assertEqual(self.words(".block h3"), "LINE.SECOND.LIFT")
-        self.assertEqual(self.words("#counts").split(), "7 units 1 fault in 1 unit 0 pending".split())
+        self.assertEqual(self.words("#counts").split(), "8 units 1 fault in 1 unit 0 pending".split())
         self.assertEqual(self.browser.value("board.changes.map((it) => `${it.unit} ${it.old} ${it.new}`)"), ["PUSHER 0 2", "FEEDER 1 3"])
         if PICTURE:
             self.browser.picture(Path(PICTURE))

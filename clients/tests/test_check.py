@@ -17,7 +17,7 @@ class ConveyorTest(InFolder):
     def test_clean(self):
         self.copy_conveyor()
         ran = self.check()
-        self.assertEqual((ran.returncode, ran.stdout, ran.stderr), (0, "6 units, no faults\n", ""))
+        self.assertEqual((ran.returncode, ran.stdout, ran.stderr), (0, "7 units, no faults\n", ""))
 
     def test_each_break(self):
         for it in BREAKS:
@@ -55,7 +55,7 @@ class ConveyorTest(InFolder):
             "FEEDER.fb:16:13: STATE_UNKNOWN: no state MOVE in this chart; did you mean MOVING?\n"
             "      IDLE TO MOVE := START;\n"
             "              ^~~~\n"
-            "1 fault in 1 of 6 units\n"
+            "1 fault in 1 of 7 units\n"
         )
         self.assertEqual(ran.stdout, expected)
 

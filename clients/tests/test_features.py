@@ -65,7 +65,7 @@ class NavigationTest(ConveyorTest):
         self.assertEqual(self.definition("STATION", "LIFT.TOTAL", 5), ["LIFTER.fb:6: VAR_OUTPUT |TOTAL| : INT; END_VAR"])
         self.assertEqual(self.definition("STATION", "LIFT.TOTAL"), ["STATION.fb:9: |LIFT| : LIFTER;"])
         self.assertEqual(self.definition("FEEDER", "MOVING TO"), ["FEEDER.fb:11: |MOVING| : WEIGH;"])
-        self.assertEqual(self.definition("FEEDER", "TALLY ->"), ["FEEDER.fb:29: ALGORITHM |TALLY| IN ST: COUNT := COUNT + 1; END_ALGORITHM"])
+        self.assertEqual(self.definition("FEEDER", "TALLY ->"), ["FEEDER.fb:32: ALGORITHM |TALLY| IN ST: COUNT := COUNT + 1; END_ALGORITHM"])
         self.assertEqual(self.definition("FEEDER", "NEXT.TAKEN", 5), ["HANDOVER.fb:4: EVENT_INPUT |TAKEN|; END_EVENT"])
         self.assertEqual(self.definition("FEEDER", "LAST[COUNT", 5), ["FEEDER.fb:6: VAR_OUTPUT |COUNT| : UINT := 0; END_VAR"])
         self.assertEqual(self.definition("PLANT", "SOUTH.SCREEN", 6), ["PLANT.fb:18: RESOURCE |SCREEN| : EMBEDDED END_RESOURCE"])
@@ -92,7 +92,7 @@ class NavigationTest(ConveyorTest):
         expected = [
             "FEEDER.fb:12: OFFERING : OFFER -> |NEXT|.OFFER;",
             "FEEDER.fb:18: OFFERING TO DONE := |NEXT|.TAKEN;",
-            "FEEDER.fb:27: |NEXT|.WEIGHT := LOAD;",
+            "FEEDER.fb:30: |NEXT|.PIECE := PIECE;",
             "STATION.fb:21: ADAPTER_CONNECTIONS BELT.|NEXT| TO LIFT.BEFORE; END_CONNECTIONS",
         ]
         self.assertEqual(self.shown(found), expected)
@@ -100,12 +100,19 @@ class NavigationTest(ConveyorTest):
     def test_uses_in_units_that_are_not_open(self):
         found = self.ask("references", "STATION", "FEEDER(", context={"includeDeclaration": False})
         self.assertEqual(self.shown(found), ["STATION.fb:8: BELT : |FEEDER|(LIMIT := 80);"])
-        found = self.ask("references", "FEEDER", "NEXT.WEIGHT", 5, context={"includeDeclaration": True})
+        found = self.ask("references", "FEEDER", "NEXT.PIECE", 5, context={"includeDeclaration": True})
         expected = [
-            "HANDOVER.fb:5: VAR_OUTPUT |WEIGHT| : INT; END_VAR",
-            "FEEDER.fb:27: NEXT.|WEIGHT| := LOAD;",
-            "HANDOVER.fb:3: EVENT_OUTPUT OFFER WITH |WEIGHT|; END_EVENT",
-            "LIFTER.fb:17: ALGORITHM LIFT IN ST: TOTAL := TOTAL + BEFORE.|WEIGHT| * FACTOR; END_ALGORITHM",
+            "HANDOVER.fb:5: VAR_OUTPUT |PIECE| : ITEM; END_VAR",
+            "FEEDER.fb:30: NEXT.|PIECE| := PIECE;",
+            "HANDOVER.fb:3: EVENT_OUTPUT OFFER WITH |PIECE|; END_EVENT",
+            "LIFTER.fb:19: HELD := BEFORE.|PIECE|;",
+        ]
+        self.assertEqual(self.shown(found), expected)
+        found = self.ask("references", "FEEDER", "PIECE.WEIGHT", 6, context={"includeDeclaration": True})
+        expected = [
+            "ITEM.fb:4: |WEIGHT| : INT;",
+            "FEEDER.fb:27: PIECE.|WEIGHT| := LOAD;",
+            "LIFTER.fb:20: IF HELD.LANE = 1 THEN TOTAL := TOTAL + HELD.|WEIGHT| * FACTOR; END_IF;",
         ]
         self.assertEqual(self.shown(found), expected)
 
@@ -153,14 +160,14 @@ PLANT (SYSTEM) 3 2-25
 
     def test_a_block(self):
         found = list(self.lines(self.server.ask("documentSymbol", self.file("FEEDER"))))
-        self.assertEqual(found[:3], ["FEEDER (FUNCTION_BLOCK) 5 2-30", "  START (EVENT_INPUT) 24 3-3", "  SEEN (EVENT_INPUT) 24 3-3"])
-        algorithms = ["  WEIGH (ALGORITHM : ST) 6 21-24", "  OFFER (ALGORITHM : ST) 6 25-28", "  TALLY (ALGORITHM : ST) 6 29-29"]
+        self.assertEqual(found[:3], ["FEEDER (FUNCTION_BLOCK) 5 2-33", "  START (EVENT_INPUT) 24 3-3", "  SEEN (EVENT_INPUT) 24 3-3"])
+        algorithms = ["  WEIGH (ALGORITHM : ST) 6 21-24", "  OFFER (ALGORITHM : ST) 6 25-31", "  TALLY (ALGORITHM : ST) 6 32-32"]
         self.assertEqual(found[-4:], ["  DONE (EC_STATES) 22 13-13", *algorithms])
 
     def test_units(self):
         self.assertEqual(self.units("fe"), ["FEEDER", "LIFTER"])
         self.assertEqual(self.units("lt"), ["LIFTER", "PLANT"])
-        self.assertEqual(self.units(""), ["FEEDER", "HANDOVER", "LAMP", "LIFTER", "PLANT", "STATION"])
+        self.assertEqual(self.units(""), ["FEEDER", "HANDOVER", "ITEM", "LAMP", "LIFTER", "PLANT", "STATION"])
         self.assertEqual(self.units("nothing"), [])
 
     def units(self, query):
@@ -169,6 +176,16 @@ PLANT (SYSTEM) 3 2-25
     def test_folding(self):
         found = self.server.ask("foldingRange", self.file("STATION"))
         self.assertEqual([(it["startLine"], it["endLine"]) for it in found], [(1, 20), (6, 8), (10, 14), (16, 18)])
+
+
+ITEM = """
+
+TYPE ITEM
+What is known of a piece: its number, its weight, and the lane that it goes to.
+  STRUCT
+    NUMBER : UINT
+    WEIGHT : INT
+    LANE : USINT := 1"""
 
 
 class HoverTest(ConveyorTest):
@@ -184,9 +201,9 @@ How one machine hands a piece to the next. Read from the side of the machine tha
   EVENT_INPUT
     TAKEN
   EVENT_OUTPUT
-    OFFER WITH WEIGHT
+    OFFER WITH PIECE
   VAR_OUTPUT
-    WEIGHT : INT"""
+    PIECE : ITEM"""
         self.assertEqual(self.hover("FEEDER", "HANDOVER"), expected)
 
     def test_names(self):
@@ -194,7 +211,7 @@ How one machine hands a piece to the next. Read from the side of the machine tha
         self.assertEqual(self.hover("STATION", "LIMIT"), "data input of FEEDER: LIMIT : INT := 50")
         self.assertEqual(self.hover("FEEDER", "DONE :="), "state of FEEDER: DONE : TALLY -> MOVED")
         self.assertEqual(self.hover("FEEDER", "TALLY"), "algorithm of FEEDER: TALLY IN ST")
-        self.assertEqual(self.hover("FEEDER", "LAST["), "internal variable of FEEDER: LAST : ARRAY [0..2] OF INT := [0, 0, 0]")
+        self.assertEqual(self.hover("FEEDER", "LAST["), "internal variable of FEEDER: LAST : ARRAY [0..2] OF ITEM" + ITEM)
         self.assertEqual(self.hover("PLANT", "SOUTH.SCREEN", 7), "resource of SOUTH: SCREEN : EMBEDDED")
         self.assertEqual(self.hover("PLANT", "ON NORTH", 3), "device of PLANT: NORTH : CONTROLLER")
         self.assertEqual(self.hover("STATION", "LIFT.STOP").split("\n")[:2], ["block instance of STATION: LIFT : LIFTER", ""])

@@ -70,4 +70,10 @@ impl Class {
     }
 }
 
+/// Whether a value's type of this name never stands for a unit.
+pub fn is_elementary(name: &str) -> bool {
+    const OTHERS: &str = "REAL LREAL TIME DATE TOD TIME_OF_DAY DT DATE_AND_TIME STRING WSTRING";
+    Class::of_type(name) != Class::Other || OTHERS.split(' ').any(|other| other.eq_ignore_ascii_case(name))
+}
+
 const INTEGERS: [&str; 8] = ["SINT", "INT", "DINT", "LINT", "USINT", "UINT", "UDINT", "ULINT"];

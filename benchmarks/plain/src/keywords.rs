@@ -20,6 +20,7 @@ keywords! {
     Adapter b"ADAPTER" EndAdapter b"END_ADAPTER"
     Subapplication b"SUBAPPLICATION" EndSubapplication b"END_SUBAPPLICATION"
     System b"SYSTEM" EndSystem b"END_SYSTEM"
+    Type b"TYPE" EndType b"END_TYPE" Struct b"STRUCT" EndStruct b"END_STRUCT"
     Application b"APPLICATION" EndApplication b"END_APPLICATION"
     Device b"DEVICE" EndDevice b"END_DEVICE"
     Resource b"RESOURCE" EndResource b"END_RESOURCE"

@@ -4,7 +4,8 @@ mod values;
 
 use crate::faults::Fault;
 use crate::history::{Answer, Asked, Call, Change, History};
-use crate::library::{Held, Library, Source};
+use crate::index::Index;
+use crate::library::{Held, Library, Mentions, Source};
 use crate::names::{Names, Symbol};
 use crate::nets::Net;
 use crate::plans::Plan;
@@ -109,8 +110,7 @@ pub struct Workbench {
     library: Library,
     commits: u64,
     entries: HashMap<Key, Entry>,
-    /// For each name, the units that mention it.
-    users: HashMap<Symbol, HashSet<Symbol>>,
+    index: Index,
     /// The keys that are pending and not handed out, by kind and then by name.
     ready: BTreeSet<(Kind, Rc<str>, Symbol)>,
     history: History,
@@ -124,7 +124,7 @@ impl Workbench {
             library: Library::default(),
             commits: 0,
             entries: HashMap::new(),
-            users: HashMap::new(),
+            index: Index::default(),
             ready: BTreeSet::new(),
             history: History::new(most_calls),
         }
@@ -212,48 +212,29 @@ impl Workbench {
         }
     }
 
-    /// The keys of other units that the texts of these decide: faults of those that mention them, nets and plans of all that rest on them.
+    /// The keys that the texts of these units decide: faults of those that they are near to, nets and plans of all that rest on them.
     fn reached(&self, units: &[Symbol]) -> Vec<Key> {
-        let mut seen: HashSet<Symbol> = units.iter().copied().collect();
-        let mut found = units.to_vec();
-        let mut keys = Vec::new();
-        let mut at = 0;
-        while let Some(name) = found.get(at) {
-            for unit in self.users.get(name).into_iter().flatten().copied() {
-                if at < units.len() {
-                    let kind = Kind::Faults;
-                    keys.push(Key { kind, unit });
-                }
-                if seen.insert(unit) {
-                    keys.extend([Kind::Net, Kind::Deploy].map(|kind| Key { kind, unit }));
-                    found.push(unit);
-                }
-            }
-            at += 1;
-        }
+        let key = |kind| move |unit| Key { kind, unit };
+        let near = self.index.near(units, &self.library);
+        let far = self.index.far(units);
+        let mut keys: Vec<Key> = near.into_iter().map(key(Kind::Faults)).collect();
+        keys.extend(far.iter().copied().map(key(Kind::Net)));
+        keys.extend(far.into_iter().map(key(Kind::Deploy)));
         keys
     }
 
     fn put(&mut self, edit: Edit) {
         let unit = edit.unit;
-        let old: Box<[Symbol]> = self.library.mentions(unit).into();
+        let old = self.library.get(unit).map(|held| held.source.clone());
         let revision = self.commits;
         match edit.source {
             Some(source) => self.library.put(unit, Held { revision, source }),
             None => self.library.remove(unit),
         }
-        let new = self.library.mentions(unit);
-        if *old == *new {
-            return;
-        }
-        for name in old {
-            if let Some(users) = self.users.get_mut(&name) {
-                users.remove(&unit);
-            }
-        }
-        for name in new {
-            self.users.entry(*name).or_default().insert(unit);
-        }
+        let nothing = Mentions::default();
+        let old = old.as_ref().map_or(&nothing, |source| &source.mentions);
+        let new = self.library.get(unit).map_or(&nothing, |held| &held.source.mentions);
+        self.index.replace(unit, old, new);
     }
 
     fn has_key(&self, key: Key) -> bool {

@@ -5,6 +5,7 @@ mod faults;
 // Nothing reads the records: they are kept because bench61499 keeps its own.
 #[allow(dead_code)]
 mod history;
+mod index;
 mod json;
 mod keywords;
 mod library;

@@ -17,6 +17,7 @@ pub enum UnitKind {
     Adapter,
     Subapplication,
     System,
+    Structure,
 }
 
 /// From each name to the place of its first declaration.
@@ -44,6 +45,7 @@ pub struct Unit {
 #[derive(Default)]
 pub struct Interface {
     pub events: Vec<Event>,
+    /// Those of a structure are its fields.
     pub variables: Vec<Variable>,
     pub initial_values: Vec<(Type, Constant)>,
     event_places: Places,
@@ -95,6 +97,10 @@ pub struct Type {
     pub class: Class,
     /// The class of the elements of an array.
     pub element: Option<Class>,
+    /// A length stands behind the name.
+    pub has_length: bool,
+    /// The name in it, unless that is elementary.
+    pub mentioned: Option<Symbol>,
     /// Its tokens in upper case: types that are spelled alike are the same.
     pub spelling: Symbol,
 }
@@ -251,10 +257,19 @@ pub enum Statement {
 }
 
 pub struct Reference {
-    pub names: End,
+    pub name: Name,
+    /// Those behind the first name.
     pub subscripts: Vec<Expression>,
-    /// Where the subscripts end, or the names without any.
+    /// The further names.
+    pub members: Box<[Member]>,
+    /// Where the last name ends, or the subscripts behind it.
     pub end: u32,
+}
+
+/// A further name of a reference, with the subscripts behind it.
+pub struct Member {
+    pub name: Name,
+    pub subscripts: Box<[Expression]>,
 }
 
 pub enum Expression {
@@ -290,7 +305,7 @@ impl Expression {
         match self {
             Expression::Literal(literal) => literal.span,
             Expression::Reference(reference) => Span {
-                start: reference.names.span.start,
+                start: reference.name.span.start,
                 end: reference.end,
             },
             Expression::Unary { at, operand, .. } => at.through(operand.span()),
@@ -330,11 +345,16 @@ pub struct Mapping {
 }
 
 impl Unit {
-    /// The types that it mentions, in any order and perhaps more than once.
-    pub fn mentions(&self) -> impl Iterator<Item = Symbol> + '_ {
+    /// The types of its instances, plugs and sockets, in any order and perhaps more than once.
+    pub fn parts(&self) -> impl Iterator<Item = Symbol> + '_ {
         let applications = self.system.applications.iter().map(|a| &a.network);
         std::iter::once(&self.network)
             .chain(applications)
             .flat_map(|network| network.instances.iter().map(|i| i.type_name.symbol))
+    }
+
+    /// The types of its variables or fields but for elementary ones, in any order and perhaps more than once.
+    pub fn values(&self) -> impl Iterator<Item = Symbol> + '_ {
+        self.interface.variables.iter().filter_map(|variable| variable.type_use.mentioned)
     }
 }

@@ -15,6 +15,9 @@ impl Judge<'_> {
         if unit.kind == UnitKind::Block && unit.chart.is_written && unit.network.is_written {
             self.report(Code::MixedKind, unit.name.span);
         }
+        if unit.kind == UnitKind::Structure && self.library.carries(name, name) {
+            self.report(Code::StructRecursive, unit.name.span);
+        }
         self.duplicates(unit.interface.events.iter().map(|event| event.name));
         self.duplicates(unit.interface.variables.iter().map(|variable| variable.name));
         self.duplicates(unit.chart.states.iter().map(|state| state.name));
@@ -70,7 +73,7 @@ impl Judge<'_> {
         self.duplicates(system.applications.iter().map(|application| application.name));
         self.duplicates(system.devices.iter().map(|device| device.name));
         for application in &system.applications {
-            let types = usable_types(&application.network, self.find);
+            let types = usable_types(&application.network, self.library);
             self.network(&application.network, &types);
         }
         for device in &system.devices {

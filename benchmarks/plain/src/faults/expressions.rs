@@ -1,9 +1,10 @@
 //! Variables and classes of expressions and statements.
 
-use super::{Code, Judge, Member};
+use super::{Code, Judge, Sought};
 use crate::classes::Class;
+use crate::names::Symbol;
 use crate::tokens::Span;
-use crate::tree::{Expression, Name, Operator, Reference, Role, Statement, Variable};
+use crate::tree::{Expression, Member, Name, Operator, Reference, Statement, Type, UnitKind, Variable};
 
 // ---- statements
 
@@ -122,38 +123,101 @@ impl<'a> Judge<'a> {
             None => Class::Free,
         }
     }
+}
 
-    /// The class of a reference, whose faults and those of its subscripts are reported.
-    fn reference(&mut self, reference: &Reference) -> Class {
-        for subscript in &reference.subscripts {
-            self.whole_number(subscript);
-        }
-        let variable = match self.variable(reference) {
-            Member::Unjudged => return Class::Free,
-            Member::Unknown => {
-                self.report(Code::VariableUnknown, reference.names.span);
-                return Class::Free;
-            }
-            Member::Found(_, variable) => variable,
-        };
-        let type_use = variable.type_use;
-        if reference.subscripts.is_empty() {
-            type_use.class
-        } else {
-            type_use.element.unwrap_or(Class::Other)
+// ---- references
+
+/// A type that names of a reference have led to.
+#[derive(Clone, Copy)]
+struct Place {
+    type_use: Type,
+    /// Subscripts stand behind the name.
+    is_subscripted: bool,
+}
+
+impl Place {
+    fn new(variable: &Variable, subscripts: &[Expression]) -> Place {
+        Place {
+            type_use: variable.type_use,
+            is_subscripted: !subscripts.is_empty(),
         }
     }
 
-    fn variable(&self, reference: &Reference) -> Member<&'a Variable> {
-        let names = reference.names;
-        if let Some(name) = names.second {
-            return self.member_variable(names.first, name);
+    fn class(self) -> Class {
+        if self.is_subscripted {
+            self.type_use.element.unwrap_or(Class::Other)
+        } else {
+            self.type_use.class
         }
-        match self.unit.interface.variable(names.first) {
-            None => Member::Unknown,
-            // The role of an own variable is of no use.
-            Some(variable) => Member::Found(Role::Block, variable),
+    }
+}
+
+impl<'a> Judge<'a> {
+    /// The class of a reference, whose faults and those of its subscripts are reported.
+    fn reference(&mut self, reference: &Reference) -> Class {
+        self.all_subscripts(reference);
+        let Some((mut place, members)) = self.beginning(reference) else {
+            return Class::Free;
+        };
+        for member in members {
+            match self.field(place, member.name.symbol) {
+                Sought::Found(variable) => place = Place::new(variable, &member.subscripts),
+                Sought::Unjudged => return Class::Free,
+                Sought::Unknown => {
+                    self.report(Code::MemberUnknown, member.name.span);
+                    return Class::Free;
+                }
+            }
         }
+        place.class()
+    }
+
+    fn all_subscripts(&mut self, reference: &Reference) {
+        let further = reference.members.iter().flat_map(|member| &member.subscripts);
+        for subscript in reference.subscripts.iter().chain(further) {
+            self.whole_number(subscript);
+        }
+    }
+
+    /// What a reference begins with and the names that follow it, or none where that is unknown, which is reported, or not judged.
+    fn beginning<'r>(&mut self, reference: &'r Reference) -> Option<(Place, &'r [Member])> {
+        let first = reference.name;
+        let second = reference.members.first().filter(|_| reference.subscripts.is_empty());
+        let port = second.filter(|_| self.adapter(first.symbol).is_some());
+        let variable = match port {
+            Some(port) => self.port_variable(first.symbol, port.name.symbol),
+            None => self.unit.interface.variable(first.symbol).into(),
+        };
+        match (variable, port) {
+            (Sought::Found(variable), Some(port)) => Some((Place::new(variable, &port.subscripts), &reference.members[1..])),
+            (Sought::Found(variable), None) => Some((Place::new(variable, &reference.subscripts), &reference.members)),
+            (Sought::Unjudged, _) => None,
+            (Sought::Unknown, _) => {
+                let last = second.map_or(first.span, |second| second.name.span);
+                self.report(Code::VariableUnknown, first.span.through(last));
+                None
+            }
+        }
+    }
+
+    /// The field of this name of what stands before it.
+    fn field(&self, place: Place, name: Symbol) -> Sought<&'a Variable> {
+        let Type { class, element, .. } = place.type_use;
+        let (class, is_plain) = match element {
+            Some(class) => (class, place.is_subscripted),
+            None => (class, !place.type_use.has_length),
+        };
+        if is_plain && class == Class::Free {
+            return Sought::Unjudged;
+        }
+        let Some(mentioned) = place.type_use.mentioned.filter(|_| is_plain) else {
+            return Sought::Unknown;
+        };
+        let Some(unit) = self.library.unit(mentioned) else {
+            return Sought::Unjudged;
+        };
+        let has_fields = unit.kind == UnitKind::Structure && (element.is_some() || !place.is_subscripted);
+        unit.interface.variable(name).filter(|_| has_fields).into()
     }
 }
 

@@ -1,10 +1,11 @@
-//! The faults of a unit, by its text and those of the types that it mentions.
+//! The faults of a unit, by its text and those of the units near it.
 
 mod charts;
 mod declarations;
 mod expressions;
 mod networks;
 
+use crate::library::{Library, Source};
 use crate::names::Symbol;
 use crate::tokens::Span;
 use crate::tree::{End, Event, Network, Role, Side, Unit, UnitKind, Variable};
@@ -33,6 +34,8 @@ pub enum Code {
     Literal,
     MappedTwice,
     NoSuchResource,
+    MemberUnknown,
+    StructRecursive,
 }
 
 impl Code {
@@ -60,6 +63,8 @@ impl Code {
             Code::Literal => "LITERAL",
             Code::MappedTwice => "MAPPED_TWICE",
             Code::NoSuchResource => "NO_SUCH_RESOURCE",
+            Code::MemberUnknown => "MEMBER_UNKNOWN",
+            Code::StructRecursive => "STRUCT_RECURSIVE",
         }
     }
 }
@@ -74,12 +79,9 @@ pub struct Fault {
 /// What reading a text gave.
 pub type Body = Result<Unit, Span>;
 
-/// How the bodies of mentioned types are found.
-pub type Find<'a> = &'a dyn Fn(Symbol) -> Option<&'a Body>;
-
 /// All faults of the unit of this name, in order, each once.
-pub fn faults<'a>(name: Symbol, body: &'a Body, find: Find<'a>) -> Vec<Fault> {
-    let unit = match body {
+pub fn faults(name: Symbol, source: &Source, library: &Library) -> Vec<Fault> {
+    let unit = match &source.body {
         Ok(unit) => unit,
         Err(span) => {
             let code = Code::Syntax;
@@ -88,8 +90,8 @@ pub fn faults<'a>(name: Symbol, body: &'a Body, find: Find<'a>) -> Vec<Fault> {
     };
     let mut judge = Judge {
         unit,
-        find,
-        types: usable_types(&unit.network, find),
+        library,
+        types: usable_types(&unit.network, library),
         faults: Vec::new(),
     };
     judge.unit(name);
@@ -100,9 +102,9 @@ pub fn faults<'a>(name: Symbol, body: &'a Body, find: Find<'a>) -> Vec<Fault> {
 }
 
 /// For each instance its type, where that is usable: present, not broken and of the wanted kind.
-fn usable_types<'a>(network: &Network, find: Find<'a>) -> Vec<Option<&'a Unit>> {
+fn usable_types<'a>(network: &Network, library: &'a Library) -> Vec<Option<&'a Unit>> {
     let types = network.instances.iter().map(|instance| {
-        let unit = find(instance.type_name.symbol)?.as_ref().ok()?;
+        let unit = library.unit(instance.type_name.symbol)?;
         (unit.kind == instance.role.wanted()).then_some(unit)
     });
     types.collect()
@@ -110,19 +112,24 @@ fn usable_types<'a>(network: &Network, find: Find<'a>) -> Vec<Option<&'a Unit>> 
 
 struct Judge<'a> {
     unit: &'a Unit,
-    find: Find<'a>,
+    library: &'a Library,
     /// The usable types of the unit's own instances.
     types: Vec<Option<&'a Unit>>,
     faults: Vec<Fault>,
 }
 
-/// What `p.X` stands for, p an own plug or socket.
-enum Member<T> {
-    /// The type of p is not usable, so X is not judged.
+/// What a name stands for that is sought in a type.
+enum Sought<T> {
+    /// The type is not usable, so the name is not judged.
     Unjudged,
-    /// There is no such p, or no such X.
     Unknown,
-    Found(Role, T),
+    Found(T),
+}
+
+impl<T> From<Option<T>> for Sought<T> {
+    fn from(found: Option<T>) -> Sought<T> {
+        found.map_or(Sought::Unknown, Sought::Found)
+    }
 }
 
 impl<'a> Judge<'a> {
@@ -153,23 +160,21 @@ impl<'a> Judge<'a> {
         role.is_adapter().then(|| (role, self.types[place]))
     }
 
-    fn member<T>(&self, plug: Symbol, find: impl Fn(&'a Unit) -> Option<T>) -> Member<T> {
+    /// What `p.X` stands for, p an own plug or socket.
+    fn port<T>(&self, plug: Symbol, find: impl Fn(Role, &'a Unit) -> Option<T>) -> Sought<T> {
         match self.adapter(plug) {
-            None => Member::Unknown,
-            Some((_, None)) => Member::Unjudged,
-            Some((role, Some(unit))) => match find(unit) {
-                None => Member::Unknown,
-                Some(found) => Member::Found(role, found),
-            },
+            None => Sought::Unknown,
+            Some((_, None)) => Sought::Unjudged,
+            Some((role, Some(unit))) => find(role, unit).into(),
         }
     }
 
-    fn member_variable(&self, plug: Symbol, name: Symbol) -> Member<&'a Variable> {
-        self.member(plug, |unit| unit.interface.variable(name))
+    fn port_variable(&self, plug: Symbol, name: Symbol) -> Sought<&'a Variable> {
+        self.port(plug, |_, unit| unit.interface.variable(name))
     }
 
-    fn member_event(&self, plug: Symbol, name: Symbol) -> Member<&'a Event> {
-        self.member(plug, |unit| unit.interface.event(name))
+    fn port_event(&self, plug: Symbol, name: Symbol) -> Sought<(Role, &'a Event)> {
+        self.port(plug, |role, unit| Some((role, unit.interface.event(name)?)))
     }
 
     /// Whether an end is an event of this side, or is not judged. Seen from the unit, the sides of a socket's type are turned round.
@@ -177,11 +182,11 @@ impl<'a> Judge<'a> {
         let Some(name) = end.second else {
             return self.unit.interface.event(end.first).is_some_and(|event| event.side == side);
         };
-        match self.member_event(end.first, name) {
-            Member::Unjudged => true,
-            Member::Unknown => false,
-            Member::Found(Role::Plug, event) => event.side == side,
-            Member::Found(_, event) => event.side != side,
+        match self.port_event(end.first, name) {
+            Sought::Unjudged => true,
+            Sought::Unknown => false,
+            Sought::Found((Role::Plug, event)) => event.side == side,
+            Sought::Found((_, event)) => event.side != side,
         }
     }
 }

@@ -55,8 +55,7 @@ impl<'a> Judge<'a> {
     fn instance(&mut self, instance: &Instance, unit: Option<&'a Unit>) {
         self.duplicates(instance.parameters.iter().map(|(name, _)| *name));
         let Some(unit) = unit else {
-            let found = (self.find)(instance.type_name.symbol);
-            let is_read = found.is_some_and(|body| body.is_ok());
+            let is_read = self.library.unit(instance.type_name.symbol).is_some();
             let code = if is_read { Code::WrongKind } else { Code::UnknownType };
             self.report(code, instance.type_name.span);
             return;

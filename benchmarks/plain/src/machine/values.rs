@@ -2,9 +2,11 @@
 
 use super::{Key, Kind, Value, Workbench};
 use crate::faults::{faults, Fault};
+use crate::library::Library;
 use crate::names::Symbol;
 use crate::nets::{inner_first, recursive, Composer, Flat, Net};
 use crate::plans::{plan, Plan};
+use std::collections::HashSet;
 use std::rc::Rc;
 
 impl Workbench {
@@ -32,8 +34,8 @@ impl Workbench {
         if let Some(Value::Faults(known)) = self.known(kind, unit) {
             return known.clone();
         }
-        let find = |name: Symbol| self.library.get(name).map(|held| &held.source.body);
-        let found: Rc<[Fault]> = find(unit).map_or_else(Vec::new, |body| faults(unit, body, &find)).into();
+        let held = self.library.get(unit);
+        let found: Rc<[Fault]> = held.map_or_else(Vec::new, |held| faults(unit, &held.source, &self.library)).into();
         self.keep(Key { kind, unit }, Value::Faults(found.clone()));
         found
     }
@@ -59,9 +61,12 @@ impl Workbench {
     }
 
     fn new_net(&mut self, unit: Symbol) -> Net {
-        let order = inner_first(unit, &self.library, &|name| self.inner(name).is_some());
+        let is_known = |name| self.inner(name).is_some();
+        let rest = self.library.far_but(unit, is_known);
+        let order = inner_first(&rest, &self.library, is_known);
         match order {
-            Some(order) if !order.iter().any(|name| self.is_blocking(*name)) => self.composed_in_order(unit, order),
+            // A unit of which a part is absent has faults itself.
+            Some(order) if !rest.iter().any(|name| self.has_faults(*name)) => self.composed_in_order(unit, order),
             _ => self.hindered(unit),
         }
     }
@@ -70,7 +75,13 @@ impl Workbench {
     fn hindered(&mut self, unit: Symbol) -> Net {
         let kind = Kind::Net;
         let needs = self.needs(Key { kind, unit });
-        let blocked: Vec<Symbol> = needs.iter().copied().filter(|name| self.is_blocking(*name)).collect();
+        let parts: HashSet<Symbol> = needs.iter().flat_map(|name| self.library.parts(*name)).copied().collect();
+        let is_absent = |name, library: &Library| parts.contains(&name) && library.get(name).is_none();
+        let blocked: Vec<Symbol> = needs
+            .iter()
+            .copied()
+            .filter(|name| is_absent(*name, &self.library) || self.has_faults(*name))
+            .collect();
         if blocked.is_empty() {
             Net::Recursive(recursive(&needs, &self.library))
         } else {
@@ -78,10 +89,10 @@ impl Workbench {
         }
     }
 
-    /// Composes the inner nets that are not known, and the net of the unit, which comes last.
+    /// Composes the inner nets that are not known, and the net of the unit, which comes behind them.
     fn composed_in_order(&mut self, unit: Symbol, order: Vec<Symbol>) -> Net {
         let kind = Kind::Net;
-        for inner in order.into_iter().filter(|inner| *inner != unit) {
+        for inner in order.into_iter().take_while(|inner| *inner != unit) {
             let key = Key { kind, unit: inner };
             if self.has_key(key) {
                 let net = Rc::new(self.composed(inner));
@@ -91,9 +102,8 @@ impl Workbench {
         self.composed(unit)
     }
 
-    /// The unit is absent or has faults.
-    fn is_blocking(&mut self, unit: Symbol) -> bool {
-        self.library.get(unit).is_none() || !self.faults(unit).is_empty()
+    fn has_faults(&mut self, unit: Symbol) -> bool {
+        !self.faults(unit).is_empty()
     }
 
     /// The net of a unit whose inner nets are known.

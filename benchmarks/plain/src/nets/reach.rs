@@ -4,7 +4,7 @@ use crate::library::Library;
 use crate::names::Symbol;
 use std::collections::{HashMap, HashSet};
 
-/// Those of the names that reach themselves by one or more mentions.
+/// Those of the names that reach themselves by parts.
 pub fn recursive(names: &[Symbol], library: &Library) -> Vec<Symbol> {
     names.iter().copied().filter(|name| reaches_itself(*name, library)).collect()
 }
@@ -13,7 +13,7 @@ fn reaches_itself(name: Symbol, library: &Library) -> bool {
     let mut seen = HashSet::new();
     let mut left = vec![name];
     while let Some(next) = left.pop() {
-        left.extend(library.mentions(next).iter().filter(|mentioned| seen.insert(**mentioned)));
+        left.extend(library.parts(next).iter().filter(|part| seen.insert(**part)));
     }
     seen.contains(&name)
 }
@@ -23,12 +23,12 @@ enum Step {
     Leave(Symbol),
 }
 
-/// The unit and what it rests on, each after all that it mentions, or none where one of them reaches itself. Names that are done are passed
-/// over with all that they rest on, of which none reaches itself.
-pub fn inner_first(unit: Symbol, library: &Library, is_done: &dyn Fn(Symbol) -> bool) -> Option<Vec<Symbol>> {
+/// The units and what they reach by parts, each after all of its parts, or none where one of them reaches itself. What the first unit reaches
+/// comes first, up to that unit. Names that are done are passed over with all that they rest on, of which none reaches itself.
+pub fn inner_first(units: &[Symbol], library: &Library, is_done: impl Fn(Symbol) -> bool) -> Option<Vec<Symbol>> {
     let mut found = Vec::new();
     let mut was_left = HashMap::new();
-    let mut steps = vec![Step::Enter(unit)];
+    let mut steps: Vec<Step> = units.iter().rev().copied().map(Step::Enter).collect();
     while let Some(step) = steps.pop() {
         match step {
             Step::Leave(name) => {
@@ -42,7 +42,7 @@ pub fn inner_first(unit: Symbol, library: &Library, is_done: &dyn Fn(Symbol) -> 
                 None => {
                     was_left.insert(name, false);
                     steps.push(Step::Leave(name));
-                    steps.extend(library.mentions(name).iter().copied().map(Step::Enter));
+                    steps.extend(library.parts(name).iter().copied().map(Step::Enter));
                 }
             },
         }

@@ -161,6 +161,7 @@ impl Parser<'_> {
             Some(Kind::Reserved(Keyword::Adapter)) => (UnitKind::Adapter, Keyword::EndAdapter),
             Some(Kind::Reserved(Keyword::Subapplication)) => (UnitKind::Subapplication, Keyword::EndSubapplication),
             Some(Kind::Reserved(Keyword::System)) => (UnitKind::System, Keyword::EndSystem),
+            Some(Kind::Reserved(Keyword::Type)) => (UnitKind::Structure, Keyword::EndType),
             _ => return self.fail(),
         };
         self.take();
@@ -172,7 +173,11 @@ impl Parser<'_> {
             chart: Chart::default(),
             system: System::default(),
         };
-        while self.section(&mut unit)? {}
+        if kind == UnitKind::Structure {
+            self.fields(&mut unit.interface)?;
+        } else {
+            while self.section(&mut unit)? {}
+        }
         self.need_word(last)?;
         if self.kind().is_some() {
             return self.fail();
@@ -192,6 +197,7 @@ impl Parser<'_> {
             UnitKind::Adapter => Ok(self.port_section(word, &mut unit.interface)? || self.service(word)?),
             UnitKind::Subapplication => Ok(self.block_section(word, unit)? || self.subapplications(word, &mut unit.network)?),
             UnitKind::System => self.system_section(word, &mut unit.system),
+            UnitKind::Structure => Ok(false),
         }
     }
 

@@ -1,8 +1,9 @@
 //! Sections of interfaces and networks.
 
 use super::{Parsed, Parser};
-use crate::classes::Class;
+use crate::classes::{is_elementary, Class};
 use crate::keywords::{Keyword, Sign};
+use crate::names::Symbol;
 use crate::tokens::{Kind, Span};
 use crate::tree::{Connection, Constant, Event, Instance, Interface, Name, Network, Role, Side, Simple, Sort, Type, Variable};
 
@@ -56,8 +57,24 @@ impl Parser<'_> {
         Ok(names)
     }
 
+    /// The fields of a structure, behind its name.
+    pub(super) fn fields(&mut self, interface: &mut Interface) -> Parsed<()> {
+        self.need_sign(Sign::Colon)?;
+        self.need_word(Keyword::Struct)?;
+        self.declarations(Side::Internal, interface)?;
+        self.need_word(Keyword::EndStruct)?;
+        self.eat_sign(Sign::Semicolon);
+        Ok(())
+    }
+
     fn variables(&mut self, side: Side, interface: &mut Interface) -> Parsed<()> {
         self.take();
+        self.declarations(side, interface)?;
+        self.need_word(Keyword::EndVar)?;
+        Ok(())
+    }
+
+    fn declarations(&mut self, side: Side, interface: &mut Interface) -> Parsed<()> {
         while self.is_name() {
             let names = self.name_list()?;
             self.need_sign(Sign::Colon)?;
@@ -69,7 +86,6 @@ impl Parser<'_> {
             let declared = names.into_iter().map(|name| Variable { side, name, type_use });
             interface.variables.extend(declared);
         }
-        self.need_word(Keyword::EndVar)?;
         Ok(())
     }
 
@@ -79,16 +95,21 @@ impl Parser<'_> {
             return self.array(first);
         }
         let name = self.name()?;
-        if !self.eat_sign(Sign::OpenBracket) {
-            return Ok(Type {
-                class: Class::of_type(name.span.of(self.text)),
-                element: None,
-                spelling: name.symbol,
-            });
+        let mut type_use = Type {
+            class: Class::of_type(name.span.of(self.text)),
+            element: None,
+            has_length: false,
+            mentioned: self.mentioned(name),
+            spelling: name.symbol,
+        };
+        if self.eat_sign(Sign::OpenBracket) {
+            self.need(Kind::Number)?;
+            self.need_sign(Sign::CloseBracket)?;
+            type_use.class = Class::Other;
+            type_use.has_length = true;
+            type_use.spelling = self.spelling(first);
         }
-        self.need(Kind::Number)?;
-        self.need_sign(Sign::CloseBracket)?;
-        Ok(self.spelled_type(first, None))
+        Ok(type_use)
     }
 
     fn array(&mut self, first: usize) -> Parsed<Type> {
@@ -99,20 +120,25 @@ impl Parser<'_> {
         }
         self.need_sign(Sign::CloseBracket)?;
         self.need_word(Keyword::Of)?;
-        let element = self.name()?;
-        let class = Class::of_type(element.span.of(self.text));
-        Ok(self.spelled_type(first, Some(class)))
+        let name = self.name()?;
+        Ok(Type {
+            class: Class::Other,
+            element: Some(Class::of_type(name.span.of(self.text))),
+            has_length: false,
+            mentioned: self.mentioned(name),
+            spelling: self.spelling(first),
+        })
     }
 
-    /// A type with a length or an array, which began at this token.
-    fn spelled_type(&mut self, first: usize, element: Option<Class>) -> Type {
+    /// The name of a value's type, unless it is elementary.
+    fn mentioned(&self, name: Name) -> Option<Symbol> {
+        (!is_elementary(name.span.of(self.text))).then_some(name.symbol)
+    }
+
+    /// The spelling of a type that began at this token.
+    fn spelling(&mut self, first: usize) -> Symbol {
         let words: Vec<&str> = self.tokens[first..self.at].iter().map(|token| token.span.of(self.text)).collect();
-        let spelling = self.names.symbol(&words.join(" "));
-        Type {
-            class: Class::Other,
-            element,
-            spelling,
-        }
+        self.names.symbol(&words.join(" "))
     }
 
     fn range(&mut self) -> Parsed<()> {

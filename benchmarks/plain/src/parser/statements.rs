@@ -3,7 +3,7 @@
 use super::{Parsed, Parser};
 use crate::keywords::{Keyword, Sign};
 use crate::tokens::{Kind, Span};
-use crate::tree::{Expression, Operator, Reference, Statement};
+use crate::tree::{Expression, Member, Operator, Reference, Statement};
 
 /// Below this level neither statements nor expressions nest.
 const DEEPEST: u32 = 64;
@@ -222,17 +222,35 @@ impl Parser<'_> {
     }
 
     fn reference(&mut self, level: u32) -> Parsed<Reference> {
-        let names = self.end()?;
-        let mut subscripts = Vec::new();
-        let mut end = names.span.end;
-        if level < DEEPEST && self.eat_sign(Sign::OpenBracket) {
-            subscripts.push(self.expression(level + 1)?);
-            while self.eat_sign(Sign::Comma) {
-                subscripts.push(self.expression(level + 1)?);
-            }
-            end = self.need_sign(Sign::CloseBracket)?.end;
+        let name = self.name()?;
+        let mut end = name.span.end;
+        let subscripts = self.subscripts(level, &mut end)?;
+        let mut members = Vec::new();
+        while self.eat_sign(Sign::Dot) {
+            let name = self.name()?;
+            end = name.span.end;
+            let subscripts = self.subscripts(level, &mut end)?.into();
+            members.push(Member { name, subscripts });
         }
-        Ok(Reference { names, subscripts, end })
+        Ok(Reference {
+            name,
+            subscripts,
+            members: members.into(),
+            end,
+        })
+    }
+
+    /// The subscripts behind a name, if they stand there. Then `end` becomes where they end.
+    fn subscripts(&mut self, level: u32, end: &mut u32) -> Parsed<Vec<Expression>> {
+        let mut found = Vec::new();
+        if level < DEEPEST && self.eat_sign(Sign::OpenBracket) {
+            found.push(self.expression(level + 1)?);
+            while self.eat_sign(Sign::Comma) {
+                found.push(self.expression(level + 1)?);
+            }
+            *end = self.need_sign(Sign::CloseBracket)?.end;
+        }
+        Ok(found)
     }
 }
 
