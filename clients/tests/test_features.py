@@ -281,7 +281,8 @@ class CompletionTest(ConveyorTest):
         self.check("FEEDER", "IDLE TO ", "IDLE", "MOVING", "OFFERING", "DONE")
         self.check("FEEDER", "IDLE TO MOVING := ", "START", "SEEN", "NEXT")
         self.check("FEEDER", "DONE := NEXT.", "TAKEN")
-        self.check("FEEDER", "SEEN [", "LIMIT", "LOAD", "COUNT", "IS_FULL", "LAST", "NEXT")
+        self.check("FEEDER", "SEEN [", "LIMIT", "LOAD", "COUNT", "IS_FULL", "PIECE", "LAST", "NEXT")
+        self.check("LIFTER", "IF HELD.", "NUMBER", "WEIGHT", "LANE")
         self.check("FEEDER", "START WITH ", with_words=True)
 
     def test_words(self):

@@ -54,6 +54,7 @@ pub struct Token {
 pub fn tokens(text: &str) -> Result<Vec<Token>, Span> {
     let mut found = Vec::with_capacity(text.len() / 4);
     let bytes = text.as_bytes();
+    let mut quotes = Quotes::default();
     let mut at = 0;
     while let Some(byte) = bytes.get(at) {
         let rest = &bytes[at..];
@@ -64,7 +65,7 @@ pub fn tokens(text: &str) -> Result<Vec<Token>, Span> {
         } else if rest.starts_with(b"//") {
             at += rest.iter().position(|b| *b == b'\n').unwrap_or(rest.len());
         } else {
-            let (kind, len) = token(&text[at..]);
+            let (kind, len) = token(text, at, &mut quotes);
             let span = Span::new(at, at + len);
             found.push(Token { kind, span });
             at += len;
@@ -79,8 +80,9 @@ fn comment_len(rest: &[u8]) -> Option<usize> {
     Some(close + 4)
 }
 
-/// The token at the front of a text that begins with no blank and no comment.
-fn token(rest: &str) -> (Kind, usize) {
+/// The token that begins there, where neither a blank nor a comment does.
+fn token(text: &str, at: usize, quotes: &mut Quotes) -> (Kind, usize) {
+    let rest = &text[at..];
     let bytes = rest.as_bytes();
     let first = bytes[0];
     if is_letter(first) {
@@ -92,7 +94,7 @@ fn token(rest: &str) -> (Kind, usize) {
     if let Some((sign, len)) = sign(bytes) {
         return (Kind::Sign(sign), len);
     }
-    if let Some(len) = quoted_len(rest) {
+    if let Some(len) = quotes.quoted_len(rest, at) {
         return (Kind::Text, len);
     }
     let len = rest.chars().next().map_or(1, char::len_utf8);
@@ -199,20 +201,46 @@ fn belongs(bytes: &[u8], at: usize, typed: Typed) -> bool {
     }
 }
 
-/// How long the text in quotes is that begins here, if it is closed.
-fn quoted_len(rest: &str) -> Option<usize> {
+/// Up to where no text that begins with one of both quotes is closed, so that a text of quotes that are never closed is not gone through again from each.
+#[derive(Default)]
+struct Quotes {
+    single: usize,
+    double: usize,
+}
+
+impl Quotes {
+    /// How long the text in quotes is that begins there, if it is closed.
+    fn quoted_len(&mut self, rest: &str, at: usize) -> Option<usize> {
+        let open = match rest.as_bytes()[0] {
+            b'\'' => &mut self.single,
+            b'"' => &mut self.double,
+            _ => return None,
+        };
+        if at < *open {
+            return None;
+        }
+        let found = quoted_len(rest);
+        if let Err(len) = found {
+            *open = at + len;
+        }
+        found.ok()
+    }
+}
+
+/// How long the text is that begins with a quote, or else up to where none is closed that begins with such a quote.
+fn quoted_len(rest: &str) -> Result<usize, usize> {
     let mut chars = rest.char_indices();
-    let (_, quote) = chars.next().filter(|(_, c)| matches!(c, '\'' | '"'))?;
+    let quote = chars.next().map(|(_, quote)| quote);
     while let Some((at, c)) = chars.next() {
         match c {
-            '\r' | '\n' => return None,
-            '$' => match chars.next()?.1 {
-                '\r' | '\n' => return None,
-                _ => {}
+            '\r' | '\n' => return Err(at),
+            '$' => match chars.next() {
+                None | Some((_, '\r' | '\n')) => return Err(at),
+                Some(_) => {}
             },
-            c if c == quote => return Some(at + 1),
+            c if Some(c) == quote => return Ok(at + 1),
             _ => {}
         }
     }
-    None
+    Err(rest.len())
 }

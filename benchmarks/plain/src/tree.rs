@@ -258,18 +258,17 @@ pub enum Statement {
 
 pub struct Reference {
     pub name: Name,
-    /// Those behind the first name.
-    pub subscripts: Vec<Expression>,
-    /// The further names.
-    pub members: Box<[Member]>,
     /// Where the last name ends, or the subscripts behind it.
     pub end: u32,
+    /// What stands behind the first name.
+    pub steps: Box<[Step]>,
 }
 
-/// A further name of a reference, with the subscripts behind it.
-pub struct Member {
-    pub name: Name,
-    pub subscripts: Box<[Expression]>,
+pub enum Step {
+    /// One of the subscripts behind a name.
+    Subscript(Expression),
+    /// A further name.
+    Member(Name),
 }
 
 pub enum Expression {

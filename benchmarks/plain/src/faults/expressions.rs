@@ -4,7 +4,7 @@ use super::{Code, Judge, Sought};
 use crate::classes::Class;
 use crate::names::Symbol;
 use crate::tokens::Span;
-use crate::tree::{Expression, Member, Name, Operator, Reference, Statement, Type, UnitKind, Variable};
+use crate::tree::{Expression, Name, Operator, Reference, Statement, Step, Type, UnitKind, Variable};
 
 // ---- statements
 
@@ -136,10 +136,10 @@ struct Place {
 }
 
 impl Place {
-    fn new(variable: &Variable, subscripts: &[Expression]) -> Place {
+    fn of(variable: &Variable) -> Place {
         Place {
             type_use: variable.type_use,
-            is_subscripted: !subscripts.is_empty(),
+            is_subscripted: false,
         }
     }
 
@@ -155,46 +155,52 @@ impl Place {
 impl<'a> Judge<'a> {
     /// The class of a reference, whose faults and those of its subscripts are reported.
     fn reference(&mut self, reference: &Reference) -> Class {
-        self.all_subscripts(reference);
-        let Some((mut place, members)) = self.beginning(reference) else {
-            return Class::Free;
-        };
-        for member in members {
-            match self.field(place, member.name.symbol) {
-                Sought::Found(variable) => place = Place::new(variable, &member.subscripts),
-                Sought::Unjudged => return Class::Free,
+        for step in &reference.steps {
+            if let Step::Subscript(subscript) = step {
+                self.whole_number(subscript);
+            }
+        }
+        let class = self.beginning(reference).and_then(|(place, steps)| self.followed(place, steps));
+        class.unwrap_or(Class::Free)
+    }
+
+    /// The class of what these steps lead to, or none where a name is unknown, which is reported, or not judged.
+    fn followed(&mut self, mut place: Place, steps: &[Step]) -> Option<Class> {
+        for step in steps {
+            let Step::Member(name) = step else {
+                place.is_subscripted = true;
+                continue;
+            };
+            match self.field(place, name.symbol) {
+                Sought::Found(variable) => place = Place::of(variable),
+                Sought::Unjudged => return None,
                 Sought::Unknown => {
-                    self.report(Code::MemberUnknown, member.name.span);
-                    return Class::Free;
+                    self.report(Code::MemberUnknown, name.span);
+                    return None;
                 }
             }
         }
-        place.class()
+        Some(place.class())
     }
 
-    fn all_subscripts(&mut self, reference: &Reference) {
-        let further = reference.members.iter().flat_map(|member| &member.subscripts);
-        for subscript in reference.subscripts.iter().chain(further) {
-            self.whole_number(subscript);
-        }
-    }
-
-    /// What a reference begins with and the names that follow it, or none where that is unknown, which is reported, or not judged.
-    fn beginning<'r>(&mut self, reference: &'r Reference) -> Option<(Place, &'r [Member])> {
+    /// What a reference begins with and the steps that follow, or none where that is unknown, which is reported, or not judged.
+    fn beginning<'r>(&mut self, reference: &'r Reference) -> Option<(Place, &'r [Step])> {
         let first = reference.name;
-        let second = reference.members.first().filter(|_| reference.subscripts.is_empty());
+        let second = match reference.steps.first() {
+            Some(Step::Member(name)) => Some(*name),
+            _ => None,
+        };
         let port = second.filter(|_| self.adapter(first.symbol).is_some());
         let variable = match port {
-            Some(port) => self.port_variable(first.symbol, port.name.symbol),
+            Some(port) => self.port_variable(first.symbol, port.symbol),
             None => self.unit.interface.variable(first.symbol).into(),
         };
-        match (variable, port) {
-            (Sought::Found(variable), Some(port)) => Some((Place::new(variable, &port.subscripts), &reference.members[1..])),
-            (Sought::Found(variable), None) => Some((Place::new(variable, &reference.subscripts), &reference.members)),
-            (Sought::Unjudged, _) => None,
-            (Sought::Unknown, _) => {
-                let last = second.map_or(first.span, |second| second.name.span);
-                self.report(Code::VariableUnknown, first.span.through(last));
+        match variable {
+            Sought::Found(variable) => Some((Place::of(variable), &reference.steps[usize::from(port.is_some())..])),
+            Sought::Unjudged => None,
+            Sought::Unknown => {
+                let last = second.unwrap_or(first);
+                self.report(Code::VariableUnknown, first.span.through(last.span));
                 None
             }
         }

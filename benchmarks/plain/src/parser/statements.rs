@@ -3,7 +3,7 @@
 use super::{Parsed, Parser};
 use crate::keywords::{Keyword, Sign};
 use crate::tokens::{Kind, Span};
-use crate::tree::{Expression, Member, Operator, Reference, Statement};
+use crate::tree::{Expression, Operator, Reference, Statement, Step};
 
 /// Below this level neither statements nor expressions nest.
 const DEEPEST: u32 = 64;
@@ -224,33 +224,28 @@ impl Parser<'_> {
     fn reference(&mut self, level: u32) -> Parsed<Reference> {
         let name = self.name()?;
         let mut end = name.span.end;
-        let subscripts = self.subscripts(level, &mut end)?;
-        let mut members = Vec::new();
+        let mut steps = Vec::new();
+        self.subscripts(level, &mut steps, &mut end)?;
         while self.eat_sign(Sign::Dot) {
             let name = self.name()?;
             end = name.span.end;
-            let subscripts = self.subscripts(level, &mut end)?.into();
-            members.push(Member { name, subscripts });
+            steps.push(Step::Member(name));
+            self.subscripts(level, &mut steps, &mut end)?;
         }
-        Ok(Reference {
-            name,
-            subscripts,
-            members: members.into(),
-            end,
-        })
+        let steps = steps.into();
+        Ok(Reference { name, end, steps })
     }
 
-    /// The subscripts behind a name, if they stand there. Then `end` becomes where they end.
-    fn subscripts(&mut self, level: u32, end: &mut u32) -> Parsed<Vec<Expression>> {
-        let mut found = Vec::new();
+    /// Adds the subscripts behind a name, if they stand there. Then `end` becomes where they end.
+    fn subscripts(&mut self, level: u32, steps: &mut Vec<Step>, end: &mut u32) -> Parsed<()> {
         if level < DEEPEST && self.eat_sign(Sign::OpenBracket) {
-            found.push(self.expression(level + 1)?);
+            steps.push(Step::Subscript(self.expression(level + 1)?));
             while self.eat_sign(Sign::Comma) {
-                found.push(self.expression(level + 1)?);
+                steps.push(Step::Subscript(self.expression(level + 1)?));
             }
             *end = self.need_sign(Sign::CloseBracket)?.end;
         }
-        Ok(found)
+        Ok(())
     }
 }
 
