@@ -1,6 +1,7 @@
 //! Servers in this process, and clients that talk to them over loopback.
 ghost use Rattle.std.specs.Thread.{IsSync};
 
+use crate::peers::connect;
 use fb_program::bench::Limits;
 use fb_program::wire::MemorySink;
 use fb_serve::{Numbers, serve_on};
@@ -93,10 +94,9 @@ fn connect_all<R: Net<Listener = TcpListener, Stream = TcpStream>>(
     port: u16,
     clients: usize,
 ) -> io::Result<Vec<TcpStream>> {
-    let address = format!(in alloc; "127.0.0.1:{port}")?;
     let mut streams = Vec::new(alloc);
     for _ in 0..clients {
-        streams.push(TcpStream::connect(rt, address.as_str())?)?;
+        streams.push(connect(rt, alloc, port)?)?;
     }
     Ok(streams)
 }
