@@ -80,7 +80,9 @@ fn each_session_is_let_in(rt: HostRuntime) -> Result<(), Fail> {
 const ROUNDS: u64 = 50;
 
 fn commit_after(alloc: Global, base: u64) -> io::Result<String> {
-    let line = format!(in alloc; "{{\"op\":\"commit\",\"changes\":[{{\"put\":\"A\",\"base\":{base},\"text\":\"FUNCTION_BLOCK A END_FUNCTION_BLOCK\"}}]}}\n")?;
+    let line = format!(in alloc;
+        "{{\"op\":\"commit\",\"changes\":[{{\"put\":\"A\",\"base\":{base},\"text\":\"FUNCTION_BLOCK A END_FUNCTION_BLOCK\"}}]}}\n"
+    )?;
     Ok(line)
 }
 
