@@ -4,15 +4,15 @@ use Rattle.std.specs.Prelude.{Contains, map, option_map}
 use Rattle.std.specs.List.{filter_map, flat_map}
 use Rattle.std.proofs.lemmas.List.Elements.{Contains-append_cases, Contains-append_left, Contains-append_right}
 use Rattle.fb_text.proofs.Members.{contains_cases, contains_flat_map, contains_here, contains_later, contains_map, contains_nothing, origin_in_flat_map, origin_in_map}
-use Rattle.fb_tree.specs.Tree.{ApplicationTree, DeclTree, InstanceTree, SystemTree, TypeTree, block_type, adapter_type, subapplication_type, system_configuration, structure_type}
+use Rattle.fb_tree.specs.Tree.{ApplicationTree, DeclTree, InstanceTree, SystemTree, block_type, adapter_type, subapplication_type, system_configuration, structure_type}
 use Rattle.fb_tree.specs.Mentions.{unit_kind_of}
 use Rattle.fb_tree.specs.declared.network.Role.{Role}
 use Rattle.fb_tree.specs.declared.network.Role.TheVariants as roles
 use Rattle.fb_deploy.specs.Library.View.{Sources, tree_at}
 use Rattle.fb_deploy.specs.Flatten.Net.{HasFlat}
 use Rattle.fb_wiring.specs.Applications.{applications_of, plain_application}
-use Rattle.fb_wiring.specs.ByName.{applications_at, declared}
-use Rattle.fb_wiring.specs.Networks.{instance_in_role, network_of, plain_instance, plain_network}
+use Rattle.fb_wiring.specs.ByName.{declared}
+use Rattle.fb_wiring.specs.Networks.{instance_in_role, network_of, plain_instance}
 use Rattle.fb_wiring.specs.Units.{AreFlatApplications, IsFlatApplication, IsUnitFlat, NoApplication, OfSubapplication, OfSystem, ThenApplication}
 use Rattle.fb_wiring.specs.declared.systems.Application.{Application}
 use Rattle.fb_wiring.specs.Network.Composed.{block_within}

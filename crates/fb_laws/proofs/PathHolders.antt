@@ -1,5 +1,5 @@
 -- The units whose texts have what stands at the paths of a sound system: these have no faults, so each name stands for one instance of theirs.
-use Rattle.std.proofs.Common.{◌≡◌, ◌≢◌, ℕ, Bool, true, false, cond, List, [], ◌∷◌, ◌++◌, Option, Some, None, refl, sym, ap, ◌∙◌, subst, true≢false}
+use Rattle.std.proofs.Common.{◌≡◌, ◌≢◌, ℕ, Bool, true, false, cond, List, [], ◌∷◌, ◌++◌, Option, Some, refl, sym, ◌∙◌, subst, true≢false}
 use Rattle.std.specs.Prelude.{Contains, find, map, option_map}
 use Rattle.std.specs.List.{flat_map}
 use Rattle.std.specs.Str.{bytes_eq}
@@ -17,9 +17,8 @@ use Rattle.fb_tree.specs.declared.network.Role.{Role}
 use Rattle.fb_tree.specs.declared.network.Role.TheVariants as roles
 use Rattle.fb_deploy.specs.Library.Rests.{PartRests, on_itself}
 use Rattle.fb_deploy.specs.Library.View.{Sources, parts_at, parts_in, tree_at}
-use Rattle.fb_deploy.specs.Iface.Declarations.{iface_faults_of}
 use Rattle.fb_deploy.specs.Iface.Names.{is_same, stands_for}
-use Rattle.fb_deploy.specs.Iface.Spaces.{chart_spaces, interface_spaces, network_spaces, resource_names, spaces_of}
+use Rattle.fb_deploy.specs.Iface.Spaces.{chart_spaces, interface_spaces, network_spaces, resource_names}
 use Rattle.fb_deploy.specs.Iface.Types.{instances_of, suits}
 use Rattle.fb_deploy.specs.Iface.declared.code.Code.TheVariants.{WrongKind}
 use Rattle.fb_deploy.specs.Iface.declared.fault.Fault.{Fault}

@@ -7,11 +7,11 @@ use Rattle.std.proofs.lemmas.List.{append_cancel_left}
 use Rattle.std.proofs.lemmas.List.Elements.{Contains-append_cases, Contains-append_left, Contains-append_right}
 use Rattle.fb_text.specs.Order.{name_cmp, names_in_order}
 use Rattle.fb_text.proofs.OrderLemmas.{in_order-members}
-use Rattle.fb_text.proofs.Members.{contains_filter, contains_here, contains_map, contains_nothing, origin_in_map, passes_in_filter}
+use Rattle.fb_text.proofs.Members.{contains_filter, contains_map, contains_nothing, origin_in_map, passes_in_filter}
 use Rattle.fb_tree.specs.Tree.{DeclTree, InstanceTree, MappingTree, SystemTree, system_configuration}
 use Rattle.fb_tree.specs.declared.network.Role.TheVariants as roles
 use Rattle.fb_deploy.specs.Library.View.{Sources, tree_at}
-use Rattle.fb_deploy.specs.Deploy.{IsPlan, PlainDeploy, faulty, planned, planned_by, with_homes}
+use Rattle.fb_deploy.specs.Deploy.{faulty, planned, planned_by, with_homes}
 use Rattle.fb_deploy.specs.Plans.{plan_at}
 use Rattle.fb_deploy.specs.Flatten.Net.{HasFlat, IsNet, IsSound, PlainNet, blocked, flat_net, recursive, too_large}
 use Rattle.fb_deploy.proofs.ComputedPlans.{plan_at_is}
@@ -31,13 +31,13 @@ use Rattle.fb_placing.specs.declared.homes.Misplaced.TheVariants.{NoSuchBlock, U
 use Rattle.fb_placing.specs.declared.lines.Line.{Line}
 use Rattle.fb_placing.proofs.NearestLemmas.{is_nearest}
 use Rattle.fb_laws.specs.Mappings.{IsSystemAt}
-use Rattle.fb_laws.specs.Paths.{AllBlocksAreMade, BlocksAreMadeWhereMapped, IsAbove, IsAtPath, IsMade, IsMappedTo, IsMisplaced, IsOfSomething, MakesMapped, MisplacedIsTold, NothingPlannedIsMisplaced, OnlyBlocksAreMade, TellsMisplaced, making, of_nothing, path_of, unmapped, with_points}
-use Rattle.fb_laws.specs.Planned.{IsHome, IsPlanned}
+use Rattle.fb_laws.specs.Paths.{AllBlocksAreMade, BlocksAreMadeWhereMapped, IsAbove, IsAtPath, IsMade, IsMappedTo, IsMisplaced, IsOfSomething, MakesMapped, MisplacedIsTold, NothingPlannedIsMisplaced, OnlyBlocksAreMade, making, of_nothing, path_of, unmapped, with_points}
+use Rattle.fb_laws.specs.Planned.{IsHome}
 use Rattle.fb_laws.specs.Plans.{BeginsWith, MakesItsBlocks}
 use Rattle.fb_laws.proofs.CommandRows.{blocks_made}
 use Rattle.fb_laws.proofs.EntryLemmas.{homes_have}
-use Rattle.fb_laws.proofs.HomeLemmas.{nearest_of, of_nearest}
-use Rattle.fb_laws.proofs.PathBlocks.{BlockStands, BlocksStand, system_blocks}
+use Rattle.fb_laws.proofs.HomeLemmas.{of_nearest}
+use Rattle.fb_laws.proofs.PathBlocks.{BlocksStand, system_blocks}
 use Rattle.fb_laws.proofs.PathHomes.{home_there, mapped_to, not_mapped}
 use Rattle.fb_laws.proofs.PathNames.{path_plain, path_some}
 use Rattle.fb_laws.proofs.PathStanding.{of_something, somewhere}

@@ -1,10 +1,10 @@
 -- Where names lead to in a sound system is what stands at their path.
-use Rattle.std.proofs.Common.{◌≡◌, ◌≢◌, ℕ, Bool, true, false, not, cond, List, [], ◌∷◌, ◌++◌, Option, Some, None, ◌⊎◌, inl, inr, refl, sym, ap, ◌∙◌, subst, append_assoc, append-nil, true≢false}
-use Rattle.std.specs.Prelude.{Contains, find, is_none, map, option_and_then, option_map}
+use Rattle.std.proofs.Common.{◌≡◌, ◌≢◌, ℕ, Bool, true, false, not, List, [], ◌∷◌, ◌++◌, Option, Some, None, ◌⊎◌, inl, inr, refl, sym, ap, ◌∙◌, subst, append_assoc, append-nil, true≢false}
+use Rattle.std.specs.Prelude.{Contains, find, is_none, option_and_then, option_map}
 use Rattle.std.specs.Option.{option_map_or}
 use Rattle.std.specs.Str.{bytes_eq}
 use Rattle.fb_text.proofs.Members.{contains_nothing, passes_in_find}
-use Rattle.fb_tree.specs.Tree.{ApplicationTree, DeclTree, InstanceTree, SystemTree, TypeTree, block_type, adapter_type, subapplication_type, system_configuration, structure_type}
+use Rattle.fb_tree.specs.Tree.{ApplicationTree, DeclTree, InstanceTree, SystemTree, block_type, adapter_type, subapplication_type, system_configuration, structure_type}
 use Rattle.fb_tree.specs.declared.network.Role.{Role}
 use Rattle.fb_tree.specs.declared.network.Role.TheVariants as roles
 use Rattle.fb_deploy.specs.Library.View.{Sources, tree_at}
@@ -12,11 +12,10 @@ use Rattle.fb_deploy.specs.Flatten.Net.{IsSound}
 use Rattle.fb_placing.specs.Firsts.{first_at}
 use Rattle.fb_placing.specs.Standing.{PlainStanding, application_called, inner_instances, is_placed, leads_nowhere, standing_among, standing_at, standing_beyond, standing_inside}
 use Rattle.fb_placing.proofs.StandingLemmas.{beyond_nothing}
-use Rattle.fb_deploy.proofs.Library.Locality.{parts_more}
 use Rattle.fb_laws.specs.Mappings.{IsSystemAt}
 use Rattle.fb_laws.specs.Paths.{IsAtPath, IsOfSomething, in_application, inside, of_application, of_block, of_subapplication}
 use Rattle.fb_laws.proofs.HomeLemmas.{same_bytes}
-use Rattle.fb_laws.proofs.PathHolders.{Holder, applications_apart, first_own, holder_of, instances_apart, is_subapplication, type_apart, type_below}
+use Rattle.fb_laws.proofs.PathHolders.{applications_apart, first_own, holder_of, instances_apart, is_subapplication, type_apart, type_below}
 
 abbrev Path : Type 0
 Path = List (List ℕ)
