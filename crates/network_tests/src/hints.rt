@@ -41,6 +41,7 @@ fn may_take(alloc: Global, library: &Library, key: Key, unit: &Name) -> Result<b
 }
 
 /// The net of such a unit.
+#[tactic(auto, unfolding(fb_jobs::specs::Keys::scratch))]
 fn hint_of(alloc: Global, library: &Library, key: Key, unit: Name) -> Result<Hint, AllocError>
     requires net { has_net_in (tree_at (sources_of library.now) unit) ≡ true }
     requires other { is_other_subapplication library.now key.unit unit ≡ true }

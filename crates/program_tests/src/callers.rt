@@ -1,7 +1,8 @@
-//! Servers of which it is looked at who is let in, which seats the callers have, how long the workers work, and where it listens.
+//! Servers: who is let in, which seats the callers have, how long the workers work, and where a server listens.
 ghost use Rattle.std.specs.Thread.{IsSync};
 
 use crate::peers::{COMMIT, KNOWN, Told, are_told, connect, rest, said, served, until_known};
+use crate::servers::connect_all;
 use fb_program::bench::Limits;
 use fb_program::wire::MemorySink;
 use fb_serve::{Numbers, serve, serve_sessions};
@@ -16,19 +17,6 @@ use std::thread::{Threads, join};
 const ASK_NET: &str = "{\"op\":\"ask\",\"kind\":\"net\",\"unit\":\"A\"}\n";
 
 const NO_KEY: &str = "{\"refused\":\"NoSuchKey\"}\n";
-
-fn connect_all<R: Net<Listener = TcpListener, Stream = TcpStream>>(
-    rt: &R,
-    alloc: Global,
-    port: u16,
-    clients: u8,
-) -> io::Result<Vec<TcpStream>> {
-    let mut streams = Vec::new(alloc);
-    for _ in 0..clients {
-        streams.push(connect(rt, alloc, port)?)?;
-    }
-    Ok(streams)
-}
 
 // Each says a line while all are there, the last one first.
 fn say_all(alloc: Global, streams: &[TcpStream], told: &mut Vec<String>) -> io::Result<()> {
@@ -50,7 +38,7 @@ fn all_at_once<R: Net<Listener = TcpListener, Stream = TcpStream>>(
     rt: &R,
     alloc: Global,
     port: u16,
-    clients: u8,
+    clients: usize,
 ) -> Told {
     let streams = connect_all(rt, alloc, port, clients)?;
     let mut told = Vec::new(alloc);
@@ -88,10 +76,10 @@ fn commit_after(alloc: Global, base: u64) -> io::Result<String> {
 
 // How many of the commits of a session a worker works for, until it does not.
 fn rounds_worked(alloc: Global, stream: &TcpStream) -> io::Result<u64> {
-    for base in 1..=ROUNDS {
-        said(alloc, stream, commit_after(alloc, base)?.as_str())?;
+    for worked in 0..ROUNDS {
+        said(alloc, stream, commit_after(alloc, worked + 1)?.as_str())?;
         if until_known(alloc, stream)?.as_str() != KNOWN {
-            return Ok(base - 1);
+            return Ok(worked);
         }
     }
     Ok(ROUNDS)
@@ -184,8 +172,8 @@ fn sessions_have_the_first_seats(rt: HostRuntime) -> Result<(), Fail> {
     Ok(())
 }
 
-// A server on a port of its own choice, with one session.
-fn serve_one<R: Net<Listener = TcpListener, Stream = TcpStream> + Threads + Wait + Sync>(
+// The status of a server on this port that lets no session in.
+fn serve_none<R: Net<Listener = TcpListener, Stream = TcpStream> + Threads + Wait + Sync>(
     rt: &R,
     alloc: Global,
     port: u16,
@@ -195,51 +183,22 @@ fn serve_one<R: Net<Listener = TcpListener, Stream = TcpStream> + Threads + Wait
     let mut errors = Vec::new(alloc);
     let numbers = Numbers {
         workers: 1,
-        sessions: 1,
+        sessions: 0,
         limits,
     };
     serve(rt, alloc, port, numbers, &mut out, &mut errors)
 }
 
-// The stream to a server that may not listen yet.
-fn connect_soon<R: Net<Listener = TcpListener, Stream = TcpStream>>(
-    rt: &R,
-    alloc: Global,
-    port: u16,
-) -> io::Result<TcpStream> {
-    for _ in 0..200_000u32 {
-        if let Ok(stream) = connect(rt, alloc, port) {
-            return Ok(stream);
-        }
-    }
-    connect(rt, alloc, port)
-}
-
-fn talk_soon<R: Net<Listener = TcpListener, Stream = TcpStream>>(
-    rt: &R,
-    alloc: Global,
-    port: u16,
-) -> Told {
-    let stream = connect_soon(rt, alloc, port)?;
-    let mut told = Vec::new(alloc);
-    told.push(said(alloc, &stream, ASK_NET)?)?;
-    told.push(rest(alloc, &stream)?)?;
-    Ok(told)
-}
-
-// Another listener has the port of another address of this machine, so a server that listens on all of them fails.
+// A server fails where another listener has its port of 127.0.0.1, and no other address of this machine matters to it.
 #[test]
 fn listens_on_one_address(rt: HostRuntime) -> Result<(), Fail> {
     let alloc: Global = rt.alloc();
+    let limits = Limits::new(16, 1000).ok_or("limits")?;
+    let same = TcpListener::bind(&rt, "127.0.0.1:0")?;
+    let port = same.local_addr()?.port();
+    assert_eq!(rt; serve_none(&rt, alloc, port, limits), 1);
     let other = TcpListener::bind(&rt, "127.0.0.2:0")?;
     let port = other.local_addr()?.port();
-    let limits = Limits::new(16, 1000).ok_or("limits")?;
-    let (status, told) = join(
-        &rt,
-        || serve_one(&rt, alloc, port, limits),
-        || talk_soon(&rt, alloc, port),
-    );
-    assert_eq!(rt; status, 0);
-    assert!(rt; are_told(told?.as_slice(), &[NO_KEY, ""]));
+    assert_eq!(rt; serve_none(&rt, alloc, port, limits), 0);
     Ok(())
 }

@@ -88,7 +88,7 @@ fn talk(alloc: Global, stream: &TcpStream, text: &str) -> io::Result<String> {
     io::read_to_string(alloc, stream)
 }
 
-fn connect_all<R: Net<Listener = TcpListener, Stream = TcpStream>>(
+pub(crate) fn connect_all<R: Net<Listener = TcpListener, Stream = TcpStream>>(
     rt: &R,
     alloc: Global,
     port: u16,
