@@ -129,22 +129,21 @@ fn weak_of(alloc: Global, fails: Fails, good: u64) -> Weak {
     }
 }
 
-fn feed_of<'a>(requests: &'a [u8], fails: Fails, good: u64) -> MemoryFeed<'a> {
+// How many bytes a read moves, and how many reads are good.
+fn reads_of(fails: Fails, good: u64) -> (usize, u64) {
     match fails {
-        Fails::Reads(piece) => MemoryFeed::new(requests, piece.max(1), good),
-        _ => MemoryFeed::new(requests, 8192, ALWAYS),
+        Fails::Reads(piece) => (piece, good),
+        Fails::Writes(_) | Fails::Taking(_) | Fails::Flushes => (8192, ALWAYS),
     }
 }
 
-/// How a run ended, whether its writer has failed, what it wrote, how many calls were recorded, and whether these are the first ones of the
-/// whole run.
+/// How a run ended, whether its writer has failed, what it wrote, and how many calls were recorded.
 #[derive(Drop)]
 struct Cut {
     end: RunEnd,
     has_failed: bool,
     output: Vec<u8>,
     calls: usize,
-    is_front: bool,
 }
 
 // Whether the records of this number say the same.
@@ -165,16 +164,10 @@ fn is_front(bench: &Bench, whole: &Bench) -> bool {
     true
 }
 
-fn cut_on(
-    alloc: Global,
-    bench: &mut Bench,
-    whole: &Bench,
-    requests: &[u8],
-    fails: Fails,
-    good: u64,
-) -> Cut {
+fn cut_on(alloc: Global, bench: &mut Bench, requests: &[u8], fails: Fails, good: u64) -> Cut {
     let mut weak = weak_of(alloc, fails, good);
-    let mut feed = feed_of(requests, fails, good);
+    let (piece, reads) = reads_of(fails, good);
+    let mut feed = MemoryFeed::new(requests, piece.max(1), reads);
     let mut sink = IntoWrite::new(&mut weak);
     let end = run_script(alloc, &mut feed, &mut sink, bench, 1, 1_000_000);
     let has_failed = sink.failed();
@@ -183,20 +176,22 @@ fn cut_on(
         has_failed,
         output: weak.held,
         calls: bench.len(),
-        is_front: is_front(bench, whole),
     }
 }
 
-/// A whole run, and what it was asked.
+/// A conversation, its request lines, and a workbench that has answered them.
 #[derive(Clone, Copy)]
-struct Late<'a> {
+struct Talk<'a> {
+    rows: &'a [Row],
     requests: &'a [u8],
     whole: &'a Bench,
 }
 
-fn cut(alloc: Global, late: Late<'_>, fails: Fails, good: u64) -> Result<Cut, Fail> {
+// A run that is cut, and whether its calls are the first ones of the whole run.
+fn cut_anew(alloc: Global, talk: Talk<'_>, fails: Fails, good: u64) -> Result<(Cut, bool), Fail> {
     let mut bench = new_bench(alloc)?;
-    Ok(cut_on(alloc, &mut bench, late.whole, late.requests, fails, good))
+    let cut = cut_on(alloc, &mut bench, talk.requests, fails, good);
+    Ok((cut, is_front(&bench, talk.whole)))
 }
 
 fn lines_in(text: &[u8]) -> usize {
@@ -244,32 +239,54 @@ fn is_end(cut: &Cut, fails: Fails) -> bool {
 fn is_right(
     alloc: Global,
     cut: &Cut,
-    late: Late<'_>,
+    talk: Talk<'_>,
     fails: Fails,
     good: u64,
 ) -> Result<bool, Fail> {
-    let made = lines_made(cut, lines_come(late.requests, fails, good), fails);
-    let (replies, calls) = replies_to(alloc, LATE, made)?;
-    let are_calls = cut.is_front && cut.calls == calls;
-    Ok(are_calls && is_output(cut, replies.as_str(), fails) && is_end(cut, fails))
+    let made = lines_made(cut, lines_come(talk.requests, fails, good), fails);
+    let (replies, calls) = replies_to(alloc, talk.rows, made)?;
+    Ok(cut.calls == calls && is_output(cut, replies.as_str(), fails) && is_end(cut, fails))
 }
 
 // Whether a run is the whole one.
-fn is_whole(alloc: Global, cut: &Cut) -> Result<bool, Fail> {
-    let (replies, calls) = replies_to(alloc, LATE, LATE.len())?;
+fn is_whole(alloc: Global, cut: &Cut, talk: Talk<'_>) -> Result<bool, Fail> {
+    let (replies, calls) = replies_to(alloc, talk.rows, talk.rows.len())?;
     let is_said = cut.output.as_slice() == replies.as_bytes() && !cut.has_failed;
-    Ok(is_said && cut.is_front && cut.calls == calls)
+    Ok(is_said && cut.calls == calls)
 }
 
-// How many are good in the first run that comes to its end, where this is the whole one and those before it are right.
-fn good_in_all(alloc: Global, late: Late<'_>, fails: Fails) -> Result<Option<u64>, Fail> {
+/// What is found of a run with so many good ones: it is wrong, is rightly cut, or is the whole one.
+#[derive(Clone, Copy)]
+enum Found {
+    Wrong,
+    Cut,
+    Whole,
+}
+
+fn found_of(cut: &Cut, is_right: bool) -> Found {
+    match (is_right, cut.end) {
+        (false, _) => Found::Wrong,
+        (true, RunEnd::End) => Found::Whole,
+        (true, _) => Found::Cut,
+    }
+}
+
+fn found_with(alloc: Global, talk: Talk<'_>, fails: Fails, good: u64) -> Result<Found, Fail> {
+    let (cut, is_front) = cut_anew(alloc, talk, fails, good)?;
+    let is_right = match cut.end {
+        RunEnd::End => is_whole(alloc, &cut, talk)?,
+        _ => is_right(alloc, &cut, talk, fails, good)?,
+    };
+    Ok(found_of(&cut, is_right && is_front))
+}
+
+// How many are good in the first run that comes to its end, where this is the whole one and those before it are rightly cut.
+fn good_in_all(alloc: Global, talk: Talk<'_>, fails: Fails) -> Result<Option<u64>, Fail> {
     for good in 0..10_000u64 {
-        let cut = cut(alloc, late, fails, good)?;
-        if cut.end == RunEnd::End {
-            return Ok(is_whole(alloc, &cut)?.then_some(good));
-        }
-        if !is_right(alloc, &cut, late, fails, good)? {
-            return Ok(None);
+        match found_with(alloc, talk, fails, good)? {
+            Found::Wrong => return Ok(None),
+            Found::Cut => {}
+            Found::Whole => return Ok(Some(good)),
         }
     }
     Ok(None)
@@ -277,53 +294,70 @@ fn good_in_all(alloc: Global, late: Late<'_>, fails: Fails) -> Result<Option<u64
 
 // A workbench that has answered all.
 fn answered(alloc: Global, requests: &[u8]) -> Result<Bench, Fail> {
-    let (mut bench, other) = (new_bench(alloc)?, new_bench(alloc)?);
-    cut_on(alloc, &mut bench, &other, requests, Fails::Flushes, ALWAYS);
+    let mut bench = new_bench(alloc)?;
+    cut_on(alloc, &mut bench, requests, Fails::Flushes, ALWAYS);
     Ok(bench)
 }
 
-fn good_for(alloc: Global, fails: Fails) -> Result<Option<u64>, Fail> {
-    let requests = requests_in(alloc, LATE)?;
-    let whole = answered(alloc, requests.as_bytes())?;
-    let late = Late {
-        requests: requests.as_bytes(),
+fn good_for(
+    alloc: Global,
+    rows: &[Row],
+    requests: &[u8],
+    fails: Fails,
+) -> Result<Option<u64>, Fail> {
+    let whole = answered(alloc, requests)?;
+    let talk = Talk {
+        rows,
+        requests,
         whole: &whole,
     };
-    good_in_all(alloc, late, fails)
+    good_in_all(alloc, talk, fails)
+}
+
+fn is_good_in_all(alloc: Global, rows: &[Row], fails: Fails, wanted: u64) -> Result<bool, Fail> {
+    let requests = requests_in(alloc, rows)?;
+    Ok(good_for(alloc, rows, requests.as_bytes(), fails)? == Some(wanted))
 }
 
 // All reads of so many bytes that there are, and the one that finds the end.
-fn reads_of_all(alloc: Global, piece: usize) -> Result<u64, Fail> {
-    let requests = requests_in(alloc, LATE)?;
+fn reads_of_all(alloc: Global, rows: &[Row], piece: usize) -> Result<u64, Fail> {
+    let requests = requests_in(alloc, rows)?;
     Ok(requests.len().div_ceil(piece.max(1)).saturating_add(1) as u64)
 }
 
-fn is_good_in_all(alloc: Global, fails: Fails, wanted: u64) -> Result<bool, Fail> {
-    Ok(good_for(alloc, fails)? == Some(wanted))
+// Whether a run ends well once all reads of so many bytes are good, and before that as it is to be.
+fn are_reads(alloc: Global, rows: &[Row], piece: usize) -> Result<bool, Fail> {
+    let reads = reads_of_all(alloc, rows, piece)?;
+    is_good_in_all(alloc, rows, Fails::Reads(piece), reads)
 }
 
 #[test]
 fn each_read_fails(rt: HostRuntime) -> Result<(), Fail> {
     for piece in [1usize, 7, 50, 8192] {
-        let reads = reads_of_all(rt.alloc(), piece)?;
-        assert!(rt; is_good_in_all(rt.alloc(), Fails::Reads(piece), reads)?);
+        assert!(rt; are_reads(rt.alloc(), LATE, piece)?);
     }
     Ok(())
 }
 
-// There are as many writes of one byte as bytes of replies, and one long write for each reply.
-#[test]
-fn each_write_fails(rt: HostRuntime) -> Result<(), Fail> {
-    let (replies, _calls) = replies_to(rt.alloc(), LATE, LATE.len())?;
+// The same of writes of one byte, of which there are as many as bytes of replies. They fail, or take nothing.
+fn are_writes(alloc: Global, rows: &[Row]) -> Result<bool, Fail> {
+    let (replies, _calls) = replies_to(alloc, rows, rows.len())?;
     let bytes = replies.len() as u64;
-    assert!(rt; is_good_in_all(rt.alloc(), Fails::Writes(1), bytes)?);
-    assert!(rt; is_good_in_all(rt.alloc(), Fails::Taking(1), bytes)?);
-    assert!(rt; is_good_in_all(rt.alloc(), Fails::Writes(8192), 6)?);
-    Ok(())
+    let fails = is_good_in_all(alloc, rows, Fails::Writes(1), bytes)?;
+    Ok(fails && is_good_in_all(alloc, rows, Fails::Taking(1), bytes)?)
 }
 
 #[test]
-fn each_flush_fails(rt: HostRuntime) -> Result<(), Fail> {
-    assert!(rt; is_good_in_all(rt.alloc(), Fails::Flushes, 6)?);
+fn each_write_fails(rt: HostRuntime) -> Result<(), Fail> {
+    assert!(rt; are_writes(rt.alloc(), LATE)?);
+    Ok(())
+}
+
+// There is one long write and one flush for each reply.
+#[test]
+fn each_long_write_and_flush_fails(rt: HostRuntime) -> Result<(), Fail> {
+    for fails in [Fails::Writes(8192), Fails::Taking(8192), Fails::Flushes] {
+        assert!(rt; is_good_in_all(rt.alloc(), LATE, fails, 6)?);
+    }
     Ok(())
 }

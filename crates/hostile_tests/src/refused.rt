@@ -142,11 +142,16 @@ fn answer_of(answer: &Answered) -> Answer {
 }
 
 // A key is handed out where it is to be given back.
-fn bench_for(alloc: Global, which: Which) -> Result<Bench, Fail> {
-    let mut bench = begun(alloc, JOBS, 100)?;
+fn hand_out(bench: &mut Bench, which: Which) -> Result<(), Fail> {
     if let Which::GiveBack = which {
         bench.take(2)?;
     }
+    Ok(())
+}
+
+fn bench_for(alloc: Global, which: Which) -> Result<Bench, Fail> {
+    let mut bench = begun(alloc, JOBS, 100)?;
+    hand_out(&mut bench, which)?;
     Ok(bench)
 }
 
@@ -228,10 +233,8 @@ impl Trial for Checked {
     type Setting = Limits;
 
     fn new(alloc: Global, limits: Limits) -> Result<Checked, Fail> {
-        let mut bench = begun(alloc, JOBS, 100)?;
-        bench.take(2)?;
         Ok(Checked {
-            bench,
+            bench: bench_for(alloc, Which::GiveBack)?,
             limits,
             before: None,
         })

@@ -96,13 +96,15 @@ impl Trial for OfLocked {
     type Setting = Which;
 
     fn new(alloc: Global, which: Which) -> Result<OfLocked, Fail> {
+        let given = all_given(alloc).ok_or("what is given")?;
+        let receipts = Vec::with_capacity(alloc, 8)?;
         let (owner, seat) = locked_for(alloc, which).ok_or("a workbench")?;
         Ok(OfLocked {
             which,
             owner,
             seat,
-            given: all_given(alloc).ok_or("what is given")?,
-            receipts: Vec::with_capacity(alloc, 8)?,
+            given,
+            receipts,
         })
     }
 
@@ -164,14 +166,16 @@ impl<'a, R: Wait> Trial for OfShared<'a, R> {
 
     fn new(alloc: Global, setting: (&'a R, Which)) -> Result<OfShared<'a, R>, Fail> {
         let (rt, which) = setting;
+        let given = all_given(alloc).ok_or("what is given")?;
+        let receipts = Vec::with_capacity(alloc, 8)?;
         let (owner, seat) = shared_for(rt, alloc, which).ok_or("a workbench")?;
         Ok(OfShared {
             rt,
             which,
             owner,
             seat,
-            given: all_given(alloc).ok_or("what is given")?,
-            receipts: Vec::with_capacity(alloc, 8)?,
+            given,
+            receipts,
         })
     }
 
@@ -238,13 +242,14 @@ impl<'a, R: Wait> Trial for OfSeated<'a, R> {
 
     fn new(alloc: Global, setting: (&'a R, Which)) -> Result<OfSeated<'a, R>, Fail> {
         let (rt, which) = setting;
+        let given = all_given(alloc).ok_or("what is given")?;
         let (owner, seat) = shared_for(rt, alloc, which).ok_or("a workbench")?;
         Ok(OfSeated {
             rt,
             which,
             owner,
             seat: Some(seat),
-            given: all_given(alloc).ok_or("what is given")?,
+            given,
             receipts: Vec::new(alloc),
         })
     }

@@ -192,12 +192,12 @@ fn closing(rt: HostRuntime) -> Result<(), Fail> {
     try_call::<Over>(&rt, rt.alloc(), "close", " of Shared", ())
 }
 
-// two units to be judged by a worker
-fn to_be_judged<R: Wait>(rt: &R, alloc: Global) -> Option<(Shared, Seat, Seat, Receipt)> {
+// commits two units to be judged by a worker, and gives the receipt
+fn begin<R: Wait>(rt: &R, alloc: Global, owner: &Shared, first: &mut Seat) -> Option<Vec<Receipt>> {
     let changes = puts(alloc, &["A", "B"])?;
-    let (owner, mut first, second) = new_shared(alloc, 100)?;
-    let receipt = owner.commit(rt, &mut first, &changes).ok()?;
-    Some((owner, first, second, receipt))
+    let mut receipts = Vec::new(alloc);
+    receipts.push(owner.commit(rt, first, &changes).ok()?).ok()?;
+    Some(receipts)
 }
 
 // how many results the receipts tell of
@@ -252,9 +252,8 @@ fn worked<R: Wait>(
 
 // a worker without an allocation, where each record has its receipt at the end
 fn worked_anew<R: Wait>(rt: &R, alloc: Global, number: u32) -> Option<Worked> {
-    let (owner, first, mut second, receipt) = to_be_judged(rt, alloc)?;
-    let mut receipts = Vec::new(alloc);
-    receipts.push(receipt).ok()?;
+    let (owner, mut first, mut second) = new_shared(alloc, 100)?;
+    let mut receipts = begin(rt, alloc, &owner, &mut first)?;
     let worked = worked(rt, alloc, &owner, &mut second, &mut receipts, number);
     let (count, _first, _second) = closed(alloc, owner, first, second, &receipts)?;
     (count == receipts.len()).then_some(worked)
