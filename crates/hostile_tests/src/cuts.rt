@@ -202,8 +202,8 @@ fn lines_in(text: &[u8]) -> usize {
 fn lines_come(requests: &[u8], fails: Fails, good: u64) -> usize {
     match fails {
         Fails::Reads(piece) => {
-            let come = requests.len().min(piece.saturating_mul(good as usize));
-            lines_in(&requests[..come])
+            let come = piece.saturating_mul(good as usize);
+            lines_in(requests.get(..come).unwrap_or(requests))
         }
         _ => lines_in(requests),
     }

@@ -93,7 +93,8 @@ fn is_read<R: Wait>(rt: &R, alloc: Global, good: usize) -> Option<bool> {
     } else {
         RunEnd::ReadFailed
     };
-    let come = lines_in(&REQUESTS.as_bytes()[..good.min(REQUESTS.len())]);
+    let requests = REQUESTS.as_bytes();
+    let come = lines_in(requests.get(..good).unwrap_or(requests));
     let output = ended.output.as_slice();
     let is_whole = output.is_empty() || output.last() == Some(&b'\n');
     Some(is_ended(&ended, end, come) && is_whole && lines_in(output) == come)
@@ -114,7 +115,7 @@ fn is_written<R: Wait>(rt: &R, alloc: Global, good: usize) -> Option<bool> {
 
 // the least number of good reads with which a session is not right
 fn wrong_read<R: Wait>(rt: &R, alloc: Global) -> Option<usize> {
-    for good in 0..REQUESTS.len() + 2 {
+    for good in 0..REQUESTS.len().saturating_add(2) {
         if is_read(rt, alloc, good) != Some(true) {
             return Some(good);
         }
@@ -124,7 +125,7 @@ fn wrong_read<R: Wait>(rt: &R, alloc: Global) -> Option<usize> {
 
 // the least number of good writes with which a session is not right
 fn wrong_write<R: Wait>(rt: &R, alloc: Global) -> Option<usize> {
-    for good in 0..REPLIES.len() + 1 {
+    for good in 0..REPLIES.len().saturating_add(1) {
         if is_written(rt, alloc, good) != Some(true) {
             return Some(good);
         }
