@@ -7,7 +7,11 @@ fn say_counts(told: &mut String, bench: &Bench) -> Result<(), AllocError> {
     let (len, last) = (bench.len(), bench.last_number());
     let (is_full, has_work) = (bench.is_full(), bench.has_work());
     let (first, second) = (bench.turns_of(1), bench.turns_of(2));
-    write!(told, "{len} {last} {is_full} {has_work} {first} {second}")
+    let pages = bench.pages().len();
+    write!(
+        told,
+        "{len} {last} {is_full} {has_work} {first} {second} {pages}"
+    )
 }
 
 fn say_start(told: &mut String, bench: &Bench) -> Result<(), AllocError> {
@@ -95,22 +99,31 @@ fn shown_word(shown: &Shown<'_>) -> &'static str {
     }
 }
 
+// What was known of the key at the start, and how many units are near its own.
+fn say_behind(
+    told: &mut String,
+    alloc: Global,
+    bench: &Bench,
+    key: &Key,
+) -> Result<(), AllocError> {
+    let start = bench.start();
+    let (was_pending, was_out) = (start.is_pending(key), start.is_out(key));
+    let near = bench.index().near_of(alloc, &[key.unit])?.len();
+    write!(told, " {was_pending} {was_out} {near}")
+}
+
 fn say_key(told: &mut String, bench: &Bench, key: &Key) -> Result<(), AllocError> {
     let (kind, unit) = (key.kind, key.unit);
     let (is_out, revision) = (bench.is_out(key), bench.revision(&unit));
     let shown = shown_word(&bench.peek(key));
-    let start = bench.start();
-    let (was_pending, was_out) = (start.is_pending(key), start.is_out(key));
-    write!(
-        told,
-        "\n{kind:?} {unit} {revision} {is_out} {shown} {was_pending} {was_out}"
-    )
+    write!(told, "\n{kind:?} {unit} {revision} {is_out} {shown}")
 }
 
-fn say_keys(told: &mut String, bench: &Bench) -> Result<(), AllocError> {
+fn say_keys(told: &mut String, alloc: Global, bench: &Bench) -> Result<(), AllocError> {
     for place in 0..bench.key_count() {
         if let Some(key) = bench.key_at(place) {
             say_key(told, bench, &key)?;
+            say_behind(told, alloc, bench, &key)?;
         }
     }
     let pending = bench.pending_count();
@@ -123,6 +136,6 @@ pub(crate) fn told(alloc: Global, bench: &Bench) -> Result<String, AllocError> {
     say_counts(&mut told, bench)?;
     say_start(&mut told, bench)?;
     say_records(&mut told, bench)?;
-    say_keys(&mut told, bench)?;
+    say_keys(&mut told, alloc, bench)?;
     Ok(told)
 }

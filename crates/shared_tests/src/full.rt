@@ -67,7 +67,8 @@ fn are_full_locked(
     show_sixth(alloc, second)?;
     let are_full = are_refused_locked(owner, first, &given, calls, SharedRefused::HistoryFull);
     let are_behind = are_refused_locked(owner, second, &given, calls, BEHIND);
-    Some(are_full && are_behind && owner.bench().len() == 1)
+    let books = (owner.bench().len(), owner.book(1), owner.book(2));
+    Some(are_full && are_behind && books == (1, 1, 0))
 }
 
 // the same under the lock
