@@ -1,4 +1,4 @@
-//! Tests of the words of the program, of its runs, and of servers.
+//! Tests of the words of the program, of its runs, of servers, and of sessions.
 #![tactic(auto)]
 
 #[cfg(test)]
@@ -11,3 +11,5 @@ mod program;
 mod refused;
 #[cfg(test)]
 mod servers;
+#[cfg(test)]
+mod sessions;
