@@ -323,8 +323,9 @@ static LITERALS: [(&str, LiteralForm); 5] = [
 /// The form of the literal that a text is.
 fn form_of(alloc: Global, text: &str) -> Result<LiteralForm, Fail> {
     let tokens = grammar_tokens(alloc, text)?;
-    match expression(alloc, tokens.as_slice())? {
-        (Expr::Literal(literal), _) => Ok(literal.form),
+    let (expression, _) = expression(alloc, tokens.as_slice())?;
+    match expression {
+        Expr::Literal(literal) => Ok(literal.form),
         _ => Err(Fail::from("no literal")),
     }
 }
