@@ -125,9 +125,7 @@ fn target_of(scope: &Scope, side: Side, event: &End) -> EventTarget
 {
     let name = event.name.name.name();
     match &event.port {
-        Some(port) => {
-            target_behind(scope, scope.own().instance(&name), side, &port.name.name())
-        }
+        Some(port) => { target_behind(scope, scope.own().instance(&name), side, &port.name.name()) }
         None => target_among(scope.own(), side, &name),
     }
 }

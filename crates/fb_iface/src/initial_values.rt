@@ -39,9 +39,7 @@ fn report_initial(group: &Variables, found: &mut Vec<Fault>) -> Result<(), Alloc
         (found.new.items ≡ found.old.items ++ initial_faults (variables_tree group.now)) }
 {
     match &group.initial {
-        Some(constant) => {
-            report_constant(&WideTypeUse::of(&group.type_use), constant, found)
-        }
+        Some(constant) => { report_constant(&WideTypeUse::of(&group.type_use), constant, found) }
         None => Ok(()),
     }
 }

@@ -8,7 +8,8 @@ ghost use Rattle.fb_iface.specs.Sides.{is_data_on};
 use crate::names::first_declared;
 use fb_tree::text::{Name, WideUse};
 use fb_tree::{
-    Event, Instance, Interface, Network, Role, Section, Side, TypeDeclaration, Variables, WideTypeUse,
+    Event, Instance, Interface, Network, Role, Section, Side, TypeDeclaration, Variables,
+    WideTypeUse,
 };
 use indexmap::IndexMap;
 use std::alloc::{AllocError, Global};

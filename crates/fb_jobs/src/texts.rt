@@ -101,8 +101,7 @@ impl TextReads {
     pub fn is_same(&self, other: &TextReads) -> bool
         ensures { IsTrue result ↔ (self.now ≡ other.now) }
     {
-        are_same_texts(&self.versions, &other.versions)
-            && are_equal(&self.absent, &other.absent)
+        are_same_texts(&self.versions, &other.versions) && are_equal(&self.absent, &other.absent)
     }
 }
 

@@ -74,7 +74,11 @@ fn report_of_type(
         (parameter_tree p)) parameters.now) }
 {
     for parameter in parameters {
-        report_parameter(ports.variable(&parameter.name.name.name()), parameter, found)?;
+        report_parameter(
+            ports.variable(&parameter.name.name.name()),
+            parameter,
+            found,
+        )?;
     }
     Ok(())
 }

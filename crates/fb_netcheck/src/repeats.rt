@@ -120,10 +120,7 @@ pub fn report_second_adapters(
     report_repeated(alloc, Code::SecondAdapter, ends.as_slice(), found)
 }
 
-fn ends_of_adapters(
-    alloc: Global,
-    connections: &[Connection],
-) -> Result<Vec<WideEnd>, AllocError>
+fn ends_of_adapters(alloc: Global, connections: &[Connection]) -> Result<Vec<WideEnd>, AllocError>
     ensures { IfOk result (λ ends. ends.items ≡ all_adapter_ends connections.now) }
 {
     let mut ends = Vec::new(alloc);
