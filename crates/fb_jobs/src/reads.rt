@@ -27,10 +27,7 @@ pub fn needed(alloc: Global, library: &Library, key: Key) -> Result<Vec<Name>, A
 }
 
 /// What is read under a name, and what is kept of it: all by one search of the library.
-fn read_under(
-    library: &Library,
-    name: Name,
-) -> Result<(Read, Option<Arc<Version>>), AllocError>
+fn read_under(library: &Library, name: Name) -> Result<(Read, Option<Arc<Version>>), AllocError>
     ensures seen { IfOk result
         (λ made. seen_of made.0 ≡ record { name = name; found = held library.now name }) }
     ensures own { IfOk result (λ made. IsOwn made.0) }

@@ -148,9 +148,7 @@ pub fn is_same_value(a: &Value, b: &Value) -> bool
 fn is_same_version(a: &Version, b: &Version) -> bool
     ensures { IsTrue result ↔ (filed_text a.now ≡ filed_text b.now) }
 {
-    is_one_name(&a.unit, &b.unit)
-        && a.revision == b.revision
-        && a.text.as_str() == b.text.as_str()
+    is_one_name(&a.unit, &b.unit) && a.revision == b.revision && a.text.as_str() == b.text.as_str()
 }
 
 /// The same text of the same unit with the same revision, or none.

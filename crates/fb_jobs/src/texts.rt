@@ -39,7 +39,7 @@ impl Model for TextReads {
 }
 
 impl TextReads {
-    ghost use Rattle.std.specs.Prelude.{◌≡◌, ◌++◌, ◌↔◌, ◌∷◌, [], IfOk, IfSome, IsTrue, length, slice_get};
+    ghost use Rattle.std.specs.Prelude.{◌≡◌, ◌++◌, ◌↔◌, ◌∷◌, [], IfOk, IsTrue, length, slice_get};
     ghost use Rattle.std.specs.Option.{option_map};
     ghost use Rattle.fb_jobs.specs.Texts.{seen_under, text_of};
     ghost use Rattle.fb_jobs.specs.Values.{text_seen};
@@ -101,8 +101,7 @@ impl TextReads {
     pub fn is_same(&self, other: &TextReads) -> bool
         ensures { IsTrue result ↔ (self.now ≡ other.now) }
     {
-        are_same_texts(&self.versions, &other.versions)
-            && are_equal(&self.absent, &other.absent)
+        are_same_texts(&self.versions, &other.versions) && are_equal(&self.absent, &other.absent)
     }
 }
 

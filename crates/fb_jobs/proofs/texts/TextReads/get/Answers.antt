@@ -13,7 +13,7 @@ index-requires c =
     let below : place < length versions = omega (arith, lookup.3.0, ap length same) in
     let none : None ≡ get_or versions place None = subst (λ v. v ≡ get_or versions place v) c.in-Some-None.field-0-is (lookup.1 ∙ ap (λ vs. get_or vs place c.in-Some-None.field-0.now) same) in
     let behind = absent_below versions c.self.inside.absent.items place c.self.invariant c.absent_count.result below none
-        (c.absent_count.ensures ∙ ap (λ vs. count_by is_none (take place vs)) c.deref-in-Some-None.ensures.value) in
+    (c.absent_count.ensures ∙ ap (λ vs. count_by is_none (take place vs)) c.deref-in-Some-None.ensures.value) in
     omega (arith, behind, c.self.inside.absent.ok.0)
 
 pub returns-in-None : goal.returns-in-None

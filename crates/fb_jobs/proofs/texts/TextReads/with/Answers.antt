@@ -15,13 +15,13 @@ told (Some x) false known is same = sym same
 
 names_are : (c : goal.In_ok-push-2) → c.if-is_none.absent.items ≡ cond (is_none c.args.version) (c.self.inside.absent.items ++ c.args.name ∷ []) c.self.inside.absent.items
 names_are c = elim c.if-is_none.branch [
-  then-is_none+in_ok-push w ↦
+  | then-is_none+in_ok-push w ↦
       ap (λ (names : Vec (List ℕ) Global). names.items) w.absent-is ∙ w.in_ok-push.ensures.items
       ∙ ap (λ b. cond b (c.self.inside.absent.items ++ c.args.name ∷ []) c.self.inside.absent.items) (told c.args.version c.is_none.result true c.is_none.ensures w.if-is_none.true)
   | else-is_none w ↦
       ap (λ (names : Vec (List ℕ) Global). names.items) w.absent-is
       ∙ ap (λ b. cond b (c.self.inside.absent.items ++ c.args.name ∷ []) c.self.inside.absent.items) (told c.args.version c.is_none.result false c.is_none.ensures w.if-is_none.false)
-  ]
+]
 
 pub invariant_of-result : goal.invariant_of-result
 invariant_of-result c =
