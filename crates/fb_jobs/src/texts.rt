@@ -39,7 +39,7 @@ impl Model for TextReads {
 }
 
 impl TextReads {
-    ghost use Rattle.std.specs.Prelude.{◌≡◌, ◌++◌, ◌↔◌, ◌∷◌, [], IfOk, IfSome, IsTrue, length, slice_get};
+    ghost use Rattle.std.specs.Prelude.{◌≡◌, ◌++◌, ◌↔◌, ◌∷◌, [], IfOk, IsTrue, length, slice_get};
     ghost use Rattle.std.specs.Option.{option_map};
     ghost use Rattle.fb_jobs.specs.Texts.{seen_under, text_of};
     ghost use Rattle.fb_jobs.specs.Values.{text_seen};
