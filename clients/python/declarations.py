@@ -196,9 +196,14 @@ class Unit:
             found[use.key].append(use)
         return dict(found)
 
+    @cached_property
+    def walking(self) -> frozenset[str]:
+        """The names that are used deep in a path, where only other units tell whose they are."""
+        return frozenset(use.key.name for use in self.uses if use.walk)
+
     def prepare(self) -> None:
         """Has the tables made now, and not when somebody asks."""
-        self.first, self.by_key
+        self.first, self.by_key, self.walking
 
     def of(self, *sections: str, scope: str = "") -> Iterator[Declaration]:
         """What is declared in these sections, first declarations alone."""

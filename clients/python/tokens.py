@@ -118,11 +118,18 @@ def spelled(of: Sequence[Token]) -> str:
     return words
 
 
-def declaration(text: str) -> Token | None:
-    """The name behind the first word of a text; None where there is none that a unit can have."""
+def head(text: str) -> tuple[str, Token | None]:
+    """The first word of a text in upper case, and the name behind it; None where there is none that a unit can have."""
     first = tokens(text)
     begin, name = next(first, None), next(first, None)
-    return name if begin and name and begin.kind == "word" and is_name(name) else None
+    if not begin:
+        return "", None
+    return begin.upper, name if name and begin.kind == "word" and is_name(name) else None
+
+
+def declaration(text: str) -> Token | None:
+    """The name behind the first word of a text; None where there is none that a unit can have."""
+    return head(text)[1]
 
 
 def declared_name(text: str) -> str | None:

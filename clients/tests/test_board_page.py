@@ -325,7 +325,7 @@ class PictureTest(PageTest):
         for file in CONVEYOR.glob("*.fb"):
             self.write(f"plant/{file.name}", file.read_bytes())
         at = self.start("plant")
-        self.browser.devtools("Emulation.setDeviceMetricsOverride", width=1360, height=765, deviceScaleFactor=1, mobile=False)
+        self.browser.devtools("Emulation.setDeviceMetricsOverride", width=1180, height=780, deviceScaleFactor=2, mobile=False)
         self.see(at, 6, "#PLANT/network")
         self.write("plant/PUSHER.fb", "FUNCTION_BLOCK PUSHER\n  EVENT_INPUT PUSH WITH FORCE; END_EVENT\nEND_FUNCTION_BLOCK\n")
         self.browser.until("board.units.get('PUSHER')?.state === 'faulty'")
