@@ -24,6 +24,8 @@ MOST_JOBS = 16
 """Jobs that are asked for at once. It begins with one, as faults come first, and networks are not wanted here."""
 PIECE = 0.01
 """Seconds for which files and texts are read before the next message is looked for."""
+LEAST_FILES = 32
+"""Files that are looked at in any case."""
 SHORT_PAUSE = 0.05
 """Seconds between two questions for faults that somebody else is computing."""
 LOOK_AGAIN = 5.0
@@ -137,11 +139,11 @@ class Checking:
         return not self._look and self.plant.is_read()
 
     def catch_up(self, end: float) -> bool:
-        """Takes in the files that have changed, until a time; tells whether that is all of them."""
-        for path in self._look or ():
+        """Takes in the files that have changed, until a time and some in any case; tells whether that is all of them."""
+        for count, path in enumerate(self._look or (), 1):
             if path:
                 self._take(path)
-            if time.monotonic() >= end:
+            if count >= LEAST_FILES and time.monotonic() >= end:
                 return False
         self._look = None
         return True

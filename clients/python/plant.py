@@ -17,6 +17,8 @@ from reader import read
 from rpc import written
 from tokens import Token, head
 
+LEAST_READ = 20_000
+"""Bytes of texts that are read for a question in any case: as many as take a moment."""
 _FREEZE_EACH = 50
 """Texts after which what was read is passed over by the garbage collector."""
 
@@ -90,7 +92,7 @@ class Text:
 class Plant:
     """The texts by file. A text is read after it has changed: by `refresh`, or when a question needs it.
 
-    A question has texts read up to the time `until`. It is `missed` where there were more of them.
+    A question has texts read up to the time `until`, and some in any case. It has `missed` some where there were more of them.
     """
 
     def __init__(self) -> None:
@@ -135,8 +137,10 @@ class Plant:
 
     def _read_those(self, *words: str) -> None:
         """Has the texts read that have these words."""
+        count = 0
         for text in [it for file in self._unread if (it := self._texts[file]).has(words)]:
-            if time.monotonic() >= self.until:
+            count += len(text.text)
+            if count > LEAST_READ and time.monotonic() >= self.until:
                 self.missed = True
                 return
             self._read(text)

@@ -71,11 +71,13 @@ class PlantTest(unittest.TestCase):
         plant = plant_of({name: block % name for name in ("B", "C", "D")})
         plant.until = PAST
         key = Key("A", TYPE, "", "A")
-        self.assertEqual((uses(plant, key), plant.missed), ([], True))
-        plant.refresh(PAST)
-        self.assertEqual(len(uses(plant, key)), 1)
-        plant.refresh()
+        with patch("plant.LEAST_READ", 0):
+            self.assertEqual((uses(plant, key), plant.missed), ([], True))
+            plant.refresh(PAST)
+            self.assertEqual(len(uses(plant, key)), 1)
         plant.missed = False
+        self.assertEqual(len(uses(plant, key)), 3)
+        plant.refresh()
         self.assertEqual(len(uses(plant, key)), 3)
         self.assertFalse(plant.missed)
 
@@ -99,9 +101,10 @@ class AnswersTest(InFolder):
         self.sent: list[dict] = []
         self.server = Server(self.no_workbench, False, self.sent.append, lambda: None)
         self.addCleanup(self.server.close)
-        hurry = patch("answers.PATIENCE", PAST)
-        hurry.start()
-        self.addCleanup(hurry.stop)
+        for what, value in (("answers.PATIENCE", PAST), ("plant.LEAST_READ", 0), ("checking.LEAST_FILES", 1)):
+            hurry = patch(what, value)
+            hurry.start()
+            self.addCleanup(hurry.stop)
         self.ask("initialize", rootUri=self.folder.as_uri())
 
     def no_workbench(self):
