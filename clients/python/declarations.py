@@ -60,7 +60,12 @@ _ELEMENTS = re.compile(r"ARRAY\b.*\bOF\s+(\w+)", re.IGNORECASE | re.DOTALL)
 
 
 def is_elementary(name: str) -> bool:
-    return name in ELEMENTARY or name.startswith("ANY_")
+    return name in ELEMENTARY or is_free(name)
+
+
+def is_free(name: str) -> bool:
+    """Whether data of any type go with this one."""
+    return name == "ANY" or name.startswith("ANY_")
 
 
 def type_of_data(spelled: str) -> str:
