@@ -199,6 +199,38 @@ class NetworkTest(PageTest):
         self.browser.press("0")
         self.assertEqual(self.browser.value("network.scale <= 1.25 && network.boxes.every((it) => network.isSeen(it))"), True)
 
+    def test_by_mouse(self) -> None:
+        """It is moved by a drag, and what was under the mouse stays there where it is zoomed by the wheel."""
+        self.see_network()
+        x, y = self.block("LINE.SECOND.LIFT")
+        self.browser.drag((x, y), (x - 40, y + 20), (x - 90, y + 50))
+        self.assertEqual([round(it) for it in self.block("LINE.SECOND.LIFT")], [round(x) - 90, round(y) + 50])
+        self.assertIsNone(self.browser.value("network.chosen"))
+        x, y = self.block("LINE.SECOND.LIFT")
+        scale = self.browser.value("network.scale")
+        self.browser.wheel(x, y, -200)
+        self.browser.until(f"network.scale > {1.3 * scale}")
+        self.assertLess(max(abs(one - other) for one, other in zip(self.block("LINE.SECOND.LIFT"), (x, y))), 3)
+        self.browser.value("[...document.querySelectorAll('.row-tools button')].find((it) => it.textContent === 'Whole').click()")
+        self.assertAlmostEqual(self.browser.value("network.scale"), scale)
+
+    def test_blocks_stand_in_their_resources(self) -> None:
+        """Each in the frame that has its resource's name, and the links between frames are dashed."""
+        self.see_network()
+        apart = """network.blocks.filter(({ home, x, y, w, h }) => !network.view.frames.some(([name, left, top, width, height]) =>
+          name === home && left <= x && top <= y && x + w <= left + width && y + h <= top + height)).map((it) => it.path)"""
+        self.assertEqual(self.browser.value(apart), [])
+        self.assertEqual(self.browser.value("network.view.frames.map(([name]) => name)"), ["NORTH.MOTION", "SOUTH.MOTION", "SOUTH.SCREEN"])
+        self.assertEqual(self.browser.value("network.wires.filter((it) => it.cut !== (it.from.box.home !== it.to.box.home)).length"), 0)
+        dashed = """(() => {
+          const { context } = network, found = [];
+          context.setLineDash = (dash) => { found.push(dash.length > 0); CanvasRenderingContext2D.prototype.setLineDash.call(context, dash); };
+          network.paint();
+          delete context.setLineDash;
+          return found.filter(Boolean).length;
+        })()"""
+        self.assertEqual(self.browser.value(dashed), 2, "links of events and of data")
+
     def test_it_follows_changes(self) -> None:
         self.see_network()
         self.browser.value("network.choose(network.blocks[0], false)")
