@@ -56,6 +56,7 @@ class Checking:
         self.documents: dict[Path, Document] = {}
         self.plant = Plant()
         self._texts: SharedTexts | None = None
+        self._opening: Future[Session] | None = None
         self._sources: dict[Path, Source] = {}
         self._owners: dict[str, Path] = {}
         self._look: Iterator[Path | None] | None = None
@@ -74,8 +75,10 @@ class Checking:
         """How long to wait for a message before the next step; None where there is nothing to do without one."""
         if not self.is_read():
             return 0
-        if self._task and not self._task.done():
+        if any(it and not it.done() for it in (self._opening, self._task)):
             return None
+        if self._opening:
+            return 0
         if self._texts and (self._changed or self._task):
             return self._hold()
         if self._waiting:
@@ -117,16 +120,19 @@ class Checking:
 
     def close(self) -> None:
         """Ends the workbench, with what it is doing."""
+        if self._opening and not self._opening.exception():
+            self._opening.result().close()
         if self._texts:
             self._texts.session.close()
-        self._texts = self._task = None
+        self._texts = self._task = self._opening = None
 
     # Files
 
     def refresh_files(self) -> None:
         """Looks for a workbench where there is none; the next steps look at the files again."""
-        if not self._texts:
-            self._find_workbench()
+        if not self._texts and not self._opening:
+            self._opening = self._thread.submit(self._open_workbench)
+            self._opening.add_done_callback(lambda _: self._wake())
         self._look = self._changed_files()
 
     def watch(self, folders: list[Path]) -> None:
@@ -200,9 +206,11 @@ class Checking:
 
     # The workbench
 
-    def _find_workbench(self) -> None:
+    def _take_workbench(self, opening: Future[Session]) -> None:
+        """Begins with the workbench that was looked for, where there is one: it gets all texts."""
+        self._opening = None
         try:
-            self._texts = SharedTexts(self._open_workbench(), lambda words: self._tell(WARNING, words))
+            self._texts = SharedTexts(opening.result(), lambda words: self._tell(WARNING, words))
         except WorkbenchError as error:
             self._tell(ERROR, f"{error}. The next save tries again.")
         else:
@@ -221,6 +229,8 @@ class Checking:
     def step(self) -> None:
         """What can be done without a message."""
         end = time.monotonic() + PIECE
+        if self._opening and self._opening.done():
+            self._take_workbench(self._opening)
         if self.catch_up(end) and self._texts and (not self._task or self._task.done()) and not self._hold():
             try:
                 self._settle_some(self._texts)

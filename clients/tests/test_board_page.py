@@ -15,7 +15,7 @@ from bench61499 import Put, Session
 
 SETTLED = "board.connected && count().pending === 0 && board.units.size === "
 PICTURE = os.environ.get("BENCH61499_BOARD_PICTURE")
-"""Where the picture for the document is written, if anywhere."""
+"""Where the picture for the document is written, if anywhere; beside it the dark one."""
 # Each control that has no name, and each list, tab or field without its role.
 UNNAMED = """(() => {
   const named = (it) => (it.getAttribute("aria-label") ?? it.labels?.[0]?.textContent ?? "").trim() || it.textContent.trim() || it.getAttribute("aria-labelledby");
@@ -357,19 +357,23 @@ class PictureTest(PageTest):
         for file in CONVEYOR.glob("*.fb"):
             self.write(f"plant/{file.name}", file.read_bytes())
         at = self.start("plant")
-        self.browser.devtools("Emulation.setDeviceMetricsOverride", width=1180, height=780, deviceScaleFactor=2, mobile=False)
+        self.browser.devtools("Emulation.setDeviceMetricsOverride", width=1180, height=740, deviceScaleFactor=1.5, mobile=False)
         self.see(at, 6, "#PLANT/network")
         self.write("plant/PUSHER.fb", "FUNCTION_BLOCK PUSHER\n  EVENT_INPUT PUSH WITH FORCE; END_EVENT\nEND_FUNCTION_BLOCK\n")
         self.browser.until("board.units.get('PUSHER')?.state === 'faulty'")
         self.edit("plant/FEEDER.fb", "LOAD > 0 AND", "LOAD > 1 AND")
         self.browser.until("board.changes.length === 2 && count().pending === 0 && network?.canvas.isConnected && network.scale > 0")
         self.browser.value("network.choose(network.blocks.find((it) => it.path === 'LINE.SECOND.LIFT'), false)")
-        self.browser.until("document.querySelector('.block h3') && !network.planned")
+        self.browser.until("document.querySelector('.block h3') && !network.planned && document.getElementById('note').hidden")
         self.assertEqual(self.words(".block h3"), "LINE.SECOND.LIFT")
         self.assertEqual(self.words("#counts").split(), "7 units 1 fault in 1 unit 0 pending".split())
         self.assertEqual(self.browser.value("board.changes.map((it) => `${it.unit} ${it.old} ${it.new}`)"), ["PUSHER 0 2", "FEEDER 1 3"])
         if PICTURE:
-            self.browser.picture(Path(PICTURE))
+            for scheme, file in (("light", Path(PICTURE)), ("dark", Path(PICTURE).with_stem(f"{Path(PICTURE).stem}-dark"))):
+                self.browser.colours(scheme)
+                self.browser.value("network.draw()")
+                self.browser.until("!network.planned")
+                self.browser.picture(file)
 
 
 def contrast(one: str, other: str) -> float:
