@@ -19,7 +19,7 @@ from plant import Plant, Text
 from positions import Position, place
 from rename import CantRename, check_target, renamed
 
-PATIENCE = 0.015
+PATIENCE = 0.01
 """Seconds that an answer may wait for files and texts to be read."""
 CAPABILITIES = {
     "positionEncoding": "utf-16",

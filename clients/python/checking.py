@@ -22,7 +22,7 @@ from units import Misuse, read_text, stand_in_name
 
 MOST_JOBS = 16
 """Jobs that are asked for at once. It begins with one, as faults come first, and networks are not wanted here."""
-PIECE = 0.01
+PIECE = 0.005
 """Seconds for which files and texts are read before the next message is looked for."""
 LEAST_FILES = 32
 """Files that are looked at in any case."""

@@ -4,6 +4,7 @@ from __future__ import annotations
 import gc
 import math
 import time
+from bisect import bisect_right
 from collections import defaultdict
 from collections.abc import Iterable, Iterator
 from functools import cached_property
@@ -17,7 +18,7 @@ from reader import read
 from rpc import written
 from tokens import Token, head
 
-LEAST_READ = 20_000
+LEAST_READ = 8_000
 """Bytes of texts that are read for a question in any case: as many as take a moment."""
 _FREEZE_EACH = 50
 """Texts after which what was read is passed over by the garbage collector."""
@@ -82,9 +83,13 @@ class Text:
         return self._written_locations(self.places, names)
 
     def _written_locations(self, places: Places, names: Iterable[Declaration | Use | Token]) -> Iterator[str]:
-        head = f'{{"uri":{self._written_uri},"range":{{"start":{{"line":'
+        head, starts, is_plain = f'{{"uri":{self._written_uri},"range":{{"start":{{"line":', places.starts, places.is_plain
         for it in names:
-            line, first = line_character(places, it.start)
+            if is_plain:
+                line = bisect_right(starts, it.start) - 1
+                first = it.start - starts[line]
+            else:
+                line, first = line_character(places, it.start)
             last = first + it.end - it.start
             yield f'{head}{line},"character":{first}}},"end":{{"line":{line},"character":{last}}}}}}}'
 

@@ -96,16 +96,17 @@ def pieces(text: str) -> Iterator[Token]:
     """The tokens and the comments of a text in order. A comment that is never closed is one token, up to the end."""
     for found in _matches(text.encode()):
         if kind := found.lastgroup:
-            yield Token(kind, *found.span(kind), found[kind].decode(errors="replace"))
+            start, end = found.span(kind)
+            yield Token(kind, start, end, found[kind].decode(errors="replace"))
 
 
 def tokens(text: str) -> Iterator[Token]:
     """The tokens of a text in order, without comments."""
-    return (piece for piece in pieces(text) if piece.kind != "comment")
+    return (piece for piece in pieces(text) if piece[0] != "comment")
 
 
 def is_name(token: Token) -> bool:
-    return token.kind == "word" and len(token.words) <= NAME_LIMIT and token.upper not in RESERVED
+    return token.kind == "word" and len(token.words) <= NAME_LIMIT and token.words.upper() not in RESERVED
 
 
 def spelled(of: Sequence[Token]) -> str:
