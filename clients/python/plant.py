@@ -20,6 +20,8 @@ from tokens import Token, head
 
 LEAST_READ = 8_000
 """Bytes of texts that are read for a question in any case: as many as take a moment."""
+_MOST_READ = 64
+"""Texts that are read for a question: where there are more, there is no time for all, and so for none."""
 _FREEZE_EACH = 50
 """Texts after which what was read is passed over by the garbage collector."""
 
@@ -67,9 +69,13 @@ class Text:
         self.unit.prepare()
         self.places, self.head
 
+    @cached_property
+    def _upper(self) -> str:
+        return self.text.upper()
+
     def has(self, words: Iterable[str]) -> bool:
         """Whether these words, in upper case, stand somewhere in the text, be it in others."""
-        upper = self.text.upper()
+        upper = self._upper
         return all(word in upper for word in words)
 
     def range(self, start: int, end: int) -> Range:
@@ -141,14 +147,18 @@ class Plant:
                 return
 
     def _read_those(self, *words: str) -> None:
-        """Has the texts read that have these words."""
+        """Has the texts read that have these words, where there is time for all of them."""
+        those = [it for file in self._unread if (it := self._texts[file]).has(words)]
+        if len(those) > _MOST_READ and self.until < math.inf:
+            self.missed = True
+            return
         count = 0
-        for text in [it for file in self._unread if (it := self._texts[file]).has(words)]:
-            count += len(text.text)
+        for text in those:
             if count > LEAST_READ and time.monotonic() >= self.until:
                 self.missed = True
                 return
             self._read(text)
+            count += len(text.text)
 
     def _read(self, text: Text) -> None:
         text.prepare()

@@ -71,7 +71,7 @@ class PlantTest(unittest.TestCase):
         plant = plant_of({name: block % name for name in ("B", "C", "D")})
         plant.until = PAST
         key = Key("A", TYPE, "", "A")
-        with patch("plant.LEAST_READ", 0):
+        with patch("plant.LEAST_READ", -1):
             self.assertEqual((uses(plant, key), plant.missed), ([], True))
             plant.refresh(PAST)
             self.assertEqual(len(uses(plant, key)), 1)
@@ -101,7 +101,7 @@ class AnswersTest(InFolder):
         self.sent: list[dict] = []
         self.server = Server(self.no_workbench, False, self.sent.append, lambda: None)
         self.addCleanup(self.server.close)
-        for what, value in (("answers.PATIENCE", PAST), ("plant.LEAST_READ", 0), ("checking.LEAST_FILES", 1)):
+        for what, value in (("answers.PATIENCE", PAST), ("plant.LEAST_READ", -1), ("checking.LEAST_FILES", 1)):
             hurry = patch(what, value)
             hurry.start()
             self.addCleanup(hurry.stop)
