@@ -1,6 +1,7 @@
 """The answers to what an editor asks about the texts of a plant, in the forms of LSP 3.17."""
 from __future__ import annotations
 
+import time
 from collections.abc import Callable, Iterable
 from pathlib import Path
 from typing import Any
@@ -16,8 +17,10 @@ from layout import Edit, applied, formatted
 from navigation import Found, definitions, highlights, name_at, outline, references, units_named
 from plant import Plant, Text
 from positions import Position, place
-from rename import check_target, renamed
+from rename import CantRename, check_target, renamed
 
+PATIENCE = 0.01
+"""Seconds that an answer may wait for files and texts to be read."""
 CAPABILITIES = {
     "positionEncoding": "utf-16",
     "textDocumentSync": {"openClose": True, "change": 2, "save": {"includeText": False}},
@@ -46,15 +49,43 @@ class CantAnswer(Exception):
 
 
 class Answers:
-    """Answers by the texts as they are now. `catch_up` has all of them read, and `shown` gives what the editor shows of a file."""
+    """Answers by the texts as they are now.
 
-    def __init__(self, plant: Plant, catch_up: Callable[[], None], shown: Callable[[Path], list[Diagnostic]]):
-        self._plant, self._catch_up, self._shown = plant, catch_up, shown
+    `catch_up` takes in the files that have changed until a time, and tells whether that is all; `shown` gives what the editor shows of a file;
+    `lacks` is told what was answered though not all was read.
+    """
+
+    def __init__(
+        self,
+        plant: Plant,
+        catch_up: Callable[[float], bool],
+        shown: Callable[[Path], list[Diagnostic]],
+        lacks: Callable[[str], None],
+    ):
+        self._plant, self._catch_up, self._shown, self._lacks = plant, catch_up, shown, lacks
 
     def answer(self, method: str, params: Any) -> Any:
-        """Raises `CantAnswer`, and `KeyError`, `TypeError` and the like where the parameters make no sense."""
-        if method not in self._OF_ONE_TEXT:
-            self._catch_up()
+        """Raises `CantAnswer`, `CantRename`, and `KeyError`, `TypeError` and the like where the parameters make no sense.
+
+        While files and texts are still to be read, a question is answered by those that are read in time. Where it would take more of them a
+        rename is refused, and the user is told later of a search that may lack something.
+        """
+        plant = self._plant
+        plant.until = time.monotonic() + PATIENCE
+        plant.missed = method not in self._OF_ONE_TEXT and not self._catch_up(plant.until)
+        try:
+            answer = self._answer(method, params)
+        except CantRename:
+            if not plant.missed:
+                raise
+        if plant.missed and method in self._ALL_OR_NOTHING:
+            read, there = plant.counts()
+            raise CantAnswer(f"the units of this folder are still being read, {read:,} of {there:,} so far: try again in a moment")
+        if plant.missed and method in self._SEARCHES:
+            self._lacks(self._SEARCHES[method])
+        return answer
+
+    def _answer(self, method: str, params: Any) -> Any:
         if method == "workspace/symbol":
             return units_named(self._plant, params["query"])
         path = path_of(params["textDocument"]["uri"])
@@ -164,3 +195,10 @@ class Answers:
         for it in ("documentSymbol", "semanticTokens/full", "semanticTokens/range", "foldingRange", "formatting", "rangeFormatting")
     )
     """What is answered by the text alone, so that it needs no wait for the texts of a whole folder."""
+    _ALL_OR_NOTHING = frozenset(["textDocument/prepareRename", "textDocument/rename"])
+    _SEARCHES = {
+        "workspace/symbol": "A search of units",
+        "textDocument/definition": "A search of a definition",
+        "textDocument/references": "A search of uses",
+    }
+    """What users ask for, so that they are told where an answer may lack something."""

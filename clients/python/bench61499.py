@@ -673,27 +673,28 @@ class Places:
     def __init__(self, text: str):
         self.encoded = text.encode()
         ends = [(it.start(), it.end()) for it in self._LINE_END.finditer(self.encoded)]
-        self._starts = [0, *(end for _, end in ends)]
+        self.starts = [0, *(end for _, end in ends)]
+        """Where each line begins."""
         self._ends = [*(start for start, _ in ends), len(self.encoded)]
         self.is_plain = self.encoded.isascii()
         """Whether each character is one byte."""
 
     def line_count(self) -> int:
         """The number of lines; a text that ends with a line end has an empty last one."""
-        return len(self._starts)
+        return len(self.starts)
 
     def line(self, number: int) -> str:
         """The text of a line, without its line end. Raises `ValueError` where there is no such line."""
-        if not 1 <= number <= len(self._starts):
-            raise ValueError(f"no line {number} in a text of {len(self._starts)}")
-        return self.encoded[self._starts[number - 1] : self._ends[number - 1]].decode()
+        if not 1 <= number <= len(self.starts):
+            raise ValueError(f"no line {number} in a text of {len(self.starts)}")
+        return self.encoded[self.starts[number - 1] : self._ends[number - 1]].decode()
 
     def line_column(self, place: int) -> tuple[int, int]:
         """The line and the column of a place. Raises `ValueError` where it is not in the text."""
         if not 0 <= place <= len(self.encoded):
             raise ValueError(f"no byte {place} in a text of {len(self.encoded)}")
-        line = bisect_right(self._starts, place)
-        start = self._starts[line - 1]
+        line = bisect_right(self.starts, place)
+        start = self.starts[line - 1]
         before = place - start if self.is_plain else len(self.encoded[start:place].decode(errors="ignore"))
         return line, before + 1
 
@@ -702,7 +703,7 @@ class Places:
         text = self.line(line)
         if not 1 <= column <= len(text) + 1:
             raise ValueError(f"no column {column} in line {line}, which has {len(text)} characters")
-        return self._starts[line - 1] + len(text[: column - 1].encode())
+        return self.starts[line - 1] + len(text[: column - 1].encode())
 
     def words(self, start: int, end: int) -> str:
         """What stands at a span."""

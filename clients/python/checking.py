@@ -1,11 +1,11 @@
 """What is between the texts of an editor and a workbench: the one is brought into the other, and faults are shown."""
 from __future__ import annotations
 
-import math
 import time
-from collections.abc import Callable
+from collections.abc import Callable, Iterator
 from concurrent.futures import Future, ThreadPoolExecutor
 from dataclasses import dataclass, field
+from itertools import chain
 from pathlib import Path
 from typing import Any
 
@@ -15,15 +15,17 @@ from explain import Explainer, Names
 from folder import Stamp, stamp_of, stamps_of
 from plant import Plant
 from positions import changed, range_of, sound
-from rpc import ERROR, WARNING, Message, tell
+from rpc import ERROR, INFO, WARNING, Message, tell
 from shared import SharedTexts
-from tokens import declaration, declared_name
+from tokens import declaration
 from units import Misuse, read_text, stand_in_name
 
 MOST_JOBS = 16
 """Jobs that are asked for at once. It begins with one, as faults come first, and networks are not wanted here."""
-PIECE = 0.01
+PIECE = 0.005
 """Seconds for which files and texts are read before the next message is looked for."""
+LEAST_FILES = 32
+"""Files that are looked at in any case."""
 SHORT_PAUSE = 0.05
 """Seconds between two questions for faults that somebody else is computing."""
 LOOK_AGAIN = 5.0
@@ -54,10 +56,11 @@ class Checking:
         self.documents: dict[Path, Document] = {}
         self.plant = Plant()
         self._texts: SharedTexts | None = None
+        self._opening: Future[Session] | None = None
         self._sources: dict[Path, Source] = {}
         self._owners: dict[str, Path] = {}
-        self._is_to_look = False
-        self._to_take: list[Path] = []
+        self._look: Iterator[Path | None] | None = None
+        self._lacking = ""
         self._changed: dict[Path, Source | None] = {}
         self._expected: dict[Path, str] = {}
         self._held_until = 0.0
@@ -70,11 +73,13 @@ class Checking:
 
     def patience(self) -> float | None:
         """How long to wait for a message before the next step; None where there is nothing to do without one."""
-        if self._is_to_look or self._to_take or not self.plant.is_read():
+        if not self.is_read():
             return 0
-        if self._task and not self._task.done():
+        if any(it and not it.done() for it in (self._opening, self._task)):
             return None
-        if self._changed or self._task:
+        if self._opening:
+            return 0
+        if self._texts and (self._changed or self._task):
             return self._hold()
         if self._waiting:
             return self._pause
@@ -115,38 +120,63 @@ class Checking:
 
     def close(self) -> None:
         """Ends the workbench, with what it is doing."""
+        if self._opening and not self._opening.exception():
+            self._opening.result().close()
         if self._texts:
             self._texts.session.close()
-        self._texts = self._task = None
+        self._texts = self._task = self._opening = None
 
     # Files
 
     def refresh_files(self) -> None:
         """Looks for a workbench where there is none; the next steps look at the files again."""
-        if not self._texts:
-            self._find_workbench()
-        self._is_to_look = True
+        if not self._texts and not self._opening:
+            self._opening = self._thread.submit(self._open_workbench)
+            self._opening.add_done_callback(lambda _: self._wake())
+        self._look = self._changed_files()
 
-    def catch_up(self) -> None:
-        """Reads all files and texts that have changed. What needs one text alone doesn't wait for it."""
-        self._read_files(math.inf)
-        self.plant.refresh()
+    def watch(self, folders: list[Path]) -> None:
+        """Tells the folders of the editor. Their files are read by the next steps, and a workbench is looked for with the first document."""
+        self.folders = folders
+        self._look = self._changed_files()
 
-    def _read_files(self, end: float) -> None:
-        """Takes in the files that have changed: all of them, or some until a time."""
-        if self._is_to_look:
-            self._is_to_look = False
-            self._to_take = self._changed_files()
-        while self._to_take and time.monotonic() < end:
-            self._take(self._to_take.pop())
+    def is_read(self) -> bool:
+        """Whether all files are taken in, and all texts read."""
+        return not self._look and self.plant.is_read()
 
-    def _changed_files(self) -> list[Path]:
-        """The files that have changed, of those in the folders, those beside open documents, and those that were known."""
+    def catch_up(self, end: float) -> bool:
+        """Takes in the files that have changed, until a time and some in any case; tells whether that is all of them."""
+        for count, path in enumerate(self._look or (), 1):
+            if path:
+                self._take(path)
+            if count >= LEAST_FILES and time.monotonic() >= end:
+                return False
+        self._look = None
+        return True
+
+    def lacks(self, what: str) -> None:
+        """Has the user told, once all is read, that an answer was given before that."""
+        self._lacking = what
+
+    def _tell_lacking(self) -> None:
+        if self._lacking and self.is_read():
+            read = self.plant.counts()[0]
+            self._tell(INFO, f"All {read:,} units are read now. {self._lacking} was answered before that and may lack some: ask again.")
+            self._lacking = ""
+
+    def _changed_files(self) -> Iterator[Path | None]:
+        """The files that have changed, of those in the folders, those beside open documents, and those that were known; None for each other one."""
         beside = {path.parent for path in self.documents if not any(path.is_relative_to(folder) for folder in self.folders)}
-        stamps = {**dict(stamps_of(self.folders)), **dict(stamps_of(beside, with_inner=False))}
-        found = {Path(file): stamp for file, stamp in stamps.items() if stamp}
-        found |= {file: stamp_of(file) for file in (self._sources.keys() | self._changed.keys()) - found.keys()}
-        return [file for file, stamp in found.items() if file not in self.documents and not self._is_known(file, stamp)]
+        found = set()
+        for file, stamp in chain(stamps_of(self.folders), stamps_of(beside, with_inner=False)):
+            path = Path(file)
+            found.add(path)
+            yield path if stamp and self._is_new(path, stamp) else None
+        for path in (self._sources.keys() | self._changed.keys()) - found:
+            yield path if self._is_new(path, stamp_of(path)) else None
+
+    def _is_new(self, file: Path, stamp: Stamp | None) -> bool:
+        return file not in self.documents and not self._is_known(file, stamp)
 
     def _is_known(self, file: Path, stamp: Stamp | None) -> bool:
         known = self._changed.get(file) or self._sources.get(file)
@@ -158,7 +188,9 @@ class Checking:
         self._changed[path] = source
         if source and source.text is not None and source.text == self._expected.get(path):
             del self._expected[path]
-        self.plant.put(path, source.text if source else None, document.uri if document else None)
+        text = self.plant.put(path, source.text if source else None, document.uri if document else None)
+        if source and text:
+            source.declares = text.declared
 
     def _read(self, path: Path) -> Source | None:
         if document := self.documents.get(path):
@@ -174,16 +206,17 @@ class Checking:
 
     # The workbench
 
-    def _find_workbench(self) -> None:
+    def _take_workbench(self, opening: Future[Session]) -> None:
+        """Begins with the workbench that was looked for, where there is one: it gets all texts."""
+        self._opening = None
         try:
-            self._texts = SharedTexts(self._open_workbench(), lambda words: self._tell(WARNING, words))
+            self._texts = SharedTexts(opening.result(), lambda words: self._tell(WARNING, words))
         except WorkbenchError as error:
             self._tell(ERROR, f"{error}. The next save tries again.")
         else:
+            self._changed = {**self._sources, **self._changed}
             self._sources.clear()
             self._owners.clear()
-            for path in self.documents:
-                self._take(path)
 
     def _lose(self, error: WorkbenchError) -> None:
         """Goes on without a workbench: no faults are known any more."""
@@ -196,15 +229,15 @@ class Checking:
     def step(self) -> None:
         """What can be done without a message."""
         end = time.monotonic() + PIECE
-        self._read_files(end)
-        if not self._texts:
-            self._changed.clear()
-        elif not self._to_take and (not self._task or self._task.done()) and not self._hold():
+        if self._opening and self._opening.done():
+            self._take_workbench(self._opening)
+        if self.catch_up(end) and self._texts and (not self._task or self._task.done()) and not self._hold():
             try:
                 self._settle_some(self._texts)
             except WorkbenchError as error:
                 self._lose(error)
         self.plant.refresh(end)
+        self._tell_lacking()
 
     def _settle_some(self, texts: SharedTexts) -> None:
         """Shows what the last task has settled, and begins the next one: at once, or after a pause where others have the jobs in hand."""
@@ -258,7 +291,7 @@ class Checking:
         """The unit that a text is: as it declares, or as before while it declares none; none where another file is that unit."""
         if source.text is None:
             return None
-        name = declared_name(source.text) or former or stand_in_name(source.file, self._owners)
+        name = source.declares or former or stand_in_name(source.file, self._owners)
         owner = self._owners.get(name)
         if owner and source.file not in self.documents:
             self._tell(WARNING, f"{owner} and {source.file} both declare the unit {name}; the first one counts.")

@@ -6,8 +6,8 @@ from enum import IntEnum
 from typing import NamedTuple
 
 from declarations import (
-    ALGORITHM, APPLICATION, CONNECTION_SECTIONS, DATA_TYPE, DESTINATION, DEVICE, ELEMENTARY, EVENT, FIELD, INSTANCE, PARAMETERS, RESOURCE, SOURCE,
-    STATE, TYPE, VARIABLE, Declaration, Step, Unit, Wanted, is_elementary,
+    ALGORITHM, APPLICATION, CONNECTION_SECTIONS, DATA_TYPE, DESTINATION, DEVICE, ELEMENTARY, EVENT, FIELD, INSTANCE, INTERFACE, PARAMETERS, RESOURCE,
+    SOURCE, STATE, TYPE, VARIABLE, Declaration, Step, Unit, Use, Wanted, is_elementary, is_free,
 )
 from plant import Plant, Text
 from reader import read
@@ -68,7 +68,9 @@ def candidates(plant: Plant, text: Text, place: int) -> list[Candidate]:
     if front is None:
         return []
     before = read(front)
-    names = [it for wanted in before.wanted for it in named(plant, text.unit, wanted)]
+    other = _other_end(text, before, place)
+    of = plant.declaration(plant.key(other)) if other else None
+    names = [it for wanted in before.wanted for it in named(plant, text.unit, wanted, of.type if of else "")]
     words = [Candidate(word, ItemKind.KEYWORD) for word in before.words if word.isidentifier()]
     return list(dict.fromkeys([*names, *words]))
 
@@ -88,8 +90,21 @@ def _front(text: Text, place: int) -> str | None:
     return encoded.decode()
 
 
-def named(plant: Plant, unit: Unit, wanted: Wanted) -> Iterator[Candidate]:
-    """The names that are wanted at a place of a unit."""
+def _other_end(text: Text, before: Unit, place: int) -> Use | None:
+    """The port at the other end of the connection whose end is wanted: the source before it, or the destination behind it in its line."""
+    wanted = before.wanted[-1] if before.wanted else None
+    if not wanted or not wanted.side or wanted.section not in CONNECTION_SECTIONS:
+        return None
+    if wanted.side == DESTINATION:
+        begin = before.connections[-1].source[0].start
+        return next((it.source[-1] for it in text.unit.connections if it.source[0].start == begin), None)
+    line = text.places.line_column(place)[0]
+    behind = (it.destination for it in text.unit.connections if it.source[0].start <= place and it.destination and place <= it.destination[0].start)
+    return next((it[-1] for it in behind if text.places.line_column(it[0].start)[0] == line), None)
+
+
+def named(plant: Plant, unit: Unit, wanted: Wanted, other: str = "") -> Iterator[Candidate]:
+    """The names that are wanted at a place of a unit. `other` is the type at the other end of a connection, where it is known."""
     if wanted.space == TYPE:
         kind = TYPE_KINDS[wanted.section]
         yield from (Candidate(name, _TYPE_ITEMS[kind]) for name in sorted(plant.kinds(kind)) if name != unit.name)
@@ -98,7 +113,15 @@ def named(plant: Plant, unit: Unit, wanted: Wanted) -> Iterator[Candidate]:
         yield from (Candidate(name, ItemKind.STRUCT) for name in (*structures, *ELEMENTARY))
         yield Candidate("ARRAY", ItemKind.KEYWORD)
     else:
-        yield from (_candidate(it) for it in declared(plant, unit, wanted))
+        yield from (_candidate(it) for it in declared(plant, unit, wanted) if not other or _goes_with(it, wanted, other))
+
+
+def _goes_with(it: Declaration, wanted: Wanted, other: str) -> bool:
+    """Whether a connection may join a declared name with a port of this type. An instance leads on to its ports."""
+    if it.key.space != wanted.space or it.section not in INTERFACE:
+        return True
+    one, two = ("".join(type_.upper().split()) for type_ in (it.type, other))
+    return one == two or wanted.space == VARIABLE and any(is_free(type_) for type_ in (one, two))
 
 
 def _candidate(it: Declaration) -> Candidate:

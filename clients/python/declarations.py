@@ -60,7 +60,12 @@ _ELEMENTS = re.compile(r"ARRAY\b.*\bOF\s+(\w+)", re.IGNORECASE | re.DOTALL)
 
 
 def is_elementary(name: str) -> bool:
-    return name in ELEMENTARY or name.startswith("ANY_")
+    return name in ELEMENTARY or is_free(name)
+
+
+def is_free(name: str) -> bool:
+    """Whether data of any type go with this one."""
+    return name == "ANY" or name.startswith("ANY_")
 
 
 def type_of_data(spelled: str) -> str:
@@ -196,9 +201,14 @@ class Unit:
             found[use.key].append(use)
         return dict(found)
 
+    @cached_property
+    def walking(self) -> frozenset[str]:
+        """The names that are used deep in a path, where only other units tell whose they are."""
+        return frozenset(use.key.name for use in self.uses if use.walk)
+
     def prepare(self) -> None:
         """Has the tables made now, and not when somebody asks."""
-        self.first, self.by_key
+        self.first, self.by_key, self.walking
 
     def of(self, *sections: str, scope: str = "") -> Iterator[Declaration]:
         """What is declared in these sections, first declarations alone."""

@@ -41,13 +41,14 @@ class Document:
 class Source:
     """The text of a file, as it is in the editor or on disk; None where it can be the text of no unit.
 
-    `stamp` is the state of the file when it was read, None where the text is the editor's. `unit` is what it is in the workbench, if
-    anything.
+    `stamp` is the state of the file when it was read, None where the text is the editor's. `declares` is the name that the text declares,
+    and `unit` what it is in the workbench, if anything.
     """
 
     file: Path
     text: str | None
     stamp: Stamp | None = None
+    declares: str | None = None
     unit: str | None = None
 
 

@@ -132,12 +132,12 @@ def _missing_instance(plant: Plant, wrong: Wrong) -> Iterator[Fix]:
     port = unit.uses[wrong.at + 1].key.name
     kinds = {"FUNCTION_BLOCK": "FBS"} if unit.kind == "FUNCTION_BLOCK" else {"FUNCTION_BLOCK": "FBS", "SUBAPPLICATION": "SUBAPPS"}
     sections = ACROSS[wanted.side][wanted.space]
-    found = [
-        (it.unit.name, kinds[it.unit.kind])
-        for it in plant.texts()
-        if it.unit.kind in kinds and (its := it.unit.first.get(Key(it.unit.name, wanted.space, "", port))) and its.section in sections
-    ]
     here = {it.type.upper() for it in unit.declared}
+    found = [
+        (it.name, kinds[it.kind])
+        for it in {*plant.texts_with(port), *(it for name in here for it in plant.declaring(name))}
+        if it.kind in kinds and (its := it.unit.first.get(Key(it.name, wanted.space, "", port))) and its.section in sections
+    ]
     found.sort(key=lambda it: (it[0] not in here, wrong.name.upper() not in it[0], it[0]))
     for of, section in found[:_MOST_TYPES]:
         if of != unit.name:

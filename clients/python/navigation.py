@@ -133,6 +133,6 @@ def units_named(plant: Plant, query: str) -> Written:
     """The units of the folder whose names have the letters of the query in their order; those that begin with it first."""
     wanted = query.upper()
     letters = re.compile(".*".join(map(re.escape, wanted)))
-    found = [it for it in plant.texts() if it.head and letters.search(it.unit.name)]
-    found.sort(key=lambda it: (not it.unit.name.startswith(wanted), wanted not in it.unit.name, it.unit.name))
-    return joined(f'{{"name":"{it.unit.name}","kind":{SYMBOL_KINDS[it.unit.kind]:d},"location":{it.head}}}' for it in found)
+    found = [it for it in plant.texts() if it.head and letters.search(it.name)]
+    found.sort(key=lambda it: (not it.name.startswith(wanted), wanted not in it.name, it.name))
+    return joined(f'{{"name":"{it.name}","kind":{SYMBOL_KINDS[it.kind]:d},"location":{it.head}}}' for it in found)

@@ -20,6 +20,8 @@ TAG_HEIGHT = 24
 PAD = 24
 """Room between a frame and what stands in it, and as much again above for its name."""
 _WIDE, _NARROW = 7.4, 6.4
+_NAME = 11
+"""Width of a letter of a frame's name, which is written larger where the picture is small."""
 _LEAST, _MOST = 96.0, 320.0
 _SORTS: tuple[Sort, ...] = ("event", "data", "adapter")
 
@@ -124,7 +126,7 @@ class Picture:
 
     @staticmethod
     def _outer(group: str, width: float, height: float) -> Size:
-        return (max(width, len(group) * _WIDE) + 2 * PAD, height + 3 * PAD) if group else (width, height)
+        return (max(width, len(group) * _NAME) + 2 * PAD, height + 3 * PAD) if group else (width, height)
 
 
 class _Numbered:

@@ -1,31 +1,44 @@
-"""The units of a folder: each text is read once after it has changed, and found by the names that it declares and uses."""
+"""The units of a folder: each is found by its head at once, and by the names that it uses once its text is read."""
 from __future__ import annotations
 
 import gc
 import math
 import time
+from bisect import bisect_right
 from collections import defaultdict
 from collections.abc import Iterable, Iterator
 from functools import cached_property
 from pathlib import Path
 
 from bench61499 import Places
-from declarations import FIELD, INSTANCE, Declaration, Key, Unit, Use, Walk, type_with_fields
+from declarations import FIELD, INSTANCE, KINDS, NAMELESS, Declaration, Key, Unit, Use, Walk, type_with_fields
 from explain import Names
 from positions import Range, line_character, range_of, range_of_name
 from reader import read
 from rpc import written
+from tokens import Token, head
 
+LEAST_READ = 8_000
+"""Bytes of texts that are read for a question in any case: as many as take a moment."""
+_MOST_READ = 64
+"""Texts that are read for a question: where there are more, there is no time for all, and so for none."""
 _FREEZE_EACH = 50
 """Texts after which what was read is passed over by the garbage collector."""
 
 
 class Text:
-    """The text of a file, and what was read of it."""
+    """The text of a file, and what is read of it: its head at once, and the rest when it is asked for.
+
+    `declared` is the name behind its first word, if any; `kind` and `name` are those of the unit that it declares.
+    """
 
     def __init__(self, file: Path, text: str, uri: str | None = None):
         self.file, self.text = file, text
         self._uri = uri
+        word, self._head = head(text)
+        self.declared = self._head.upper if self._head else None
+        self.kind = word if word in KINDS else ""
+        self.name = self.declared if self.kind and self.declared else NAMELESS
 
     @cached_property
     def uri(self) -> str:
@@ -46,12 +59,24 @@ class Text:
     @cached_property
     def head(self) -> str | None:
         """The location of the name of the unit, written."""
-        return next(self.written_locations(self.unit.declared[:1]), None) if self.unit.kind else None
+        if not self._head or not self.kind:
+            return None
+        front = Places(self.text.encode()[: self._head.end].decode())
+        return next(self._written_locations(front, [self._head]))
 
     def prepare(self) -> None:
         """Has all that is made of the text made now, and not when somebody asks."""
         self.unit.prepare()
-        self.uri, self.head
+        self.places, self.head
+
+    @cached_property
+    def _upper(self) -> str:
+        return self.text.upper()
+
+    def has(self, words: Iterable[str]) -> bool:
+        """Whether these words, in upper case, stand somewhere in the text, be it in others."""
+        upper = self._upper
+        return all(word in upper for word in words)
 
     def range(self, start: int, end: int) -> Range:
         return range_of(self.places, start, end)
@@ -61,17 +86,29 @@ class Text:
 
     def written_locations(self, names: Iterable[Declaration | Use]) -> Iterator[str]:
         """Where names stand, written: of each `{"uri": .., "range": ..}`."""
-        head, places = f'{{"uri":{self._written_uri},"range":{{"start":{{"line":', self.places
+        return self._written_locations(self.places, names)
+
+    def _written_locations(self, places: Places, names: Iterable[Declaration | Use | Token]) -> Iterator[str]:
+        head, starts, is_plain = f'{{"uri":{self._written_uri},"range":{{"start":{{"line":', places.starts, places.is_plain
         for it in names:
-            line, first = line_character(places, it.start)
+            if is_plain:
+                line = bisect_right(starts, it.start) - 1
+                first = it.start - starts[line]
+            else:
+                line, first = line_character(places, it.start)
             last = first + it.end - it.start
             yield f'{head}{line},"character":{first}}},"end":{{"line":{line},"character":{last}}}}}}}'
 
 
 class Plant:
-    """The texts by file, and an index of them that is brought up to date by `refresh`."""
+    """The texts by file. A text is read after it has changed: by `refresh`, or when a question needs it.
+
+    A question has texts read up to the time `until`, and some in any case. It has `missed` some where there were more of them.
+    """
 
     def __init__(self) -> None:
+        self.until = math.inf
+        self.missed = False
         self._texts: dict[Path, Text] = {}
         self._unread: set[Path] = set()
         self._names: dict[Path, set[str]] = {}
@@ -81,27 +118,59 @@ class Plant:
         self._frozen = 0
         self._near: dict[str, tuple[frozenset[str], Names]] = {}
 
-    def put(self, file: Path, text: str | None, uri: str | None = None) -> None:
+    def put(self, file: Path, text: str | None, uri: str | None = None) -> Text | None:
         """Gives a file a text; None takes it away."""
+        known = self._texts.get(file)
+        if known and known.text == text and known.uri == (uri or file.as_uri()):
+            return known
+        if known:
+            self._forget(known)
         if text is None:
-            self._texts.pop(file, None)
-        else:
-            self._texts[file] = Text(file, text, uri)
+            return None
+        made = self._texts[file] = Text(file, text, uri)
+        self._declaring[made.name].add(file)
         self._unread.add(file)
+        return made
 
     def is_read(self) -> bool:
         return not self._unread
 
+    def counts(self) -> tuple[int, int]:
+        """How many texts are read, and how many there are."""
+        return len(self._names), len(self._texts)
+
     def refresh(self, end: float = math.inf) -> None:
         """Reads the texts that have changed: all of them, or one and then more until a time of the monotonic clock."""
         while self._unread:
-            file = self._unread.pop()
-            self._forget(file)
-            if text := self._texts.get(file):
-                self._index(text)
-            self._freeze()
+            self._read(self._texts[next(iter(self._unread))])
             if time.monotonic() >= end:
                 return
+
+    def _read_those(self, *words: str) -> None:
+        """Has the texts read that have these words, where there is time for all of them."""
+        those = [it for file in self._unread if (it := self._texts[file]).has(words)]
+        if len(those) > _MOST_READ and self.until < math.inf:
+            self.missed = True
+            return
+        count = 0
+        for text in those:
+            if count > LEAST_READ and time.monotonic() >= self.until:
+                self.missed = True
+                return
+            self._read(text)
+            count += len(text.text)
+
+    def _read(self, text: Text) -> None:
+        text.prepare()
+        unit, file = text.unit, text.file
+        self._unread.discard(file)
+        used, walking = {use.key.unit for use in unit.uses}, unit.walking
+        for name in used:
+            self._using[name].add(file)
+        for name in walking:
+            self._walking[name].add(file)
+        self._names[file] = used | walking
+        self._freeze()
 
     def _freeze(self) -> None:
         """Tells the garbage collector now and then to pass over what is there, which otherwise takes a third of a second in a large plant."""
@@ -109,25 +178,16 @@ class Plant:
             self._frozen = len(self._names)
             gc.freeze()
 
-    def _forget(self, file: Path) -> None:
+    def _forget(self, text: Text) -> None:
+        file = text.file
+        del self._texts[file]
+        self._unread.discard(file)
+        self._declaring[text.name].discard(file)
         for name in self._names.pop(file, ()):
-            self._declaring[name].discard(file)
             self._using[name].discard(file)
             self._walking[name].discard(file)
 
-    def _index(self, text: Text) -> None:
-        text.prepare()
-        unit, file = text.unit, text.file
-        used = {use.key.unit for use in unit.uses}
-        self._declaring[unit.name].add(file)
-        for name in used:
-            self._using[name].add(file)
-        walking = {use.key.name for use in unit.uses if use.walk}
-        for name in walking:
-            self._walking[name].add(file)
-        self._names[file] = {unit.name, *used, *walking}
-
-    # What is there. All of it is of what was read.
+    # What is there
 
     def text(self, file: Path) -> Text | None:
         return self._texts.get(file)
@@ -135,6 +195,11 @@ class Plant:
     def texts(self) -> Iterable[Text]:
         """All of them, in no order."""
         return self._texts.values()
+
+    def texts_with(self, word: str) -> list[Text]:
+        """Those with a word somewhere, which are read."""
+        self._read_those(word)
+        return [it for file in self._names if (it := self._texts[file]).has([word])]
 
     def declaring(self, name: str) -> list[Text]:
         """The texts that declare a unit: one, or more where the user has not seen to it yet."""
@@ -153,7 +218,7 @@ class Plant:
 
     def kinds(self, kind: str) -> Iterator[str]:
         """The names of all units of a kind."""
-        return (text.unit.name for text in self._texts.values() if text.unit.kind == kind)
+        return (text.name for text in self._texts.values() if text.kind == kind)
 
     def declarations(self, key: Key) -> Iterator[tuple[Text, Declaration]]:
         """What a name stands for; more than one where a unit is declared by more than one text."""
@@ -166,6 +231,7 @@ class Plant:
 
     def texts_of(self, key: Key) -> list[Text]:
         """The texts that may have a name: that of its unit, those that mention this one, and those with such a name deep in a path."""
+        self._read_those(key.name, *() if key.space in (INSTANCE, FIELD) else [key.unit])
         files = self._declaring.get(key.unit, set()) | self._using.get(key.unit, set()) | self._walking.get(key.name, set())
         return [self._texts[file] for file in sorted(files, key=str)]
 
@@ -178,7 +244,7 @@ class Plant:
     def uses_in(self, text: Text, key: Key) -> list[Use]:
         """The uses of what a name stands for in one text."""
         found = text.unit.by_key.get(key, [])
-        if text.file in self._walking.get(key.name, ()):
+        if key.name in text.unit.walking:
             deep = text.unit.by_key.get(Key("", key.space, "", key.name), [])
             its = {walk for walk in {use.walk for use in deep} if walk and self.owner(walk) == key.unit}
             found = [use for use in found if not use.walk] + [use for use in deep if use.walk in its]

@@ -40,6 +40,8 @@ class Reader:
     def __init__(self, text: str):
         self._encoded = text.encode()
         self._tokens = list(tokens(text))
+        self._upper = [it.words.upper() for it in self._tokens]
+        self._count = len(self._tokens)
         self._at = 0
         self._unit = Unit()
         self._section = ""
@@ -52,7 +54,7 @@ class Reader:
     def read(self) -> Unit:
         unit = self._unit
         while not self._is_over():
-            word = self._tokens[self._at].upper
+            word = self._upper[self._at]
             self._at += 1
             if part := self._PARTS.get(word):
                 self._section = word
@@ -70,14 +72,14 @@ class Reader:
     # Tokens
 
     def _is_over(self) -> bool:
-        return self._at >= len(self._tokens)
+        return self._at >= self._count
 
     def _is(self, *words: str) -> bool:
         """Whether the next token is one of these. At the end of the tokens they are what might follow."""
-        if self._is_over():
-            self._unit.words += words
-            return False
-        return self._tokens[self._at].upper in words
+        if self._at < self._count:
+            return self._upper[self._at] in words
+        self._unit.words += words
+        return False
 
     def _skip(self, *words: str) -> bool:
         found = self._is(*words)
@@ -85,11 +87,11 @@ class Reader:
         return found
 
     def _is_boundary(self) -> bool:
-        return not self._is_over() and self._tokens[self._at].upper in _BOUNDARIES
+        return self._at < self._count and self._upper[self._at] in _BOUNDARIES
 
     def _name(self, wanted: Wanted | None) -> Token | None:
         """The next token where it is a name, used as `wanted` says. At the end of the tokens it is what might follow."""
-        if self._is_over():
+        if self._at >= self._count:
             self._unit.wanted += [wanted] if wanted else []
             return None
         token = self._tokens[self._at]
@@ -104,7 +106,7 @@ class Reader:
         """Goes on to the first of these outside brackets, to the end of the item or the section; gives where it began."""
         begin, depth = self._at, 0
         while not self._is_over() and not self._is_boundary():
-            words = self._tokens[self._at].words
+            words = self._upper[self._at]
             if words == ";" or depth == 0 and words in ends:
                 break
             depth += {"[": 1, "(": 1, "]": -1, ")": -1}.get(words, 0)
@@ -113,9 +115,8 @@ class Reader:
 
     def _over(self, end: str) -> None:
         """Goes on to a word, over all else; where there is none, to the next section."""
-        there = next((at for at in range(self._at, len(self._tokens)) if self._tokens[at].upper == end), None)
-        if there is not None:
-            self._at = there
+        if end in self._upper[self._at :]:
+            self._at = self._upper.index(end, self._at)
             return
         while not self._is_over() and not self._is_boundary():
             self._at += 1

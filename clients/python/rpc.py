@@ -14,7 +14,7 @@ INVALID_PARAMS = -32602
 NOT_INITIALIZED = -32002
 REQUEST_FAILED = -32803
 
-ERROR, WARNING = 1, 2
+ERROR, WARNING, INFO = 1, 2, 3
 """How bad it is what is told or shown."""
 
 

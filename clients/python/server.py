@@ -28,7 +28,7 @@ class Server:
     def __init__(self, open_workbench: Callable[[], Session], shared: bool, send: Callable[[Message], None], wake: Callable[[], None]):
         self._send = send
         self._checking = Checking(open_workbench, shared, send, wake)
-        self._answers = Answers(self._checking.plant, self._checking.catch_up, self._shown)
+        self._answers = Answers(self._checking.plant, self._checking.catch_up, self._shown, self._checking.lacks)
         self._initialized = self._shut_down = False
         self.status: int | None = None
 
@@ -93,7 +93,7 @@ class Server:
             paths = [path_of(uri) for uri in folders or [params.get("rootUri")] if uri]
         except (KeyError, TypeError, AttributeError) as error:
             return failure(INVALID_PARAMS, f"initialize lacks something: {error}")
-        self._checking.folders = [path for path in paths if path.is_dir()]
+        self._checking.watch([path for path in paths if path.is_dir()])
         self._initialized = True
         return {"result": {"capabilities": CAPABILITIES, "serverInfo": {"name": "bench61499"}}}
 

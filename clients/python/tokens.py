@@ -96,16 +96,17 @@ def pieces(text: str) -> Iterator[Token]:
     """The tokens and the comments of a text in order. A comment that is never closed is one token, up to the end."""
     for found in _matches(text.encode()):
         if kind := found.lastgroup:
-            yield Token(kind, *found.span(kind), found[kind].decode(errors="replace"))
+            start, end = found.span(kind)
+            yield Token(kind, start, end, found[kind].decode(errors="replace"))
 
 
 def tokens(text: str) -> Iterator[Token]:
     """The tokens of a text in order, without comments."""
-    return (piece for piece in pieces(text) if piece.kind != "comment")
+    return (piece for piece in pieces(text) if piece[0] != "comment")
 
 
 def is_name(token: Token) -> bool:
-    return token.kind == "word" and len(token.words) <= NAME_LIMIT and token.upper not in RESERVED
+    return token.kind == "word" and len(token.words) <= NAME_LIMIT and token.words.upper() not in RESERVED
 
 
 def spelled(of: Sequence[Token]) -> str:
@@ -118,11 +119,18 @@ def spelled(of: Sequence[Token]) -> str:
     return words
 
 
-def declaration(text: str) -> Token | None:
-    """The name behind the first word of a text; None where there is none that a unit can have."""
+def head(text: str) -> tuple[str, Token | None]:
+    """The first word of a text in upper case, and the name behind it; None where there is none that a unit can have."""
     first = tokens(text)
     begin, name = next(first, None), next(first, None)
-    return name if begin and name and begin.kind == "word" and is_name(name) else None
+    if not begin:
+        return "", None
+    return begin.upper, name if name and begin.kind == "word" and is_name(name) else None
+
+
+def declaration(text: str) -> Token | None:
+    """The name behind the first word of a text; None where there is none that a unit can have."""
+    return head(text)[1]
 
 
 def declared_name(text: str) -> str | None:

@@ -83,9 +83,17 @@ class Browser:
             self._do("POST", "/actions", {"actions": [{"type": "key", "id": "keys", "actions": actions}]})
 
     def click(self, x: float, y: float) -> None:
-        move = {"type": "pointerMove", "x": round(x), "y": round(y), "duration": 0}
-        actions = [move, {"type": "pointerDown", "button": 0}, {"type": "pointerUp", "button": 0}]
+        self.drag((x, y))
+
+    def drag(self, first: tuple[float, float], *more: tuple[float, float]) -> None:
+        """Presses the mouse at a place, moves it to others, and lets it go at the last."""
+        begin, *rest = ({"type": "pointerMove", "x": round(x), "y": round(y), "duration": 0} for x, y in (first, *more))
+        actions = [begin, {"type": "pointerDown", "button": 0}, *rest, {"type": "pointerUp", "button": 0}]
         self._do("POST", "/actions", {"actions": [{"type": "pointer", "id": "mouse", "actions": actions}]})
+
+    def wheel(self, x: float, y: float, down: int) -> None:
+        actions = [{"type": "scroll", "x": round(x), "y": round(y), "deltaX": 0, "deltaY": down, "duration": 0}]
+        self._do("POST", "/actions", {"actions": [{"type": "wheel", "id": "wheel", "actions": actions}]})
 
     def log(self) -> list[str]:
         """What the page has written to the console since the last call."""

@@ -27,8 +27,9 @@ class AnswersTest(unittest.TestCase):
             plant = Plant()
             for name, text in library.texts.items():
                 plant.put(Path(f"/plant/{name}.fb"), text)
+            plant.refresh()
             self.places = {f"file:///plant/{name}.fb": Places(text) for name, text in library.texts.items()}
-            yield library, Answers(plant, plant.refresh, lambda path: [])
+            yield library, Answers(plant, lambda end: True, lambda path: [], self.fail)
 
     def check(self, answer):
         """All ranges of an answer, as it is sent, are ranges of the texts that it names."""

@@ -15,7 +15,7 @@ from bench61499 import Put, Session
 
 SETTLED = "board.connected && count().pending === 0 && board.units.size === "
 PICTURE = os.environ.get("BENCH61499_BOARD_PICTURE")
-"""Where the picture for the document is written, if anywhere."""
+"""Where the picture for the document is written, if anywhere; beside it the dark one."""
 # Each control that has no name, and each list, tab or field without its role.
 UNNAMED = """(() => {
   const named = (it) => (it.getAttribute("aria-label") ?? it.labels?.[0]?.textContent ?? "").trim() || it.textContent.trim() || it.getAttribute("aria-labelledby");
@@ -199,6 +199,38 @@ class NetworkTest(PageTest):
         self.browser.press("0")
         self.assertEqual(self.browser.value("network.scale <= 1.25 && network.boxes.every((it) => network.isSeen(it))"), True)
 
+    def test_by_mouse(self) -> None:
+        """It is moved by a drag, and what was under the mouse stays there where it is zoomed by the wheel."""
+        self.see_network()
+        x, y = self.block("LINE.SECOND.LIFT")
+        self.browser.drag((x, y), (x - 40, y + 20), (x - 90, y + 50))
+        self.assertEqual([round(it) for it in self.block("LINE.SECOND.LIFT")], [round(x) - 90, round(y) + 50])
+        self.assertIsNone(self.browser.value("network.chosen"))
+        x, y = self.block("LINE.SECOND.LIFT")
+        scale = self.browser.value("network.scale")
+        self.browser.wheel(x, y, -200)
+        self.browser.until(f"network.scale > {1.3 * scale}")
+        self.assertLess(max(abs(one - other) for one, other in zip(self.block("LINE.SECOND.LIFT"), (x, y))), 3)
+        self.browser.value("[...document.querySelectorAll('.row-tools button')].find((it) => it.textContent === 'Whole').click()")
+        self.assertAlmostEqual(self.browser.value("network.scale"), scale)
+
+    def test_blocks_stand_in_their_resources(self) -> None:
+        """Each in the frame that has its resource's name, and the links between frames are dashed."""
+        self.see_network()
+        apart = """network.blocks.filter(({ home, x, y, w, h }) => !network.view.frames.some(([name, left, top, width, height]) =>
+          name === home && left <= x && top <= y && x + w <= left + width && y + h <= top + height)).map((it) => it.path)"""
+        self.assertEqual(self.browser.value(apart), [])
+        self.assertEqual(self.browser.value("network.view.frames.map(([name]) => name)"), ["NORTH.MOTION", "SOUTH.MOTION", "SOUTH.SCREEN"])
+        self.assertEqual(self.browser.value("network.wires.filter((it) => it.cut !== (it.from.box.home !== it.to.box.home)).length"), 0)
+        dashed = """(() => {
+          const { context } = network, found = [];
+          context.setLineDash = (dash) => { found.push(dash.length > 0); CanvasRenderingContext2D.prototype.setLineDash.call(context, dash); };
+          network.paint();
+          delete context.setLineDash;
+          return found.filter(Boolean).length;
+        })()"""
+        self.assertEqual(self.browser.value(dashed), 2, "links of events and of data")
+
     def test_it_follows_changes(self) -> None:
         self.see_network()
         self.browser.value("network.choose(network.blocks[0], false)")
@@ -325,19 +357,23 @@ class PictureTest(PageTest):
         for file in CONVEYOR.glob("*.fb"):
             self.write(f"plant/{file.name}", file.read_bytes())
         at = self.start("plant")
-        self.browser.devtools("Emulation.setDeviceMetricsOverride", width=1360, height=765, deviceScaleFactor=1, mobile=False)
+        self.browser.devtools("Emulation.setDeviceMetricsOverride", width=1180, height=740, deviceScaleFactor=1.5, mobile=False)
         self.see(at, len(STATES), "#PLANT/network")
         self.write("plant/PUSHER.fb", "FUNCTION_BLOCK PUSHER\n  EVENT_INPUT PUSH WITH FORCE; END_EVENT\nEND_FUNCTION_BLOCK\n")
         self.browser.until("board.units.get('PUSHER')?.state === 'faulty'")
         self.edit("plant/FEEDER.fb", "LOAD > 0 AND", "LOAD > 1 AND")
         self.browser.until("board.changes.length === 2 && count().pending === 0 && network?.canvas.isConnected && network.scale > 0")
         self.browser.value("network.choose(network.blocks.find((it) => it.path === 'LINE.SECOND.LIFT'), false)")
-        self.browser.until("document.querySelector('.block h3') && !network.planned")
+        self.browser.until("document.querySelector('.block h3') && !network.planned && document.getElementById('note').hidden")
         self.assertEqual(self.words(".block h3"), "LINE.SECOND.LIFT")
         self.assertEqual(self.words("#counts").split(), "8 units 1 fault in 1 unit 0 pending".split())
         self.assertEqual(self.browser.value("board.changes.map((it) => `${it.unit} ${it.old} ${it.new}`)"), ["PUSHER 0 2", "FEEDER 1 3"])
         if PICTURE:
-            self.browser.picture(Path(PICTURE))
+            for scheme, file in (("light", Path(PICTURE)), ("dark", Path(PICTURE).with_stem(f"{Path(PICTURE).stem}-dark"))):
+                self.browser.colours(scheme)
+                self.browser.value("network.draw()")
+                self.browser.until("!network.planned")
+                self.browser.picture(file)
 
 
 def contrast(one: str, other: str) -> float:

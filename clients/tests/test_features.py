@@ -11,6 +11,26 @@ from declarations import PARTS
 from positions import edited, place, position
 
 
+GAUGES = """\
+SUBAPPLICATION GAUGES
+  VAR_INPUT WIDE : DINT; ROW : ARRAY[0..1]OF INT; FREE : ANY; END_VAR
+  VAR_OUTPUT WIDTH : UINT; END_VAR
+  PLUGS OUT : HANDOVER; END_PLUGS
+  DATA_CONNECTIONS
+    WIDE TO G.;
+    ROW TO G.;
+    FREE TO G.;
+    G. TO WIDTH;
+  END_CONNECTIONS
+  ADAPTER_CONNECTIONS
+    G.P TO ;
+    G.P2 TO ;
+  END_CONNECTIONS
+  FBS G : GAUGE; END_FBS
+END_SUBAPPLICATION
+"""
+
+
 class ConveyorTest(LspTest):
     def setUp(self) -> None:
         super().setUp()
@@ -269,6 +289,24 @@ class CompletionTest(ConveyorTest):
         self.check("STATION", "ADAPTER_CONNECTIONS BELT.NEXT TO LIFT.", "BEFORE")
         self.check("STATION", "FEEDER(", "LIMIT", "LOAD")
         self.check("PLANT", "FIRST.READY TO SECOND.", "START", "SEEN", "STOP")
+
+    def test_ports_of_the_type_of_the_other_end(self):
+        """Data of another type are not offered, and neither are plugs and sockets; an instance is, as its ports may be."""
+        gauge = "FUNCTION_BLOCK GAUGE VAR_INPUT N : INT; W : dint; R : ARRAY [0..1] OF INT; A : ANY_NUM; END_VAR VAR_OUTPUT O : UINT; P : INT; END_VAR"
+        self.write("GAUGE.fb", f"{gauge} PLUGS P : HANDOVER; P2 : OTHER; END_PLUGS END_FUNCTION_BLOCK")
+        file = self.write("GAUGES.fb", GAUGES)
+        self.server.open(file)
+        for before, *expected in (
+            ("WIDE TO G.", "W", "A"),
+            ("ROW TO G.", "R", "A"),
+            ("FREE TO G.", "N", "W", "R", "A"),
+            ("G.", "O"),
+            ("G.P TO ", "OUT", "G"),
+            ("G.P2 TO ", "G"),
+        ):
+            place = GAUGES.index(f"{before};" if before != "G." else "G. TO WIDTH") + len(before)
+            found = self.server.ask("completion", file, position=position(Places(GAUGES), place))
+            self.assertEqual([it["label"] for it in found if it["kind"] != 14], expected, before)
 
     def test_types(self):
         self.check("STATION", "BELT : ", "FEEDER", "LAMP", "LIFTER")

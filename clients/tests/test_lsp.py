@@ -1,6 +1,7 @@
 """lsp: its messages, by pipe, as an editor sends and reads them."""
 from __future__ import annotations
 
+import math
 import os
 import threading
 import unittest
@@ -199,8 +200,8 @@ class CheckingTest(InFolder):
         plant = self.checking.plant
         self.assertEqual([it.unit.name for it in plant.texts()], ["A"])
         self.assertEqual(self.checking.patience(), 0)
-        self.checking.catch_up()
-        self.assertTrue(plant.is_read() and all(plant.text(file) for file in others))
+        self.assertTrue(self.checking.catch_up(math.inf))
+        self.assertTrue(all(plant.text(file) for file in others))
         others[0].unlink()
         self.checking.refresh_files()
         while self.checking.patience() == 0:
@@ -213,9 +214,8 @@ class CheckingTest(InFolder):
         (self.folder / "nowhere.fb").symlink_to(self.folder / "not_there.fb")
         (self.folder / "round.fb").symlink_to(self.folder / "round.fb")
         (self.folder / "link.fb").symlink_to(self.write("folder.fb/one.fb", GOOD))
-        self.checking.folders = [self.folder]
-        self.checking.refresh_files()
-        self.checking.catch_up()
+        self.checking.watch([self.folder])
+        self.checking.catch_up(math.inf)
         self.assertEqual([it.file.name for it in self.checking.plant.texts()], ["one.fb"])
 
     def test_a_double_that_changes_with_the_other(self):
