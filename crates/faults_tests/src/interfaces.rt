@@ -2,8 +2,8 @@
 //! name stands its type, where it has one.
 use fb_iface::{Ports, interface};
 use fb_library::parse::Source;
-use fb_tree::TypeUse;
-use fb_tree::text::{Name, NameUse};
+use fb_tree::WideTypeUse;
+use fb_tree::text::{Name, WideUse};
 use std::alloc::{AllocError, Global};
 use std::process::Abort;
 use std::test::Fail;
@@ -45,24 +45,24 @@ trait Typed {
     fn type_name(&self) -> Option<&Name>;
 }
 
-impl Typed for Option<NameUse> {
+impl Typed for Option<WideUse> {
     fn type_name(&self) -> Option<&Name> {
         match self {
-            Some(used) => Some(&used.name),
+            Some(used) => Some(used.name()),
             None => None,
         }
     }
 }
 
-impl Typed for TypeUse {
+impl Typed for WideTypeUse {
     fn type_name(&self) -> Option<&Name> {
-        Some(&self.name.name)
+        Some(self.name())
     }
 }
 
-impl Typed for NameUse {
+impl Typed for WideUse {
     fn type_name(&self) -> Option<&Name> {
-        Some(&self.name)
+        Some(self.name())
     }
 }
 

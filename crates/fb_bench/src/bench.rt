@@ -692,10 +692,10 @@ fn first_stale(library: &Library, reads: &[Read]) -> Option<Name>
 fn is_current(library: &Library, read: &Read) -> bool
     ensures { result ≡ is_current library.now (seen_of read.now) }
 {
-    match (library.source(&read.name), &read.source) {
+    match (library.filed(&read.name), &read.source) {
         (None, None) => true,
-        (Some(now), Some(then)) => library.revision(&read.name) == read.revision
-            && now.text() == then.text(),
+        (Some(now), Some(then)) => now.revision() == read.revision
+            && now.source().text() == then.text(),
         _ => false,
     }
 }

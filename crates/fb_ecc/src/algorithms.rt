@@ -36,7 +36,7 @@ fn declared_algorithms(
 {
     let mut declared = BTreeSet::new(alloc);
     for algorithm in algorithms {
-        declared.insert(algorithm.name.name)?;
+        declared.insert(algorithm.name.name.name())?;
     }
     Ok(declared)
 }
@@ -83,7 +83,7 @@ fn report_action(
         ≡ found.old.items ++ run_faults (contains name_cmp declared.now) action.now) }
 {
     if let Some(name) = &action.algorithm {
-        if !declared.contains(&name.name) {
+        if !declared.contains(&name.name.name()) {
             found.push(Fault::at(Code::AlgorithmUnknown, name))?;
         }
     }

@@ -114,11 +114,8 @@ fn span_of(event: &End) -> Span
     ensures { result ≡ span_from event.now.name.span event.now.port }
 {
     match &event.port {
-        Some(port) => Span {
-            start: event.name.span.start,
-            end: port.span.end,
-        },
-        None => event.name.span,
+        Some(port) => event.name.span.through(port.span).span(),
+        None => event.name.span.span(),
     }
 }
 
@@ -126,10 +123,12 @@ fn span_of(event: &End) -> Span
 fn target_of(scope: &Scope, side: Side, event: &End) -> EventTarget
     ensures { result ≡ event_named (scope_in scope.now) side event.now.name event.now.port }
 {
-    let name = &event.name.name;
+    let name = event.name.name.name();
     match &event.port {
-        Some(port) => target_behind(scope, scope.own().instance(name), side, &port.name),
-        None => target_among(scope.own(), side, name),
+        Some(port) => {
+            target_behind(scope, scope.own().instance(&name), side, &port.name.name())
+        }
+        None => target_among(scope.own(), side, &name),
     }
 }
 

@@ -29,7 +29,7 @@ fn listed_states(alloc: Global, states: &[State]) -> Result<BTreeSet<Name>, Allo
 {
     let mut listed = BTreeSet::new(alloc);
     for state in states {
-        listed.insert(state.name.name)?;
+        listed.insert(state.name.name.name())?;
     }
     Ok(listed)
 }
@@ -61,7 +61,7 @@ fn report_state(
     ensures { OnOk result
         (found.new.items ≡ found.old.items ++ state_fault (contains name_cmp listed.now) name.now) }
 {
-    if !listed.contains(&name.name) {
+    if !listed.contains(&name.name.name()) {
         found.push(Fault::at(Code::StateUnknown, name))?;
     }
     Ok(())

@@ -135,7 +135,7 @@ fn judge_change(
         ++ class_faults (is_some (change operator.now.operator operand)) operator.now.span) }
 {
     let class = changed(operator.operator, operand);
-    report_class(class.is_some(), operator.span, found)?;
+    report_class(class.is_some(), operator.span.span(), found)?;
     Ok(class.unwrap_or(Class::Free))
 }
 
@@ -153,6 +153,6 @@ fn judge_pair(
         ++ class_faults (is_some (combined operator.now.operator left right)) operator.now.span) }
 {
     let class = operated(operator.operator, left, right);
-    report_class(class.is_some(), operator.span, found)?;
+    report_class(class.is_some(), operator.span.span(), found)?;
     Ok(class.unwrap_or(broken(operator.operator)))
 }

@@ -29,17 +29,18 @@ ghost use Rattle.fb_expr.specs.References.{
 
 use crate::names::Names;
 use fb_iface::{
-    Behind, Class, Code, DeclaredVariable, Fault, Ports, Scope, Structures, class_by_name, class_of,
+    Behind, Class, Code, DeclaredVariable, Fault, Ports, Scope, Structures, class_by_name,
+    class_of_wide,
 };
 use fb_tree::text::{Name, Span};
-use fb_tree::{Member, Reference, Role, Section, TypeForm, TypeUse};
+use fb_tree::{Member, Reference, Role, Section, TypeForm, WideTypeUse};
 use std::alloc::AllocError;
 
 /// What a reference stands for.
 #[derive(Clone, Copy, Debug)]
 pub enum Referent {
     /// A variable or a field of this type, and whether subscripts stand behind its name.
-    Variable(TypeUse, bool),
+    Variable(WideTypeUse, bool),
     /// Data of a plug or a socket whose type is not usable, or a name behind a type that is not
     /// known.
     Unjudged,
@@ -102,7 +103,7 @@ fn referred_port(scope: &Scope, name: &Name, member: &Member) -> Referent
     ensures { result ≡ port_named (scope_in scope.now) name.now member.now }
 {
     match scope.ports_of(name) {
-        Some(ports) => referred_data(ports, &member.name.name, member.subscripts > 0),
+        Some(ports) => referred_data(ports, &member.name.name.name(), member.subscripts > 0),
         None => Referent::Unjudged,
     }
 }
@@ -154,16 +155,16 @@ fn referred_member(names: Names<'_>, referent: Referent, member: &Member) -> Ref
 }
 
 /// What may be named behind a type, without or with a subscript.
-fn behind<'a>(structures: &'a Structures, used: &TypeUse, subscripted: bool) -> Behind<'a>
+fn behind<'a>(structures: &'a Structures, used: &WideTypeUse, subscripted: bool) -> Behind<'a>
     ensures { fields_shown result
         ≡ fields_behind (structures_in structures.now) used.now.form used.now.name.name
         subscripted }
 {
-    match (used.form, subscripted) {
+    match (used.form(), subscripted) {
         (TypeForm::Plain, false) | (TypeForm::Array, true) => {
-            behind_named(structures, &used.name.name)
+            behind_named(structures, used.name())
         }
-        (TypeForm::Plain, true) => without_fields(behind_named(structures, &used.name.name)),
+        (TypeForm::Plain, true) => without_fields(behind_named(structures, used.name())),
         (TypeForm::Array, false) | (TypeForm::Sized, _) => Behind::NoFields,
     }
 }
@@ -195,8 +196,8 @@ fn referred_field(behind: Behind<'_>, member: &Member) -> Referent
 {
     match behind {
         Behind::NotJudged => Referent::Unjudged,
-        Behind::NoFields => Referent::NoMember(member.name.span),
-        Behind::Fields(fields) => field_referent(fields.field(&member.name.name), member),
+        Behind::NoFields => Referent::NoMember(member.name.span.span()),
+        Behind::Fields(fields) => field_referent(fields.field(&member.name.name.name()), member),
     }
 }
 
@@ -206,7 +207,7 @@ fn field_referent(field: Option<&DeclaredVariable>, member: &Member) -> Referent
 {
     match field {
         Some(field) => Referent::Variable(field.type_use, member.subscripts > 0),
-        None => Referent::NoMember(member.name.span),
+        None => Referent::NoMember(member.name.span.span()),
     }
 }
 
@@ -223,22 +224,22 @@ impl Referent {
 }
 
 /// The class of a variable of this type, or of its element.
-fn class_of_use(used: &TypeUse, subscripted: bool) -> Class
+fn class_of_use(used: &WideTypeUse, subscripted: bool) -> Class
     ensures { result ≡ class_with used.now subscripted }
 {
     if subscripted {
         element_class(used)
     } else {
-        class_of(used)
+        class_of_wide(used)
     }
 }
 
 /// The class of the elements of an array. A type that is none has other values.
-fn element_class(used: &TypeUse) -> Class
+fn element_class(used: &WideTypeUse) -> Class
     ensures { result ≡ class_of_element used.now.form used.now.name.name }
 {
-    match used.form {
-        TypeForm::Array => class_by_name(&used.name.name),
+    match used.form() {
+        TypeForm::Array => class_by_name(used.name()),
         TypeForm::Plain | TypeForm::Sized => Class::O,
     }
 }

@@ -21,9 +21,9 @@ fn across(first: Span, last: Span) -> Span
 pub fn span_of_names(reference: &Reference) -> Span
     ensures { result ≡ names_span (reference_tree reference.now) }
 {
-    let first = reference.name_span();
+    let first = reference.name_span().span();
     match reference.members().first() {
-        Some(second) if reference.subscripts == 0 => across(first, second.name.span),
+        Some(second) if reference.subscripts == 0 => across(first, second.name.span.span()),
         _ => first,
     }
 }
@@ -33,9 +33,9 @@ pub fn span_of(expr: &Expr) -> Span
     ensures { result ≡ span_of (expression_tree expr.now) }
 {
     match expr {
-        Expr::Literal(literal) => literal.span,
-        Expr::Reference(reference, _) => reference.span,
-        Expr::Unary(operator, operand) => across(operator.span, span_of(operand)),
+        Expr::Literal(literal) => literal.span.span(),
+        Expr::Reference(reference, _) => reference.span.span(),
+        Expr::Unary(operator, operand) => across(operator.span.span(), span_of(operand)),
         Expr::Row(first, operands) => {
             let mut span = span_of(first);
             for (_, operand) in operands {
@@ -43,6 +43,6 @@ pub fn span_of(expr: &Expr) -> Span
             }
             span
         }
-        Expr::Parentheses(_, span) => *span,
+        Expr::Parentheses(_, span) => span.span(),
     }
 }

@@ -46,7 +46,14 @@ fn report_statement(
     match statement {
         Stmt::Empty | Stmt::Exit | Stmt::Return => Ok(()),
         Stmt::Assign(variable, subscripts, place, value) => {
-            report_assignment(names, variable, subscripts.as_slice(), *place, value, found)
+            report_assignment(
+                names,
+                variable,
+                subscripts.as_slice(),
+                place.span(),
+                value,
+                found,
+            )
         }
         Stmt::If(arms, otherwise) => {
             for (condition, body) in arms {
@@ -119,11 +126,11 @@ fn report_counter(
     ensures { OnOk result
         (found.new.items ≡ found.old.items ++ counter_faults (names_in names.entry) name.now) }
 {
-    let referent = referred_variable(names.scope, &name.name, false);
-    report_reference(&referent, name.span, found)?;
+    let referent = referred_variable(names.scope, &name.name.name(), false);
+    report_reference(&referent, name.span.span(), found)?;
     report_class(
         ClassPlace::Counter.is_for(referent.class()),
-        name.span,
+        name.span.span(),
         found,
     )
 }

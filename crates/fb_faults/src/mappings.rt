@@ -38,7 +38,7 @@ fn resources_of(alloc: Global, devices: &[Device]) -> Result<BTreeSet<(Name, Nam
     let mut seen = BTreeSet::new(alloc);
     let mut resources = BTreeSet::new(alloc);
     for device in devices {
-        let name = device.name.name;
+        let name = device.name.name.name();
         if seen.insert(name)? {
             add_resources(&name, device.resources.as_slice(), &mut resources)?;
         }
@@ -58,7 +58,7 @@ fn add_resources(
         || (is_same device.now name && has_name (map (λ r. r.name) own.now) resource))) }
 {
     for resource in own {
-        resources.insert((*device, resource.name.name))?;
+        resources.insert((*device, resource.name.name.name()))?;
     }
     Ok(())
 }
@@ -75,7 +75,7 @@ fn report_homes(
         (mapping_tree m)) mappings.now) }
 {
     for mapping in mappings {
-        let home = (mapping.device.name, mapping.resource.name);
+        let home = (mapping.device.name.name(), mapping.resource.name.name());
         report_home(resources.contains(&home), mapping, found)?;
     }
     Ok(())
@@ -102,8 +102,5 @@ fn report_home(
 fn span_of_home(mapping: &Mapping) -> Span
     ensures { result ≡ home_span (mapping_tree mapping.now) }
 {
-    Span {
-        start: mapping.device.span.start,
-        end: mapping.resource.span.end,
-    }
+    mapping.device.span.through(mapping.resource.span).span()
 }

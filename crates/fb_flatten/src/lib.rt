@@ -40,7 +40,7 @@ pub mod parse {
 
 /// Of `fb_library`, for the crates above.
 pub mod library {
-    pub use fb_wiring::library::{Change, Library, View, near, tree_by_name};
+    pub use fb_wiring::library::{Change, Library, Version, View, near, tree_by_name};
 }
 
 /// Of `fb_iface`, for the crates above.

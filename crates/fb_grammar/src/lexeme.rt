@@ -1,5 +1,5 @@
 //! Tokens with what the grammar asks of them.
-ghost use Rattle.std.specs.Prelude.{◌≡◌, ◌≤◌, ◌↔◌, ℕ, true, not, ◌==◌, List, length, map, All, IfOk, None};
+ghost use Rattle.std.specs.Prelude.{◌≡◌, ◌<◌, ◌≤◌, ◌↔◌, ℕ, true, not, ◌==◌, List, length, map, All, IfOk, None};
 ghost use Rattle.std.specs.List.{prefix_len};
 ghost use Rattle.fb_tree.specs.Text.Bytes.{hash};
 ghost use Rattle.fb_tree.specs.Text.Tokens.{GivesReading, LiesIn, SpansRise};
@@ -12,15 +12,16 @@ ghost use Rattle.fb_grammar.specs.Lexemes.{kind_of, lexeme_of, lexemes_of, name_
 use crate::keywords::{keyword, symbol};
 use crate::kind::Kind;
 use fb_tree::text::{
-    Name, NameUse, Span, Token, TokenFault, TokenKind, TypeClass, same_word, tokens, type_class,
+    KeptName, Name, NameUse, Place, Token, TokenFault, TokenKind, TypeClass, WideUse, same_word,
+    tokens, type_class,
 };
-use std::alloc::Global;
+use std::alloc::{AllocError, Global};
 
 /// A token: where it stands, its kind, and the name that it spells, `_` where it spells none.
 #[derive(Clone, Copy, Debug)]
 pub struct Lexeme {
     // First, so that no gap stands before it: a copy of a gap and a span together waits for both.
-    pub span: Span,
+    pub span: Place,
     pub kind: Kind,
     pub name: Name,
 }
@@ -29,13 +30,20 @@ impl Lexeme {
     ghost use Rattle.fb_grammar.specs.Lexemes.{name_use};
 
     /// The name where it stands, of a token that spells one.
-    pub fn name_use(&self) -> NameUse
+    pub fn name_use(&self, alloc: Global) -> Result<NameUse, AllocError>
+        ensures { IfOk result (λ used. used ≡ name_use self.now) }
+    {
+        Ok(NameUse {
+            name: KeptName::keep(alloc, &self.name)?,
+            span: self.span,
+        })
+    }
+
+    /// The same as a copy.
+    pub fn wide_use(&self) -> WideUse
         ensures { result ≡ name_use self.now }
     {
-        NameUse {
-            name: self.name,
-            span: self.span,
-        }
+        WideUse::new(self.name, self.span)
     }
 }
 
@@ -136,12 +144,13 @@ fn kind_of(kind: TokenKind, bytes: &[u8]) -> Kind
 /// A token of a text, as the grammar sees it.
 #[tactic(auto, unfolding(crate::specs::Lexemes::lexeme_of))]
 fn lexeme_of(text: &str, token: &Token) -> Lexeme
-    requires { LiesIn text.now token.now.span }
+    requires within { LiesIn text.now token.now.span }
+    requires short { length text.now < 4294967296 }
     ensures { result ≡ lexeme_of text.now token.now }
 {
     let bytes = token.text(text);
     Lexeme {
-        span: token.span,
+        span: Place::of(token.span),
         kind: kind_of(token.kind, bytes.as_bytes()),
         name: match Name::read(bytes) {
             Ok(name) => name,
@@ -150,9 +159,10 @@ fn lexeme_of(text: &str, token: &Token) -> Lexeme
     }
 }
 
-/// The tokens of a text, as the grammar sees them.
+/// The tokens of a text of less than 4 GiB, as the grammar sees them.
 #[tactic(auto, unfolding(crate::specs::Lexemes::lexemes_of))]
 pub fn lexemes(alloc: Global, text: &str) -> Result<Vec<Lexeme>, TokenFault>
+    requires { length text.now < 4294967296 }
     ensures exact { GivesReading result (lexemes_of text.now) }
     ensures within { IfOk result (λ lexemes. All (λ l. LiesIn text.now l.span) lexemes.items) }
     ensures rise { IfOk result

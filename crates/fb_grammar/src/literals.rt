@@ -1,12 +1,12 @@
 //! Literals by the kinds of their tokens.
 
-ghost use Rattle.fb_grammar.specs.Literals.{across, literal_form, literal_kinds, literal_use};
+ghost use Rattle.fb_grammar.specs.Literals.{literal_form, literal_kinds, literal_use};
 ghost use Rattle.fb_grammar.specs.Kind.{is_among};
 ghost use Rattle.std.specs.Prelude.{◌≡◌, true};
 
 use crate::kind::Kind;
 use crate::lexeme::Lexeme;
-use fb_tree::text::{Span, TypeClass};
+use fb_tree::text::TypeClass;
 use fb_tree::{Literal, LiteralForm};
 
 /// The kinds of numbers.
@@ -40,15 +40,5 @@ pub fn literal_use(token: &Lexeme) -> Literal
     Literal {
         form: literal_form(token.kind),
         span: token.span,
-    }
-}
-
-/// From the start of one to the end of the other.
-pub fn across(first: Span, last: Span) -> Span
-    ensures { result ≡ across first last }
-{
-    Span {
-        start: first.start,
-        end: last.end,
     }
 }

@@ -71,11 +71,11 @@ impl Reader for NameReader {
 
     fn read<'a>(
         &self,
-        _alloc: Global,
+        alloc: Global,
         tokens: &'a [Lexeme],
     ) -> Result<(NameUse, &'a [Lexeme]), Stop<'a>> {
         let (token, rest) = name(tokens)?;
-        Ok((token.name_use(), rest))
+        Ok((token.name_use(alloc)?, rest))
     }
 }
 

@@ -4,7 +4,7 @@ use Rattle.fb_jobs.specs.Library.Texts.{Edit, Puts, Removes}
 use Rattle.fb_jobs.specs.Library.declared.change.Change.{Change}
 use Rattle.fb_jobs.specs.Library.Changes.{edits_of}
 use Rattle.fb_jobs.specs.Reads.{PlainJob}
-use Rattle.fb_jobs.specs.Values.{texts_seen, finding_of}
+use Rattle.fb_jobs.specs.Values.{finding_of}
 use Rattle.fb_history.specs.Machine as machine
 use Rattle.fb_history.specs.Machine.{most_changes, ToCommit, ToTake, ToDeliver, ToGiveBack, ToAsk, Shown, Finds, Waits, Unknown, OfCommit, OfTake, OfDeliver, OfGiveBack, OfAsk}
 use Rattle.fb_history.specs.Story.{Record}
@@ -24,7 +24,7 @@ use Rattle.std.specs.declared.sync.Arc.{Arc}
 use Rattle.std.specs.declared.alloc.Global.{Global}
 
 abbrev pub wanted_job : Wanted → PlainJob
-wanted_job it = record { key = it.key; reads = texts_seen it.reads.value.items }
+wanted_job it = record { key = it.key; reads = it.reads.value }
 
 abbrev pub wanted_job_in : Option (Box Wanted Global) → Option PlainJob
 wanted_job_in None = None

@@ -7,7 +7,7 @@ ghost use Rattle.fb_history.specs.Records.{text_edit, text_edits, reply_of};
 use crate::answers::{Asked, Committed, Delivered, GivenBack};
 use crate::same::{is_same_call, is_same_reply};
 use fb_jobs::library::Change;
-use fb_jobs::{Key, TextRead};
+use fb_jobs::{Key, TextReads};
 use fb_text::Name;
 use std::alloc::{AllocError, Global};
 use std::marker::Model;
@@ -17,7 +17,7 @@ use std::sync::Arc;
 #[derive(Drop)]
 pub struct Wanted {
     pub key: Key,
-    pub reads: Arc<Vec<TextRead>>,
+    pub reads: Arc<TextReads>,
 }
 
 /// A change as it is recorded.

@@ -1,13 +1,12 @@
 //! Whether two records say the same, by content.
 ghost use Rattle.std.specs.Prelude.{◌≡◌, ◌↔◌, IsTrue, string_bytes};
-ghost use Rattle.fb_jobs.specs.Values.{text_found, text_seen, texts_seen, finding_of};
+ghost use Rattle.fb_jobs.specs.Values.{finding_of};
 ghost use Rattle.fb_history.specs.Records.{wanted_job, wanted_job_in, text_edit, text_edits, call_of, shown_in, delivered_in, reply_of};
 
 use crate::answers::{Asked, Committed, Delivered, GivenBack};
 use crate::record::{Call, Reply, TextChange, Wanted};
-use fb_jobs::{Key, TextRead, is_same_value};
+use fb_jobs::{Key, is_same_value};
 use fb_text::{Name, same_name};
-use std::sync::Arc;
 
 /// The same call.
 pub(crate) fn is_same_call(a: &Call, b: &Call) -> bool
@@ -103,46 +102,10 @@ fn are_same_changes(a: &[TextChange], b: &[TextChange]) -> bool
     true
 }
 
-/// The same text at the same revision, or none.
-fn is_same_find(
-    revision: u64,
-    text: &Option<Arc<String>>,
-    other_revision: u64,
-    other: &Option<Arc<String>>,
-) -> bool
-    ensures { IsTrue result ↔ (text_found revision text.now ≡ text_found other_revision other.now) }
-{
-    match (text, other) {
-        (None, None) => true,
-        (Some(a), Some(b)) => revision == other_revision && is_same_text(a, b),
-        _ => false,
-    }
-}
-
-fn is_same_read(a: &TextRead, b: &TextRead) -> bool
-    ensures { IsTrue result ↔ (text_seen a.now ≡ text_seen b.now) }
-{
-    is_one_name(&a.name, &b.name) && is_same_find(a.revision, &a.text, b.revision, &b.text)
-}
-
-fn are_same_reads(a: &[TextRead], b: &[TextRead]) -> bool
-    ensures { IsTrue result ↔ (texts_seen a.now ≡ texts_seen b.now) }
-{
-    if a.len() != b.len() {
-        return false;
-    }
-    for place in 0..a.len() {
-        if !is_same_read(&a[place], &b[place]) {
-            return false;
-        }
-    }
-    true
-}
-
 fn is_same_wanted(a: &Wanted, b: &Wanted) -> bool
     ensures { IsTrue result ↔ (wanted_job a.now ≡ wanted_job b.now) }
 {
-    is_one_key(&a.key, &b.key) && are_same_reads(&a.reads, &b.reads)
+    is_one_key(&a.key, &b.key) && a.reads.is_same(&b.reads)
 }
 
 fn is_same_end(a: &Committed, b: &Committed) -> bool

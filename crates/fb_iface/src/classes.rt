@@ -1,9 +1,9 @@
 //! Classes of types and constants.
 ghost use Rattle.std.specs.Prelude.{◌≡◌};
-ghost use Rattle.fb_iface.specs.Class.{class_of_literal, class_of_name, class_of_simple, class_of_type, is_free, named_class, takes};
+ghost use Rattle.fb_iface.specs.Class.{class_of_form, class_of_literal, class_of_name, class_of_simple, class_of_type, is_free, named_class, takes};
 
 use fb_tree::text::{Name, TypeClass, type_class};
-use fb_tree::{LiteralForm, Simple, TypeForm, TypeUse};
+use fb_tree::{LiteralForm, Simple, TypeForm, TypeUse, WideTypeUse};
 
 /// What a value may be combined with.
 #[derive(Clone, Copy, Debug, PartialEq, Eq)]
@@ -47,8 +47,21 @@ fn class_by_type(class: TypeClass) -> Class
 pub fn class_of(used: &TypeUse) -> Class
     ensures { result ≡ class_of_type used.now }
 {
-    match used.form {
-        TypeForm::Plain => class_by_name(&used.name.name),
+    class_in(used.form, &used.name.name.name())
+}
+
+/// The class of the type of a declared variable.
+pub fn class_of_wide(used: &WideTypeUse) -> Class
+    ensures { result ≡ class_of_type used.now }
+{
+    class_in(used.form(), used.name())
+}
+
+fn class_in(form: TypeForm, name: &Name) -> Class
+    ensures { result ≡ class_of_form form name.now }
+{
+    match form {
+        TypeForm::Plain => class_by_name(name),
         TypeForm::Sized | TypeForm::Array => Class::O,
     }
 }

@@ -17,7 +17,7 @@ use crate::repeats::report_duplicates;
 use crate::withs::report_withs;
 use fb_library::{View, tree_by_name};
 use fb_tree::Decl;
-use fb_tree::text::{Name, NameUse, same_name};
+use fb_tree::text::{Name, NameUse};
 use std::alloc::{AllocError, Global};
 
 /// The faults of what a unit declares, in order, each once.
@@ -70,22 +70,22 @@ fn report_name(decl: &Decl, unit: &Name, found: &mut Vec<Fault>) -> Result<(), A
         (found.new.items ≡ found.old.items ++ name_faults unit.now (decl_tree decl.now)) }
 {
     let name = name_of(decl);
-    if !same_name(&name.name, unit) {
-        found.push(Fault::at(Code::NameDiffers, &name))?;
+    if !name.name.is(unit) {
+        found.push(Fault::at(Code::NameDiffers, name))?;
     }
     Ok(())
 }
 
 /// The name that a text declares.
-fn name_of(decl: &Decl) -> NameUse
-    ensures { result ≡ declared_name (decl_tree decl.now) }
+fn name_of(decl: &Decl) -> &NameUse
+    ensures { result.now ≡ declared_name (decl_tree decl.now) }
 {
     match decl {
         Decl::Block(declared) | Decl::Adapter(declared) | Decl::Subapplication(declared) => {
-            declared.name
+            &declared.name
         }
-        Decl::System(system) => system.name,
-        Decl::Structure(structure) => structure.name,
+        Decl::System(system) => &system.name,
+        Decl::Structure(structure) => &structure.name,
     }
 }
 

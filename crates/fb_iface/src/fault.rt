@@ -23,7 +23,7 @@ impl Fault {
     {
         Fault {
             code,
-            span: name.span,
+            span: name.span.span(),
         }
     }
 }

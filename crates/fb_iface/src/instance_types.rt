@@ -68,7 +68,7 @@ fn report_instance<V: View>(
     ensures { OnOk result (found.new.items ≡ found.old.items
         ++ instance_faults (V.sources view.now) (instance_tree instance.now)) }
 {
-    match tree_by_name(view, &instance.type_name.name) {
+    match tree_by_name(view, &instance.type_name.name.name()) {
         None => found.push(Fault::at(Code::UnknownType, &instance.type_name))?,
         Some(decl) => {
             if !is_suited(instance.role, kind(decl)) {

@@ -19,7 +19,9 @@ mod scope;
 mod structures;
 mod withs;
 
-pub use classes::{Class, class_by_form, class_by_name, class_of, class_of_constant, is_taken};
+pub use classes::{
+    Class, class_by_form, class_by_name, class_of, class_of_constant, class_of_wide, is_taken,
+};
 pub use code::Code;
 pub use declarations::{iface_faults, report_declarations};
 pub use fault::{Fault, sorted_faults};
@@ -41,7 +43,7 @@ pub mod parse {
 /// Of `fb_library`, for the crates above.
 pub mod library {
     pub use fb_library::{
-        Change, Library, View, far, names_of, near, open_new, part_mentions, tree_by_name,
+        Change, Library, Version, View, far, names_of, near, open_new, part_mentions, tree_by_name,
         value_mentions,
     };
 }

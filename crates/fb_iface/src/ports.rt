@@ -6,9 +6,9 @@ ghost use Rattle.fb_iface.specs.Ports.{events_in, instances_in, same_role, same_
 ghost use Rattle.fb_iface.specs.Sides.{is_data_on};
 
 use crate::names::first_declared;
-use fb_tree::text::{Name, NameUse};
+use fb_tree::text::{Name, WideUse};
 use fb_tree::{
-    Event, Instance, Interface, Network, Role, Section, Side, TypeDeclaration, TypeUse, Variables,
+    Event, Instance, Interface, Network, Role, Section, Side, TypeDeclaration, Variables, WideTypeUse,
 };
 use indexmap::IndexMap;
 use std::alloc::{AllocError, Global};
@@ -18,21 +18,21 @@ use std::marker::Model;
 #[derive(Clone, Copy, Debug)]
 pub struct DeclaredEvent {
     pub side: Side,
-    pub type_name: Option<NameUse>,
+    pub type_name: Option<WideUse>,
 }
 
 /// A variable of an interface.
 #[derive(Clone, Copy, Debug)]
 pub struct DeclaredVariable {
     pub section: Section,
-    pub type_use: TypeUse,
+    pub type_use: WideTypeUse,
 }
 
 /// An instance, a plug or a socket.
 #[derive(Clone, Copy, Debug)]
 pub struct DeclaredInstance {
     pub role: Role,
-    pub type_name: NameUse,
+    pub type_name: WideUse,
 }
 
 /// What the events, variables and instances of a unit are, by their names, in the order of the text. A name that is declared more than once
@@ -123,42 +123,42 @@ impl Ports {
     }
 
     /// The event inputs, each with its type where one is written.
-    pub fn event_inputs(&self, alloc: Global) -> Result<Vec<(Name, Option<NameUse>)>, AllocError>
+    pub fn event_inputs(&self, alloc: Global) -> Result<Vec<(Name, Option<WideUse>)>, AllocError>
         ensures { IfOk result (λ ports. ports.items ≡ events_on sides.Input self.now) }
     {
         self.events_on(alloc, Side::Input)
     }
 
     /// The event outputs, each with its type where one is written.
-    pub fn event_outputs(&self, alloc: Global) -> Result<Vec<(Name, Option<NameUse>)>, AllocError>
+    pub fn event_outputs(&self, alloc: Global) -> Result<Vec<(Name, Option<WideUse>)>, AllocError>
         ensures { IfOk result (λ ports. ports.items ≡ events_on sides.Output self.now) }
     {
         self.events_on(alloc, Side::Output)
     }
 
     /// The data inputs with their types.
-    pub fn data_inputs(&self, alloc: Global) -> Result<Vec<(Name, TypeUse)>, AllocError>
+    pub fn data_inputs(&self, alloc: Global) -> Result<Vec<(Name, WideTypeUse)>, AllocError>
         ensures { IfOk result (λ ports. ports.items ≡ data_on sides.Input self.now) }
     {
         self.data_on(alloc, Side::Input)
     }
 
     /// The data outputs with their types.
-    pub fn data_outputs(&self, alloc: Global) -> Result<Vec<(Name, TypeUse)>, AllocError>
+    pub fn data_outputs(&self, alloc: Global) -> Result<Vec<(Name, WideTypeUse)>, AllocError>
         ensures { IfOk result (λ ports. ports.items ≡ data_on sides.Output self.now) }
     {
         self.data_on(alloc, Side::Output)
     }
 
     /// The plugs with their types.
-    pub fn plugs(&self, alloc: Global) -> Result<Vec<(Name, NameUse)>, AllocError>
+    pub fn plugs(&self, alloc: Global) -> Result<Vec<(Name, WideUse)>, AllocError>
         ensures { IfOk result (λ ports. ports.items ≡ instances_as roles.Plug self.now) }
     {
         self.instances_as(alloc, Role::Plug)
     }
 
     /// The sockets with their types.
-    pub fn sockets(&self, alloc: Global) -> Result<Vec<(Name, NameUse)>, AllocError>
+    pub fn sockets(&self, alloc: Global) -> Result<Vec<(Name, WideUse)>, AllocError>
         ensures { IfOk result (λ ports. ports.items ≡ instances_as roles.Socket self.now) }
     {
         self.instances_as(alloc, Role::Socket)
@@ -168,7 +168,7 @@ impl Ports {
         &self,
         alloc: Global,
         side: Side,
-    ) -> Result<Vec<(Name, Option<NameUse>)>, AllocError>
+    ) -> Result<Vec<(Name, Option<WideUse>)>, AllocError>
         ensures { IfOk result (λ ports. ports.items ≡ events_on side self.now) }
     {
         let mut ports = Vec::new(alloc);
@@ -180,7 +180,7 @@ impl Ports {
         Ok(ports)
     }
 
-    fn data_on(&self, alloc: Global, side: Side) -> Result<Vec<(Name, TypeUse)>, AllocError>
+    fn data_on(&self, alloc: Global, side: Side) -> Result<Vec<(Name, WideTypeUse)>, AllocError>
         ensures { IfOk result (λ ports. ports.items ≡ data_on side self.now) }
     {
         let mut ports = Vec::new(alloc);
@@ -192,7 +192,7 @@ impl Ports {
         Ok(ports)
     }
 
-    fn instances_as(&self, alloc: Global, role: Role) -> Result<Vec<(Name, NameUse)>, AllocError>
+    fn instances_as(&self, alloc: Global, role: Role) -> Result<Vec<(Name, WideUse)>, AllocError>
         ensures { IfOk result (λ ports. ports.items ≡ instances_as role self.now) }
     {
         let mut ports = Vec::new(alloc);
@@ -248,9 +248,9 @@ fn declared_events(
     for event in &interface.events {
         let meaning = DeclaredEvent {
             side: event.side,
-            type_name: event.type_name,
+            type_name: event.type_name.as_ref().map(WideUse::of),
         };
-        declared.push((event.name.name, meaning))?;
+        declared.push((event.name.name.name(), meaning))?;
     }
     Ok(declared)
 }
@@ -281,9 +281,9 @@ fn declare_together(
     for name in &group.names {
         let meaning = DeclaredVariable {
             section: group.section,
-            type_use: group.type_use,
+            type_use: WideTypeUse::of(&group.type_use),
         };
-        declared.push((name.name, meaning))?;
+        declared.push((name.name.name(), meaning))?;
     }
     Ok(())
 }
@@ -299,9 +299,9 @@ fn declared_instances(
     for instance in &network.instances {
         let meaning = DeclaredInstance {
             role: instance.role,
-            type_name: instance.type_name,
+            type_name: WideUse::of(&instance.type_name),
         };
-        declared.push((instance.name.name, meaning))?;
+        declared.push((instance.name.name.name(), meaning))?;
     }
     Ok(declared)
 }

@@ -8,7 +8,7 @@ ghost use Rattle.fb_iface.specs.Spaces.{chart_spaces, interface_spaces, network_
 use crate::code::Code;
 use crate::fault::Fault;
 use crate::named::Named;
-use fb_tree::text::NameUse;
+use fb_tree::text::{NameUse, WideUse};
 use fb_tree::{
     Application, Chart, Decl, Device, Instance, Interface, Network, Role, Structure, System,
     TypeDeclaration, Variables,
@@ -75,14 +75,23 @@ fn report_in_structure(
     report_repeated(alloc, fields.as_slice(), found)
 }
 
-fn variable_names(alloc: Global, variables: &[Variables]) -> Result<Vec<NameUse>, AllocError>
+fn variable_names(alloc: Global, variables: &[Variables]) -> Result<Vec<WideUse>, AllocError>
     ensures { IfOk result (λ names. names.items ≡ flat_map (λ v. v.names.items) variables.now) }
 {
     let mut names = Vec::new(alloc);
     for group in variables {
-        names.extend_from_slice(group.names.as_slice())?;
+        add_names(group.names.as_slice(), &mut names)?;
     }
     Ok(names)
+}
+
+fn add_names(uses: &[NameUse], names: &mut Vec<WideUse>) -> Result<(), AllocError>
+    ensures { OnOk result (names.new.items ≡ names.old.items ++ uses.now) }
+{
+    for used in uses {
+        names.push(WideUse::of(used))?;
+    }
+    Ok(())
 }
 
 fn report_in_chart(alloc: Global, chart: &Chart, found: &mut Vec<Fault>) -> Result<(), AllocError>
@@ -182,8 +191,12 @@ fn report_repeated<T: Named>(
     let mut seen = BTreeSet::new(alloc);
     for declaration in declarations {
         let name = declaration.name();
-        if !seen.insert(name.name)? {
-            found.push(Fault::at(Code::Duplicate, &name))?;
+        if !seen.insert(*name.name())? {
+            let span = name.place().span();
+            found.push(Fault {
+                code: Code::Duplicate,
+                span,
+            })?;
         }
     }
     Ok(())

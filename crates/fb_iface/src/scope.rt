@@ -101,7 +101,7 @@ impl Scope {
     pub fn instance_ports(&self, instance: &DeclaredInstance) -> Option<&Ports>
         ensures { option_map (λ p. p.now) result ≡ instance_ports (scope_in self.now) instance.now }
     {
-        self.type_ports(instance.role, &instance.type_name.name)
+        self.type_ports(instance.role, instance.type_name.name())
     }
 
     /// The ports of what the name stands for among the instances, plugs and sockets.
@@ -127,7 +127,7 @@ fn types_of<V: View>(
 {
     let mut types = HashMap::new(alloc);
     for instance in instances {
-        add_type(alloc, view, &instance.type_name.name, &mut types)?;
+        add_type(alloc, view, &instance.type_name.name.name(), &mut types)?;
     }
     Ok(types)
 }

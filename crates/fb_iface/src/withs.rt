@@ -10,7 +10,7 @@ ghost use Rattle.fb_iface.specs.Withs.{goes_along, event_withs, with_faults};
 use crate::code::Code;
 use crate::fault::Fault;
 use crate::ports::{Ports, is_beside};
-use fb_tree::text::Name;
+use fb_tree::text::NameUse;
 use fb_tree::{Decl, Event, Interface, Side};
 use std::alloc::AllocError;
 
@@ -58,7 +58,7 @@ fn report_event(own: &Ports, event: &Event, found: &mut Vec<Fault>) -> Result<()
         ≡ found.old.items ++ event_withs (stands_for own.now.variables) (event_tree event.now)) }
 {
     for name in &event.with {
-        if !goes_along(own, event.side, &name.name) {
+        if !goes_along(own, event.side, name) {
             found.push(Fault::at(Code::WithUnknown, name))?;
         }
     }
@@ -66,10 +66,10 @@ fn report_event(own: &Ports, event: &Event, found: &mut Vec<Fault>) -> Result<()
 }
 
 /// Whether what the name stands for goes along with an event of this side.
-fn goes_along(own: &Ports, side: Side, name: &Name) -> bool
-    ensures { result ≡ goes_along side (stands_for own.now.variables name.now) }
+fn goes_along(own: &Ports, side: Side, name: &NameUse) -> bool
+    ensures { result ≡ goes_along side (stands_for own.now.variables name.now.name) }
 {
-    match own.variable(name) {
+    match own.variable(&name.name.name()) {
         Some(variable) => is_beside(side, variable.section),
         None => false,
     }

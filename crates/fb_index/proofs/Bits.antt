@@ -44,17 +44,3 @@ own_bits false false = refl
 pub other_bits : (uses : Bool) → ((uses && true) || false) ≡ uses
 other_bits true = refl
 other_bits false = refl
-
--- `u` is whether it is the unit that is left out
-pub one_other : (f s u : Bool) → (s ≡ true → u ≡ false) → ((f && not u) || s) ≡ ((f || s) && not u)
-one_other true true true is = no_both true refl (is refl)
-one_other true false true is = refl
-one_other true s false is = refl
-one_other false true true is = no_both true refl (is refl)
-one_other false true false is = refl
-one_other false false u is = refl
-
-pub one_same : (f s u : Bool) → (s ≡ true → u ≡ true) → (f && not u) ≡ ((f || s) && not u)
-one_same true s u is = refl
-one_same false true u is = ap not (sym (is refl))
-one_same false false u is = refl

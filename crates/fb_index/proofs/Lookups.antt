@@ -7,18 +7,15 @@ use Rattle.std.specs.Map.{lookup, remove_entry}
 use Rattle.std.specs.BTreeMap.{is_at, insert_entry}
 use Rattle.std.specs.BTreeSet as set
 use Rattle.std.specs.BTreeSet.{BTreeSet}
-use Rattle.std.specs.Option.{option_map_or}
 use Rattle.std.specs.Ordering.{match_ordering, is_eq}
 use Rattle.std.specs.Cmp.{eq_by_cmp_equiv}
-use Rattle.std.specs.declared.vec.Vec.{Vec}
-use Rattle.std.specs.declared.alloc.Global.{Global}
 use Rattle.std.specs.declared.cmp.Ordering.TheVariants.{Less, Equal, Greater}
 use Rattle.fb_text.proofs.Tests.{and_false, and_true, or_false, no_both}
 use Rattle.fb_text.specs.Order.{name_cmp}
 use Rattle.fb_library.specs.Seen.{has_name}
 use Rattle.fb_library.proofs.Names.{name_total, exact_name}
 use Rattle.fb_library.proofs.Places.{sorted_put, sorted_removed}
-use Rattle.fb_library.proofs.SeenLemmas.{same_is, same_self, has-push}
+use Rattle.fb_library.proofs.SeenLemmas.{same_is, same_self}
 use Rattle.fb_tree.specs.Mentions.{Mentioned}
 use Rattle.fb_index.specs.Users.{UsersByName, users_of, uses, UsesThese, NowUses}
 use Rattle.fb_index.specs.Indexed.{Indexed, mark_of, is_indexed, IsIndexedAs, IsReplaced}
@@ -58,48 +55,66 @@ module _ {V : Type 0} where
   found_removed es k n sorted =
       lookup-remove_entry (eq_by_cmp_equiv name_total) (is_at (name_cmp k)) (λ x y at. ap (λ z. is_at (name_cmp z) y) (same_is k x at)) n es (IsDistinct-from_sorted name_cmp _ sorted)
 
+-- ---- names in a table
+
+module _ {V : Type 0} where
+  pub found_name : (es : List (List ℕ × V)) (n : List ℕ) → is_some (lookup (is_at (name_cmp n)) es) ≡ has_name (map (λ e. e.0) es) n
+  found_name [] n = refl
+  found_name (e ∷ es) n = here (is_at (name_cmp n) e.0) e.1 (lookup (is_at (name_cmp n)) es) ∙ ap (λ b. is_at (name_cmp n) e.0 || b) (found_name es n)
+    where
+      here : (b : Bool) (v : V) (o : Option V) → is_some (cond b (Some v) o) ≡ (b || is_some o)
+      here true v o = refl
+      here false v o = refl
+
+  put_bits : (b : Bool) (v : V) (o : Option V) → is_some (cond b (Some v) o) ≡ (is_some o || b)
+  put_bits true v (Some w) = refl
+  put_bits true v None = refl
+  put_bits false v (Some w) = refl
+  put_bits false v None = refl
+
+  removed_bits : (b : Bool) (o : Option V) → is_some (cond b None o) ≡ (is_some o && not b)
+  removed_bits true (Some w) = refl
+  removed_bits true None = refl
+  removed_bits false (Some w) = refl
+  removed_bits false None = refl
+
+  pub name_put : (es new : List (List ℕ × V)) (k : List ℕ) (v : V) → new ≡ insert_entry name_cmp es k v → (n : List ℕ) → has_name (map (λ e. e.0) new) n ≡ (has_name (map (λ e. e.0) es) n || is_at (name_cmp k) n)
+  name_put es new k v is n =
+      ap (λ (t : List (List ℕ × V)). has_name (map (λ e. e.0) t) n) is
+      ∙ sym (found_name (insert_entry name_cmp es k v) n)
+      ∙ ap is_some (found_put es k n v)
+      ∙ put_bits (is_at (name_cmp k) n) v (lookup (is_at (name_cmp n)) es)
+      ∙ ap (λ b. b || is_at (name_cmp k) n) (found_name es n)
+
+  pub name_removed : (es new : List (List ℕ × V)) (k : List ℕ) → IsStrictlySortedBy name_cmp (map (λ e. e.0) es) → new ≡ remove_entry (is_at (name_cmp k)) es → (n : List ℕ) → has_name (map (λ e. e.0) new) n ≡ (has_name (map (λ e. e.0) es) n && not (is_at (name_cmp k) n))
+  name_removed es new k sorted is n =
+      ap (λ (t : List (List ℕ × V)). has_name (map (λ e. e.0) t) n) is
+      ∙ sym (found_name (remove_entry (is_at (name_cmp k)) es) n)
+      ∙ ap is_some (found_removed es k n sorted)
+      ∙ removed_bits (is_at (name_cmp k) n) (lookup (is_at (name_cmp n)) es)
+      ∙ ap (λ b. b && not (is_at (name_cmp k) n)) (found_name es n)
+
 -- ---- the table of an index
 
-abbrev pub Rows : Type 0
-Rows = List (List ℕ × Vec (List ℕ) Global)
+found_units : (b : Bool) (units : List (List ℕ)) (rest : Option (List (List ℕ))) → unwrap_or (cond b (Some units) rest) [] ≡ (if b then units else unwrap_or rest [])
+found_units true units rest = refl
+found_units false units rest = refl
 
-abbrev pub read : Rows → UsersByName
-read rows = map (λ e. (e.0, e.1.items)) rows
+found_none : (b : Bool) (rest : Option (List (List ℕ))) → unwrap_or (cond b None rest) [] ≡ (if b then [] else unwrap_or rest [])
+found_none true rest = refl
+found_none false rest = refl
 
-abbrev pub units_in : Vec (List ℕ) Global → List (List ℕ)
-units_in units = units.items
+pub users_put : (old new : UsersByName) (k : List ℕ) (units : List (List ℕ)) → new ≡ insert_entry name_cmp old k units → (n : List ℕ) → users_of new n ≡ (if is_at (name_cmp k) n then units else users_of old n)
+users_put old new k units is n =
+    ap (λ (t : UsersByName). users_of t n) is
+    ∙ ap (λ o. unwrap_or o []) (found_put old k n units)
+    ∙ found_units (is_at (name_cmp k) n) units (lookup (is_at (name_cmp n)) old)
 
-found_read : (b : Bool) (units : Vec (List ℕ) Global) (rest : Option (List (List ℕ))) (rows : Option (Vec (List ℕ) Global)) → unwrap_or rest [] ≡ option_map_or units_in rows [] → unwrap_or (cond b (Some units.items) rest) [] ≡ option_map_or units_in (cond b (Some units) rows) []
-found_read true units rest rows same = refl
-found_read false units rest rows same = same
-
-pub users_in : (rows : Rows) (n : List ℕ) → users_of (read rows) n ≡ option_map_or units_in (lookup (is_at (name_cmp n)) rows) []
-users_in [] n = refl
-users_in (e ∷ rows) n = found_read (is_at (name_cmp n) e.0) e.1 _ _ (users_in rows n)
-
-found_units : (b : Bool) (units : Vec (List ℕ) Global) (rows : Option (Vec (List ℕ) Global)) → option_map_or units_in (cond b (Some units) rows) [] ≡ (if b then units.items else option_map_or units_in rows [])
-found_units true units rows = refl
-found_units false units rows = refl
-
-found_none : (b : Bool) (rows : Option (Vec (List ℕ) Global)) → option_map_or units_in (cond b None rows) [] ≡ (if b then [] else option_map_or units_in rows [])
-found_none true rows = refl
-found_none false rows = refl
-
-pub users_put : (old : UsersByName) (rows new : Rows) (k : List ℕ) (units : Vec (List ℕ) Global) → read rows ≡ old → new ≡ insert_entry name_cmp rows k units → (n : List ℕ) → users_of (read new) n ≡ (if is_at (name_cmp k) n then units.items else users_of old n)
-users_put old rows new k units was is n =
-    ap (λ (t : Rows). users_of (read t) n) is
-    ∙ users_in (insert_entry name_cmp rows k units) n
-    ∙ ap (λ o. option_map_or units_in o []) (found_put rows k n units)
-    ∙ found_units (is_at (name_cmp k) n) units (lookup (is_at (name_cmp n)) rows)
-    ∙ ap (λ us. if is_at (name_cmp k) n then units.items else us) (sym (users_in rows n) ∙ ap (λ us. users_of us n) was)
-
-pub users_removed : (old : UsersByName) (rows new : Rows) (k : List ℕ) (units : List (List ℕ)) → read rows ≡ old → IsStrictlySortedBy name_cmp (map (λ e. e.0) rows) → new ≡ remove_entry (is_at (name_cmp k)) rows → units ≡ [] → (n : List ℕ) → users_of (read new) n ≡ (if is_at (name_cmp k) n then units else users_of old n)
-users_removed old rows new k units was sorted is none n =
-    ap (λ (t : Rows). users_of (read t) n) is
-    ∙ users_in (remove_entry (is_at (name_cmp k)) rows) n
-    ∙ ap (λ o. option_map_or units_in o []) (found_removed rows k n sorted)
-    ∙ found_none (is_at (name_cmp k) n) (lookup (is_at (name_cmp n)) rows)
-    ∙ ap (λ us. if is_at (name_cmp k) n then [] else us) (sym (users_in rows n) ∙ ap (λ us. users_of us n) was)
+pub users_removed : (old new : UsersByName) (k : List ℕ) (units : List (List ℕ)) → IsStrictlySortedBy name_cmp (map (λ e. e.0) old) → new ≡ remove_entry (is_at (name_cmp k)) old → units ≡ [] → (n : List ℕ) → users_of new n ≡ (if is_at (name_cmp k) n then units else users_of old n)
+users_removed old new k units sorted is none n =
+    ap (λ (t : UsersByName). users_of t n) is
+    ∙ ap (λ o. unwrap_or o []) (found_removed old k n sorted)
+    ∙ found_none (is_at (name_cmp k) n) (lookup (is_at (name_cmp n)) old)
     ∙ ap (λ us. if is_at (name_cmp k) n then us else users_of old n) (sym none)
 
 -- ---- one unit under one name
@@ -120,34 +135,22 @@ joined_bits true u mine units other more = more refl ∙ ap (λ c. has_name unit
 joined_bits false u mine units other more = sym (ap (λ c. has_name units other || c) (and_false u) ∙ or_false (has_name units other))
 
 -- the unit is put under the name `k`
-pub unit_joined : (old new : UsersByName) (k unit : List ℕ) (units : List (List ℕ)) → units ≡ users_of old k ++ unit ∷ [] → ((n : List ℕ) → users_of new n ≡ (if is_at (name_cmp k) n then units else users_of old n)) → (other n : List ℕ) → uses new other n ≡ (uses old other n || (is_at (name_cmp unit) other && is_at (name_cmp k) n))
-unit_joined old new k unit units is are other n =
+pub unit_joined : (old new : UsersByName) (k unit : List ℕ) (units : List (List ℕ)) → ((other : List ℕ) → has_name units other ≡ (has_name (users_of old k) other || is_at (name_cmp unit) other)) → ((n : List ℕ) → users_of new n ≡ (if is_at (name_cmp k) n then units else users_of old n)) → (other n : List ℕ) → uses new other n ≡ (uses old other n || (is_at (name_cmp unit) other && is_at (name_cmp k) n))
+unit_joined old new k unit units more are other n =
     ap (λ us. has_name us other) (are n)
     ∙ joined_bits (is_at (name_cmp k) n) (is_at (name_cmp unit) other) units (users_of old n) other
-    (λ at. ap (λ us. has_name us other) is ∙ has-push (users_of old k) unit other ∙ ap (λ b. has_name (users_of old k) other || b) (flips other unit) ∙ ap (λ m. has_name (users_of old m) other || is_at (name_cmp unit) other) (same_is k n at))
-
-there_bits : (o u b : Bool) → (u ≡ true → b ≡ true → o ≡ true) → o ≡ (o || (u && b))
-there_bits true u b is = refl
-there_bits false true true is = is refl refl
-there_bits false true false is = refl
-there_bits false false b is = refl
-
--- it stands there already
-pub unit_there : (old : UsersByName) (k unit : List ℕ) → uses old unit k ≡ true → (other n : List ℕ) → uses old other n ≡ (uses old other n || (is_at (name_cmp unit) other && is_at (name_cmp k) n))
-unit_there old k unit there other n =
-    there_bits (uses old other n) (is_at (name_cmp unit) other) (is_at (name_cmp k) n)
-    (λ u b. sym (ap (λ m. uses old m n) (same_is unit other u)) ∙ sym (ap (uses old unit) (same_is k n b)) ∙ there)
+    (λ at. more other ∙ ap (λ m. has_name (users_of old m) other || is_at (name_cmp unit) other) (same_is k n at))
 
 -- ---- the rows stay in order
 
-module _ {T E : Type 0} where
-  pub rows_put : (r : Result T E) (rows new : Rows) (k : List ℕ) (units : Vec (List ℕ) Global) → OnOk r (new ≡ insert_entry name_cmp rows k units) → OnErr r (new ≡ rows) → IsStrictlySortedBy name_cmp (map (λ e. e.0) rows) → IsStrictlySortedBy name_cmp (map (λ e. e.0) new)
-  rows_put (Ok x) rows new k units is was sorted = subst (λ (t : Rows). IsStrictlySortedBy name_cmp (map (λ e. e.0) t)) (sym is) (sorted_put rows k units sorted)
-  rows_put (Err x) rows new k units is was sorted = subst (λ (t : Rows). IsStrictlySortedBy name_cmp (map (λ e. e.0) t)) (sym was) sorted
+module _ {V T E : Type 0} where
+  pub rows_put : (r : Result T E) (rows new : List (List ℕ × V)) (k : List ℕ) (v : V) → OnOk r (new ≡ insert_entry name_cmp rows k v) → OnErr r (new ≡ rows) → IsStrictlySortedBy name_cmp (map (λ e. e.0) rows) → IsStrictlySortedBy name_cmp (map (λ e. e.0) new)
+  rows_put (Ok x) rows new k v is was sorted = subst (λ (t : List (List ℕ × V)). IsStrictlySortedBy name_cmp (map (λ e. e.0) t)) (sym is) (sorted_put rows k v sorted)
+  rows_put (Err x) rows new k v is was sorted = subst (λ (t : List (List ℕ × V)). IsStrictlySortedBy name_cmp (map (λ e. e.0) t)) (sym was) sorted
 
-  pub rows_removed : (r : Result T E) (rows new : Rows) (k : List ℕ) → OnOk r (new ≡ remove_entry (is_at (name_cmp k)) rows) → OnErr r (new ≡ rows) → IsStrictlySortedBy name_cmp (map (λ e. e.0) rows) → IsStrictlySortedBy name_cmp (map (λ e. e.0) new)
-  rows_removed (Ok x) rows new k is was sorted = subst (λ (t : Rows). IsStrictlySortedBy name_cmp (map (λ e. e.0) t)) (sym is) (sorted_removed (is_at (name_cmp k)) rows sorted)
-  rows_removed (Err x) rows new k is was sorted = subst (λ (t : Rows). IsStrictlySortedBy name_cmp (map (λ e. e.0) t)) (sym was) sorted
+  pub rows_removed : (r : Result T E) (rows new : List (List ℕ × V)) (k : List ℕ) → OnOk r (new ≡ remove_entry (is_at (name_cmp k)) rows) → OnErr r (new ≡ rows) → IsStrictlySortedBy name_cmp (map (λ e. e.0) rows) → IsStrictlySortedBy name_cmp (map (λ e. e.0) new)
+  rows_removed (Ok x) rows new k is was sorted = subst (λ (t : List (List ℕ × V)). IsStrictlySortedBy name_cmp (map (λ e. e.0) t)) (sym is) (sorted_removed (is_at (name_cmp k)) rows sorted)
+  rows_removed (Err x) rows new k is was sorted = subst (λ (t : List (List ℕ × V)). IsStrictlySortedBy name_cmp (map (λ e. e.0) t)) (sym was) sorted
 
 -- ---- one unit with what it uses
 

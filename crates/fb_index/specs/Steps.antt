@@ -23,6 +23,10 @@ HasJoined old unit names new = (other at : List ℕ) → uses new other at ≡ (
 abbrev pub HasLeft : UsersByName → List ℕ → (List ℕ → Bool) → UsersByName → Type 0
 HasLeft old unit names new = (other at : List ℕ) → uses new other at ≡ (uses old other at && not (is_at (name_cmp unit) other && names at))
 
+-- the same units and one
+abbrev pub AreWith : List (List ℕ) → List ℕ → List (List ℕ) → Type 0
+AreWith units unit more = (other : List ℕ) → has_name more other ≡ (has_name units other || is_at (name_cmp unit) other)
+
 -- the same units but one
 abbrev pub AreWithout : List (List ℕ) → List ℕ → List (List ℕ) → Type 0
 AreWithout units unit others = (other : List ℕ) → has_name others other ≡ (has_name units other && not (is_at (name_cmp unit) other))

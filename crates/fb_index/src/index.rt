@@ -119,10 +119,10 @@ impl Index {
         let mut seen = BTreeSet::new(alloc);
         let mut pending = Vec::new(alloc);
         for name in names {
-            self.open_users(name, &mut seen, &mut pending)?;
+            self.open_users(alloc, name, &mut seen, &mut pending)?;
         }
         while let Some(name) = pending.pop() {
-            self.open_users(&name, &mut seen, &mut pending)?;
+            self.open_users(alloc, &name, &mut seen, &mut pending)?;
         }
         let users = names_of(alloc, &seen)?;
         units.extend_from_slice(users.as_slice())?;
@@ -146,20 +146,6 @@ impl Index {
         }
     }
 
-    /// The units that have the name as a part.
-    fn holders(&self, name: &Name) -> &[Name]
-        ensures { result.now ≡ users_of self.now.parts name.now }
-    {
-        self.parts.under(name)
-    }
-
-    /// The units that have the name as the type of a value.
-    fn value_users(&self, name: &Name) -> &[Name]
-        ensures { result.now ≡ users_of self.now.of_values name.now }
-    {
-        self.of_values.under(name)
-    }
-
     /// Those of the names that are indexed.
     fn indexed(&self, alloc: Global, names: &[Name]) -> Result<Vec<Name>, AllocError>
         ensures { IfOk result (λ units. units.items ≡ filter (is_indexed self.now) names.now) }
@@ -179,8 +165,10 @@ impl Index {
             (units.new.items
             ≡ units.old.items ++ flat_map (users_of self.now.parts) names.now) }
     {
+        let alloc = *units.allocator();
         for name in names {
-            units.extend_from_slice(self.holders(name))?;
+            let holders = self.parts.under(alloc, name)?;
+            units.extend_from_slice(holders.as_slice())?;
         }
         Ok(())
     }
@@ -194,28 +182,31 @@ impl Index {
         let mut seen = BTreeSet::new(alloc);
         let mut pending = Vec::new(alloc);
         for name in names {
-            open_new(self.value_users(name), &mut seen, &mut pending)?;
+            let users = self.of_values.under(alloc, name)?;
+            open_new(users.as_slice(), &mut seen, &mut pending)?;
         }
         while let Some(name) = pending.pop() {
-            open_new(self.carrying_on(&name), &mut seen, &mut pending)?;
+            let users = self.carrying_on(alloc, &name)?;
+            open_new(users.as_slice(), &mut seen, &mut pending)?;
         }
         names_of(alloc, &seen)
     }
 
     /// The units that carry on what this one carries: where it is a structure, its users.
-    fn carrying_on(&self, unit: &Name) -> &[Name]
-        ensures { result.now ≡ carrying_on self.now unit.now }
+    fn carrying_on(&self, alloc: Global, unit: &Name) -> Result<Vec<Name>, AllocError>
+        ensures { IfOk result (λ units. units.items ≡ carrying_on self.now unit.now) }
     {
         if self.is_structure(unit) {
-            self.value_users(unit)
+            self.of_values.under(alloc, unit)
         } else {
-            &[]
+            Ok(Vec::new(alloc))
         }
     }
 
     /// Sees the units that mention the name, and opens those that are new.
     fn open_users(
         &self,
+        alloc: Global,
         name: &Name,
         seen: &mut BTreeSet<Name>,
         pending: &mut Vec<Name>,
@@ -224,8 +215,10 @@ impl Index {
             (Opens (mentioning self.now name.now) seen.old.keys pending.old.items seen.new.keys
             pending.new.items) }
     {
-        open_new(self.holders(name), seen, pending)?;
-        open_new(self.value_users(name), seen, pending)
+        let holders = self.parts.under(alloc, name)?;
+        open_new(holders.as_slice(), seen, pending)?;
+        let users = self.of_values.under(alloc, name)?;
+        open_new(users.as_slice(), seen, pending)
     }
 }
 

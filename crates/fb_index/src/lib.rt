@@ -2,6 +2,7 @@
 #![tactic(auto)]
 
 mod index;
+mod name_set;
 mod users;
 
 pub use index::Index;

@@ -4,20 +4,22 @@ ghost use Rattle.std.specs.BTreeMap.{is_at};
 ghost use Rattle.std.specs.BTreeSet as set;
 ghost use Rattle.fb_text.specs.Order.{name_cmp};
 ghost use Rattle.fb_library.specs.Seen.{has_name};
-ghost use Rattle.fb_index.specs.Users.{users_of, uses, UsesThese, NowUses};
-ghost use Rattle.fb_index.specs.Steps.{is_only_in, AreWithout, HasJoined, HasLeft, IsPutUnder};
+ghost use Rattle.fb_index.specs.Users.{users_of, UsesThese, NowUses};
+ghost use Rattle.fb_index.specs.Steps.{is_only_in, HasJoined, HasLeft, IsPutUnder};
 
+use crate::name_set::NameSet;
 use fb_library::Table;
-use fb_text::{Name, same_name};
+use fb_text::Name;
 use std::alloc::{AllocError, Global};
 use std::collections::BTreeSet;
 use std::marker::Model;
 use std::sync::Arc;
 
-/// Under each name the units that use it.
+/// Under each name the units that use it. A copy shares all that is not changed after it, so a change among many users of a
+/// name costs no more than one among many names.
 #[derive(Drop)]
 pub struct Users {
-    by_name: Table<Vec<Name>>,
+    by_name: Table<NameSet>,
 }
 
 impl Model for Users {
@@ -28,7 +30,7 @@ impl Model for Users {
 
     ghost Value = { UsersByName };
 
-    ghost view = { λ it. map (λ e. (e.0, e.1.items)) it.by_name };
+    ghost view = { λ it. it.by_name };
 
     ghost invariant = { λ it. IsStrictlySortedBy name_cmp (map (λ e. e.0) it.by_name) };
 }
@@ -68,26 +70,29 @@ impl Users {
         self.put_in(alloc, unit, new, &before)
     }
 
-    /// The users of a name.
-    pub fn under(&self, name: &Name) -> &[Name]
-        ensures { result.now ≡ users_of self.now name.now }
+    /// The users of a name, in order.
+    pub fn under(&self, alloc: Global, name: &Name) -> Result<Vec<Name>, AllocError>
+        ensures { IfOk result (λ units. units.items ≡ users_of self.now name.now) }
     {
         match self.by_name.get(name) {
-            Some(units) => units.as_slice(),
-            None => &[],
+            Some(units) => units.names(alloc),
+            None => Ok(Vec::new(alloc)),
         }
     }
 
-    /// Whether the unit uses a name.
-    fn has(&self, name: &Name, unit: &Name) -> bool
-        ensures { result ≡ uses self.now unit.now name.now }
+    /// The users of a name, to be changed.
+    fn copy_under(&self, alloc: Global, name: &Name) -> Result<NameSet, AllocError>
+        ensures { IfOk result (λ units. units ≡ users_of self.now name.now) }
     {
-        self.under(name).iter().any(|user| same_name(unit, user))
+        match self.by_name.get(name) {
+            Some(units) => units.copy(),
+            None => Ok(NameSet::new(alloc)),
+        }
     }
 
     /// Puts these units under a name, in the place of those that were there.
-    fn set(&mut self, alloc: Global, name: &Name, units: Vec<Name>) -> Result<(), AllocError>
-        ensures { OnOk result (IsPutUnder self.old name.now units.items self.new) }
+    fn set(&mut self, alloc: Global, name: &Name, units: NameSet) -> Result<(), AllocError>
+        ensures { OnOk result (IsPutUnder self.old name.now units self.new) }
     {
         if units.is_empty() {
             return self.by_name.remove(name);
@@ -99,20 +104,17 @@ impl Users {
     fn leave(&mut self, alloc: Global, name: &Name, unit: &Name) -> Result<(), AllocError>
         ensures { OnOk result (HasLeft self.old unit.now (is_at (name_cmp name.now)) self.new) }
     {
-        let others = without(alloc, self.under(name), unit)?;
-        self.set(alloc, name, others)
+        let mut units = self.copy_under(alloc, name)?;
+        units.remove(unit)?;
+        self.set(alloc, name, units)
     }
 
     /// Puts the unit under a name.
     fn join(&mut self, alloc: Global, name: &Name, unit: &Name) -> Result<(), AllocError>
         ensures { OnOk result (HasJoined self.old unit.now (is_at (name_cmp name.now)) self.new) }
     {
-        if self.has(name, unit) {
-            return Ok(());
-        }
-        let mut units = Vec::new(alloc);
-        units.extend_from_slice(self.under(name))?;
-        units.push(*unit)?;
+        let mut units = self.copy_under(alloc, name)?;
+        units.put(alloc, *unit)?;
         self.set(alloc, name, units)
     }
 
@@ -160,17 +162,4 @@ fn set_of(alloc: Global, names: &[Name]) -> Result<BTreeSet<Name>, AllocError>
         (λ made. (name : List ℕ) → set.contains name_cmp made name ≡ has_name names.now name) }
 {
     names.iter().copied().collect(alloc)
-}
-
-/// The units but one.
-fn without(alloc: Global, units: &[Name], unit: &Name) -> Result<Vec<Name>, AllocError>
-    ensures { IfOk result (λ others. AreWithout units.now unit.now others.items) }
-{
-    let mut others = Vec::new(alloc);
-    for other in units {
-        if !same_name(unit, other) {
-            others.push(*other)?;
-        }
-    }
-    Ok(others)
 }

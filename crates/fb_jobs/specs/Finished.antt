@@ -3,34 +3,32 @@ use Rattle.std.specs.Prelude.{◌≡◌, List, All}
 use Rattle.std.specs.declared.sync.Arc.{Arc}
 use Rattle.std.specs.declared.alloc.Global.{Global}
 use Rattle.fb_jobs.specs.Keys.{scratch}
-use Rattle.fb_jobs.specs.Reads.{PlainJob, IsRight, read_texts}
-use Rattle.fb_jobs.specs.Values.{finding_of, all_seen, texts_seen, IsOwn, IsOwnText}
+use Rattle.fb_jobs.specs.Reads.{PlainJob, Seen, IsRight, read_texts}
+use Rattle.fb_jobs.specs.Values.{finding_of, all_seen, IsOwn}
 use Rattle.fb_jobs.specs.Known.{IsKnowledge}
 use Rattle.fb_jobs.specs.Work.{IsFoundFor}
 use Rattle.fb_jobs.specs.declared.hints.Hint.{Hint}
 use Rattle.fb_jobs.specs.declared.known.Knowledge.{Knowledge}
 use Rattle.fb_jobs.specs.declared.key.Key.{Key}
 use Rattle.fb_jobs.specs.declared.read.Read.{Read}
-use Rattle.fb_jobs.specs.declared.read.TextRead.{TextRead}
 use Rattle.fb_jobs.specs.declared.value.Value.{Value}
 
 abbrev pub plain_job : Key → List Read → PlainJob
 plain_job key reads = record { key = key; reads = all_seen reads }
 
 -- the reads are right in themselves, each source is of the name that it was read under, and the texts are theirs
-pub record IsJob (key : Key) (reads : List Read) (texts : List TextRead) : Type 0 where
+pub record IsJob (key : Key) (reads : List Read) (texts : List Seen) : Type 0 where
   pub right : IsRight (plain_job key reads)
   pub own : All IsOwn reads
-  pub texts_are : texts_seen texts ≡ all_seen reads
-  pub texts_own : All IsOwnText texts
+  pub texts_are : texts ≡ all_seen reads
 
 -- and what is known beside them is what the reads give
-pub record IsGiven (key : Key) (reads : List Read) (texts : List TextRead) (knowledge : Knowledge) : Type 0 where
+pub record IsGiven (key : Key) (reads : List Read) (texts : List Seen) (knowledge : Knowledge) : Type 0 where
   pub job : IsJob key reads texts
   pub known : IsKnowledge (read_texts (all_seen reads)) key knowledge
 
 -- the value is that of the reads, from scratch, and so are the nets that were found on the way
-pub record IsFinished (key : Key) (reads : List Read) (texts : List TextRead) (value : Arc Value Global) (found : List Hint) : Type 0 where
+pub record IsFinished (key : Key) (reads : List Read) (texts : List Seen) (value : Arc Value Global) (found : List Hint) : Type 0 where
   pub job : IsJob key reads texts
   pub value_is : finding_of value.value ≡ scratch (read_texts (all_seen reads)) key
   pub found_are : All (IsFoundFor (read_texts (all_seen reads)) key) found

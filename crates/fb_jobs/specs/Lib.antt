@@ -4,6 +4,7 @@ pub mod Keys
 pub mod Kinds
 pub mod Reads
 pub mod Values
+pub mod Texts
 pub mod Kept
 pub mod Reach
 pub mod Hints

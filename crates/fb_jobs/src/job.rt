@@ -12,16 +12,17 @@ ghost use Rattle.fb_jobs.specs.Kept.{AreKept};
 ghost use Rattle.fb_jobs.specs.Keys.{has_key};
 ghost use Rattle.fb_jobs.specs.Known.{IsKnowledge};
 ghost use Rattle.fb_jobs.specs.Reads.{IsRight, read_names, read_texts, reads_for};
-ghost use Rattle.fb_jobs.specs.Values.{all_seen, texts_seen, IsOwn, IsOwnText};
+ghost use Rattle.fb_jobs.specs.Values.{all_seen, IsOwn};
 
 use crate::computed::work_of;
 use crate::hints::Hint;
 use crate::kept::Kept;
 use crate::key::Key;
 use crate::known::{Knowledge, KnownNets, nets_of};
-use crate::read::{Read, TextRead};
+use crate::read::Read;
 use crate::reads::reads_of;
 use crate::result::Finished;
+use crate::texts::TextReads;
 use crate::value::Value;
 use fb_deploy::library::{Library, View};
 use fb_deploy::parse::Source;
@@ -36,7 +37,7 @@ use std::sync::Arc;
 pub struct Job {
     key: Key,
     reads: Arc<Vec<Read>>,
-    texts: Arc<Vec<TextRead>>,
+    texts: Arc<TextReads>,
     knowledge: Knowledge,
     // a value that the key had once, to be shared where it comes out again
     former: Option<Arc<Value>>,
@@ -51,7 +52,7 @@ impl Model for Job {
 
     ghost view = { λ it. plain_job it.key it.reads.value.items };
 
-    ghost invariant = { λ it. IsGiven it.key it.reads.value.items it.texts.value.items it.knowledge };
+    ghost invariant = { λ it. IsGiven it.key it.reads.value.items it.texts.value it.knowledge };
 }
 
 impl Job {
@@ -69,9 +70,9 @@ impl Job {
             (λ job. job ≡ record { key = key; reads = reads_for library.now key }) }
     {
         let wanted = key;
-        let reads = reads_of(alloc, library, wanted)?;
+        let (reads, texts) = reads_of(alloc, library, wanted)?;
         let knowledge = Knowledge::of_hints(alloc, hints);
-        Job::of_reads(alloc, key, reads, knowledge, None)
+        Job::of_reads(alloc, key, reads, texts, knowledge, None)
     }
 
     /// The same with all that is kept: as hints the nets of other subapplications among the reads; the net of the unit itself, where it
@@ -89,28 +90,30 @@ impl Job {
             (λ job. job ≡ record { key = key; reads = reads_for library.now key }) }
     {
         let wanted = key;
-        let reads = reads_of(alloc, library, wanted)?;
+        let (reads, texts) = reads_of(alloc, library, wanted)?;
         let knowledge = Knowledge::of_kept(alloc, library, kept, &key, &reads)?;
         let former = match kept.former(&key) {
             Some(value) => Some(value.clone()?),
             None => None,
         };
-        Job::of_reads(alloc, key, reads, knowledge, former)
+        Job::of_reads(alloc, key, reads, texts, knowledge, former)
     }
 
     fn of_reads(
         alloc: Global,
         key: Key,
         reads: Vec<Read>,
+        texts: TextReads,
         knowledge: Knowledge,
         former: Option<Arc<Value>>,
     ) -> Result<Job, AllocError>
         requires right { IsRight (plain_job key reads.items) }
         requires own { All IsOwn reads.items }
+        requires texts { texts ≡ all_seen reads.items }
         requires known { IsKnowledge (read_texts (all_seen reads.items)) key knowledge }
         ensures { IfOk result (λ job. job ≡ plain_job key reads.items) }
     {
-        let texts = Arc::new(alloc, Read::texts(alloc, &reads)?)?;
+        let texts = Arc::new(alloc, texts)?;
         let reads = Arc::new(alloc, reads)?;
         Ok(Job {
             key,
@@ -136,9 +139,8 @@ impl Job {
     }
 
     /// The texts of the reads, to be kept.
-    pub fn texts(&self) -> &Arc<Vec<TextRead>>
-        ensures same { texts_seen result.now.value.items ≡ self.now.reads }
-        ensures own { All IsOwnText result.now.value.items }
+    pub fn texts(&self) -> &Arc<TextReads>
+        ensures { result.now.value ≡ self.now.reads }
     {
         &self.texts
     }

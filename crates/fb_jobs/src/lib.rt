@@ -13,6 +13,7 @@ mod read;
 mod reads;
 mod result;
 mod same;
+mod texts;
 mod value;
 
 pub use hints::Hint;
@@ -23,10 +24,11 @@ pub use kinds::{all_kinds, keys_by_name, keys_near_and_far};
 pub use laws::{
     current_nets, current_reads, kinds_in_order, least_stale, locality, needs_in_order,
 };
-pub use read::{Read, TextRead, has_key};
+pub use read::{Read, has_key};
 pub use reads::needed;
 pub use result::Finished;
 pub use same::is_same_value;
+pub use texts::{TextRead, TextReads};
 pub use value::Value;
 
 /// Of `fb_parse`, for the crates above.
@@ -36,7 +38,7 @@ pub mod parse {
 
 /// Of `fb_library`, for the crates above.
 pub mod library {
-    pub use fb_deploy::library::{Change, Library};
+    pub use fb_deploy::library::{Change, Library, Version};
 }
 
 /// Of `fb_iface`, for the crates above.

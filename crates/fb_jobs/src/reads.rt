@@ -3,14 +3,17 @@ ghost use Rattle.std.specs.Prelude.{◌≡◌, IfOk, All};
 ghost use Rattle.fb_deploy.specs.Library.Texts.{held};
 ghost use Rattle.fb_jobs.specs.Keys.{needs};
 ghost use Rattle.fb_jobs.specs.Reads.{reads_for};
+ghost use Rattle.fb_jobs.specs.Texts.{seen_under, text_of};
 ghost use Rattle.fb_jobs.specs.Values.{all_seen, seen_of, IsOwn};
 
 use crate::key::{Key, Kind};
 use crate::read::Read;
+use crate::texts::TextReads;
 use fb_deploy::flatten::all_far;
-use fb_deploy::library::{Library, near};
+use fb_deploy::library::{Library, Version, near};
 use fb_text::Name;
 use std::alloc::{AllocError, Global};
+use std::sync::Arc;
 
 /// The names whose texts decide the key's value, in order.
 #[tactic(auto, unfolding(crate::specs::Keys::needs))]
@@ -23,32 +26,50 @@ pub fn needed(alloc: Global, library: &Library, key: Key) -> Result<Vec<Name>, A
     }
 }
 
-fn read_under(library: &Library, name: Name) -> Result<Read, AllocError>
+/// What is read under a name, and what is kept of it: all by one search of the library.
+fn read_under(
+    library: &Library,
+    name: Name,
+) -> Result<(Read, Option<Arc<Version>>), AllocError>
     ensures seen { IfOk result
-        (λ read. seen_of read ≡ record { name = name; found = held library.now name }) }
-    ensures own { IfOk result IsOwn }
+        (λ made. seen_of made.0 ≡ record { name = name; found = held library.now name }) }
+    ensures own { IfOk result (λ made. IsOwn made.0) }
+    ensures kept { IfOk result (λ made. seen_under name (text_of made.1) ≡ seen_of made.0) }
 {
-    let revision = library.revision(&name);
-    let source = match library.source(&name) {
-        Some(source) => Some(source.clone()?),
-        None => None,
+    let Some(filed) = library.filed(&name) else {
+        let nothing = Read {
+            name,
+            revision: 0,
+            source: None,
+        };
+        return Ok((nothing, None));
     };
-    Ok(Read {
+    let version = filed.version().clone()?;
+    let read = Read {
         name,
-        revision,
-        source,
-    })
+        revision: filed.revision(),
+        source: Some(filed.source().clone()?),
+    };
+    Ok((read, Some(version)))
 }
 
-/// What a job for the key reads.
-pub(crate) fn reads_of(alloc: Global, library: &Library, key: Key) -> Result<Vec<Read>, AllocError>
-    ensures seen { IfOk result (λ reads. all_seen reads.items ≡ reads_for library.now key) }
-    ensures own { IfOk result (λ reads. All IsOwn reads.items) }
+/// What a job for the key reads, and what is kept of that.
+pub(crate) fn reads_of(
+    alloc: Global,
+    library: &Library,
+    key: Key,
+) -> Result<(Vec<Read>, TextReads), AllocError>
+    ensures seen { IfOk result (λ made. all_seen made.0.items ≡ reads_for library.now key) }
+    ensures own { IfOk result (λ made. All IsOwn made.0.items) }
+    ensures kept { IfOk result (λ made. made.1 ≡ all_seen made.0.items) }
 {
     let names = needed(alloc, library, key)?;
     let mut reads = Vec::with_capacity(alloc, names.len())?;
+    let mut texts = TextReads::with_capacity(alloc, names.len())?;
     for name in &names {
-        reads.push(read_under(library, *name)?)?;
+        let (read, version) = read_under(library, *name)?;
+        reads.push(read)?;
+        texts = texts.with(*name, version)?;
     }
-    Ok(reads)
+    Ok((reads, texts))
 }

@@ -3,13 +3,14 @@ ghost use Rattle.std.specs.Prelude.{◌≡◌, All};
 ghost use Rattle.fb_jobs.specs.Finished.{IsFinished, plain_job};
 ghost use Rattle.fb_jobs.specs.Keys.{scratch};
 ghost use Rattle.fb_jobs.specs.Reads.{IsRight, read_texts};
-ghost use Rattle.fb_jobs.specs.Values.{all_seen, finding_of, texts_seen, IsOwn, IsOwnText};
+ghost use Rattle.fb_jobs.specs.Values.{all_seen, finding_of, IsOwn};
 ghost use Rattle.fb_jobs.specs.Work.{IsFoundFor};
 
 use crate::computed::Worked;
 use crate::hints::Hint;
 use crate::key::Key;
-use crate::read::{Read, TextRead};
+use crate::read::Read;
+use crate::texts::TextReads;
 use crate::value::Value;
 use std::marker::Model;
 use std::sync::Arc;
@@ -19,7 +20,7 @@ use std::sync::Arc;
 pub struct Finished {
     key: Key,
     reads: Arc<Vec<Read>>,
-    texts: Arc<Vec<TextRead>>,
+    texts: Arc<TextReads>,
     work: Worked,
 }
 
@@ -32,17 +33,17 @@ impl Model for Finished {
 
     ghost view = { λ it. plain_job it.key it.reads.value.items };
 
-    ghost invariant = { λ it. IsFinished it.key it.reads.value.items it.texts.value.items it.work.value it.work.found.items };
+    ghost invariant = { λ it. IsFinished it.key it.reads.value.items it.texts.value it.work.value it.work.found.items };
 }
 
 impl Finished {
     pub(crate) fn of_reads(
         key: Key,
         reads: Arc<Vec<Read>>,
-        texts: Arc<Vec<TextRead>>,
+        texts: Arc<TextReads>,
         work: Worked,
     ) -> Finished
-        requires { IsFinished key reads.value.items texts.value.items work.value work.found.items }
+        requires { IsFinished key reads.value.items texts.value work.value work.found.items }
         ensures { result ≡ plain_job key reads.value.items }
     {
         Finished {
@@ -68,9 +69,8 @@ impl Finished {
     }
 
     /// The texts of the reads, to be kept.
-    pub fn texts(&self) -> &Arc<Vec<TextRead>>
-        ensures same { texts_seen result.now.value.items ≡ self.now.reads }
-        ensures own { All IsOwnText result.now.value.items }
+    pub fn texts(&self) -> &Arc<TextReads>
+        ensures { result.now.value ≡ self.now.reads }
     {
         &self.texts
     }

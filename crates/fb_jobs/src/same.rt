@@ -1,15 +1,19 @@
 //! Whether two values say the same, by content.
-ghost use Rattle.std.specs.Prelude.{◌≡◌, ◌↔◌, IsTrue};
+ghost use Rattle.std.specs.Prelude.{◌≡◌, ◌↔◌, IsTrue, map};
 ghost use Rattle.fb_deploy.specs.Flatten.Net.{plain_net};
 ghost use Rattle.fb_deploy.specs.Deploy.{plain_deploy};
+ghost use Rattle.fb_deploy.specs.Library.Filed.{filed_text};
+ghost use Rattle.fb_jobs.specs.Texts.{text_of};
 ghost use Rattle.fb_jobs.specs.Values.{finding_of};
 
 use crate::value::Value;
 use fb_deploy::flatten::Net;
+use fb_deploy::library::Version;
 use fb_deploy::placing::Misplaced;
 use fb_deploy::{Deploy, ResourcePlan};
 use fb_network::{Flat, FlatBlock};
 use fb_text::{Name, same_name};
+use std::sync::Arc;
 
 fn is_one_name(a: &Name, b: &Name) -> bool
     ensures { IsTrue result ↔ (a.now ≡ b.now) }
@@ -18,7 +22,7 @@ fn is_one_name(a: &Name, b: &Name) -> bool
 }
 
 /// The same items, where items that compare equal are one.
-fn are_equal<T: PartialEq>(a: &[T], b: &[T]) -> bool
+pub(crate) fn are_equal<T: PartialEq>(a: &[T], b: &[T]) -> bool
     requires { (x y : T) → IsTrue (T.eq x y) ↔ (x ≡ y) }
     ensures { IsTrue result ↔ (a.now ≡ b.now) }
 {
@@ -139,4 +143,38 @@ pub fn is_same_value(a: &Value, b: &Value) -> bool
         (Value::Deploy(a), Value::Deploy(b)) => is_same_deploy(a, b),
         _ => false,
     }
+}
+
+fn is_same_version(a: &Version, b: &Version) -> bool
+    ensures { IsTrue result ↔ (filed_text a.now ≡ filed_text b.now) }
+{
+    is_one_name(&a.unit, &b.unit)
+        && a.revision == b.revision
+        && a.text.as_str() == b.text.as_str()
+}
+
+/// The same text of the same unit with the same revision, or none.
+fn is_same_text(a: &Option<Arc<Version>>, b: &Option<Arc<Version>>) -> bool
+    ensures { IsTrue result ↔ (text_of a.now ≡ text_of b.now) }
+{
+    match (a, b) {
+        (None, None) => true,
+        (Some(a), Some(b)) => is_same_version(a, b),
+        _ => false,
+    }
+}
+
+/// The same texts, one after the other.
+pub(crate) fn are_same_texts(a: &[Option<Arc<Version>>], b: &[Option<Arc<Version>>]) -> bool
+    ensures { IsTrue result ↔ (map text_of a.now ≡ map text_of b.now) }
+{
+    if a.len() != b.len() {
+        return false;
+    }
+    for place in 0..a.len() {
+        if !is_same_text(&a[place], &b[place]) {
+            return false;
+        }
+    }
+    true
 }

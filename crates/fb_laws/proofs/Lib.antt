@@ -55,3 +55,11 @@ pub mod EntryLemmas
 pub mod LinkRows
 pub mod PlacedRows
 pub mod OneHome
+pub mod PlainNames
+pub mod PathTexts
+pub mod PathNames
+pub mod PathHolders
+pub mod PathStanding
+pub mod PathBlocks
+pub mod PathHomes
+pub mod PathRows

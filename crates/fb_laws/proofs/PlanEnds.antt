@@ -37,7 +37,7 @@ in_held z i rest tail (inl same) more = subst (λ (w : Instance). Contains (held
 in_held z i rest tail (inr d) more = contains_later (held_as z) tail (held_as i) (more d)
 
 -- an instance is held
-instance_held : {view : View} {list : List Instance} {held : List Held} → AreInstances view list held → (i : Instance) → Contains list i → Contains held (held_as i)
+pub instance_held : {view : View} {list : List Instance} {held : List Held} → AreInstances view list held → (i : Instance) → Contains list i → Contains held (held_as i)
 instance_held NoInstance i c = absurd (contains_nothing i c)
 instance_held (ThenBlock z rest others k more) i c = in_held z i rest others (contains_cases z rest i c) (λ d. instance_held more i d)
 instance_held (ThenSubapplication z rest inner own others k known inside more) i c =
@@ -114,7 +114,7 @@ leaf_held {network = network} (LeafWithin inner name a' i e leaf) held are =
     }
 
 -- what is held as a block is a block
-leaf_listed : (held : List Held) (path : Place) (typed : List ℕ) → Contains held (record { path = path; kind = Block; typed = typed }) → Contains (leaves_of held) (record { path = printed path; type_name = typed })
+pub leaf_listed : (held : List Held) (path : Place) (typed : List ℕ) → Contains held (record { path = path; kind = Block; typed = typed }) → Contains (leaves_of held) (record { path = printed path; type_name = typed })
 leaf_listed [] path typed c = absurd (contains_nothing _ c)
 leaf_listed (h ∷ hs) path typed c = by (contains_cases h hs (record { path = path; kind = Block; typed = typed }) c) (leaf_listed hs path typed)
   where

@@ -42,7 +42,7 @@ ok_name false false true e f g name other h = cc
 ok_name false false false e f g name other h = refl
 
 -- a word of at most 64 bytes spells its name
-spelled_word : (bytes other : List ℕ) → is_word bytes ≡ true → length bytes ≤ 64 → name_or (name_of bytes) other ≡ str_to_ascii_uppercase bytes
+pub spelled_word : (bytes other : List ℕ) → is_word bytes ≡ true → length bytes ≤ 64 → name_or (name_of bytes) other ≡ str_to_ascii_uppercase bytes
 unfolding name_of
 spelled_word bytes other word short =
     ok_name (length bytes == 0) (nat_lt (word_len bytes) (length bytes)) (nat_lt 64 (length bytes)) Empty (BadByte (word_len bytes)) TooLong (str_to_ascii_uppercase bytes) other
@@ -56,7 +56,7 @@ pub record IsOfToken (text : List ℕ) (tokens : List Token) (l : Lexeme) : Type
   pub among : Contains tokens token
   pub same : l ≡ lexeme_of text token
 
-of_token : (text : List ℕ) (tokens : List Token) (l : Lexeme) (k : ℕ) → k < length (map (lexeme_of text) tokens) → slice_index_or (map (lexeme_of text) tokens) k l ≡ l → IsOfToken text tokens l
+pub of_token : (text : List ℕ) (tokens : List Token) (l : Lexeme) (k : ℕ) → k < length (map (lexeme_of text) tokens) → slice_index_or (map (lexeme_of text) tokens) k l ≡ l → IsOfToken text tokens l
 of_token text [] l k within e = absurd (omega arith)
 of_token text (t ∷ ts) l zero within e = record { token = t; among = (0, omega arith, refl); same = sym e }
 of_token text (t ∷ ts) l (suc k) within e =
@@ -91,7 +91,7 @@ word_stands text tokens token name are among kind same =
     }
 
 -- the token of a name that is written
-name_in : (us inside : List Lexeme) (before behind : List Lexeme) (name : NameUse) → us ≡ before ++ (inside ++ behind) → Spells name_form inside name
+pub name_in : (us inside : List Lexeme) (before behind : List Lexeme) (name : NameUse) → us ≡ before ++ (inside ++ behind) → Spells name_form inside name
     → (l : Lexeme) × Contains us l × (is_among name_kinds l.kind ≡ true) × (name ≡ name_use l)
 unfolding name_form
 name_in us inside before behind name e s =

@@ -22,3 +22,4 @@ pub mod Mappings
 pub mod Texts
 pub mod Planned
 pub mod Plans
+pub mod Paths

@@ -27,9 +27,10 @@ pub use networks::{
     parameters_are_known, parameters_fit, ports_are_known, ports_are_of_right_sides, types_agree,
 };
 pub use plans::{
-    blocks_are_made_at_home, blocks_have_one_home, commands_are_in_order, cuts_join_resources,
-    ends_have_one_home, homes_have_commands, links_are_cut_or_made, links_are_made_at_home,
-    parameters_are_set_at_home, placed_systems_have_commands, resources_have_their_commands,
+    blocks_are_made_at_home, blocks_are_made_where_mapped, blocks_have_one_home,
+    commands_are_in_order, cuts_join_resources, ends_have_one_home, homes_have_commands,
+    links_are_cut_or_made, links_are_made_at_home, misplaced_is_told, parameters_are_set_at_home,
+    placed_systems_have_commands, resources_have_their_commands,
 };
 pub use ports::{
     adapters_are_declared, data_are_declared, events_are_declared, instances_stand_for_first,

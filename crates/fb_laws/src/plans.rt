@@ -1,4 +1,5 @@
 //! Laws of the plans of systems: what is cut, and what is done on each resource.
+ghost use Rattle.fb_laws.specs.Paths.{AllBlocksAreMade, BlocksAreMadeWhereMapped, MisplacedIsTold, NothingPlannedIsMisplaced, OnlyBlocksAreMade};
 ghost use Rattle.fb_laws.specs.Plans.{BlocksAreMadeAtHome, BlocksHaveOneHome, CommandsAreInOrder, CutsJoinResources, EndsHaveOneHome, HomesHaveCommands, LinksAreCutOrMade, LinksAreMadeAtHome, ParametersAreSetAtHome, PlacedSystemsHaveCommands, ResourcesHaveTheirCommands};
 
 /// A system with a flat network has a plan with commands where each block has a home, and each mapping is of something.
@@ -54,4 +55,19 @@ pub fn homes_have_commands()
 /// Each link of the flat network is a cut, or some resource of the plan makes it, and not both.
 pub fn links_are_cut_or_made()
     ensures { LinksAreCutOrMade }
+{}
+
+/// A resource has the command that makes a block exactly where the nearest mapping of the block's path or above it names this resource. Each block
+/// at a path of the system, of whatever depth, is made on one, and no other command makes a block.
+pub fn blocks_are_made_where_mapped()
+    ensures made { BlocksAreMadeWhereMapped }
+    ensures all { AllBlocksAreMade }
+    ensures only { OnlyBlocksAreMade }
+{}
+
+/// Where something is misplaced, a plan tells exactly this: the blocks, of all depths, with no mapping of their path or above it, and the mappings at
+/// whose path no application, block or subapplication instance stands. Where a plan has commands, nothing is misplaced.
+pub fn misplaced_is_told()
+    ensures told { MisplacedIsTold }
+    ensures planned { NothingPlannedIsMisplaced }
 {}

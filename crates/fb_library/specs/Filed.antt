@@ -1,15 +1,21 @@
 -- A library's units as texts.
-use Rattle.std.specs.Prelude.{◌≡◌, ℕ, List, map}
+use Rattle.std.specs.Prelude.{◌≡◌, ℕ, List, map, string_bytes}
 use Rattle.std.specs.List.{AllByRecursion}
-use Rattle.fb_library.specs.Texts.{Texts, Held}
-use Rattle.fb_library.specs.declared.library.Filed.{Filed}
+use Rattle.fb_parse.specs.Source.{Written}
+use Rattle.fb_library.specs.Texts.{Texts, FiledText}
+use Rattle.fb_library.specs.declared.filed.Version.{Version}
 
-abbrev pub held_of : Filed → Held
-held_of it = record { revision = it.revision; text = it.source.value.text }
+abbrev pub filed_text : Version → FiledText
+filed_text it = record { unit = it.unit; held = record { revision = it.revision; text = string_bytes it.text.value } }
 
-abbrev pub texts_of : List (List ℕ × Filed) → Texts
-texts_of units = map (λ e. (e.0, held_of e.1)) units
+-- the source says the same
+pub record IsOfSource (source : Written) (it : FiledText) : Type 0 where
+  pub unit : source.unit ≡ it.unit
+  pub text : source.text ≡ it.held.text
 
--- each source is of its own unit
-abbrev pub AreOwn : List (List ℕ × Filed) → Type 0
-AreOwn units = AllByRecursion (λ e. e.1.source.value.unit ≡ e.0) units
+abbrev pub texts_of : List (List ℕ × FiledText) → Texts
+texts_of units = map (λ e. (e.0, e.1.held)) units
+
+-- each is of its own unit
+abbrev pub AreOwn : List (List ℕ × FiledText) → Type 0
+AreOwn units = AllByRecursion (λ e. e.1.unit ≡ e.0) units

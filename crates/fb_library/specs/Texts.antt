@@ -12,6 +12,11 @@ pub record Held : Type 0 where
   pub revision : ℕ
   pub text : List ℕ
 
+-- the same with the name of the unit
+pub record FiledText : Type 0 where
+  pub unit : List ℕ
+  pub held : Held
+
 -- the units by rising name
 abbrev pub Texts : Type 0
 Texts = List (List ℕ × Held)

@@ -2,6 +2,7 @@
 #![tactic(auto)]
 
 mod change;
+mod filed;
 mod laws;
 mod library;
 mod look_up;
@@ -15,6 +16,7 @@ mod table;
 mod walk;
 
 pub use change::Change;
+pub use filed::{Filed, Version};
 pub use laws::{
     carried_is_all, carried_is_local, far_is_local, far_is_one_list, near_is_all, near_is_local,
 };

@@ -7,9 +7,9 @@ ghost use Rattle.std.specs.BTreeMap.{insert_entry, is_at};
 ghost use Rattle.fb_parse.specs.Text.Order.{name_cmp};
 ghost use Rattle.fb_library.specs.Texts.{held, text_at, revision_of, names_of, sources_of, edited, all_edited};
 ghost use Rattle.fb_library.specs.Changes.{edit_of, edits_of};
-ghost use Rattle.fb_library.specs.Filed.{held_of};
 
 use crate::change::Change;
+use crate::filed::Filed;
 use crate::look_up::View;
 use crate::table::Table;
 use fb_parse::Source;
@@ -17,13 +17,6 @@ use fb_parse::text::Name;
 use std::alloc::{AllocError, Global};
 use std::marker::Model;
 use std::sync::Arc;
-
-/// What is kept of a unit.
-#[derive(Drop)]
-pub(crate) struct Filed {
-    revision: u64,
-    source: Arc<Source>,
-}
 
 /// The texts of a workbench by name.
 #[derive(Drop)]
@@ -78,10 +71,10 @@ impl Library {
         self.units.names(alloc)
     }
 
-    /// What is filed under a unit.
-    fn find(&self, unit: &Name) -> Option<&Filed>
-        ensures held { option_map (λ it. held_of it.now) result ≡ held self.now unit.now }
-        ensures own { IfSome result (λ it. it.now.source.value.unit ≡ unit.now) }
+    /// What is filed under a unit: its source, its revision and its text.
+    pub fn filed(&self, unit: &Name) -> Option<&Filed>
+        ensures held { option_map (λ it. it.now.held) result ≡ held self.now unit.now }
+        ensures own { IfSome result (λ it. it.now.unit ≡ unit.now) }
     {
         match self.units.get(unit) {
             Some(filed) => Some(filed),
@@ -94,8 +87,8 @@ impl Library {
         ensures text { option_map (λ it. it.now.value.text) result ≡ text_at self.now unit.now }
         ensures own { IfSome result (λ it. it.now.value.unit ≡ unit.now) }
     {
-        match self.find(unit) {
-            Some(filed) => Some(&filed.source),
+        match self.filed(unit) {
+            Some(filed) => Some(filed.source()),
             None => None,
         }
     }
@@ -104,8 +97,8 @@ impl Library {
     pub fn revision(&self, unit: &Name) -> u64
         ensures { result ≡ revision_of (held self.now unit.now) }
     {
-        match self.find(unit) {
-            Some(filed) => filed.revision,
+        match self.filed(unit) {
+            Some(filed) => filed.revision(),
             None => 0,
         }
     }
@@ -126,7 +119,7 @@ impl Library {
             (record { revision = revision; text = source.value.text })) }
     {
         let unit = source.unit();
-        let filed = Arc::new(self.alloc, Filed { revision, source })?;
+        let filed = Arc::new(self.alloc, Filed::new(self.alloc, revision, source)?)?;
         self.units.put(unit, filed)
     }
 

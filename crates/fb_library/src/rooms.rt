@@ -12,7 +12,7 @@ use fb_parse::text::Name;
 use std::alloc::{AllocError, Global};
 use std::sync::Arc;
 
-// A full room becomes two halves, so a copy of a table of n names counts some n / 2,000 rooms once
+// A full room becomes two halves, so a copy of a table of n names counts some n / 600 rooms once
 // more. A change makes one room anew, with a count for each of its shelves, and one shelf there.
 const FULL: usize = 32;
 
@@ -150,6 +150,7 @@ fn reach<V: Drop>(rooms: &mut Vec<Room<V>>, name: Name) -> Result<(), AllocError
     }
     let alloc = *rooms.allocator();
     let shelves = Arc::new(alloc, Shelves::new(alloc))?;
+    rooms.reserve_exact(1)?;
     Ok(rooms.push(Room {
         last: name,
         shelves,

@@ -13,9 +13,9 @@ use std::alloc::{AllocError, Global};
 use std::marker::Model;
 use std::sync::Arc;
 
-// A full shelf becomes two halves, so it has some 90 names. A change makes one shelf anew, with a
-// count for each of its names.
-const FULL: usize = 128;
+// A full shelf becomes two halves, so it has some 24 names. A change makes one shelf anew, with a
+// count for each of its names: each lies in memory of its own, which is seldom in the cache.
+const FULL: usize = 32;
 
 /// Shelves by rising name, and how many entries are on them. A copy shares all that is not changed
 /// after it.
@@ -295,5 +295,6 @@ fn reach<V: Drop>(shelves: &mut Vec<Shelf<V>>, name: Name) -> Result<(), AllocEr
     }
     let alloc = *shelves.allocator();
     let places = Arc::new(alloc, Vec::new(alloc))?;
+    shelves.reserve_exact(1)?;
     Ok(shelves.push(Shelf { last: name, places })?)
 }

@@ -7,8 +7,8 @@ ghost use Rattle.fb_netcheck.specs.Ends.{adapter_port, data_port, end_span, even
 
 use crate::setting::Setting;
 use fb_iface::{DeclaredEvent, DeclaredInstance, DeclaredVariable, Ports, is_same_side};
-use fb_tree::text::{Name, NameUse, Span};
-use fb_tree::{End, Role, Section, Side, Sort, TypeUse, UnitKind};
+use fb_tree::text::{Name, NameUse, Span, WideUse};
+use fb_tree::{End, Role, Section, Side, Sort, UnitKind, WideTypeUse};
 
 /// Where an end stands in its connection.
 #[derive(Clone, Copy, Debug, PartialEq, Eq)]
@@ -30,8 +30,8 @@ pub enum Holder {
 #[derive(Clone, Copy, Debug)]
 pub enum Flow {
     Event,
-    Data(TypeUse),
-    Adapter(NameUse),
+    Data(WideTypeUse),
+    Adapter(WideUse),
 }
 
 /// A port. Among adapters a socket is an input and a plug an output.
@@ -77,18 +77,15 @@ pub fn is_right_target(position: Position, target: &Target) -> bool
 pub fn span_of(end: &End) -> Span
     ensures { result ≡ end_span end.now }
 {
-    Span {
-        start: end.name.span.start,
-        end: last(end.name, end.port).span.end,
-    }
+    end.name.span.through(last(end).span).span()
 }
 
-fn last(name: NameUse, port: Option<NameUse>) -> NameUse
-    ensures { result ≡ last_name name port }
+fn last(end: &End) -> &NameUse
+    ensures { result.now ≡ last_name end.now.name end.now.port }
 {
-    match port {
+    match &end.port {
         Some(port) => port,
-        None => name,
+        None => &end.name,
     }
 }
 
@@ -96,13 +93,14 @@ fn last(name: NameUse, port: Option<NameUse>) -> NameUse
 pub fn target_at(here: &Setting, sort: Sort, end: &End) -> Target
     ensures { result ≡ target (place_in here.now) sort end.now }
 {
-    let name = &end.name.name;
+    let name = end.name.name.name();
     let own = here.scope.own();
     match &end.port {
-        None => found(Holder::Own, port_by_name(sort, own, name)),
+        None => found(Holder::Own, port_by_name(sort, own, &name)),
         Some(port) => {
-            let ports = here.scope.ports_of(name);
-            target_at_instance(here.kind, sort, own.instance(name), ports, &port.name)
+            let ports = here.scope.ports_of(&name);
+            let port = port.name.name();
+            target_at_instance(here.kind, sort, own.instance(&name), ports, &port)
         }
     }
 }

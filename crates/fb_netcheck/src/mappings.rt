@@ -28,7 +28,7 @@ impl Placed for Mapping {
 fn names_of(alloc: Global, names: &[NameUse]) -> Result<Vec<Name>, AllocError>
     ensures { IfOk result (λ path. path.items ≡ map (λ n. n.name) names.now) }
 {
-    names.iter().map(|name| name.name).collect(alloc)
+    names.iter().map(|name| name.name.name()).collect(alloc)
 }
 
 /// Where the first name begins.
@@ -36,7 +36,7 @@ fn start_of(names: &[NameUse]) -> usize
     ensures { result ≡ option_map_or (λ n. n.span.start) (slice_get names.now 0) 0 }
 {
     match names.first() {
-        Some(name) => name.span.start,
+        Some(name) => name.span.start() as usize,
         None => 0,
     }
 }
@@ -47,7 +47,7 @@ fn end_of(names: &[NameUse]) -> usize
         (λ n. n.span.end) (slice_get names.now (length names.now - 1)) 0 }
 {
     match names.last() {
-        Some(name) => name.span.end,
+        Some(name) => name.span.end() as usize,
         None => 0,
     }
 }

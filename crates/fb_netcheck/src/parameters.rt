@@ -39,7 +39,7 @@ fn report_in_instance(
 {
     match instance.role {
         Role::Block => {
-            let ports = scope.type_ports(Role::Block, &instance.type_name.name);
+            let ports = scope.type_ports(Role::Block, &instance.type_name.name.name());
             report_typed(ports, instance.parameters.as_slice(), found)
         }
         Role::Plug | Role::Socket | Role::Subapplication => Ok(()),
@@ -74,7 +74,7 @@ fn report_of_type(
         (parameter_tree p)) parameters.now) }
 {
     for parameter in parameters {
-        report_parameter(ports.variable(&parameter.name.name), parameter, found)?;
+        report_parameter(ports.variable(&parameter.name.name.name()), parameter, found)?;
     }
     Ok(())
 }

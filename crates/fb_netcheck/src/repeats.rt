@@ -1,15 +1,48 @@
 //! Ends of connections that are ends of an earlier one.
 ghost use Rattle.std.specs.Prelude.{◌≡◌, ◌++◌, IfOk, OnOk};
+ghost use Rattle.fb_netcheck.specs.Ends.{last_name};
 ghost use Rattle.fb_netcheck.specs.Repeats.{all_adapter_ends, data_destinations, path_named, second_adapters, second_sources};
 
-use crate::ends::span_of;
 use crate::paths::{Placed, report_repeated};
 use fb_iface::{Code, Fault};
-use fb_tree::text::{Name, NameUse, Span};
+use fb_tree::text::{Name, Span, WideUse};
 use fb_tree::{Connection, End, Sort};
 use std::alloc::{AllocError, Global};
+use std::marker::Model;
 
-impl Placed for End {
+/// A copy of an end. A contract sees it as the end.
+#[derive(Clone, Copy, Debug)]
+struct WideEnd {
+    name: WideUse,
+    port: Option<WideUse>,
+}
+
+impl Model for WideEnd {
+    ghost use Rattle.fb_tree.specs.declared.network.End.{End as Copied};
+
+    ghost Value = { Copied };
+
+    ghost view = { λ e. record { name = e.name; port = e.port } };
+
+    ghost inverse = { λ e. record { name = e.name; port = e.port } };
+}
+
+impl WideEnd {
+    fn of(end: &End) -> WideEnd
+        ensures { result ≡ end.now }
+    {
+        let port = match &end.port {
+            Some(port) => Some(WideUse::of(port)),
+            None => None,
+        };
+        WideEnd {
+            name: WideUse::of(&end.name),
+            port,
+        }
+    }
+}
+
+impl Placed for WideEnd {
     ghost use Rattle.fb_netcheck.specs.Repeats.{end_path};
 
     ghost path_of = { end_path };
@@ -19,23 +52,32 @@ impl Placed for End {
     }
 
     fn place(&self) -> Span {
-        span_of(self)
+        span_by_names(self.name, self.port)
     }
 }
 
 fn path_by_names(
     alloc: Global,
-    name: NameUse,
-    port: Option<NameUse>,
+    name: WideUse,
+    port: Option<WideUse>,
 ) -> Result<Vec<Name>, AllocError>
     ensures { IfOk result (λ path. path.items ≡ path_named name port) }
 {
     let mut path = Vec::new(alloc);
-    path.push(name.name)?;
+    path.push(*name.name())?;
     if let Some(port) = port {
-        path.push(port.name)?;
+        path.push(*port.name())?;
     }
     Ok(path)
+}
+
+fn span_by_names(name: WideUse, port: Option<WideUse>) -> Span
+    ensures { result ≡ record { start = name.span.start; end = (last_name name port).span.end } }
+{
+    match port {
+        Some(port) => name.place().through(port.place()).span(),
+        None => name.place().span(),
+    }
 }
 
 /// Reports the destinations of data connections that an earlier one has.
@@ -50,13 +92,16 @@ pub fn report_second_sources(
     report_repeated(alloc, Code::SecondSource, ends.as_slice(), found)
 }
 
-fn destinations_of_data(alloc: Global, connections: &[Connection]) -> Result<Vec<End>, AllocError>
+fn destinations_of_data(
+    alloc: Global,
+    connections: &[Connection],
+) -> Result<Vec<WideEnd>, AllocError>
     ensures { IfOk result (λ ends. ends.items ≡ data_destinations connections.now) }
 {
     let mut ends = Vec::new(alloc);
     for connection in connections {
         match connection.sort {
-            Sort::Data => ends.push(connection.destination)?,
+            Sort::Data => ends.push(WideEnd::of(&connection.destination))?,
             Sort::Event | Sort::Adapter => {}
         }
     }
@@ -75,15 +120,18 @@ pub fn report_second_adapters(
     report_repeated(alloc, Code::SecondAdapter, ends.as_slice(), found)
 }
 
-fn ends_of_adapters(alloc: Global, connections: &[Connection]) -> Result<Vec<End>, AllocError>
+fn ends_of_adapters(
+    alloc: Global,
+    connections: &[Connection],
+) -> Result<Vec<WideEnd>, AllocError>
     ensures { IfOk result (λ ends. ends.items ≡ all_adapter_ends connections.now) }
 {
     let mut ends = Vec::new(alloc);
     for connection in connections {
         match connection.sort {
             Sort::Adapter => {
-                ends.push(connection.source)?;
-                ends.push(connection.destination)?;
+                ends.push(WideEnd::of(&connection.source))?;
+                ends.push(WideEnd::of(&connection.destination))?;
             }
             Sort::Event | Sort::Data => {}
         }

@@ -9,7 +9,7 @@ ghost use Rattle.fb_netcheck.specs.Spellings.{is_boundary, part, same_type, same
 
 use fb_iface::library::View;
 use fb_tree::text::{Name, Span, Token, TokenFault, same_name, tokens};
-use fb_tree::{TypeForm, TypeUse};
+use fb_tree::{TypeForm, WideTypeUse};
 use std::alloc::{AllocError, Global};
 use std::collections::BTreeMap;
 
@@ -22,9 +22,9 @@ pub fn is_same_type<V: View>(
     alloc: Global,
     view: &V,
     unit: &Name,
-    used: &TypeUse,
+    used: &WideTypeUse,
     other_unit: &Name,
-    other: &TypeUse,
+    other: &WideTypeUse,
     known: &mut Spellings,
 ) -> Result<bool, AllocError>
     requires { AreSpellings (V.sources view.now) (get part_cmp known.old) }
@@ -32,12 +32,14 @@ pub fn is_same_type<V: View>(
     ensures same { IfOk result
         (λ same. same ≡ same_type (V.sources view.now) unit.now used.now other_unit.now other.now) }
 {
-    match (used.form, other.form) {
-        (TypeForm::Plain, TypeForm::Plain) => Ok(same_name(&used.name.name, &other.name.name)),
+    match (used.form(), other.form()) {
+        (TypeForm::Plain, TypeForm::Plain) => Ok(same_name(used.name(), other.name())),
         (TypeForm::Sized, TypeForm::Sized) | (TypeForm::Array, TypeForm::Array) => {
-            spell(alloc, view, unit, used.span, known)?;
-            spell(alloc, view, other_unit, other.span, known)?;
-            is_spelled_alike(alloc, view, unit, used.span, other_unit, other.span, known)
+            let span = used.place().span();
+            let other_span = other.place().span();
+            spell(alloc, view, unit, span, known)?;
+            spell(alloc, view, other_unit, other_span, known)?;
+            is_spelled_alike(alloc, view, unit, span, other_unit, other_span, known)
         }
         _ => Ok(false),
     }

@@ -12,7 +12,7 @@ use crate::setting::Setting;
 use crate::sides::fault_at;
 use crate::spellings::{Spellings, is_same_type};
 use fb_iface::library::View;
-use fb_iface::{Code, Fault, class_of};
+use fb_iface::{Code, Fault, class_of_wide};
 use fb_tree::text::{Name, same_name};
 use fb_tree::{Connection, End};
 use std::alloc::{AllocError, Global};
@@ -69,8 +69,8 @@ fn home_at(here: &Setting, end: &End) -> Name
 {
     match &end.port {
         None => here.unit,
-        Some(_) => match here.scope.own().instance(&end.name.name) {
-            Some(instance) => instance.type_name.name,
+        Some(_) => match here.scope.own().instance(&end.name.name.name()) {
+            Some(instance) => *instance.type_name.name(),
             None => here.unit,
         },
     }
@@ -125,13 +125,13 @@ fn is_flow_agreed<V: View>(
 {
     match (flow, other) {
         (Flow::Data(used), Flow::Data(other)) => {
-            if class_of(used).is_free() || class_of(other).is_free() {
+            if class_of_wide(used).is_free() || class_of_wide(other).is_free() {
                 Ok(true)
             } else {
                 is_same_type(alloc, view, unit, used, other_unit, other, known)
             }
         }
-        (Flow::Adapter(used), Flow::Adapter(other)) => Ok(same_name(&used.name, &other.name)),
+        (Flow::Adapter(used), Flow::Adapter(other)) => Ok(same_name(used.name(), other.name())),
         _ => Ok(true),
     }
 }

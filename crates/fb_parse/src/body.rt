@@ -5,7 +5,7 @@ ghost use Rattle.fb_structured_text.specs.Forms.declared.lexeme.Lexeme.{Lexeme};
 ghost use Rattle.fb_parse.specs.Body.{BodyTree, IsBody, body_of};
 ghost use Rattle.fb_parse.specs.Grammar.{unit};
 ghost use Rattle.fb_tree.specs.Tree.{DeclTree};
-ghost use Rattle.std.specs.Prelude.{◌≡◌, ℕ, IfOk, List};
+ghost use Rattle.std.specs.Prelude.{◌≡◌, ◌<◌, ℕ, IfOk, List, length};
 
 use crate::units::unit;
 use fb_structured_text::grammar::{Lexeme, Stop, lexemes};
@@ -26,9 +26,10 @@ impl Body {
     ghost use Rattle.fb_tree.specs.Mentions.{mentioned};
     ghost use Rattle.fb_tree.specs.Tree.{decl_tree};
 
-    /// The body of a text.
+    /// The body of a text of less than 4 GiB.
     #[tactic(auto, unfolding(crate::specs::Body::body_of))]
     pub fn of_text(alloc: Global, text: &str) -> Result<Body, AllocError>
+        requires { length text.now < 4294967296 }
         ensures { IfOk result (λ body. body_tree body ≡ body_of text.now) }
     {
         match lexemes(alloc, text) {
@@ -69,7 +70,7 @@ impl Body {
     {
         match rest {
             [] => Body::Tree(decl),
-            [lexeme, ..] => Body::Broken(lexeme.span),
+            [lexeme, ..] => Body::Broken(lexeme.span.span()),
         }
     }
 
@@ -78,7 +79,7 @@ impl Body {
         ensures { result ≡ place end lexemes.now }
     {
         match lexemes {
-            [lexeme, ..] => lexeme.span,
+            [lexeme, ..] => lexeme.span.span(),
             [] => Span { start: end, end },
         }
     }

@@ -59,8 +59,8 @@ fn event_condition(alloc: Global, tokens: &[Lexeme]) -> Result<(Condition, &[Lex
     let (event, rest) = end(tokens)?;
     let (test, rest) = optional_test(alloc, rest)?;
     let condition = match test {
-        Some(test) => Condition::Guarded(event.end(), test),
-        None => Condition::Event(event.end()),
+        Some(test) => Condition::Guarded(event.end(alloc)?, test),
+        None => Condition::Event(event.end(alloc)?),
     };
     Ok((condition, rest))
 }
@@ -107,8 +107,8 @@ impl Reader for TransitionReader {
         let (condition, rest) = condition(alloc, rest)?;
         let (_, rest) = key(rest, Kind::Semicolon)?;
         let transition = Transition {
-            source: source.name_use(),
-            destination: destination.name_use(),
+            source: source.name_use(alloc)?,
+            destination: destination.name_use(alloc)?,
             condition,
         };
         Ok((transition, rest))
@@ -158,7 +158,7 @@ fn structured_text(alloc: Global, tokens: &[Lexeme]) -> Result<(AlgorithmBody, &
     let (language, rest) = key(tokens, Kind::NameSt)?;
     let (statements, rest) = statements(alloc, optional_colon(rest))?;
     let body = AlgorithmBody {
-        language: language.name_use(),
+        language: language.name_use(alloc)?,
         statements,
     };
     Ok((body, rest))
@@ -171,7 +171,7 @@ fn other_language(alloc: Global, tokens: &[Lexeme]) -> Result<(AlgorithmBody, &[
 {
     let (language, rest) = one_of(tokens, &[Kind::Name, Kind::NameIn, Kind::NameOn])?;
     let body = AlgorithmBody {
-        language: language.name_use(),
+        language: language.name_use(alloc)?,
         statements: Vec::new(alloc),
     };
     Ok((body, skip(rest, Kind::EndAlgorithm)))
@@ -199,7 +199,7 @@ pub fn algorithm(alloc: Global, tokens: &[Lexeme]) -> Result<(Algorithm, &[Lexem
     let (body, rest) = algorithm_body(alloc, rest)?;
     let (_, rest) = key(rest, Kind::EndAlgorithm)?;
     let algorithm = Algorithm {
-        name: name.name_use(),
+        name: name.name_use(alloc)?,
         language: body.language,
         statements: body.statements,
     };

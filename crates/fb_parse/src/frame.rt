@@ -94,7 +94,7 @@ pub fn framed<'a>(
     let (contents, rest) = sections(alloc, frame, firsts, rest)?;
     let (_, rest) = key(rest, end)?;
     let named = Named {
-        name: name.name_use(),
+        name: name.name_use(alloc)?,
         contents,
     };
     Ok((named, rest))

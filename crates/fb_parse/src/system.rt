@@ -142,7 +142,7 @@ pub fn system(alloc: Global, tokens: &[Lexeme]) -> Result<(System, &[Lexeme]), S
     let (contents, rest) = sections(alloc, rest)?;
     let (_, rest) = key(rest, Kind::EndSystem)?;
     let system = System {
-        name: name.name_use(),
+        name: name.name_use(alloc)?,
         applications: contents.applications,
         devices: contents.devices,
         mappings: contents.mappings,

@@ -156,7 +156,7 @@ fn structure(alloc: Global, tokens: &[Lexeme]) -> Result<(Structure, &[Lexeme]),
     let (fields, rest) = fields(alloc, rest)?;
     let (_, rest) = key(optional_semicolon(rest), Kind::EndType)?;
     let structure = Structure {
-        name: name.name_use(),
+        name: name.name_use(alloc)?,
         fields,
     };
     Ok((structure, rest))

@@ -24,7 +24,7 @@ pub record PlainStanding : Type 0 where
 
 -- the same without where it lies in memory
 abbrev pub plain_standing : Standing → PlainStanding
-plain_standing s = record { unit = s.unit.now; instance = instance_tree s.instance.now }
+plain_standing s = record { unit = s.unit; instance = instance_tree s.instance.now }
 
 -- the instances of a subapplication type; nothing is placed inside other types
 abbrev pub inner_instances : Option DeclTree → List InstanceTree

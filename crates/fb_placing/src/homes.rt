@@ -114,7 +114,7 @@ fn names_of(alloc: Global, names: &[NameUse]) -> Result<Vec<&str>, AllocError>
 fn push_astray<'a, V: View>(
     alloc: Global,
     view: &'a V,
-    system: &'a Name,
+    system: &Name,
     mapping: &Mapping,
     applications: &Applications<'a>,
     units: &mut Units<'a>,

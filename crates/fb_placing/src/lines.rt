@@ -147,7 +147,7 @@ fn write_line(
     ensures { IfOk result
         (λ line. line ≡ write_line text.now home.now (parameter_tree parameter.now)) }
 {
-    let place = home.path.then(alloc, &parameter.name.name)?;
+    let place = home.path.then(alloc, &parameter.name.name.name())?;
     let value = written(alloc, text, &parameter.value)?;
     let command = Command::of_two(alloc, "WRITE ", place.as_str(), value.as_str())?;
     let resource = home.resource.copy()?;
@@ -191,14 +191,14 @@ fn push_lines_of<V: View>(
     if parameters.is_empty() {
         return Ok(());
     }
-    push_write_lines(alloc, text_by_name(view, it.unit), home, parameters, lines)
+    push_write_lines(alloc, text_by_name(view, &it.unit), home, parameters, lines)
 }
 
 /// Adds the commands that set the parameters of a block.
 fn push_home_lines<'a, V: View>(
     alloc: Global,
     view: &'a V,
-    system: &'a Name,
+    system: &Name,
     home: &Home,
     applications: &Applications<'a>,
     units: &mut Units<'a>,
@@ -214,9 +214,10 @@ fn push_home_lines<'a, V: View>(
         (applications_in (tree_at (V.sources view.now) system.now)) home.now) }
 {
     let names = path_names(alloc, home.path.as_str())?;
-    match standing_at(alloc, view, system, &names, applications, units)? {
-        Some(it) => push_lines_of(alloc, view, home, &it, lines),
-        None => Ok(()),
+    match standing_at(alloc, view, system, &names, applications, units) {
+        Ok(Some(it)) => push_lines_of(alloc, view, home, &it, lines),
+        Ok(None) => Ok(()),
+        Err(error) => Err(error),
     }
 }
 

@@ -41,9 +41,9 @@ pub(crate) fn path_of_names(
 ) -> Result<Path, AllocError>
     ensures { IfOk result (λ path. path ≡ printed (names_used (first.now ∷ others.now))) }
 {
-    let mut path = Path::of(alloc, &first.name)?;
+    let mut path = Path::of(alloc, &first.name.name())?;
     for name in others {
-        path = path.then(alloc, &name.name)?;
+        path = path.then(alloc, &name.name.name())?;
     }
     Ok(path)
 }
@@ -52,7 +52,11 @@ pub(crate) fn path_of_names(
 fn home(alloc: Global, mapping: &Mapping) -> Result<Path, AllocError>
     ensures { IfOk result (λ path. path ≡ mapping_home (mapping_tree mapping.now)) }
 {
-    Path::of_two(alloc, &mapping.device.name, &mapping.resource.name)
+    Path::of_two(
+        alloc,
+        &mapping.device.name.name(),
+        &mapping.resource.name.name(),
+    )
 }
 
 /// The resources by the paths that are mapped to them.

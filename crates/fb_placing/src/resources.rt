@@ -71,7 +71,7 @@ fn push_resources(
         ++ map (λ r. dotted device.now r.name.name) (map resource_tree resources.now)) }
 {
     for resource in resources {
-        paths.push(Path::of_two(alloc, device, &resource.name.name)?)?;
+        paths.push(Path::of_two(alloc, device, &resource.name.name.name())?)?;
     }
     Ok(())
 }
@@ -84,7 +84,7 @@ fn resources_in(alloc: Global, devices: &[Device]) -> Result<Vec<Path>, AllocErr
     for device in devices {
         push_resources(
             alloc,
-            &device.name.name,
+            &device.name.name.name(),
             device.resources.as_slice(),
             &mut paths,
         )?;

@@ -17,7 +17,7 @@ use std::alloc::{AllocError, Global};
 /// An instance, and the unit whose text declares it.
 #[derive(Clone, Copy)]
 pub(crate) struct Standing<'a> {
-    pub unit: &'a Name,
+    pub unit: Name,
     pub instance: &'a Instance,
 }
 
@@ -38,9 +38,9 @@ pub fn path_names<'a>(alloc: Global, path: &'a str) -> Result<Vec<&'a str>, Allo
 }
 
 /// The instance of that name among these, which the unit declares.
-fn standing_among<'a>(unit: &'a Name, instances: &Instances<'a>, name: &str) -> Option<Standing<'a>>
+fn standing_among<'a>(unit: Name, instances: &Instances<'a>, name: &str) -> Option<Standing<'a>>
     ensures { option_map plain_standing result
-        ≡ option_map (standing_in unit.now) (instance_at instances.now name.now) }
+        ≡ option_map (standing_in unit) (instance_at instances.now name.now) }
 {
     match instances.get(name) {
         Some(instance) => Some(Standing {
@@ -64,10 +64,9 @@ fn standing_inside<'a, V: View>(
     ensures found { IfOk result (λ found. option_map plain_standing found
         ≡ standing_inside (V.sources view.now) name.now (plain_standing outer.now)) }
 {
-    let outer = outer.instance;
-    let unit = &outer.type_name.name;
-    look_into(alloc, view, unit, units)?;
-    let instances = units.get(unit).unwrap();
+    let unit = outer.instance.type_name.name.name();
+    look_into(alloc, view, &unit, units)?;
+    let instances = units.get(&unit).unwrap();
     Ok(standing_among(unit, instances, name))
 }
 
@@ -75,21 +74,25 @@ fn standing_inside<'a, V: View>(
 fn standing_beyond<'a, V: View>(
     alloc: Global,
     view: &'a V,
-    start: Standing<'a>,
+    start: &Standing<'a>,
     names: &[&str],
     units: &mut Units<'a>,
 ) -> Result<Option<Standing<'a>>, AllocError>
     requires { AreUnits (V.sources view.now) (get name_cmp units.old) }
     ensures right { OnOk result (AreUnits (V.sources view.now) (get name_cmp units.new)) }
     ensures found { IfOk result (λ found. option_map plain_standing found
-        ≡ standing_beyond (V.sources view.now) (Some (plain_standing start.entry))
+        ≡ standing_beyond (V.sources view.now) (Some (plain_standing start.now))
         (map (λ n. n.now) names.now)) }
 {
-    let mut found = start;
+    let mut found = Standing {
+        unit: start.unit,
+        instance: start.instance,
+    };
     for name in names {
-        match standing_inside(alloc, view, *name, &found, units)? {
-            Some(inner) => found = inner,
-            None => return Ok(None),
+        match standing_inside(alloc, view, *name, &found, units) {
+            Ok(Some(inner)) => found = inner,
+            Ok(None) => return Ok(None),
+            Err(error) => return Err(error),
         }
     }
     Ok(Some(found))
@@ -99,7 +102,7 @@ fn standing_beyond<'a, V: View>(
 fn standing_from<'a, V: View>(
     alloc: Global,
     view: &'a V,
-    unit: &'a Name,
+    unit: &Name,
     instances: &Instances<'a>,
     names: &[&str],
     units: &mut Units<'a>,
@@ -111,8 +114,8 @@ fn standing_from<'a, V: View>(
         (map (λ n. n.now) names.now)) }
 {
     match names.split_first() {
-        Some((first, others)) => match standing_among(unit, instances, *first) {
-            Some(start) => standing_beyond(alloc, view, start, others, units),
+        Some((first, others)) => match standing_among(*unit, instances, *first) {
+            Some(start) => standing_beyond(alloc, view, &start, others, units),
             None => Ok(None),
         },
         None => Ok(None),
@@ -123,7 +126,7 @@ fn standing_from<'a, V: View>(
 pub(crate) fn standing_at<'a, V: View>(
     alloc: Global,
     view: &'a V,
-    system: &'a Name,
+    system: &Name,
     names: &[&str],
     applications: &Applications<'a>,
     units: &mut Units<'a>,
@@ -160,7 +163,7 @@ fn is_placed(role: Role) -> bool
 pub(crate) fn leads_nowhere<'a, V: View>(
     alloc: Global,
     view: &'a V,
-    system: &'a Name,
+    system: &Name,
     names: &[&str],
     applications: &Applications<'a>,
     units: &mut Units<'a>,
@@ -177,9 +180,10 @@ pub(crate) fn leads_nowhere<'a, V: View>(
     match names.len() {
         0 => Ok(false),
         1 => Ok(!applications.contains_key(names[0])),
-        _ => match standing_at(alloc, view, system, names, applications, units)? {
-            Some(found) => Ok(!is_placed(found.instance.role)),
-            None => Ok(true),
+        _ => match standing_at(alloc, view, system, names, applications, units) {
+            Ok(Some(found)) => Ok(!is_placed(found.instance.role)),
+            Ok(None) => Ok(true),
+            Err(error) => Err(error),
         },
     }
 }

@@ -16,8 +16,8 @@ fn span_of_simple(value: &Simple) -> Span
     ensures { result ≡ simple_span value.now }
 {
     match value {
-        Simple::Literal(literal) => literal.span,
-        Simple::Name(name) => name.span,
+        Simple::Literal(literal) => literal.span.span(),
+        Simple::Name(name) => name.span.span(),
     }
 }
 
@@ -26,7 +26,7 @@ fn span_of(constant: &Constant) -> Span
 {
     match constant {
         Constant::One(value) => span_of_simple(value),
-        Constant::List(_, span) => *span,
+        Constant::List(_, span) => span.span(),
     }
 }
 

@@ -24,7 +24,7 @@ fn sent_event(tokens: &[Lexeme]) -> Result<(EndTokens<'_>, &[Lexeme]), Stop<'_>>
 }
 
 #[tactic(auto, unfolding(crate::specs::Chart::action, crate::specs::Chart::sent_event, fb_grammar::specs::Words::name))]
-fn action(tokens: &[Lexeme]) -> Result<(Action, &[Lexeme]), Stop<'_>>
+fn action(alloc: Global, tokens: &[Lexeme]) -> Result<(Action, &[Lexeme]), Stop<'_>>
     ensures { Gives (λ action. action) result (read action tokens.now) }
 {
     let mut action = Action {
@@ -34,14 +34,14 @@ fn action(tokens: &[Lexeme]) -> Result<(Action, &[Lexeme]), Stop<'_>>
     let mut rest = tokens;
     if is_next(tokens, &NAMES) {
         let (algorithm, behind) = name(tokens)?;
-        action.algorithm = Some(algorithm.name_use());
+        action.algorithm = Some(algorithm.name_use(alloc)?);
         rest = behind;
         if !is_next(rest, &[Kind::Arrow]) {
             return Ok((action, rest));
         }
     }
     let (event, rest) = sent_event(rest)?;
-    action.event = Some(event.end());
+    action.event = Some(event.end(alloc)?);
     Ok((action, rest))
 }
 
@@ -60,10 +60,10 @@ impl Reader for ActionReader {
 
     fn read<'a>(
         &self,
-        _alloc: Global,
+        alloc: Global,
         tokens: &'a [Lexeme],
     ) -> Result<(Action, &'a [Lexeme]), Stop<'a>> {
-        action(tokens)
+        action(alloc, tokens)
     }
 }
 
@@ -102,7 +102,7 @@ impl Reader for StateReader {
         let (actions, rest) = actions(alloc, rest)?;
         let (_, rest) = key(rest, Kind::Semicolon)?;
         let state = State {
-            name: name.name_use(),
+            name: name.name_use(alloc)?,
             actions,
         };
         Ok((state, rest))

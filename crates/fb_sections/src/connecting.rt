@@ -4,15 +4,14 @@ ghost use Rattle.fb_grammar.specs.Gives.{Gives};
 ghost use Rattle.fb_grammar.specs.Reading.{read};
 ghost use Rattle.fb_sections.specs.Network.{connection, connections, end, end_in};
 ghost use Rattle.fb_tree.specs.declared.network.Connection.{Connection};
-ghost use Rattle.std.specs.Prelude.{◌≡◌};
+ghost use Rattle.std.specs.Prelude.{◌≡◌, IfOk};
 
 use crate::frame::{name_in, optional_name, section};
 use fb_grammar::{Kind, Lexeme, Reader, Stop, is_next, key, name};
 use fb_tree::{Connection, End, Sort};
-use std::alloc::Global;
+use std::alloc::{AllocError, Global};
 
-/// The tokens of an end. An end itself, with its copied names, is nothing that `?` takes beside a
-/// reference.
+/// The tokens of an end.
 #[derive(Clone, Copy)]
 pub struct EndTokens<'a> {
     pub name: &'a Lexeme,
@@ -21,13 +20,13 @@ pub struct EndTokens<'a> {
 
 impl EndTokens<'_> {
     /// The end that they spell.
-    pub fn end(self) -> End
-        ensures { result ≡ end_in self.entry }
+    pub fn end(self, alloc: Global) -> Result<End, AllocError>
+        ensures { IfOk result (λ end. end ≡ end_in self.entry) }
     {
-        End {
-            name: self.name.name_use(),
-            port: name_in(self.port),
-        }
+        Ok(End {
+            name: self.name.name_use(alloc)?,
+            port: name_in(alloc, self.port)?,
+        })
     }
 }
 
@@ -59,7 +58,7 @@ impl Reader for ConnectionReader {
     #[tactic(auto, unfolding(crate::specs::Network::connection))]
     fn read<'a>(
         &self,
-        _alloc: Global,
+        alloc: Global,
         tokens: &'a [Lexeme],
     ) -> Result<(Connection, &'a [Lexeme]), Stop<'a>> {
         let (source, rest) = end(tokens)?;
@@ -68,8 +67,8 @@ impl Reader for ConnectionReader {
         let (_, rest) = key(rest, Kind::Semicolon)?;
         let connection = Connection {
             sort: self.sort,
-            source: source.end(),
-            destination: destination.end(),
+            source: source.end(alloc)?,
+            destination: destination.end(alloc)?,
         };
         Ok((connection, rest))
     }

@@ -8,8 +8,8 @@ ghost use Rattle.fb_tree.specs.declared.constant.Simple.{Simple};
 ghost use Rattle.std.specs.Prelude.{◌≡◌};
 
 use fb_grammar::{
-    Kind, Lexeme, NAMES, NUMBERS, Reader, Stop, across, is_next, key, listed, literal_form,
-    literal_use, name, one_of,
+    Kind, Lexeme, NAMES, NUMBERS, Reader, Stop, is_next, key, listed, literal_form, literal_use,
+    name, one_of,
 };
 use fb_tree::{Constant, Literal, LiteralForm, Simple, TypeForm, TypeUse};
 use std::alloc::Global;
@@ -50,7 +50,7 @@ fn number(tokens: &[Lexeme]) -> Result<(Literal, &[Lexeme]), Stop<'_>>
     let (token, rest) = one_of(rest, &NUMBERS)?;
     let number = Literal {
         form: signed_form(literal_form(token.kind)),
-        span: across(sign.span, token.span),
+        span: sign.span.through(token.span),
     };
     Ok((number, rest))
 }
@@ -74,9 +74,16 @@ impl Reader for RangeReader {
         _alloc: Global,
         tokens: &'a [Lexeme],
     ) -> Result<((), &'a [Lexeme]), Stop<'a>> {
-        let (_, rest) = number(tokens)?;
+        // Not by `?`, which takes no copied place beside a reference.
+        let rest = match number(tokens) {
+            Ok((_, rest)) => rest,
+            Err(stop) => return Err(stop),
+        };
         let (_, rest) = key(rest, Kind::Range)?;
-        let (_, rest) = number(rest)?;
+        let rest = match number(rest) {
+            Ok((_, rest)) => rest,
+            Err(stop) => return Err(stop),
+        };
         Ok(((), rest))
     }
 }
@@ -101,13 +108,13 @@ fn length_of_string(tokens: &[Lexeme]) -> Result<(&Lexeme, &[Lexeme]), Stop<'_>>
 }
 
 #[tactic(auto, unfolding(crate::specs::Constants::plain_type, crate::specs::Constants::length_of_string))]
-fn plain_type(tokens: &[Lexeme]) -> Result<(TypeUse, &[Lexeme]), Stop<'_>>
+fn plain_type(alloc: Global, tokens: &[Lexeme]) -> Result<(TypeUse, &[Lexeme]), Stop<'_>>
     ensures { Gives (λ type. type) result (read plain_type tokens.now) }
 {
     let (name, rest) = name(tokens)?;
     if !is_next(rest, &[Kind::OpenBracket]) {
         let plain = TypeUse {
-            name: name.name_use(),
+            name: name.name_use(alloc)?,
             form: TypeForm::Plain,
             span: name.span,
         };
@@ -115,9 +122,9 @@ fn plain_type(tokens: &[Lexeme]) -> Result<(TypeUse, &[Lexeme]), Stop<'_>>
     }
     let (close, rest) = length_of_string(rest)?;
     let sized = TypeUse {
-        name: name.name_use(),
+        name: name.name_use(alloc)?,
         form: TypeForm::Sized,
-        span: across(name.span, close.span),
+        span: name.span.through(close.span),
     };
     Ok((sized, rest))
 }
@@ -133,9 +140,9 @@ fn array_type(alloc: Global, tokens: &[Lexeme]) -> Result<(TypeUse, &[Lexeme]), 
     let (_, rest) = key(rest, Kind::Of)?;
     let (element, rest) = name(rest)?;
     let array = TypeUse {
-        name: element.name_use(),
+        name: element.name_use(alloc)?,
         form: TypeForm::Array,
-        span: across(array.span, element.span),
+        span: array.span.through(element.span),
     };
     Ok((array, rest))
 }
@@ -146,25 +153,27 @@ pub fn type_use(alloc: Global, tokens: &[Lexeme]) -> Result<(TypeUse, &[Lexeme])
     ensures { Gives (λ type. type) result (read type_use tokens.now) }
 {
     if is_next(tokens, &NAMES) {
-        plain_type(tokens)
+        plain_type(alloc, tokens)
     } else {
         array_type(alloc, tokens)
     }
 }
 
 #[tactic(auto, unfolding(crate::specs::Constants::simple, fb_grammar::specs::Words::name))]
-fn simple(tokens: &[Lexeme]) -> Result<(Simple, &[Lexeme]), Stop<'_>>
+fn simple(alloc: Global, tokens: &[Lexeme]) -> Result<(Simple, &[Lexeme]), Stop<'_>>
     ensures { Gives (λ constant. constant) result (read simple tokens.now) }
 {
     if is_next(tokens, &NAMES) {
         let (token, rest) = name(tokens)?;
-        Ok((Simple::Name(token.name_use()), rest))
+        Ok((Simple::Name(token.name_use(alloc)?), rest))
     } else if is_next(tokens, &OTHER_LITERALS) {
         let (token, rest) = one_of(tokens, &OTHER_LITERALS)?;
         Ok((Simple::Literal(literal_use(token)), rest))
     } else {
-        let (number, rest) = number(tokens)?;
-        Ok((Simple::Literal(number), rest))
+        match number(tokens) {
+            Ok((number, rest)) => Ok((Simple::Literal(number), rest)),
+            Err(stop) => Err(stop),
+        }
     }
 }
 
@@ -183,10 +192,10 @@ impl Reader for SimpleReader {
 
     fn read<'a>(
         &self,
-        _alloc: Global,
+        alloc: Global,
         tokens: &'a [Lexeme],
     ) -> Result<(Simple, &'a [Lexeme]), Stop<'a>> {
-        simple(tokens)
+        simple(alloc, tokens)
     }
 }
 
@@ -198,7 +207,7 @@ fn constant_list(alloc: Global, tokens: &[Lexeme]) -> Result<(Constant, &[Lexeme
     let (open, rest) = key(tokens, Kind::OpenBracket)?;
     let (values, rest) = listed(&SimpleReader, alloc, rest)?;
     let (close, rest) = key(rest, Kind::CloseBracket)?;
-    Ok((Constant::List(values, across(open.span, close.span)), rest))
+    Ok((Constant::List(values, open.span.through(close.span)), rest))
 }
 
 /// A constant.
@@ -209,7 +218,7 @@ pub fn constant(alloc: Global, tokens: &[Lexeme]) -> Result<(Constant, &[Lexeme]
     if is_next(tokens, &[Kind::OpenBracket]) {
         return constant_list(alloc, tokens);
     }
-    match simple(tokens) {
+    match simple(alloc, tokens) {
         Ok((value, rest)) => Ok((Constant::One(value), rest)),
         Err(stop) => Err(stop),
     }

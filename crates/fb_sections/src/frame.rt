@@ -4,11 +4,11 @@ ghost use Rattle.fb_grammar.specs.Gives.{Gives, GivesEach};
 ghost use Rattle.fb_grammar.specs.Reading.{read};
 ghost use Rattle.fb_grammar.specs.Lexemes.{name_use};
 ghost use Rattle.fb_sections.specs.Sections.{optional_name, read_section};
-ghost use Rattle.std.specs.Prelude.{◌≡◌, map, option_map};
+ghost use Rattle.std.specs.Prelude.{◌≡◌, IfOk, map, option_map};
 
 use fb_grammar::{Kind, Lexeme, NAMES, Reader, Stop, is_next, key, name, several};
 use fb_tree::text::NameUse;
-use std::alloc::Global;
+use std::alloc::{AllocError, Global};
 
 /// A token of this kind and a name, where the token is there.
 #[tactic(auto, unfolding(crate::specs::Sections::optional_name))]
@@ -28,12 +28,12 @@ pub fn optional_name(
 }
 
 /// The name of a token, where there is one.
-pub fn name_in(token: Option<&Lexeme>) -> Option<NameUse>
-    ensures { result ≡ option_map (λ t. name_use t.now) token.entry }
+pub fn name_in(alloc: Global, token: Option<&Lexeme>) -> Result<Option<NameUse>, AllocError>
+    ensures { IfOk result (λ name. name ≡ option_map (λ t. name_use t.now) token.entry) }
 {
     match token {
-        Some(token) => Some(token.name_use()),
-        None => None,
+        Some(token) => Ok(Some(token.name_use(alloc)?)),
+        None => Ok(None),
     }
 }
 

@@ -35,7 +35,7 @@ impl Reader for ParameterReader {
         let (_, rest) = key(rest, Kind::Assign)?;
         let (value, rest) = constant(alloc, rest)?;
         let parameter = Parameter {
-            name: name.name_use(),
+            name: name.name_use(alloc)?,
             value,
         };
         Ok((parameter, rest))
@@ -102,8 +102,8 @@ impl Reader for InstanceReader {
         let (_, rest) = key(rest, Kind::Semicolon)?;
         let instance = Instance {
             role: self.role,
-            name: own_name.name_use(),
-            type_name: type_name.name_use(),
+            name: own_name.name_use(alloc)?,
+            type_name: type_name.name_use(alloc)?,
             parameters,
         };
         Ok((instance, rest))
@@ -177,8 +177,8 @@ impl Reader for SubapplicationReader {
         let (_, rest) = key(rest, Kind::Semicolon)?;
         let instance = Instance {
             role: Role::Subapplication,
-            name: own_name.name_use(),
-            type_name: type_name.name_use(),
+            name: own_name.name_use(alloc)?,
+            type_name: type_name.name_use(alloc)?,
             parameters: Vec::new(alloc),
         };
         Ok((instance, rest))

@@ -52,8 +52,8 @@ impl Reader for EventReader {
         let (_, rest) = key(rest, Kind::Semicolon)?;
         let event = Event {
             side: self.side,
-            name: name.name_use(),
-            type_name: name_in(type_name),
+            name: name.name_use(alloc)?,
+            type_name: name_in(alloc, type_name)?,
             with,
         };
         Ok((event, rest))

@@ -49,8 +49,8 @@ impl Reader for MappingReader {
         let (_, rest) = key(rest, Kind::Semicolon)?;
         let mapping = Mapping {
             path,
-            device: device.name_use(),
-            resource: resource.name_use(),
+            device: device.name_use(alloc)?,
+            resource: resource.name_use(alloc)?,
         };
         Ok((mapping, rest))
     }
@@ -128,8 +128,8 @@ impl Reader for ResourceReader {
         let (header, rest) = header(alloc, rest)?;
         let (_, rest) = key(rest, Kind::EndResource)?;
         let resource = Resource {
-            name: header.name.name_use(),
-            type_name: header.type_name.name_use(),
+            name: header.name.name_use(alloc)?,
+            type_name: header.type_name.name_use(alloc)?,
             parameters: header.parameters,
         };
         Ok((resource, rest))
@@ -146,8 +146,8 @@ pub fn device(alloc: Global, tokens: &[Lexeme]) -> Result<(Device, &[Lexeme]), S
     let (resources, rest) = several(&ResourceReader, alloc, &[Kind::Resource], rest)?;
     let (_, rest) = key(rest, Kind::EndDevice)?;
     let device = Device {
-        name: header.name.name_use(),
-        type_name: header.type_name.name_use(),
+        name: header.name.name_use(alloc)?,
+        type_name: header.type_name.name_use(alloc)?,
         parameters: header.parameters,
         resources,
     };

@@ -28,7 +28,7 @@ ghost use Rattle.std.specs.Prelude.{◌≡◌, ◌≤◌, ◌<◌, map};
 
 use crate::operators::{SIGNS, is_literal, literal, next_strength, operator, operators, sign};
 use crate::references::{Part, alone, flat_reference, joined};
-use fb_grammar::{Kind, Lexeme, NAMES, Stop, across, is_next, key, name};
+use fb_grammar::{Kind, Lexeme, NAMES, Stop, is_next, key, name};
 use fb_tree::{BinaryUse, Expr, Reference};
 use std::alloc::Global;
 
@@ -56,7 +56,7 @@ fn parenthesized(alloc: Global, below: u8, tokens: &[Lexeme]) -> Result<(Expr, &
     let (open, rest) = key(tokens, Kind::OpenParenthesis)?;
     let (inner, rest) = expression_at(alloc, below, rest)?;
     let (close, rest) = key(rest, Kind::CloseParenthesis)?;
-    let span = across(open.span, close.span);
+    let span = open.span.through(close.span);
     Ok((Expr::Parentheses(Box::new(alloc, inner)?, span), rest))
 }
 
@@ -113,9 +113,9 @@ fn deep_part(alloc: Global, below: u8, tokens: &[Lexeme]) -> Result<(Part, &[Lex
     }
     let ((subscripts, close), rest) = subscripts(alloc, below, rest)?;
     let part = Part {
-        name: name.name_use(),
+        name: name.wide_use(),
         subscripts,
-        end: close.span.end,
+        end: close.span.end(),
     };
     Ok((part, rest))
 }
@@ -227,7 +227,11 @@ fn unary(alloc: Global, left: u8, tokens: &[Lexeme]) -> Result<(Expr, &[Lexeme])
     if !is_next(tokens, &SIGNS) {
         return primary(alloc, left, tokens);
     }
-    let (sign, rest) = sign(tokens)?;
+    // Not by `?`, which takes no copied place beside a reference.
+    let (sign, rest) = match sign(tokens) {
+        Ok(found) => found,
+        Err(stop) => return Err(stop),
+    };
     let (value, rest) = primary(alloc, left, rest)?;
     Ok((Expr::Unary(sign, Box::new(alloc, value)?), rest))
 }
@@ -291,7 +295,10 @@ fn operand(
     requires { strength < 8 }
     ensures { Gives operand_tree result (read (operand_at strength left) tokens.now) }
 {
-    let (operator, rest) = operator(tokens, strength)?;
+    let (operator, rest) = match operator(tokens, strength) {
+        Ok(found) => found,
+        Err(stop) => return Err(stop),
+    };
     let (value, rest) = row(alloc, strength + 1, left, rest)?;
     Ok(((operator, value), rest))
 }

@@ -8,17 +8,17 @@ ghost use Rattle.fb_structured_text.specs.Part.{part_tree};
 ghost use Rattle.std.specs.Prelude.{◌≡◌, IfOk, None, map};
 
 use fb_grammar::{Kind, Lexeme, Reader, Stop, key, name, several};
-use fb_tree::text::NameUse;
+use fb_tree::text::WideUse;
 use fb_tree::{Expr, Member, Reference};
 use std::alloc::{AllocError, Global};
 
 /// A name of a reference, with the subscripts behind it.
 #[derive(Drop)]
 pub struct Part {
-    pub name: NameUse,
+    pub name: WideUse,
     pub subscripts: Vec<Expr>,
     /// Where the bracket of the subscripts ends, or the name where none are written.
-    pub end: usize,
+    pub end: u32,
 }
 
 /// A name without subscripts.
@@ -26,9 +26,9 @@ pub fn alone(alloc: Global, name: &Lexeme) -> Part
     ensures { part_tree result ≡ part_of (name_use name.now) None }
 {
     Part {
-        name: name.name_use(),
+        name: name.wide_use(),
         subscripts: Vec::new(alloc),
-        end: name.span.end,
+        end: name.span.end(),
     }
 }
 
@@ -46,9 +46,10 @@ pub fn joined(
     let mut members = Vec::with_capacity(alloc, others.len())?;
     let mut end = first.end;
     for part in others {
+        let name = part.name.keep(alloc)?;
         let mut behind = part.subscripts;
         members.push(Member {
-            name: part.name,
+            name,
             subscripts: behind.len(),
         })?;
         subscripts.append(&mut behind)?;

@@ -334,7 +334,7 @@ fn for_statement(alloc: Global, left: u8, tokens: &[Lexeme]) -> Result<(Stmt, &[
     let (by, rest) = step(alloc, left, rest)?;
     let (body, rest) = enclosed(alloc, Kind::Do, left - 1, Kind::EndFor, rest)?;
     let counting = Counting {
-        variable: variable.name_use(),
+        variable: variable.name_use(alloc)?,
         from,
         to,
         by,

@@ -3,18 +3,24 @@
 
 mod bytes;
 mod elementary;
+mod kept_name;
 mod lexer;
 mod name;
 mod order;
+mod place;
 mod quotes;
 mod scan;
 mod short_name;
 mod token;
+mod wide_use;
 
 pub use elementary::{TypeClass, is_elementary, type_class};
+pub use kept_name::KeptName;
 pub use lexer::{longest_token, one_reading, tokens};
 pub use name::{Name, NameFault, NameUse};
 pub use order::{names_once_and_in_order, once_and_in_order, same_name, sorted_names, sorted_once};
+pub use place::Place;
 pub use scan::same_word;
 pub use short_name::ShortName;
 pub use token::{Span, Token, TokenFault, TokenKind};
+pub use wide_use::WideUse;

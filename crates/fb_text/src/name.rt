@@ -10,7 +10,9 @@ ghost use Rattle.std.proofs.Common.{rules};
 ghost use Rattle.fb_text.specs.Words.{is_word};
 
 use crate::bytes::word_len;
-use crate::token::Span;
+use crate::kept_name::KeptName;
+use crate::place::Place;
+use std::alloc::AllocError;
 use std::cmp::Ordering;
 use std::hash::{Hash, Hasher};
 use std::marker::Model;
@@ -36,11 +38,14 @@ pub struct Name {
 }
 
 /// A name where it stands.
-#[derive(Clone, Copy, Debug)]
+#[derive(Debug, Drop)]
 pub struct NameUse {
-    pub name: Name,
-    pub span: Span,
+    pub name: KeptName,
+    pub span: Place,
 }
+
+// Each use of a name in a declaration takes so many bytes.
+const _: () = prove!(size_of::<NameUse>() == 32);
 
 impl Model for Name {
     ghost use Rattle.std.specs.Prelude.{◌≡◌, ◌≤◌, ◌-◌, ◌++◌, List, ℕ, length, take, drop, replicate};
@@ -138,6 +143,17 @@ impl Name {
         ensures name { IsName self.now }
     {
         unsafe { str::from_utf8_unchecked(self.as_bytes()) }
+    }
+}
+
+impl Clone for NameUse {
+    ghost is_clone = { λ used copy. copy ≡ used };
+
+    fn clone(&self) -> Result<NameUse, AllocError> {
+        Ok(NameUse {
+            name: self.name.clone()?,
+            span: self.span,
+        })
     }
 }
 

@@ -33,11 +33,21 @@ impl Model for ShortName {
 }
 
 impl ShortName {
+    ghost use Rattle.fb_text.specs.Spelling.{IsName};
+
     /// The name.
     pub fn name(&self) -> Name
         ensures { result ≡ self.now }
     {
-        Name::of_spelling(&self.bytes[..self.len as usize])
+        Name::of_spelling(self.as_bytes())
+    }
+
+    /// The bytes of the name.
+    pub(crate) fn as_bytes(&self) -> &[u8]
+        ensures bytes { result.now ≡ self.now }
+        ensures name { IsName self.now }
+    {
+        &self.bytes[..self.len as usize]
     }
 }
 

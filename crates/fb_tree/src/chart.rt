@@ -3,10 +3,10 @@
 use crate::expression::Expr;
 use crate::network::End;
 use crate::statement::Stmt;
-use fb_text::{NameUse, Span};
+use fb_text::{NameUse, Place};
 
 /// What a state does: run an algorithm, send an event, or both.
-#[derive(Clone, Copy, Debug)]
+#[derive(Debug, Drop)]
 pub struct Action {
     pub algorithm: Option<NameUse>,
     pub event: Option<End>,
@@ -23,7 +23,7 @@ pub struct State {
 #[derive(Drop)]
 pub enum Condition {
     /// The number `1`.
-    Always(Span),
+    Always(Place),
     Event(End),
     Guarded(End, Expr),
     Guard(Expr),

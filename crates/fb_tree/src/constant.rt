@@ -1,6 +1,6 @@
 //! Literals and constants.
 
-use fb_text::{NameUse, Span, TypeClass};
+use fb_text::{NameUse, Place, TypeClass};
 
 /// What kind of literal it is, as far as its class of values goes.
 #[derive(Clone, Copy, Debug, PartialEq, Eq)]
@@ -23,11 +23,11 @@ pub enum LiteralForm {
 #[derive(Clone, Copy, Debug)]
 pub struct Literal {
     pub form: LiteralForm,
-    pub span: Span,
+    pub span: Place,
 }
 
 /// One constant.
-#[derive(Clone, Copy, Debug)]
+#[derive(Debug, Drop)]
 pub enum Simple {
     Literal(Literal),
     Name(NameUse),
@@ -37,5 +37,5 @@ pub enum Simple {
 #[derive(Debug, Drop)]
 pub enum Constant {
     One(Simple),
-    List(Vec<Simple>, Span),
+    List(Vec<Simple>, Place),
 }

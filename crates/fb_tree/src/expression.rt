@@ -2,7 +2,7 @@
 
 use crate::constant::Literal;
 use crate::reference::Reference;
-use fb_text::Span;
+use fb_text::Place;
 
 /// What stands before an operand.
 #[derive(Clone, Copy, Debug, PartialEq, Eq)]
@@ -36,14 +36,14 @@ pub enum BinaryOperator {
 #[derive(Clone, Copy, Debug)]
 pub struct UnaryUse {
     pub operator: UnaryOperator,
-    pub span: Span,
+    pub span: Place,
 }
 
 /// An operator where it stands.
 #[derive(Clone, Copy, Debug)]
 pub struct BinaryUse {
     pub operator: BinaryOperator,
-    pub span: Span,
+    pub span: Place,
 }
 
 /// An expression.
@@ -56,5 +56,5 @@ pub enum Expr {
     /// An operand, and the operators of one strength that follow it, each with its operand.
     Row(Box<Expr>, Vec<(BinaryUse, Expr)>),
     /// In parentheses, which the span takes in.
-    Parentheses(Box<Expr>, Span),
+    Parentheses(Box<Expr>, Place),
 }

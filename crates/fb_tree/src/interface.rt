@@ -1,7 +1,7 @@
 //! Events and variables (IEC 61499-1, 5.2: interfaces of function block types).
 
 use crate::constant::Constant;
-use fb_text::{NameUse, Span};
+use fb_text::{NameUse, Place};
 
 /// Whether an event comes in or goes out.
 #[derive(Clone, Copy, Debug, PartialEq, Eq)]
@@ -38,12 +38,15 @@ pub enum TypeForm {
 }
 
 /// A type where it is used. The name is that of the elements where it is an array.
-#[derive(Clone, Copy, Debug)]
+#[derive(Debug, Drop)]
 pub struct TypeUse {
     pub name: NameUse,
     pub form: TypeForm,
-    pub span: Span,
+    pub span: Place,
 }
+
+// Each type that a declaration uses takes so many bytes.
+const _: () = prove!(size_of::<TypeUse>() == 48);
 
 /// Variables that are declared together.
 #[derive(Debug, Drop)]

@@ -39,7 +39,7 @@ fn types_of(alloc: Global, instances: &[Instance]) -> Result<Vec<Name>, AllocErr
 {
     instances
         .iter()
-        .map(|instance| instance.type_name.name)
+        .map(|instance| instance.type_name.name.name())
         .collect(alloc)
 }
 

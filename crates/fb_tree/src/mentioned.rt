@@ -73,9 +73,9 @@ fn types_of_values(alloc: Global, groups: &[Variables]) -> Result<Vec<Name>, All
 {
     let mut names = Vec::new(alloc);
     for group in groups {
-        let name = group.type_use.name.name;
+        let name = &group.type_use.name.name;
         if !is_elementary(name.as_str().as_bytes()) {
-            names.push(name)?;
+            names.push(name.name())?;
         }
     }
     Ok(names)

@@ -37,19 +37,22 @@ pub enum Sort {
 }
 
 /// An end of a connection: an own port, or a port of an instance.
-#[derive(Clone, Copy, Debug)]
+#[derive(Debug, Drop)]
 pub struct End {
     pub name: NameUse,
     pub port: Option<NameUse>,
 }
 
 /// A connection.
-#[derive(Clone, Copy, Debug)]
+#[derive(Debug, Drop)]
 pub struct Connection {
     pub sort: Sort,
     pub source: End,
     pub destination: End,
 }
+
+// Each connection takes so many bytes.
+const _: () = prove!(size_of::<Connection>() == 152);
 
 /// Plugs, sockets and instances in one list, and the connections.
 #[derive(Debug, Drop)]

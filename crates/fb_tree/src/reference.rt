@@ -3,11 +3,11 @@ ghost use Rattle.std.specs.Prelude.{◌≡◌, IfOk};
 ghost use Rattle.fb_tree.specs.Expression.{reference_tree};
 ghost use Rattle.fb_tree.specs.Reference.{first_name, further_names};
 
-use fb_text::{Name, NameUse, ShortName, Span};
+use fb_text::{Name, NameUse, Place, ShortName, WideUse};
 use std::alloc::{AllocError, Global};
 
 /// A further name of a reference, with how many subscripts stand behind it.
-#[derive(Clone, Copy, Debug)]
+#[derive(Debug, Drop)]
 pub struct Member {
     pub name: NameUse,
     pub subscripts: usize,
@@ -28,15 +28,15 @@ pub enum ReferenceNames {
 pub struct Reference {
     pub names: ReferenceNames,
     /// Where the first name ends. It begins where the reference does.
-    pub name_end: usize,
+    pub name_end: u32,
     /// How many subscripts stand behind the first name.
     pub subscripts: usize,
     /// From the first name through the last name or bracket.
-    pub span: Span,
+    pub span: Place,
 }
 
 // Each variable that a text uses takes so many bytes.
-const _: () = prove!(size_of::<Reference>() == 56);
+const _: () = prove!(size_of::<Reference>() == 48);
 
 impl ReferenceNames {
     /// The first name, and the names behind it.
@@ -59,10 +59,10 @@ impl Reference {
     /// an end.
     pub fn new(
         alloc: Global,
-        name: NameUse,
+        name: WideUse,
         subscripts: usize,
         members: Vec<Member>,
-        end: usize,
+        end: u32,
     ) -> Result<Reference, AllocError>
         ensures { IfOk result
             (λ r. reference_tree r ≡ record {
@@ -73,24 +73,18 @@ impl Reference {
             }) }
     {
         Ok(Reference {
-            names: ReferenceNames::keep(alloc, name.name, members)?,
-            name_end: name.span.end,
+            names: ReferenceNames::keep(alloc, *name.name(), members)?,
+            name_end: name.place().end(),
             subscripts,
-            span: Span {
-                start: name.span.start,
-                end,
-            },
+            span: Place::new(name.place().start(), end),
         })
     }
 
     /// Where the first name stands.
-    pub fn name_span(&self) -> Span
+    pub fn name_span(&self) -> Place
         ensures { result ≡ (reference_tree self.now).name.span }
     {
-        Span {
-            start: self.span.start,
-            end: self.name_end,
-        }
+        Place::new(self.span.start(), self.name_end)
     }
 
     /// The first name.

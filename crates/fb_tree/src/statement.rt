@@ -2,7 +2,7 @@
 
 use crate::expression::Expr;
 use crate::reference::Reference;
-use fb_text::{NameUse, Span};
+use fb_text::{NameUse, Place};
 
 /// How a `FOR` counts: its variable, from where, to where, and by what step.
 #[derive(Drop)]
@@ -18,7 +18,7 @@ pub struct Counting {
 pub enum Stmt {
     Empty,
     /// The variable with its subscripts, the place of `:=`, and the value.
-    Assign(Box<Reference>, Vec<Expr>, Span, Expr),
+    Assign(Box<Reference>, Vec<Expr>, Place, Expr),
     Exit,
     Return,
     /// Each condition with what is done, and what is done behind `ELSE`.

@@ -51,7 +51,7 @@ fn count_instance(counts: &Counts, so_far: u32, instance: &Instance) -> u32
     match instance.role {
         Role::Plug | Role::Socket => so_far,
         Role::Block => counted_up(so_far, 0),
-        Role::Subapplication => counted_up(so_far, count_at(counts, &instance.type_name.name)),
+        Role::Subapplication => counted_up(so_far, count_at(counts, &instance.type_name.name.name())),
     }
 }
 

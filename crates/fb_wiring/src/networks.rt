@@ -67,9 +67,9 @@ fn instance_of(instance: &Instance) -> Option<plain::Instance>
         Role::Subapplication => InstanceKind::Subapplication,
     };
     Some(plain::Instance {
-        name: instance.name.name,
+        name: instance.name.name.name(),
         kind,
-        type_name: instance.type_name.name,
+        type_name: instance.type_name.name.name(),
     })
 }
 
@@ -93,8 +93,8 @@ fn connections_of(
 fn end_of(end: &End) -> plain::End
     ensures { result ≡ plain_end end.now }
 {
-    match end.port {
-        None => plain::End::Own(end.name.name),
-        Some(port) => plain::End::Of(end.name.name, port.name),
+    match &end.port {
+        None => plain::End::Own(end.name.name.name()),
+        Some(port) => plain::End::Of(end.name.name.name(), port.name.name()),
     }
 }

@@ -8,8 +8,8 @@ ghost use Rattle.fb_wiring.specs.Ports.{plain_adapter, plain_data, plain_event, 
 
 use fb_iface::Ports;
 use fb_network::Port;
-use fb_tree::text::{Name, NameUse};
-use fb_tree::{Side, Sort, TypeDeclaration, TypeUse};
+use fb_tree::text::{Name, WideUse};
+use fb_tree::{Side, Sort, TypeDeclaration, WideTypeUse};
 use std::alloc::{AllocError, Global};
 
 /// The ports of a type: events and data, inputs before outputs, then plugs and sockets.
@@ -61,7 +61,7 @@ fn push_adapter_ports(alloc: Global, names: &Ports, ports: &mut Vec<Port>) -> Re
 
 fn push_events(
     side: Side,
-    events: &[(Name, Option<NameUse>)],
+    events: &[(Name, Option<WideUse>)],
     ports: &mut Vec<Port>,
 ) -> Result<(), AllocError>
     ensures { OnOk result (ports.new.items ≡ ports.old.items ++ map (plain_event side) events.now) }
@@ -79,7 +79,7 @@ fn push_events(
 
 fn push_data(
     side: Side,
-    variables: &[(Name, TypeUse)],
+    variables: &[(Name, WideTypeUse)],
     ports: &mut Vec<Port>,
 ) -> Result<(), AllocError>
     ensures { OnOk result
@@ -98,7 +98,7 @@ fn push_data(
 
 fn push_adapters(
     side: Side,
-    adapters: &[(Name, NameUse)],
+    adapters: &[(Name, WideUse)],
     ports: &mut Vec<Port>,
 ) -> Result<(), AllocError>
     ensures { OnOk result
@@ -109,7 +109,7 @@ fn push_adapters(
             sort: Sort::Adapter,
             side,
             name: adapter.0,
-            adapter: Some(adapter.1.name),
+            adapter: Some(*adapter.1.name()),
         })?;
     }
     Ok(())

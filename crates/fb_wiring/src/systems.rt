@@ -42,7 +42,7 @@ fn applications_in(
     for application in applications {
         let network = network_with(alloc, Vec::new(alloc), &application.network)?;
         found.push(Application {
-            name: application.name.name,
+            name: application.name.name.name(),
             network,
         })?;
     }

@@ -1,8 +1,11 @@
-//! Tests of the public calls of the networks' crates: the order of types, networks in plain, flat networks, placements and plans.
+//! Tests of the public calls of the networks' crates: the order of types, networks in plain, flat networks, placements and plans; and of jobs that
+//! take nets along.
 #![tactic(auto)]
 
 #[cfg(test)]
 mod composing;
+#[cfg(test)]
+mod hints;
 #[cfg(test)]
 mod kept;
 #[cfg(test)]

@@ -1,6 +1,8 @@
-//! Tests of the words of the program, of its runs, and of servers.
+//! Tests of the words of the program, of its runs, of servers, and of sessions.
 #![tactic(auto)]
 
+#[cfg(test)]
+mod callers;
 #[cfg(test)]
 mod peers;
 #[cfg(test)]
@@ -9,3 +11,5 @@ mod program;
 mod refused;
 #[cfg(test)]
 mod servers;
+#[cfg(test)]
+mod sessions;

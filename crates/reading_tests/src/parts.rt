@@ -1,7 +1,6 @@
 //! The parts of declarations.
-use crate::readers::{Part, read};
+use crate::readers::{Part, grammar_tokens, read};
 use crate::told::words;
-use fb_grammar::lexemes;
 use fb_structured_text::expression;
 use fb_text::Span;
 use fb_tree::{Expr, LiteralForm};
@@ -323,7 +322,7 @@ static LITERALS: [(&str, LiteralForm); 5] = [
 
 /// The form of the literal that a text is.
 fn form_of(alloc: Global, text: &str) -> Result<LiteralForm, Fail> {
-    let tokens = lexemes(alloc, text)?;
+    let tokens = grammar_tokens(alloc, text)?;
     match expression(alloc, tokens.as_slice())? {
         (Expr::Literal(literal), _) => Ok(literal.form),
         _ => Err(Fail::from("no literal")),
@@ -333,11 +332,11 @@ fn form_of(alloc: Global, text: &str) -> Result<LiteralForm, Fail> {
 /// The variable that a text is, in words: its first name with its place and how many subscripts it has, where the variable stands, and the
 /// further names in the same way.
 fn variable_told(alloc: Global, text: &str) -> Result<String, Fail> {
-    let tokens = lexemes(alloc, text)?;
+    let tokens = grammar_tokens(alloc, text)?;
     match expression(alloc, tokens.as_slice())? {
         (Expr::Reference(variable, _), _) => {
-            let Span { start, end } = variable.span;
-            let first = variable.name_span();
+            let Span { start, end } = variable.span.span();
+            let first = variable.name_span().span();
             let mut told = format!(in alloc; "{} ", variable.name())?;
             write!(told, "{}..{}", first.start, first.end)?;
             write!(told, " ({}) in {start}..{end}", variable.subscripts)?;

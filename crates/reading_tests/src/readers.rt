@@ -47,9 +47,17 @@ fn told<T: Tell + Drop>(
     }
 }
 
+/// The tokens of a text as the grammar sees them.
+pub fn grammar_tokens(alloc: Global, text: &str) -> Result<Vec<Lexeme>, Fail> {
+    if text.len() >= 4_294_967_296 {
+        return Err(Fail::from("a text of 4 GiB"));
+    }
+    Ok(lexemes(alloc, text)?)
+}
+
 /// What is read of this part at the front of the text, and how many tokens are left.
 pub fn read(alloc: Global, part: Part, text: &str) -> Result<(String, usize), Fail> {
-    let tokens = lexemes(alloc, text)?;
+    let tokens = grammar_tokens(alloc, text)?;
     let tokens = tokens.as_slice();
     match part {
         Part::Listed => told(alloc, names(alloc, tokens)),

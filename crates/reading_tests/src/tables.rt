@@ -8,7 +8,7 @@ use std::sync::Arc;
 use std::test::Fail;
 
 // So many that the table has several rooms of shelves.
-const MANY: usize = 6_000;
+const MANY: usize = 2_000;
 
 fn name(alloc: Global, number: usize) -> Result<Name, Fail> {
     let text = format!(in alloc; "N{number:04}")?;

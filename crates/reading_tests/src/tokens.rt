@@ -1,6 +1,7 @@
 //! Names and tokens.
+use crate::readers::grammar_tokens;
 use crate::told::{names_told, words};
-use fb_grammar::{Kind, lexemes};
+use fb_grammar::Kind;
 use fb_text::{
     Name, NameFault, TypeClass, is_elementary, same_name, sorted_names, tokens, type_class,
 };
@@ -110,7 +111,7 @@ static KINDS: [(&str, Kind); 35] = [
 
 /// The kind of the one token of a text.
 fn kind_of(alloc: Global, text: &str) -> Result<Kind, Fail> {
-    match lexemes(alloc, text)?.as_slice() {
+    match grammar_tokens(alloc, text)?.as_slice() {
         [token] => Ok(token.kind),
         _ => Err(Fail::from("not one token")),
     }
@@ -128,12 +129,12 @@ fn kinds_of_tokens(rt: HostRuntime) -> Result<(), Fail> {
 fn names_and_places(rt: HostRuntime) -> Result<(), Fail> {
     let text = "a_1 := 5;";
     let names = [Kind::NameIn, Kind::Name];
-    let found = lexemes(rt.alloc(), text)?;
+    let found = grammar_tokens(rt.alloc(), text)?;
     let [name, symbol, number, _] = found.as_slice() else {
         return Err(Fail::from("not four tokens"));
     };
     assert!(rt; name.kind.is_among(&names) && !symbol.kind.is_among(&names));
-    let used = words(rt.alloc(), &name.name_use())?;
+    let used = words(rt.alloc(), &name.name_use(rt.alloc())?)?;
     assert_eq!(rt; used.as_str(), "A_1 0..3");
     assert_eq!(rt; number.name.as_str(), "_");
     Ok(())

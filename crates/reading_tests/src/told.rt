@@ -1,6 +1,6 @@
 //! What is read, told in words: of a list one part after the other, and a place as `3..5`, from the first byte up to the one behind.
 use fb_library::parse::{Body, Source};
-use fb_text::{Name, NameUse, Span, Token, TokenFault};
+use fb_text::{Name, NameUse, Place, Span, Token, TokenFault};
 use fb_tree::{
     Algorithm, Application, Chart, Condition, Connection, Constant, Counting, Decl, Device, End,
     Event, Expr, Instance, Mapping, Member, Network, Parameter, Reference, Simple, State, Stmt,
@@ -36,6 +36,12 @@ impl<T: Tell> Tell for Vec<T> {
 impl Tell for Span {
     fn tell(&self, told: &mut String) -> Result<(), AllocError> {
         write!(told, " {}..{}", self.start, self.end)
+    }
+}
+
+impl Tell for Place {
+    fn tell(&self, told: &mut String) -> Result<(), AllocError> {
+        self.span().tell(told)
     }
 }
 
@@ -100,7 +106,7 @@ fn tell_name(mark: &str, name: &Option<NameUse>, told: &mut String) -> Result<()
 
 impl Tell for Event {
     fn tell(&self, told: &mut String) -> Result<(), AllocError> {
-        write!(told, "{:?} {}", self.side, self.name.name)?;
+        write!(told, "{:?} {}", self.side, self.name.name.as_str())?;
         tell_name(":", &self.type_name, told)?;
         tell_names(" WITH ", ",", self.with.as_slice(), told)
     }
@@ -139,7 +145,7 @@ impl Tell for Variables {
         write!(told, "{:?}", self.section)?;
         tell_names(" ", ",", self.names.as_slice(), told)?;
         let used = &self.type_use;
-        write!(told, ":{:?} {}", used.form, used.name.name)?;
+        write!(told, ":{:?} {}", used.form, used.name.name.as_str())?;
         used.span.tell(told)?;
         if let Some(value) = &self.initial {
             told.push_str(" := ")?;
@@ -151,7 +157,7 @@ impl Tell for Variables {
 
 fn tell_parameters(parameters: &[Parameter], told: &mut String) -> Result<(), AllocError> {
     for parameter in parameters {
-        write!(told, "({} := ", parameter.name.name)?;
+        write!(told, "({} := ", parameter.name.name.as_str())?;
         parameter.value.tell(told)?;
         told.push_str(")")?;
     }
@@ -163,7 +169,9 @@ impl Tell for Instance {
         write!(
             told,
             "{:?} {}:{}",
-            self.role, self.name.name, self.type_name.name
+            self.role,
+            self.name.name.as_str(),
+            self.type_name.name.as_str()
         )?;
         tell_parameters(self.parameters.as_slice(), told)
     }
@@ -228,7 +236,8 @@ impl Tell for Transition {
         write!(
             told,
             "{} TO {} := ",
-            self.source.name, self.destination.name
+            self.source.name.as_str(),
+            self.destination.name.as_str()
         )?;
         self.condition.tell(told)
     }
@@ -239,8 +248,8 @@ impl Tell for Algorithm {
         write!(
             told,
             "{} IN {} {}",
-            self.name.name,
-            self.language.name,
+            self.name.name.as_str(),
+            self.language.name.as_str(),
             self.statements.len()
         )
     }
@@ -257,17 +266,27 @@ impl Tell for Chart {
 
 impl Tell for Application {
     fn tell(&self, told: &mut String) -> Result<(), AllocError> {
-        write!(told, "APPLICATION {}", self.name.name)?;
+        write!(told, "APPLICATION {}", self.name.name.as_str())?;
         self.network.tell(told)
     }
 }
 
 impl Tell for Device {
     fn tell(&self, told: &mut String) -> Result<(), AllocError> {
-        write!(told, "DEVICE {}:{}", self.name.name, self.type_name.name)?;
+        write!(
+            told,
+            "DEVICE {}:{}",
+            self.name.name.as_str(),
+            self.type_name.name.as_str()
+        )?;
         tell_parameters(self.parameters.as_slice(), told)?;
         for resource in &self.resources {
-            write!(told, " {}:{}", resource.name.name, resource.type_name.name)?;
+            write!(
+                told,
+                " {}:{}",
+                resource.name.name.as_str(),
+                resource.type_name.name.as_str()
+            )?;
             tell_parameters(resource.parameters.as_slice(), told)?;
         }
         Ok(())
@@ -277,7 +296,12 @@ impl Tell for Device {
 impl Tell for Mapping {
     fn tell(&self, told: &mut String) -> Result<(), AllocError> {
         tell_names("", ".", self.path.as_slice(), told)?;
-        write!(told, " ON {}.{}", self.device.name, self.resource.name)
+        write!(
+            told,
+            " ON {}.{}",
+            self.device.name.as_str(),
+            self.resource.name.as_str()
+        )
     }
 }
 
@@ -368,7 +392,7 @@ fn tell_expression(expression: &Expr, told: &mut String) -> Result<(), AllocErro
             tell_reference(reference, subscripts.as_slice(), told)
         }
         Expr::Unary(operator, operand) => {
-            let Span { start, end } = operator.span;
+            let Span { start, end } = operator.span.span();
             write!(told, "{:?} {start}..{end} ", operator.operator)?;
             tell_expression(operand, told)
         }
@@ -376,7 +400,7 @@ fn tell_expression(expression: &Expr, told: &mut String) -> Result<(), AllocErro
             told.push_str("{")?;
             tell_expression(first, told)?;
             for (operator, operand) in operands {
-                let Span { start, end } = operator.span;
+                let Span { start, end } = operator.span.span();
                 write!(told, " {:?} {start}..{end} ", operator.operator)?;
                 tell_expression(operand, told)?;
             }
@@ -423,7 +447,7 @@ fn tell_members<'a>(
         return Ok((left, members));
     }
     for (i, member) in members.iter().enumerate() {
-        write!(told, ".{}", member.name.name)?;
+        write!(told, ".{}", member.name.name.as_str())?;
         if member.subscripts > 0 {
             return Ok((member.subscripts, members.get(i + 1..).unwrap_or(&[])));
         }
@@ -488,7 +512,7 @@ fn tell_body(mark: &str, body: &[Stmt], told: &mut String) -> Result<(), AllocEr
 }
 
 fn tell_counting(counting: &Counting, told: &mut String) -> Result<(), AllocError> {
-    write!(told, "FOR {} := ", counting.variable.name)?;
+    write!(told, "FOR {} := ", counting.variable.name.as_str())?;
     tell_expression(&counting.from, told)?;
     tell_value(" TO ", &counting.to, told)?;
     match &counting.by {

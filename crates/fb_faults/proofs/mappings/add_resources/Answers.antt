@@ -1,7 +1,7 @@
-use Rattle.std.proofs.Common.{◌≡◌, ◌+◌, ◌<◌, ◌&&◌, ◌||◌, [], ◌∷◌, ◌++◌, ap, sym, ◌∙◌, length, map, take, arith}
+use Rattle.std.proofs.Common.{◌≡◌, ◌+◌, ◌<◌, ◌&&◌, ◌||◌, [], ◌∷◌, ◌++◌, true, ap, subst, sym, ◌∙◌, length, map, take, arith}
 use Rattle.std.proofs.lemmas.Grind.{common_steps}
 use Rattle.std.proofs.lemmas.List.{map-append, take_all}
-use Rattle.std.specs.BTreeSet.{contains}
+use Rattle.std.specs.BTreeSet.{contains, Updates}
 use Rattle.fb_tree.specs.declared.system.Resource.{Resource}
 use Rattle.fb_netcheck.specs.Iface.Names.{has_name, is_same}
 use Rattle.fb_faults.specs.Pairs.{pair_cmp}
@@ -20,7 +20,7 @@ loop-resource-preserved c =
     let more : take (i + 1) own ≡ take i own ++ x ∷ [] = grind (arith, common_steps) in
     let named : map (λ (r : Resource). r.name) (take (i + 1) own) ≡ map (λ (r : Resource). r.name) (take i own) ++ x.name ∷ [] = ap (map (λ (r : Resource). r.name)) more ∙ map-append (λ (r : Resource). r.name) (take i own) (x ∷ []) in
     λ name resource.
-    added c.args.device.now (map (λ (r : Resource). r.name) (take i own)) x.name c.args.resources.now c.loop-resource.resources c.insert.new.self c.loop-resource.invariant c.in_ok-insert.ensures.updates name resource
+    added c.args.device.now (map (λ (r : Resource). r.name) (take i own)) x.name c.args.resources.now c.loop-resource.resources c.insert.new.self c.loop-resource.invariant (subst (λ n. Updates pair_cmp c.loop-resource.resources c.insert.new.self (c.args.device.now, n) true) c.name.ensures c.in_ok-insert.ensures.updates) name resource
     ∙ ap (λ l. contains pair_cmp c.args.resources.now (name, resource) || (is_same c.args.device.now name && has_name l resource)) (sym named)
 
 pub returns : goal.returns

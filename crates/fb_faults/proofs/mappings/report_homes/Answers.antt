@@ -14,6 +14,7 @@ loop-mapping-preserved c =
     let i = c.loop-mapping.mapping-index in
     let x = c.mapping-item.result in
     let within : i < length mappings = omega arith in
+    let known = c.contains.ensures ∙ (λ k. contains pair_cmp c.args.resources.now (c.name.ensures k, c.name-in-loop-mapping.ensures k)) in
     c.in_ok-report_home.ensures
-    ∙ (λ k. c.loop-mapping.invariant k ++ home_faults (c.contains.ensures k) (mapping_tree x))
+    ∙ (λ k. c.loop-mapping.invariant k ++ home_faults (known k) (mapping_tree x))
     ∙ flat_map_next judged c.args.found.now.items mappings i x within c.mapping-item.is

@@ -3,6 +3,7 @@ use Rattle.std.proofs.lemmas.Grind.{common_steps}
 use Rattle.std.proofs.lemmas.List.{map-append}
 use Rattle.std.specs.BTreeSet.{contains}
 use Rattle.fb_tree.proofs.Text.Tests.{not_true, not_false}
+use Rattle.fb_tree.specs.Text.Order.{name_cmp}
 use Rattle.fb_tree.specs.Text.declared.name.NameUse.{NameUse}
 use Rattle.fb_tree.specs.Tree.{DeviceTree, ResourceTree, device_tree, resource_tree}
 use Rattle.fb_tree.specs.declared.system.Resource.{Resource}
@@ -25,9 +26,9 @@ loop-device-preserved c =
     let within : i < length devices = omega arith in
     let more : take (i + 1) devices ≡ take i devices ++ x ∷ [] = grind (arith, common_steps) in
     let declared : resources_in (map device_tree (take (i + 1) devices)) ≡ before ++ own ∷ [] = ap (λ l. resources_in (map device_tree l)) more ∙ ap (map pair_of) (map-append device_tree (take i devices) (x ∷ [])) ∙ map-append pair_of (map device_tree (take i devices)) (device_tree x ∷ []) in
-    let known : c.in_ok-insert.field-0 ≡ not (is_some (stands_for before x.name.name)) = c.in_ok-insert.ensures.added ∙ ap not (c.loop-device.invariant.noted x.name.name) in
+    let known : c.in_ok-insert.field-0 ≡ not (is_some (stands_for before x.name.name)) = c.in_ok-insert.ensures.added ∙ ap (λ n. not (contains name_cmp c.loop-device.seen n)) c.name-name.ensures ∙ ap not (c.loop-device.invariant.noted x.name.name) in
     record {
-      noted = λ q. c.in_ok-insert.ensures.updates.0 q ∙ (λ k. cond (is_same x.name.name q) true (c.loop-device.invariant.noted q k)) ∙ seen-next before own q ∙ ap (λ l. is_some (stands_for l q)) (sym declared);
+      noted = λ q. c.in_ok-insert.ensures.updates.0 q ∙ (λ k. cond (is_same (c.name-name.ensures k) q) true (c.loop-device.invariant.noted q k)) ∙ seen-next before own q ∙ ap (λ l. is_some (stands_for l q)) (sym declared);
       kept = elim c.if-branch.branch [
         | then-branch+in_ok-add_resources w ↦
             let absent : is_some (stands_for before x.name.name) ≡ false = not_true (is_some (stands_for before x.name.name)) (sym known ∙ w.if-branch.true) in
@@ -35,7 +36,7 @@ loop-device-preserved c =
             λ device resource.
             ap (λ s. contains pair_cmp s (device, resource)) w.resources-is
             ∙ w.in_ok-add_resources.ensures device resource
-            ∙ (λ k. c.loop-device.invariant.kept device resource k || (is_same x.name.name device && has_name (names k) resource))
+            ∙ (λ k. c.loop-device.invariant.kept device resource k || (is_same (c.name-name.ensures k) device && has_name (names k) resource))
             ∙ among-new before own absent device resource
             ∙ ap (λ l. among l device resource) (sym declared)
         | else-branch w ↦

@@ -1,6 +1,8 @@
-use Rattle.std.proofs.Common.{◌≡◌, ◌+◌, ◌<◌, not, true, false, ap, sym, ◌∙◌, arith, get_or, length, map, take, ◌∷◌, [], ◌++◌}
+use Rattle.std.proofs.Common.{◌≡◌, ◌+◌, ◌<◌, not, true, false, ap, subst, sym, ◌∙◌, arith, get_or, length, map, take, ◌∷◌, [], ◌++◌}
 use Rattle.std.proofs.lemmas.Grind.{common_steps}
 use Rattle.std.proofs.lemmas.List.{get_or-map, length-map, take_more}
+use Rattle.std.specs.BTreeSet.{contains, Updates}
+use Rattle.fb_tree.specs.Text.Order.{name_cmp}
 use Rattle.fb_iface.specs.Fault.{faults_at}
 use Rattle.fb_iface.specs.Names.{has_name}
 use Rattle.fb_iface.specs.declared.code.Code.TheVariants.{Duplicate}
@@ -19,7 +21,7 @@ loop-declaration-preserved g c =
     let named : x ≡ name_of c.declaration-item.result = c.name-name.ensures in
     let here : x ≡ get_or names i x = named ∙ ap name_of c.declaration-item.is ∙ sym (get_or-map name_of c.args.declarations.now i c.declaration-item.result x inside) in
     let more : take (i + 1) names ≡ take i names ++ x ∷ [] = take_more names i x within ∙ ap (λ y. take i names ++ y ∷ []) (sym here) in
-    let known : c.in_ok-insert.field-0 ≡ not (has_name (take i names) x.name) = c.in_ok-insert.ensures.added ∙ ap not (c.loop-declaration.invariant.noted x.name) in
+    let known : c.in_ok-insert.field-0 ≡ not (has_name (take i names) x.name) = c.in_ok-insert.ensures.added ∙ ap (λ n. not (contains name_cmp c.loop-declaration.seen n)) c.name.ensures ∙ ap not (c.loop-declaration.invariant.noted x.name) in
     record {
       reported = elim c.if-not-branch.branch [
         | then-not-branch+in_ok-push w ↦
@@ -31,7 +33,7 @@ loop-declaration-preserved g c =
             let told = reported-first Duplicate names i x within here first in
             cc (told, c.loop-declaration.invariant.reported, w.found-is)
       ];
-      noted = λ q. noted-push (take i names) x c.loop-declaration.seen c.insert.new.self c.loop-declaration.invariant.noted c.in_ok-insert.ensures.updates q ∙ ap (λ l. has_name l q) (sym more);
+      noted = λ q. noted-push (take i names) x c.loop-declaration.seen c.insert.new.self c.loop-declaration.invariant.noted (subst (λ n. Updates name_cmp c.loop-declaration.seen c.insert.new.self n true) c.name.ensures c.in_ok-insert.ensures.updates) q ∙ ap (λ l. has_name l q) (sym more);
     }
 
 pub returns : goal.returns

@@ -1,6 +1,7 @@
 -- The last room is longer, or there is one more.
-use Rattle.std.proofs.Common.{◌≡◌, ◌-◌, suc, length, refl, ◌∙◌, arith}
+use Rattle.std.proofs.Common.{◌≡◌, List, [], ◌∷◌, ◌++◌, ◌-◌, suc, length, refl, ap, ◌∙◌, arith}
 use Rattle.fb_library.specs.Rooms.{room_of}
+use Rattle.fb_library.specs.declared.room.Room.{Room}
 use Rattle.fb_library.proofs.Kept.{ended_kept, ended_same, ended_room, more_kept, more_same, more_room}
 use Rattle.fb_library.proofs.rooms.reach.Goals as goal
 
@@ -21,12 +22,12 @@ returns-then-count-lt-FULL-clause-room g c =
 
 pub returns-clause-order : goal.returns-clause-order
 returns-clause-order g c =
-    more_kept room_of c.args.rooms.now.items c.args.name c.requires.order c.requires.past c.push.new.self.items (record { last = c.args.name; shelves = c.in_ok-shelves.shelves }) c.in_ok-push.ensures.items refl (c.in_ok-shelves.ensures.ok ∙ c.new.ensures)
+    more_kept room_of c.args.rooms.now.items c.args.name c.requires.order c.requires.past c.push.new.self.items (record { last = c.args.name; shelves = c.in_ok-shelves.shelves }) (c.in_ok-push.ensures.items ∙ ap (λ (xs : List (Room g.row.V.Denot)). xs ++ record { last = c.args.name; shelves = c.in_ok-shelves.shelves } ∷ []) c.reserve_exact.ensures.items) refl (c.in_ok-shelves.ensures.ok ∙ c.new.ensures)
 
 pub returns-clause-same : goal.returns-clause-same
 returns-clause-same g c =
-    more_same room_of c.args.rooms.now.items c.args.name c.requires.order c.requires.past c.push.new.self.items (record { last = c.args.name; shelves = c.in_ok-shelves.shelves }) c.in_ok-push.ensures.items refl (c.in_ok-shelves.ensures.ok ∙ c.new.ensures)
+    more_same room_of c.args.rooms.now.items c.args.name c.requires.order c.requires.past c.push.new.self.items (record { last = c.args.name; shelves = c.in_ok-shelves.shelves }) (c.in_ok-push.ensures.items ∙ ap (λ (xs : List (Room g.row.V.Denot)). xs ++ record { last = c.args.name; shelves = c.in_ok-shelves.shelves } ∷ []) c.reserve_exact.ensures.items) refl (c.in_ok-shelves.ensures.ok ∙ c.new.ensures)
 
 pub returns-clause-room : goal.returns-clause-room
 returns-clause-room g c =
-    more_room room_of c.args.rooms.now.items c.args.name c.requires.order c.requires.past c.push.new.self.items (record { last = c.args.name; shelves = c.in_ok-shelves.shelves }) c.in_ok-push.ensures.items refl (c.in_ok-shelves.ensures.ok ∙ c.new.ensures)
+    more_room room_of c.args.rooms.now.items c.args.name c.requires.order c.requires.past c.push.new.self.items (record { last = c.args.name; shelves = c.in_ok-shelves.shelves }) (c.in_ok-push.ensures.items ∙ ap (λ (xs : List (Room g.row.V.Denot)). xs ++ record { last = c.args.name; shelves = c.in_ok-shelves.shelves } ∷ []) c.reserve_exact.ensures.items) refl (c.in_ok-shelves.ensures.ok ∙ c.new.ensures)

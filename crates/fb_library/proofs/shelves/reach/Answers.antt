@@ -1,6 +1,7 @@
 -- The last shelf is longer, or there is one more.
-use Rattle.std.proofs.Common.{◌≡◌, ◌-◌, suc, length, refl, ap, ◌∙◌, arith}
+use Rattle.std.proofs.Common.{◌≡◌, List, [], ◌∷◌, ◌++◌, ◌-◌, suc, length, refl, ap, ◌∙◌, arith}
 use Rattle.fb_library.specs.Entries.{entries_of, shelf_of}
+use Rattle.fb_library.specs.declared.shelf.Shelf.{Shelf}
 use Rattle.fb_library.proofs.Kept.{ended_kept, ended_same, ended_room, more_kept, more_same, more_room}
 use Rattle.fb_library.proofs.shelves.reach.Goals as goal
 
@@ -21,12 +22,12 @@ returns-then-len-lt-FULL-clause-room g c =
 
 pub returns-clause-order : goal.returns-clause-order
 returns-clause-order g c =
-    more_kept shelf_of c.args.shelves.now.items c.args.name c.requires.order c.requires.past c.push.new.self.items (record { last = c.args.name; places = c.in_ok-places.places }) c.in_ok-push.ensures.items refl ((λ i. entries_of (c.in_ok-places.ensures.ok i).items) ∙ ap entries_of c.new.ensures.items)
+    more_kept shelf_of c.args.shelves.now.items c.args.name c.requires.order c.requires.past c.push.new.self.items (record { last = c.args.name; places = c.in_ok-places.places }) (c.in_ok-push.ensures.items ∙ ap (λ (xs : List (Shelf g.row.V.Denot)). xs ++ record { last = c.args.name; places = c.in_ok-places.places } ∷ []) c.reserve_exact.ensures.items) refl ((λ i. entries_of (c.in_ok-places.ensures.ok i).items) ∙ ap entries_of c.new.ensures.items)
 
 pub returns-clause-same : goal.returns-clause-same
 returns-clause-same g c =
-    more_same shelf_of c.args.shelves.now.items c.args.name c.requires.order c.requires.past c.push.new.self.items (record { last = c.args.name; places = c.in_ok-places.places }) c.in_ok-push.ensures.items refl ((λ i. entries_of (c.in_ok-places.ensures.ok i).items) ∙ ap entries_of c.new.ensures.items)
+    more_same shelf_of c.args.shelves.now.items c.args.name c.requires.order c.requires.past c.push.new.self.items (record { last = c.args.name; places = c.in_ok-places.places }) (c.in_ok-push.ensures.items ∙ ap (λ (xs : List (Shelf g.row.V.Denot)). xs ++ record { last = c.args.name; places = c.in_ok-places.places } ∷ []) c.reserve_exact.ensures.items) refl ((λ i. entries_of (c.in_ok-places.ensures.ok i).items) ∙ ap entries_of c.new.ensures.items)
 
 pub returns-clause-room : goal.returns-clause-room
 returns-clause-room g c =
-    more_room shelf_of c.args.shelves.now.items c.args.name c.requires.order c.requires.past c.push.new.self.items (record { last = c.args.name; places = c.in_ok-places.places }) c.in_ok-push.ensures.items refl ((λ i. entries_of (c.in_ok-places.ensures.ok i).items) ∙ ap entries_of c.new.ensures.items)
+    more_room shelf_of c.args.shelves.now.items c.args.name c.requires.order c.requires.past c.push.new.self.items (record { last = c.args.name; places = c.in_ok-places.places }) (c.in_ok-push.ensures.items ∙ ap (λ (xs : List (Shelf g.row.V.Denot)). xs ++ record { last = c.args.name; places = c.in_ok-places.places } ∷ []) c.reserve_exact.ensures.items) refl ((λ i. entries_of (c.in_ok-places.ensures.ok i).items) ∙ ap entries_of c.new.ensures.items)

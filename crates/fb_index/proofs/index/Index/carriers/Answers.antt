@@ -1,10 +1,11 @@
 -- The walk from users to users, which ends where nothing is pending.
-use Rattle.std.proofs.Common.{◌≡◌, ◌+◌, [], ◌∷◌, ◌++◌, take, subst, arith}
+use Rattle.std.proofs.Common.{◌≡◌, ◌+◌, [], ◌∷◌, ◌++◌, take, ap, subst, ◌∙◌, arith}
 use Rattle.std.proofs.lemmas.Grind.{common_steps}
 use Rattle.std.proofs.lemmas.Result.{IfOk-weaker}
 use Rattle.std.specs.List.{flat_map}
 use Rattle.fb_library.specs.Seen.{Opens}
 use Rattle.fb_library.proofs.WalkLemmas.{IsWalk, IsWalk-begin, IsWalk-step, opens_falls, opens_more, no_items}
+use Rattle.fb_index.specs.Indexed.{Indexed}
 use Rattle.fb_index.specs.Near.{carrying_on}
 use Rattle.fb_index.specs.Users.{users_of}
 use Rattle.fb_index.proofs.Walks.{all_users, carriers_within, carriers_at_end}
@@ -16,7 +17,7 @@ loop-name-preserved c =
     let i = c.loop-name.name-index in
     let x = c.name-item.result in
     let more : take (i + 1) names ≡ take i names ++ x ∷ [] = grind (arith, common_steps) in
-    let opens : Opens (users_of c.args.self.now.of_values x) c.loop-name.seen.keys c.loop-name.pending.items c.open_new.new.seen.keys c.open_new.new.pending.items = subst (λ us. Opens us c.loop-name.seen.keys c.loop-name.pending.items c.open_new.new.seen.keys c.open_new.new.pending.items) c.value_users.ensures c.in_ok-open_new.ensures in
+    let opens : Opens (users_of c.args.self.now.of_values x) c.loop-name.seen.keys c.loop-name.pending.items c.open_new.new.seen.keys c.open_new.new.pending.items = subst (λ us. Opens us c.loop-name.seen.keys c.loop-name.pending.items c.open_new.new.seen.keys c.open_new.new.pending.items) (c.as_slice.ensures.value ∙ c.in_ok-users.ensures ∙ ap (λ (it : Indexed). users_of it.of_values x) c.self.view_is) c.in_ok-open_new.ensures in
     opens_more (users_of c.args.self.now.of_values) (take i names) (take (i + 1) names) x _ _ _ _ more c.loop-name.invariant opens
 
 pub loop-name-2-init : goal.loop-name-2-init
@@ -32,14 +33,14 @@ loop-name-2-preserved c =
     let starts = flat_map (users_of c.args.self.now.of_values) c.args.names.now in
     let name = c.in-Some.name in
     let before : IsWalk next starts c.loop-name-2.seen.keys (c.pop.new.self.items ++ name ∷ []) = subst (IsWalk next starts c.loop-name-2.seen.keys) c.in-Some.ensures.items c.loop-name-2.invariant in
-    let opens : Opens (next name) c.loop-name-2.seen.keys c.pop.new.self.items c.open_new-in-Some.new.seen.keys c.open_new-in-Some.new.pending.items = subst (λ us. Opens us c.loop-name-2.seen.keys c.pop.new.self.items c.open_new-in-Some.new.seen.keys c.open_new-in-Some.new.pending.items) c.carrying_on.ensures c.in_ok-open_new-2.ensures in
+    let opens : Opens (next name) c.loop-name-2.seen.keys c.pop.new.self.items c.open_new-in-Some.new.seen.keys c.open_new-in-Some.new.pending.items = subst (λ us. Opens us c.loop-name-2.seen.keys c.pop.new.self.items c.open_new-in-Some.new.seen.keys c.open_new-in-Some.new.pending.items) (c.as_slice-in-Some.ensures.value ∙ c.in_ok-users-2.ensures) c.in_ok-open_new-2.ensures in
     IsWalk-step next starts _ _ _ _ name before opens
 
 pub loop-name-2-smaller : goal.loop-name-2-smaller
 loop-name-2-smaller c =
     let next = carrying_on c.args.self.now in
     let name = c.in-Some.name in
-    let opens : Opens (next name) c.loop-name-2.seen.keys c.pop.new.self.items c.open_new-in-Some.new.seen.keys c.open_new-in-Some.new.pending.items = subst (λ us. Opens us c.loop-name-2.seen.keys c.pop.new.self.items c.open_new-in-Some.new.seen.keys c.open_new-in-Some.new.pending.items) c.carrying_on.ensures c.in_ok-open_new-2.ensures in
+    let opens : Opens (next name) c.loop-name-2.seen.keys c.pop.new.self.items c.open_new-in-Some.new.seen.keys c.open_new-in-Some.new.pending.items = subst (λ us. Opens us c.loop-name-2.seen.keys c.pop.new.self.items c.open_new-in-Some.new.seen.keys c.open_new-in-Some.new.pending.items) (c.as_slice-in-Some.ensures.value ∙ c.in_ok-users-2.ensures) c.in_ok-open_new-2.ensures in
     opens_falls next (all_users c.args.self.now.of_values) (carriers_within c.args.self.now) name _ _ _ _ c.loop-name-2.pending.items opens c.in-Some.ensures.items
 
 pub returns : goal.returns

@@ -1,16 +1,16 @@
--- The unit comes behind those that were under the name.
-use Rattle.std.proofs.Common.{◌≡◌, ◌++◌, ◌∷◌, [], ap, sym, ◌∙◌}
+-- The unit stands under the name, and who stood there before.
+use Rattle.std.proofs.Common.{◌||◌, ap, ◌∙◌}
 use Rattle.std.proofs.lemmas.Result.{IfOk-weaker}
-use Rattle.fb_index.specs.Users.{users_of}
-use Rattle.fb_index.proofs.Lookups.{unit_joined, unit_there}
+use Rattle.std.specs.BTreeMap.{is_at}
+use Rattle.fb_text.specs.Order.{name_cmp}
+use Rattle.fb_library.specs.Seen.{has_name}
+use Rattle.fb_index.proofs.Lookups.{unit_joined}
 use Rattle.fb_index.proofs.users.Users.join.Goals as goal
-
-pub returns-then-has : goal.returns-then-has
-returns-then-has c = unit_there c.args.self.now c.args.name.now c.args.unit.now (sym c.has.ensures ∙ c.if-has.true)
 
 pub returns : goal.returns
 returns c =
-    let units : c.push.new.self.items ≡ users_of c.args.self.now c.args.name.now ++ c.args.unit.now ∷ [] =
-    c.in_ok-push.ensures.items
-    ∙ ap (λ us. us ++ c.args.unit.now ∷ []) (c.in_ok-extend_from_slice.ensures.items ∙ ap (λ us. us ++ c.under.result.now) c.new-units.ensures.items ∙ c.under.ensures) in
-    IfOk-weaker c.set.result _ _ (λ _ are. unit_joined c.args.self.now c.set.new.self c.args.name.now c.args.unit.now c.push.new.self.items units are) c.set.ensures
+    IfOk-weaker c.set.result _ _
+    (λ _ are.
+    unit_joined c.args.self.now c.set.new.self c.args.name.now c.args.unit.now c.put.new.self
+    (λ other. c.in_ok-put.ensures other ∙ ap (λ us. has_name us other || is_at (name_cmp c.args.unit.now) other) c.in_ok-units.ensures) are)
+    c.set.ensures

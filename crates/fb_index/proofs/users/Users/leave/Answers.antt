@@ -1,10 +1,9 @@
 -- The others are left under the name.
-use Rattle.std.proofs.Common.{ap, ◌∙◌}
+use Rattle.std.proofs.Common.{◌&&◌, not, ap, ◌∙◌}
 use Rattle.std.proofs.lemmas.Result.{IfOk-weaker}
-use Rattle.fb_library.specs.Seen.{has_name}
-use Rattle.std.proofs.Common.{◌&&◌, not}
 use Rattle.std.specs.BTreeMap.{is_at}
 use Rattle.fb_text.specs.Order.{name_cmp}
+use Rattle.fb_library.specs.Seen.{has_name}
 use Rattle.fb_index.proofs.Lookups.{unit_left}
 use Rattle.fb_index.proofs.users.Users.leave.Goals as goal
 
@@ -12,6 +11,6 @@ pub returns : goal.returns
 returns c =
     IfOk-weaker c.set.result _ _
     (λ _ are.
-    unit_left c.args.self.now c.set.new.self c.args.name.now c.args.unit.now c.in_ok-others.others.items
-    (λ other. c.in_ok-others.ensures other ∙ ap (λ us. has_name us other && not (is_at (name_cmp c.args.unit.now) other)) c.under.ensures) are)
+    unit_left c.args.self.now c.set.new.self c.args.name.now c.args.unit.now c.remove.new.self
+    (λ other. c.in_ok-remove.ensures other ∙ ap (λ us. has_name us other && not (is_at (name_cmp c.args.unit.now) other)) c.in_ok-units.ensures) are)
     c.set.ensures

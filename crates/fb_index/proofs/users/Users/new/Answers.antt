@@ -2,9 +2,9 @@
 use Rattle.std.proofs.Common.{map, sym, subst}
 use Rattle.std.specs.List.Sorted.{IsStrictlySortedBy}
 use Rattle.fb_text.specs.Order.{name_cmp}
-use Rattle.fb_index.proofs.Lookups.{Rows}
+use Rattle.fb_index.specs.Users.{UsersByName}
 use Rattle.fb_index.proofs.users.Users.new.Goals as goal
 
 pub invariant_of-result : goal.invariant_of-result
 unfolding IsStrictlySortedBy
-invariant_of-result c = subst (λ (t : Rows). IsStrictlySortedBy name_cmp (map (λ e. e.0) t)) (sym c.new.ensures) tt
+invariant_of-result c = subst (λ (t : UsersByName). IsStrictlySortedBy name_cmp (map (λ e. e.0) t)) (sym c.new.ensures) tt

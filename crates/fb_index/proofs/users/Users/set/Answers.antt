@@ -1,9 +1,9 @@
 -- The rows stay in order, and the name has these units.
-use Rattle.std.proofs.Common.{◌≡◌, [], ap, ◌∙◌, arith}
-use Rattle.std.specs.BTreeMap.{insert_entry}
+use Rattle.std.proofs.Common.{if◌then◌else◌, ap, ◌∙◌}
 use Rattle.std.proofs.lemmas.Result.{IfOk-weaker}
-use Rattle.fb_library.proofs.SeenLemmas.{no_items}
+use Rattle.std.specs.BTreeMap.{insert_entry, is_at}
 use Rattle.fb_text.specs.Order.{name_cmp}
+use Rattle.fb_index.specs.Users.{UsersByName, users_of}
 use Rattle.fb_index.proofs.Lookups.{users_put, users_removed, rows_put, rows_removed}
 use Rattle.fb_index.proofs.users.Users.set.Goals as goal
 
@@ -12,13 +12,11 @@ invariant_of-self c = rows_removed c.remove.result c.self.inside.by_name c.remov
 
 pub returns-then-is_empty : goal.returns-then-is_empty
 returns-then-is_empty c =
-    let none : c.args.units.items ≡ [] = no_items c.args.units.items (grind (arith, c.if-is_empty.ensures)) in
-    IfOk-weaker c.remove.result _ _ (λ _ is. users_removed c.args.self.now c.self.inside.by_name c.remove.new.self c.args.name.now c.args.units.items c.self.view_is c.self.invariant is none) c.remove.ensures.ok
+    IfOk-weaker c.remove.result _ _ (λ _ is n. users_removed c.self.inside.by_name c.remove.new.self c.args.name.now c.args.units c.self.invariant is (c.is_empty.ensures c.if-is_empty.true) n ∙ ap (λ (us : UsersByName). if is_at (name_cmp c.args.name.now) n then c.args.units else users_of us n) c.self.view_is) c.remove.ensures.ok
 
 pub invariant_of-self-2 : goal.invariant_of-self-2
 invariant_of-self-2 c = rows_put c.put.result c.self.inside.by_name c.put.new.self c.args.name.now c.in_ok-new.field-0.value c.put.ensures.ok c.put.ensures.err c.self.invariant
 
 pub returns : goal.returns
 returns c =
-    let fresh : c.in_ok-new.field-0.value ≡ c.args.units = c.in_ok-new.ensures.ok in
-    IfOk-weaker c.put.result _ _ (λ _ is. users_put c.args.self.now c.self.inside.by_name c.put.new.self c.args.name.now c.args.units c.self.view_is (is ∙ ap (insert_entry name_cmp c.self.inside.by_name c.args.name.now) fresh)) c.put.ensures.ok
+    IfOk-weaker c.put.result _ _ (λ _ is n. users_put c.self.inside.by_name c.put.new.self c.args.name.now c.args.units (is ∙ ap (insert_entry name_cmp c.self.inside.by_name c.args.name.now) c.in_ok-new.ensures.ok) n ∙ ap (λ (us : UsersByName). if is_at (name_cmp c.args.name.now) n then c.args.units else users_of us n) c.self.view_is) c.put.ensures.ok

@@ -12,7 +12,7 @@ use Rattle.fb_jobs.specs.Known.{AreNetsOf, hint_in}
 use Rattle.fb_jobs.specs.Work.{IsOwnIn, IsWork, IsFoundFor}
 use Rattle.fb_jobs.specs.Reads.{PlainJob, IsRight, read_texts}
 use Rattle.fb_jobs.specs.Finished.{plain_job}
-use Rattle.fb_jobs.specs.Values.{all_seen, texts_seen, IsOwn, IsOwnText}
+use Rattle.fb_jobs.specs.Values.{all_seen, IsOwn}
 use Rattle.fb_jobs.proofs.KnownLemmas.{faultless_in, nets_right, own_in}
 use Rattle.fb_jobs.proofs.SameNeeds.{kind_there, scratch_is}
 use Rattle.fb_jobs.proofs.WorkLemmas.{founds_for}
@@ -53,9 +53,8 @@ of_reads-requires c =
         right = subst (λ reads. IsRight (plain_job key reads.items)) (sym c.in_ok-reads.ensures.cases) c.self.invariant.job.right;
         own = subst (λ reads. All IsOwn reads.items) (sym c.in_ok-reads.ensures.cases) c.self.invariant.job.own;
         texts_are =
-            ap (λ it. texts_seen it.items) c.in_ok-texts.ensures.cases ∙ c.self.invariant.job.texts_are
+            c.in_ok-texts.ensures.cases ∙ c.self.invariant.job.texts_are
             ∙ ap (λ it. all_seen it.items) (sym c.in_ok-reads.ensures.cases);
-        texts_own = subst (λ texts. All IsOwnText texts.items) (sym c.in_ok-texts.ensures.cases) c.self.invariant.job.texts_own;
       };
       value_is =
           work.value_is ∙ sym (scratch_is (read_texts (all_seen inside)) key)

@@ -1,0 +1,120 @@
+//! What a history keeps of reads.
+ghost use Rattle.std.specs.Prelude.{◌≡◌, count_by, is_none};
+
+use crate::same::{are_equal, are_same_texts};
+use fb_deploy::library::Version;
+use fb_text::Name;
+use std::alloc::{AllocError, Global};
+use std::marker::Model;
+use std::sync::Arc;
+
+/// What was read under a name: a text with its revision, or nothing.
+#[derive(Clone, Copy)]
+pub struct TextRead<'a> {
+    pub name: Name,
+    pub version: Option<&'a Version>,
+}
+
+/// The texts of reads, in their order, without the trees that they spell. Each is shared with whoever else keeps it, so that a read of a text takes 16 bytes here.
+#[derive(Drop)]
+pub struct TextReads {
+    versions: Vec<Option<Arc<Version>>>,
+    // the names of the reads without a text, in the same order
+    absent: Vec<Name>,
+}
+
+const _: () = prove!(size_of::<Option<Arc<Version>>>() == 16);
+
+impl Model for TextReads {
+    ghost use Rattle.std.specs.Prelude.{List, map};
+    ghost use Rattle.fb_jobs.specs.Reads.{Seen};
+
+    ghost Value = { List Seen };
+
+    ghost use Rattle.fb_jobs.specs.Texts.{text_of, texts_seen, AreNamed};
+
+    ghost view = { λ it. texts_seen it.versions.items it.absent.items };
+
+    ghost invariant = { λ it. AreNamed (map text_of it.versions.items) it.absent.items };
+}
+
+impl TextReads {
+    ghost use Rattle.std.specs.Prelude.{◌≡◌, ◌++◌, ◌↔◌, ◌∷◌, [], IfOk, IfSome, IsTrue, length, slice_get};
+    ghost use Rattle.std.specs.Option.{option_map};
+    ghost use Rattle.fb_jobs.specs.Texts.{seen_under, text_of};
+    ghost use Rattle.fb_jobs.specs.Values.{text_seen};
+
+    /// None yet, with room for so many.
+    pub(crate) fn with_capacity(alloc: Global, count: usize) -> Result<TextReads, AllocError>
+        ensures { IfOk result (λ texts. texts ≡ []) }
+    {
+        Ok(TextReads {
+            versions: Vec::with_capacity(alloc, count)?,
+            absent: Vec::new(alloc),
+        })
+    }
+
+    /// These, and behind them what was read under a name.
+    pub(crate) fn with(
+        self,
+        name: Name,
+        version: Option<Arc<Version>>,
+    ) -> Result<TextReads, AllocError>
+        ensures { IfOk result (λ texts. texts ≡ self ++ seen_under name (text_of version) ∷ []) }
+    {
+        let TextReads {
+            mut versions,
+            mut absent,
+        } = self;
+        if version.is_none() {
+            absent.push(name)?;
+        }
+        versions.push(version)?;
+        Ok(TextReads { versions, absent })
+    }
+
+    /// How many names were read.
+    pub fn len(&self) -> usize
+        ensures { result ≡ length self.now }
+    {
+        self.versions.len()
+    }
+
+    /// What was read at a place, counted from 0. It passes over those before it.
+    pub fn get(&self, place: usize) -> Option<TextRead<'_>>
+        ensures { option_map text_seen result ≡ slice_get self.now place }
+    {
+        match self.versions.get(place) {
+            None => None,
+            Some(Some(version)) => Some(TextRead {
+                name: version.unit,
+                version: Some(version),
+            }),
+            Some(None) => Some(TextRead {
+                name: self.absent[absent_count(&self.versions[..place])],
+                version: None,
+            }),
+        }
+    }
+
+    /// Whether the same was read, by content: under the same names the same texts with the same revisions.
+    pub fn is_same(&self, other: &TextReads) -> bool
+        ensures { IsTrue result ↔ (self.now ≡ other.now) }
+    {
+        are_same_texts(&self.versions, &other.versions)
+            && are_equal(&self.absent, &other.absent)
+    }
+}
+
+/// How many of these there are not.
+fn absent_count(versions: &[Option<Arc<Version>>]) -> usize
+    ensures { result ≡ count_by is_none versions.now }
+{
+    let mut count = 0;
+    for version in versions {
+        if version.is_none() {
+            count += 1;
+        }
+    }
+    count
+}

@@ -1,0 +1,362 @@
+-- The blocks of a system's flat network are those that stand at its paths.
+use Rattle.std.proofs.Common.{◌≡◌, ℕ, List, [], ◌∷◌, ◌++◌, Option, Some, None, ◌⊎◌, inl, inr, refl, sym, ap, ◌∙◌, subst, append_assoc}
+use Rattle.std.specs.Prelude.{Contains, map, option_map}
+use Rattle.std.specs.List.{filter_map, flat_map}
+use Rattle.std.proofs.lemmas.List.Elements.{Contains-append_cases, Contains-append_left, Contains-append_right}
+use Rattle.fb_text.proofs.Members.{contains_cases, contains_flat_map, contains_here, contains_later, contains_map, contains_nothing, origin_in_flat_map, origin_in_map}
+use Rattle.fb_tree.specs.Tree.{ApplicationTree, DeclTree, InstanceTree, SystemTree, block_type, adapter_type, subapplication_type, system_configuration, structure_type}
+use Rattle.fb_tree.specs.Mentions.{unit_kind_of}
+use Rattle.fb_tree.specs.declared.network.Role.{Role}
+use Rattle.fb_tree.specs.declared.network.Role.TheVariants as roles
+use Rattle.fb_deploy.specs.Library.View.{Sources, tree_at}
+use Rattle.fb_deploy.specs.Flatten.Net.{HasFlat}
+use Rattle.fb_wiring.specs.Applications.{applications_of, plain_application}
+use Rattle.fb_wiring.specs.ByName.{declared}
+use Rattle.fb_wiring.specs.Networks.{instance_in_role, network_of, plain_instance}
+use Rattle.fb_wiring.specs.Units.{AreFlatApplications, IsFlatApplication, IsUnitFlat, NoApplication, OfSubapplication, OfSystem, ThenApplication}
+use Rattle.fb_wiring.specs.declared.systems.Application.{Application}
+use Rattle.fb_wiring.specs.Network.Composed.{block_within}
+use Rattle.fb_wiring.specs.Network.Instances.{AreInstances, Held, NoInstance, ThenBlock, ThenSubapplication, held_as, held_within, leaf_first, leaves_of}
+use Rattle.fb_wiring.specs.Network.Network.{View}
+use Rattle.fb_wiring.specs.Network.Plain.{PlainNetwork}
+use Rattle.fb_wiring.specs.Network.PlainFlat.{PlainFlat}
+use Rattle.fb_wiring.specs.Network.Printed.{printed}
+use Rattle.fb_wiring.specs.Network.Places.{dotted}
+use Rattle.fb_wiring.specs.Network.SystemFlat.{IsSystemFlat, application_blocks}
+use Rattle.fb_wiring.specs.Network.declared.application.FlatApplication.{FlatApplication}
+use Rattle.fb_wiring.specs.Network.declared.flat.FlatBlock.{FlatBlock}
+use Rattle.fb_wiring.specs.Network.declared.network.Instance.{Instance}
+use Rattle.fb_wiring.specs.Network.declared.network.InstanceKind.{InstanceKind}
+use Rattle.fb_wiring.specs.Network.declared.network.InstanceKind.TheVariants.{Block, Subapplication}
+use Rattle.fb_laws.specs.Mappings.{IsSystemAt}
+use Rattle.fb_laws.specs.Paths.{IsAtPath, in_application, inside, with_points}
+use Rattle.fb_laws.proofs.CommandLemmas.{given, gives_member}
+use Rattle.fb_laws.proofs.PlanEnds.{instance_held, leaf_listed}
+use Rattle.fb_laws.proofs.PathTexts.{same_print}
+
+abbrev Path : Type 0
+Path = List (List ℕ)
+
+-- ---- instances in plain
+
+abbrev role_of : InstanceKind → Role
+role_of Block = roles.Block
+role_of Subapplication = roles.Subapplication
+
+abbrev in_plain : InstanceTree → InstanceKind → Instance
+in_plain i kind = record { name = i.name.name; kind = kind; type_name = i.type_name.name }
+
+plain_of : (role : Role) (kind : InstanceKind) (name type_name : List ℕ) → role ≡ role_of kind → instance_in_role role name type_name ≡ Some (record { name = name; kind = kind; type_name = type_name })
+plain_of role Block name type_name e = ap (λ (r : Role). instance_in_role r name type_name) e
+plain_of role Subapplication name type_name e = ap (λ (r : Role). instance_in_role r name type_name) e
+
+-- what an instance in plain is of
+record IsOfTree (i : InstanceTree) (p : Instance) : Type 0 where
+  named : i.name.name ≡ p.name
+  in_role : i.role ≡ role_of p.kind
+  typed : i.type_name.name ≡ p.type_name
+
+of_tree : (i : InstanceTree) (p : Instance) → plain_instance i ≡ Some p → IsOfTree i p
+of_tree i p e = by i.role refl e
+  where
+    made : (kind : InstanceKind) → i.role ≡ role_of kind → in_plain i kind ≡ p → IsOfTree i p
+    made kind role same = record {
+      named = ap (λ (q : Instance). q.name) same;
+      in_role = role ∙ ap (λ (q : Instance). role_of q.kind) same;
+      typed = ap (λ (q : Instance). q.type_name) same;
+    }
+
+    by : (role : Role) → i.role ≡ role → instance_in_role role i.name.name i.type_name.name ≡ Some p → IsOfTree i p
+    by roles.Plug role g = absurd (let no : ⊥ = cc in no)
+    by roles.Socket role g = absurd (let no : ⊥ = cc in no)
+    by roles.Block role g = made Block role (let same : in_plain i Block ≡ p = cc in same)
+    by roles.Subapplication role g = made Subapplication role (let same : in_plain i Subapplication ≡ p = cc in same)
+
+-- an instance of a block or a subapplication among the plain ones
+among_plain : (instances : List InstanceTree) (i : InstanceTree) (kind : InstanceKind) → Contains instances i → i.role ≡ role_of kind → Contains (filter_map plain_instance instances) (in_plain i kind)
+among_plain instances i kind c role = gives_member plain_instance instances i (in_plain i kind) c (plain_of i.role kind i.name.name i.type_name.name role)
+
+-- ---- one name more
+
+module _ (view : View) where
+  held_more : {list : List Instance} {held : List Held} → AreInstances view list held → (path : Path) (typed : List ℕ) (inner : PlainNetwork) (p : Instance) → Contains held (record { path = path; kind = Subapplication; typed = typed }) → view typed ≡ Some inner → Contains inner.instances p → Contains held (record { path = path ++ p.name ∷ []; kind = p.kind; typed = p.type_name })
+  held_more NoInstance path typed inner p c known cp = absurd (contains_nothing _ c)
+  held_more (ThenBlock z rest others k more) path typed inner p c known cp =
+      by (contains_cases (held_as z) others (record { path = path; kind = Subapplication; typed = typed }) c) (λ d. held_more more path typed inner p d known cp)
+    where
+      by : (held_as z ≡ record { path = path; kind = Subapplication; typed = typed }) ⊎ Contains others (record { path = path; kind = Subapplication; typed = typed }) → (Contains others (record { path = path; kind = Subapplication; typed = typed }) → Contains others (record { path = path ++ p.name ∷ []; kind = p.kind; typed = p.type_name })) → Contains (held_as z ∷ others) (record { path = path ++ p.name ∷ []; kind = p.kind; typed = p.type_name })
+      by (inl same) later = absurd (let kinds = ap (λ (h : Held). h.kind) same in cc)
+      by (inr d) later = contains_later (held_as z) others _ (later d)
+  held_more (ThenSubapplication z rest nested own others k here within more) path typed inner p c known cp =
+      by (contains_cases (held_as z) (map (held_within z.name) own ++ others) outer c) (λ q e. held_more within q typed inner p e known cp)
+      (λ d. held_more more path typed inner p d known cp)
+    where
+      -- what is said of the instances inside, and of those behind
+      Inside : Type 0
+      Inside = (q : Path) → Contains own (record { path = q; kind = Subapplication; typed = typed }) → Contains own (record { path = q ++ p.name ∷ []; kind = p.kind; typed = p.type_name })
+
+      outer : Held
+      outer = record { path = path; kind = Subapplication; typed = typed }
+
+      added : Held
+      added = record { path = path ++ p.name ∷ []; kind = p.kind; typed = p.type_name }
+
+      in_own : Contains (map (held_within z.name) own) added → Contains (held_as z ∷ (map (held_within z.name) own ++ others)) added
+      in_own d = contains_later (held_as z) (map (held_within z.name) own ++ others) added (Contains-append_left (map (held_within z.name) own) others added d)
+
+      -- it is the instance itself
+      itself : held_as z ≡ outer → Contains (map (held_within z.name) own) added
+      itself same =
+          let of_type : z.type_name ≡ typed = ap (λ (h : Held). h.typed) same in
+          let at : z.name ∷ [] ≡ path = ap (λ (h : Held). h.path) same in
+          let nets : nested ≡ inner = (let a = sym here ∙ ap view of_type ∙ known in cc) in
+          let c = contains_map (held_within z.name) own (held_as p) (instance_held within p (subst (λ (n : PlainNetwork). Contains n.instances p) (sym nets) cp)) in
+          subst (λ (q : Path). Contains (map (held_within z.name) own) (record { path = q ++ p.name ∷ []; kind = p.kind; typed = p.type_name })) at c
+
+      -- or one inside it
+      below : (o : Held) → Contains own o → held_within z.name o ≡ outer → Inside → Contains (map (held_within z.name) own) added
+      below o co same deeper =
+          let at : z.name ∷ o.path ≡ path = ap (λ (h : Held). h.path) same in
+          let is : o ≡ record { path = o.path; kind = Subapplication; typed = typed } = (λ i. record { path = o.path; kind = (same i).kind; typed = (same i).typed }) in
+          let d = deeper o.path (subst (λ (h : Held). Contains own h) is co) in
+          subst (λ (q : Path). Contains (map (held_within z.name) own) (record { path = q ++ p.name ∷ []; kind = p.kind; typed = p.type_name })) at
+          (contains_map (held_within z.name) own (record { path = o.path ++ p.name ∷ []; kind = p.kind; typed = p.type_name }) d)
+
+      by_part : Contains (map (held_within z.name) own) outer ⊎ Contains others outer → Inside → (Contains others outer → Contains others added) → Contains (held_as z ∷ (map (held_within z.name) own ++ others)) added
+      by_part (inl d) deeper later = let o = origin_in_map (held_within z.name) own outer d in in_own (below o.origin o.among o.gives deeper)
+      by_part (inr d) deeper later =
+          contains_later (held_as z) (map (held_within z.name) own ++ others) added (Contains-append_right (map (held_within z.name) own) others added (later d))
+
+      by : (held_as z ≡ outer) ⊎ Contains (map (held_within z.name) own ++ others) outer → Inside → (Contains others outer → Contains others added) → Contains (held_as z ∷ (map (held_within z.name) own ++ others)) added
+      by (inl same) deeper later = in_own (itself same)
+      by (inr d) deeper later = by_part (Contains-append_cases (map (held_within z.name) own) others outer d) deeper later
+
+-- ---- from paths to what is held
+
+-- the application, and what is held of it wherever its instances are
+record IsHeldIn (sources : Sources) (s : SystemTree) (path : Path) (i : InstanceTree) : Type 0 where
+  application : ApplicationTree
+  listed : Contains s.applications application
+  first : List ℕ
+  others : Path
+  is_path : path ≡ application.name.name ∷ first ∷ others
+  held :
+      (kind : InstanceKind) → i.role ≡ role_of kind
+      → (list : List Held) → AreInstances (declared sources) (plain_application application).network.instances list
+      → Contains list (record { path = first ∷ others; kind = kind; typed = i.type_name.name })
+
+held_in : (sources : Sources) (s : SystemTree) (path : Path) (i : InstanceTree) → IsAtPath sources s path i → IsHeldIn sources s path i
+held_in sources s path end (in_application a i ca ci) = record {
+  application = a;
+  listed = ca;
+  first = i.name.name;
+  others = [];
+  is_path = refl;
+  held = λ kind role list are. instance_held are (in_plain i kind) (among_plain a.network.instances i kind ci role);
+}
+held_in sources s path end (inside {path = before} {outer = outer} type i at role there ci) =
+    let o = held_in sources s before outer at in
+    record {
+      application = o.application;
+      listed = o.listed;
+      first = o.first;
+      others = o.others ++ i.name.name ∷ [];
+      is_path = ap (λ (p : Path). p ++ i.name.name ∷ []) o.is_path;
+      held = λ kind in_role list are.
+          held_more (declared sources) are (o.first ∷ o.others) outer.type_name.name (network_of (subapplication_type type)) (in_plain i kind) (o.held Subapplication role list are)
+          (ap (option_map network_of) there) (among_plain type.network.instances i kind ci in_role);
+    }
+
+-- ---- from what is held to paths
+
+-- an instance of this kind and type stands at the path
+record StandsAs (sources : Sources) (s : SystemTree) (path : Path) (kind : InstanceKind) (typed : List ℕ) : Type 0 where
+  instance : InstanceTree
+  at : IsAtPath sources s path instance
+  in_role : instance.role ≡ role_of kind
+  of_type : instance.type_name.name ≡ typed
+
+module _ (sources : Sources) (s : SystemTree) where
+  abbrev Stands : Path → Held → Type 0
+  Stands path h = StandsAs sources s (path ++ h.path) h.kind h.typed
+
+  -- the instances in the type of a subapplication instance
+  step_in : (path : Path) (z : Instance) (tree : Option DeclTree) → z.kind ≡ Subapplication → tree_at sources z.type_name ≡ tree → StandsAs sources s (path ++ z.name ∷ []) z.kind z.type_name → (inner : PlainNetwork) → option_map network_of tree ≡ Some inner → (p : Instance) → Contains inner.instances p → StandsAs sources s ((path ++ z.name ∷ []) ++ p.name ∷ []) p.kind p.type_name
+  step_in path z None k there o inner e p c = absurd (let no : ⊥ = cc in no)
+  step_in path z (Some (block_type d)) k there o inner e p c = let same : network_of (block_type d) ≡ inner = cc in absurd (contains_nothing p (subst (λ (n : PlainNetwork). Contains n.instances p) (sym same) c))
+  step_in path z (Some (adapter_type d)) k there o inner e p c = let same : network_of (adapter_type d) ≡ inner = cc in absurd (contains_nothing p (subst (λ (n : PlainNetwork). Contains n.instances p) (sym same) c))
+  step_in path z (Some (system_configuration d)) k there o inner e p c = let same : network_of (system_configuration d) ≡ inner = cc in absurd (contains_nothing p (subst (λ (n : PlainNetwork). Contains n.instances p) (sym same) c))
+  step_in path z (Some (structure_type d)) k there o inner e p c = let same : network_of (structure_type d) ≡ inner = cc in absurd (contains_nothing p (subst (λ (n : PlainNetwork). Contains n.instances p) (sym same) c))
+  step_in path z (Some (subapplication_type d)) k there o inner e p c =
+      let same : network_of (subapplication_type d) ≡ inner = cc in
+      let g = given plain_instance d.network.instances p (subst (λ (n : PlainNetwork). Contains n.instances p) (sym same) c) in
+      let t = of_tree g.origin p g.gives in
+      let role : o.instance.role ≡ roles.Subapplication = o.in_role ∙ ap role_of k in
+      record {
+        instance = g.origin;
+        at = subst (λ (n : List ℕ). IsAtPath sources s ((path ++ z.name ∷ []) ++ n ∷ []) g.origin) t.named (inside d g.origin o.at role (ap (tree_at sources) o.of_type ∙ there) g.among);
+        in_role = t.in_role;
+        of_type = t.typed;
+      }
+
+  held_stands : {list : List Instance} {held : List Held} → AreInstances (declared sources) list held → (path : Path) → ((p : Instance) → Contains list p → StandsAs sources s (path ++ p.name ∷ []) p.kind p.type_name) → (h : Held) → Contains held h → Stands path h
+  held_stands NoInstance path each h c = absurd (contains_nothing h c)
+  held_stands (ThenBlock z rest others k more) path each h c = by (contains_cases (held_as z) others h c) (λ d. held_stands more path (λ p cp. each p (contains_later z rest p cp)) h d)
+    where
+      by : (held_as z ≡ h) ⊎ Contains others h → (Contains others h → Stands path h) → Stands path h
+      by (inl same) later = subst (λ (w : Held). Stands path w) same (each z (contains_here z rest))
+      by (inr d) later = later d
+  held_stands (ThenSubapplication z rest inner own others k here within more) path each h c =
+      by (contains_cases (held_as z) (map (held_within z.name) own ++ others) h c)
+      (λ o co. held_stands within (path ++ z.name ∷ []) (λ p cp. step_in path z (tree_at sources z.type_name) k refl (each z (contains_here z rest)) inner here p cp) o co)
+      (λ d. held_stands more path (λ p cp. each p (contains_later z rest p cp)) h d)
+    where
+      below : (o : Held) → Stands (path ++ z.name ∷ []) o → Stands path (held_within z.name o)
+      below o st = subst (λ (q : Path). StandsAs sources s q o.kind o.typed) (append_assoc path (z.name ∷ []) o.path) st
+
+      by_part : Contains (map (held_within z.name) own) h ⊎ Contains others h → ((o : Held) → Contains own o → Stands (path ++ z.name ∷ []) o) → (Contains others h → Stands path h) → Stands path h
+      by_part (inl d) deeper later =
+          let o = origin_in_map (held_within z.name) own h d in
+          subst (λ (w : Held). Stands path w) o.gives (below o.origin (deeper o.origin o.among))
+      by_part (inr d) deeper later = later d
+
+      by : (held_as z ≡ h) ⊎ Contains (map (held_within z.name) own ++ others) h → ((o : Held) → Contains own o → Stands (path ++ z.name ∷ []) o) → (Contains others h → Stands path h) → Stands path h
+      by (inl same) deeper later = subst (λ (w : Held). Stands path w) same (each z (contains_here z rest))
+      by (inr d) deeper later = by_part (Contains-append_cases (map (held_within z.name) own) others h d) deeper later
+
+-- ---- flat networks
+
+-- a leaf is held as a block
+record IsLeaf (held : List Held) (b : FlatBlock) : Type 0 where
+  path : Path
+  listed : Contains held (record { path = path; kind = Block; typed = b.type_name })
+  place : printed path ≡ b.path
+
+leaf_origin : (held : List Held) (b : FlatBlock) → Contains (leaves_of held) b → IsLeaf held b
+leaf_origin [] b c = absurd (contains_nothing b c)
+leaf_origin (h ∷ hs) b c = by h.kind refl c (leaf_origin hs b)
+  where
+    later : IsLeaf hs b → IsLeaf (h ∷ hs) b
+    later o = record { path = o.path; listed = contains_later h hs _ o.listed; place = o.place }
+
+    here : h.kind ≡ Block → (let it : FlatBlock = record { path = printed h.path; type_name = h.typed } in it) ≡ b → IsLeaf (h ∷ hs) b
+    here k same =
+        let is : h ≡ record { path = h.path; kind = Block; typed = b.type_name } = (λ i. record { path = h.path; kind = k i; typed = (same i).type_name }) in
+        record { path = h.path; listed = subst (λ (w : Held). Contains (h ∷ hs) w) is (contains_here h hs); place = ap (λ (w : FlatBlock). w.path) same }
+
+    by : (k : InstanceKind) → h.kind ≡ k → Contains (leaf_first k h (leaves_of hs)) b → (Contains (leaves_of hs) b → IsLeaf hs b) → IsLeaf (h ∷ hs) b
+    by Block k d more = elim (contains_cases (record { path = printed h.path; type_name = h.typed }) (leaves_of hs) b d) [
+      | inl same ↦ here k same
+      | inr e ↦ later (more e)
+    ]
+    by Subapplication k d more = later (more d)
+
+-- the flat network of an application, and the application of a flat network
+record IsPair (view : View) (applications : List Application) (flats : List FlatApplication) (a : Application) (f : FlatApplication) : Type 0 where
+  application_listed : Contains applications a
+  flat_listed : Contains flats f
+  is : IsFlatApplication view a f
+
+later_pair : {view : View} {applications : List Application} {flats : List FlatApplication} {a : Application} {f : FlatApplication} (z : Application) (y : FlatApplication) → IsPair view applications flats a f → IsPair view (z ∷ applications) (y ∷ flats) a f
+later_pair {applications = applications} {flats = flats} {a = a} {f = f} z y p = record { application_listed = contains_later z applications a p.application_listed; flat_listed = contains_later y flats f p.flat_listed; is = p.is }
+
+flat_of : {view : View} {applications : List Application} {flats : List FlatApplication} → AreFlatApplications view applications flats → (a : Application) → Contains applications a → (f : FlatApplication) × IsPair view applications flats a f
+flat_of NoApplication a c = absurd (contains_nothing a c)
+flat_of {view = view} (ThenApplication {rest = rest} {others = others} z y is more) a c = by (contains_cases z rest a c) (λ d. flat_of more a d)
+  where
+    by : (z ≡ a) ⊎ Contains rest a → (Contains rest a → (f : FlatApplication) × IsPair view rest others a f) → (f : FlatApplication) × IsPair view (z ∷ rest) (y ∷ others) a f
+    by (inl same) later = (y, subst (λ (w : Application). IsPair view (z ∷ rest) (y ∷ others) w y) same (record { application_listed = contains_here z rest; flat_listed = contains_here y others; is = is }))
+    by (inr d) later = let p = later d in (p.0, later_pair z y p.1)
+
+application_of : {view : View} {applications : List Application} {flats : List FlatApplication} → AreFlatApplications view applications flats → (f : FlatApplication) → Contains flats f → (a : Application) × IsPair view applications flats a f
+application_of NoApplication f c = absurd (contains_nothing f c)
+application_of {view = view} (ThenApplication {rest = rest} {others = others} z y is more) f c = by (contains_cases y others f c) (λ d. application_of more f d)
+  where
+    by : (y ≡ f) ⊎ Contains others f → (Contains others f → (a : Application) × IsPair view rest others a f) → (a : Application) × IsPair view (z ∷ rest) (y ∷ others) a f
+    by (inl same) later = (z, subst (λ (w : FlatApplication). IsPair view (z ∷ rest) (y ∷ others) z w) same (record { application_listed = contains_here z rest; flat_listed = contains_here y others; is = is }))
+    by (inr d) later = let p = later d in (p.0, later_pair z y p.1)
+
+-- ---- the blocks of the system
+
+-- what stands at the path of a block
+pub record BlockStands (sources : Sources) (s : SystemTree) (b : FlatBlock) : Type 0 where
+  pub path : Path
+  pub instance : InstanceTree
+  pub at : IsAtPath sources s path instance
+  pub is_block : instance.role ≡ roles.Block
+  pub of_type : instance.type_name.name ≡ b.type_name
+  pub place : with_points path ≡ b.path
+
+-- the flat network has the blocks that stand at paths, and no others
+pub record BlocksStand (sources : Sources) (s : SystemTree) (flat : PlainFlat) : Type 0 where
+  pub listed : (path : Path) (i : InstanceTree) → IsAtPath sources s path i → i.role ≡ roles.Block → Contains flat.blocks (record { path = with_points path; type_name = i.type_name.name })
+  pub stands : (b : FlatBlock) → Contains flat.blocks b → BlockStands sources s b
+
+abbrev tail_of : Path → Path
+tail_of [] = []
+tail_of (x ∷ xs) = xs
+
+printed_next : (x : List ℕ) (q : Path) (y : List ℕ) (ys : Path) → q ≡ y ∷ ys → printed (x ∷ q) ≡ dotted x (printed q)
+printed_next x q y ys e = ap (λ (w : Path). printed (x ∷ w)) e ∙ ap (λ (w : Path). dotted x (printed w)) (sym e)
+
+module _ (sources : Sources) (s : SystemTree) (flats : List FlatApplication) (flat : PlainFlat) (are : AreFlatApplications (declared sources) (map plain_application s.applications) flats) (whole : IsSystemFlat flats flat) where
+  listed_in : (path : Path) (i : InstanceTree) → IsAtPath sources s path i → i.role ≡ roles.Block → Contains flat.blocks (record { path = with_points path; type_name = i.type_name.name })
+  listed_in path i at role =
+      let o = held_in sources s path i at in
+      let p = flat_of are (plain_application o.application) (contains_map plain_application s.applications o.application o.listed) in
+      let net = p.1.is.net.blocks in
+      let it : FlatBlock = record { path = printed (o.first ∷ o.others); type_name = i.type_name.name } in
+      let leaf = leaf_listed net.held (o.first ∷ o.others) i.type_name.name (o.held Block role net.held net.instances) in
+      let own : Contains p.0.flat.blocks it = subst (λ (l : List FlatBlock). Contains l it) (sym net.blocks_are) leaf in
+      let place : dotted p.0.name it.path ≡ with_points path = ap (λ (n : List ℕ). dotted n it.path) p.1.is.name ∙ sym (ap with_points o.is_path ∙ same_print (o.application.name.name ∷ o.first ∷ o.others)) in
+      subst (λ (l : List FlatBlock). Contains l (record { path = with_points path; type_name = i.type_name.name })) (sym whole.blocks)
+      (subst (λ (t : List ℕ). Contains (flat_map application_blocks flats) (record { path = t; type_name = i.type_name.name })) place
+      (contains_flat_map application_blocks flats p.0 (block_within p.0.name it) p.1.flat_listed (contains_map (block_within p.0.name) p.0.flat.blocks it own)))
+
+  -- the instances of an application
+  each_in : (a : ApplicationTree) → Contains s.applications a → (p : Instance) → Contains (plain_application a).network.instances p → StandsAs sources s ((a.name.name ∷ []) ++ p.name ∷ []) p.kind p.type_name
+  each_in a c p cp =
+      let g = given plain_instance a.network.instances p cp in
+      let t = of_tree g.origin p g.gives in
+      record {
+        instance = g.origin;
+        at = subst (λ (n : List ℕ). IsAtPath sources s (a.name.name ∷ n ∷ []) g.origin) t.named (in_application a g.origin c g.among);
+        in_role = t.in_role;
+        of_type = t.typed;
+      }
+
+  block_stands : (b : FlatBlock) → Contains flat.blocks b → BlockStands sources s b
+  block_stands b c =
+      let f = origin_in_flat_map application_blocks flats b (subst (λ (l : List FlatBlock). Contains l b) whole.blocks c) in
+      let o = origin_in_map (block_within f.origin.name) f.origin.flat.blocks b f.has in
+      let p = application_of are f.origin f.among in
+      let t = origin_in_map plain_application s.applications p.0 p.1.application_listed in
+      let net = p.1.is.net.blocks in
+      let leaf = leaf_origin net.held o.origin (subst (λ (l : List FlatBlock). Contains l o.origin) net.blocks_are o.among) in
+      let own = subst (λ (a : Application). AreInstances (declared sources) a.network.instances net.held) (sym t.gives) net.instances in
+      let name = t.origin.name.name in
+      let stands = held_stands sources s own (name ∷ []) (each_in t.origin t.among) (record { path = leaf.path; kind = Block; typed = o.origin.type_name }) leaf.listed in
+      let there = held_in sources s (name ∷ leaf.path) stands.instance stands.at in
+      let named : name ≡ f.origin.name = ap (λ (a : Application). a.name) t.gives ∙ sym p.1.is.name in
+      record {
+        path = name ∷ leaf.path;
+        instance = stands.instance;
+        at = stands.at;
+        is_block = stands.in_role;
+        of_type = stands.of_type ∙ ap (λ (w : FlatBlock). w.type_name) o.gives;
+        place =
+            same_print (name ∷ leaf.path) ∙ printed_next name leaf.path there.first there.others (ap tail_of there.is_path)
+            ∙ (λ i. dotted (named i) (leaf.place i)) ∙ ap (λ (w : FlatBlock). w.path) o.gives;
+      }
+
+  blocks_stand : BlocksStand sources s flat
+  blocks_stand = record { listed = listed_in; stands = block_stands }
+
+pub system_blocks : (sources : Sources) (unit : List ℕ) (s : SystemTree) (flat : PlainFlat) → IsSystemAt sources unit s → HasFlat sources unit flat → BlocksStand sources s flat
+system_blocks sources unit s flat is net = by net.2
+  where
+    by : IsUnitFlat sources unit flat → BlocksStand sources s flat
+    by (OfSubapplication network kind there own) = absurd (let no = sym (ap (option_map unit_kind_of) is) ∙ kind in cc)
+    by (OfSystem applications flats kind there are whole) =
+        let same : map plain_application s.applications ≡ applications = (let e = sym (ap (option_map applications_of) is) ∙ there in cc) in
+        blocks_stand sources s flats flat (subst (λ (l : List Application). AreFlatApplications (declared sources) l flats) (sym same) are) whole

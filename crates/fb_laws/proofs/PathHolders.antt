@@ -1,0 +1,144 @@
+-- The units whose texts have what stands at the paths of a sound system: these have no faults, so each name stands for one instance of theirs.
+use Rattle.std.proofs.Common.{◌≡◌, ◌≢◌, ℕ, Bool, true, false, cond, List, [], ◌∷◌, ◌++◌, Option, Some, refl, sym, ◌∙◌, subst, true≢false}
+use Rattle.std.specs.Prelude.{Contains, find, map, option_map}
+use Rattle.std.specs.List.{flat_map}
+use Rattle.std.specs.Str.{bytes_eq}
+use Rattle.std.specs.Cmp.Lexicographic.{nat_list_cmp_total}
+use Rattle.std.specs.FinMap.{nat_cmp-IsAntisymmetric, slice_cmp-IsAntisymmetric}
+use Rattle.std.proofs.lemmas.List.Elements.{Contains-append_left, Contains-append_right}
+use Rattle.fb_text.specs.declared.name.NameUse.{NameUse}
+use Rattle.fb_text.specs.Order.{name_cmp}
+use Rattle.fb_text.proofs.OrderLemmas.{in_order-members}
+use Rattle.fb_text.proofs.Members.{contains_flat_map, contains_here, contains_later, contains_map, contains_nothing, origin_in_flat_map}
+use Rattle.fb_tree.specs.Mentions.{instance_types, types_in, unit_kind_of}
+use Rattle.fb_tree.specs.Tree.{ApplicationTree, DeclTree, DeviceTree, InstanceTree, SystemTree, TypeTree, block_type, adapter_type, subapplication_type, system_configuration, structure_type}
+use Rattle.fb_tree.specs.declared.kinds.UnitKind.TheVariants as kinds
+use Rattle.fb_tree.specs.declared.network.Role.{Role}
+use Rattle.fb_tree.specs.declared.network.Role.TheVariants as roles
+use Rattle.fb_deploy.specs.Library.Rests.{PartRests, on_itself}
+use Rattle.fb_deploy.specs.Library.View.{Sources, parts_at, parts_in, tree_at}
+use Rattle.fb_deploy.specs.Iface.Names.{is_same, stands_for}
+use Rattle.fb_deploy.specs.Iface.Spaces.{chart_spaces, interface_spaces, network_spaces, resource_names}
+use Rattle.fb_deploy.specs.Iface.Types.{instances_of, suits}
+use Rattle.fb_deploy.specs.Iface.declared.code.Code.TheVariants.{WrongKind}
+use Rattle.fb_deploy.specs.Iface.declared.fault.Fault.{Fault}
+use Rattle.fb_deploy.specs.Flatten.Net.{IsSound}
+use Rattle.fb_deploy.specs.Flatten.Nothing.{HasNoReport}
+use Rattle.fb_deploy.proofs.Iface.NameLemmas.{same_exact, same_itself}
+use Rattle.fb_deploy.proofs.Library.Locality.{parts_more}
+use Rattle.fb_deploy.proofs.Flatten.ComputedNets.{unit_faultless}
+use Rattle.fb_deploy.proofs.Flatten.NameLemmas.{AreApart, apart, distinct, stands_for_itself}
+use Rattle.fb_deploy.proofs.Flatten.NothingLemmas.{nothing_reported}
+use Rattle.fb_deploy.proofs.Flatten.SoundLemmas.{sound_below}
+use Rattle.fb_placing.specs.Firsts.{first_at}
+use Rattle.fb_laws.specs.Mappings.{IsSystemAt}
+use Rattle.fb_laws.specs.Paths.{IsAtPath, in_application, inside}
+use Rattle.fb_laws.proofs.DeclarationRows.{wrong_kinds}
+use Rattle.fb_laws.proofs.HomeLemmas.{bytes_same, same_bytes}
+
+-- ---- names that stand once
+
+same_found : {X Y : Type 0} (key : X → NameUse) (value : X → Y) (xs : List X) (name : List ℕ) → first_at (λ (x : X). (key x).name) value xs name ≡ stands_for (map (λ (x : X). ((key x).name, value x)) xs) name
+same_found key value [] name = refl
+same_found {X = X} {Y = Y} key value (z ∷ xs) name = by (bytes_eq (key z).name name) (is_same (key z).name name) refl refl (same_found key value xs name)
+  where
+    by : (b c : Bool) → bytes_eq (key z).name name ≡ b → is_same (key z).name name ≡ c → first_at (λ (x : X). (key x).name) value xs name ≡ stands_for (map (λ (x : X). ((key x).name, value x)) xs) name → option_map value (cond b (Some z) (find (λ (x : X). bytes_eq (key x).name name) xs)) ≡ cond c (Some (value z)) (stands_for (map (λ (x : X). ((key x).name, value x)) xs) name)
+    by true true e g h = refl
+    by false false e g h = h
+    by true false e g h = absurd (true≢false (sym (same_itself (key z).name name (same_bytes (key z).name name e)) ∙ g))
+    by false true e g h = absurd (true≢false (sym (bytes_same (key z).name name (same_exact (key z).name name g)) ∙ e))
+
+-- an item is the first of its name
+pub first_own : {X Y : Type 0} (key : X → NameUse) (value : X → Y) (xs : List X) → AreApart (map key xs) → (x : X) → Contains xs x → first_at (λ (y : X). (key y).name) value xs (key x).name ≡ Some (value x)
+first_own key value xs own x c = same_found key value xs (key x).name ∙ stands_for_itself key value xs (distinct key value xs own) x c
+
+-- ---- units
+
+-- the unit whose text has the instance
+pub record Holder (sources : Sources) (unit : List ℕ) (i : InstanceTree) : Type 0 where
+  pub name : List ℕ
+  pub below : PartRests sources unit name
+  pub tree : DeclTree
+  pub declared : tree_at sources name ≡ Some tree
+  pub among : Contains (instances_of tree) i
+
+type_among : (tree : DeclTree) (i : InstanceTree) → Contains (instances_of tree) i → Contains (instance_types tree) i.type_name.name
+type_among (block_type d) i c = contains_map (λ (j : InstanceTree). j.type_name.name) d.network.instances i c
+type_among (adapter_type d) i c = contains_map (λ (j : InstanceTree). j.type_name.name) d.network.instances i c
+type_among (subapplication_type d) i c = contains_map (λ (j : InstanceTree). j.type_name.name) d.network.instances i c
+type_among (system_configuration s) i c =
+    let o = origin_in_flat_map (λ (a : ApplicationTree). a.network.instances) s.applications i c in
+    contains_flat_map (λ (a : ApplicationTree). types_in a.network.instances) s.applications o.origin i.type_name.name o.among
+    (contains_map (λ (j : InstanceTree). j.type_name.name) o.origin.network.instances i o.has)
+type_among (structure_type s) i c = absurd (contains_nothing i c)
+
+part_among : (sources : Sources) (name : List ℕ) (tree : DeclTree) (i : InstanceTree) → tree_at sources name ≡ Some tree → Contains (instances_of tree) i → Contains (parts_at sources name) i.type_name.name
+part_among sources name tree i declared c =
+    subst (λ (o : Option DeclTree). Contains (parts_in o) i.type_name.name) (sym declared)
+    ((in_order-members name_cmp nat_list_cmp_total (slice_cmp-IsAntisymmetric nat_cmp-IsAntisymmetric) (instance_types tree) i.type_name.name).1 (type_among tree i c))
+
+-- and the unit rests on the type of the instance
+pub type_below : (sources : Sources) (unit : List ℕ) (i : InstanceTree) → Holder sources unit i → PartRests sources unit i.type_name.name
+type_below sources unit i h = parts_more h.below (part_among sources h.name h.tree i h.declared h.among)
+
+pub holder_of : (sources : Sources) (unit : List ℕ) (s : SystemTree) → IsSystemAt sources unit s → (path : List (List ℕ)) (i : InstanceTree) → IsAtPath sources s path i → Holder sources unit i
+holder_of sources unit s is path end (in_application a i ca ci) =
+    record { name = unit; below = on_itself; tree = system_configuration s; declared = is; among = contains_flat_map (λ (x : ApplicationTree). x.network.instances) s.applications a i ca ci }
+holder_of sources unit s is path end (inside {path = before} {outer = outer} type i at role there ci) =
+    let h = holder_of sources unit s is before outer at in
+    record { name = outer.type_name.name; below = type_below sources unit outer h; tree = subapplication_type type; declared = there; among = ci }
+
+module _ (sources : Sources) (unit : List ℕ) (sound : IsSound sources unit) where
+  -- a unit that it rests on has no faults
+  pub no_report : (name : List ℕ) → PartRests sources unit name → HasNoReport sources name
+  no_report name below = nothing_reported sources name (unit_faultless sources name (sound_below sound name below))
+
+  -- the names of the instances of such a type
+  pub type_apart : (name : List ℕ) (d : TypeTree) → PartRests sources unit name → tree_at sources name ≡ Some (subapplication_type d) → AreApart (map (λ (i : InstanceTree). i.name) d.network.instances)
+  type_apart name d below there =
+      let names = map (λ (i : InstanceTree). i.name) d.network.instances in
+      apart sources name (subapplication_type d) names (no_report name below).declarations there
+      (Contains-append_right (interface_spaces d.interface ++ chart_spaces d.chart) (network_spaces d.network) names (contains_here names _))
+
+  -- an instance whose type is a subapplication is one
+  fits : (i : InstanceTree) → Holder sources unit i → (type : DeclTree) → tree_at sources i.type_name.name ≡ Some type → suits i.role (unit_kind_of type) ≡ true
+  fits i h type there = by (suits i.role (unit_kind_of type)) refl
+    where
+      fault : Fault
+      fault = record { code = WrongKind; span = i.type_name.span }
+
+      by : (b : Bool) → suits i.role (unit_kind_of type) ≡ b → b ≡ true
+      by true e = refl
+      by false e =
+          let has = (wrong_kinds sources h.name i.type_name.span).1 (record { decl = h.tree; declared = h.declared; instance = i; among = h.among; type = type; known = there; unsuited = e; place = refl }) in
+          absurd (contains_nothing fault (subst (λ (l : List Fault). Contains l fault) (no_report h.name h.below).declarations has))
+
+  subapplication_role : (role : Role) → suits role kinds.Subapplication ≡ true → role ≡ roles.Subapplication
+  subapplication_role roles.Plug e = absurd (true≢false (sym e))
+  subapplication_role roles.Socket e = absurd (true≢false (sym e))
+  subapplication_role roles.Block e = absurd (true≢false (sym e))
+  subapplication_role roles.Subapplication e = refl
+
+  pub is_subapplication : (i : InstanceTree) → Holder sources unit i → (d : TypeTree) → tree_at sources i.type_name.name ≡ Some (subapplication_type d) → i.role ≡ roles.Subapplication
+  is_subapplication i h d there = subapplication_role i.role (fits i h (subapplication_type d) there)
+
+  module _ (s : SystemTree) (is : IsSystemAt sources unit s) where
+    abbrev front : List (List NameUse)
+    front = map (λ (x : ApplicationTree). x.name) s.applications ∷ flat_map (λ (x : ApplicationTree). network_spaces x.network) s.applications
+
+    abbrev behind : List (List NameUse)
+    behind = map (λ (d : DeviceTree). d.name) s.devices ∷ map resource_names s.devices
+
+    space_apart : (names : List NameUse) → Contains front names → AreApart names
+    space_apart names c = apart sources unit (system_configuration s) names (no_report unit on_itself).declarations is (Contains-append_left front behind names c)
+
+    pub applications_apart : AreApart (map (λ (a : ApplicationTree). a.name) s.applications)
+    applications_apart =
+        space_apart (map (λ (a : ApplicationTree). a.name) s.applications) (contains_here (map (λ (a : ApplicationTree). a.name) s.applications) (flat_map (λ (x : ApplicationTree). network_spaces x.network) s.applications))
+
+    pub instances_apart : (a : ApplicationTree) → Contains s.applications a → AreApart (map (λ (i : InstanceTree). i.name) a.network.instances)
+    instances_apart a c =
+        let names = map (λ (i : InstanceTree). i.name) a.network.instances in
+        space_apart names
+        (contains_later (map (λ (x : ApplicationTree). x.name) s.applications) (flat_map (λ (x : ApplicationTree). network_spaces x.network) s.applications) names
+        (contains_flat_map (λ (x : ApplicationTree). network_spaces x.network) s.applications a names c (contains_here names _)))

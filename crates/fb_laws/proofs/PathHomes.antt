@@ -1,0 +1,144 @@
+-- The home of what stands at a path is the resource of the nearest mapping of it or above it.
+use Rattle.std.proofs.Common.{◌≡◌, ◌≢◌, ℕ, ◌<◌, Bool, true, false, cond, length, List, [], ◌∷◌, ◌++◌, Option, Some, None, ◌⊎◌, inl, inr, refl, sym, ap, ◌∙◌, subst, append_assoc, append-nil, arith}
+use Rattle.std.specs.Prelude.{Contains, find, option_map}
+use Rattle.std.specs.Str.{bytes_eq}
+use native.Mathlib.Decide.{dec_lt}
+use Rattle.fb_text.proofs.Members.{contains_cases, contains_here, contains_nothing}
+use Rattle.std.proofs.lemmas.List.Elements.{Contains-append_right}
+use Rattle.fb_text.specs.declared.token.Span.{Span}
+use Rattle.fb_tree.specs.Tree.{MappingTree, SystemTree}
+use Rattle.fb_deploy.specs.Library.Rests.{on_itself}
+use Rattle.fb_deploy.specs.Library.View.{Sources}
+use Rattle.fb_deploy.specs.Iface.declared.code.Code.TheVariants.{MappedTwice}
+use Rattle.fb_deploy.specs.Iface.declared.fault.Fault.{Fault}
+use Rattle.fb_deploy.specs.Flatten.Net.{IsSound}
+use Rattle.fb_placing.specs.Fronts.{IsFront, IsNearest}
+use Rattle.fb_placing.specs.Mappings.{mapping_home, mapping_path, resource_at}
+use Rattle.fb_laws.specs.Mappings.{IsSystemAt, place_of_path}
+use Rattle.fb_laws.specs.Paths.{IsAbove, IsMappedTo, path_of, with_points}
+use Rattle.fb_laws.proofs.HomeLemmas.{bytes_same, same_bytes}
+use Rattle.fb_laws.proofs.MappingRows.{own_paths}
+use Rattle.fb_laws.proofs.PathHolders.{no_report}
+use Rattle.fb_laws.proofs.PathNames.{mapping_plain}
+use Rattle.fb_laws.proofs.PathStanding.{found_in}
+use Rattle.fb_laws.proofs.PathTexts.{ArePlain, front_has_name, front_of, goes_on, longer_text, longer_text_by, same_names, same_print, split_paths}
+
+abbrev Path : Type 0
+Path = List (List ℕ)
+
+-- where a member stands
+split_of : {X : Type 0} (xs : List X) (x : X) → Contains xs x → (before : List X) × (after : List X) × (xs ≡ before ++ x ∷ after)
+split_of [] x c = absurd (contains_nothing x c)
+split_of {X = X} (z ∷ zs) x c = by (contains_cases z zs x c) (λ d. split_of zs x d)
+  where
+    by : (z ≡ x) ⊎ Contains zs x → (Contains zs x → (before : List X) × (after : List X) × (zs ≡ before ++ x ∷ after)) → (before : List X) × (after : List X) × (z ∷ zs ≡ before ++ x ∷ after)
+    by (inl same) more = ([], zs, ap (λ (w : X). w ∷ zs) same)
+    by (inr d) more = let o = more d in (z ∷ o.0, o.1, ap (λ (l : List X). z ∷ l) o.2)
+
+module _ (sources : Sources) (unit : List ℕ) (s : SystemTree) (is : IsSystemAt sources unit s) (sound : IsSound sources unit) where
+  -- ---- each mapping has its own path
+
+  not_again : (before after : List MappingTree) (first again : MappingTree) → s.mappings ≡ before ++ again ∷ after → Contains before first → path_of first ≡ path_of again → ⊥
+  not_again before after first again listed earlier same =
+      let span : Span = place_of_path again.path in
+      let fault : Fault = record { code = MappedTwice; span = span } in
+      let has = (own_paths sources unit span).1 (record { system = s; declared = is; before = before; again = again; after = after; listed = listed; first = first; earlier = earlier; same = same; place = refl }) in
+      contains_nothing fault (subst (λ (l : List Fault). Contains l fault) (no_report sources unit sound unit on_itself).mappings has)
+
+  text_names : (a b : MappingTree) → Contains s.mappings a → Contains s.mappings b → mapping_path a ≡ mapping_path b → path_of a ≡ path_of b
+  text_names a b ca cb e =
+      same_names (path_of a) (path_of b) (mapping_plain sources unit s is a ca) (mapping_plain sources unit s is b cb)
+      (same_print (path_of a) ∙ e ∙ sym (same_print (path_of b)))
+
+  first_among : (xs before : List MappingTree) → s.mappings ≡ before ++ xs → (m : MappingTree) → Contains xs m → resource_at xs (mapping_path m) ≡ Some (mapping_home m)
+  first_among [] before e m c = absurd (contains_nothing m c)
+  first_among (z ∷ zs) before e m c =
+      by (bytes_eq (mapping_path z) (mapping_path m)) refl (contains_cases z zs m c)
+      (λ d. first_among zs (before ++ z ∷ []) (e ∙ sym (append_assoc before (z ∷ []) zs)) m d)
+    where
+      listed : (y : MappingTree) → Contains (z ∷ zs) y → Contains s.mappings y
+      listed y d = subst (λ (l : List MappingTree). Contains l y) (sym e) (Contains-append_right before (z ∷ zs) y d)
+
+      -- it stands behind one with the same path
+      again : Contains zs m → mapping_path z ≡ mapping_path m → ⊥
+      again d same =
+          let o = split_of zs m d in
+          not_again (before ++ z ∷ o.0) o.1 z m (e ∙ ap (λ (l : List MappingTree). before ++ z ∷ l) o.2 ∙ sym (append_assoc before (z ∷ o.0) (m ∷ o.1)))
+          (Contains-append_right before (z ∷ o.0) z (contains_here z o.0))
+          (text_names z m (listed z (contains_here z zs)) (listed m c) same)
+
+      by : (b : Bool) → bytes_eq (mapping_path z) (mapping_path m) ≡ b → (z ≡ m) ⊎ Contains zs m → (Contains zs m → resource_at zs (mapping_path m) ≡ Some (mapping_home m)) → option_map mapping_home (cond b (Some z) (find (λ (y : MappingTree). bytes_eq (mapping_path y) (mapping_path m)) zs)) ≡ Some (mapping_home m)
+      by true t (inl same) more = ap (λ (y : MappingTree). Some (mapping_home y)) same
+      by true t (inr d) more = absurd (again d (same_bytes (mapping_path z) (mapping_path m) t))
+      by false t (inl same) more = absurd (let yes = bytes_same (mapping_path z) (mapping_path m) (ap mapping_path same) in cc)
+      by false t (inr d) more = more d
+
+  -- the resource under the path of a mapping
+  pub mapped_there : (m : MappingTree) → Contains s.mappings m → resource_at s.mappings (mapping_path m) ≡ Some (mapping_home m)
+  mapped_there m c = first_among s.mappings [] refl m c
+
+  -- ---- a path
+
+  module _ (path : Path) (some : path ≢ []) (plain : ArePlain path) where
+    pub above_front : (m : MappingTree) → IsAbove m path → IsFront (mapping_path m) (with_points path)
+    above_front m h =
+        subst (λ (p : Path). IsFront (mapping_path m) (with_points p)) (sym h.goes_on)
+        (subst (λ (t : List ℕ). IsFront t (with_points (path_of m ++ h.inner))) (same_print (path_of m)) (front_of (path_of m) h.inner h.written))
+
+    front_above : (m : MappingTree) → Contains s.mappings m → path_of m ≢ [] → IsFront (mapping_path m) (with_points path) → IsAbove m path
+    front_above m c written front =
+        let o = goes_on (path_of m) path written some (mapping_plain sources unit s is m c) plain (subst (λ (t : List ℕ). IsFront t (with_points path)) (sym (same_print (path_of m))) front) in
+        record { written = written; inner = o.0; goes_on = o.1 }
+
+    text_length : (m : MappingTree) → length (mapping_path m) ≡ length (with_points (path_of m))
+    text_length m = ap length (sym (same_print (path_of m)))
+
+    -- a longer text that stands in front of the path is no mapping's
+    none_longer : (r : List ℕ) (h : IsMappedTo s path r) (other : List ℕ) → IsFront other (with_points path) → length (mapping_path h.mapping) < length other → (o : Option (List ℕ)) → resource_at s.mappings other ≡ o → resource_at s.mappings other ≡ None
+    none_longer r h other front longer None e = e
+    none_longer r h other front longer (Some q) e =
+        let f = found_in mapping_path mapping_home s.mappings other q e in
+        let m = f.item in
+        let there : IsFront (mapping_path m) (with_points path) = subst (λ (t : List ℕ). IsFront t (with_points path)) (sym f.named) front in
+        let written : path_of m ≢ [] = λ none. front_has_name path some plain (subst (λ (t : List ℕ). IsFront t (with_points path)) (sym (same_print (path_of m)) ∙ ap with_points none) there) in
+        let above = front_above m f.among written there in
+        let rest = split_paths (path_of m) (path_of h.mapping) above.inner h.above.inner (sym above.goes_on ∙ h.above.goes_on) (h.nearest m f.among above) in
+        let short = longer_text (path_of m) rest.0 in
+        let same = ap (λ (p : Path). length (with_points p)) rest.1 in
+        absurd (omega (arith, longer, ap length f.named, text_length m, text_length h.mapping, short, same))
+
+    pub home_there : (r : List ℕ) → IsMappedTo s path r → IsNearest (resource_at s.mappings) (with_points path) (Some r)
+    home_there r h = (
+      mapping_path h.mapping,
+      above_front h.mapping h.above,
+      mapped_there h.mapping h.listed ∙ ap (λ (q : List ℕ). Some q) h.names,
+      λ other front longer. none_longer r h other front longer (resource_at s.mappings other) refl,
+    )
+
+    pub mapped_to : (r : List ℕ) → IsNearest (resource_at s.mappings) (with_points path) (Some r) → IsMappedTo s path r
+    mapped_to r (front, is_front, has, longer) =
+        let f = found_in mapping_path mapping_home s.mappings front r has in
+        let m = f.item in
+        let there : IsFront (mapping_path m) (with_points path) = subst (λ (t : List ℕ). IsFront t (with_points path)) (sym f.named) is_front in
+        let written : path_of m ≢ [] = λ none. front_has_name path some plain (subst (λ (t : List ℕ). IsFront t (with_points path)) (sym (same_print (path_of m)) ∙ ap with_points none) there) in
+        let above = front_above m f.among written there in
+        record {
+          mapping = m;
+          listed = f.among;
+          above = above;
+          nearest = λ other listed other_above. elim (dec_lt (length (path_of m)) (length (path_of other))) [
+            | Prim.yes below ↦
+                let rest = split_paths (path_of m) (path_of other) above.inner other_above.inner (sym above.goes_on ∙ other_above.goes_on) (omega arith) in
+                let more : rest.0 ≢ [] = λ none. (let same = ap length (rest.1 ∙ ap (λ (p : Path). path_of m ++ p) none ∙ append-nil (path_of m)) in omega (arith, same, below)) in
+                let long = longer_text_by (path_of m) rest.0 written more in
+                let same = ap (λ (p : Path). length (with_points p)) rest.1 in
+                let none = longer (mapping_path other) (above_front other other_above) (omega (arith, long, same, ap length f.named, text_length m, text_length other)) in
+                absurd (let yes = mapped_there other listed in let no : None ≡ Some (mapping_home other) = sym none ∙ yes in cc)
+            | Prim.no above_it ↦ omega arith
+          ];
+          names = f.gives;
+        }
+
+    -- where no mapping is of it or above it
+    pub not_mapped : IsNearest (resource_at s.mappings) (with_points path) None → (m : MappingTree) → Contains s.mappings m → ¬ IsAbove m path
+    not_mapped none m c h = absurd (let no : None ≡ Some (mapping_home m) = sym (none (mapping_path m) (above_front m h)) ∙ mapped_there m c in cc)

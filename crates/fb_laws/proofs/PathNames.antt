@@ -1,0 +1,71 @@
+-- The names of paths: those of the instances of a system, and those of its mappings.
+use Rattle.std.proofs.Common.{◌≢◌, ℕ, List, [], ◌∷◌, ◌++◌}
+use Rattle.std.specs.Prelude.{Contains, map}
+use Rattle.std.specs.List.{flat_map}
+use Rattle.std.proofs.lemmas.List.Elements.{Contains-append_left, Contains-append_right}
+use Rattle.fb_text.specs.declared.name.NameUse.{NameUse}
+use Rattle.fb_text.proofs.Members.{contains_flat_map, contains_here, contains_later, contains_map}
+use Rattle.fb_tree.specs.Tree.{ApplicationTree, InstanceTree, MappingTree, NetworkTree, SystemTree, TypeTree, subapplication_type, system_configuration}
+use Rattle.fb_deploy.specs.Library.View.{Sources}
+use Rattle.fb_laws.specs.Mappings.{IsSystemAt}
+use Rattle.fb_laws.specs.Paths.{IsAtPath, in_application, inside, path_of}
+use Rattle.fb_laws.specs.SpanParts.{Part, application_parts, chart_parts, connection_parts, device_parts, instance_parts, interface_parts, mapping_parts, name_part, network_parts, parameter_parts, tree_parts}
+use Rattle.fb_laws.proofs.PlainNames.{IsPlain, name_in_unit}
+use Rattle.fb_laws.proofs.PathTexts.{ArePlain, plain_more}
+
+-- ---- where names stand in trees
+
+in_network : (n : NetworkTree) (i : InstanceTree) → Contains n.instances i → Contains (network_parts n) (name_part i.name)
+in_network n i c =
+    Contains-append_left (flat_map instance_parts n.instances) (flat_map connection_parts n.connections) (name_part i.name)
+    (contains_flat_map instance_parts n.instances i (name_part i.name) c (contains_here (name_part i.name) (name_part i.type_name ∷ flat_map parameter_parts i.parameters)))
+
+in_type : (d : TypeTree) (p : Part) → Contains (network_parts d.network) p → Contains (tree_parts (subapplication_type d)) p
+in_type d p c =
+    contains_later (name_part d.name) (interface_parts d.interface ++ (network_parts d.network ++ chart_parts d.chart)) p
+    (Contains-append_right (interface_parts d.interface) (network_parts d.network ++ chart_parts d.chart) p (Contains-append_left (network_parts d.network) (chart_parts d.chart) p c))
+
+abbrev behind_applications : SystemTree → List Part
+behind_applications s = flat_map device_parts s.devices ++ flat_map mapping_parts s.mappings
+
+in_application_parts : (s : SystemTree) (a : ApplicationTree) (p : Part) → Contains s.applications a → Contains (application_parts a) p → Contains (tree_parts (system_configuration s)) p
+in_application_parts s a p c h =
+    contains_later (name_part s.name) (flat_map application_parts s.applications ++ behind_applications s) p
+    (Contains-append_left (flat_map application_parts s.applications) (behind_applications s) p (contains_flat_map application_parts s.applications a p c h))
+
+in_mapping_parts : (s : SystemTree) (m : MappingTree) (name : NameUse) → Contains s.mappings m → Contains m.path name → Contains (tree_parts (system_configuration s)) (name_part name)
+in_mapping_parts s m name c h =
+    let p = name_part name in
+    contains_later (name_part s.name) (flat_map application_parts s.applications ++ behind_applications s) p
+    (Contains-append_right (flat_map application_parts s.applications) (behind_applications s) p
+    (Contains-append_right (flat_map device_parts s.devices) (flat_map mapping_parts s.mappings) p
+    (contains_flat_map mapping_parts s.mappings m p c (Contains-append_left (map name_part m.path) (name_part m.device ∷ name_part m.resource ∷ []) p (contains_map name_part m.path name h)))))
+
+-- ---- paths
+
+each_plain : (names : List NameUse) → ((n : NameUse) → Contains names n → IsPlain n.name) → ArePlain (map (λ (n : NameUse). n.name) names)
+each_plain [] h = tt
+each_plain (n ∷ ns) h = (h n (contains_here n ns), each_plain ns (λ m c. h m (contains_later n ns m c)))
+
+module _ (sources : Sources) (unit : List ℕ) (s : SystemTree) (is : IsSystemAt sources unit s) where
+  pub mapping_plain : (m : MappingTree) → Contains s.mappings m → ArePlain (path_of m)
+  mapping_plain m c = each_plain m.path (λ n h. name_in_unit sources unit (system_configuration s) is n (in_mapping_parts s m n c h))
+
+  pub path_plain : (path : List (List ℕ)) (i : InstanceTree) → IsAtPath sources s path i → ArePlain path
+  path_plain path end (in_application a i ca ci) =
+      let parts = in_application_parts s a in
+      let behind = contains_later (name_part a.name) (network_parts a.network) (name_part i.name) (in_network a.network i ci) in
+      let of_a = name_in_unit sources unit (system_configuration s) is a.name (parts (name_part a.name) ca (contains_here (name_part a.name) (network_parts a.network))) in
+      let of_i = name_in_unit sources unit (system_configuration s) is i.name (parts (name_part i.name) ca behind) in
+      (of_a, (of_i, tt))
+  path_plain path end (inside {path = before} {outer = outer} type i at role there ci) =
+      plain_more before i.name.name (path_plain before outer at)
+      (name_in_unit sources outer.type_name.name (subapplication_type type) there i.name (in_type type (name_part i.name) (in_network type.network i ci)))
+
+some_more : (path : List (List ℕ)) (name : List ℕ) → path ++ name ∷ [] ≢ []
+some_more [] name e = cc
+some_more (first ∷ others) name e = cc
+
+pub path_some : (sources : Sources) (s : SystemTree) (path : List (List ℕ)) (i : InstanceTree) → IsAtPath sources s path i → path ≢ []
+path_some sources s path end (in_application a i ca ci) e = cc
+path_some sources s path end (inside {path = before} type i at role there ci) e = some_more before i.name.name e

@@ -1,0 +1,190 @@
+-- Where names lead to in a sound system is what stands at their path.
+use Rattle.std.proofs.Common.{◌≡◌, ◌≢◌, ℕ, Bool, true, false, not, List, [], ◌∷◌, ◌++◌, Option, Some, None, ◌⊎◌, inl, inr, refl, sym, ap, ◌∙◌, subst, append_assoc, append-nil, true≢false}
+use Rattle.std.specs.Prelude.{Contains, find, is_none, option_and_then, option_map}
+use Rattle.std.specs.Option.{option_map_or}
+use Rattle.std.specs.Str.{bytes_eq}
+use Rattle.fb_text.proofs.Members.{contains_nothing, passes_in_find}
+use Rattle.fb_tree.specs.Tree.{ApplicationTree, DeclTree, InstanceTree, SystemTree, block_type, adapter_type, subapplication_type, system_configuration, structure_type}
+use Rattle.fb_tree.specs.declared.network.Role.{Role}
+use Rattle.fb_tree.specs.declared.network.Role.TheVariants as roles
+use Rattle.fb_deploy.specs.Library.View.{Sources, tree_at}
+use Rattle.fb_deploy.specs.Flatten.Net.{IsSound}
+use Rattle.fb_placing.specs.Firsts.{first_at}
+use Rattle.fb_placing.specs.Standing.{PlainStanding, application_called, inner_instances, is_placed, leads_nowhere, standing_among, standing_at, standing_beyond, standing_inside}
+use Rattle.fb_placing.proofs.StandingLemmas.{beyond_nothing}
+use Rattle.fb_laws.specs.Mappings.{IsSystemAt}
+use Rattle.fb_laws.specs.Paths.{IsAtPath, IsOfSomething, in_application, inside, of_application, of_block, of_subapplication}
+use Rattle.fb_laws.proofs.HomeLemmas.{same_bytes}
+use Rattle.fb_laws.proofs.PathHolders.{applications_apart, first_own, holder_of, instances_apart, is_subapplication, type_apart, type_below}
+
+abbrev Path : Type 0
+Path = List (List ℕ)
+
+-- the item that is found under a text
+pub record IsFound {X Y : Type 0} (key : X → List ℕ) (value : X → Y) (xs : List X) (name : List ℕ) (y : Y) : Type 0 where
+  pub item : X
+  pub among : Contains xs item
+  pub named : key item ≡ name
+  pub gives : value item ≡ y
+
+pub found_in : {X Y : Type 0} (key : X → List ℕ) (value : X → Y) (xs : List X) (name : List ℕ) (y : Y) → first_at key value xs name ≡ Some y → IsFound key value xs name y
+found_in {X = X} {Y = Y} key value xs name y e = by (find (λ (x : X). bytes_eq (key x) name) xs) refl e
+  where
+    by : (o : Option X) → find (λ (x : X). bytes_eq (key x) name) xs ≡ o → option_map value o ≡ Some y → IsFound key value xs name y
+    by None f g = absurd (let no : ⊥ = cc in no)
+    by (Some x) f g =
+        let p = passes_in_find (λ (z : X). bytes_eq (key z) name) xs x f in
+        record { item = x; among = p.among; named = same_bytes (key x) name p.passes; gives = cc }
+
+-- ---- from names to what stands there
+
+module _ (sources : Sources) (unit : List ℕ) (s : SystemTree) (is : IsSystemAt sources unit s) (sound : IsSound sources unit) where
+  step_in : (path : Path) (i : InstanceTree) → IsAtPath sources s path i → (name : List ℕ) (j : InstanceTree) (tree : Option DeclTree) → tree_at sources i.type_name.name ≡ tree → Contains (inner_instances tree) j → j.name.name ≡ name → IsAtPath sources s (path ++ name ∷ []) j
+  step_in path i at name j (Some (subapplication_type d)) there c named =
+      let role = is_subapplication sources unit sound i (holder_of sources unit s is path i at) d there in
+      subst (λ (n : List ℕ). IsAtPath sources s (path ++ n ∷ []) j) named (inside d j at role there c)
+  step_in path i at name j None there c named = absurd (contains_nothing j c)
+  step_in path i at name j (Some (block_type d)) there c named = absurd (contains_nothing j c)
+  step_in path i at name j (Some (adapter_type d)) there c named = absurd (contains_nothing j c)
+  step_in path i at name j (Some (system_configuration d)) there c named = absurd (contains_nothing j c)
+  step_in path i at name j (Some (structure_type d)) there c named = absurd (contains_nothing j c)
+
+  next_at : (path : Path) (st : PlainStanding) → IsAtPath sources s path st.instance → (name : List ℕ) (next : PlainStanding) → standing_inside sources name st ≡ Some next → IsAtPath sources s (path ++ name ∷ []) next.instance
+  next_at path st at name next e =
+      let type = st.instance.type_name.name in
+      let f = found_in (λ (i : InstanceTree). i.name.name) (λ (i : InstanceTree). (let it : PlainStanding = record { unit = type; instance = i } in it)) (inner_instances (tree_at sources type)) name next e in
+      subst (λ (i : InstanceTree). IsAtPath sources s (path ++ name ∷ []) i) (ap (λ (t : PlainStanding). t.instance) f.gives)
+      (step_in path st.instance at name f.item (tree_at sources type) refl f.among f.named)
+
+  beyond_at : (names : Path) (path : Path) (st end : PlainStanding) → IsAtPath sources s path st.instance → standing_beyond sources (Some st) names ≡ Some end → IsAtPath sources s (path ++ names) end.instance
+  beyond_at [] path st end at e =
+      let same : st ≡ end = cc in
+      subst (λ (p : Path). IsAtPath sources s p end.instance) (sym (append-nil path)) (subst (λ (t : PlainStanding). IsAtPath sources s path t.instance) same at)
+  beyond_at (name ∷ names) path st end at e = by (standing_inside sources name st) refl e (λ next f. beyond_at names (path ++ name ∷ []) next end (next_at path st at name next f))
+    where
+      by : (o : Option PlainStanding) → standing_inside sources name st ≡ o → standing_beyond sources o names ≡ Some end → ((next : PlainStanding) → standing_inside sources name st ≡ Some next → standing_beyond sources (Some next) names ≡ Some end → IsAtPath sources s ((path ++ name ∷ []) ++ names) end.instance) → IsAtPath sources s (path ++ name ∷ names) end.instance
+      by None f g more = absurd (let none = sym (beyond_nothing sources names) ∙ g in let no : ⊥ = cc in no)
+      by (Some next) f g more = subst (λ (p : Path). IsAtPath sources s p end.instance) (append_assoc path (name ∷ []) names) (more next f g)
+
+  pub lead_to : (a name : List ℕ) (names : Path) (end : PlainStanding) → standing_at sources unit s.applications (a ∷ name ∷ names) ≡ Some end → IsAtPath sources s (a ∷ name ∷ names) end.instance
+  lead_to a name names end e = by_application (application_called s.applications a) refl e
+    where
+      by_instance : (it : ApplicationTree) → Contains s.applications it → it.name.name ≡ a → (o : Option PlainStanding) → standing_among unit it.network.instances name ≡ o → standing_beyond sources o names ≡ Some end → IsAtPath sources s (a ∷ name ∷ names) end.instance
+      by_instance it c named None f g = absurd (let none = sym (beyond_nothing sources names) ∙ g in let no : ⊥ = cc in no)
+      by_instance it c named (Some st) f g =
+          let i = found_in (λ (i : InstanceTree). i.name.name) (λ (i : InstanceTree). (let it : PlainStanding = record { unit = unit; instance = i } in it)) it.network.instances name st f in
+          let here = subst (λ (j : InstanceTree). IsAtPath sources s (it.name.name ∷ i.item.name.name ∷ []) j) (ap (λ (t : PlainStanding). t.instance) i.gives) (in_application it i.item c i.among) in
+          let there : IsAtPath sources s (a ∷ name ∷ []) st.instance = subst (λ (n : List ℕ). IsAtPath sources s (n ∷ name ∷ []) st.instance) named (subst (λ (n : List ℕ). IsAtPath sources s (it.name.name ∷ n ∷ []) st.instance) i.named here) in
+          beyond_at names (a ∷ name ∷ []) st end there g
+
+      by_application : (o : Option ApplicationTree) → application_called s.applications a ≡ o → option_and_then (λ (it : ApplicationTree). standing_beyond sources (standing_among unit it.network.instances name) names) o ≡ Some end → IsAtPath sources s (a ∷ name ∷ names) end.instance
+      by_application None f g = absurd (let no : ⊥ = cc in no)
+      by_application (Some it) f g =
+          let found = found_in (λ (x : ApplicationTree). x.name.name) (λ (x : ApplicationTree). x) s.applications a it f in
+          let named : it.name.name ≡ a = ap (λ (x : ApplicationTree). x.name.name) (sym found.gives) ∙ found.named in
+          by_instance it (subst (λ (x : ApplicationTree). Contains s.applications x) found.gives found.among) named (standing_among unit it.network.instances name) refl g
+
+  -- ---- and back
+
+  beyond_push : (o : Option PlainStanding) (names : Path) (name : List ℕ) → standing_beyond sources o (names ++ name ∷ []) ≡ option_and_then (standing_inside sources name) (standing_beyond sources o names)
+  beyond_push o [] name = refl
+  beyond_push o (first ∷ names) name = beyond_push (option_and_then (standing_inside sources first) o) names name
+
+  -- the application and the names behind it, and where these lead to
+  pub record Leads (path : Path) (i : InstanceTree) : Type 0 where
+    pub application : ApplicationTree
+    pub listed : Contains s.applications application
+    pub first : List ℕ
+    pub others : Path
+    pub is_path : path ≡ application.name.name ∷ first ∷ others
+    pub holder : List ℕ
+    pub leads : standing_beyond sources (standing_among unit application.network.instances first) others ≡ Some (record { unit = holder; instance = i })
+
+  pub leads_at : (path : Path) (i : InstanceTree) → IsAtPath sources s path i → Leads path i
+  leads_at path end (in_application a i ca ci) = record {
+    application = a;
+    listed = ca;
+    first = i.name.name;
+    others = [];
+    is_path = refl;
+    holder = unit;
+    leads = first_own (λ (j : InstanceTree). j.name) (λ (j : InstanceTree). (let it : PlainStanding = record { unit = unit; instance = j } in it)) a.network.instances (instances_apart sources unit sound s is a ca) i ci;
+  }
+  leads_at path end (inside {path = before} {outer = outer} type i at role there ci) =
+      let o = leads_at before outer at in
+      let below = type_below sources unit outer (holder_of sources unit s is before outer at) in
+      let name = outer.type_name.name in
+      let own = first_own (λ (j : InstanceTree). j.name) (λ (j : InstanceTree). (let it : PlainStanding = record { unit = name; instance = j } in it)) type.network.instances (type_apart sources unit sound name type below there) i ci in
+      record {
+        application = o.application;
+        listed = o.listed;
+        first = o.first;
+        others = o.others ++ i.name.name ∷ [];
+        is_path = ap (λ (p : Path). p ++ i.name.name ∷ []) o.is_path;
+        holder = name;
+        leads =
+            beyond_push (standing_among unit o.application.network.instances o.first) o.others i.name.name
+            ∙ ap (option_and_then (standing_inside sources i.name.name)) o.leads
+            ∙ ap (λ (t : Option DeclTree). standing_among name (inner_instances t) i.name.name) there ∙ own;
+      }
+
+  called : (a : ApplicationTree) → Contains s.applications a → application_called s.applications a.name.name ≡ Some a
+  called a c = first_own (λ (x : ApplicationTree). x.name) (λ (x : ApplicationTree). x) s.applications (applications_apart sources unit sound s is) a c
+
+  pub led_to : (path : Path) (i : InstanceTree) → IsAtPath sources s path i → (holder : List ℕ) × (standing_at sources unit s.applications path ≡ Some (record { unit = holder; instance = i }))
+  led_to path i at =
+      let o = leads_at path i at in (
+        o.holder,
+        ap (standing_at sources unit s.applications) o.is_path
+            ∙ ap (option_and_then (λ (it : ApplicationTree). standing_beyond sources (standing_among unit it.network.instances o.first) o.others)) (called o.application o.listed)
+            ∙ o.leads,
+      )
+
+  -- ---- what leads nowhere
+
+  abbrev nowhere : Path → Bool
+  nowhere names = leads_nowhere sources unit s.applications names
+
+  placed_role : (role : Role) → is_placed role ≡ true → (role ≡ roles.Block) ⊎ (role ≡ roles.Subapplication)
+  placed_role roles.Plug e = absurd (true≢false (sym e))
+  placed_role roles.Socket e = absurd (true≢false (sym e))
+  placed_role roles.Block e = inl refl
+  placed_role roles.Subapplication e = inr refl
+
+  not_false : (b : Bool) → not b ≡ false → b ≡ true
+  not_false true e = refl
+  not_false false e = absurd (true≢false e)
+
+  -- names that lead somewhere
+  pub somewhere : (first : List ℕ) (others : Path) → nowhere (first ∷ others) ≡ false → IsOfSomething sources s (first ∷ others)
+  somewhere first [] e = by (application_called s.applications first) refl e
+    where
+      by : (o : Option ApplicationTree) → application_called s.applications first ≡ o → is_none o ≡ false → IsOfSomething sources s (first ∷ [])
+      by None f g = absurd (true≢false g)
+      by (Some it) f g =
+          let found = found_in (λ (x : ApplicationTree). x.name.name) (λ (x : ApplicationTree). x) s.applications first it f in
+          subst (λ (n : List ℕ). IsOfSomething sources s (n ∷ [])) found.named (of_application found.item found.among)
+  somewhere first (name ∷ names) e = by (standing_at sources unit s.applications (first ∷ name ∷ names)) refl e
+    where
+      by_role : (st : PlainStanding) → IsAtPath sources s (first ∷ name ∷ names) st.instance → (st.instance.role ≡ roles.Block) ⊎ (st.instance.role ≡ roles.Subapplication) → IsOfSomething sources s (first ∷ name ∷ names)
+      by_role st at (inl role) = of_block st.instance at role
+      by_role st at (inr role) = of_subapplication st.instance at role
+
+      by : (o : Option PlainStanding) → standing_at sources unit s.applications (first ∷ name ∷ names) ≡ o → option_map_or (λ (t : PlainStanding). not (is_placed t.instance.role)) o true ≡ false → IsOfSomething sources s (first ∷ name ∷ names)
+      by None f g = absurd (true≢false g)
+      by (Some st) f g = by_role st (lead_to first name names st f) (placed_role st.instance.role (not_false (is_placed st.instance.role) g))
+
+  -- a path has two names at least
+  placed_at : (path : Path) (i : InstanceTree) → IsAtPath sources s path i → is_placed i.role ≡ true → nowhere path ≡ false
+  placed_at path i at placed =
+      let o = leads_at path i at in
+      let there = led_to path i at in
+      let long = o.application.name.name ∷ o.first ∷ o.others in
+      let leads : standing_at sources unit s.applications long ≡ Some (record { unit = there.0; instance = i }) = ap (standing_at sources unit s.applications) (sym o.is_path) ∙ there.1 in
+      ap nowhere o.is_path ∙ ap (λ (t : Option PlainStanding). option_map_or (λ (t : PlainStanding). not (is_placed t.instance.role)) t true) leads ∙ ap not placed
+
+  -- and those of something do
+  pub of_something : (path : Path) → IsOfSomething sources s path → nowhere path ≡ false
+  of_something path (of_application a c) = ap (λ (o : Option ApplicationTree). is_none o) (called a c)
+  of_something path (of_block i at role) = placed_at path i at (ap is_placed role)
+  of_something path (of_subapplication i at role) = placed_at path i at (ap is_placed role)

@@ -1,0 +1,86 @@
+-- The names of trees are words: neither a point nor a blank stands in them.
+use Rattle.std.proofs.Common.{◌≡◌, ◌≢◌, ℕ, true, List, [], ◌∷◌, Option, Some, None, Result, Ok, Err, refl, sym, ap, ◌∙◌, subst, arith, true≢false}
+use Rattle.std.specs.Prelude.{Contains, IsOk, codes, map, slice_range}
+use Rattle.std.specs.List.{list_all}
+use Rattle.std.specs.FinMap.{get}
+use Rattle.std.specs.Option.{option_and_then}
+use Rattle.std.proofs.lemmas.Bool.Decides.{nat_tests}
+use Rattle.std.proofs.lemmas.List.Elements.{All-contains}
+use Rattle.fb_text.specs.Bytes.{is_word_start, is_word_byte}
+use Rattle.fb_text.specs.Name.{name_of}
+use Rattle.fb_text.specs.Spelling.{IsName}
+use Rattle.fb_text.specs.Words.{is_word}
+use Rattle.fb_text.specs.declared.name.NameFault.{NameFault}
+use Rattle.fb_text.specs.declared.name.NameUse.{NameUse}
+use Rattle.fb_text.proofs.NameLemmas.{IsName-upper, both, is_word-all, name_of-ok}
+use Rattle.fb_structured_text.specs.Forms.Lexemes.{lexeme_of, name_or, name_use, spelled_name}
+use Rattle.fb_tree.specs.Tree.{DeclTree}
+use Rattle.fb_deploy.specs.Library.View.{Sources, tree_at, tree_in, tree_of}
+use Rattle.fb_deploy.specs.Parse.Body.{BodyTree, BrokenAt, Whole, body_of}
+use Rattle.fb_laws.specs.SpanParts.{name_part, tree_parts}
+use Rattle.fb_laws.specs.Written.{IsWritten}
+use Rattle.fb_laws.proofs.Standing.{name_in, of_token, spelled_word, tree_stands}
+
+-- no byte is a point or a blank
+abbrev pub AllPlain : List ℕ → Type 0
+AllPlain [] = Unit {0}
+AllPlain (b ∷ bs) = (b ≢ 46) × (b ≢ 32) × AllPlain bs
+
+pub record IsPlain (name : List ℕ) : Type 0 where
+  pub some : name ≢ []
+  pub bytes : AllPlain name
+
+no_point : (b : ℕ) → is_word_byte b ≡ true → b ≢ 46
+unfolding is_word_byte
+no_point b h e = grind (arith, nat_tests)
+
+no_blank : (b : ℕ) → is_word_byte b ≡ true → b ≢ 32
+unfolding is_word_byte
+no_blank b h e = grind (arith, nat_tests)
+
+all_plain : (bs : List ℕ) → list_all is_word_byte bs ≡ true → AllPlain bs
+all_plain [] h = tt
+all_plain (b ∷ bs) h = let p = both h in (no_point b p.0, no_blank b p.0, all_plain bs p.1)
+
+plain_name : (name : List ℕ) → IsName name → IsPlain name
+unfolding is_word
+plain_name [] h = absurd (true≢false (sym h.word))
+plain_name (b ∷ bs) h = record { some = λ e. cc; bytes = all_plain (b ∷ bs) (is_word-all (b ∷ bs) h.word) }
+
+underscore : IsName (codes "_")
+unfolding is_word is_word_start
+underscore = record { word = refl; short = omega arith; upper_case = refl }
+
+-- what a token spells is a name, of whatever kind it is
+spelled : (bytes : List ℕ) → IsName (spelled_name bytes)
+spelled bytes = by (name_of bytes) refl
+  where
+    by : (r : Result (List ℕ) NameFault) → name_of bytes ≡ r → IsName (name_or (name_of bytes) (codes "_"))
+    by (Ok name) e =
+        let word = (name_of-ok bytes).0 (subst (λ (r : Result (List ℕ) NameFault). IsOk r) (sym e) refl) in
+        subst IsName (sym (spelled_word bytes (codes "_") word.0 word.1)) (IsName-upper bytes word.0 word.1)
+    by (Err fault) e = subst (λ (r : Result (List ℕ) NameFault). IsName (name_or r (codes "_"))) (sym e) underscore
+
+pub name_in_text : (text : List ℕ) (tree : DeclTree) → body_of text ≡ Whole tree → (name : NameUse) → Contains (tree_parts tree) (name_part name) → IsPlain name.name
+unfolding lexeme_of
+name_in_text text tree is name among =
+    let h = tree_stands text tree is in
+    let lexemes = map (lexeme_of text) h.tokens in
+    let w = All-contains (IsWritten lexemes) (tree_parts tree) (name_part name) h.written among in
+    let found = name_in lexemes w.inside w.before w.behind name w.parts w.spells in
+    let of = of_token text h.tokens found.0 found.1.0 found.1.1 found.1.2 in
+    let bytes = slice_range text of.token.span.start of.token.span.end in
+    let same : name.name ≡ spelled_name bytes = ap (λ (n : NameUse). n.name) (found.3 ∙ ap name_use of.same) in
+    subst IsPlain (sym same) (plain_name (spelled_name bytes) (spelled bytes))
+
+-- the same of the tree of a unit
+pub name_in_unit : (sources : Sources) (unit : List ℕ) (tree : DeclTree) → tree_at sources unit ≡ Some tree → (name : NameUse) → Contains (tree_parts tree) (name_part name) → IsPlain name.name
+name_in_unit sources unit tree is name among = by_text (get sources unit) is
+  where
+    by_body : (text : List ℕ) (body : BodyTree) → body_of text ≡ body → tree_in body ≡ Some tree → IsPlain name.name
+    by_body text (Whole other) e g = let same : other ≡ tree = cc in name_in_text text tree (e ∙ ap (λ (t : DeclTree). Whole t) same) name among
+    by_body text (BrokenAt span) e g = absurd (let no : ⊥ = cc in no)
+
+    by_text : (text : Option (List ℕ)) → option_and_then tree_of text ≡ Some tree → IsPlain name.name
+    by_text None e = absurd (let no : ⊥ = cc in no)
+    by_text (Some text) e = by_body text (body_of text) refl e

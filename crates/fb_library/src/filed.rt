@@ -1,0 +1,82 @@
+//! What is filed under the name of a unit.
+ghost use Rattle.std.specs.Prelude.{◌≡◌, IfOk};
+ghost use Rattle.fb_library.specs.Filed.{filed_text};
+
+use fb_parse::Source;
+use fb_parse::text::Name;
+use std::alloc::{AllocError, Global};
+use std::marker::Model;
+use std::sync::Arc;
+
+/// The text of a unit as a commit put it, without the tree that it spells.
+#[derive(Drop)]
+pub struct Version {
+    pub unit: Name,
+    /// The number of the commit.
+    pub revision: u64,
+    pub text: Arc<String>,
+}
+
+/// What is kept of a unit: its source, and beside it what may be kept longer than that. Both are shared.
+#[derive(Drop)]
+pub struct Filed {
+    version: Arc<Version>,
+    source: Arc<Source>,
+}
+
+impl Model for Filed {
+    ghost use Rattle.fb_library.specs.Texts.{FiledText};
+
+    ghost Value = { FiledText };
+
+    ghost use Rattle.fb_library.specs.Filed.{filed_text, IsOfSource};
+
+    ghost view = { λ it. filed_text it.version.value };
+
+    ghost invariant = { λ it. IsOfSource it.source.value (filed_text it.version.value) };
+}
+
+impl Filed {
+    /// A source that the commit of this number puts.
+    pub(crate) fn new(
+        alloc: Global,
+        revision: u64,
+        source: Arc<Source>,
+    ) -> Result<Filed, AllocError>
+        ensures { IfOk result (λ filed. filed ≡ record {
+          unit = source.value.unit;
+          held = record { revision = revision; text = source.value.text };
+        }) }
+    {
+        let unit = source.unit();
+        let text = source.shared_text().clone()?;
+        let version = Version {
+            unit,
+            revision,
+            text,
+        };
+        let version = Arc::new(alloc, version)?;
+        Ok(Filed { version, source })
+    }
+
+    /// The number of the commit that put it.
+    pub fn revision(&self) -> u64
+        ensures { result ≡ self.now.held.revision }
+    {
+        self.version.revision
+    }
+
+    /// The source, to be shared.
+    pub fn source(&self) -> &Arc<Source>
+        ensures { result.now.value ≡ record { unit = self.now.unit; text = self.now.held.text } }
+    {
+        &self.source
+    }
+
+    /// The text with its revision, to be shared by whoever keeps it without the tree.
+    pub fn version(&self) -> &Arc<Version>
+        ensures { filed_text result.now.value ≡ self.now }
+    {
+        &self.version
+    }
+}

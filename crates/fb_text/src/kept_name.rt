@@ -1,0 +1,106 @@
+//! Names that are kept. Most are short, and take little memory.
+ghost use Rattle.std.specs.Prelude.{◌≡◌, IfOk};
+ghost use Rattle.std.specs.BTreeMap.{is_at};
+ghost use Rattle.fb_text.specs.Order.{name_cmp};
+
+use crate::name::Name;
+use crate::short_name::ShortName;
+use std::alloc::{AllocError, Global};
+use std::marker::Model;
+use std::{fmt, str};
+
+/// A name, in its place where it is short.
+#[derive(Drop)]
+enum Stored {
+    Short(ShortName),
+    Long(Box<Name>),
+}
+
+/// A name that is kept. A contract sees it as the list of its bytes.
+#[derive(Drop)]
+pub struct KeptName {
+    stored: Stored,
+}
+
+impl Model for KeptName {
+    ghost use Rattle.std.specs.Prelude.{List, ℕ};
+
+    ghost Value = { List ℕ };
+
+    ghost use Rattle.fb_text.specs.Kept.{kept_name};
+
+    ghost view = { λ n. kept_name n.stored };
+}
+
+// Each name of a declaration takes so many bytes.
+const _: () = prove!(size_of::<KeptName>() == 24);
+
+impl KeptName {
+    ghost use Rattle.fb_text.specs.Spelling.{IsName};
+
+    /// Keeps a name.
+    pub fn keep(alloc: Global, name: &Name) -> Result<KeptName, AllocError>
+        ensures { IfOk result (λ kept. kept ≡ name.now) }
+    {
+        let stored = match name.shortened() {
+            Some(short) => Stored::Short(short),
+            None => Stored::Long(Box::new(alloc, *name)?),
+        };
+        Ok(KeptName { stored })
+    }
+
+    /// The name.
+    pub fn name(&self) -> Name
+        ensures { result ≡ self.now }
+    {
+        match &self.stored {
+            Stored::Short(name) => name.name(),
+            Stored::Long(name) => **name,
+        }
+    }
+
+    /// The bytes of the name.
+    fn as_bytes(&self) -> &[u8]
+        ensures bytes { result.now ≡ self.now }
+        ensures name { IsName self.now }
+    {
+        match &self.stored {
+            Stored::Short(name) => name.as_bytes(),
+            Stored::Long(name) => name.as_bytes(),
+        }
+    }
+
+    /// The text of the name, in upper case.
+    pub fn as_str(&self) -> &str
+        ensures text { result.now ≡ self.now }
+        ensures name { IsName self.now }
+    {
+        unsafe { str::from_utf8_unchecked(self.as_bytes()) }
+    }
+
+    /// Whether it is this name.
+    #[tactic(auto, using(crate::proofs::OrderLemmas::same_name))]
+    pub fn is(&self, name: &Name) -> bool
+        ensures { result ≡ is_at (name_cmp self.now) name.now }
+    {
+        self.as_bytes() == name.as_bytes()
+    }
+}
+
+impl Clone for KeptName {
+    ghost is_clone = { λ name copy. copy ≡ name };
+
+    fn clone(&self) -> Result<KeptName, AllocError> {
+        let stored = match &self.stored {
+            Stored::Short(name) => Stored::Short(*name),
+            Stored::Long(name) => Stored::Long(name.clone()?),
+        };
+        Ok(KeptName { stored })
+    }
+}
+
+impl fmt::Debug for KeptName {
+    fn fmt<W: fmt::Write>(&self, f: &mut fmt::Formatter<W>) -> fmt::Result {
+        fmt::Debug::fmt(self.as_str(), f)
+    }
+}

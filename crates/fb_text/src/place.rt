@@ -1,0 +1,79 @@
+//! Places in a text, which take less memory than spans.
+ghost use Rattle.std.specs.Prelude.{◌≡◌, ◌<◌};
+
+use crate::token::Span;
+use std::marker::Model;
+
+/// A part of a text that has less than 4 GiB. A contract sees it as the span.
+#[derive(Clone, Copy, Debug, PartialEq, Eq, PartialOrd, Ord)]
+pub struct Place {
+    start: u32,
+    end: u32,
+}
+
+const _: () = prove!(size_of::<Place>() == 8);
+
+impl Model for Place {
+    ghost use Rattle.fb_text.specs.declared.token.Span.{Span};
+
+    ghost Value = { Span };
+
+    ghost view = { λ p. record { start = p.start; end = p.end } };
+
+    ghost inverse = { λ s. record { start = s.start; end = s.end } };
+}
+
+impl Place {
+    /// The span as a place.
+    pub fn of(span: Span) -> Place
+        requires start { span.start < 4294967296 }
+        requires end { span.end < 4294967296 }
+        ensures { result ≡ span }
+    {
+        Place {
+            start: span.start as u32,
+            end: span.end as u32,
+        }
+    }
+
+    /// From a byte up to another.
+    pub fn new(start: u32, end: u32) -> Place
+        ensures { result ≡ record { start = start; end = end } }
+    {
+        Place { start, end }
+    }
+
+    /// The place as a span.
+    pub fn span(self) -> Span
+        ensures { result ≡ self }
+    {
+        Span {
+            start: self.start as usize,
+            end: self.end as usize,
+        }
+    }
+
+    /// Where it begins.
+    pub fn start(self) -> u32
+        ensures { result ≡ self.start }
+    {
+        self.start
+    }
+
+    /// The first byte after it.
+    pub fn end(self) -> u32
+        ensures { result ≡ self.end }
+    {
+        self.end
+    }
+
+    /// From the start of this place to the end of another.
+    pub fn through(self, last: Place) -> Place
+        ensures { result ≡ record { start = self.start; end = last.end } }
+    {
+        Place {
+            start: self.start,
+            end: last.end,
+        }
+    }
+}

@@ -1,0 +1,147 @@
+//! Jobs that take a net of the caller's choice along. What their contract does not let in is told apart before they are made.
+ghost use Rattle.std.specs.Prelude.{◌≡◌, true, IfOk};
+ghost use Rattle.fb_library.specs.Texts.{sources_of};
+ghost use Rattle.fb_library.specs.View.{tree_at};
+ghost use Rattle.fb_flatten.specs.Nets.{has_net_in};
+ghost use Rattle.fb_jobs.specs.Hints.{IsHint, is_other_subapplication};
+ghost use Rattle.fb_jobs.specs.Keys.{has_key, needs};
+ghost use Rattle.fb_jobs.specs.Kinds.{needs_all};
+ghost use Rattle.fb_jobs.specs.Reads.{is_among};
+
+use crate::kept::NESTED;
+use crate::told::{library_of, net_told};
+use fb_flatten::{has_net, is_subapplication, net};
+use fb_jobs::{Hint, Job, Key, Kind, Value, has_key, needed};
+use fb_library::Library;
+use fb_tree::text::{Name, same_name};
+use std::alloc::{AllocError, Global};
+use std::process::Abort;
+use std::sync::Arc;
+use std::test::Fail;
+
+/// Whether the key needs what stands under the name.
+fn is_needed(alloc: Global, library: &Library, key: Key, unit: &Name) -> Result<bool, AllocError>
+    ensures { IfOk result (λ is. is ≡ is_among unit.now (needs library.now key)) }
+{
+    let names = needed(alloc, library, key)?;
+    Ok(names.iter().any(|name| same_name(unit, name)))
+}
+
+/// Whether a job for the key may take the net of this unit along: that of another subapplication that the key needs.
+fn may_take(alloc: Global, library: &Library, key: Key, unit: &Name) -> Result<bool, AllocError>
+    ensures other { IfOk result (λ may. may ≡ true
+        → is_other_subapplication library.now key.unit unit.now ≡ true) }
+    ensures needed { IfOk result (λ may. may ≡ true
+        → is_among unit.now (needs library.now key) ≡ true) }
+{
+    if same_name(&key.unit, unit) || !is_subapplication(library, unit) {
+        return Ok(false);
+    }
+    is_needed(alloc, library, key, unit)
+}
+
+/// The net of such a unit.
+#[tactic(auto, unfolding(fb_jobs::specs::Keys::scratch))]
+fn hint_of(alloc: Global, library: &Library, key: Key, unit: Name) -> Result<Hint, AllocError>
+    requires net { has_net_in (tree_at (sources_of library.now) unit) ≡ true }
+    requires other { is_other_subapplication library.now key.unit unit ≡ true }
+    requires needed { is_among unit (needs library.now key) ≡ true }
+    ensures { IfOk result (IsHint library.now key) }
+{
+    let net = net(alloc, library, unit)?;
+    Ok(Hint {
+        unit,
+        value: Arc::new(alloc, Value::Net(net))?,
+    })
+}
+
+/// A job for a net that takes this one along.
+fn job_with(alloc: Global, library: &Library, key: Key, hint: Hint) -> Result<Job, AllocError>
+    requires has { has_key library.now key ≡ true }
+    requires hint { IsHint library.now key hint }
+    requires all { needs_all key.kind ≡ true }
+{
+    let mut hints = Vec::new(alloc);
+    hints.push(hint)?;
+    Job::make(alloc, library, key, hints)
+}
+
+/// A job for the net of the first unit that takes the net of the second along, or None where it may not.
+fn job_taking(
+    alloc: Global,
+    library: &Library,
+    unit: &str,
+    taken: &str,
+) -> Result<Option<Job>, Fail> {
+    let key = Key {
+        kind: Kind::Net,
+        unit: Name::read(unit)?,
+    };
+    let taken = Name::read(taken)?;
+    if !has_key(library, key) || !has_net(library, &taken) {
+        return Err(Fail::from("no net"));
+    }
+    if !may_take(alloc, library, key, &taken)? {
+        return Ok(None);
+    }
+    let hint = hint_of(alloc, library, key, taken)?;
+    Ok(Some(job_with(alloc, library, key, hint)?))
+}
+
+/// What a job comes to.
+fn job_told(alloc: Global, job: &Job) -> Result<String, Fail> {
+    let finished = job.run(alloc)?;
+    let value: &Value = finished.value();
+    match value {
+        Value::Net(net) => net_told(alloc, net),
+        _ => Err(Fail::from("no net")),
+    }
+}
+
+/// Whether the job takes the net of this unit along, and no other.
+fn takes(job: &Job, unit: &str) -> bool {
+    match job.hints() {
+        [hint] => hint.unit.as_str() == unit,
+        _ => false,
+    }
+}
+
+/// A unit, the one whose net is taken along, and the net.
+type Row = (&'static str, &'static str, &'static str);
+
+const TAKEN: &[Row] = &[
+    ("T", "M", "K:B; X.N.F:B; Event K.O TO X.N.F.I"),
+    ("T", "S", "K:B; X.N.F:B; Event K.O TO X.N.F.I"),
+    ("M", "S", "N.F:B; Event I AT N.F.I"),
+    ("W", "S", "blocked NO W"),
+];
+
+fn compare(rt: &impl Abort, alloc: Global, library: &Library, row: &Row) -> Result<(), Fail> {
+    let (unit, taken, net) = *row;
+    let job = job_taking(alloc, library, unit, taken)?.ok_or("not taken")?;
+    assert!(rt; takes(&job, taken), "{unit} {taken}");
+    assert_eq!(rt; job_told(alloc, &job)?.as_str(), net, "{unit} {taken}");
+    Ok(())
+}
+
+#[test]
+fn jobs_take_chosen_nets_along(rt: HostRuntime) -> Result<(), Fail> {
+    let library = library_of(rt.alloc(), NESTED)?;
+    for row in TAKEN {
+        compare(&rt, rt.alloc(), &library, row)?;
+    }
+    Ok(())
+}
+
+/// A unit, and one whose net a job for its net may not take along: the unit itself, or one that it does not rest on.
+const FOREIGN: &[(&str, &str)] = &[("T", "T"), ("S", "T"), ("M", "D"), ("T", "W")];
+
+#[test]
+fn foreign_nets_are_not_taken_along(rt: HostRuntime) -> Result<(), Fail> {
+    let library = library_of(rt.alloc(), NESTED)?;
+    for (unit, taken) in FOREIGN {
+        let job = job_taking(rt.alloc(), &library, unit, taken)?;
+        assert!(rt; job.is_none(), "{unit} {taken}");
+    }
+    Ok(())
+}

@@ -1,0 +1,383 @@
+"""Reads the parts of the crates that documents speak of: functions with their contracts, definitions, refusals, edits and tests."""
+import functools
+import glob
+import os
+import re
+from dataclasses import dataclass
+
+TOP = os.path.dirname(os.path.dirname(os.path.abspath(__file__)))
+FIVE = ("commit", "take", "deliver", "give_back", "ask")
+FOLDERS = ("must-fail", "more-edits")
+
+
+@dataclass
+class Function:
+    crate: str
+    file: str
+    owner: str
+    trait: str
+    name: str
+    is_public: bool
+    signature: str
+    contract: str
+    body: str
+    uses: dict
+    block: str
+
+    @property
+    def full_name(self):
+        return f"{self.owner}::{self.name}" if self.owner else self.name
+
+
+@dataclass
+class Edit:
+    crate: str
+    folder: str
+    name: str
+    cell: str
+    calls: list
+    text: str
+
+
+@dataclass
+class Item:
+    """A function, a constant or a type of a crate of tests: its text, from what file of the crate its names come, and which come from the crates that are tested."""
+
+    crate: str
+    file: str
+    name: str
+    is_test: bool
+    text: str
+    words: set
+    inside: dict
+    outside: set
+
+
+@functools.cache
+def text_of(path):
+    with open(f"{TOP}/{path}", encoding="utf-8") as lines:
+        return lines.read()
+
+
+def files(pattern):
+    return sorted(os.path.relpath(it, TOP) for it in glob.glob(f"{TOP}/{pattern}", recursive=True))
+
+
+@functools.cache
+def crates():
+    return sorted(os.listdir(f"{TOP}/crates"))
+
+
+# ---- functions
+
+
+HEAD = re.compile(r"( *)(pub(?:\([\w ]+\))? )?(?:const )?fn (\w+)")
+BLOCK = re.compile(r"(?:pub )?(?:impl(?:<[^>]*>)? (?:([\w:]+)(?:<.*>)? for )?&?(?:'\w+ )?(\w+)|trait (\w+))")
+USE = re.compile(r"ghost use ([\w.]+)\.\{(.*)\};")
+
+
+def head_at(lines, at, indent):
+    """Of the function that begins at a line: where its contract begins, the line behind it, and whether a body stands there."""
+    clause = None
+    for place in range(at, len(lines)):
+        line = lines[place]
+        if clause is None and re.match(r" *(?:ensures|requires)\b", line):
+            clause = place
+        if line in (f"{indent}{{", f"{indent}{{}}"):
+            return place if clause is None else clause, place, True
+        if line.endswith(";" if clause is None else "};"):
+            return clause or place + 1, place + 1, False
+        if clause is None and line.endswith(("{", "{}")):
+            return place + 1, place + 1, line.endswith("{")
+    return len(lines), len(lines), False
+
+
+def end_of_body(lines, at, indent):
+    for place in range(at, len(lines)):
+        if lines[place] in (f"{indent}}}", f"{indent}{{}}"):
+            return place + 1
+    return len(lines)
+
+
+def imported(line, into):
+    use = USE.match(line.strip())
+    if use:
+        for name in use[2].split(","):
+            into[name.strip()] = use[1]
+
+
+def function_at(lines, at, place):
+    """The function whose head stands at a line, and the line behind it. A place is its crate, file, owner, trait, imports and block."""
+    head = HEAD.match(lines[at])
+    clause, behind, has_body = head_at(lines, at, head[1])
+    end = end_of_body(lines, behind, head[1]) if has_body else behind
+    crate, file, owner, trait, uses, block = place
+    signature, contract, body = ("\n".join(it) for it in (lines[at:clause], lines[clause:behind], lines[behind:end]))
+    return Function(crate, file, owner, trait, head[3], head[2] == "pub ", signature, contract, body, uses, block), end
+
+
+def functions_in(crate, file):
+    lines = text_of(file).split("\n")
+    outer, uses, owner, trait, block, at = {}, {}, "", "", "", 0
+    while at < len(lines):
+        line = lines[at]
+        opens = BLOCK.match(line)
+        if opens and line.endswith("{"):
+            trait, owner = opens[1] or "", opens[2] or opens[3]
+            uses, block = dict(outer), "\n".join(lines[at : end_of_body(lines, at, "")])
+        elif line == "}":
+            owner, trait, uses, block = "", "", {}, ""
+        imported(line, uses if owner else outer)
+        if HEAD.match(line):
+            found, at = function_at(lines, at, (crate, file, owner, trait, uses if owner else outer, block))
+            yield found
+        else:
+            at += 1
+
+
+@functools.cache
+def functions(crate):
+    return [it for file in files(f"crates/{crate}/src/**/*.rt") for it in functions_in(crate, file)]
+
+
+def function(crate, full_name):
+    """The function of this name, or None."""
+    return next((it for it in functions(crate) if it.full_name == full_name), None)
+
+
+def is_law(it):
+    return not it.owner and it.is_public and it.body.strip() == "{}" and "ensures" in it.contract
+
+
+@functools.cache
+def laws():
+    """Which crate has each law."""
+    return {it.name: crate for crate in crates() for it in functions(crate) if is_law(it)}
+
+
+def trait_function(it):
+    """The function of the trait that this one meets, or None where no crate has it."""
+    return all_functions().get(f"{it.trait}::{it.name}")
+
+
+@functools.cache
+def all_functions():
+    """Each function of the crates by its name, those that other crates can call before others of that name."""
+    found = [it for crate in crates() for it in functions(crate)]
+    return {it.full_name: it for it in sorted(found, key=lambda it: it.is_public)}
+
+
+# ---- what may want memory
+
+
+TYPE = re.compile(r"^pub (enum|struct) (\w+)[^\n]*\{\n(.*?)^\}", re.M | re.S)
+
+
+@functools.cache
+def types(crate):
+    """The enums and structs of a crate: each with its word and its text."""
+    return {name: (word, body) for file in files(f"crates/{crate}/src/**/*.rt") for word, name, body in TYPE.findall(text_of(file))}
+
+
+def variants(crate, enum):
+    return re.findall(r"^    (\w+)", types(crate)[enum][1], re.M)
+
+
+@functools.cache
+def memory_types():
+    """The types that can say that there was no memory."""
+    found, grows = {"AllocError"}, True
+    all_types = [(name, *it) for crate in crates() for name, it in types(crate).items()]
+    for name, word, body in all_types:
+        if word == "enum" and re.search(r"^    Memory,", body, re.M):
+            found.add(name)
+    while grows:
+        more = {name for name, word, body in all_types if word == "struct" and any(re.search(rf"\bfault: {it}\b", body) for it in found)}
+        grows = not more <= found
+        found |= more
+    return found
+
+
+def wants_memory(it):
+    """Whether a call has an allocator, by its type or of its own, and gives something that can say that there was no memory."""
+    words = set(re.findall(r"\w+", it.signature.rpartition("->")[2]))
+    return bool(words & memory_types()) and bool(re.search(r"\bself\b|\bGlobal\b", it.signature))
+
+
+# ---- definitions
+
+
+DEFINES = re.compile(r"^(?:unfoldable |abbrev )?pub (?:data |record )?([^\s:]+)\s.*$", re.M)
+
+
+@functools.cache
+def definitions(crate):
+    """The definitions of a crate by file and name, each with its text up to the next blank line."""
+    found = {}
+    for file in files(f"crates/{crate}/specs/**/*.antt"):
+        stem, text = os.path.basename(file)[: -len(".antt")], text_of(file)
+        if stem != "Lib":
+            found |= {(stem, it[1]): text[it.start() :].split("\n\n")[0] for it in DEFINES.finditer(text) if it[1] not in ("use", "mod")}
+    return found
+
+
+@functools.cache
+def home(module, name):
+    """The crate and the file in which the definition that a `ghost use` names stands, or None where it is none of the project's definitions."""
+    parts = module.split(".")
+    if len(parts) < 4 or parts[2] != "specs" or "declared" in parts:
+        return None
+    having = [crate for crate in [parts[1], *crates()] if (parts[-1], name) in definitions(crate)]
+    return (having[0], parts[-1]) if having else None
+
+
+@functools.cache
+def models():
+    """What contracts see of the types that have a model: under each type the definitions of its value and those of its invariant."""
+    found = {}
+    for crate in crates():
+        for file in files(f"crates/{crate}/src/**/*.rt"):
+            for name, block in re.findall(r"^impl(?:<[^>]*>)? Model for (\w+)[^\n]*\{\n(.*?)^\}", text_of(file), re.M | re.S):
+                uses = {}
+                for line in block.split("\n"):
+                    imported(line, uses)
+                found[name] = [named(uses, re.findall(rf"ghost {word} = \{{(.*?)\}};", block, re.S)) for word in ("Value", "invariant")]
+    return found
+
+
+def named(uses, texts):
+    """The definitions that these texts name, by what their place imports: a crate, a file and a name for each."""
+    words = dict.fromkeys(word for text in texts for word in re.findall(r"[^\s(){}.,;]+", text) if word in uses)
+    return [(*place, word) for word in words if (place := home(uses[word], word))]
+
+
+def promised(it):
+    """The function with the contract of a call: itself, or that of the trait that it meets without one of its own."""
+    return trait_function(it) if it.trait and not it.contract else it
+
+
+def cited(it):
+    """The definitions that a contract cites, in its order."""
+    by = promised(it)
+    if by and by is not it:
+        return named(it.uses | by.uses, [by.contract, *re.findall(r"^    ghost \w+ = \{(.*)\};", it.block, re.M)])
+    return named(it.uses, [it.contract])
+
+
+def defining(enum, word):
+    """The definitions that name a variant of an enum: a crate, a file and a name for each."""
+    has = re.compile(rf"(?<!\w){word}(?!\w)")
+    found = []
+    for crate in crates():
+        for (file, name), text in definitions(crate).items():
+            if name != word and f".{enum}.TheVariants" in heads(crate).get(file, "") and has.search(text):
+                found.append((crate, file, name))
+    return found
+
+
+@functools.cache
+def heads(crate):
+    """What each file of definitions imports."""
+    return {os.path.basename(it)[: -len(".antt")]: "\n".join(re.findall(r"^(?:pub )?use .*$", text_of(it), re.M)) for it in files(f"crates/{crate}/specs/**/*.antt")}
+
+
+# ---- edits
+
+
+def calls_in(cell):
+    """The calls that the line of an edit names: `Owner::name`, or the name alone."""
+    head, _, behind = cell.partition(", for ")
+    head, *within = re.split(r", (?:in|by) ", head)
+    found = []
+    for part in (head, behind):
+        five = re.search(r"the (?:five )?(?:recorded )?calls(?: of `(\w+)`)?", part)
+        found += [f"{five[1] or 'Bench'}::{it}" for it in FIVE] if five else []
+        of_type = re.fullmatch(r"`(?:\w+::)?(\w+)` of `(\w+)`", part.strip())
+        found += [f"{of_type[2]}::{of_type[1]}"] if of_type else [] if five else re.findall(r"`([\w:]+)`", part)
+    owners = {it.partition("::")[0] for it in found if "::" in it}
+    inner = [name for part in within for name in re.findall(r"`(\w+)`", part)]
+    return found + ([f"{owner}::{name}" for owner in owners for name in inner] or inner)
+
+
+@functools.cache
+def edits():
+    found = []
+    for crate in crates():
+        folder, readme = FOLDERS[0], f"crates/{crate}/must-fail/README.md"
+        if not os.path.isfile(f"{TOP}/{readme}"):
+            continue
+        for line in text_of(readme).split("\n"):
+            folder = FOLDERS[1] if "`../more-edits`" in line else folder
+            row = re.match(r"\| `([\w.-]+)` \| (.+) \| .+ \|$", line)
+            if row:
+                path = f"crates/{crate}/{folder}/{row[1]}.edit"
+                text = text_of(path) if os.path.isfile(f"{TOP}/{path}") else ""
+                found.append(Edit(crate, folder, row[1], row[2], calls_in(row[2]), text))
+    return found
+
+
+# ---- tests
+
+
+ITEM = re.compile(r"^(?:pub(?:\(\w+\))? )?(?:fn|const|static|struct|enum|type|trait) (\w+)|^impl(?:<[^>]*>)? (?:[\w:<>', ]+ for )?(\w+)", re.M)
+
+
+def imports_of(text):
+    """From each name that a file of tests takes from another file of its crate to that file, and the names that it takes from other crates of the project."""
+    inside, outside = {}, set()
+    for path, names, name in re.findall(r"^use ([\w:]+)::(?:\{([^}]*)\}|(\w+));", text, re.M):
+        own = {it.strip() for it in (names or name).split(",") if it.strip()}
+        if path.startswith("crate::"):
+            inside |= {it: path.rpartition("::")[2] for it in own}
+        elif path.startswith("fb_"):
+            outside |= own
+    return inside, outside
+
+
+@functools.cache
+def test_items(crate):
+    found = []
+    for file in files(f"crates/{crate}/src/*.rt"):
+        text = text_of(file)
+        inside, outside = imports_of(text)
+        heads = list(ITEM.finditer(text))
+        for it, end in zip(heads, [*(it.start() for it in heads[1:]), len(text)]):
+            is_test, own = text[: it.start()].endswith("#[test]\n"), text[it.start() : end]
+            found.append(Item(crate, os.path.basename(file)[:-3], it[1] or it[2], is_test, own, set(re.findall(r"\w+", own)), inside, outside))
+    return found
+
+
+@functools.cache
+def tests():
+    """Each test of the crates of tests, with all items of its crate that it uses."""
+    return [(it, closure(it)) for crate in crates() if crate.endswith("_tests") for it in test_items(crate) if it.is_test]
+
+
+@functools.cache
+def helpers(crate):
+    """The items of a crate of tests that are no tests, by file and name."""
+    found = {}
+    for it in test_items(crate):
+        if not it.is_test:
+            found.setdefault((it.file, it.name), []).append(it)
+    return found
+
+
+def used_by(item):
+    """The items of its crate that an item names: those of its file, those that its file imports by name, and what imported files do for a type that it names."""
+    by_place = helpers(item.crate)
+    imported_files = {item.inside[word] for word in item.words if word in item.inside}
+    for word in item.words:
+        yield from by_place.get((item.inside.get(word, item.file), word), [])
+        for file in imported_files:
+            yield from (it for it in by_place.get((file, word), []) if it.text.startswith("impl"))
+
+
+def closure(test):
+    items, todo = {id(test): test}, [test]
+    while todo:
+        for it in used_by(todo.pop()):
+            if id(it) not in items:
+                items[id(it)] = it
+                todo.append(it)
+    return list(items.values())

@@ -1,0 +1,440 @@
+"""Makes docs/SHOWN.md: of each public call, each refusal and each limit how it is shown. Its rows are those of tools/shown.rows."""
+import functools
+import re
+from collections import Counter
+from dataclasses import dataclass
+
+import code_parts as parts
+
+ROWS = "tools/shown.rows"
+PAGE = "docs/SHOWN.md"
+REASONS = "docs/TRUST.md"
+ORACLE = "oracle/oracle.py"
+PLAIN = "benchmarks/plain/src"
+KEYS = {"laws", "oracle", "plain", "lines", "of", "through", "defined", "edits", "tests"}
+NONE = "**none**"
+HEAD = """# What is shown, and how
+
+For each public call, each refusal and each limit: what is said of it, by whom it is said again, and what was tried against it.
+`tools/check-docs --mend` makes this page from the crates, their edits and tests and the rows of `tools/shown.rows`, and `tools/check-docs` fails
+where the page is not what it would make now.
+
+| Column | What it has |
+|---|---|
+| Contract | the functions whose contracts carry it, and the promises that name them ([PROMISES.md](PROMISES.md)) |
+| Defined by | the definitions that these contracts cite, or what their types are seen as: `crate: File.name` is `crates/crate/specs/File.antt` |
+| In other words | laws that say it a second time; those of `fb_laws` speak of texts and trees alone |
+| Written again | parts of the second implementation ([`oracle`](../oracle/README.md)), and of the ordinary program with the same replies ([`plain`](../benchmarks/plain/README.md)) |
+| Wrong bodies | how many edits of this call the gate tries and how many stand beside it. `must-fail/README.md` of each crate names them |
+| Tests | how many tests make the call, by itself or through the calls above it, or send its request |
+| No memory | the test that refuses each allocation of the call in turn, or the call above through which one does; "conversations" if only `tools/refuse --program` does; – if it needs none ([TRUST.md](TRUST.md)) |
+
+Why a cell says **none** is said in [TRUST.md](TRUST.md#what-has-no-second-form-wrong-body-or-test). The tests of what no contract sees are named
+[there](TRUST.md#tested-only) too.
+"""
+GAPS = ("No second form", "No wrong body", "No test", "No refused allocation", "No definition")
+
+
+@dataclass
+class Row:
+    """A line of the file of rows: its kind (call, refused or limit), its crate, its names, and what stands behind each word."""
+
+    kind: str
+    crate: str
+    names: list
+    given: dict
+
+    def has(self, key):
+        return self.given.get(key, [])
+
+
+def listed(names):
+    return [it.strip() for it in names.split(",")]
+
+
+def row_of(line):
+    head, *behind = (it.strip() for it in line.split(" | "))
+    kind, _, rest = head.partition(" ")
+    if kind not in ("refused", "besides", "limit", "code"):
+        kind, rest = "call", head
+    crate, _, names = rest.partition(": ") if ": " in rest else ("", "", rest)
+    given = {key: listed(value) for key, _, value in (it.partition(": ") for it in behind)}
+    return Row(kind, crate, [names] if kind == "limit" else listed(names), given)
+
+
+@functools.cache
+def sections():
+    """The headings of the file of rows, each with its rows."""
+    found = []
+    for line in parts.text_of(ROWS).split("\n"):
+        if line.startswith("## "):
+            found.append((line[3:], []))
+        elif line.strip() and not line.startswith("#"):
+            found[-1][1].append(row_of(line))
+    return found
+
+
+def rows(kind):
+    return [row for _, some in sections() for row in some if row.kind == kind]
+
+
+# ---- what the file of rows names
+
+
+def has_oracle(name):
+    owner, _, method = name.rpartition(".")
+    text = parts.text_of(ORACLE)
+    if owner:
+        text = re.split(r"^(?=class |def )", text.partition(f"class {owner}:")[2], flags=re.M)[0]
+    return bool(re.search(rf"^{'    ' if owner else ''}(?:(?:def|class) {method}\b|{method} =)", text, re.M))
+
+
+def has_plain(name):
+    file, _, item = name.partition(": ")
+    paths = parts.files(f"{PLAIN}/{file}.rs")
+    return bool(paths and re.search(rf"\b(?:fn|const) {item}\b", parts.text_of(paths[0])))
+
+
+def has_definition(name):
+    crate, _, rest = name.partition(": ")
+    file, _, item = rest.partition(".")
+    return crate in parts.crates() and (file, item) in parts.definitions(crate)
+
+
+def names_of(test):
+    """How the file of rows may name a test: by its name, or by its file and its name."""
+    return {f"{test.crate}: {test.name}", f"{test.crate}: {test.file}.{test.name}"}
+
+
+@functools.cache
+def test_names():
+    return {name for it, _ in parts.tests() for name in names_of(it)}
+
+
+@functools.cache
+def edit_names():
+    return {f"{it.crate}: {it.name}" for it in parts.edits()}
+
+
+CHECKS = {
+    "laws": lambda name: name in parts.laws(),
+    "oracle": has_oracle,
+    "plain": has_plain,
+    "defined": has_definition,
+    "edits": lambda name: name in edit_names(),
+    "tests": lambda name: name in test_names(),
+    "of": lambda name: name in parts.all_functions(),
+    "through": lambda name: name in parts.all_functions(),
+}
+
+
+def faults_of_rows():
+    """Names of the file of rows that are nowhere, and variants of refusals and laws for readers that it leaves out."""
+    for _, some in sections():
+        for row in some:
+            yield from (f"{ROWS}: no row has a part {it}" for it in row.given if it not in KEYS)
+            for key, is_there in CHECKS.items():
+                yield from (f"{ROWS}: {row.names[0]}: there is no {it}, named as one of {key}" for it in row.has(key) if not is_there(it))
+            if row.kind == "call":
+                yield from (f"{ROWS}: {row.crate} has no function {it}" for it in row.names if not parts.function(row.crate, it))
+    yield from left_out()
+
+
+def left_out():
+    """Variants of the enums of refusals without a row, rows of variants that are not there, and laws of fb_laws that no row names."""
+    refused = {(row.crate, name) for row in rows("refused") for name in row.names}
+    named = refused | {(row.crate, name) for row in rows("besides") for name in row.names}
+    enums = {(crate, name.partition(".")[0]) for crate, name in refused}
+    there = {(crate, f"{enum}.{it}") for crate, enum in enums if enum in parts.types(crate) for it in parts.variants(crate, enum) if it != "Memory"}
+    yield from (f"{ROWS}: no row is for {crate}: {name}" for crate, name in sorted(there - named))
+    yield from (f"{ROWS}: {crate} has no {name}" for crate, name in sorted(named - there))
+    said = {law for _, some in sections() for row in some for law in row.has("laws")}
+    yield from (f"{ROWS}: no row names the law {name} of fb_laws" for name, crate in sorted(parts.laws().items()) if crate == "fb_laws" and name not in said)
+
+
+# ---- cells
+
+
+def definitions(places):
+    """Definitions as documents name them: a crate once, and its files and names behind it."""
+    by_crate = {}
+    for crate, file, name in places:
+        by_crate.setdefault(crate, dict.fromkeys([])).update({f"{file}.{name}": None})
+    return ", ".join(f"`{crate}: {'`, `'.join(names)}`" for crate, names in by_crate.items())
+
+
+def place_of(name):
+    crate, _, rest = name.partition(": ")
+    return (crate, *rest.split("."))
+
+
+def defined_of_call(row, calls):
+    """What the contracts of the calls cite, or else what their types are seen as, and what the types that they give keep."""
+    found = [place_of(it) for it in row.has("defined")] + [it for call in calls for it in parts.cited(call)]
+    for call in [it for it in calls if not found and (by := parts.promised(it)) and by.contract]:
+        found += parts.models().get(call.owner, ([], []))[0]
+        given = re.findall(r"\w+", call.signature.rpartition("->")[2])
+        found += [it for name in given if name not in ("Name", call.owner) for it in parts.models().get(name, ([], []))[1]]
+    return definitions(found) or NONE
+
+
+def edits_of(call):
+    names = {call.full_name, f"{call.trait}::{call.name}"}
+    return [it for it in parts.edits() if names & set(it.calls) and (call.owner or it.crate == call.crate)]
+
+
+def makes(call, item):
+    """Whether an item of a crate of tests makes the call."""
+    if call.name not in item.words:
+        return False
+    if not call.owner:
+        return call.name in item.outside and bool(re.search(rf"(?<![\w.:]){call.name}(?:::<[^;{{}}]*?>)?\(", item.text))
+    if call.owner not in item.words:
+        return False
+    return bool(re.search(rf"\.{call.name}\(|\b{call.owner}(?:::<[^;{{}}]*?>)?::{call.name}\b", item.text))
+
+
+def sends(request, item):
+    return request in item.words and bool(re.search(rf'^> {request}\b|"op":"{request}"', item.text, re.M))
+
+
+def tests_that(holds, row):
+    """The tests that use an item of which this holds, and those that the row names."""
+    having = {id(it) for crate in parts.crates() if crate.endswith("_tests") for it in parts.test_items(crate) if holds(it)}
+    return [it for it, items in parts.tests() if names_of(it) & set(row.has("tests")) or any(id(item) in having for item in items)]
+
+
+def tests_of(call, row):
+    through = [parts.all_functions()[it] for it in row.has("through")]
+    return tests_that(lambda item: any(makes(it, item) for it in (call, *through)) or any(sends(it, item) for it in row.has("lines")), row)
+
+
+@functools.cache
+def trials():
+    """Under each call of which allocations are refused in turn the tests that do it."""
+    found = {}
+    for it, items in parts.tests():
+        for item in items:
+            for label in re.findall(r'(?:try_call::<\w+>|\breport)\((?:[^",]*,)* *"([\w:]+)"', item.text):
+                found.setdefault(label, {})[f"`{it.crate}`: `{it.name}`"] = None
+    return found
+
+
+def memory_of(call, row):
+    """Where each allocation of a call is refused in turn: a line where it wants no memory, and nothing where it is not tried."""
+    is_maker = call.owner and f"-> {call.owner}" in call.signature
+    if not parts.wants_memory(call) and (is_maker or "alloc: Global" not in call.signature):
+        return "–"
+    tried = ", ".join(trials().get(call.full_name, {}))
+    above = ", ".join(f"`{it}`" for it in row.has("through") if it in trials())
+    by_program = all(f'op="{it}"' in parts.text_of("tools/refuse") for it in row.has("lines"))
+    return tried or (f"through {above}" if above else "conversations" if row.has("lines") and by_program else "")
+
+
+def counted(counts, absent):
+    """Numbers with what they count, and the calls that have none."""
+    words = ", ".join(f"{number} {name}" for name, number in counts.items() if number)
+    without = ", ".join(f"`{it}`" for it in absent)
+    return f"{words}; {NONE} of {without}" if words and without else words or NONE
+
+
+def count_edits(edits):
+    by_folder = Counter(folder for _, folder, _ in {(it.crate, it.folder, it.name) for it in edits})
+    return {"in the gate": by_folder[parts.FOLDERS[0]], "beside it": by_folder[parts.FOLDERS[1]]}
+
+
+def count_tests(tests):
+    return Counter(f"of `{crate}`" for crate, _, _ in sorted({(it.crate, it.file, it.name) for it in tests}))
+
+
+def again(row):
+    return ", ".join([*(f"oracle `{it}`" for it in row.has("oracle")), *(f"plain `{it}`" for it in row.has("plain"))])
+
+
+def laws(row):
+    return ", ".join(f"`{it}`" for it in row.has("laws"))
+
+
+# ---- calls
+
+
+@functools.cache
+def carried():
+    """Each promise with the calls that its points name behind "carried by"."""
+    found = {}
+    for section in re.split(r"^## ", parts.text_of("docs/PROMISES.md"), flags=re.M)[1:]:
+        points = " ".join(re.findall(r"carried by(.*?)(?=\n- |\n\n|\Z)", section, re.S))
+        if re.match(r"P\d+\.", section):
+            found[section.partition(".")[0]] = set(re.findall(r"`([\w:]+)`", points))
+    return found
+
+
+def promises_of(call):
+    """The promises that name the call, by its full name or, where its owner is named there, by its own."""
+    return [
+        number
+        for number, names in carried().items()
+        if call.full_name in names or call.name in names and (not call.owner or call.owner in {it.partition("::")[0] for it in names})
+    ]
+
+
+def call_row(row, gaps):
+    calls = [parts.function(row.crate, it) for it in row.names]
+    edits, tests, memory = ([find(it, row) for it in calls] for find in (lambda call, _: edits_of(call), tests_of, memory_of))
+    promises = list(dict.fromkeys(it for call in calls for it in promises_of(call)))
+    has_form = row.has("laws") or again(row)
+    without = {
+        GAPS[0]: [] if has_form else row.names,
+        **{gap: [it for it, found in zip(row.names, cells) if not found] for gap, cells in zip(GAPS[1:4], (edits, tests, memory))},
+    }
+    places = defined_of_call(row, calls)
+    without[GAPS[4]] = row.names if places == NONE else []
+    for gap, names in without.items():
+        gaps[gap] += names
+    return [
+        ", ".join(f"[`{it}`](../{call.file})" for it, call in zip(row.names, calls)) + (f" ({', '.join(promises)})" if promises else ""),
+        places,
+        laws(row) if has_form else NONE,
+        again(row),
+        counted(count_edits(sum(edits, [])), without[GAPS[1]]),
+        counted(count_tests(sum(tests, [])), without[GAPS[2]]),
+        "; ".join(dict.fromkeys(it or NONE for it in memory)),
+    ]
+
+
+# ---- refusals
+
+
+def names_variant(enum, variant):
+    return re.compile(rf"\b{enum}::{variant}\b|\b(?:refused|delivered|answer)\\?\":\\?\"{variant}\\?\"")
+
+
+def refused_row(row, gaps):
+    enum, _, variant = row.names[0].partition(".")
+    has = names_variant(enum, variant)
+    edits = [it for it in parts.edits() if has.search(it.text) or f"{it.crate}: {it.name}" in row.has("edits")]
+    tests = tests_that(lambda item: variant in item.words and has.search(item.text), row)
+    places = [place_of(it) for it in row.has("defined")] or parts.defining(enum, variant)
+    for gap, found in zip((*GAPS[1:3], GAPS[4]), (edits, tests, places)):
+        gaps[gap] += [] if found else row.names
+    return [
+        f"`{variant}` of `{row.crate}: {enum}`",
+        ", ".join(f"`{it}`" for it in row.has("of")),
+        definitions(places) or NONE,
+        again(row),
+        counted(count_edits(edits), []),
+        counted(count_tests(tests), []),
+    ]
+
+
+# ---- faults of texts
+
+
+@functools.cache
+def codes():
+    """The table of LANGUAGE.md that leads from each code to its definition, its law, its check and its tests."""
+    found = re.findall(r"^\| \d+ \| (`[A-Z_]+`) \| (.*) \| (.*) \| (.*) \| (.*) \|$", parts.text_of("docs/LANGUAGE.md"), re.M)
+    return [it for it in found if "[`" in it[1]]
+
+
+def code_row(cells, gaps):
+    (code, _, law, check, tests), word = cells, cells[0].strip("`")
+    said = [it for row in rows("code") if row.names == [word] for it in row.has("edits")]
+    checks = re.findall(r"\[`(\w+)`\]", check)
+    edits = [it for it in parts.edits() if f"{it.crate}: {it.name}" in said or any(f"`{name}`" in it.cell for name in checks)]
+    found = set(re.findall(r"\[`(\w+)`\]", tests))
+    for gap, some in zip(GAPS[1:3], (edits, found)):
+        gaps[gap] += [] if some else [word]
+    places = {"oracle": [ORACLE], "plain": parts.files(f"{PLAIN}/faults/*.rs")}
+    written = [name for name, paths in places.items() if any(f'"{word}"' in parts.text_of(it) for it in paths)]
+    says = ", ".join(f"`{it}`" for it in re.findall(r"\[`(\w+)`\]", law))
+    return [code, says, ", ".join(written) or NONE, counted(count_edits(edits), []), str(len(found))]
+
+
+# ---- limits
+
+
+def limit_row(row, gaps):
+    edits = [it for it in parts.edits() if f"{it.crate}: {it.name}" in row.has("edits")]
+    tests = [it for it, _ in parts.tests() if names_of(it) & set(row.has("tests"))]
+    for gap, found in zip(GAPS[1:3], (edits, tests)):
+        gaps[gap] += [] if found else row.names
+    return [
+        row.names[0],
+        ", ".join(f"`{it}`" for it in row.has("of")),
+        definitions(place_of(it) for it in row.has("defined")) or NONE,
+        again(row),
+        ", ".join(f"`{it.name}`" for it in edits) or NONE,
+        ", ".join(f"`{it.crate}`: `{it.name}`" for it in tests) or NONE,
+    ]
+
+
+# ---- the page
+
+
+COLUMNS = {
+    "call": ["Contract", "Defined by", "In other words", "Written again", "Wrong bodies", "Tests", "No memory"],
+    "refused": ["Refusal", "Of", "Defined by", "Written again", "Wrong bodies", "Tests"],
+    "limit": ["Limit", "Of", "Defined by", "Written again", "Wrong bodies", "Tests"],
+    "code": ["Code", "Laws", "Written again", "Wrong bodies", "Tests"],
+}
+CODES = "The definition, the law, the check and the tests of each code stand in [LANGUAGE.md](LANGUAGE.md#faults-fb_iface-fb_faults-fb_expr-fb_ecc-fb_netcheck)."
+MAKERS = {"call": call_row, "refused": refused_row, "limit": limit_row}
+
+
+def table(kind, lines):
+    return [f"| {' | '.join(COLUMNS[kind])} |", f"|{'---|' * len(COLUMNS[kind])}", *(f"| {' | '.join(it)} |" for it in lines)]
+
+
+def lines_of(kind, some, gaps):
+    if kind == "code":
+        return [code_row(it, gaps) for it in codes()]
+    return [MAKERS[kind](it, gaps) for it in some if it.kind == kind]
+
+
+@functools.cache
+def made():
+    """The page, and under each kind of gap what has it."""
+    gaps = {it: [] for it in GAPS}
+    text = [HEAD.rstrip()]
+    for heading, some in sections():
+        kind = some[0].kind
+        text += ["", f"## {heading}", "", *([CODES, ""] if kind == "code" else []), *table(kind, lines_of(kind, some, gaps))]
+    text += ["", "## In all", "", total()]
+    return "\n".join(text) + "\n", gaps
+
+
+def total():
+    calls = sum(len(row.names) for row in rows("call"))
+    by_folder = Counter(it.folder for it in parts.edits())
+    gate, beside = (by_folder[it] for it in parts.FOLDERS)
+    return (
+        f"{calls} public calls, {len(rows('refused'))} refusals, {len(rows('limit'))} limits, {len(codes())} codes of faults; {len(parts.laws())} laws; "
+        f"{gate} wrong bodies in the gate and {beside} beside it, those of calls beneath these too; {len(parts.tests())} tests."
+    )
+
+
+def excused(gap):
+    """What the reasons for gaps name under one of these."""
+    found = set()
+    for cell in re.findall(rf"^\| {gap} \| (.*?) \| ", parts.text_of(REASONS), re.M):
+        for owner in re.findall(r"the five calls of `(\w+)`", cell):
+            found |= {f"{owner}::{it}" for it in parts.FIVE}
+        found |= set(re.findall(r"`([^`]+)`", re.sub(r"the five calls of `\w+`", "", cell)))
+    return found
+
+
+def faults_of_gaps():
+    """What has a gap of which no reason is told, and what is told to have one and has none."""
+    for gap, names in made()[1].items():
+        yield from (f"{REASONS}: {it} is told to have {gap.lower()}, and it has one" for it in sorted(excused(gap) - set(names)))
+        yield from (f"{REASONS}: it is not told why {it} has {gap.lower()}" for it in sorted(set(names) - excused(gap)))
+
+
+def faults():
+    """What is wrong with the file of rows, and whether the page is another than the one that is made of it."""
+    found = list(faults_of_rows())
+    if not found:
+        found += faults_of_gaps()
+        found += [] if parts.text_of(PAGE) == made()[0] else [f"{PAGE} is another page than the one that is made now (--mend)"]
+    return found
