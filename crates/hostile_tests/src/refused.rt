@@ -192,33 +192,68 @@ impl Trial for Recorded {
     }
 }
 
-/// A call.
-const CALLS: &[(&str, Which)] = &[
-    ("commit", Which::Commit),
-    ("take", Which::Take),
-    ("deliver", Which::Deliver),
-    ("give_back", Which::GiveBack),
-    ("ask", Which::Ask),
-];
+fn try_alone(rt: &impl Print, alloc: Global) -> Result<(), Fail> {
+    let way = Way::Alone;
+    try_call::<Recorded>(rt, alloc, "Bench::commit", "", (Which::Commit, way))?;
+    try_call::<Recorded>(rt, alloc, "Bench::take", "", (Which::Take, way))?;
+    try_call::<Recorded>(rt, alloc, "Bench::deliver", "", (Which::Deliver, way))?;
+    try_call::<Recorded>(rt, alloc, "Bench::give_back", "", (Which::GiveBack, way))?;
+    try_call::<Recorded>(rt, alloc, "Bench::ask", "", (Which::Ask, way))
+}
 
-fn try_calls(
-    rt: &impl Print,
-    alloc: Global,
-    about: &str,
-    way: Way,
-    calls: &[(&str, Which)],
-) -> Result<(), Fail> {
-    for (call, which) in calls {
-        try_call::<Recorded>(rt, alloc, call, about, (*which, way))?;
-    }
-    Ok(())
+fn try_requests(rt: &impl Print, alloc: Global) -> Result<(), Fail> {
+    let way = Way::AsRequest;
+    try_call::<Recorded>(
+        rt,
+        alloc,
+        "Bench::perform",
+        " of a commit",
+        (Which::Commit, way),
+    )?;
+    try_call::<Recorded>(
+        rt,
+        alloc,
+        "Bench::perform",
+        " of a take",
+        (Which::Take, way),
+    )?;
+    try_call::<Recorded>(
+        rt,
+        alloc,
+        "Bench::perform",
+        " of a result",
+        (Which::Deliver, way),
+    )?;
+    try_call::<Recorded>(
+        rt,
+        alloc,
+        "Bench::perform",
+        " of a key given back",
+        (Which::GiveBack, way),
+    )?;
+    try_call::<Recorded>(
+        rt,
+        alloc,
+        "Bench::perform",
+        " of a question",
+        (Which::Ask, way),
+    )
+}
+
+fn try_desk(rt: &impl Print, alloc: Global) -> Result<(), Fail> {
+    let way = Way::AtDesk;
+    try_call::<Recorded>(rt, alloc, "Solo::commit", "", (Which::Commit, way))?;
+    try_call::<Recorded>(rt, alloc, "Solo::take", "", (Which::Take, way))?;
+    try_call::<Recorded>(rt, alloc, "Solo::deliver", "", (Which::Deliver, way))?;
+    try_call::<Recorded>(rt, alloc, "Solo::give_back", "", (Which::GiveBack, way))?;
+    try_call::<Recorded>(rt, alloc, "Solo::ask", "", (Which::Ask, way))
 }
 
 #[test]
 fn recorded_calls(rt: HostRuntime) -> Result<(), Fail> {
-    try_calls(&rt, rt.alloc(), " of Bench", Way::Alone, CALLS)?;
-    try_calls(&rt, rt.alloc(), " by perform", Way::AsRequest, CALLS)?;
-    try_calls(&rt, rt.alloc(), " of Solo", Way::AtDesk, CALLS)
+    try_alone(&rt, rt.alloc())?;
+    try_requests(&rt, rt.alloc())?;
+    try_desk(&rt, rt.alloc())
 }
 
 /// A checkpoint of a workbench with pending keys, one of which is handed out.
@@ -259,5 +294,5 @@ impl Trial for Checked {
 #[test]
 fn checkpoints(rt: HostRuntime) -> Result<(), Fail> {
     let limits = Limits::new(4, 200).ok_or("limits")?;
-    try_call::<Checked>(&rt, rt.alloc(), "checkpoint", " of Bench", limits)
+    try_call::<Checked>(&rt, rt.alloc(), "Bench::checkpoint", "", limits)
 }
