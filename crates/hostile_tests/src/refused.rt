@@ -123,6 +123,14 @@ fn made_at_desk(which: Which, bench: &mut Bench, given: &Given) -> Result<Answer
     }
 }
 
+fn made_by(way: Way, which: Which, bench: &mut Bench, given: &Given) -> Result<Answered, Refused> {
+    match way {
+        Way::Alone => made_alone(which, bench, given),
+        Way::AsRequest => made_as_request(which, bench, given),
+        Way::AtDesk => made_at_desk(which, bench, given),
+    }
+}
+
 fn taken_answer(taken: &Taken) -> Answer {
     match taken {
         Taken::Job(job) => ("job", job.reads().len() as u64, job.hints().len() as u64),
@@ -138,6 +146,15 @@ fn answer_of(answer: &Answered) -> Answer {
         Answered::Deliver(_) => ("not accepted", 0, 0),
         Answered::GiveBack(answer) => (returned_word(answer), 0, 0),
         Answered::Ask(answer) => (asked_word(answer), 0, 0),
+    }
+}
+
+// The answer in words, unless there was no memory for it.
+fn outcome_of(made: Result<Answered, Refused>) -> Option<Answer> {
+    match made {
+        Ok(answer) => Some(answer_of(&answer)),
+        Err(Refused::HistoryFull) => Some(("full", 0, 0)),
+        Err(Refused::Memory) => None,
     }
 }
 
@@ -163,25 +180,21 @@ impl Trial for Recorded {
         Ok(Recorded {
             which,
             way,
-            bench: bench_for(alloc, which)?,
             given: all_given(alloc)?,
+            bench: bench_for(alloc, which)?,
             answer: ("", 0, 0),
         })
     }
 
     fn call(&mut self, _alloc: Global) -> bool {
-        let (which, bench, given) = (self.which, &mut self.bench, &self.given);
-        let made = match self.way {
-            Way::Alone => made_alone(which, bench, given),
-            Way::AsRequest => made_as_request(which, bench, given),
-            Way::AtDesk => made_at_desk(which, bench, given),
-        };
-        match made {
-            Ok(answer) => self.answer = answer_of(&answer),
-            Err(Refused::Memory) => return false,
-            Err(Refused::HistoryFull) => self.answer = ("full", 0, 0),
+        let made = made_by(self.way, self.which, &mut self.bench, &self.given);
+        match outcome_of(made) {
+            Some(answer) => {
+                self.answer = answer;
+                true
+            }
+            None => false,
         }
-        true
     }
 
     fn told(&self, alloc: Global) -> Result<String, Fail> {
@@ -277,11 +290,12 @@ impl Trial for Checked {
 
     fn call(&mut self, _alloc: Global) -> bool {
         match self.bench.checkpoint(self.limits) {
-            Ok(before) => self.before = Some(before),
-            Err(CheckpointRefused::Memory) => return false,
-            Err(_) => self.before = None,
+            Ok(before) => {
+                self.before = Some(before);
+                true
+            }
+            Err(refused) => refused != CheckpointRefused::Memory,
         }
-        true
     }
 
     fn told(&self, alloc: Global) -> Result<String, Fail> {
