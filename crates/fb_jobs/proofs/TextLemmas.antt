@@ -48,14 +48,14 @@ seen_count (None ∷ ts) (name ∷ names) named = ap (λ n. suc n) (seen_count t
 
 -- ---- both lists again from what was read
 
-texts_in : List Seen → Texts
+abbrev texts_in : List Seen → Texts
 texts_in seen = map (λ (it : Seen). option_map (λ (held : Held). record { unit = it.name; held = held }) it.found) seen
 
-name_by : Option Held → List ℕ → List (List ℕ) → List (List ℕ)
+abbrev name_by : Option Held → List ℕ → List (List ℕ) → List (List ℕ)
 name_by None name names = name ∷ names
 name_by (Some held) name names = names
 
-names_in : List Seen → List (List ℕ)
+abbrev names_in : List Seen → List (List ℕ)
 names_in [] = []
 names_in (it ∷ seen) = name_by it.found it.name (names_in seen)
 
@@ -98,7 +98,7 @@ missing_before (None ∷ ts) (suc i) is = omega (arith, missing_before ts i is)
 -- ---- of versions
 
 counted_step : (v : Option (Arc Version Global)) (vs : List (Option (Arc Version Global))) → missing (map text_of (v ∷ vs)) ≡ cond (is_none v) (1 + missing (map text_of vs)) (missing (map text_of vs))
-counted_step None vs = refl
+counted_step None vs = omega arith
 counted_step (Some v) vs = refl
 
 pub missing_counted : (versions : List (Option (Arc Version Global))) → missing (map text_of versions) ≡ count_by is_none versions

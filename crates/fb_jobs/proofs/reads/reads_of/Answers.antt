@@ -22,5 +22,5 @@ loop-name-preserved c =
           ∙ sym (ap (reads_under library) more),
       subst (All IsOwn) (sym c.in_ok-push.ensures.items)
           (All-push IsOwn c.loop-name.reads.items read c.loop-name.invariant.1 c.in_ok-read.ensures.own),
-      c.in_ok-with.ensures ∙ (λ k. c.loop-name.invariant.2 k ++ c.in_ok-read.ensures.kept k ∷ []) ∙ sym pushed,
+      c.in_ok-texts-2.ensures ∙ (λ k. c.loop-name.invariant.2 k ++ c.in_ok-read.ensures.kept k ∷ []) ∙ sym pushed,
     )

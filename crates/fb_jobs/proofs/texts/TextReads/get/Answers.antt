@@ -1,5 +1,5 @@
 -- A text stands at its place, and an absent name behind those of the places before it.
-use Rattle.std.proofs.Common.{◌≡◌, ◌<◌, ◌≤◌, take, count_by, is_none, length, get_or, slice_get, Some, None, sym, ap, subst, ◌∙◌, arith}
+use Rattle.std.proofs.Common.{◌≡◌, ◌<◌, ◌≤◌, take, count_by, is_none, length, get_or, slice_get, Some, None, ap, subst, ◌∙◌, arith}
 use Rattle.fb_jobs.specs.Library.Filed.{filed_text}
 use Rattle.fb_jobs.proofs.TextLemmas.{absent_below, read_nothing, read_past, read_there}
 use Rattle.fb_jobs.proofs.texts.TextReads.get.Goals as goal
@@ -12,8 +12,9 @@ index-requires c =
     let same = c.deref.ensures.value in
     let below : place < length versions = omega (arith, lookup.3.0, ap length same) in
     let none : None ≡ get_or versions place None = subst (λ v. v ≡ get_or versions place v) c.in-Some-None.field-0-is (lookup.1 ∙ ap (λ vs. get_or vs place c.in-Some-None.field-0.now) same) in
-    absent_below versions c.self.inside.absent.items place c.self.invariant c.absent_count.result below none
-    (c.absent_count.ensures ∙ ap (λ vs. count_by is_none (take place vs)) c.deref-in-Some-None.ensures.value)
+    let behind = absent_below versions c.self.inside.absent.items place c.self.invariant c.absent_count.result below none
+        (c.absent_count.ensures ∙ ap (λ vs. count_by is_none (take place vs)) c.deref-in-Some-None.ensures.value) in
+    omega (arith, behind, c.self.inside.absent.ok.0)
 
 pub returns-in-None : goal.returns-in-None
 returns-in-None c =
