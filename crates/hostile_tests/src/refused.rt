@@ -123,6 +123,14 @@ fn made_at_desk(which: Which, bench: &mut Bench, given: &Given) -> Result<Answer
     }
 }
 
+fn made_by(way: Way, which: Which, bench: &mut Bench, given: &Given) -> Result<Answered, Refused> {
+    match way {
+        Way::Alone => made_alone(which, bench, given),
+        Way::AsRequest => made_as_request(which, bench, given),
+        Way::AtDesk => made_at_desk(which, bench, given),
+    }
+}
+
 fn taken_answer(taken: &Taken) -> Answer {
     match taken {
         Taken::Job(job) => ("job", job.reads().len() as u64, job.hints().len() as u64),
@@ -138,6 +146,15 @@ fn answer_of(answer: &Answered) -> Answer {
         Answered::Deliver(_) => ("not accepted", 0, 0),
         Answered::GiveBack(answer) => (returned_word(answer), 0, 0),
         Answered::Ask(answer) => (asked_word(answer), 0, 0),
+    }
+}
+
+// The answer in words, unless there was no memory for it.
+fn outcome_of(made: Result<Answered, Refused>) -> Option<Answer> {
+    match made {
+        Ok(answer) => Some(answer_of(&answer)),
+        Err(Refused::HistoryFull) => Some(("full", 0, 0)),
+        Err(Refused::Memory) => None,
     }
 }
 
@@ -163,25 +180,21 @@ impl Trial for Recorded {
         Ok(Recorded {
             which,
             way,
-            bench: bench_for(alloc, which)?,
             given: all_given(alloc)?,
+            bench: bench_for(alloc, which)?,
             answer: ("", 0, 0),
         })
     }
 
     fn call(&mut self, _alloc: Global) -> bool {
-        let (which, bench, given) = (self.which, &mut self.bench, &self.given);
-        let made = match self.way {
-            Way::Alone => made_alone(which, bench, given),
-            Way::AsRequest => made_as_request(which, bench, given),
-            Way::AtDesk => made_at_desk(which, bench, given),
-        };
-        match made {
-            Ok(answer) => self.answer = answer_of(&answer),
-            Err(Refused::Memory) => return false,
-            Err(Refused::HistoryFull) => self.answer = ("full", 0, 0),
+        let made = made_by(self.way, self.which, &mut self.bench, &self.given);
+        match outcome_of(made) {
+            Some(answer) => {
+                self.answer = answer;
+                true
+            }
+            None => false,
         }
-        true
     }
 
     fn told(&self, alloc: Global) -> Result<String, Fail> {
@@ -192,33 +205,68 @@ impl Trial for Recorded {
     }
 }
 
-/// A call.
-const CALLS: &[(&str, Which)] = &[
-    ("commit", Which::Commit),
-    ("take", Which::Take),
-    ("deliver", Which::Deliver),
-    ("give_back", Which::GiveBack),
-    ("ask", Which::Ask),
-];
+fn try_alone(rt: &impl Print, alloc: Global) -> Result<(), Fail> {
+    let way = Way::Alone;
+    try_call::<Recorded>(rt, alloc, "Bench::commit", "", (Which::Commit, way))?;
+    try_call::<Recorded>(rt, alloc, "Bench::take", "", (Which::Take, way))?;
+    try_call::<Recorded>(rt, alloc, "Bench::deliver", "", (Which::Deliver, way))?;
+    try_call::<Recorded>(rt, alloc, "Bench::give_back", "", (Which::GiveBack, way))?;
+    try_call::<Recorded>(rt, alloc, "Bench::ask", "", (Which::Ask, way))
+}
 
-fn try_calls(
-    rt: &impl Print,
-    alloc: Global,
-    about: &str,
-    way: Way,
-    calls: &[(&str, Which)],
-) -> Result<(), Fail> {
-    for (call, which) in calls {
-        try_call::<Recorded>(rt, alloc, call, about, (*which, way))?;
-    }
-    Ok(())
+fn try_requests(rt: &impl Print, alloc: Global) -> Result<(), Fail> {
+    let way = Way::AsRequest;
+    try_call::<Recorded>(
+        rt,
+        alloc,
+        "Bench::perform",
+        " of a commit",
+        (Which::Commit, way),
+    )?;
+    try_call::<Recorded>(
+        rt,
+        alloc,
+        "Bench::perform",
+        " of a take",
+        (Which::Take, way),
+    )?;
+    try_call::<Recorded>(
+        rt,
+        alloc,
+        "Bench::perform",
+        " of a result",
+        (Which::Deliver, way),
+    )?;
+    try_call::<Recorded>(
+        rt,
+        alloc,
+        "Bench::perform",
+        " of a key given back",
+        (Which::GiveBack, way),
+    )?;
+    try_call::<Recorded>(
+        rt,
+        alloc,
+        "Bench::perform",
+        " of a question",
+        (Which::Ask, way),
+    )
+}
+
+fn try_desk(rt: &impl Print, alloc: Global) -> Result<(), Fail> {
+    let way = Way::AtDesk;
+    try_call::<Recorded>(rt, alloc, "Solo::commit", "", (Which::Commit, way))?;
+    try_call::<Recorded>(rt, alloc, "Solo::take", "", (Which::Take, way))?;
+    try_call::<Recorded>(rt, alloc, "Solo::deliver", "", (Which::Deliver, way))?;
+    try_call::<Recorded>(rt, alloc, "Solo::give_back", "", (Which::GiveBack, way))?;
+    try_call::<Recorded>(rt, alloc, "Solo::ask", "", (Which::Ask, way))
 }
 
 #[test]
 fn recorded_calls(rt: HostRuntime) -> Result<(), Fail> {
-    try_calls(&rt, rt.alloc(), " of Bench", Way::Alone, CALLS)?;
-    try_calls(&rt, rt.alloc(), " by perform", Way::AsRequest, CALLS)?;
-    try_calls(&rt, rt.alloc(), " of Solo", Way::AtDesk, CALLS)
+    try_alone(&rt, rt.alloc())?;
+    try_requests(&rt, rt.alloc())?;
+    try_desk(&rt, rt.alloc())
 }
 
 /// A checkpoint of a workbench with pending keys, one of which is handed out.
@@ -242,11 +290,12 @@ impl Trial for Checked {
 
     fn call(&mut self, _alloc: Global) -> bool {
         match self.bench.checkpoint(self.limits) {
-            Ok(before) => self.before = Some(before),
-            Err(CheckpointRefused::Memory) => return false,
-            Err(_) => self.before = None,
+            Ok(before) => {
+                self.before = Some(before);
+                true
+            }
+            Err(refused) => refused != CheckpointRefused::Memory,
         }
-        true
     }
 
     fn told(&self, alloc: Global) -> Result<String, Fail> {
@@ -259,5 +308,5 @@ impl Trial for Checked {
 #[test]
 fn checkpoints(rt: HostRuntime) -> Result<(), Fail> {
     let limits = Limits::new(4, 200).ok_or("limits")?;
-    try_call::<Checked>(&rt, rt.alloc(), "checkpoint", " of Bench", limits)
+    try_call::<Checked>(&rt, rt.alloc(), "Bench::checkpoint", "", limits)
 }

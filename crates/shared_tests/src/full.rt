@@ -7,20 +7,17 @@ use std::alloc::Global;
 use std::sync::Wait;
 use std::test::Fail;
 
-/// The calls, with their names.
-type Calls<'a> = &'a [(&'a str, Which)];
-
 // whether each call without the lock is refused for this, and the seat is as it was
 fn are_refused_locked(
     owner: &mut Locked,
     seat: &mut Seat,
     given: &Given,
-    calls: Calls<'_>,
+    calls: &[Which],
     wanted: SharedRefused,
 ) -> bool {
     let (turns, seen) = (seat.turns(), seat.seen());
     let mut are_refused = true;
-    for (_name, which) in calls {
+    for which in calls {
         let refused = made_of_locked(*which, owner, seat, given).err();
         are_refused = are_refused && refused == Some(wanted);
     }
@@ -33,12 +30,12 @@ fn are_refused_shared<R: Wait>(
     owner: &Shared,
     seat: &mut Seat,
     given: &Given,
-    calls: Calls<'_>,
+    calls: &[Which],
     wanted: SharedRefused,
 ) -> bool {
     let (turns, seen) = (seat.turns(), seat.seen());
     let mut are_refused = true;
-    for (_name, which) in calls {
+    for which in calls {
         let refused = made_of_shared(rt, *which, owner, seat, given).err();
         are_refused = are_refused && refused == Some(wanted);
     }
@@ -60,7 +57,7 @@ fn are_full_locked(
     owner: &mut Locked,
     first: &mut Seat,
     second: &mut Seat,
-    calls: Calls<'_>,
+    calls: &[Which],
 ) -> Option<bool> {
     let given = all_given(alloc)?;
     owner.ask(first, given.key).ok()?;
@@ -78,7 +75,7 @@ fn are_full_shared<R: Wait>(
     owner: &Shared,
     first: &mut Seat,
     second: &mut Seat,
-    calls: Calls<'_>,
+    calls: &[Which],
 ) -> Option<bool> {
     let given = all_given(alloc)?;
     owner.ask(rt, first, given.key).ok()?;

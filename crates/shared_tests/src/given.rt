@@ -17,13 +17,13 @@ pub(crate) enum Which {
     Ask,
 }
 
-/// The calls, with their names.
-pub(crate) const CALLS: &[(&str, Which)] = &[
-    ("commit", Which::Commit),
-    ("take", Which::Take),
-    ("deliver", Which::Deliver),
-    ("give_back", Which::GiveBack),
-    ("ask", Which::Ask),
+/// The calls.
+pub(crate) const CALLS: &[Which] = &[
+    Which::Commit,
+    Which::Take,
+    Which::Deliver,
+    Which::GiveBack,
+    Which::Ask,
 ];
 
 /// What is handed to the calls.

@@ -1,5 +1,5 @@
 //! The five calls with no lock, under the lock and at a desk, of which each allocation is refused in turn.
-use crate::given::{CALLS, Given, Which, all_given, made_of_locked, made_of_shared, refused_at};
+use crate::given::{Given, Which, all_given, made_of_locked, made_of_shared, refused_at};
 use crate::setup::{new_locked, new_shared, puts};
 use fb_shared::bench::{Asked, DeskRefused, GivenBack, Reply};
 use fb_shared::{Locked, Receipt, Seat, Seated, Shared, SharedRefused};
@@ -120,12 +120,17 @@ impl Trial for OfLocked {
     }
 }
 
+fn try_locked(rt: &impl Print, alloc: Global) -> Result<(), Fail> {
+    try_call::<OfLocked>(rt, alloc, "Locked::commit", "", Which::Commit)?;
+    try_call::<OfLocked>(rt, alloc, "Locked::take", "", Which::Take)?;
+    try_call::<OfLocked>(rt, alloc, "Locked::deliver", "", Which::Deliver)?;
+    try_call::<OfLocked>(rt, alloc, "Locked::give_back", "", Which::GiveBack)?;
+    try_call::<OfLocked>(rt, alloc, "Locked::ask", "", Which::Ask)
+}
+
 #[test]
 fn calls_with_no_lock(rt: HostRuntime) -> Result<(), Fail> {
-    for (call, which) in CALLS {
-        try_call::<OfLocked>(&rt, rt.alloc(), call, " of Locked", *which)?;
-    }
-    Ok(())
+    try_locked(&rt, rt.alloc())
 }
 
 /// A call under the lock.
@@ -190,16 +195,17 @@ impl<'a, R: Wait> Trial for OfShared<'a, R> {
     }
 }
 
-fn try_shared<R: Wait + Print>(rt: &R, alloc: Global, calls: &[(&str, Which)]) -> Result<(), Fail> {
-    for (call, which) in calls {
-        try_call::<OfShared<'_, R>>(rt, alloc, call, " of Shared", (rt, *which))?;
-    }
-    Ok(())
+fn try_shared<R: Wait + Print>(rt: &R, alloc: Global) -> Result<(), Fail> {
+    try_call::<OfShared<'_, R>>(rt, alloc, "Shared::commit", "", (rt, Which::Commit))?;
+    try_call::<OfShared<'_, R>>(rt, alloc, "Shared::take", "", (rt, Which::Take))?;
+    try_call::<OfShared<'_, R>>(rt, alloc, "Shared::deliver", "", (rt, Which::Deliver))?;
+    try_call::<OfShared<'_, R>>(rt, alloc, "Shared::give_back", "", (rt, Which::GiveBack))?;
+    try_call::<OfShared<'_, R>>(rt, alloc, "Shared::ask", "", (rt, Which::Ask))
 }
 
 #[test]
 fn calls_under_the_lock(rt: HostRuntime) -> Result<(), Fail> {
-    try_shared(&rt, rt.alloc(), CALLS)
+    try_shared(&rt, rt.alloc())
 }
 
 /// A call at the desk of a seat, which is there between the calls.
@@ -273,14 +279,15 @@ impl<'a, R: Wait> Trial for OfSeated<'a, R> {
     }
 }
 
-fn try_seated<R: Wait + Print>(rt: &R, alloc: Global, calls: &[(&str, Which)]) -> Result<(), Fail> {
-    for (call, which) in calls {
-        try_call::<OfSeated<'_, R>>(rt, alloc, call, " of Seated", (rt, *which))?;
-    }
-    Ok(())
+fn try_seated<R: Wait + Print>(rt: &R, alloc: Global) -> Result<(), Fail> {
+    try_call::<OfSeated<'_, R>>(rt, alloc, "Seated::commit", "", (rt, Which::Commit))?;
+    try_call::<OfSeated<'_, R>>(rt, alloc, "Seated::take", "", (rt, Which::Take))?;
+    try_call::<OfSeated<'_, R>>(rt, alloc, "Seated::deliver", "", (rt, Which::Deliver))?;
+    try_call::<OfSeated<'_, R>>(rt, alloc, "Seated::give_back", "", (rt, Which::GiveBack))?;
+    try_call::<OfSeated<'_, R>>(rt, alloc, "Seated::ask", "", (rt, Which::Ask))
 }
 
 #[test]
 fn calls_at_a_desk(rt: HostRuntime) -> Result<(), Fail> {
-    try_seated(&rt, rt.alloc(), CALLS)
+    try_seated(&rt, rt.alloc())
 }

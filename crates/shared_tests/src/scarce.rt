@@ -55,7 +55,7 @@ impl Trial for Made {
 #[test]
 fn making(rt: HostRuntime) -> Result<(), Fail> {
     let limits = Limits::new(4, 100).ok_or("limits")?;
-    try_call::<Made>(&rt, rt.alloc(), "new", " of Shared", limits)
+    try_call::<Made>(&rt, rt.alloc(), "Shared::new", "", limits)
 }
 
 // the workbench of the conversation, which was closed, and its receipts
@@ -124,7 +124,7 @@ impl Trial for Resumed {
 
 #[test]
 fn resuming(rt: HostRuntime) -> Result<(), Fail> {
-    try_call::<Resumed>(&rt, rt.alloc(), "resume", " of Shared", ())
+    try_call::<Resumed>(&rt, rt.alloc(), "Shared::resume", "", ())
 }
 
 /// A conversation that is over, to be closed; or its counts.
@@ -189,7 +189,7 @@ impl Trial for Over {
 
 #[test]
 fn closing(rt: HostRuntime) -> Result<(), Fail> {
-    try_call::<Over>(&rt, rt.alloc(), "close", " of Shared", ())
+    try_call::<Over>(&rt, rt.alloc(), "Shared::close", "", ())
 }
 
 // commits two units to be judged by a worker, and gives the receipt
