@@ -58,7 +58,6 @@ fn push_connection_borders(
 }
 
 /// The borders of a network, by its own connections.
-#[tactic(none)]
 pub fn borders_of_network(
     alloc: Global,
     network: &Network,

@@ -75,7 +75,6 @@ pub fn take_in(
 }
 
 /// The flat network of a draft and of borders, these and the links in order, each once.
-#[tactic(none)]
 pub fn finish(draft: Draft, mut edges: Vec<Edge>) -> Result<Flat, AllocError>
     requires { IsLaid (length draft.fronts.items) draft.leaves.items draft.joins.items edges.items }
     ensures { IfOk result (IsFinish draft edges.items) }

@@ -36,7 +36,6 @@ pub fn own_text(before: usize, place: usize) -> Result<Place, AllocError>
 }
 
 /// Adds the links of an adapter's ports between plugs and sockets.
-#[tactic(none)]
 fn push_members(
     alloc: Global,
     draft: &mut Draft,
@@ -76,7 +75,6 @@ fn push_pairs(
 
 /// Adds the links by a connection, whose ends are themselves at these places: each place behind its source with each behind its
 /// destination.
-#[tactic(none)]
 fn push_connection_links<V: Networks>(
     alloc: Global,
     draft: &mut Draft,
@@ -110,7 +108,6 @@ fn push_connection_links<V: Networks>(
 }
 
 /// Adds the links by all connections.
-#[tactic(none)]
 pub fn push_links<V: Networks>(
     alloc: Global,
     draft: &mut Draft,
