@@ -1,0 +1,26 @@
+-- Networks in plain and their flat networks, as contracts see them.
+pub mod Sorts
+pub mod Plain
+pub mod Places
+pub mod LinkOrder
+pub mod PlainFlat
+pub mod Network
+pub mod Clean
+pub mod NetLink
+pub mod Printed
+pub mod Flat
+pub mod Instances
+pub mod FlatNet
+pub mod Count
+pub mod Composition
+pub mod Composed
+pub mod Ready
+pub mod Ordered
+pub mod Part
+pub mod SystemFlat
+pub mod PlainFront
+pub mod Laid
+pub mod Reading
+pub mod Once
+pub mod Standing
+pub mod Behind

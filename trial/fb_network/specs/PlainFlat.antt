@@ -1,0 +1,10 @@
+-- Flat networks in plain.
+use Rattle.std.specs.Prelude.{List}
+use Rattle.fb_network.specs.declared.flat.FlatBlock.{FlatBlock}
+use Rattle.fb_network.specs.declared.flat.Link.{Link}
+use Rattle.fb_network.specs.declared.flat.Border.{Border}
+
+pub record PlainFlat : Type 0 where
+  pub blocks : List FlatBlock
+  pub links : List Link
+  pub borders : List Border

@@ -1,0 +1,11 @@
+//! Applications of a system.
+
+use crate::flat::Flat;
+use fb_tree::text::Name;
+
+/// An application of a system, with the flat network of its network.
+#[derive(Debug, Drop)]
+pub struct FlatApplication {
+    pub name: Name,
+    pub flat: Flat,
+}

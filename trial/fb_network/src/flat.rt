@@ -1,0 +1,164 @@
+//! Flat networks.
+ghost use Rattle.std.specs.Prelude.{◌≡◌, refl, IfOk};
+ghost use Rattle.std.specs.Ordering.{eq_by_cmp, as_partial_cmp};
+ghost use Rattle.std.specs.Cmp.{eq_by_cmp_equiv, partial_equiv_from_equiv, partial_order_from_total};
+ghost use Rattle.fb_network.specs.LinkOrder.{link_cmp, link_cmp_total, border_cmp, border_cmp_total};
+
+use crate::entries::{Edge, Join, Leaf, plain_blocks, plain_borders, plain_links};
+use crate::front::Front;
+use crate::network::sort_number;
+use crate::path::Path;
+use fb_tree::Sort;
+use fb_tree::text::Name;
+use std::alloc::{AllocError, Global};
+use std::cmp::Ordering;
+use std::marker::Model;
+
+/// A block of a flat network, with the name of its type.
+#[derive(Debug, Drop)]
+pub struct FlatBlock {
+    pub path: Path,
+    pub type_name: Name,
+}
+
+/// Two places of blocks that a chain of connections joins. Links are ordered by their sorts, then by the bytes of `from`, then of `to`.
+#[derive(Debug, Drop)]
+pub struct Link {
+    pub sort: Sort,
+    pub from: Path,
+    pub to: Path,
+}
+
+/// An own port, and a place of a block that a chain joins with it. Borders are ordered by their sorts, then by their ports, then by the
+/// bytes of their places.
+#[derive(Debug, Drop)]
+pub struct Border {
+    pub sort: Sort,
+    pub port: Name,
+    pub place: Path,
+}
+
+impl PartialEq for Link {
+    ghost eq = { eq_by_cmp link_cmp };
+
+    ghost laws = { partial_equiv_from_equiv (eq_by_cmp_equiv link_cmp_total) };
+
+    fn eq(&self, other: &Link) -> bool {
+        self.cmp(other).is_eq()
+    }
+}
+
+impl Eq for Link {
+    ghost laws = { eq_by_cmp_equiv link_cmp_total };
+}
+
+impl PartialOrd for Link {
+    ghost partial_cmp = { as_partial_cmp link_cmp };
+
+    ghost laws = { partial_order_from_total link_cmp_total };
+
+    fn partial_cmp(&self, other: &Link) -> Option<Ordering> {
+        Some(self.cmp(other))
+    }
+}
+
+impl Ord for Link {
+    ghost cmp = { link_cmp };
+
+    ghost total = { link_cmp_total };
+
+    ghost matches_partial_cmp = { λ a b. refl };
+
+    ghost matches_eq = { λ a b. refl };
+
+    fn cmp(&self, other: &Link) -> Ordering {
+        let sorts = sort_number(self.sort).cmp(&sort_number(other.sort));
+        let froms = sorts.then_with(|| self.from.cmp(&other.from));
+        froms.then_with(|| self.to.cmp(&other.to))
+    }
+}
+
+impl PartialEq for Border {
+    ghost eq = { eq_by_cmp border_cmp };
+
+    ghost laws = { partial_equiv_from_equiv (eq_by_cmp_equiv border_cmp_total) };
+
+    fn eq(&self, other: &Border) -> bool {
+        self.cmp(other).is_eq()
+    }
+}
+
+impl Eq for Border {
+    ghost laws = { eq_by_cmp_equiv border_cmp_total };
+}
+
+impl PartialOrd for Border {
+    ghost partial_cmp = { as_partial_cmp border_cmp };
+
+    ghost laws = { partial_order_from_total border_cmp_total };
+
+    fn partial_cmp(&self, other: &Border) -> Option<Ordering> {
+        Some(self.cmp(other))
+    }
+}
+
+impl Ord for Border {
+    ghost cmp = { border_cmp };
+
+    ghost total = { border_cmp_total };
+
+    ghost matches_partial_cmp = { λ a b. refl };
+
+    ghost matches_eq = { λ a b. refl };
+
+    fn cmp(&self, other: &Border) -> Ordering {
+        let sorts = sort_number(self.sort).cmp(&sort_number(other.sort));
+        let ports = sorts.then_with(|| self.port.cmp(&other.port));
+        ports.then_with(|| self.place.cmp(&other.place))
+    }
+}
+
+/// A network with its subapplications replaced by what they hold: its blocks, the links between them, and the borders, which join its own
+/// ports with them. Paths are numbers: each has a front, which places of one network share, and an end behind it.
+#[derive(Debug, Drop)]
+pub struct Flat {
+    pub(crate) fronts: Vec<Front>,
+    pub(crate) leaves: Vec<Leaf>,
+    pub(crate) joins: Vec<Join>,
+    pub(crate) edges: Vec<Edge>,
+}
+
+impl Model for Flat {
+    ghost use Rattle.std.specs.Prelude.{length};
+    ghost use Rattle.fb_network.specs.PlainFlat.{PlainFlat};
+    ghost use Rattle.fb_network.specs.Laid.{flat_at, IsLaid};
+
+    ghost Value = { PlainFlat };
+
+    ghost view = { λ it. flat_at it.fronts.items it.leaves.items it.joins.items it.edges.items };
+
+    ghost invariant = { λ it. IsLaid (length it.fronts.items) it.leaves.items it.joins.items it.edges.items };
+}
+
+impl Flat {
+    /// The blocks in plain, in the order of the text.
+    pub fn plain_blocks(&self, alloc: Global) -> Result<Vec<FlatBlock>, AllocError>
+        ensures { IfOk result (λ blocks. blocks.items ≡ self.now.blocks) }
+    {
+        plain_blocks(alloc, &self.fronts, &self.leaves)
+    }
+
+    /// The links in plain, in order.
+    pub fn plain_links(&self, alloc: Global) -> Result<Vec<Link>, AllocError>
+        ensures { IfOk result (λ links. links.items ≡ self.now.links) }
+    {
+        plain_links(alloc, &self.fronts, &self.joins)
+    }
+
+    /// The borders in plain, in order.
+    pub fn plain_borders(&self, alloc: Global) -> Result<Vec<Border>, AllocError>
+        ensures { IfOk result (λ borders. borders.items ≡ self.now.borders) }
+    {
+        plain_borders(alloc, &self.fronts, &self.edges)
+    }
+}

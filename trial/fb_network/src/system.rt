@@ -1,0 +1,20 @@
+//! The flat network of a system (IEC 61499-1, clause 7).
+ghost use Rattle.std.specs.Prelude.{◌≡◌, IfOk};
+ghost use Rattle.fb_network.specs.SystemFlat.{IsSystemFlat};
+
+use crate::application::FlatApplication;
+use crate::draft::{Draft, finish, take_in};
+use crate::flat::Flat;
+use std::alloc::{AllocError, Global};
+
+/// The flat network of a system: what its applications hold, each inside the application's name. It has no borders.
+#[tactic(none)]
+pub fn join(alloc: Global, applications: &[FlatApplication]) -> Result<Flat, AllocError>
+    ensures { IfOk result (IsSystemFlat applications.now) }
+{
+    let mut draft = Draft::new(alloc);
+    for application in applications {
+        take_in(alloc, &mut draft, &application.name, &application.flat)?;
+    }
+    finish(draft, Vec::new(alloc))
+}
