@@ -45,6 +45,7 @@ use Rattle.fb_locked.specs.History.contracts.record.Record as Record
 use Rattle.fb_locked.specs.contracts.seat.Receipt as Receipt
 use Rattle.fb_locked.specs.contracts.seat.Seat as Seat
 use Rattle.fb_locked.specs.Library.contracts.library.Library as Library
+use Rattle.fb_locked.specs.Index.contracts.name_set.NameSet as NameSet
 use Rattle.fb_locked.specs.Index.contracts.users.Users as Users
 use Rattle.fb_locked.specs.Index.contracts.index.Index as Index
 use Rattle.fb_locked.specs.History.contracts.start.Start as Start
@@ -409,8 +410,14 @@ seat_send = search (seat_field_send, crosses, maps.crosses, sendable) depth 60 f
 pub library_field_send : IsSend (Library.the_field).row
 library_field_send = search (source_field_send, source_field_sync, crosses, maps.crosses, sendable) depth 60 fits 20000
 
+pub name_set_field_send : IsSend (NameSet.the_field).row
+name_set_field_send = search (crosses, maps.crosses, sendable) depth 60 fits 20000
+
+pub name_set_field_sync : IsSync (NameSet.the_field).row
+name_set_field_sync = search (crosses, maps.crosses, sendable) depth 60 fits 20000
+
 pub users_field_send : IsSend (Users.the_field).row
-users_field_send = search (crosses, maps.crosses, sendable) depth 60 fits 20000
+users_field_send = search (name_set_field_send, name_set_field_sync, crosses, maps.crosses, sendable) depth 60 fits 20000
 
 pub index_field_send : IsSend (Index.the_field).row
 index_field_send = search (users_field_send, crosses, maps.crosses, sendable) depth 60 fits 20000
