@@ -1,8 +1,6 @@
-//! Tests of the words of the program, of its runs, of servers, and of sessions.
+//! Tests of the words of the program, of its runs, and of servers.
 #![tactic(auto)]
 
-#[cfg(test)]
-mod callers;
 #[cfg(test)]
 mod peers;
 #[cfg(test)]
@@ -11,5 +9,3 @@ mod program;
 mod refused;
 #[cfg(test)]
 mod servers;
-#[cfg(test)]
-mod sessions;

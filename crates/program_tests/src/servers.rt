@@ -1,7 +1,6 @@
 //! Servers in this process, and clients that talk to them over loopback.
 ghost use Rattle.std.specs.Thread.{IsSync};
 
-use crate::peers::connect;
 use fb_program::bench::Limits;
 use fb_program::wire::MemorySink;
 use fb_serve::{Numbers, serve_on};
@@ -88,15 +87,16 @@ fn talk(alloc: Global, stream: &TcpStream, text: &str) -> io::Result<String> {
     io::read_to_string(alloc, stream)
 }
 
-pub(crate) fn connect_all<R: Net<Listener = TcpListener, Stream = TcpStream>>(
+fn connect_all<R: Net<Listener = TcpListener, Stream = TcpStream>>(
     rt: &R,
     alloc: Global,
     port: u16,
     clients: usize,
 ) -> io::Result<Vec<TcpStream>> {
+    let address = format!(in alloc; "127.0.0.1:{port}")?;
     let mut streams = Vec::new(alloc);
     for _ in 0..clients {
-        streams.push(connect(rt, alloc, port)?)?;
+        streams.push(TcpStream::connect(rt, address.as_str())?)?;
     }
     Ok(streams)
 }
