@@ -91,25 +91,6 @@ fn have_read(job: &Job, finished: &Finished, key: Key, wanted: &[(&str, u64)]) -
     job.key() == key && finished.key() == key
 }
 
-// Whether what is kept of these reads, in the history too, has the same names and revisions, and nothing behind them.
-fn have_kept(job: &Job, finished: &Finished, wanted: &[(&str, u64)]) -> bool {
-    for texts in [job.texts(), finished.texts()] {
-        let are_same = wanted.iter().enumerate().all(|(place, (name, revision))| {
-            match texts.get(place) {
-                Some(read) => {
-                    let kept = read.version.map_or(0, |version| version.revision);
-                    read.name.as_str() == *name && kept == *revision
-                }
-                None => false,
-            }
-        });
-        if !are_same || texts.len() != wanted.len() || texts.get(wanted.len()).is_some() {
-            return false;
-        }
-    }
-    true
-}
-
 // Whether a result is taken in.
 pub(crate) fn is_accepted(bench: &mut Bench, finished: &Finished) -> Result<bool, Fail> {
     Ok(bench.deliver(1, finished)? == Delivered::Accepted)
@@ -175,7 +156,7 @@ fn is_run(
     reads: &[(&str, u64)],
 ) -> Result<bool, Fail> {
     let finished = job.run(alloc)?;
-    if !have_read(job, &finished, key, reads) || !have_kept(job, &finished, reads) {
+    if !have_read(job, &finished, key, reads) {
         return Ok(false);
     }
     is_accepted(bench, &finished)

@@ -145,7 +145,7 @@ fn compare_of(rt: &impl Abort, alloc: Global, texts: &[&str], rows: &[Row]) -> R
 }
 
 // M stands between S and T or D, and D also holds S itself. W also rests on a type that is absent.
-pub(crate) const NESTED: &[&str] = &[
+const NESTED: &[&str] = &[
     B,
     "SUBAPPLICATION S EVENT_INPUT I; END_EVENT FBS F:B; END_FBS EVENT_CONNECTIONS I TO F.I; END_CONNECTIONS END_SUBAPPLICATION",
     "SUBAPPLICATION M EVENT_INPUT I; END_EVENT SUBAPPS N:S; END_SUBAPPS EVENT_CONNECTIONS I TO N.I; END_CONNECTIONS END_SUBAPPLICATION",

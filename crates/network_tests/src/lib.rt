@@ -1,11 +1,8 @@
-//! Tests of the public calls of the networks' crates: the order of types, networks in plain, flat networks, placements and plans; and of jobs that
-//! take nets along.
+//! Tests of the public calls of the networks' crates: the order of types, networks in plain, flat networks, placements and plans.
 #![tactic(auto)]
 
 #[cfg(test)]
 mod composing;
-#[cfg(test)]
-mod hints;
 #[cfg(test)]
 mod kept;
 #[cfg(test)]
