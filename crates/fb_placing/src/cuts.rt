@@ -1,19 +1,19 @@
 //! Links between blocks with different homes.
 ghost use Rattle.std.specs.Prelude.{◌≡◌, IfOk, option_copied};
-ghost use Rattle.std.specs.BTreeMap.{get_by_text};
+ghost use Rattle.std.specs.HashMap.{get_by_text};
 ghost use Rattle.fb_placing.specs.Cuts.{cuts_of, home_at, is_cut, same_home};
 
 use crate::fronts::{PathTable, add_first, nearest};
 use crate::homes::Home;
 use fb_network::{Link, Path};
 use std::alloc::{AllocError, Global};
-use std::collections::BTreeMap;
+use std::collections::HashMap;
 
 /// The homes of blocks by their paths.
 pub fn home_table(alloc: Global, homes: &[Home]) -> Result<PathTable, AllocError>
     ensures { IfOk result (λ table. get_by_text table ≡ home_at homes.now) }
 {
-    let mut table = BTreeMap::new(alloc);
+    let mut table = HashMap::new(alloc);
     for home in homes {
         let text = String::from_str(alloc, home.path.as_str())?;
         add_first(&mut table, text, home.resource.copy()?)?;

@@ -1,6 +1,7 @@
 //! The homes of the blocks of a system.
 ghost use Rattle.std.specs.Prelude.{◌≡◌, [], ◌∷◌, ◌++◌, map, IfOk, OnOk};
-ghost use Rattle.std.specs.BTreeMap.{get, get_by_text};
+ghost use Rattle.std.specs.BTreeMap.{get};
+ghost use Rattle.std.specs.HashMap.{get_by_text};
 ghost use Rattle.fb_tree.specs.Text.Order.{name_cmp};
 ghost use Rattle.fb_tree.specs.Tree.{mapping_tree};
 ghost use Rattle.fb_netcheck.specs.Library.View.{tree_at};

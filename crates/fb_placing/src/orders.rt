@@ -1,6 +1,6 @@
 //! The commands of a system, each with the resource that it is for.
 ghost use Rattle.std.specs.Prelude.{◌≡◌, [], ◌∷◌, ◌++◌, IfOk, OnOk, map, option_copied};
-ghost use Rattle.std.specs.BTreeMap.{get_by_text};
+ghost use Rattle.std.specs.HashMap.{get_by_text};
 ghost use Rattle.fb_netcheck.specs.Library.View.{tree_at};
 ghost use Rattle.std.specs.List.{cons_option};
 ghost use Rattle.fb_placing.specs.Cuts.{cuts_of, home_at};

@@ -1,5 +1,5 @@
 use Rattle.std.proofs.Common.{◌≡◌, take}
-use Rattle.std.specs.BTreeMap.{get_by_text}
+use Rattle.std.specs.HashMap.{get_by_text}
 use Rattle.fb_placing.specs.Cuts.{cuts_of}
 use Rattle.fb_placing.proofs.cuts.cuts_of.Given as goal
 
