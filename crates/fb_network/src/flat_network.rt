@@ -5,15 +5,18 @@ ghost use Rattle.fb_network.specs.FlatNet.{IsFlat};
 ghost use Rattle.fb_network.specs.Part.{IsFlatInWhole};
 ghost use Rattle.fb_network.specs.Ready.{AreFinished};
 
-use crate::blocks::blocks_of_network;
 use crate::borders::borders_of_network;
+use crate::draft::{Draft, finish};
 use crate::flat::Flat;
-use crate::links::links_of_network;
+use crate::front::Front;
+use crate::instances::take_instances;
+use crate::links::push_links;
 use crate::look_up::{Nets, Networks};
 use crate::network::Network;
-use crate::sorted::sort_once;
-use crate::table::table_of;
+use crate::own::texts_of;
+use crate::path::Path;
 use std::alloc::{AllocError, Global};
+use std::sync::Arc;
 
 /// The flat network of a network, composed of the flat networks of its subapplications.
 pub fn compose<V: Networks, N: Nets>(
@@ -39,11 +42,11 @@ pub fn compose_by_part<V: Networks, N: Nets>(
 ) -> Result<Flat, AllocError>
     ensures { IfOk result (IsFlatInWhole (V.networks part.now) network.now (N.nets nets.now)) }
 {
-    let instances = table_of(alloc, network.instances())?;
-    let blocks = blocks_of_network(alloc, network, nets)?;
-    let mut links = links_of_network(alloc, part, network, &instances, nets)?;
-    sort_once(&mut links)?;
-    let mut borders = borders_of_network(alloc, network, &instances, nets)?;
-    sort_once(&mut borders)?;
-    Ok(Flat::new(blocks, links, borders))
+    let mut draft = Draft::new(alloc);
+    let texts = Arc::new(alloc, texts_of(alloc, network)?)?;
+    draft.fronts.push(Front::new(Path::nothing(alloc), texts))?;
+    let table = take_instances(alloc, &mut draft, nets, network.instances())?;
+    push_links(alloc, &mut draft, part, network, &table)?;
+    let edges = borders_of_network(alloc, network, &table)?;
+    finish(draft, edges)
 }

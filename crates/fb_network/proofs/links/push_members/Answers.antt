@@ -1,0 +1,24 @@
+-- The fronts of the plugs and then those of the sockets are added, and the links between them.
+use Rattle.std.proofs.Common.{refl, sym, subst, ap, ◌∙◌, ◌≡◌, List, length, map}
+use Rattle.std.specs.List.{All}
+use Rattle.std.proofs.lemmas.Result.{on_ok_weaker}
+use Rattle.fb_network.specs.Laid.{path_at}
+use Rattle.fb_network.specs.Reading.{ArePlaces, IsPlaceBelow}
+use Rattle.fb_network.proofs.Connections.{adds_members}
+use Rattle.fb_network.proofs.Readings.{places_grown}
+use Rattle.fb_network.proofs.links.push_members.Goals as goal
+
+pub push_member_fronts-requires : goal.push_member_fronts-requires
+push_member_fronts-requires c = c.requires.plugs
+
+pub push_member_fronts-requires-2 : goal.push_member_fronts-requires-2
+push_member_fronts-requires-2 c =
+    let fronts = c.args.draft.now.fronts.items in
+    let there : ArePlaces fronts c.args.sockets.now (map (path_at fronts) c.args.sockets.now) = record { in_range = c.requires.sockets; is = refl } in
+    (places_grown c.in_ok-plugged.ensures.grows there).in_range
+
+pub returns : goal.returns
+returns c =
+    on_ok_weaker c.push_adapter_joins.result
+    (λ is. adds_members c.args.draft.now _ _ _ c.args.ports.now c.args.plugs.now c.args.sockets.now c.in_ok-plugged.plugged.items c.in_ok-socketed.socketed.items c.requires.sockets ? c.in_ok-plugged.ensures.grows c.in_ok-plugged.ensures.members c.in_ok-socketed.ensures.grows c.in_ok-socketed.ensures.members refl is)
+    c.push_adapter_joins.ensures
