@@ -2,6 +2,8 @@
 use Rattle.std.proofs.Common.{ℕ, ◌≡◌, ◌<◌, ◌+◌, suc, zero, List, [], ◌∷◌, ◌++◌, Option, Some, None, length, map, take, get_or, refl, sym, ap, subst, ◌∙◌, arith, append_assoc, append-nil, length-append}
 use Rattle.std.specs.Prelude.{slice_get, flat_map, option_map, option_and_then}
 use Rattle.std.specs.List.{All}
+use Rattle.std.proofs.lemmas.List.{length-map}
+use Rattle.std.proofs.lemmas.Option.{slice_get-map, slice_get_read, slice_get_within}
 use Rattle.fb_tree.specs.declared.network.Sort.{Sort}
 use Rattle.fb_network.specs.declared.network.Port.{Port}
 use Rattle.fb_network.specs.declared.network.Instance.{Instance}
@@ -26,25 +28,20 @@ use Rattle.fb_network.specs.Standing.{AddsConnections, AddsLinks, AreEdgesOf, Ar
 use Rattle.fb_network.specs.Behind.{AreMembers, adapter_joins, connection_edges, edges_of_end, join_pairs, places_behind}
 use Rattle.fb_network.proofs.Behinds.{behind_reads, end_edges_read, pairs_read}
 use Rattle.fb_network.proofs.Drafts.{added}
-use Rattle.fb_network.proofs.PortMembers.{adapter_reads, members_grown, some_below}
-use Rattle.fb_network.proofs.Readings.{get_left, get_map, get_right, joins_grown, length_map, places_grown, reading_both, reading_nothing}
+use Rattle.fb_network.proofs.PortMembers.{adapter_reads, members_grown}
+use Rattle.fb_network.proofs.Readings.{get_left, get_right, joins_grown, places_grown, reading_both, reading_nothing}
 use Rattle.fb_network.proofs.Standings.{flat_map_push, grows_none, grows_twice, next_taken, table_grown}
 
 -- an element in a list, and what a map gives of it
-get_at : {X : Type 0} (xs : List X) (k : ℕ) (x : X) → k < length xs → x ≡ get_or xs k x → slice_get xs k ≡ Some x
-get_at [] k x lt e = absurd (omega (arith, lt))
-get_at (y ∷ xs) zero x lt e = ap Some (sym e)
-get_at (y ∷ xs) (suc k) x lt e = get_at xs k x (omega (arith, lt)) e
-
 get_mapped : {X Y : Type 0} (f : X → Y) (xs : List X) (k : ℕ) (x : X) → k < length xs → x ≡ get_or xs k x → slice_get (map f xs) k ≡ Some (f x)
-get_mapped f xs k x lt e = get_map f xs k ∙ ap (option_map f) (get_at xs k x lt e)
+get_mapped f xs k x lt e = slice_get-map f xs k ∙ ap (option_map f) (slice_get_read xs (length xs) k x refl lt e)
 
 -- a network's own texts by their numbers
 pub own_name : (network : PlainNetwork) (k : ℕ) (i : Instance) → k < length network.instances → i ≡ get_or network.instances k i → slice_get (own_texts network) k ≡ Some i.name
 own_name network k i lt e =
     let names = map (λ (x : Instance). x.name) network.instances in
     let sources = map (λ (c : Connection). end_text c.source) network.connections in
-    let long = length_map (λ (x : Instance). x.name) network.instances in
+    let long = length-map network.instances (λ (x : Instance). x.name) in
     let both = length-append names sources in
     get_left (names ++ sources) (map (λ (c : Connection). end_text c.destination) network.connections) k (omega (arith, lt, long, both))
     ∙ get_left names sources k (omega (arith, lt, long)) ∙ get_mapped (λ (x : Instance). x.name) network.instances k i lt e
@@ -53,8 +50,8 @@ pub own_source : (network : PlainNetwork) (k : ℕ) (c : Connection) → k < len
 own_source network k c lt e =
     let names = map (λ (x : Instance). x.name) network.instances in
     let sources = map (λ (x : Connection). end_text x.source) network.connections in
-    let long = length_map (λ (x : Instance). x.name) network.instances in
-    let wide = length_map (λ (x : Connection). end_text x.source) network.connections in
+    let long = length-map network.instances (λ (x : Instance). x.name) in
+    let wide = length-map network.connections (λ (x : Connection). end_text x.source) in
     let both = length-append names sources in
     get_left (names ++ sources) (map (λ (x : Connection). end_text x.destination) network.connections) (length network.instances + k) (omega (arith, lt, long, wide, both))
     ∙ get_right names sources k (length network.instances + k) (omega (arith, long)) ∙ get_mapped (λ (x : Connection). end_text x.source) network.connections k c lt e
@@ -63,8 +60,8 @@ pub own_destination : (network : PlainNetwork) (k : ℕ) (c : Connection) → k 
 own_destination network k c lt e =
     let names = map (λ (x : Instance). x.name) network.instances in
     let sources = map (λ (x : Connection). end_text x.source) network.connections in
-    let long = length_map (λ (x : Instance). x.name) network.instances in
-    let wide = length_map (λ (x : Connection). end_text x.source) network.connections in
+    let long = length-map network.instances (λ (x : Instance). x.name) in
+    let wide = length-map network.connections (λ (x : Connection). end_text x.source) in
     let both = length-append names sources in
     get_right (names ++ sources) (map (λ (x : Connection). end_text x.destination) network.connections) k (length network.connections + (length network.instances + k)) (omega (arith, long, wide, both))
     ∙ get_mapped (λ (x : Connection). end_text x.destination) network.connections k c lt e
@@ -73,15 +70,33 @@ own_destination network k c lt e =
 pub own_says : (fronts : List PlainFront) (network : PlainNetwork) (k : ℕ) (text : List ℕ) → HasOwn fronts network → slice_get (own_texts network) k ≡ Some text → Says fronts (own_place k) text
 own_says fronts network k text has e =
     record {
-      in_range = some_below fronts 0 _ has;
+      in_range = slice_get_within fronts 0 _ has;
       is = ap (λ (o : Option PlainFront). path_in o k) has ∙ ap text_or_nothing e;
     }
+
+-- the ends of a connection are at their places
+pub says_source : (fronts : List PlainFront) (network : PlainNetwork) (ys : List Connection) (k : ℕ) (c : Connection) (place : Place) → HasOwn fronts network → ys ≡ network.connections → k < length ys → c ≡ get_or ys k c → place ≡ own_place (length network.instances + k) → Says fronts place (end_text c.source)
+says_source fronts network ys k c place has same lt e is =
+    let within : k < length network.connections = subst (λ (cs : List Connection). k < length cs) same lt in
+    let at : c ≡ get_or network.connections k c = e ∙ ap (λ (cs : List Connection). get_or cs k c) same in
+    subst (λ (x : Place). Says fronts x (end_text c.source)) (sym is) (own_says fronts network (length network.instances + k) (end_text c.source) has (own_source network k c within at))
+
+pub says_destination : (fronts : List PlainFront) (network : PlainNetwork) (ys : List Connection) (k : ℕ) (c : Connection) (place : Place) → HasOwn fronts network → ys ≡ network.connections → k < length ys → c ≡ get_or ys k c → place ≡ own_place (length ys + (length network.instances + k)) → Says fronts place (end_text c.destination)
+says_destination fronts network ys k c place has same lt e is =
+    let within : k < length network.connections = subst (λ (cs : List Connection). k < length cs) same lt in
+    let at : c ≡ get_or network.connections k c = e ∙ ap (λ (cs : List Connection). get_or cs k c) same in
+    subst (λ (x : Place). Says fronts x (end_text c.destination)) (sym (is ∙ ap (λ (cs : List Connection). own_place (length cs + (length network.instances + k))) same))
+    (own_says fronts network (length network.connections + (length network.instances + k)) (end_text c.destination) has (own_destination network k c within at))
 
 pub are_named : (fronts : List PlainFront) (network : PlainNetwork) → HasOwn fronts network → AreNamed fronts network.instances
 are_named fronts network has k i lt e = own_says fronts network k i.name has (own_name network k i lt e)
 
+-- the first front is put
+pub own_put : (old new : List PlainFront) (front : PlainFront) (network : PlainNetwork) → old ≡ [] → new ≡ old ++ front ∷ [] → front ≡ record { start = []; ends = own_texts network } → HasOwn new network
+own_put old new front network none is front_is = ap (λ (fs : List PlainFront). slice_get fs 0) (is ∙ ap (λ (fs : List PlainFront). fs ++ front ∷ []) none) ∙ ap Some front_is
+
 pub own_grown : (fronts new : List PlainFront) (network : PlainNetwork) → Grows fronts new → HasOwn fronts network → HasOwn new network
-own_grown fronts new network g has = ap (λ (fs : List PlainFront). slice_get fs 0) g.1 ∙ get_left fronts g.0 0 (some_below fronts 0 _ has) ∙ has
+own_grown fronts new network g has = ap (λ (fs : List PlainFront). slice_get fs 0) g.1 ∙ get_left fronts g.0 0 (slice_get_within fronts 0 _ has) ∙ has
 
 -- the instances of a table
 pub table_instances : (fronts : List PlainFront) (nets : Nets) (table : List ℕ → Option Standing) (xs : List Instance) → IsTable fronts nets table xs → HasInstances table xs
@@ -179,12 +194,8 @@ connects_more view network table start mid new ys k c same lt e p q nets is =
 pub edges_more : (network : PlainNetwork) (table : List ℕ → Option Standing) (edges all : List Edge) (ys : List Connection) (k : ℕ) (c : Connection) (from to : Place) → ys ≡ network.connections → k < length ys → c ≡ get_or ys k c → from ≡ own_place (length network.instances + k) → to ≡ own_place (length ys + (length network.instances + k)) → all ≡ edges ++ connection_edges table from to c → AreEdgesOf network table edges (take k ys) → AreEdgesOf network table all (take (k + 1) ys)
 edges_more network table edges all ys k c from to same lt e from_is to_is is p fronts nets laid has =
     let f = connection_borders (instance_named network.instances) nets in
-    let within : k < length network.connections = subst (λ (cs : List Connection). k < length cs) same lt in
-    let at : c ≡ get_or network.connections k c = e ∙ ap (λ (cs : List Connection). get_or cs k c) same in
-    let from_says : Says fronts from (end_text c.source) = subst (λ (x : Place). Says fronts x (end_text c.source)) (sym from_is) (own_says fronts network (length network.instances + k) (end_text c.source) has (own_source network k c within at)) in
-    let to_says : Says fronts to (end_text c.destination) =
-    subst (λ (x : Place). Says fronts x (end_text c.destination)) (sym (to_is ∙ ap (λ (cs : List Connection). own_place (length cs + (length network.instances + k))) same))
-    (own_says fronts network (length network.connections + (length network.instances + k)) (end_text c.destination) has (own_destination network k c within at)) in
+    let from_says = says_source fronts network ys k c from has same lt e from_is in
+    let to_says = says_destination fronts network ys k c to has same lt e to_is in
     let sources = behind_reads fronts nets table network.instances c.sort from c.source laid from_says in
     let destinations = behind_reads fronts nets table network.instances c.sort to c.destination laid to_says in
     let left = end_edges_read fronts c.sort c.source (places_behind table c.sort to c.destination) (behind_of (instance_named network.instances) nets c.sort c.destination) destinations in

@@ -20,3 +20,4 @@ pub mod Standings
 pub mod Behinds
 pub mod PortMembers
 pub mod Connections
+pub mod Alike

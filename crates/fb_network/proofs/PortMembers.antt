@@ -3,6 +3,7 @@ use Rattle.std.proofs.Common.{ℕ, ◌≡◌, ◌<◌, ◌+◌, suc, zero, List,
 use Rattle.std.specs.Prelude.{slice_get, flat_map}
 use Rattle.std.specs.List.{All, AllZip}
 use Rattle.std.proofs.lemmas.List.{length-take-le, map-append}
+use Rattle.std.proofs.lemmas.Option.{slice_get_within}
 use Rattle.std.proofs.lemmas.List.Elements.{All-append, All-cons, All-get_or, All-nil}
 use Rattle.fb_tree.specs.declared.interface.Side.{Side}
 use Rattle.fb_tree.specs.declared.interface.Side.TheVariants.{Input, Output}
@@ -24,13 +25,8 @@ pub record AddsMembers (old new : List PlainFront) (names : List (List ℕ)) (nu
   pub grows : Grows old new
   pub members : AreMembers new names numbers (map (path_at old) places)
 
-pub some_below : {X : Type 0} (xs : List X) (k : ℕ) (x : X) → slice_get xs k ≡ Some x → k < length xs
-some_below [] k x e = absurd (cc)
-some_below (z ∷ xs) zero x e = omega arith
-some_below (z ∷ xs) (suc k) x e = let lt = some_below xs k x e in omega (arith, lt)
-
 member_grown : (fronts new : List PlainFront) (names : List (List ℕ)) (n : ℕ) (text : List ℕ) → Grows fronts new → IsMember fronts names n text → IsMember new names n text
-member_grown fronts new names n text g e = ap (λ (fs : List PlainFront). slice_get fs n) g.1 ∙ get_left fronts g.0 n (some_below fronts n _ e) ∙ e
+member_grown fronts new names n text g e = ap (λ (fs : List PlainFront). slice_get fs n) g.1 ∙ get_left fronts g.0 n (slice_get_within fronts n _ e) ∙ e
 
 pub members_grown : (fronts new : List PlainFront) (names : List (List ℕ)) (ns : List ℕ) (ts : List (List ℕ)) → Grows fronts new → AreMembers fronts names ns ts → AreMembers new names ns ts
 members_grown fronts new names [] [] g p = tt
@@ -117,7 +113,7 @@ module _ (fronts : List PlainFront) (names : List (List ℕ)) where
     plug_joins_below n [] us lt q = All-nil (IsJoinBelow (length fronts))
     plug_joins_below n (m ∷ ms) [] lt q = absurd q
     plug_joins_below n (m ∷ ms) (u ∷ us) lt q =
-        All-append (IsJoinBelow (length fronts)) (member_joins n m 0 ports) (plug_joins ports ms n) (member_joins_below ports 0 n m lt (some_below fronts m _ q.0)) (plug_joins_below n ms us lt q.1)
+        All-append (IsJoinBelow (length fronts)) (member_joins n m 0 ports) (plug_joins ports ms n) (member_joins_below ports 0 n m lt (slice_get_within fronts m _ q.0)) (plug_joins_below n ms us lt q.1)
 
     adapter_joins_say : (ns : List ℕ) (ts : List (List ℕ)) (ms : List ℕ) (us : List (List ℕ)) → AreMembers fronts names ns ts → AreMembers fronts names ms us → map (link_at fronts) (adapter_joins ports ns ms) ≡ adapter_links ports ts us
     adapter_joins_say [] [] ms us p q = refl
@@ -130,7 +126,7 @@ module _ (fronts : List PlainFront) (names : List (List ℕ)) where
     adapter_joins_below [] ts ms us p q = All-nil (IsJoinBelow (length fronts))
     adapter_joins_below (n ∷ ns) [] ms us p q = absurd p
     adapter_joins_below (n ∷ ns) (t ∷ ts) ms us p q =
-        All-append (IsJoinBelow (length fronts)) (plug_joins ports ms n) (adapter_joins ports ns ms) (plug_joins_below n ms us (some_below fronts n _ p.0) q) (adapter_joins_below ns ts ms us p.1 q)
+        All-append (IsJoinBelow (length fronts)) (plug_joins ports ms n) (adapter_joins ports ns ms) (plug_joins_below n ms us (slice_get_within fronts n _ p.0) q) (adapter_joins_below ns ts ms us p.1 q)
 
     pub adapter_reads : (ns : List ℕ) (ts : List (List ℕ)) (ms : List ℕ) (us : List (List ℕ)) → AreMembers fronts names ns ts → AreMembers fronts names ms us → AreJoins fronts (adapter_joins ports ns ms) (adapter_links ports ts us)
     adapter_reads ns ts ms us p q = record { in_range = adapter_joins_below ns ts ms us p q; is = adapter_joins_say ns ts ms us p q }

@@ -2,7 +2,9 @@
 use Rattle.std.proofs.Common.{ℕ, ◌≡◌, ◌<◌, ◌≤◌, ◌+◌, suc, zero, List, [], ◌∷◌, ◌++◌, Option, Some, None, length, map, refl, sym, ap, subst, ◌∙◌, arith, append_assoc, length-append, append-nil}
 use Rattle.std.specs.Prelude.{slice_get, option_map}
 use Rattle.std.specs.List.{All}
-use Rattle.std.proofs.lemmas.List.{map-append}
+use Rattle.std.proofs.lemmas.List.{length-map, map-append}
+use Rattle.std.proofs.lemmas.Option.{slice_get-map}
+use Rattle.std.proofs.lemmas.Simd.{map-map}
 use Rattle.std.proofs.lemmas.List.Elements.{All-append, All-map, All-nil, All-weaker, All-head, All-tail}
 use Rattle.fb_tree.specs.declared.network.Sort.{Sort}
 use Rattle.fb_network.specs.Places.{dotted}
@@ -30,15 +32,6 @@ get_right [] ys k n e = ap (slice_get ys) (omega (arith, e))
 get_right (x ∷ xs) ys k zero e = absurd (omega (arith, e))
 get_right (x ∷ xs) ys k (suc n) e = get_right xs ys k n (omega (arith, e))
 
-pub get_map : {X Y : Type 0} (f : X → Y) (xs : List X) (k : ℕ) → slice_get (map f xs) k ≡ option_map f (slice_get xs k)
-get_map f [] k = refl
-get_map f (x ∷ xs) zero = refl
-get_map f (x ∷ xs) (suc k) = get_map f xs k
-
-pub length_map : {X Y : Type 0} (f : X → Y) (xs : List X) → length (map f xs) ≡ length xs
-length_map f [] = refl
-length_map f (x ∷ xs) = ap suc (length_map f xs)
-
 none_below : {X : Type 0} (xs : List X) (k : ℕ) → k < length xs → slice_get xs k ≡ None → ⊥
 none_below [] k lt e = omega (arith, lt)
 none_below (x ∷ xs) zero lt e = cc
@@ -57,8 +50,8 @@ path_moved : (before inner after : List PlainFront) (name : List ℕ) (by : ℕ)
 path_moved before inner after name by p e lt =
     let further : slice_get (before ++ (map (front_within name) inner ++ after)) (p.front + by) ≡ slice_get (map (front_within name) inner ++ after) p.front =
     get_right before (map (front_within name) inner ++ after) p.front (p.front + by) (ap (λ (n : ℕ). p.front + n) e) in
-    let within : p.front < length (map (front_within name) inner) = let long = length_map (front_within name) inner in omega (arith, lt, long) in
-    let found = further ∙ get_left (map (front_within name) inner) after p.front within ∙ get_map (front_within name) inner p.front in
+    let within : p.front < length (map (front_within name) inner) = let long = length-map inner (front_within name) in omega (arith, lt, long) in
+    let found = further ∙ get_left (map (front_within name) inner) after p.front within ∙ slice_get-map (front_within name) inner p.front in
     ap (λ (o : Option PlainFront). path_in o p.end) found ∙ path_inside name (slice_get inner p.front) p.end (none_below inner p.front lt)
 
 module _ {E X : Type 0} (below : ℕ → E → Type 0) (at : List PlainFront → E → X) where
@@ -68,10 +61,6 @@ module _ {E X : Type 0} (below : ℕ → E → Type 0) (at : List PlainFront →
   pub reading_both : (fronts : List PlainFront) (es fs : List E) (xs ys : List X) → IsReading below at fronts es xs → IsReading below at fronts fs ys → IsReading below at fronts (es ++ fs) (xs ++ ys)
   reading_both fronts es fs xs ys p q =
       record { in_range = All-append (below (length fronts)) es fs p.in_range q.in_range; is = map-append (at fronts) es fs ∙ (λ i. p.is i ++ q.is i) }
-
-  map_twice : {Y Z : Type 0} (g : Y → Z) (f : E → Y) (es : List E) → map g (map f es) ≡ map (λ e. g (f e)) es
-  map_twice g f [] = refl
-  map_twice {Z = Z} g f (e ∷ es) = ap (λ (zs : List Z). g (f e) ∷ zs) (map_twice g f es)
 
   -- entries that say the same one by one
   map_same : {Y : Type 0} (P : E → Type 0) (f g : E → Y) → ((e : E) → P e → f e ≡ g e) → (es : List E) → All P es → map f es ≡ map g es
@@ -93,13 +82,13 @@ module _ {E X : Type 0} (below : ℕ → E → Type 0) (at : List PlainFront →
     pub reading_moved : (before inner : List PlainFront) (by : ℕ) (es : List E) → by ≡ length before → All (below (length inner)) es → IsReading below at (before ++ map (front_within name) inner) (map (move by) es) (map inside (map (at inner) es))
     reading_moved before inner by es e all =
         let count : by + length inner ≡ length (before ++ map (front_within name) inner) =
-        let long = length-append before (map (front_within name) inner) in let same = length_map (front_within name) inner in omega (arith, e, long, same) in
+        let long = length-append before (map (front_within name) inner) in let same = length-map inner (front_within name) in omega (arith, e, long, same) in
         record {
           in_range = All-map (below (length (before ++ map (front_within name) inner))) (move by) es
           (All-weaker (below (length inner)) (λ x. below (length (before ++ map (front_within name) inner)) (move by x)) (λ x b. subst (λ (n : ℕ). below n (move by x)) count (moves_below by (length inner) x b)) es all);
-          is = map_twice (at (before ++ map (front_within name) inner)) (move by) es
+          is = map-map (at (before ++ map (front_within name) inner)) (move by) es
           ∙ map_same (below (length inner)) (λ x. at (before ++ map (front_within name) inner) (move by x)) (λ x. inside (at inner x)) (λ x b. moved before inner by x e b) es all
-          ∙ sym (map_twice inside (at inner) es);
+          ∙ sym (map-map inside (at inner) es);
         }
 
 path_moved_last : (before inner : List PlainFront) (name : List ℕ) (by : ℕ) (p : Place) → by ≡ length before → p.front < length inner → path_at (before ++ map (front_within name) inner) (place_moved by p) ≡ dotted name (path_at inner p)

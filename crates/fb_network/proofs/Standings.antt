@@ -1,8 +1,8 @@
 -- Instances that are taken in one by one.
-use Rattle.std.proofs.Common.{ℕ, ◌≡◌, ◌<◌, ◌≤◌, ◌+◌, Bool, true, false, cond, List, [], ◌∷◌, ◌++◌, Option, Some, None, length, map, take, get_or, refl, sym, ap, subst, ◌∙◌, arith, add-one, append_assoc, append-nil, length-append}
+use Rattle.std.proofs.Common.{ℕ, ◌≡◌, ◌<◌, ◌≤◌, ◌+◌, Bool, true, false, cond, List, [], ◌∷◌, ◌++◌, Option, Some, None, length, map, take, get_or, refl, sym, ap, subst, ◌∙◌, arith, append_assoc, append-nil, length-append}
 use Rattle.std.specs.Prelude.{flat_map, is_some}
 use Rattle.std.specs.BTreeMap.{is_at}
-use Rattle.std.proofs.Math.Seq.{take-suc}
+use Rattle.std.proofs.lemmas.List.{take_more}
 use Rattle.std.proofs.lemmas.List.Concat.{flat_map-append, flat_map-cons}
 use Rattle.std.proofs.lemmas.List.Elements.{All-cons, All-nil}
 use Rattle.fb_tree.specs.Text.Order.{name_cmp}
@@ -178,7 +178,7 @@ holds_more {nets = nets} start draft new table after xs i s h t same puts =
 
 -- what has been passed, and the next
 pub next_taken : {X : Type 0} (xs : List X) (k : ℕ) (x : X) → k < length xs → x ≡ get_or xs k x → take k xs ++ x ∷ [] ≡ take (k + 1) xs
-next_taken xs k x lt e = ap (λ (y : _). take k xs ++ y ∷ []) e ∙ sym (take-suc xs k x lt) ∙ ap (λ (n : ℕ). take n xs) (sym (add-one k))
+next_taken xs k x lt e = ap (λ (y : _). take k xs ++ y ∷ []) e ∙ sym (take_more xs k x lt)
 
 -- the table stays where fronts are added
 pub table_grown : (fronts new : List PlainFront) (nets : Nets) (table : List ℕ → Option Standing) (xs : List Instance) → Grows fronts new → IsTable fronts nets table xs → IsTable new nets table xs

@@ -1,5 +1,5 @@
 //! Flat networks.
-ghost use Rattle.std.specs.Prelude.{◌≡◌, refl, IfOk};
+ghost use Rattle.std.specs.Prelude.{◌≡◌, ◌↔◌, refl, IfOk, IsTrue};
 ghost use Rattle.std.specs.Ordering.{eq_by_cmp, as_partial_cmp};
 ghost use Rattle.std.specs.Cmp.{eq_by_cmp_equiv, partial_equiv_from_equiv, partial_order_from_total};
 ghost use Rattle.fb_network.specs.LinkOrder.{link_cmp, link_cmp_total, border_cmp, border_cmp_total};
@@ -8,6 +8,7 @@ use crate::entries::{Edge, Join, Leaf, plain_blocks, plain_borders, plain_links}
 use crate::front::Front;
 use crate::network::sort_number;
 use crate::path::Path;
+use crate::same::{are_same_edges, are_same_joins, are_same_leaves};
 use fb_tree::Sort;
 use fb_tree::text::Name;
 use std::alloc::{AllocError, Global};
@@ -141,6 +142,11 @@ impl Model for Flat {
 }
 
 impl Flat {
+    /// Where its lists are allocated.
+    pub fn allocator(&self) -> Global {
+        *self.fronts.allocator()
+    }
+
     /// The blocks in plain, in the order of the text.
     pub fn plain_blocks(&self, alloc: Global) -> Result<Vec<FlatBlock>, AllocError>
         ensures { IfOk result (λ blocks. blocks.items ≡ self.now.blocks) }
@@ -160,5 +166,14 @@ impl Flat {
         ensures { IfOk result (λ borders. borders.items ≡ self.now.borders) }
     {
         plain_borders(alloc, &self.fronts, &self.edges)
+    }
+
+    /// Whether both say the same. It takes no memory.
+    pub fn is_same(&self, other: &Flat) -> bool
+        ensures { IsTrue result ↔ (self.now ≡ other.now) }
+    {
+        are_same_leaves(&self.fronts, &self.leaves, &other.fronts, &other.leaves)
+            && are_same_joins(&self.fronts, &self.joins, &other.fronts, &other.joins)
+            && are_same_edges(&self.fronts, &self.edges, &other.fronts, &other.edges)
     }
 }

@@ -1,9 +1,10 @@
 //! The flat network of a network.
-ghost use Rattle.std.specs.Prelude.{IfOk};
+ghost use Rattle.std.specs.Prelude.{◌≡◌, [], IfOk};
 ghost use Rattle.fb_network.specs.Clean.{IsCleanThroughout};
 ghost use Rattle.fb_network.specs.FlatNet.{IsFlat};
 ghost use Rattle.fb_network.specs.Part.{IsFlatInWhole};
 ghost use Rattle.fb_network.specs.Ready.{AreFinished};
+ghost use Rattle.fb_network.specs.Standing.{HasOwn};
 
 use crate::borders::borders_of_network;
 use crate::draft::{Draft, finish};
@@ -17,6 +18,18 @@ use crate::own::texts_of;
 use crate::path::Path;
 use std::alloc::{AllocError, Global};
 use std::sync::Arc;
+
+/// A draft with the front of a network's own texts, without blocks and links.
+fn own_draft(alloc: Global, network: &Network) -> Result<Draft, AllocError>
+    ensures own { IfOk result (λ draft. HasOwn draft.fronts.items network.now) }
+    ensures leaves { IfOk result (λ draft. draft.leaves.items ≡ []) }
+    ensures joins { IfOk result (λ draft. draft.joins.items ≡ []) }
+{
+    let texts = Arc::new(alloc, texts_of(alloc, network)?)?;
+    let mut draft = Draft::new(alloc);
+    draft.fronts.push(Front::new(Path::nothing(alloc), texts))?;
+    Ok(draft)
+}
 
 /// The flat network of a network, composed of the flat networks of its subapplications.
 pub fn compose<V: Networks, N: Nets>(
@@ -42,9 +55,7 @@ pub fn compose_by_part<V: Networks, N: Nets>(
 ) -> Result<Flat, AllocError>
     ensures { IfOk result (IsFlatInWhole (V.networks part.now) network.now (N.nets nets.now)) }
 {
-    let mut draft = Draft::new(alloc);
-    let texts = Arc::new(alloc, texts_of(alloc, network)?)?;
-    draft.fronts.push(Front::new(Path::nothing(alloc), texts))?;
+    let mut draft = own_draft(alloc, network)?;
     let table = take_instances(alloc, &mut draft, nets, network.instances())?;
     push_links(alloc, &mut draft, part, network, &table)?;
     let edges = borders_of_network(alloc, network, &table)?;

@@ -26,6 +26,7 @@ mod own;
 mod pairs;
 mod path;
 mod place;
+mod same;
 mod sorted;
 mod system;
 mod table;

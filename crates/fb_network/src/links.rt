@@ -4,10 +4,12 @@ ghost use Rattle.std.specs.List.{All};
 ghost use Rattle.std.specs.BTreeMap.{get};
 ghost use Rattle.fb_tree.specs.Text.Order.{name_cmp};
 ghost use Rattle.fb_network.specs.Ready as ready;
-ghost use Rattle.fb_network.specs.Composed.{adapter_links, link_pairs};
+ghost use Rattle.fb_network.specs.Network.{place_of};
+ghost use Rattle.fb_network.specs.Clean.{adapter_at};
+ghost use Rattle.fb_network.specs.Composed.{adapter_links, link_pairs, links_of_sort};
 ghost use Rattle.fb_network.specs.Laid.{path_at};
 ghost use Rattle.fb_network.specs.Reading.{IsPlaceBelow};
-ghost use Rattle.fb_network.specs.Standing.{AddsConnections, AddsLinks, HasOwn, IsTable, Says, end_text, own_place};
+ghost use Rattle.fb_network.specs.Standing.{AddsConnections, AddsLinks, HasInstances, HasOwn, IsTable, Says, end_text, own_place};
 
 use crate::adapters::find_adapter;
 use crate::behind::behind;
@@ -73,8 +75,38 @@ fn push_pairs(
     push_join_pairs(&mut draft.joins, sort, froms, tos)
 }
 
-/// Adds the links by a connection, whose ends are themselves at these places: each place behind its source with each behind its
-/// destination.
+/// Adds the links by a connection between the places behind its ends: from each behind its source to each behind its destination.
+fn push_between<V: Networks>(
+    alloc: Global,
+    draft: &mut Draft,
+    view: &V,
+    network: &Network,
+    table: &Table,
+    connection: &Connection,
+    froms: &[Place],
+    tos: &[Place],
+) -> Result<(), AllocError>
+    requires table { HasInstances (get name_cmp table.now) network.now.instances }
+    requires froms { All (IsPlaceBelow (length draft.old.fronts.items)) froms.now }
+    requires tos { All (IsPlaceBelow (length draft.old.fronts.items)) tos.now }
+    ensures { OnOk result
+        (AddsLinks draft.old draft.new
+        (links_of_sort connection.now.sort
+        (adapter_at (V.networks view.now) network.now (place_of connection.now.source))
+        (map (path_at draft.old.fronts.items) froms.now)
+        (map (path_at draft.old.fronts.items) tos.now))) }
+{
+    match connection.sort {
+        Sort::Event => push_pairs(draft, Sort::Event, froms, tos),
+        Sort::Data => push_pairs(draft, Sort::Data, froms, tos),
+        Sort::Adapter => match find_adapter(view, network, table, &connection.source) {
+            Some(adapter) => push_members(alloc, draft, adapter.ports(), froms, tos),
+            None => Ok(()),
+        },
+    }
+}
+
+/// Adds the links by a connection, whose ends are themselves at these places.
 fn push_connection_links<V: Networks>(
     alloc: Global,
     draft: &mut Draft,
@@ -97,14 +129,7 @@ fn push_connection_links<V: Networks>(
     let sort = connection.sort;
     let froms = behind(alloc, table, sort, &connection.source, source)?;
     let tos = behind(alloc, table, sort, &connection.destination, destination)?;
-    match sort {
-        Sort::Event => push_pairs(draft, Sort::Event, &froms, &tos),
-        Sort::Data => push_pairs(draft, Sort::Data, &froms, &tos),
-        Sort::Adapter => match find_adapter(view, network, table, &connection.source) {
-            Some(adapter) => push_members(alloc, draft, adapter.ports(), &froms, &tos),
-            None => Ok(()),
-        },
-    }
+    push_between(alloc, draft, view, network, table, connection, &froms, &tos)
 }
 
 /// Adds the links by all connections.

@@ -1,9 +1,9 @@
 -- The fronts of the plugs and then those of the sockets are added, and the links between them.
-use Rattle.std.proofs.Common.{refl, sym, subst, ap, ◌∙◌, ◌≡◌, List, length, map}
-use Rattle.std.specs.List.{All}
+use Rattle.std.proofs.Common.{refl, ap, ◌∙◌, ◌≡◌, ◌++◌, Vec, map}
 use Rattle.std.proofs.lemmas.Result.{on_ok_weaker}
 use Rattle.fb_network.specs.Laid.{path_at}
 use Rattle.fb_network.specs.Reading.{ArePlaces, IsPlaceBelow}
+use Rattle.fb_network.specs.Behind.{adapter_joins}
 use Rattle.fb_network.proofs.Connections.{adds_members}
 use Rattle.fb_network.proofs.Readings.{places_grown}
 use Rattle.fb_network.proofs.links.push_members.Goals as goal
@@ -19,6 +19,13 @@ push_member_fronts-requires-2 c =
 
 pub returns : goal.returns
 returns c =
+    let draft = c.args.draft.now in
+    let ports = c.args.ports.now in
+    let named = ap (λ (names : Vec _ _). names.items) c.in_ok-names.ensures.ok ∙ c.in_ok-port_names.ensures in
     on_ok_weaker c.push_adapter_joins.result
-    (λ is. adds_members c.args.draft.now _ _ _ c.args.ports.now c.args.plugs.now c.args.sockets.now c.in_ok-plugged.plugged.items c.in_ok-socketed.socketed.items c.requires.sockets ? c.in_ok-plugged.ensures.grows c.in_ok-plugged.ensures.members c.in_ok-socketed.ensures.grows c.in_ok-socketed.ensures.members refl is)
+    (λ (is : c.push_adapter_joins.new.joins.items ≡ draft.joins.items ++ adapter_joins ports c.deref.result.now c.deref-2.result.now).
+    adds_members draft (record { fronts = c.push_member_fronts-2.new.fronts; leaves = draft.leaves; joins = c.push_adapter_joins.new.joins }) c.push_member_fronts.new.fronts.items c.in_ok-names.names.value.items
+    ports c.args.plugs.now c.args.sockets.now c.in_ok-plugged.plugged.items c.in_ok-socketed.socketed.items c.requires.sockets named
+    c.in_ok-plugged.ensures.grows c.in_ok-plugged.ensures.members c.in_ok-socketed.ensures.grows c.in_ok-socketed.ensures.members refl
+    (is ∙ (λ i. draft.joins.items ++ adapter_joins ports (c.deref.ensures.value i) (c.deref-2.ensures.value i))))
     c.push_adapter_joins.ensures
