@@ -2,7 +2,6 @@
 use Rattle.std.proofs.Common.{List, Option, Some, ap, map, sym, subst, ◌∙◌}
 use Rattle.std.specs.Result.{OnOk}
 use Rattle.std.specs.Option.{option_copied}
-use Rattle.fb_tree.specs.declared.network.Sort.{Sort}
 use Rattle.fb_tree.specs.declared.network.Sort.TheVariants.{Adapter}
 use Rattle.fb_network.specs.declared.network.Port.{Port}
 use Rattle.fb_network.specs.declared.flat.Link.{Link}
@@ -32,7 +31,8 @@ returns-in-Some g c =
 
 pub returns-in-None : goal.returns-in-None
 returns-in-None g c =
-    let fronts = c.args.draft.now.fronts.items in
-    let found = sym (ap option_copied c.in-None.is) ∙ c.find_adapter.ensures in
-    let made = λ i. links_of_sort (sym c.in-Adapter.is i) (found i) (map (path_at fronts) c.args.froms.now) (map (path_at fronts) c.args.tos.now) in
-    subst (λ (links : List Link). AddsLinks c.args.draft.now c.args.draft.now links) made (adds_none c.args.draft.now)
+    let draft = c.args.draft.now in
+    let froms = map (path_at draft.fronts.items) c.args.froms.now in
+    let tos = map (path_at draft.fronts.items) c.args.tos.now in
+    rw c.in-Adapter.is
+    (subst (λ (adapter : Option PlainNetwork). AddsLinks draft draft (links_of_sort Adapter adapter froms tos)) (sym (ap option_copied c.in-None.is) ∙ c.find_adapter.ensures) (adds_none draft))

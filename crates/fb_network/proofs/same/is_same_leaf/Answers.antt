@@ -8,4 +8,4 @@ pub returns-then-is_eq : goal.returns-then-is_eq
 returns-then-is_eq c = rw c.same_name.ensures (one_block _ _ (sym (c.is_eq.ensures ∙ ap is_eq c.compare_places.ensures) ∙ c.if-is_eq.true))
 
 pub returns-else-is_eq : goal.returns-else-is_eq
-returns-else-is_eq c = other_block _ _ (sym (c.is_eq.ensures ∙ ap is_eq c.compare_places.ensures) ∙ c.if-is_eq.false)
+returns-else-is_eq c = rw c.if-is_eq.false (other_block _ _ (sym (c.is_eq.ensures ∙ ap is_eq c.compare_places.ensures) ∙ c.if-is_eq.false))
