@@ -1,5 +1,5 @@
 -- Tests of equality that are right, of single values and of lists.
-use Rattle.std.proofs.Common.{◌≡◌, ◌↔◌, ℕ, ◌<◌, ◌≤◌, ◌+◌, suc, List, ◌∷◌, true, false, IsTrue, map, length, drop, get_or, refl, sym, ap, add-one, ◌∙◌, subst, arith}
+use Rattle.std.proofs.Common.{◌≡◌, ◌↔◌, ℕ, ◌<◌, ◌≤◌, ◌+◌, List, ◌∷◌, true, false, IsTrue, map, length, drop, get_or, sym, ap, add-one, ◌∙◌, subst, arith}
 use Rattle.std.proofs.Math.Seq.{drop-cons}
 use Rattle.std.proofs.lemmas.List.{drop_all, length-map}
 use Rattle.std.specs.declared.cmp.Ordering.{Ordering}

@@ -1,6 +1,6 @@
 -- The places behind an end, and the links and borders of connections, by numbers say what they say in plain.
 use Rattle.std.proofs.Common.{ℕ, ◌≡◌, ◌<◌, Bool, true, false, cond, List, [], ◌∷◌, ◌++◌, Option, Some, None, length, map, refl, sym, ap, subst, ◌∙◌}
-use Rattle.std.specs.Prelude.{filter, flat_map}
+use Rattle.std.specs.Prelude.{filter}
 use Rattle.std.specs.List.{All}
 use Rattle.std.specs.BTreeMap.{is_at}
 use Rattle.std.proofs.lemmas.List.{map-append}
@@ -16,7 +16,6 @@ use Rattle.fb_network.specs.declared.network.End.TheVariants.{Own, Of}
 use Rattle.fb_network.specs.declared.flat.Link.{Link}
 use Rattle.fb_network.specs.declared.flat.Border.{Border}
 use Rattle.fb_network.specs.declared.place.Place.{Place}
-use Rattle.fb_network.specs.declared.entries.Join.{Join}
 use Rattle.fb_network.specs.declared.entries.Edge.{Edge}
 use Rattle.fb_network.specs.declared.table.Standing.{Standing}
 use Rattle.fb_network.specs.Network.{instance_named}

@@ -1,5 +1,5 @@
 -- The links and borders of connections, read by the fronts of a draft.
-use Rattle.std.proofs.Common.{ℕ, ◌≡◌, ◌<◌, ◌+◌, suc, zero, List, [], ◌∷◌, ◌++◌, Option, Some, None, length, map, take, get_or, refl, sym, ap, subst, ◌∙◌, arith, append_assoc, append-nil, length-append}
+use Rattle.std.proofs.Common.{ℕ, ◌≡◌, ◌<◌, ◌+◌, List, [], ◌∷◌, ◌++◌, Option, Some, None, length, map, take, get_or, refl, sym, ap, subst, ◌∙◌, arith, append_assoc, append-nil, length-append}
 use Rattle.std.specs.Prelude.{slice_get, flat_map, option_map, option_and_then}
 use Rattle.std.specs.List.{All}
 use Rattle.std.proofs.lemmas.List.{length-map}
@@ -11,8 +11,6 @@ use Rattle.fb_network.specs.declared.network.Connection.{Connection}
 use Rattle.fb_network.specs.declared.flat.Link.{Link}
 use Rattle.fb_network.specs.declared.flat.Border.{Border}
 use Rattle.fb_network.specs.declared.place.Place.{Place}
-use Rattle.fb_network.specs.declared.entries.Leaf.{Leaf}
-use Rattle.fb_network.specs.declared.entries.Join.{Join}
 use Rattle.fb_network.specs.declared.entries.Edge.{Edge}
 use Rattle.fb_network.specs.declared.draft.Draft.{Draft}
 use Rattle.fb_network.specs.declared.table.Standing.{Standing}

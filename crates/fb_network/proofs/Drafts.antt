@@ -1,16 +1,13 @@
 -- A draft that has taken in an inner network.
-use Rattle.std.proofs.Common.{ℕ, ◌≡◌, List, ◌++◌, length, map, refl, sym, ap, subst, ◌∙◌}
+use Rattle.std.proofs.Common.{ℕ, ◌≡◌, List, ◌++◌, length, map, sym, ap, subst}
 use Rattle.fb_network.specs.PlainFlat.{PlainFlat}
 use Rattle.fb_network.specs.PlainFront.{PlainFront}
 use Rattle.fb_network.specs.Composed.{block_within, link_within}
-use Rattle.fb_network.specs.Laid.{IsEdgeBelow, IsJoinBelow, IsLaid, IsLeafBelow, block_at, border_at, edge_moved, flat_at, front_within, join_moved, leaf_moved, link_at}
+use Rattle.fb_network.specs.Laid.{IsLaid, block_at, border_at, edge_moved, flat_at, front_within, join_moved, leaf_moved, link_at}
 use Rattle.fb_network.specs.Reading.{AreEdges, AreJoins, AreLeaves, Grows, IsInOrder, IsReading, TakesIn, border_within}
 use Rattle.fb_network.specs.declared.entries.Leaf.{Leaf}
 use Rattle.fb_network.specs.declared.entries.Join.{Join}
 use Rattle.fb_network.specs.declared.entries.Edge.{Edge}
-use Rattle.fb_network.specs.declared.flat.FlatBlock.{FlatBlock}
-use Rattle.fb_network.specs.declared.flat.Link.{Link}
-use Rattle.fb_network.specs.declared.flat.Border.{Border}
 use Rattle.fb_network.specs.declared.draft.Draft.{Draft}
 use Rattle.std.specs.List.{Contains}
 use Rattle.std.specs.declared.cmp.Ordering.{Ordering}
@@ -37,12 +34,12 @@ taken_in old new name inner edges by fronts leaves joins own count fronts_are le
     record {
       grows = grows;
       blocks = λ blocks p. added new.leaves.items (map (block_within name) inner.blocks) leaves_are (ap (λ (net : PlainFlat). map (block_within name) net.blocks) is) (leaves_grown grows p)
-      (subst (λ (fs : List PlainFront). AreLeaves fs (map (leaf_moved by) leaves) (map (block_within name) (map (block_at fronts) leaves))) there moved_leaves);
+          (subst (λ (fs : List PlainFront). AreLeaves fs (map (leaf_moved by) leaves) (map (block_within name) (map (block_at fronts) leaves))) there moved_leaves);
       links = λ links p. added new.joins.items (map (link_within name) inner.links) joins_are (ap (λ (net : PlainFlat). map (link_within name) net.links) is) (joins_grown grows p)
-      (subst (λ (fs : List PlainFront). AreJoins fs (map (join_moved by) joins) (map (link_within name) (map (link_at fronts) joins))) there moved_joins);
+          (subst (λ (fs : List PlainFront). AreJoins fs (map (join_moved by) joins) (map (link_within name) (map (link_at fronts) joins))) there moved_joins);
       borders = subst (λ (es : List Edge). AreEdges new.fronts.items es (map (border_within name) inner.borders)) (sym edges_are)
-      (subst (λ (net : PlainFlat). AreEdges new.fronts.items (map (edge_moved by) own) (map (border_within name) net.borders)) is
-      (subst (λ (fs : List PlainFront). AreEdges fs (map (edge_moved by) own) (map (border_within name) (map (border_at fronts) own))) there moved_edges));
+          (subst (λ (net : PlainFlat). AreEdges new.fronts.items (map (edge_moved by) own) (map (border_within name) net.borders)) is
+          (subst (λ (fs : List PlainFront). AreEdges fs (map (edge_moved by) own) (map (border_within name) (map (border_at fronts) own))) there moved_edges));
     }
 
 -- what is left in order says what the entries say

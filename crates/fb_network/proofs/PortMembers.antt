@@ -1,14 +1,13 @@
 -- Fronts behind plugs and sockets, and the links of an adapter's ports between them.
-use Rattle.std.proofs.Common.{ℕ, ◌≡◌, ◌<◌, ◌+◌, suc, zero, List, [], ◌∷◌, ◌++◌, Option, Some, None, length, map, take, get_or, refl, sym, ap, subst, ◌∙◌, arith, append_assoc, append-nil, length-append}
-use Rattle.std.specs.Prelude.{slice_get, flat_map}
-use Rattle.std.specs.List.{All, AllZip}
+use Rattle.std.proofs.Common.{ℕ, ◌≡◌, ◌<◌, ◌+◌, suc, List, [], ◌∷◌, ◌++◌, Option, Some, length, map, take, get_or, refl, sym, ap, subst, ◌∙◌, arith, append_assoc, length-append}
+use Rattle.std.specs.Prelude.{slice_get}
+use Rattle.std.specs.List.{All}
 use Rattle.std.proofs.lemmas.List.{length-take-le, map-append}
 use Rattle.std.proofs.lemmas.Option.{slice_get_within}
 use Rattle.std.proofs.lemmas.List.Elements.{All-append, All-cons, All-get_or, All-nil}
 use Rattle.fb_tree.specs.declared.interface.Side.{Side}
 use Rattle.fb_tree.specs.declared.interface.Side.TheVariants.{Input, Output}
 use Rattle.fb_network.specs.declared.network.Port.{Port}
-use Rattle.fb_network.specs.declared.flat.Link.{Link}
 use Rattle.fb_network.specs.declared.place.Place.{Place}
 use Rattle.fb_network.specs.declared.entries.Join.{Join}
 use Rattle.fb_network.specs.Places.{dotted}
@@ -58,7 +57,7 @@ adds_member start fronts new names numbers all places k n x a below lt e count i
     record {
       grows = grows_twice start fronts new a.grows more;
       members = subst (λ (ns : List ℕ). AreMembers new names ns (map (path_at start) (take (k + 1) places))) (sym all_are)
-      (subst (λ (ts : List (List ℕ)). AreMembers new names (numbers ++ n ∷ []) ts) texts both);
+          (subst (λ (ts : List (List ℕ)). AreMembers new names (numbers ++ n ∷ []) ts) texts both);
     }
 
 -- the links of one port more

@@ -6,7 +6,6 @@ use Rattle.std.proofs.lemmas.List.{length-map, map-append}
 use Rattle.std.proofs.lemmas.Option.{slice_get-map}
 use Rattle.std.proofs.lemmas.Simd.{map-map}
 use Rattle.std.proofs.lemmas.List.Elements.{All-append, All-map, All-nil, All-weaker, All-head, All-tail}
-use Rattle.fb_tree.specs.declared.network.Sort.{Sort}
 use Rattle.fb_network.specs.Places.{dotted}
 use Rattle.fb_network.specs.PlainFront.{PlainFront}
 use Rattle.fb_network.specs.declared.flat.FlatBlock.{FlatBlock}
@@ -77,18 +76,18 @@ module _ {E X : Type 0} (below : ℕ → E → Type 0) (at : List PlainFront →
         })
 
   module _ (name : List ℕ) (move : ℕ → E → E) (inside : X → X)
-    (moves_below : (by count : ℕ) (e : E) → below count e → below (by + count) (move by e))
-    (moved : (before inner : List PlainFront) (by : ℕ) (e : E) → by ≡ length before → below (length inner) e → at (before ++ (map (front_within name) inner)) (move by e) ≡ inside (at inner e)) where
+      (moves_below : (by count : ℕ) (e : E) → below count e → below (by + count) (move by e))
+      (moved : (before inner : List PlainFront) (by : ℕ) (e : E) → by ≡ length before → below (length inner) e → at (before ++ (map (front_within name) inner)) (move by e) ≡ inside (at inner e)) where
     pub reading_moved : (before inner : List PlainFront) (by : ℕ) (es : List E) → by ≡ length before → All (below (length inner)) es → IsReading below at (before ++ map (front_within name) inner) (map (move by) es) (map inside (map (at inner) es))
     reading_moved before inner by es e all =
         let count : by + length inner ≡ length (before ++ map (front_within name) inner) =
         let long = length-append before (map (front_within name) inner) in let same = length-map inner (front_within name) in omega (arith, e, long, same) in
         record {
           in_range = All-map (below (length (before ++ map (front_within name) inner))) (move by) es
-          (All-weaker (below (length inner)) (λ x. below (length (before ++ map (front_within name) inner)) (move by x)) (λ x b. subst (λ (n : ℕ). below n (move by x)) count (moves_below by (length inner) x b)) es all);
+              (All-weaker (below (length inner)) (λ x. below (length (before ++ map (front_within name) inner)) (move by x)) (λ x b. subst (λ (n : ℕ). below n (move by x)) count (moves_below by (length inner) x b)) es all);
           is = map-map (at (before ++ map (front_within name) inner)) (move by) es
-          ∙ map_same (below (length inner)) (λ x. at (before ++ map (front_within name) inner) (move by x)) (λ x. inside (at inner x)) (λ x b. moved before inner by x e b) es all
-          ∙ sym (map-map inside (at inner) es);
+              ∙ map_same (below (length inner)) (λ x. at (before ++ map (front_within name) inner) (move by x)) (λ x. inside (at inner x)) (λ x b. moved before inner by x e b) es all
+              ∙ sym (map-map inside (at inner) es);
         }
 
 path_moved_last : (before inner : List PlainFront) (name : List ℕ) (by : ℕ) (p : Place) → by ≡ length before → p.front < length inner → path_at (before ++ map (front_within name) inner) (place_moved by p) ≡ dotted name (path_at inner p)

@@ -1,5 +1,5 @@
 -- Instances that are taken in one by one.
-use Rattle.std.proofs.Common.{ℕ, ◌≡◌, ◌<◌, ◌≤◌, ◌+◌, Bool, true, false, cond, List, [], ◌∷◌, ◌++◌, Option, Some, None, length, map, take, get_or, refl, sym, ap, subst, ◌∙◌, arith, append_assoc, append-nil, length-append}
+use Rattle.std.proofs.Common.{ℕ, ◌≡◌, ◌<◌, ◌+◌, Bool, true, false, cond, List, [], ◌∷◌, ◌++◌, Option, Some, None, length, take, get_or, refl, sym, ap, subst, ◌∙◌, arith, append_assoc, append-nil, length-append}
 use Rattle.std.specs.Prelude.{flat_map, is_some}
 use Rattle.std.specs.BTreeMap.{is_at}
 use Rattle.std.proofs.lemmas.List.{take_more}
@@ -23,11 +23,11 @@ use Rattle.fb_network.specs.PlainFlat.{PlainFlat}
 use Rattle.fb_network.specs.PlainFront.{PlainFront}
 use Rattle.fb_network.specs.Ready.{Nets}
 use Rattle.fb_network.specs.Composed.{blocks_of, blocks_of_kind, inner_blocks, inner_links, inner_links_of_kind, links_of}
-use Rattle.fb_network.specs.Laid.{IsEdgeBelow, IsJoinBelow, IsLeafBelow, block_at, border_at, link_at, path_at}
+use Rattle.fb_network.specs.Laid.{IsEdgeBelow, IsJoinBelow, IsLeafBelow, block_at, border_at, link_at}
 use Rattle.fb_network.specs.Reading.{AreEdges, AreJoins, AreLeaves, Grows, TakesIn}
-use Rattle.fb_network.specs.Standing.{AreNamed, HoldsInstances, IsTable, Says, StandsFor, TakesInstance, borders_of, inner_borders, inner_borders_of_kind, or_alone, or_instance}
+use Rattle.fb_network.specs.Standing.{HoldsInstances, IsTable, Says, StandsFor, TakesInstance, borders_of, inner_borders, inner_borders_of_kind, or_alone, or_instance}
 use Rattle.fb_network.proofs.Drafts.{added}
-use Rattle.fb_network.proofs.Equals.{at_not, not_at, same_bytes}
+use Rattle.fb_network.proofs.Equals.{same_bytes}
 use Rattle.fb_network.proofs.Readings.{edges_grown, joins_grown, leaves_grown, path_grown, reading_nothing}
 
 -- a new name is put
@@ -88,7 +88,7 @@ takes_none {nets = nets} draft i edges no_blocks no_links no_borders none =
       blocks = λ blocks p. subst (λ (bs : List FlatBlock). AreLeaves draft.fronts.items draft.leaves.items bs) (sym (append-nil blocks) ∙ ap (λ (bs : List FlatBlock). blocks ++ bs) (sym no_blocks)) p;
       links = λ links p. subst (λ (ls : List Link). AreJoins draft.fronts.items draft.joins.items ls) (sym (append-nil links) ∙ ap (λ (ls : List Link). links ++ ls) (sym no_links)) p;
       borders = subst (λ (bs : List Border). AreEdges draft.fronts.items edges bs) (sym no_borders)
-      (subst (λ (es : List Edge). AreEdges draft.fronts.items es []) (sym none) (reading_nothing IsEdgeBelow border_at draft.fronts.items));
+          (subst (λ (es : List Edge). AreEdges draft.fronts.items es []) (sym none) (reading_nothing IsEdgeBelow border_at draft.fronts.items));
     }
 
 -- a block is taken in
@@ -107,7 +107,7 @@ takes_block {nets = nets} old new i edges place kind says fronts_stay joins_stay
       blocks = λ blocks p. added new.leaves.items (inner_blocks nets i) leaves_are (ap (λ (k : InstanceKind). blocks_of_kind k nets i.name i.type_name) (sym kind)) (leaves_grown grows p) one;
       links = λ links p. added new.joins.items (inner_links nets i) (joins_stay ∙ sym (append-nil old.joins.items)) (ap (λ (k : InstanceKind). inner_links_of_kind k nets i.name i.type_name) (sym kind)) (joins_grown grows p) (reading_nothing IsJoinBelow link_at new.fronts.items);
       borders = subst (λ (k : InstanceKind). AreEdges new.fronts.items edges (inner_borders_of_kind k nets i.name i.type_name)) (sym kind)
-      (subst (λ (es : List Edge). AreEdges new.fronts.items es []) (sym none) (reading_nothing IsEdgeBelow border_at new.fronts.items));
+          (subst (λ (es : List Edge). AreEdges new.fronts.items es []) (sym none) (reading_nothing IsEdgeBelow border_at new.fronts.items));
     }
 
 -- a subapplication instance without a net holds nothing
@@ -171,9 +171,9 @@ holds_more {nets = nets} start draft new table after xs i s h t same puts =
       blocks = subst (λ (bs : List FlatBlock). AreLeaves new.fronts.items new.leaves.items bs) (sym (flat_map_push (inner_blocks nets) xs i)) (t.blocks _ h.blocks);
       links = subst (λ (ls : List Link). AreJoins new.fronts.items new.joins.items ls) (sym (flat_map_push (inner_links nets) xs i)) (t.links _ h.links);
       standing = λ q.
-      subst (λ (o : Option Instance). StandsFor new.fronts.items nets (after q) o) (sym (named_push xs i q))
-      (subst (λ (o : Option Standing). StandsFor new.fronts.items nets o (or_instance i q (instance_named xs q))) (sym (puts q))
-      (stands_more nets draft.fronts.items new.fronts.items s i q t.grows same t.borders (table q) (instance_named xs q) (h.standing q)));
+          subst (λ (o : Option Instance). StandsFor new.fronts.items nets (after q) o) (sym (named_push xs i q))
+          (subst (λ (o : Option Standing). StandsFor new.fronts.items nets o (or_instance i q (instance_named xs q))) (sym (puts q))
+          (stands_more nets draft.fronts.items new.fronts.items s i q t.grows same t.borders (table q) (instance_named xs q) (h.standing q)));
     }
 
 -- what has been passed, and the next

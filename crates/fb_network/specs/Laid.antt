@@ -1,5 +1,5 @@
 -- Flat networks by numbers.
-use Rattle.std.specs.Prelude.{ℕ, ◌+◌, ◌<◌, ◌≡◌, List, [], ◌∷◌, ◌++◌, Option, Some, None, slice_get, map, length}
+use Rattle.std.specs.Prelude.{ℕ, ◌+◌, ◌<◌, List, [], ◌++◌, Option, Some, None, slice_get, map}
 use Rattle.std.specs.List.{All}
 use Rattle.fb_network.specs.Places.{dotted}
 use Rattle.fb_network.specs.PlainFlat.{PlainFlat}

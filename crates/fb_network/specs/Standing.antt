@@ -1,6 +1,6 @@
 -- What stands under each name of a network that is being composed.
-use Rattle.std.specs.Prelude.{ℕ, ◌<◌, ◌≡◌, Bool, cond, List, [], ◌++◌, Option, Some, None, ⊤, is_some, length, map, flat_map, option_map, slice_get, slice_index_or}
-use Rattle.std.specs.BTreeMap.{BTreeMap, get, is_at}
+use Rattle.std.specs.Prelude.{ℕ, ◌<◌, ◌≡◌, cond, List, [], ◌++◌, Option, Some, None, ⊤, length, map, flat_map, option_map, slice_get, slice_index_or}
+use Rattle.std.specs.BTreeMap.{is_at}
 use Rattle.fb_tree.specs.Text.Order.{name_cmp}
 use Rattle.fb_network.specs.declared.network.InstanceKind.{InstanceKind}
 use Rattle.fb_network.specs.declared.network.InstanceKind.TheVariants.{Block, Subapplication}

@@ -116,11 +116,7 @@ pub fn plain_blocks(
 }
 
 /// The links in plain.
-pub fn plain_links(
-    alloc: Global,
-    fronts: &[Front],
-    joins: &[Join],
-) -> Result<Vec<Link>, AllocError>
+pub fn plain_links(alloc: Global, fronts: &[Front], joins: &[Join]) -> Result<Vec<Link>, AllocError>
     ensures { IfOk result (λ links. links.items ≡ map (link_at fronts.now) joins.now) }
 {
     let mut links = Vec::with_capacity(alloc, joins.len())?;

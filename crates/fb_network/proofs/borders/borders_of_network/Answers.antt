@@ -1,5 +1,5 @@
 -- The borders of one connection more.
-use Rattle.std.proofs.Common.{ℕ, ◌+◌, List, length, take, ap, subst, ◌∙◌}
+use Rattle.std.proofs.Common.{◌+◌, List, length, ap, subst, ◌∙◌}
 use Rattle.std.proofs.lemmas.List.{take_all}
 use Rattle.std.specs.BTreeMap.{get}
 use Rattle.fb_tree.specs.Text.Order.{name_cmp}

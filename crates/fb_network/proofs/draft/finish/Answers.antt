@@ -1,11 +1,9 @@
 -- What is left is in range, and in order.
-use Rattle.std.proofs.Common.{refl, ap, sym, subst, ◌∙◌, List, length}
+use Rattle.std.proofs.Common.{refl, subst, List, length}
 use Rattle.fb_network.specs.PlainFront.{PlainFront}
 use Rattle.fb_network.specs.LinkOrder.{border_cmp, link_cmp}
 use Rattle.fb_network.specs.Laid.{IsEdgeBelow, IsJoinBelow, border_at, link_at}
 use Rattle.fb_network.specs.Once.{IsOnce}
-use Rattle.fb_network.specs.declared.entries.Edge.{Edge}
-use Rattle.fb_network.specs.declared.entries.Join.{Join}
 use Rattle.fb_network.proofs.Drafts.{once_ordered}
 use Rattle.fb_network.proofs.SortedOnce.{all_left}
 use Rattle.fb_network.proofs.draft.finish.Goals as goal

@@ -1,5 +1,5 @@
 -- The entries of the inner network stand moved, behind those that there were.
-use Rattle.std.proofs.Common.{◌≡◌, ◌++◌, List, length, map, ap, ◌∙◌}
+use Rattle.std.proofs.Common.{◌++◌, List, length, map, ap, ◌∙◌}
 use Rattle.std.proofs.lemmas.Result.{IfOk-weaker}
 use Rattle.fb_network.specs.PlainFront.{PlainFront}
 use Rattle.fb_network.specs.Laid.{edge_moved, front_within, join_moved, leaf_moved}

@@ -1,5 +1,5 @@
 -- Each instance is taken in and put into the table.
-use Rattle.std.proofs.Common.{◌≡◌, ℕ, List, refl, sym, subst, take}
+use Rattle.std.proofs.Common.{ℕ, List, refl, sym, subst, take}
 use Rattle.std.proofs.lemmas.List.{take_all}
 use Rattle.std.specs.BTreeMap.{get}
 use Rattle.fb_tree.specs.Text.Order.{name_cmp}

@@ -1,13 +1,11 @@
 -- The links are those of the connection's sort.
-use Rattle.std.proofs.Common.{List, Option, Some, ap, map, sym, subst, ◌∙◌}
+use Rattle.std.proofs.Common.{List, Option, ap, map, sym, subst, ◌∙◌}
 use Rattle.std.specs.Result.{OnOk}
 use Rattle.std.specs.Option.{option_copied}
 use Rattle.fb_tree.specs.declared.network.Sort.TheVariants.{Adapter}
 use Rattle.fb_network.specs.declared.network.Port.{Port}
 use Rattle.fb_network.specs.declared.flat.Link.{Link}
 use Rattle.fb_network.specs.Plain.{PlainNetwork}
-use Rattle.fb_network.specs.Network.{place_of}
-use Rattle.fb_network.specs.Clean.{adapter_at}
 use Rattle.fb_network.specs.Composed.{adapter_links, links_of_sort}
 use Rattle.fb_network.specs.Laid.{path_at}
 use Rattle.fb_network.specs.Standing.{AddsLinks}

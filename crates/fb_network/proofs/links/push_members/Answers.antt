@@ -2,7 +2,7 @@
 use Rattle.std.proofs.Common.{refl, ap, ◌∙◌, ◌≡◌, ◌++◌, Vec, map}
 use Rattle.std.proofs.lemmas.Result.{on_ok_weaker}
 use Rattle.fb_network.specs.Laid.{path_at}
-use Rattle.fb_network.specs.Reading.{ArePlaces, IsPlaceBelow}
+use Rattle.fb_network.specs.Reading.{ArePlaces}
 use Rattle.fb_network.specs.Behind.{adapter_joins}
 use Rattle.fb_network.proofs.Connections.{adds_members}
 use Rattle.fb_network.proofs.Readings.{places_grown}
