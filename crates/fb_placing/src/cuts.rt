@@ -5,7 +5,7 @@ ghost use Rattle.fb_placing.specs.Cuts.{cuts_of, home_at, is_cut, same_home};
 
 use crate::fronts::{PathTable, add_first, nearest};
 use crate::homes::Home;
-use fb_network::{Link, Path};
+use fb_network::{Flat, Link, Path};
 use std::alloc::{AllocError, Global};
 use std::collections::HashMap;
 
@@ -52,8 +52,8 @@ pub(crate) fn link_copy(link: &Link) -> Result<Link, AllocError>
     })
 }
 
-/// The links whose two homes differ, in the order of the links.
-pub fn cuts_of(alloc: Global, table: &PathTable, links: &[Link]) -> Result<Vec<Link>, AllocError>
+/// The links whose two homes differ, of these links, in their order.
+fn cuts_among(alloc: Global, table: &PathTable, links: &[Link]) -> Result<Vec<Link>, AllocError>
     ensures { IfOk result (λ cuts. cuts.items ≡ cuts_of (get_by_text table.now) links.now) }
 {
     let mut cuts = Vec::new(alloc);
@@ -63,4 +63,13 @@ pub fn cuts_of(alloc: Global, table: &PathTable, links: &[Link]) -> Result<Vec<L
         }
     }
     Ok(cuts)
+}
+
+/// The links whose two homes differ, in the order of the links.
+pub fn cuts_of(alloc: Global, table: &PathTable, flat: &Flat) -> Result<Vec<Link>, AllocError>
+    ensures { IfOk result
+        (λ cuts. cuts.items ≡ cuts_of (get_by_text table.now) flat.now.links) }
+{
+    let links = flat.plain_links(alloc)?;
+    cuts_among(alloc, table, &links)
 }
