@@ -1,11 +1,10 @@
 -- That a key is due, said by places.
-use Rattle.std.proofs.Common.{◌≡◌, ◌↔◌, ℕ, zero, suc, ◌<◌, Bool, true, false, true≢false, ◌||◌, ◌&&◌, not, ◌⊎◌, inl, inr, List, [], ◌∷◌, Some, None, refl, sym, ap, ◌∙◌, subst, arith, take}
+use Rattle.std.proofs.Common.{◌≡◌, ℕ, zero, suc, ◌<◌, Bool, true, false, true≢false, ◌||◌, ◌&&◌, not, ◌⊎◌, inl, inr, List, [], ◌∷◌, Some, None, refl, sym, ap, ◌∙◌, subst, arith}
 use Rattle.std.proofs.lemmas.Bool.{false≢true}
-use Rattle.std.specs.Prelude.{slice_get}
 use Rattle.fb_jobs.specs.declared.key.Key.{Key}
 use Rattle.fb_history.specs.Limits.{Bounds}
 use Rattle.fb_history.specs.Machine.{State, Call, after}
-use Rattle.fb_history.specs.Story.{Story, IsOrigin, opened, replay, state_of}
+use Rattle.fb_history.specs.Story.{Story, IsOrigin, replay}
 use Rattle.fb_history.specs.Due.{marks, settles, settled, due, due_from}
 use Rattle.fb_history.specs.Checkpoints.{checkpointed}
 use Rattle.fb_laws.specs.DueByPlaces.{IsMarkedAt, IsSettledAt, IsMarkedLast, IsLeftPending, IsDueByPlaces, DueGoesOn}

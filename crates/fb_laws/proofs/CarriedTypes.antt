@@ -56,18 +56,18 @@ part_among n q i e =
     subst (λ (t : List ℕ). Contains (types_in n.instances) t) (ap (λ (p : List ℕ × DeclaredInstance). p.1.type_name.name) o.gives)
     (contains_map (λ (x : InstanceTree). x.type_name.name) n.instances o.origin o.among)
 
-abbrev is_plain : List ℕ → Bool
+abbrev pub is_plain : List ℕ → Bool
 is_plain name = not (is_elementary name)
 
 module _ (sources : Sources) where
   -- a type that is not elementary is a value mention
-  value_of : (u : List ℕ) (decl : DeclTree) → tree_at sources u ≡ Some decl → (t : List ℕ) → Contains (value_types decl) t → is_elementary t ≡ false → Contains (values_at sources u) t
+  pub value_of : (u : List ℕ) (decl : DeclTree) → tree_at sources u ≡ Some decl → (t : List ℕ) → Contains (value_types decl) t → is_elementary t ≡ false → Contains (values_at sources u) t
   value_of u decl is t c elementary =
       subst (λ (o : Option DeclTree). Contains (values_in o) t) (sym is)
       (in_order_has (filter is_plain (value_types decl)) t (contains_filter is_plain (value_types decl) t c (ap not elementary)))
 
   -- and only such a type is one
-  no_elementary : (o : Option DeclTree) (t : List ℕ) → Contains (values_in o) t → is_elementary t ≡ false
+  pub no_elementary : (o : Option DeclTree) (t : List ℕ) → Contains (values_in o) t → is_elementary t ≡ false
   no_elementary None t c = absurd (contains_nothing t c)
   no_elementary (Some decl) t c =
       let among = (in_order-members name_cmp nat_list_cmp_total (slice_cmp-IsAntisymmetric nat_cmp-IsAntisymmetric) (filter is_plain (value_types decl)) t).0 c in

@@ -66,7 +66,7 @@ uncarried_where side (Some v) fails = fails v refl
 
 -- constants
 
-declared_in : (decl : DeclTree) (v : VariablesTree) → Contains (variables_of decl) v → AreDeclaredIn decl v
+pub declared_in : (decl : DeclTree) (v : VariablesTree) → Contains (variables_of decl) v → AreDeclaredIn decl v
 declared_in (block_type d) v c = variables_of_type (of_block d) c
 declared_in (adapter_type d) v c = variables_of_type (of_adapter d) c
 declared_in (subapplication_type d) v c = variables_of_type (of_subapplication d) c
@@ -78,7 +78,7 @@ in_type decl type v (of_block d) c = c
 in_type decl type v (of_adapter d) c = c
 in_type decl type v (of_subapplication d) c = c
 
-among_declared : (decl : DeclTree) (v : VariablesTree) → AreDeclaredIn decl v → Contains (variables_of decl) v
+pub among_declared : (decl : DeclTree) (v : VariablesTree) → AreDeclaredIn decl v → Contains (variables_of decl) v
 among_declared decl v (variables_of_type {type = type} is c) = in_type decl type v is c
 among_declared decl v (fields_of_structure c) = c
 

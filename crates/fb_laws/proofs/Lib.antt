@@ -45,6 +45,7 @@ pub mod MappingRows
 pub mod CodeLemmas
 pub mod PartLemmas
 pub mod TextRows
+pub mod MadeOf
 pub mod HomeLemmas
 pub mod PlannedLemmas
 pub mod CommandLemmas

@@ -1,7 +1,7 @@
 -- What a unit declares, and what a type declares first of its name and at which place.
 use Rattle.std.specs.Prelude.{◌≡◌, ◌≢◌, ℕ, ◌<◌, List, Option, Some, Contains, slice_get}
 use Rattle.fb_text.specs.declared.name.NameUse.{NameUse}
-use Rattle.fb_tree.specs.Tree.{DeclTree, EventTree, InstanceTree, InterfaceTree, NetworkTree, StructureTree, TypeTree, VariablesTree, adapter_type, block_type, structure_type, subapplication_type}
+use Rattle.fb_tree.specs.Tree.{ApplicationTree, DeclTree, EventTree, InstanceTree, InterfaceTree, NetworkTree, StructureTree, SystemTree, TypeTree, VariablesTree, adapter_type, block_type, structure_type, subapplication_type, system_configuration}
 use Rattle.fb_tree.specs.declared.interface.Section.{Section}
 use Rattle.fb_tree.specs.declared.interface.Section.TheVariants as sections
 use Rattle.fb_tree.specs.declared.interface.Side.{Side}
@@ -26,6 +26,14 @@ pub data AreDeclaredIn : DeclTree → VariablesTree → Type 0 where
       → IsType decl type → Contains type.interface.variables variables → AreDeclaredIn decl variables
   fields_of_structure : {s : StructureTree} {fields : VariablesTree}
       → Contains s.fields fields → AreDeclaredIn (structure_type s) fields
+
+-- an instance, plug or socket of a type, or an instance of an application of a system
+pub data IsHeldIn : DeclTree → InstanceTree → Type 0 where
+  instance_of_type : {decl : DeclTree} {type : TypeTree} {instance : InstanceTree}
+      → IsType decl type → Contains type.network.instances instance → IsHeldIn decl instance
+  instance_of_application : {s : SystemTree} {application : ApplicationTree} {instance : InstanceTree}
+      → Contains s.applications application → Contains application.network.instances instance
+      → IsHeldIn (system_configuration s) instance
 
 -- ---- events, and instances
 

@@ -20,6 +20,7 @@ pub mod Classes
 pub mod Expressions
 pub mod Mappings
 pub mod Texts
+pub mod MadeOf
 pub mod Planned
 pub mod Plans
 pub mod Paths

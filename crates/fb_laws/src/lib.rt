@@ -6,6 +6,7 @@ mod charts;
 mod declarations;
 mod expressions;
 mod machine;
+mod nets;
 mod networks;
 mod plans;
 mod ports;
@@ -22,6 +23,7 @@ pub use expressions::{
     classes_are_right, expressions_have_one_class, members_are_known, variables_are_known,
 };
 pub use machine::keys_wait_by_places;
+pub use nets::{blocked_is_told, recursive_is_told, whole_units_have_no_faults_below};
 pub use networks::{
     adapters_have_one_end, destinations_have_one_source, nothing_passes_through,
     parameters_are_known, parameters_fit, ports_are_known, ports_are_of_right_sides, types_agree,

@@ -1,0 +1,278 @@
+-- What a unit is made of is what it rests on, and what blocks its net is reported there.
+use Rattle.std.proofs.Common.{◌≡◌, ◌≢◌, ℕ, false, List, [], ◌∷◌, filter, Option, Some, None, ◌⊎◌, inl, inr, refl, sym, ap, ◌∙◌, subst}
+use Rattle.std.specs.FinMap.{get}
+use Rattle.std.specs.List.{Contains}
+use Rattle.std.specs.List.Sorted.{IsStrictlySortedBy}
+use Rattle.std.specs.Option.{option_and_then}
+use Rattle.std.proofs.lemmas.List.Elements.{Contains-append_cases}
+use Rattle.fb_text.specs.Elementary.{is_elementary}
+use Rattle.fb_text.specs.Order.{name_cmp}
+use Rattle.fb_text.proofs.Members.{contains_flat_map, contains_here, contains_map, contains_nothing, origin_in_flat_map, origin_in_map, passes_in_filter}
+use Rattle.fb_tree.specs.Mentions.{instance_types, types_in, value_types, variable_types}
+use Rattle.fb_tree.specs.Tree.{ApplicationTree, DeclTree, InstanceTree, TypeTree, VariablesTree, adapter_type, block_type, structure_type, subapplication_type, system_configuration}
+use Rattle.fb_deploy.specs.Library.Rests.{Rests, itself, through}
+use Rattle.fb_deploy.specs.Library.View.{Sources, mentions_at, parts_at, parts_in, tree_at, tree_of, values_at, values_in}
+use Rattle.fb_deploy.specs.Iface.Declarations.{variables_of}
+use Rattle.fb_deploy.specs.Iface.Types.{instances_of}
+use Rattle.fb_deploy.specs.Iface.declared.code.Code.TheVariants.{UnknownType}
+use Rattle.fb_deploy.specs.Iface.declared.fault.Fault.{Fault}
+use Rattle.fb_deploy.specs.Faults.Faults.{faults_of}
+use Rattle.fb_deploy.specs.Flatten.Blocking.{AreThose, IsBlocking}
+use Rattle.fb_deploy.specs.Flatten.Net.{IsNet, IsWhole, PlainNet, blocked, flat_net, recursive, too_large}
+use Rattle.fb_deploy.proofs.Library.Locality.{part_mention, rests_more, value_mention}
+use Rattle.fb_deploy.proofs.Library.Opening.{from_names}
+use Rattle.fb_deploy.proofs.Iface.ScopeLocal.{in_order_has}
+use Rattle.fb_deploy.proofs.Flatten.ComputedNets.{net_at_is}
+use Rattle.fb_wiring.specs.Reaches.{IsRecursive, Reaches, directly, onward}
+use Rattle.fb_wiring.proofs.StackLemmas.{reaches_more}
+use Rattle.fb_laws.specs.Declarations.{HasUnknownType, IsDeclaredAt}
+use Rattle.fb_laws.specs.Declared.{AreDeclaredIn, IsHeldIn, IsType, instance_of_application, instance_of_type, of_adapter, of_block, of_subapplication}
+use Rattle.fb_laws.specs.MadeOf.{BlockedIsTold, BlockedUnitsHaveFaultsBelow, HasFaultBelow, HasNoFaultsBelow, Holds, IsInTheWay, IsMadeOf, OtherNetsHaveNoFaultsBelow, OtherNetsHoldNothingInItself, RecursiveIsTold, WholeUnitsHaveNoFaultsBelow, absent_type, faulty_unit, inner_part, own_part, own_unit, type_of_part, type_of_value}
+use Rattle.fb_laws.specs.UnitParts.{Declarations}
+use Rattle.fb_laws.proofs.CarriedTypes.{is_plain, no_elementary, value_of}
+use Rattle.fb_laws.proofs.DeclarationRows.{among_declared, declared_in, unknown_types}
+use Rattle.fb_laws.proofs.PartLemmas.{whole_units}
+
+-- ---- declarations
+
+-- an instance of this type
+record HasInstance (decl : DeclTree) (name : List ℕ) : Type 0 where
+  instance : InstanceTree
+  held : IsHeldIn decl instance
+  typed : instance.type_name.name ≡ name
+
+in_type : (decl : DeclTree) (type : TypeTree) (name : List ℕ) → IsType decl type → Contains (types_in type.network.instances) name → HasInstance decl name
+in_type decl type name is c =
+    let o = origin_in_map (λ (i : InstanceTree). i.type_name.name) type.network.instances name c in
+    record { instance = o.origin; held = instance_of_type is o.among; typed = o.gives }
+
+instance_there : (decl : DeclTree) (name : List ℕ) → Contains (instance_types decl) name → HasInstance decl name
+instance_there (block_type d) name c = in_type (block_type d) d name (of_block d) c
+instance_there (adapter_type d) name c = in_type (adapter_type d) d name (of_adapter d) c
+instance_there (subapplication_type d) name c = in_type (subapplication_type d) d name (of_subapplication d) c
+instance_there (system_configuration s) name c =
+    let a = origin_in_flat_map (λ (a : ApplicationTree). types_in a.network.instances) s.applications name c in
+    let o = origin_in_map (λ (i : InstanceTree). i.type_name.name) a.origin.network.instances name a.has in
+    record { instance = o.origin; held = instance_of_application a.among o.among; typed = o.gives }
+instance_there (structure_type s) name c = absurd (contains_nothing name c)
+
+of_type_listed : (decl : DeclTree) (type : TypeTree) (i : InstanceTree) → IsType decl type → Contains type.network.instances i → Contains (instance_types decl) i.type_name.name
+of_type_listed decl type i (of_block d) c = contains_map (λ (j : InstanceTree). j.type_name.name) d.network.instances i c
+of_type_listed decl type i (of_adapter d) c = contains_map (λ (j : InstanceTree). j.type_name.name) d.network.instances i c
+of_type_listed decl type i (of_subapplication d) c = contains_map (λ (j : InstanceTree). j.type_name.name) d.network.instances i c
+
+type_listed : (decl : DeclTree) (i : InstanceTree) → IsHeldIn decl i → Contains (instance_types decl) i.type_name.name
+type_listed decl i (instance_of_type {type = type} is c) = of_type_listed decl type i is c
+type_listed decl i (instance_of_application {s = s} {application = a} among c) =
+    contains_flat_map (λ (b : ApplicationTree). types_in b.network.instances) s.applications a i.type_name.name among
+    (contains_map (λ (j : InstanceTree). j.type_name.name) a.network.instances i c)
+
+of_type_held : (decl : DeclTree) (type : TypeTree) (i : InstanceTree) → IsType decl type → Contains type.network.instances i → Contains (instances_of decl) i
+of_type_held decl type i (of_block d) c = c
+of_type_held decl type i (of_adapter d) c = c
+of_type_held decl type i (of_subapplication d) c = c
+
+held_listed : (decl : DeclTree) (i : InstanceTree) → IsHeldIn decl i → Contains (instances_of decl) i
+held_listed decl i (instance_of_type {type = type} is c) = of_type_held decl type i is c
+held_listed decl i (instance_of_application {s = s} {application = a} among c) =
+    contains_flat_map (λ (b : ApplicationTree). b.network.instances) s.applications a i among c
+
+-- variables or fields of this type
+record HasVariables (decl : DeclTree) (name : List ℕ) : Type 0 where
+  variables : VariablesTree
+  declared : AreDeclaredIn decl variables
+  typed : variables.type_use.name.name ≡ name
+
+types_by_variables : (decl : DeclTree) → value_types decl ≡ variable_types (variables_of decl)
+types_by_variables (block_type d) = refl
+types_by_variables (adapter_type d) = refl
+types_by_variables (subapplication_type d) = refl
+types_by_variables (system_configuration s) = refl
+types_by_variables (structure_type s) = refl
+
+variables_there : (decl : DeclTree) (name : List ℕ) → Contains (value_types decl) name → HasVariables decl name
+variables_there decl name c =
+    let among = subst (λ (l : List (List ℕ)). Contains l name) (types_by_variables decl) c in
+    let o = origin_in_map (λ (v : VariablesTree). v.type_use.name.name) (variables_of decl) name among in
+    record { variables = o.origin; declared = declared_in decl o.origin o.among; typed = o.gives }
+
+type_among : (decl : DeclTree) (v : VariablesTree) → AreDeclaredIn decl v → Contains (value_types decl) v.type_use.name.name
+type_among decl v declared =
+    subst (λ (l : List (List ℕ)). Contains l v.type_use.name.name) (sym (types_by_variables decl))
+    (contains_map (λ (w : VariablesTree). w.type_use.name.name) (variables_of decl) v (among_declared decl v declared))
+
+part_held : (sources : Sources) (holder : List ℕ) (decl : DeclTree) (i : InstanceTree) → IsDeclaredAt sources holder decl → IsHeldIn decl i → Contains (parts_at sources holder) i.type_name.name
+part_held sources holder decl i is held =
+    subst (λ (o : Option DeclTree). Contains (parts_in o) i.type_name.name) (sym is) (in_order_has (instance_types decl) i.type_name.name (type_listed decl i held))
+
+-- ---- what a unit holds
+
+module _ (sources : Sources) (unit : List ℕ) where
+  own_held : (name : List ℕ) (tree : Option DeclTree) → tree_at sources unit ≡ tree → Contains (parts_in tree) name → Holds sources unit name
+  own_held name None is c = absurd (contains_nothing name c)
+  own_held name (Some decl) is c =
+      let i = instance_there decl name (from_names (instance_types decl) name c) in
+      subst (λ (n : List ℕ). Holds sources unit n) i.typed (own_part decl i.instance is i.held)
+
+  inner_held : (holder name : List ℕ) → Holds sources unit holder → (tree : Option DeclTree) → tree_at sources holder ≡ tree → Contains (parts_in tree) name → Holds sources unit name
+  inner_held holder name holds None is c = absurd (contains_nothing name c)
+  inner_held holder name holds (Some decl) is c =
+      let i = instance_there decl name (from_names (instance_types decl) name c) in
+      subst (λ (n : List ℕ). Holds sources unit n) i.typed (inner_part decl i.instance holds is i.held)
+
+  holds_on : {holder name : List ℕ} → Holds sources unit holder → Reaches sources holder name → Holds sources unit name
+  holds_on {holder = holder} {name = name} holds (directly m) = inner_held holder name holds (tree_at sources holder) refl m
+  holds_on {holder = holder} holds (onward {w = w} m r) = holds_on (inner_held holder w holds (tree_at sources holder) refl m) r
+
+  reaches_holds : {name : List ℕ} → Reaches sources unit name → Holds sources unit name
+  reaches_holds {name = name} (directly m) = own_held name (tree_at sources unit) refl m
+  reaches_holds (onward {w = w} m r) = holds_on (own_held w (tree_at sources unit) refl m) r
+
+  holds_reaches : {name : List ℕ} → Holds sources unit name → Reaches sources unit name
+  holds_reaches (own_part decl i is held) = directly (part_held sources unit decl i is held)
+  holds_reaches (inner_part {holder = holder} decl i holds is held) = reaches_more (holds_reaches holds) (part_held sources holder decl i is held)
+
+-- ---- what a unit is made of
+
+module _ (sources : Sources) (unit : List ℕ) where
+  -- a mention of what the unit is made of is something that it is made of
+
+  part_made : (holder name : List ℕ) → IsMadeOf sources unit holder → (tree : Option DeclTree) → tree_at sources holder ≡ tree → Contains (parts_in tree) name → IsMadeOf sources unit name
+  part_made holder name made None is c = absurd (contains_nothing name c)
+  part_made holder name made (Some decl) is c =
+      let i = instance_there decl name (from_names (instance_types decl) name c) in
+      subst (λ (n : List ℕ). IsMadeOf sources unit n) i.typed (type_of_part decl i.instance made is i.held)
+
+  value_made : (holder name : List ℕ) → IsMadeOf sources unit holder → (tree : Option DeclTree) → tree_at sources holder ≡ tree → Contains (values_in tree) name → IsMadeOf sources unit name
+  value_made holder name made None is c = absurd (contains_nothing name c)
+  value_made holder name made (Some decl) is c =
+      let listed = from_names (filter is_plain (value_types decl)) name c in
+      let v = variables_there decl name (passes_in_filter is_plain (value_types decl) name listed).among in
+      let plain : is_elementary v.variables.type_use.name.name ≡ false = ap is_elementary v.typed ∙ no_elementary sources (Some decl) name c in
+      subst (λ (n : List ℕ). IsMadeOf sources unit n) v.typed (type_of_value decl v.variables made is v.declared plain)
+
+  mention_made : (holder name : List ℕ) → IsMadeOf sources unit holder → Contains (mentions_at sources holder) name → IsMadeOf sources unit name
+  mention_made holder name made m = by (Contains-append_cases (parts_at sources holder) (values_at sources holder) name m)
+    where
+      by : Contains (parts_at sources holder) name ⊎ Contains (values_at sources holder) name → IsMadeOf sources unit name
+      by (inl c) = part_made holder name made (tree_at sources holder) refl c
+      by (inr c) = value_made holder name made (tree_at sources holder) refl c
+
+  made_on : {holder name : List ℕ} → IsMadeOf sources unit holder → Rests sources holder name → IsMadeOf sources unit name
+  made_on made itself = made
+  made_on {holder = holder} made (through {w = w} m r) = made_on (mention_made holder w made m) r
+
+  rests_made : {name : List ℕ} → Rests sources unit name → IsMadeOf sources unit name
+  rests_made r = made_on own_unit r
+
+  -- and the other way round
+
+  made_rests : {name : List ℕ} → IsMadeOf sources unit name → Rests sources unit name
+  made_rests own_unit = itself
+  made_rests (type_of_part {holder = holder} decl i made is held) =
+      rests_more (made_rests made) (part_mention sources holder i.type_name.name (part_held sources holder decl i is held))
+  made_rests (type_of_value {holder = holder} decl v made is declared plain) =
+      let type = v.type_use.name.name in
+      rests_more (made_rests made) (value_mention sources holder type (value_of sources holder decl is type (type_among decl v declared) plain))
+
+  -- what has an instance of an absent type has a fault
+  holder_faulty : (holder : List ℕ) (decl : DeclTree) (i : InstanceTree) → IsDeclaredAt sources holder decl → IsHeldIn decl i → get sources i.type_name.name ≡ None → faults_of sources holder ≢ []
+  holder_faulty holder decl i is held absent none =
+      let span = i.type_name.span in
+      let fault : Fault = record { code = UnknownType; span = span } in
+      let unknown : HasUnknownType sources holder span = record { decl = decl; declared = is; instance = i; among = held_listed decl i held; unknown = ap (option_and_then tree_of) absent; place = refl } in
+      let found = (whole_units sources holder decl is fault).1 (record { part = Declarations; reported = (unknown_types sources holder span).1 unknown }) in
+      contains_nothing fault (subst (λ (l : List Fault). Contains l fault) none found)
+
+  -- what blocks the unit is in the way, and what is in the way blocks it
+
+  absent_in_way : (holder name : List ℕ) → IsMadeOf sources unit holder → (tree : Option DeclTree) → tree_at sources holder ≡ tree → Contains (parts_in tree) name → get sources name ≡ None → IsInTheWay sources unit name
+  absent_in_way holder name made None is c absent = absurd (contains_nothing name c)
+  absent_in_way holder name made (Some decl) is c absent =
+      let i = instance_there decl name (from_names (instance_types decl) name c) in
+      subst (λ (n : List ℕ). IsInTheWay sources unit n) i.typed (absent_type decl i.instance made is i.held (ap (get sources) i.typed ∙ absent))
+
+  in_the_way : (name : List ℕ) → Rests sources unit name → IsBlocking sources unit name → IsInTheWay sources unit name
+  in_the_way name r (inl faulty) = faulty_unit (rests_made r) faulty
+  in_the_way name r (inr (absent, (holder, below, part))) = absent_in_way holder name (rests_made below) (tree_at sources holder) refl part absent
+
+  way_below : {name : List ℕ} → IsInTheWay sources unit name → Rests sources unit name
+  way_below (faulty_unit made faulty) = made_rests made
+  way_below (absent_type decl i made is held absent) = made_rests (type_of_part decl i made is held)
+
+  way_blocks : {name : List ℕ} → IsInTheWay sources unit name → IsBlocking sources unit name
+  way_blocks (faulty_unit made faulty) = inl faulty
+  way_blocks (absent_type {holder = holder} decl i made is held absent) = inr (absent, (holder, made_rests made, part_held sources holder decl i is held))
+
+  way_faulty : {name : List ℕ} → IsInTheWay sources unit name → HasFaultBelow sources unit
+  way_faulty {name = name} (faulty_unit made faulty) = record { name = name; below = made; faulty = faulty }
+  way_faulty (absent_type {holder = holder} decl i made is held absent) = record { name = holder; below = made; faulty = holder_faulty holder decl i is held absent }
+
+  -- ---- whole units
+
+  no_names_sorted : IsStrictlySortedBy name_cmp []
+  unfolding IsStrictlySortedBy
+  no_names_sorted = tt
+
+  none_below : IsWhole sources unit → HasNoFaultsBelow sources unit
+  none_below whole name made = by (faults_of sources name) refl
+    where
+      by : (found : List Fault) → faults_of sources name ≡ found → faults_of sources name ≡ []
+      by [] is = is
+      by (f ∷ fs) is =
+          let faulty : faults_of sources name ≢ [] = λ none. contains_nothing f (subst (λ (l : List Fault). Contains l f) (sym is ∙ none) (contains_here f fs)) in
+          absurd (contains_nothing name ((whole.members name).1 (made_rests made, inl faulty)))
+
+  whole_of_none : HasNoFaultsBelow sources unit → IsWhole sources unit
+  whole_of_none none =
+      record {
+        sorted = no_names_sorted;
+        members = λ v. (λ c. absurd (contains_nothing v c), λ b. let found = way_faulty (in_the_way v b.0 b.1) in absurd (found.faulty (none found.name found.below)));
+      }
+
+-- ---- laws
+
+pub whole_below : WholeUnitsHaveNoFaultsBelow
+whole_below sources unit = (none_below sources unit, whole_of_none sources unit)
+
+pub blocked_told : BlockedIsTold
+blocked_told sources unit names is name =
+    let those = ((net_at_is sources unit (blocked names)).0 is).1.0 in (
+      λ c. let b = (those.members name).0 c in in_the_way sources unit name b.0 b.1,
+      λ w. (those.members name).1 (way_below sources unit w, way_blocks sources unit w),
+    )
+
+pub blocked_faulty : BlockedUnitsHaveFaultsBelow
+blocked_faulty sources unit names is = let net = ((net_at_is sources unit (blocked names)).0 is).1 in by names net.0 net.1
+  where
+    by : (names : List (List ℕ)) → AreThose sources unit (IsBlocking sources unit) names → names ≢ [] → HasFaultBelow sources unit
+    by [] those some = absurd (some refl)
+    by (name ∷ others) those some = let b = (those.members name).0 (contains_here name others) in way_faulty sources unit (in_the_way sources unit name b.0 b.1)
+
+pub others_faultless : OtherNetsHaveNoFaultsBelow
+others_faultless sources unit net is other = by net ((net_at_is sources unit net).0 is).1 other
+  where
+    by : (net : PlainNet) → IsNet sources unit net → ((names : List (List ℕ)) → net ≢ blocked names) → HasNoFaultsBelow sources unit
+    by (blocked names) is other = absurd (other names refl)
+    by (recursive names) is other = none_below sources unit is.0
+    by too_large is other = none_below sources unit is.0.whole
+    by (flat_net flat) is other = none_below sources unit is.0.whole
+
+pub recursive_told : RecursiveIsTold
+recursive_told sources unit names is name =
+    let those = ((net_at_is sources unit (recursive names)).0 is).1.1 in (
+      λ c. let r = (those.members name).0 c in (rests_made sources unit r.0, reaches_holds sources name r.1),
+      λ h. (those.members name).1 (made_rests sources unit h.0, holds_reaches sources name h.1),
+    )
+
+pub others_finite : OtherNetsHoldNothingInItself
+others_finite sources unit net is unblocked finite = by net ((net_at_is sources unit net).0 is).1 unblocked finite
+  where
+    none : AreThose sources unit (IsRecursive sources) [] → (name : List ℕ) → IsMadeOf sources unit name → Holds sources name name → ⊥
+    none those name made holds = contains_nothing name ((those.members name).1 (made_rests sources unit made, holds_reaches sources name holds))
+
+    by : (net : PlainNet) → IsNet sources unit net → ((names : List (List ℕ)) → net ≢ blocked names) → ((names : List (List ℕ)) → net ≢ recursive names) → (name : List ℕ) → IsMadeOf sources unit name → Holds sources name name → ⊥
+    by (blocked names) is unblocked finite = absurd (unblocked names refl)
+    by (recursive names) is unblocked finite = absurd (finite names refl)
+    by too_large is unblocked finite = none is.0.finite
+    by (flat_net flat) is unblocked finite = none is.0.finite
