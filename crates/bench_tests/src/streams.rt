@@ -3,8 +3,9 @@ use crate::talk::{
     ALWAYS, GOOD, Run, Streams, new_bench, replies_in, replies_within, requests_in, run_over,
 };
 use fb_wire::bench::Bench;
-use fb_wire::{Feed, FromRead, IntoWrite, RunEnd, Sink, run_script};
+use fb_wire::{Failed, Feed, FromRead, IntoWrite, RunEnd, Sink, run_script};
 use std::alloc::Global;
+use std::io::{self, ErrorKind, Write};
 use std::process::Abort;
 use std::test::Fail;
 
@@ -241,4 +242,25 @@ fn streams_of_std(rt: HostRuntime) -> Result<(), Fail> {
     let mut bench = new_bench(rt.alloc(), 10, 1000)?;
     compare_std(&rt, rt.alloc(), &mut bench);
     Ok(())
+}
+
+// Takes all bytes, and fails at a flush.
+#[derive(Drop)]
+struct NeverFlushed;
+
+impl Write for NeverFlushed {
+    fn write(&mut self, bytes: &[u8]) -> io::Result<usize> {
+        Ok(bytes.len())
+    }
+
+    fn flush(&mut self) -> io::Result<()> {
+        Err(io::Error::from(ErrorKind::Other))
+    }
+}
+
+#[test]
+fn a_flush_that_fails(rt: HostRuntime) {
+    let mut sink = IntoWrite::new(NeverFlushed);
+    assert_eq!(rt; sink.flush(), Err(Failed));
+    assert!(rt; sink.failed());
 }

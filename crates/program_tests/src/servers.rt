@@ -3,7 +3,7 @@ ghost use Rattle.std.specs.Thread.{IsSync};
 
 use fb_program::bench::Limits;
 use fb_program::wire::MemorySink;
-use fb_serve::{Numbers, serve_on};
+use fb_serve::{Numbers, serve, serve_on};
 use std::alloc::{AllocError, Global};
 use std::io;
 use std::io::{Read, Write};
@@ -257,14 +257,14 @@ fn a_session_fails_alone(rt: HostRuntime) -> Result<(), Fail> {
     let line = long_line(rt.alloc())?;
     let play = Play {
         workers: 1,
-        sessions: 2,
+        sessions: 3,
         good_writes: ALWAYS,
-        texts: &[line.as_str(), FIRST],
+        texts: &[FIRST, line.as_str(), SECOND],
     };
     let wanted = Wanted {
-        told: FIRST_TOLD,
+        told: BOTH_TOLD,
         printed: "closed\n",
-        errors: "session 1: line too long\n",
+        errors: "session 2: line too long\n",
         status: 0,
     };
     compare(&rt, rt.alloc(), &play, &wanted)
@@ -285,4 +285,32 @@ fn a_line_is_not_printed(rt: HostRuntime) -> Result<(), Fail> {
         status: 1,
     };
     compare(&rt, rt.alloc(), &play, &wanted)
+}
+
+// Whether a server on this port fails at once, and says nothing. It would let in no session.
+fn is_turned_away<R: Net<Listener = TcpListener, Stream = TcpStream> + Threads + Wait + Sync>(
+    rt: &R,
+    alloc: Global,
+    port: u16,
+    limits: Limits,
+) -> bool {
+    let numbers = Numbers {
+        workers: 1,
+        sessions: 0,
+        limits,
+    };
+    let mut out = MemorySink::new(alloc, 100, ALWAYS);
+    let mut errors = Vec::new(alloc);
+    let status = serve(rt, alloc, port, numbers, &mut out, &mut errors);
+    status == 1 && out.as_slice().is_empty() && errors.is_empty()
+}
+
+// It listens where it is told to: somebody else does so there.
+#[test]
+fn a_port_that_is_taken(rt: HostRuntime) -> Result<(), Fail> {
+    let listener = TcpListener::bind(&rt, "127.0.0.1:0")?;
+    let port = listener.local_addr()?.port();
+    let limits = Limits::new(16, 1000).ok_or("limits")?;
+    assert!(rt; is_turned_away(&rt, rt.alloc(), port, limits));
+    Ok(())
 }
