@@ -19,9 +19,10 @@ PATIENCE = 60
 
 @contextmanager
 def board(*words: object, folder: Path | None = None, program: str | Path | None = None) -> Iterator[Address]:
-    """A board that runs, of a workbench of its own where the words do not say `--connect`."""
+    """A board that runs, of a workbench of its own where the words do not say `--connect`. Ctrl-C ends it even if the tests run behind a shell, which lets
+    its programs ignore that."""
     own = [] if "--connect" in words else ["--program", str(program or workbench())]
-    command = [str(CLIENTS / "board"), *map(str, words), *own]
+    command = ["env", "--default-signal=INT", str(CLIENTS / "board"), *map(str, words), *own]
     with subprocess.Popen(command, cwd=folder, stdout=subprocess.PIPE, stderr=subprocess.PIPE, text=True) as process:
         try:
             line = process.stdout.readline()
