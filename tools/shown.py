@@ -215,7 +215,7 @@ def trials():
     found = {}
     for it, items in parts.tests():
         for item in items:
-            for label in re.findall(r'(?:try_call::<[^(]+>|\breport)\((?:[^",]*,)* *"([\w:]+)"', item.text):
+            for label in re.findall(r'(?:try_call::<[^(]+>|\breport)\((?:[^",]*,)*\s*"([\w:]+)"', item.text):
                 found.setdefault(label, {})[f"`{it.crate}`: `{it.name}`"] = None
     return found
 
