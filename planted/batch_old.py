@@ -1,0 +1,215 @@
+#!/usr/bin/env python3
+"""batch.py CRATE [--size N] [--jobs N] [--only NAME,..]: tries the edits of /work/planted/part1/CRATE and /work/planted/CRATE that have no result yet, several in one check
+(those of different functions, since a function's proof stands on the contracts of what it calls, and not on bodies). Appends to results.tsv."""
+import functools, hashlib, importlib.machinery, importlib.util, os, re, shutil, sys, time
+loader = importlib.machinery.SourceFileLoader("rt", os.path.realpath(shutil.which("rt")))
+made = importlib.util.module_from_spec(importlib.util.spec_from_loader("rt", loader))
+sys.modules["rt"] = made
+loader.exec_module(made)
+made.rtlib.Crate.stamp = functools.cache(made.rtlib.Crate.stamp)
+made.rtlib.lock = lambda crates: []
+TREE = os.environ.get("TREE", "/tmp/wt")
+RES = "/work/planted/results.tsv"
+args = sys.argv[1:]
+name = args[0]
+size = int(args[args.index("--size") + 1]) if "--size" in args else 8
+jobs = args[args.index("--jobs") + 1] if "--jobs" in args else "1"
+only = args[args.index("--only") + 1].split(",") if "--only" in args else None
+anew = "--anew" in args
+
+def quiet():
+    while os.path.exists("/tmp/QUIET"):
+        time.sleep(5)
+
+def sha(path):
+    return hashlib.sha256(open(path, "rb").read()).hexdigest()[:12]
+
+def pending():
+    known = set()
+    if os.path.exists(RES) and not anew:
+        for line in open(RES, encoding="utf-8"):
+            p = line.rstrip("\n").split("\t")
+            if p[2] in ("refused", "limit", "missed", "bad"):
+                known.add((p[0], p[1], p[5]))
+    found = []
+    for folder in (f"/work/planted/part1/{name}", f"/work/planted/{name}"):
+        if os.path.isdir(folder):
+            for it in sorted(os.listdir(folder)):
+                path = f"{folder}/{it}"
+                if it.endswith(".edit") and (only is None or it[:-5] in only) and (name, it[:-5], sha(path)) not in known:
+                    found.append(path)
+    return found
+
+FN = re.compile(r"^\s*(?:pub(?:\([^)]*\))?\s+)?(?:const\s+)?(?:unsafe\s+)?fn\s+(\w+)")
+
+def functions(text):
+    """(first line, last line, name) of each function, lines from 1."""
+    lines = text.split("\n")
+    found, k = [], 0
+    while k < len(lines):
+        m = FN.match(lines[k])
+        if m:
+            indent = len(lines[k]) - len(lines[k].lstrip())
+            first = k
+            while first > 0 and re.match(r"\s*(#\[|///)", lines[first - 1]):
+                first -= 1
+            e = k
+            one = re.search(r"\{.*\}\s*$", lines[k])
+            while e < len(lines) and not one:
+                l = lines[e]
+                if e > k and len(l) - len(l.lstrip()) == indent and l.lstrip().startswith("}") or (e > k and len(l)-len(l.lstrip())==indent and l.strip() in ("{}", "};")) or (l.rstrip().endswith(";") and e>=k and "{" not in "".join(lines[k:e+1]) ):
+                    break
+                e += 1
+            found.append((first + 1, e + 1, m[1]))
+            k = e + 1
+        else:
+            k += 1
+    return found
+
+def parse(path):
+    """[(file, old, new)]"""
+    out, file, old = [], None, None
+    for line in open(path, encoding="utf-8").read().split("\n"):
+        if line.startswith("file: "): file = line[6:].strip()
+        elif line.startswith("old: "): old = line[5:]
+        elif line.startswith("new:"): out.append((file, old, line[4:].removeprefix(" ")))
+    return out
+
+os.chdir(TREE)
+quiet()
+made.share_work(False)
+made.rtlib.guarded()
+crate = next(it for it in made.rtlib.crates_below(TREE) if it.name == name)
+todo = pending()
+if not todo:
+    print(f"{name}: nothing to try"); sys.exit(0)
+made.adopt(crate, is_alone=False)
+for dep in crate.below():
+    if dep.build_rlib(["--jobs", "1"], anew=False):
+        print(f"{name}: {dep.name} not built"); sys.exit(1)
+start = f"{crate.folder}/out/incremental"
+t = time.time()
+seed = made.seeded(crate, ["--jobs", jobs], start if os.path.isdir(start) else None)
+print(f"{time.strftime('%T')} {name}: seed in {time.time()-t:.0f} s, {len(todo)} edits", flush=True)
+if not seed: sys.exit(1)
+
+def where(edit, texts):
+    """The function ranges that the edit touches, or None where it touches what is none."""
+    spots = set()
+    texts = dict(texts)
+    for file, old, new in parse(edit):
+        text = texts[file]
+        line = text[: text.index(old)].count("\n") + 1
+        within = [f for f in functions(text) if f[0] <= line <= f[1]]
+        spots.add((file, *within[0]) if within else (file, 0, 10**9, "?"))
+        texts[file] = text.replace(old, new)
+    return spots
+
+def record(edit, kind, said, took):
+    said = said.replace("\n", " | ").replace("\t", " ")
+    print(f"{kind:8} {os.path.basename(edit)[:-5]}: {said[:180]}", flush=True)
+    with open(RES, "a", encoding="utf-8") as out:
+        out.write("\t".join([name, os.path.basename(edit)[:-5], kind, f"{took:.0f}", said[:400], sha(edit)]) + "\n")
+
+def own(file):
+    return open(f"{crate.folder}/{file}", encoding="utf-8").read()
+
+def overlaps(a, b):
+    return any(x[0] == y[0] and x[1] <= y[2] and y[1] <= x[2] for x in a for y in b)
+
+batches = []
+for edit in todo:
+    try:
+        texts = {file: own(file) for file, _, _ in parse(edit)}
+        spots = where(edit, texts)
+    except ValueError as error:
+        record(edit, "bad", f"cannot be applied: {error}", 0)
+        continue
+    for batch in batches:
+        if len(batch) < size and not any(overlaps(spots, other) for _, other in batch):
+            batch.append((edit, spots)); break
+    else:
+        batches.append([(edit, spots)])
+
+def locate(spots, file, line):
+    return any(file == f and a <= line <= b for f, a, b, _ in spots)
+
+try:
+    while batches:
+        batch = batches.pop(0)
+        quiet()
+        if os.path.exists("/work/planted/STOP"): break
+        t = time.time()
+        texts = {}
+        for edit, _ in batch:
+            for file, old, new in parse(edit):
+                text = texts.get(file) or own(file)
+                assert text.count(old) == 1, (edit, old)
+                texts[file] = text.replace(old, new)
+        over = f"{seed}/try"
+        shutil.rmtree(over, ignore_errors=True)
+        made.linked(f"{seed}/seed", over)
+        ran = made.checked(crate, texts, ["--jobs", jobs], over)
+        shutil.rmtree(over, ignore_errors=True)
+        took = time.time() - t
+        out = ran.stdout
+        open(f"/work/planted/logs/{name}-{os.path.basename(batch[0][0])[:-5]}.log", "w").write(out)
+        lines = out.rstrip("\n").split("\n")
+        front = [(k, it) for k, it in enumerate(lines) if re.search(r"\berror(\[[\w-]+\])?:", it) and not re.match(r"(note: )?\S+:\d+:\d+: error: `", it)]
+        print(f"{time.strftime('%T')} {name}: status {ran.returncode}, {took:.0f} s, {len(batch)} edits; {lines[-1][:100]}", flush=True)
+        judged = lines[-1].startswith(("logic=", "rattle: no verdict", "holes="))
+        if not judged:
+            # the front end refused: find which
+            blamed = set()
+            for k, it in enumerate(lines):
+                for m in re.finditer(r"(src/\w+\.rt):(\d+)", it):
+                    for n, (edit, spots) in enumerate(batch):
+                        if locate(spots, m[1], int(m[2])): blamed.add(n)
+            if len(batch) == 1:
+                record(batch[0][0], "bad", " ".join(lines[:6])[:390], took)
+            elif len(blamed) == 1 or (blamed and len(blamed) < len(batch)):
+                for n in blamed: batches.insert(0, [batch[n]])
+                batches.append([it for n, it in enumerate(batch) if n not in blamed])
+            else:
+                batches[:0] = [[it] for it in batch]
+            continue
+        told, own_errors = [], {}
+        for it in lines:
+            m = re.match(r"(?:note: )?(?:\./)?(src/\S+?\.rt):(\d+):\d+:", it)
+            if m: told.append((m[1], int(m[2]), it))
+            m = re.match(r"(?:\./)?proofs/(\S+)/([^/\s]+)/\w+\.antt:\d+:\d+: error: (.*)", it)
+            if m: own_errors.setdefault((m[1].split("/")[0], m[2]), []).append(m[3])
+        status = {}
+        for it in lines:
+            m = re.match(r"(?:fn|impl) (\S+): (.*)", it)
+            if m: status[m[1]] = m[2]
+        names_only = re.compile(r"has no field|is not in scope|has no `|was not admitted")
+        again = []
+        for edit, spots in batch:
+            hits = [it for f, l, it in told if locate(spots, f, l)]
+            keys = [(os.path.basename(s[0])[:-3], s[3]) for s in spots]
+            proofs = [it for k in keys for it in own_errors.get(k, [])]
+            mine = {f: w for f, w in status.items() for m, n in keys if n != "?" and re.split(r"::|>", f)[-1] == n and (f"::{m}::" in f or m == "lib")}
+            bad = {f: w for f, w in mine.items() if not w.startswith("proved")}
+            waits = {f: w for f, w in bad.items() if "which is not proved" in w or "waits for the proof" in w}
+            if hits or proofs:
+                only = not hits and all(names_only.search(it) for it in proofs)
+                first = (hits + [it for it in proofs if not names_only.search(it)] + proofs)[0]
+                record(edit, "refused", ("names only: " if only else "") + first[:300], took / len(batch))
+            elif bad and len(waits) < len(bad):
+                record(edit, "refused", "fn " + str(bad)[:300], took / len(batch))
+            elif waits:
+                again.append((edit, spots))
+            elif ran.returncode and "?" in {n for _, n in keys} and len(batch) > 1:
+                again.append((edit, spots))
+            elif ran.returncode and len(batch) == 1:
+                record(edit, "refused", "elsewhere: " + " ".join(it for it in lines if "error" in it)[:250], took)
+            elif mine or not ran.returncode:
+                record(edit, "missed", f"proved: {list(mine)}", took / len(batch))
+            else:
+                again.append((edit, spots))
+        for it in again:
+            print(f"again    {os.path.basename(it[0])[:-5]}", flush=True)
+            batches.append([it])
+finally:
+    shutil.rmtree(seed, ignore_errors=True)
