@@ -1,11 +1,7 @@
-//! Tests of the words of the program, of its runs, and of servers.
+//! Tests of the words of the program, and of its runs.
 #![tactic(auto)]
 
-#[cfg(test)]
-mod peers;
 #[cfg(test)]
 mod program;
 #[cfg(test)]
 mod refused;
-#[cfg(test)]
-mod servers;

@@ -1,9 +1,10 @@
 //! Servers in this process, and clients that talk to them over loopback.
 ghost use Rattle.std.specs.Thread.{IsSync};
 
-use fb_program::bench::Limits;
-use fb_program::wire::MemorySink;
+use crate::peers::connect;
 use fb_serve::{Numbers, serve, serve_on};
+use fb_wire::MemorySink;
+use fb_wire::bench::Limits;
 use std::alloc::{AllocError, Global};
 use std::io;
 use std::io::{Read, Write};
@@ -87,16 +88,15 @@ fn talk(alloc: Global, stream: &TcpStream, text: &str) -> io::Result<String> {
     io::read_to_string(alloc, stream)
 }
 
-fn connect_all<R: Net<Listener = TcpListener, Stream = TcpStream>>(
+pub(crate) fn connect_all<R: Net<Listener = TcpListener, Stream = TcpStream>>(
     rt: &R,
     alloc: Global,
     port: u16,
     clients: usize,
 ) -> io::Result<Vec<TcpStream>> {
-    let address = format!(in alloc; "127.0.0.1:{port}")?;
     let mut streams = Vec::new(alloc);
     for _ in 0..clients {
-        streams.push(TcpStream::connect(rt, address.as_str())?)?;
+        streams.push(connect(rt, alloc, port)?)?;
     }
     Ok(streams)
 }
