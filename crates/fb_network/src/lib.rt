@@ -27,6 +27,7 @@ mod pairs;
 mod path;
 mod place;
 mod same;
+mod shown;
 mod sorted;
 mod system;
 mod table;
