@@ -14,5 +14,5 @@ loop-place-preserved c =
     record {
       before = said.0 ∙ c.loop-place.invariant.before;
       tokens = entry_more block_item c.args.flat.now.blocks c.loop-place.place (record { path = string_bytes c.put_block.new.path; type_name = c.in_ok-type_name.type_name }) out c.write_two.new.out.tokens _ c.in_ok-type_name.ensures
-      (said.1 ∙ (λ i. out ++ tokens_of (two (c.as_str.ensures.value i) (c.as_str-2.ensures.text i)))) c.loop-place.invariant.tokens;
+      (said.1 ∙ (λ i. out ++ tokens_of (two (c.as_str.ensures.value i) (c.as_str-in-loop-place.ensures.text i)))) c.loop-place.invariant.tokens;
     }

@@ -12,6 +12,6 @@ loop-place-preserved c =
     let out = c.loop-place.out.tokens in
     record {
       before = said.0 ∙ c.loop-place.invariant.before;
-      tokens = entry_more border_item c.args.flat.now.borders c.loop-place.place (record { sort = c.in_ok-put_border.sort; port = c.in_ok-put_border.port; place = string_bytes c.put_border.new.at }) out c.write_three.new.out.tokens _ c.in_ok-put_border.ensures
-      (said.1 ∙ (λ i. out ++ tokens_of (three (c.sort_text.ensures i) (c.as_str.ensures.text i) (c.as_str-2.ensures.value i)))) c.loop-place.invariant.tokens;
+      tokens = entry_more border_item c.args.flat.now.borders c.loop-place.place (record { sort = c.in_ok-sort.sort; port = c.in_ok-sort.port; place = string_bytes c.put_border.new.at }) out c.write_three.new.out.tokens _ c.in_ok-sort.ensures
+      (said.1 ∙ (λ i. out ++ tokens_of (three (c.sort_text.ensures i) (c.as_str.ensures.text i) (c.as_str-in-loop-place.ensures.value i)))) c.loop-place.invariant.tokens;
     }

@@ -13,5 +13,5 @@ loop-place-preserved c =
     record {
       before = said.0 ∙ c.loop-place.invariant.before;
       tokens = entry_more link_item c.args.flat.now.links c.loop-place.place (record { sort = c.in_ok-sort.sort; from = string_bytes c.put_link.new.from; to = string_bytes c.put_link.new.to }) out c.write_three.new.out.tokens _ c.in_ok-sort.ensures
-      (said.1 ∙ (λ i. out ++ tokens_of (three (c.sort_text.ensures i) (c.as_str.ensures.value i) (c.as_str-2.ensures.value i)))) c.loop-place.invariant.tokens;
+      (said.1 ∙ (λ i. out ++ tokens_of (three (c.sort_text.ensures i) (c.as_str.ensures.value i) (c.as_str-in-loop-place.ensures.value i)))) c.loop-place.invariant.tokens;
     }
