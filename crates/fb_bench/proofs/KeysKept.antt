@@ -17,13 +17,13 @@ use Rattle.fb_text.proofs.OrderLemmas.{in_order-same}
 use Rattle.fb_entries.specs.Library.Texts.{Texts}
 use Rattle.fb_entries.specs.Jobs.declared.key.Key.{Key}
 use Rattle.fb_entries.specs.Jobs.Keys.{has_key}
-use Rattle.fb_entries.specs.Jobs.KeyOrder.{key_cmp}
+use Rattle.fb_entries.specs.Jobs.KeyOrder.{key_cmp, key_cmp_total}
 use Rattle.fb_entries.specs.declared.entry.Entry.{Entry}
 use Rattle.fb_history.specs.Machine.{State, keys_of}
 use Rattle.fb_history.specs.Story.{Story, IsOrigin, state_of}
 use Rattle.fb_bench.specs.Kept.{EntryFits, Agrees}
 use Rattle.fb_entries.specs.Marking.{is_handed_out, is_of, is_unkept, keys_with}
-use Rattle.fb_entries.proofs.Jobs.Order.{key_total, same_keys}
+use Rattle.fb_entries.proofs.Jobs.Order.{exact_key}
 use Rattle.fb_history.proofs.Least.{of_keys}
 use Rattle.fb_history.proofs.Sorted.{keys_rise}
 
@@ -37,7 +37,7 @@ already_in_order (k ∷ l ∷ ks) rise =
     ap (λ xs. insert_key key_cmp xs k) (already_in_order (l ∷ ks) rise.1) ∙ ap (λ r. match_ordering r (k ∷ l ∷ ks) (l ∷ ks) (l ∷ insert_key key_cmp ks k)) rise.0.0
 
 pub same_rising : (ks ls : List Key) → IsStrictlySortedBy key_cmp ks → IsStrictlySortedBy key_cmp ls → ((q : Key) → is_of q ks ≡ is_of q ls) → ks ≡ ls
-same_rising ks ls rise rise' same = sym (already_in_order ks rise) ∙ in_order-same key_cmp key_total same_keys ks ls same ∙ already_in_order ls rise'
+same_rising ks ls rise rise' same = sym (already_in_order ks rise) ∙ in_order-same key_cmp key_cmp_total exact_key ks ls same ∙ already_in_order ls rise'
 
 -- ---- as many values pass as keys do
 
@@ -76,7 +76,7 @@ module _ (story : Story) (begins : IsOrigin story.origin) (T : Texts) (commits :
   unkept : All (λ (e : Key × Entry). (state_of story).pending e.0 ≡ is_unkept e.1) entries.entries
   unkept i d below =
       let e = get_or entries.entries i d in
-      let at : tree.get key_cmp entries e.0 ≡ Some e.1 = btree_map_get_place key_total entries i e.0 e.1 rise (slice_get-get_or entries.entries i d below) in
+      let at : tree.get key_cmp entries e.0 ≡ Some e.1 = btree_map_get_place key_cmp_total entries i e.0 e.1 rise (slice_get-get_or entries.entries i d below) in
       let fits : EntryFits (state_of story) e.0 (Some e.1) = subst (λ o. EntryFits (state_of story) e.0 o) at (agrees.each e.0) in
       fits.1
 
@@ -91,7 +91,7 @@ module _ (story : Story) (begins : IsOrigin story.origin) (T : Texts) (commits :
   handed : All (λ (e : Key × Entry). (state_of story).out e.0 ≡ is_handed_out e.1) entries.entries
   handed i d below =
       let e = get_or entries.entries i d in
-      let at : tree.get key_cmp entries e.0 ≡ Some e.1 = btree_map_get_place key_total entries i e.0 e.1 rise (slice_get-get_or entries.entries i d below) in
+      let at : tree.get key_cmp entries e.0 ≡ Some e.1 = btree_map_get_place key_cmp_total entries i e.0 e.1 rise (slice_get-get_or entries.entries i d below) in
       let fits : EntryFits (state_of story) e.0 (Some e.1) = subst (λ o. EntryFits (state_of story) e.0 o) at (agrees.each e.0) in
       fits.2
 

@@ -61,6 +61,7 @@ impl Bench {
     ghost use Rattle.fb_bench.specs.Founds.{HasNetsOf};
     ghost use Rattle.fb_bench.specs.Refusals.{IsFullRefusal};
     ghost use Rattle.fb_bench.specs.Requests.{call_for, reply_in};
+    ghost use Rattle.fb_bench.specs.Calls.{Fits};
     ghost use Rattle.fb_bench.specs.Peeks.{shown_by, is_pending};
     ghost use Rattle.fb_history.specs.Checkpoints.{checking, checkpointed, ChecksAs};
     ghost use Rattle.fb_history.specs.Due.{is_due};
@@ -618,7 +619,7 @@ impl Bench {
         Ok(before)
     }
 
-    /// Makes any call. It gives a share of the record, and the answer.
+    /// Makes any call. It gives a share of the record, and the answer, which is of the call's kind.
     pub fn perform(
         &mut self,
         caller: u32,
@@ -629,6 +630,7 @@ impl Bench {
             (λ made. made.0.value ≡ record_of self.old caller (call_for request.now)) }
         ensures answer { IfOk result
             (λ made. reply_in made.1 ≡ reply_at self.old (call_for request.now)) }
+        ensures fits { IfOk result (λ made. Fits (call_for request.now) (reply_in made.1)) }
         ensures full { IsFullRefusal self.old.log result }
         ensures err { OnErr result (self.new ≡ self.old) }
     {

@@ -16,10 +16,7 @@ use Rattle.fb_network.specs.declared.flat.Link.{Link}
 use Rattle.fb_network.specs.declared.flat.Border.{Border}
 use Rattle.fb_network.specs.LinkOrder.{border_cmp, border_cmp_total, link_cmp, link_cmp_total}
 use Rattle.fb_network.proofs.Equals.{exact_border, exact_link}
-use Rattle.fb_jobs.specs.declared.key.Key.{Key}
-use Rattle.fb_jobs.specs.KeyOrder.{key_cmp_total, same_key}
 use Rattle.fb_text.proofs.OrderLemmas.{is_equal}
-use Rattle.fb_jobs.proofs.KeyLemmas.{exact_key}
 
 -- what is told by an order in which only equal items are equal
 told_by : {X : Type 0} {order : X → X → Ordering} → IsTotalOrder order → ((a b : X) → order a b ≡ Equal → a ≡ b) → (a b : X) → IsTrue (eq_by_cmp order a b) ↔ (a ≡ b)
@@ -30,9 +27,6 @@ told_by {order = order} total exact a b = (
 
 pub one_name : (a b : List ℕ) → IsTrue (is_at (name_cmp a) b) ↔ (a ≡ b)
 one_name = told_by name_total exact_name
-
-pub one_key : (a b : Key) → IsTrue (same_key a b) ↔ (a ≡ b)
-one_key = told_by key_cmp_total exact_key
 
 pub one_fault : (a b : Fault) → IsTrue (eq_by_cmp fault_cmp a b) ↔ (a ≡ b)
 one_fault = told_by fault_cmp_total fault_cmp-exact

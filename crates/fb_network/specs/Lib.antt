@@ -15,6 +15,5 @@ pub mod Count
 pub mod Composition
 pub mod Composed
 pub mod Ready
-pub mod Ordered
 pub mod Part
 pub mod SystemFlat
