@@ -147,8 +147,10 @@ pub trait Desk {
         let _finished: Option<&Finished> = None;
         match answered(self.serve(&Demand::Call(Request::Ask(key))))? {
             Answered::Ask(asked) => Ok(asked),
-            Answered::Commit(_) | Answered::Take(_) | Answered::Deliver(_) | Answered::GiveBack(_) =>
-                unreachable!(),
+            Answered::Commit(_)
+            | Answered::Take(_)
+            | Answered::Deliver(_)
+            | Answered::GiveBack(_) => unreachable!(),
         }
     }
 

@@ -36,8 +36,8 @@ impl<R: Wait> Desk for Seated<'_, R> {
         let shared = self.shared;
         match shared.perform_kept(self.rt, &mut self.seat, &mut self.receipts, request) {
             Ok(answer) => Ok(Said::Answered(answer)),
-            Err(SharedRefused::SeatDiffers { .. } | SharedRefused::Behind { .. }) =>
-                Ok(Said::Behind),
+            Err(SharedRefused::SeatDiffers { .. }) => Ok(Said::Behind),
+            Err(SharedRefused::Behind { .. }) => Ok(Said::Behind),
             Err(SharedRefused::HistoryFull) => Ok(Said::HistoryFull),
             Err(SharedRefused::Memory) => Err(AllocError),
         }

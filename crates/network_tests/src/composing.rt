@@ -133,7 +133,11 @@ fn joined(alloc: Global, type_name: Name, name: Name, event: Name) -> Result<Net
 fn a_block_behind_a_border(rt: HostRuntime) -> Result<(), Fail> {
     let alloc = rt.alloc();
     let [type_name, name, event] = [Name::read("B")?, Name::read("F")?, Name::read("I")?];
-    let inner = Network::new(vec![in alloc; input(event)]?, Vec::new(alloc), Vec::new(alloc));
+    let inner = Network::new(
+        vec![in alloc; input(event)]?,
+        Vec::new(alloc),
+        Vec::new(alloc),
+    );
     let mut types = BTreeMap::new(alloc);
     types.insert(type_name, inner)?;
     let outer = joined(alloc, type_name, name, event)?;

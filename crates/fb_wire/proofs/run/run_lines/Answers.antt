@@ -12,8 +12,7 @@ returns-in-Err g c =
     let both = pieces_come g.D.Desk.step c.args.desk.now c.loop-turn.desk c.take_turn.new.desk [] c.loop-turn.talk.line.items c.take_turn.new.talk.line.items [] c.loop-turn.talk.held.items c.take_turn.new.talk.held.items
     (g.S.Sink.held c.args.writer.now) (g.S.Sink.held c.loop-turn.writer) (g.S.Sink.held c.take_turn.new.writer) inv.3 turn.0 [] (Err c.in-Err.end) inv.6 turn.3 in
     let ran = run_stops g.D.Desk.step c.args.desk.now c.take_turn.new.desk c.take_turn.new.talk.line.items c.take_turn.new.talk.held.items (g.S.Sink.held c.args.writer.now) (g.S.Sink.held c.take_turn.new.writer) (inv.3 ++ turn.0) c.in-Err.end both in
-    let left = Consumes-trans (g.F.Feed.left c.args.reader.now) (g.F.Feed.left c.loop-turn.reader) (g.F.Feed.left c.take_turn.new.reader) inv.3 turn.0 inv.5 turn.2 in
-    (
+    let left = Consumes-trans (g.F.Feed.left c.args.reader.now) (g.F.Feed.left c.loop-turn.reader) (g.F.Feed.left c.take_turn.new.reader) inv.3 turn.0 inv.5 turn.2 in (
       record {
         bytes = inv.3 ++ turn.0;
         pairs = ran.0;
@@ -37,8 +36,7 @@ returns-in-Err g c =
 pub returns : goal.returns
 returns g c =
     let inv = c.loop-turn.invariant in
-    let ran = run_breaks g.D.Desk.step c.args.desk.now c.loop-turn.desk c.loop-turn.talk.line.items c.loop-turn.talk.held.items (g.S.Sink.held c.args.writer.now) (g.S.Sink.held c.loop-turn.writer) inv.3 inv.6 in
-    (
+    let ran = run_breaks g.D.Desk.step c.args.desk.now c.loop-turn.desk c.loop-turn.talk.line.items c.loop-turn.talk.held.items (g.S.Sink.held c.args.writer.now) (g.S.Sink.held c.loop-turn.writer) inv.3 inv.6 in (
       record {
         bytes = inv.3;
         pairs = ran.0;
