@@ -15,5 +15,6 @@ pub mod Count
 pub mod Composition
 pub mod Composed
 pub mod Ready
+pub mod Ordered
 pub mod Part
 pub mod SystemFlat

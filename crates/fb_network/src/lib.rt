@@ -11,6 +11,7 @@ mod borders;
 mod count;
 mod flat;
 mod flat_network;
+mod in_order;
 mod laws;
 mod links;
 mod look_up;
@@ -23,7 +24,8 @@ mod table;
 pub use application::FlatApplication;
 pub use count::INSTANCE_LIMIT;
 pub use flat::{Border, Flat, FlatBlock, Link};
-pub use flat_network::compose_by_part;
+pub use flat_network::{compose, compose_by_part};
+pub use in_order::compose_in_order;
 pub use laws::{chains_are_composed, flat_is_one, system_is_one};
 pub use look_up::{Nets, Networks};
 pub use network::{
