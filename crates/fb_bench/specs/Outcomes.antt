@@ -8,7 +8,7 @@ use Rattle.fb_bench.specs.declared.commit.Outcome.TheVariants.{Refused, Done}
 use Rattle.fb_entries.specs.declared.entries.Entries.{Entries}
 use Rattle.fb_entries.specs.Indexed.{IsIndexOf}
 use Rattle.fb_history.specs.Machine.{State, refusal, or_else, after_commit}
-use Rattle.fb_entries.specs.Found.{Alters}
+use Rattle.fb_entries.specs.Renew.{IsRenewal}
 
 -- the answer to changes of these texts, where at most so many units may be and a good commit has this number
 abbrev pub answer_at : ℕ → ℕ → Texts → List Edit → Committed
@@ -23,4 +23,4 @@ IsOutcome most_units number texts edits entries (Done library found) =
     (answer.Done number ≡ answer_at most_units number texts edits)
     × (library ≡ all_edited number edits texts)
     × IsIndexOf library found.index
-    × Alters library (map unit_of edits) entries found.renewal
+    × IsRenewal library (map unit_of edits) entries found.renewal

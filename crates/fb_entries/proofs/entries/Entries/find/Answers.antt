@@ -10,7 +10,7 @@ use Rattle.fb_entries.proofs.entries.Entries.find.Goals as goal
 pub returns : goal.returns
 returns c =
     let U = c.args.library.now in
-    found U c.args.index.now c.args.units.now c.args.self.now.by_key c.args.self.now.ready _ c.in_ok-own.own.items c.in_ok-present.present.items c.in_ok-reached.reached.items
+    found U c.args.index.now c.args.units.now c.args.self.now _ c.in_ok-own.own.items c.in_ok-present.present.items c.in_ok-reached.reached.items
     c.requires.indexed
     c.in_ok-own.ensures
     (c.in_ok-present.ensures ∙ ap (filter (has_key U)) c.deref.ensures.value)
