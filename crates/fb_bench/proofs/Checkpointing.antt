@@ -1,8 +1,8 @@
 -- What is kept after a checkpoint.
 use Rattle.std.proofs.Common.{◌≡◌, ℕ, List, filter, refl, sym, subst, arith}
+use Rattle.fb_entries.specs.Keyed.{Keyed}
 use Rattle.fb_entries.specs.Library.Texts.{Texts}
 use Rattle.fb_entries.specs.Jobs.declared.key.Key.{Key}
-use Rattle.fb_entries.specs.declared.entries.Entries.{Entries}
 use Rattle.fb_entries.specs.Index.Indexed.{Indexed}
 use Rattle.fb_history.specs.Checkpoints.{checkpointed, restarted}
 use Rattle.fb_history.specs.Limits.{Bounds}
@@ -17,7 +17,7 @@ pub restarted_is : (limits : Bounds) (story : Story) (units : Texts) (commits : 
 restarted_is limits story units commits pending out units_are commits_are pending_are out_are =
     λ i. restarted limits (units_are i) (commits_are i) (pending_are i) (out_are i) story
 
-pub kept_checkpointed : (units : Texts) (commits : ℕ) (entries : Entries) (index : Indexed) (limits : Bounds) (story : Story) → IsKept units commits entries index story → IsKept units commits entries index (checkpointed limits story)
+pub kept_checkpointed : (units : Texts) (commits : ℕ) (entries : Keyed) (index : Indexed) (limits : Bounds) (story : Story) → IsKept units commits entries index story → IsKept units commits entries index (checkpointed limits story)
 unfolding replies
 kept_checkpointed units commits entries index limits story kept =
     let s : State = state_of story in

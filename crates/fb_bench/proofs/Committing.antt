@@ -2,9 +2,9 @@
 use Rattle.std.proofs.Common.{◌≡◌, ℕ, ◌+◌, ◌<◌, ◌≤◌, Bool, true, false, List, [], ◌∷◌, map, length, refl, sym, ap, ◌∙◌, subst, Option, Some, None, cond, nat_lt, ◌==◌, arith}
 use Rattle.std.proofs.lemmas.Bool.Decides.{nat_tests}
 use Rattle.std.specs.Option.{option_map}
+use Rattle.fb_entries.specs.Keyed.{Keyed}
 use Rattle.fb_entries.specs.Library.Texts.{Texts, Held, held, text_in, text_at, Edit, Puts, Removes, unit_of, all_edited}
 use Rattle.fb_entries.specs.Jobs.declared.key.Key.{Key}
-use Rattle.fb_entries.specs.declared.entries.Entries.{Entries}
 use Rattle.fb_history.specs.declared.answers.Committed.{Committed}
 use Rattle.fb_history.specs.declared.answers.Committed.TheVariants.{Done, NoChange, TooManyChanges, SameUnitTwice, StaleBase, NoSuchUnit, TooManyUnits}
 use Rattle.fb_history.specs.declared.answers.Delivered.{Delivered}
@@ -137,7 +137,7 @@ committed_is s made edits answer same is = after_commit_is s made ∙ (λ i. aft
 
 -- ---- what is kept after a commit that is done
 
-pub agrees_renewed : ScratchLocal → (n : ℕ) (edits : List Edit) (T U : Texts) (old room new : Entries) (s : State) (it : Renewal) → U ≡ all_edited (n + 1) edits T → Agrees T n old s → IsRenewal U (map unit_of edits) old it → HasRoom it old room → IsCarriedOut it room new → Agrees U (n + 1) new (after_done (n + 1) edits s)
+pub agrees_renewed : ScratchLocal → (n : ℕ) (edits : List Edit) (T U : Texts) (old room new : Keyed) (s : State) (it : Renewal) → U ≡ all_edited (n + 1) edits T → Agrees T n old s → IsRenewal U (map unit_of edits) old it → HasRoom it old room → IsCarriedOut it room new → Agrees U (n + 1) new (after_done (n + 1) edits s)
 agrees_renewed law n edits T U old room new s it is agrees found made done =
     let units : U ≡ all_edited (n + 1) edits s.units = is ∙ ap (λ us. all_edited (n + 1) edits us) agrees.units_are in
     subst (λ us. Agrees us (n + 1) new (after_done (n + 1) edits s)) (sym units)

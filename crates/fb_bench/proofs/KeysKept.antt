@@ -13,13 +13,12 @@ use Rattle.std.proofs.lemmas.Map.Made.{is_some-lookup}
 use Rattle.std.proofs.lemmas.Option.{slice_get-get_or}
 use Rattle.fb_text.specs.Order.{in_order}
 use Rattle.fb_text.proofs.OrderLemmas.{in_order-same}
+use Rattle.fb_entries.specs.Keyed.{Keyed, entry_at}
 use Rattle.fb_entries.specs.Library.Texts.{Texts}
 use Rattle.fb_entries.specs.Jobs.declared.key.Key.{Key}
 use Rattle.fb_entries.specs.Jobs.Keys.{has_key}
 use Rattle.fb_entries.specs.Jobs.KeyOrder.{key_cmp, key_cmp_total}
-use Rattle.fb_entries.specs.declared.entries.Entries.{Entries}
 use Rattle.fb_entries.specs.declared.entry.Entry.{Entry}
-use Rattle.fb_entries.specs.Found.{entry_at}
 use Rattle.fb_history.specs.Machine.{State, keys_of}
 use Rattle.fb_history.specs.Story.{Story, IsOrigin, state_of}
 use Rattle.fb_bench.specs.Kept.{EntryFits, Agrees}
@@ -66,7 +65,7 @@ has_entry : (s : State) (q : Key) (o : Option Entry) → EntryFits s q o → is_
 has_entry s q None fits = sym fits.0
 has_entry s q (Some it) fits = sym fits.0
 
-module _ (story : Story) (begins : IsOrigin story.origin) (T : Texts) (commits : ℕ) (entries : Entries) (agrees : Agrees T commits entries (state_of story)) (rise : tree.IsOrdered key_cmp entries.by_key) where
+module _ (story : Story) (begins : IsOrigin story.origin) (T : Texts) (commits : ℕ) (entries : Keyed) (agrees : Agrees T commits entries (state_of story)) (rise : tree.IsOrdered key_cmp entries.by_key) where
   -- they are those of the texts, in order
   pub keys_are : tree.keys entries.by_key ≡ keys_of (state_of story).units
   keys_are =

@@ -5,6 +5,7 @@ use Rattle.std.specs.BTreeMap as tree
 use Rattle.std.specs.BTreeSet as set
 use Rattle.std.specs.declared.sync.Arc.{Arc}
 use Rattle.std.specs.declared.alloc.Global.{Global}
+use Rattle.fb_entries.specs.Keyed.{Keyed, IsFirstReady, can_take, entry_at}
 use Rattle.fb_entries.specs.Library.Texts.{Texts}
 use Rattle.fb_entries.specs.Jobs.declared.key.Key.{Key}
 use Rattle.fb_entries.specs.Jobs.declared.value.Value.{Value}
@@ -12,14 +13,13 @@ use Rattle.fb_entries.specs.Jobs.Values.{finding_of}
 use Rattle.fb_entries.specs.Jobs.Hints.{AreKept}
 use Rattle.fb_entries.specs.Jobs.Keys.{Finding, has_key, scratch}
 use Rattle.fb_entries.specs.Jobs.KeyOrder.{key_cmp, same_key}
-use Rattle.fb_entries.specs.declared.entries.Entries.{Entries}
 use Rattle.fb_entries.specs.declared.entry.Entry.{Entry}
 use Rattle.fb_entries.specs.Jobs.Reads.{PlainJob, stale}
 use Rattle.fb_history.specs.Machine.{State, is_ready, next, after_take, after_deliver, removed, unless_stale, deliver_answer}
 use Rattle.fb_history.specs.declared.answers.Delivered.{Delivered}
 use Rattle.fb_history.specs.declared.answers.Delivered.TheVariants.{Accepted, NoSuchKey, NotPending, Stale}
 use Rattle.fb_bench.specs.Kept.{Agrees, EntryFits, IsScratch}
-use Rattle.fb_entries.specs.Found.{can_take, entry_at, found_in, kept_in, IsFirstReady}
+use Rattle.fb_entries.specs.Found.{found_in, kept_in}
 use Rattle.fb_entries.specs.Marking.{unless_kept, with_found, with_out, with_value, ChangesEntry, MarksKey, SameKeys}
 use Rattle.fb_entries.proofs.Jobs.Order.{keys_equal}
 use Rattle.fb_history.proofs.Least.{next_none, next_some}
@@ -41,17 +41,17 @@ entry_found s k None finding fits e = cc
 entry_found s k (Some it) finding fits e = kept_value s.units k it.found finding fits.4 e
 
 -- the values that are kept are those of the texts
-pub all_kept : {units : Texts} {commits : ℕ} {entries : Entries} {s : State} → Agrees units commits entries s → AreKept units (λ key. kept_in (entry_at entries key))
+pub all_kept : {units : Texts} {commits : ℕ} {entries : Keyed} {s : State} → Agrees units commits entries s → AreKept units (λ key. kept_in (entry_at entries key))
 all_kept {entries = entries} {s = s} agrees k finding e =
     entry_kept s k (entry_at entries k) finding (agrees.each k) e ∙ ap (λ texts. scratch texts k) (sym agrees.units_are)
 
 -- and so are those that were found
-pub all_found : {units : Texts} {commits : ℕ} {entries : Entries} {s : State} → Agrees units commits entries s → AreKept units (λ key. found_in (entry_at entries key))
+pub all_found : {units : Texts} {commits : ℕ} {entries : Keyed} {s : State} → Agrees units commits entries s → AreKept units (λ key. found_in (entry_at entries key))
 all_found {entries = entries} {s = s} agrees k finding e =
     entry_found s k (entry_at entries k) finding (agrees.each k) e ∙ ap (λ texts. scratch texts k) (sym agrees.units_are)
 
 -- the first key that can be taken is the least that is ready
-pub first_is_next : (units : Texts) (commits : ℕ) (it : Entries) (s : State) (first : Option Key) → Agrees units commits it s → IsFirstReady it first → first ≡ next s
+pub first_is_next : (units : Texts) (commits : ℕ) (it : Keyed) (s : State) (first : Option Key) → Agrees units commits it s → IsFirstReady it first → first ≡ next s
 first_is_next units commits it s None agrees none = sym (next_none s (λ q. sym (agrees.ready_are q) ∙ none q))
 first_is_next units commits it s (Some k) agrees first =
     let ready : is_ready s k ≡ true = sym (agrees.ready_are k) ∙ first.0 in
@@ -77,7 +77,7 @@ take_ready s k q true now same was = sym (ap (λ b. s.pending q && not (b || s.o
 take_ready s k q false now same was = was ∙ sym (ap (λ b. s.pending q && not (b || s.out q)) same)
 
 -- what is kept agrees after a key is handed out
-pub agrees_take : (units : Texts) (commits : ℕ) (old new : Entries) (s : State) (k : Key) → Agrees units commits old s → is_ready s k ≡ true → ChangesEntry k (with_out true) old.by_key new.by_key → MarksKey k false old.ready new.ready → Agrees units commits new (after_take (Some k) s)
+pub agrees_take : (units : Texts) (commits : ℕ) (old new : Keyed) (s : State) (k : Key) → Agrees units commits old s → is_ready s k ≡ true → ChangesEntry k (with_out true) old.by_key new.by_key → MarksKey k false old.ready new.ready → Agrees units commits new (after_take (Some k) s)
 agrees_take units commits old new s k agrees ready marked left = record {
   units_are = agrees.units_are;
   commits_are = agrees.commits_are;
@@ -98,7 +98,7 @@ pub deliver_ready : (s : State) (k q : Key) (b now : Bool) → same_key k q ≡ 
 deliver_ready s k q true now same was = sym (ap (λ b. (not b && s.pending q) && not (not b && s.out q)) same)
 deliver_ready s k q false now same was = was ∙ sym (ap (λ b. (not b && s.pending q) && not (not b && s.out q)) same)
 
-pub agrees_deliver : (units : Texts) (commits : ℕ) (old new : Entries) (s : State) (k : Key) (v : Arc Value Global) → Agrees units commits old s → finding_of v.value ≡ scratch s.units k → ChangesEntry k (with_value v) old.by_key new.by_key → MarksKey k false old.ready new.ready → Agrees units commits new (after_deliver Accepted k s)
+pub agrees_deliver : (units : Texts) (commits : ℕ) (old new : Keyed) (s : State) (k : Key) (v : Arc Value Global) → Agrees units commits old s → finding_of v.value ≡ scratch s.units k → ChangesEntry k (with_value v) old.by_key new.by_key → MarksKey k false old.ready new.ready → Agrees units commits new (after_deliver Accepted k s)
 agrees_deliver units commits old new s k v agrees value marked left = record {
   units_are = agrees.units_are;
   commits_are = agrees.commits_are;
@@ -149,7 +149,7 @@ return_kept s k q true now same kept was =
 return_kept s k q false now same kept was = was ∙ sym (ap (λ b. s.pending q && not (not b && s.out q)) same)
 
 -- the key waits for a result and was made ready, and then its mark was cleared
-pub agrees_return : (units : Texts) (commits : ℕ) (old ready new : Entries) (s : State) (k : Key) → Agrees units commits old s → s.pending k ≡ true → ready.by_key ≡ old.by_key → MarksKey k true old.ready ready.ready → ChangesEntry k (with_out false) ready.by_key new.by_key → new.ready ≡ ready.ready → Agrees units commits new (returned s k)
+pub agrees_return : (units : Texts) (commits : ℕ) (old ready new : Keyed) (s : State) (k : Key) → Agrees units commits old s → s.pending k ≡ true → ready.by_key ≡ old.by_key → MarksKey k true old.ready ready.ready → ChangesEntry k (with_out false) ready.by_key new.by_key → new.ready ≡ ready.ready → Agrees units commits new (returned s k)
 agrees_return units commits old ready new s k agrees waits kept joined marked left = record {
   units_are = agrees.units_are;
   commits_are = agrees.commits_are;
@@ -159,7 +159,7 @@ agrees_return units commits old ready new s k agrees waits kept joined marked le
 }
 
 -- the key has a value, and its mark was cleared
-pub agrees_return_kept : (units : Texts) (commits : ℕ) (old new : Entries) (s : State) (k : Key) → Agrees units commits old s → s.pending k ≡ false → ChangesEntry k (with_out false) old.by_key new.by_key → new.ready ≡ old.ready → Agrees units commits new (returned s k)
+pub agrees_return_kept : (units : Texts) (commits : ℕ) (old new : Keyed) (s : State) (k : Key) → Agrees units commits old s → s.pending k ≡ false → ChangesEntry k (with_out false) old.by_key new.by_key → new.ready ≡ old.ready → Agrees units commits new (returned s k)
 agrees_return_kept units commits old new s k agrees kept marked left = record {
   units_are = agrees.units_are;
   commits_are = agrees.commits_are;
@@ -168,7 +168,7 @@ agrees_return_kept units commits old new s k agrees kept marked left = record {
 }
 
 -- a key that was not ready was made so and no longer is
-pub agrees_unready : (units : Texts) (commits : ℕ) (old ready new : Entries) (s : State) (k : Key) → Agrees units commits old s → s.out k ≡ true → ready.by_key ≡ old.by_key → MarksKey k true old.ready ready.ready → new.by_key ≡ ready.by_key → MarksKey k false ready.ready new.ready → Agrees units commits new s
+pub agrees_unready : (units : Texts) (commits : ℕ) (old ready new : Keyed) (s : State) (k : Key) → Agrees units commits old s → s.out k ≡ true → ready.by_key ≡ old.by_key → MarksKey k true old.ready ready.ready → new.by_key ≡ ready.by_key → MarksKey k false ready.ready new.ready → Agrees units commits new s
 agrees_unready units commits old ready new s k agrees out kept put same taken = record {
   units_are = agrees.units_are;
   commits_are = agrees.commits_are;
@@ -181,7 +181,7 @@ agrees_unready units commits old ready new s k agrees out kept put same taken = 
     back q false at = refl
 
 -- entries with the same contents agree
-pub agrees_same : (units : Texts) (commits : ℕ) (old new : Entries) (s : State) → Agrees units commits old s → new.by_key ≡ old.by_key → SameKeys old.ready new.ready → Agrees units commits new s
+pub agrees_same : (units : Texts) (commits : ℕ) (old new : Keyed) (s : State) → Agrees units commits old s → new.by_key ≡ old.by_key → SameKeys old.ready new.ready → Agrees units commits new s
 agrees_same units commits old new s agrees same keys = record {
   units_are = agrees.units_are;
   commits_are = agrees.commits_are;
@@ -201,7 +201,7 @@ found_fits s k q (Some it) v true same value fits =
     (fits.0, fits.1, fits.2, fits.3, unless_scratch s.units q it.value v (value ∙ ap (λ x. scratch s.units x) (keys_equal k q same)))
 found_fits s k q o v false same value fits = fits
 
-pub agrees_found : (units : Texts) (commits : ℕ) (old new : Entries) (s : State) (k : Key) (v : Arc Value Global) → Agrees units commits old s → finding_of v.value ≡ scratch s.units k → ChangesEntry k (with_found v) old.by_key new.by_key → new.ready ≡ old.ready → Agrees units commits new s
+pub agrees_found : (units : Texts) (commits : ℕ) (old new : Keyed) (s : State) (k : Key) (v : Arc Value Global) → Agrees units commits old s → finding_of v.value ≡ scratch s.units k → ChangesEntry k (with_found v) old.by_key new.by_key → new.ready ≡ old.ready → Agrees units commits new s
 agrees_found units commits old new s k v agrees value found left = record {
   units_are = agrees.units_are;
   commits_are = agrees.commits_are;

@@ -1,6 +1,7 @@
 -- What is kept after a commit that is done, and after one that found no memory.
 use Rattle.std.proofs.Common.{◌≡◌, ℕ, Bool, true, false, ◌||◌, ◌&&◌, not, List, map, refl, sym, ap, ◌∙◌, subst, Option, Some, None, cond, is_none}
 use Rattle.fb_text.proofs.Tests.{or_true, and_false}
+use Rattle.fb_entries.specs.Keyed.{Keyed, can_take, entry_at}
 use Rattle.fb_entries.specs.Library.Texts.{Texts, Edit, unit_of, all_edited, text_in}
 use Rattle.std.specs.Option.{option_map}
 use Rattle.fb_entries.specs.Jobs.declared.key.Key.{Key}
@@ -8,9 +9,7 @@ use Rattle.fb_entries.specs.Jobs.declared.key.Kind.{Kind}
 use Rattle.fb_entries.specs.Jobs.Keys.{has_key, has_kind_at}
 use Rattle.fb_entries.specs.Jobs.Reads.{is_among}
 use Rattle.fb_entries.proofs.Jobs.SameNeeds.{has_key_local}
-use Rattle.fb_entries.specs.declared.entries.Entries.{Entries}
 use Rattle.fb_entries.specs.declared.entry.Entry.{Entry}
-use Rattle.fb_entries.specs.Found.{can_take, entry_at}
 use Rattle.fb_entries.specs.declared.renewal.Renewal.{Renewal}
 use Rattle.fb_history.specs.Machine.{State, is_ready, after_done, reaches}
 use Rattle.fb_bench.specs.Kept.{EntryFits, Agrees}
@@ -174,7 +173,7 @@ joined_bits false was = refl
 -- ---- all of it
 
 module _ (law : ScratchLocal) (commits : ℕ) (es : List Edit) (T : Texts) (s : State) (it : Renewal) where
-  module _ (commit : ℕ) (old room new : Entries) where
+  module _ (commit : ℕ) (old room new : Keyed) where
     abbrev Done : Type 0
     Done = Agrees (all_edited commit es s.units) commit new (after_done commit es s)
 
@@ -225,7 +224,7 @@ back_mark r true false is = refl
 back_mark r false was is = refl
 
 -- all is as it was
-pub agrees_back : (T U : Texts) (commits : ℕ) (names : List (List ℕ)) (old new : Entries) (s : State) (it : Renewal) → Agrees T commits old s → IsRenewal U names old it → IsTakenBack it old new → Agrees T commits new s
+pub agrees_back : (T U : Texts) (commits : ℕ) (names : List (List ℕ)) (old new : Keyed) (s : State) (it : Renewal) → Agrees T commits old s → IsRenewal U names old it → IsTakenBack it old new → Agrees T commits new s
 agrees_back T U commits names old new s it agrees is back = record {
   units_are = agrees.units_are;
   commits_are = agrees.commits_are;

@@ -1,12 +1,12 @@
 -- Nets that were computed on the way to another value.
 use Rattle.std.specs.Prelude.{ℕ, List, All}
+use Rattle.fb_entries.specs.Keyed.{Keyed}
 use Rattle.fb_entries.specs.Library.Texts.{Texts}
 use Rattle.fb_entries.specs.Jobs.declared.hints.Hint.{Hint}
 use Rattle.fb_entries.specs.Jobs.declared.value.Value.{Value}
 use Rattle.fb_entries.specs.Jobs.Hints.{IsNetOf}
 use Rattle.fb_entries.specs.Jobs.Reads.{PlainJob, read_texts}
 use Rattle.fb_entries.specs.Jobs.Work.{IsFoundFor}
-use Rattle.fb_entries.specs.declared.entries.Entries.{Entries}
 use Rattle.fb_history.specs.Machine.{State}
 use Rattle.fb_bench.specs.Kept.{Agrees}
 
@@ -15,7 +15,7 @@ abbrev pub said : Hint → List ℕ × Value
 said hint = (hint.unit, hint.value.value)
 
 -- entries that agree with a state of which each of these is a net agree with it still
-abbrev pub KeepsAgreement : List Hint → Entries → Entries → Type 0
+abbrev pub KeepsAgreement : List Hint → Keyed → Keyed → Type 0
 KeepsAgreement found old new =
     (units : Texts) (commits : ℕ) (state : State) → Agrees units commits old state → All (IsNetOf state.units) found → Agrees units commits new state
 

@@ -57,7 +57,7 @@ pub enum Said {
 }
 
 /// The answer to a call, or why it is not recorded.
-fn answered(said: Result<Said, AllocError>) -> Result<Answered, DeskRefused>
+fn answer_of(said: Result<Said, AllocError>) -> Result<Answered, DeskRefused>
     requires { IfOk said (λ told. IsCallAnswer (λ reply. Unit {0}) (said_in told)) }
     ensures { IsAnswered said result }
 {
@@ -94,7 +94,7 @@ pub trait Desk {
         ensures { Serves step self.old (ToCommit (listed changes.now)) OfCommit result self.new }
     {
         let _finished: Option<&Finished> = None;
-        match answered(self.serve(&Demand::Call(Request::Commit(changes))))? {
+        match answer_of(self.serve(&Demand::Call(Request::Commit(changes))))? {
             Answered::Commit(committed) => Ok(committed),
             Answered::Take(_) | Answered::Deliver(_) | Answered::GiveBack(_) | Answered::Ask(_) =>
                 unreachable!(),
@@ -107,7 +107,7 @@ pub trait Desk {
     {
         let _changes: &[Change] = &[];
         let _finished: Option<&Finished> = None;
-        match answered(self.serve(&Demand::Call(Request::Take)))? {
+        match answer_of(self.serve(&Demand::Call(Request::Take)))? {
             Answered::Take(taken) => Ok(taken),
             Answered::Commit(_) | Answered::Deliver(_) | Answered::GiveBack(_) | Answered::Ask(_) =>
                 unreachable!(),
@@ -119,7 +119,7 @@ pub trait Desk {
         ensures { Serves step self.old (ToDeliver finished.now) OfDeliver result self.new }
     {
         let _changes: &[Change] = &[];
-        match answered(self.serve(&Demand::Call(Request::Deliver(finished))))? {
+        match answer_of(self.serve(&Demand::Call(Request::Deliver(finished))))? {
             Answered::Deliver(delivered) => Ok(delivered),
             Answered::Commit(_) | Answered::Take(_) | Answered::GiveBack(_) | Answered::Ask(_) =>
                 unreachable!(),
@@ -132,7 +132,7 @@ pub trait Desk {
     {
         let _changes: &[Change] = &[];
         let _finished: Option<&Finished> = None;
-        match answered(self.serve(&Demand::Call(Request::GiveBack(key))))? {
+        match answer_of(self.serve(&Demand::Call(Request::GiveBack(key))))? {
             Answered::GiveBack(returned) => Ok(returned),
             Answered::Commit(_) | Answered::Take(_) | Answered::Deliver(_) | Answered::Ask(_) =>
                 unreachable!(),
@@ -145,7 +145,7 @@ pub trait Desk {
     {
         let _changes: &[Change] = &[];
         let _finished: Option<&Finished> = None;
-        match answered(self.serve(&Demand::Call(Request::Ask(key))))? {
+        match answer_of(self.serve(&Demand::Call(Request::Ask(key))))? {
             Answered::Ask(asked) => Ok(asked),
             Answered::Commit(_)
             | Answered::Take(_)

@@ -4,12 +4,11 @@ use Rattle.fb_text.proofs.Tests.{and_false}
 use Rattle.fb_index.specs.Library.Texts.{Texts}
 use Rattle.fb_jobs.specs.declared.key.Key.{Key}
 use Rattle.fb_jobs.specs.Keys.{has_key}
+use Rattle.fb_entries.specs.Keyed.{Keyed, can_take, entry_at}
 use Rattle.fb_entries.specs.declared.entry.Entry.{Entry}
 use Rattle.fb_entries.specs.declared.renewal.Renewal.{Renewal}
 use Rattle.fb_jobs.specs.Kinds.{all_keys}
 use Rattle.fb_jobs.specs.Reach.{reaches}
-use Rattle.fb_entries.specs.declared.entries.Entries.{Entries}
-use Rattle.fb_entries.specs.Found.{entry_at, can_take}
 use Rattle.fb_entries.specs.Marking.{is_of}
 use Rattle.fb_entries.specs.Renew.{is_own, is_renewed, IsRenewal, HasRoom, IsTakenBack}
 use Rattle.fb_index.specs.Indexed.{Indexed}
@@ -27,7 +26,7 @@ and_found true true r same = same refl
 and_found false true r same = same refl
 and_found a false r same = and_false a
 
-module _ (U : Texts) (index : Indexed) (names : List (List ℕ)) (old : Entries) (it : Renewal) (own present reached : List Key) where
+module _ (U : Texts) (index : Indexed) (names : List (List ℕ)) (old : Keyed) (it : Renewal) (own present reached : List Key) where
   pub found : IsIndexOf U index → own ≡ all_keys names → present ≡ filter (has_key U) own → it.fresh.items ≡ filter (λ k. is_none (entry_at old k)) present → it.gone.items ≡ filter (λ k. not (has_key U k)) own → ((q : Key) → (is_of q reached ≡ true) ↔ IsReached index names q.kind q.unit) → it.renewed.items ≡ filter (has_key U) reached → it.unready.items ≡ filter (λ k. not (can_take old k)) it.renewed.items → IsRenewal U names old it
   found indexed own_is present_is fresh_is gone_is reached_is renewed_is unready_is =
       let owns : (q : Key) → is_of q own ≡ is_own names q = λ q. ap (λ ks. is_of q ks) own_is in
@@ -58,7 +57,7 @@ room_mark true was now is = refl
 room_mark false was now is = is
 
 -- room that was made, and was taken back
-pub taken_back : (old room new : Entries) (it : Renewal) → HasRoom it old room → IsTakenBack it room new → IsTakenBack it old new
+pub taken_back : (old room new : Keyed) (it : Renewal) → HasRoom it old room → IsTakenBack it room new → IsTakenBack it old new
 taken_back old room new it made back = record {
   entries = λ q. back.entries q ∙ room_entry (is_of q it.fresh.items) (entry_at room q) (entry_at old q) (made.others q);
   readies = λ q. back.readies q ∙ room_mark (is_of q it.unready.items) (can_take old q) (can_take room q) (made.readies q);

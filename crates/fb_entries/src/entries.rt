@@ -6,7 +6,8 @@ ghost use Rattle.fb_jobs.specs.KeyOrder.{key_cmp};
 ghost use Rattle.fb_entries.specs.Indexed.{IsIndexOf};
 ghost use Rattle.fb_jobs.specs.Reach.{AgreeApartFrom, first_repeated};
 ghost use Rattle.fb_entries.specs.Marking.{is_handed_out, is_unkept, keys_with, with_found, with_out, with_value, ChangesEntry, LosesEntries, LosesKeys, MarksKey, SameKeys};
-ghost use Rattle.fb_entries.specs.Found.{units_of, entry_at, IsFirstReady};
+ghost use Rattle.fb_entries.specs.Found.{units_of};
+ghost use Rattle.fb_entries.specs.Keyed.{entry_at, IsFirstReady};
 ghost use Rattle.fb_entries.specs.Renew.{HasRoom, IsCarriedOut, IsRenewal, IsTakenBack};
 
 use crate::entry::{Entry, join, keep, keep_found, leave, mark_out};
@@ -22,6 +23,7 @@ use fb_jobs::{Kept, Key, Value, keys_by_name};
 use fb_text::Name;
 use std::alloc::{AllocError, Global};
 use std::collections::{BTreeMap, BTreeSet};
+use std::marker::Model;
 use std::sync::Arc;
 
 /// The keys of a library, what is kept of each, and which of them can be taken.
@@ -45,6 +47,14 @@ pub struct Found {
     /// The index of the texts after the commit.
     pub index: Index,
     pub renewal: Renewal,
+}
+
+impl Model for Entries {
+    ghost use Rattle.fb_entries.specs.Keyed.{Keyed};
+
+    ghost Value = { Keyed };
+
+    ghost view = { λ it. record { by_key = it.by_key; ready = it.ready } };
 }
 
 impl Entries {
@@ -260,10 +270,11 @@ impl Entries {
 
 impl Kept for Entries {
     ghost use Rattle.fb_entries.specs.Found.{found_in, kept_in};
+    ghost use Rattle.fb_entries.specs.Keyed.{entry_at};
 
-    ghost kept = { λ it key. kept_in (tree.get key_cmp it.by_key key) };
+    ghost kept = { λ it key. kept_in (entry_at it key) };
 
-    ghost found = { λ it key. found_in (tree.get key_cmp it.by_key key) };
+    ghost found = { λ it key. found_in (entry_at it key) };
 
     fn value(&self, key: &Key) -> Option<&Arc<Value>> {
         match self.by_key.get(key) {

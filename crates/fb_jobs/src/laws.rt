@@ -14,7 +14,7 @@ ghost use Rattle.fb_jobs.specs.Kinds.{all_kinds};
 ghost use Rattle.fb_jobs.specs.Keys.{has_key, needs, scratch};
 ghost use Rattle.fb_jobs.specs.Reads.{Agree, PlainJob, IsLeastStale, IsRight, read_names, read_texts, stale};
 
-use crate::key::Key as EachKey;
+use crate::key::Key;
 
 /// Each kind is one of all kinds, and these stand in order, each once.
 pub fn kinds_in_order()
@@ -24,7 +24,7 @@ pub fn kinds_in_order()
 
 /// Keys are ordered by their kinds, and those of one kind by the bytes of their units' names.
 pub fn keys_in_order()
-    ensures { (a b : Key) → ⟦<EachKey as Ord>⟧.cmp a b ≡ key_cmp a b }
+    ensures { (a b : Key) → ⟦<Key as Ord>⟧.cmp a b ≡ key_cmp a b }
 {}
 
 /// Texts that agree on what a key needs have the same needs and the same value for it, whatever their revisions.
