@@ -19,7 +19,7 @@ no_key : (key : Key) → has_key [] key ≡ false
 unfolding has_key
 no_key key = no_kind key.kind
 
-agrees_empty : (most : ℕ) (entries : Keyed) → entries.by_key.entries ≡ [] → entries.ready.keys ≡ [] → Agrees [] 0 entries (opened (empty_origin most))
+agrees_empty : (most : ℕ) (entries : Keyed) → entries.entries ≡ [] → entries.ready ≡ [] → Agrees [] 0 entries (opened (empty_origin most))
 agrees_empty most entries no_entries no_keys = record {
   units_are = refl;
   commits_are = refl;
@@ -27,11 +27,11 @@ agrees_empty most entries no_entries no_keys = record {
   ready_are = λ key. ap (λ ks. list_any (is_at (key_cmp key)) ks) no_keys;
 }
 
-kept_start : (most limit : ℕ) (entries : Keyed) (index : Indexed) → entries.by_key.entries ≡ [] → entries.ready.keys ≡ [] → index ≡ nothing_indexed → IsKept [] 0 entries index (new_story most limit)
+kept_start : (most limit : ℕ) (entries : Keyed) (index : Indexed) → entries.entries ≡ [] → entries.ready ≡ [] → index ≡ nothing_indexed → IsKept [] 0 entries index (new_story most limit)
 unfolding replay replies
 kept_start most limit entries index no_entries no_keys empty = record { begins = begins_empty most; agrees = agrees_empty most entries no_entries no_keys; replayed = refl; indexed = indexed_none [] index refl empty; few = omega arith }
 
-pub kept_empty : (most limit : ℕ) (units : Texts) (entries : Keyed) (index : Indexed) (story : Story) → units ≡ [] → entries.by_key.entries ≡ [] → entries.ready.keys ≡ [] → index ≡ nothing_indexed → story ≡ new_story most limit → IsKept units 0 entries index story
+pub kept_empty : (most limit : ℕ) (units : Texts) (entries : Keyed) (index : Indexed) (story : Story) → units ≡ [] → entries.entries ≡ [] → entries.ready ≡ [] → index ≡ nothing_indexed → story ≡ new_story most limit → IsKept units 0 entries index story
 kept_empty most limit units entries index story no_units no_entries no_keys empty is =
     subst (λ st. IsKept units 0 entries index st) (sym is)
     (subst (λ us. IsKept us 0 entries index (new_story most limit)) (sym no_units)

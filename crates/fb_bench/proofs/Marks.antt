@@ -1,8 +1,9 @@
 -- What an entry says of the marks of its key.
 use Rattle.std.proofs.Common.{◌≡◌, ℕ, Bool, true, false, ◌||◌, ◌&&◌, not, List, refl, sym, ap, ◌∙◌, subst, Option, Some, None, cond}
 use Rattle.std.specs.Option.{option_map}
-use Rattle.std.specs.BTreeMap as tree
-use Rattle.std.specs.BTreeSet as set
+use Rattle.std.specs.BTreeMap.{is_at}
+use Rattle.std.specs.List.{list_any}
+use Rattle.std.specs.Map.{lookup}
 use Rattle.std.specs.declared.sync.Arc.{Arc}
 use Rattle.std.specs.declared.alloc.Global.{Global}
 use Rattle.fb_entries.specs.Keyed.{Keyed, IsFirstReady, can_take, entry_at}
@@ -77,7 +78,7 @@ take_ready s k q true now same was = sym (ap (λ b. s.pending q && not (b || s.o
 take_ready s k q false now same was = was ∙ sym (ap (λ b. s.pending q && not (b || s.out q)) same)
 
 -- what is kept agrees after a key is handed out
-pub agrees_take : (units : Texts) (commits : ℕ) (old new : Keyed) (s : State) (k : Key) → Agrees units commits old s → is_ready s k ≡ true → ChangesEntry k (with_out true) old.by_key new.by_key → MarksKey k false old.ready new.ready → Agrees units commits new (after_take (Some k) s)
+pub agrees_take : (units : Texts) (commits : ℕ) (old new : Keyed) (s : State) (k : Key) → Agrees units commits old s → is_ready s k ≡ true → ChangesEntry k (with_out true) (entry_at old) (entry_at new) → MarksKey k false (can_take old) (can_take new) → Agrees units commits new (after_take (Some k) s)
 agrees_take units commits old new s k agrees ready marked left = record {
   units_are = agrees.units_are;
   commits_are = agrees.commits_are;
@@ -98,7 +99,7 @@ pub deliver_ready : (s : State) (k q : Key) (b now : Bool) → same_key k q ≡ 
 deliver_ready s k q true now same was = sym (ap (λ b. (not b && s.pending q) && not (not b && s.out q)) same)
 deliver_ready s k q false now same was = was ∙ sym (ap (λ b. (not b && s.pending q) && not (not b && s.out q)) same)
 
-pub agrees_deliver : (units : Texts) (commits : ℕ) (old new : Keyed) (s : State) (k : Key) (v : Arc Value Global) → Agrees units commits old s → finding_of v.value ≡ scratch s.units k → ChangesEntry k (with_value v) old.by_key new.by_key → MarksKey k false old.ready new.ready → Agrees units commits new (after_deliver Accepted k s)
+pub agrees_deliver : (units : Texts) (commits : ℕ) (old new : Keyed) (s : State) (k : Key) (v : Arc Value Global) → Agrees units commits old s → finding_of v.value ≡ scratch s.units k → ChangesEntry k (with_value v) (entry_at old) (entry_at new) → MarksKey k false (can_take old) (can_take new) → Agrees units commits new (after_deliver Accepted k s)
 agrees_deliver units commits old new s k v agrees value marked left = record {
   units_are = agrees.units_are;
   commits_are = agrees.commits_are;
@@ -149,30 +150,30 @@ return_kept s k q true now same kept was =
 return_kept s k q false now same kept was = was ∙ sym (ap (λ b. s.pending q && not (not b && s.out q)) same)
 
 -- the key waits for a result and was made ready, and then its mark was cleared
-pub agrees_return : (units : Texts) (commits : ℕ) (old ready new : Keyed) (s : State) (k : Key) → Agrees units commits old s → s.pending k ≡ true → ready.by_key ≡ old.by_key → MarksKey k true old.ready ready.ready → ChangesEntry k (with_out false) ready.by_key new.by_key → new.ready ≡ ready.ready → Agrees units commits new (returned s k)
+pub agrees_return : (units : Texts) (commits : ℕ) (old ready new : Keyed) (s : State) (k : Key) → Agrees units commits old s → s.pending k ≡ true → ready.entries ≡ old.entries → MarksKey k true (can_take old) (can_take ready) → ChangesEntry k (with_out false) (entry_at ready) (entry_at new) → new.ready ≡ ready.ready → Agrees units commits new (returned s k)
 agrees_return units commits old ready new s k agrees waits kept joined marked left = record {
   units_are = agrees.units_are;
   commits_are = agrees.commits_are;
   each = λ q.
-      subst (λ o. EntryFits (returned s k) q o) (sym (marked q ∙ ap (λ m. cond (same_key k q) (option_map (with_out false) (tree.get key_cmp m q)) (tree.get key_cmp m q)) kept)) (return_fits s k q (entry_at old q) (same_key k q) refl (agrees.each q));
-  ready_are = λ q. ap (λ m. set.contains key_cmp m q) left ∙ joined q ∙ return_ready s k q (same_key k q) (can_take old q) refl waits (agrees.ready_are q);
+      subst (λ o. EntryFits (returned s k) q o) (sym (marked q ∙ ap (λ es. cond (same_key k q) (option_map (with_out false) (lookup (is_at (key_cmp q)) es)) (lookup (is_at (key_cmp q)) es)) kept)) (return_fits s k q (entry_at old q) (same_key k q) refl (agrees.each q));
+  ready_are = λ q. ap (λ ks. list_any (is_at (key_cmp q)) ks) left ∙ joined q ∙ return_ready s k q (same_key k q) (can_take old q) refl waits (agrees.ready_are q);
 }
 
 -- the key has a value, and its mark was cleared
-pub agrees_return_kept : (units : Texts) (commits : ℕ) (old new : Keyed) (s : State) (k : Key) → Agrees units commits old s → s.pending k ≡ false → ChangesEntry k (with_out false) old.by_key new.by_key → new.ready ≡ old.ready → Agrees units commits new (returned s k)
+pub agrees_return_kept : (units : Texts) (commits : ℕ) (old new : Keyed) (s : State) (k : Key) → Agrees units commits old s → s.pending k ≡ false → ChangesEntry k (with_out false) (entry_at old) (entry_at new) → new.ready ≡ old.ready → Agrees units commits new (returned s k)
 agrees_return_kept units commits old new s k agrees kept marked left = record {
   units_are = agrees.units_are;
   commits_are = agrees.commits_are;
   each = λ q. subst (λ o. EntryFits (returned s k) q o) (sym (marked q)) (return_fits s k q (entry_at old q) (same_key k q) refl (agrees.each q));
-  ready_are = λ q. ap (λ m. set.contains key_cmp m q) left ∙ return_kept s k q (same_key k q) (can_take old q) refl kept (agrees.ready_are q);
+  ready_are = λ q. ap (λ ks. list_any (is_at (key_cmp q)) ks) left ∙ return_kept s k q (same_key k q) (can_take old q) refl kept (agrees.ready_are q);
 }
 
 -- a key that was not ready was made so and no longer is
-pub agrees_unready : (units : Texts) (commits : ℕ) (old ready new : Keyed) (s : State) (k : Key) → Agrees units commits old s → s.out k ≡ true → ready.by_key ≡ old.by_key → MarksKey k true old.ready ready.ready → new.by_key ≡ ready.by_key → MarksKey k false ready.ready new.ready → Agrees units commits new s
+pub agrees_unready : (units : Texts) (commits : ℕ) (old ready new : Keyed) (s : State) (k : Key) → Agrees units commits old s → s.out k ≡ true → ready.entries ≡ old.entries → MarksKey k true (can_take old) (can_take ready) → new.entries ≡ ready.entries → MarksKey k false (can_take ready) (can_take new) → Agrees units commits new s
 agrees_unready units commits old ready new s k agrees out kept put same taken = record {
   units_are = agrees.units_are;
   commits_are = agrees.commits_are;
-  each = λ q. subst (λ m. EntryFits s q (tree.get key_cmp m q)) (sym (same ∙ kept)) (agrees.each q);
+  each = λ q. subst (λ es. EntryFits s q (lookup (is_at (key_cmp q)) es)) (sym (same ∙ kept)) (agrees.each q);
   ready_are = λ q. taken q ∙ ap (λ b. cond (same_key k q) false b) (put q ∙ ap (λ b. cond (same_key k q) true b) (agrees.ready_are q)) ∙ back q (same_key k q) refl;
 }
   where
@@ -181,11 +182,11 @@ agrees_unready units commits old ready new s k agrees out kept put same taken = 
     back q false at = refl
 
 -- entries with the same contents agree
-pub agrees_same : (units : Texts) (commits : ℕ) (old new : Keyed) (s : State) → Agrees units commits old s → new.by_key ≡ old.by_key → SameKeys old.ready new.ready → Agrees units commits new s
+pub agrees_same : (units : Texts) (commits : ℕ) (old new : Keyed) (s : State) → Agrees units commits old s → new.entries ≡ old.entries → SameKeys (can_take old) (can_take new) → Agrees units commits new s
 agrees_same units commits old new s agrees same keys = record {
   units_are = agrees.units_are;
   commits_are = agrees.commits_are;
-  each = λ q. subst (λ m. EntryFits s q (tree.get key_cmp m q)) (sym same) (agrees.each q);
+  each = λ q. subst (λ es. EntryFits s q (lookup (is_at (key_cmp q)) es)) (sym same) (agrees.each q);
   ready_are = λ q. keys q ∙ agrees.ready_are q;
 }
 
@@ -201,10 +202,10 @@ found_fits s k q (Some it) v true same value fits =
     (fits.0, fits.1, fits.2, fits.3, unless_scratch s.units q it.value v (value ∙ ap (λ x. scratch s.units x) (keys_equal k q same)))
 found_fits s k q o v false same value fits = fits
 
-pub agrees_found : (units : Texts) (commits : ℕ) (old new : Keyed) (s : State) (k : Key) (v : Arc Value Global) → Agrees units commits old s → finding_of v.value ≡ scratch s.units k → ChangesEntry k (with_found v) old.by_key new.by_key → new.ready ≡ old.ready → Agrees units commits new s
+pub agrees_found : (units : Texts) (commits : ℕ) (old new : Keyed) (s : State) (k : Key) (v : Arc Value Global) → Agrees units commits old s → finding_of v.value ≡ scratch s.units k → ChangesEntry k (with_found v) (entry_at old) (entry_at new) → new.ready ≡ old.ready → Agrees units commits new s
 agrees_found units commits old new s k v agrees value found left = record {
   units_are = agrees.units_are;
   commits_are = agrees.commits_are;
   each = λ q. subst (λ o. EntryFits s q o) (sym (found q)) (found_fits s k q (entry_at old q) v (same_key k q) refl value (agrees.each q));
-  ready_are = λ q. ap (λ m. set.contains key_cmp m q) left ∙ agrees.ready_are q;
+  ready_are = λ q. ap (λ ks. list_any (is_at (key_cmp q)) ks) left ∙ agrees.ready_are q;
 }

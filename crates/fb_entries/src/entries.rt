@@ -1,13 +1,14 @@
 //! What a workbench knows of its keys.
 ghost use Rattle.std.specs.Prelude.{◌≡◌, [], None, true, false, IfOk, OnOk, OnErr, count_by, length, slice_get};
 ghost use Rattle.std.specs.Option.{option_copied};
-ghost use Rattle.std.specs.BTreeMap as tree;
+ghost use Rattle.std.specs.List.Sorted.{IsStrictlySortedBy};
+ghost use Rattle.std.specs.Map.{keys_of, values_of};
 ghost use Rattle.fb_jobs.specs.KeyOrder.{key_cmp};
 ghost use Rattle.fb_entries.specs.Indexed.{IsIndexOf};
 ghost use Rattle.fb_jobs.specs.Reach.{AgreeApartFrom, first_repeated};
 ghost use Rattle.fb_entries.specs.Marking.{is_handed_out, is_unkept, keys_with, with_found, with_out, with_value, ChangesEntry, LosesEntries, LosesKeys, MarksKey, SameKeys};
 ghost use Rattle.fb_entries.specs.Found.{units_of};
-ghost use Rattle.fb_entries.specs.Keyed.{entry_at, IsFirstReady};
+ghost use Rattle.fb_entries.specs.Keyed.{can_take, entry_at, IsFirstReady};
 ghost use Rattle.fb_entries.specs.Renew.{HasRoom, IsCarriedOut, IsRenewal, IsTakenBack};
 
 use crate::entry::{Entry, join, keep, keep_found, leave, mark_out};
@@ -54,14 +55,14 @@ impl Model for Entries {
 
     ghost Value = { Keyed };
 
-    ghost view = { λ it. record { by_key = it.by_key; ready = it.ready } };
+    ghost view = { λ it. record { entries = it.by_key.entries; ready = it.ready.keys } };
 }
 
 impl Entries {
     /// No keys.
     pub fn new(alloc: Global) -> Entries
-        ensures entries { result.by_key.entries ≡ [] }
-        ensures ready { result.ready.keys ≡ [] }
+        ensures entries { result.entries ≡ [] }
+        ensures ready { result.ready ≡ [] }
     {
         Entries {
             by_key: BTreeMap::new(alloc),
@@ -71,8 +72,8 @@ impl Entries {
 
     /// How many keys there are.
     pub fn len(&self) -> usize
-        ensures len { result ≡ length self.now.by_key.entries }
-        ensures ordered { tree.IsOrdered key_cmp self.now.by_key }
+        ensures len { result ≡ length self.now.entries }
+        ensures ordered { IsStrictlySortedBy key_cmp (keys_of self.now.entries) }
     {
         self.by_key.len()
     }
@@ -96,16 +97,16 @@ impl Entries {
 
     /// The key at a place, counted from 0. It passes over those before it.
     pub fn key_at(&self, place: usize) -> Option<Key>
-        ensures key { result ≡ slice_get (tree.keys self.now.by_key) place }
-        ensures ordered { tree.IsOrdered key_cmp self.now.by_key }
+        ensures key { result ≡ slice_get (keys_of self.now.entries) place }
+        ensures ordered { IsStrictlySortedBy key_cmp (keys_of self.now.entries) }
     {
         self.by_key.keys().nth(place).copied()
     }
 
     /// How many keys are pending. It looks at each entry.
     pub fn pending_count(&self) -> usize
-        ensures count { result ≡ count_by is_unkept (tree.values self.now.by_key) }
-        ensures ordered { tree.IsOrdered key_cmp self.now.by_key }
+        ensures count { result ≡ count_by is_unkept (values_of self.now.entries) }
+        ensures ordered { IsStrictlySortedBy key_cmp (keys_of self.now.entries) }
     {
         self.by_key
             .values()
@@ -116,10 +117,10 @@ impl Entries {
     /// Which keys are pending, and which are handed out. It looks at each entry.
     pub fn marks(&self, alloc: Global) -> Result<Marks, AllocError>
         ensures pending { IfOk result
-            (λ marks. marks.pending.items ≡ keys_with is_unkept self.now.by_key) }
+            (λ marks. marks.pending.items ≡ keys_with is_unkept self.now.entries) }
         ensures out { IfOk result
-            (λ marks. marks.out.items ≡ keys_with is_handed_out self.now.by_key) }
-        ensures ordered { tree.IsOrdered key_cmp self.now.by_key }
+            (λ marks. marks.out.items ≡ keys_with is_handed_out self.now.entries) }
+        ensures ordered { IsStrictlySortedBy key_cmp (keys_of self.now.entries) }
     {
         let mut pending = Vec::new(alloc);
         let mut out = Vec::new(alloc);
@@ -197,8 +198,8 @@ impl Entries {
 
     /// Takes the room back that was made.
     pub fn take_back(&mut self, renewal: &Renewal)
-        ensures entries { LosesEntries renewal.now.fresh.items self.old.by_key self.new.by_key }
-        ensures ready { LosesKeys renewal.now.unready.items self.old.ready self.new.ready }
+        ensures entries { LosesEntries renewal.now.fresh.items (entry_at self.old) (entry_at self.new) }
+        ensures ready { LosesKeys renewal.now.unready.items (can_take self.old) (can_take self.new) }
     {
         take_out(&mut self.by_key, &renewal.fresh);
         leave_all(&mut self.ready, &renewal.unready);
@@ -218,8 +219,8 @@ impl Entries {
 
     /// Hands a key out: it can no longer be taken.
     pub fn hand_out(&mut self, key: &Key)
-        ensures entries { ChangesEntry key.now (with_out true) self.old.by_key self.new.by_key }
-        ensures ready { MarksKey key.now false self.old.ready self.new.ready }
+        ensures entries { ChangesEntry key.now (with_out true) (entry_at self.old) (entry_at self.new) }
+        ensures ready { MarksKey key.now false (can_take self.old) (can_take self.new) }
     {
         mark_out(&mut self.by_key, key, true);
         leave(&mut self.ready, key);
@@ -227,7 +228,7 @@ impl Entries {
 
     /// Clears the mark that a key is handed out.
     pub fn bring_back(&mut self, key: &Key)
-        ensures entries { ChangesEntry key.now (with_out false) self.old.by_key self.new.by_key }
+        ensures entries { ChangesEntry key.now (with_out false) (entry_at self.old) (entry_at self.new) }
         ensures ready { self.new.ready ≡ self.old.ready }
     {
         mark_out(&mut self.by_key, key, false);
@@ -235,25 +236,25 @@ impl Entries {
 
     /// Lets a key be taken, or leaves all as it was.
     pub fn make_ready(&mut self, key: &Key) -> Result<(), AllocError>
-        ensures entries { self.new.by_key ≡ self.old.by_key }
-        ensures ok { OnOk result (MarksKey key.now true self.old.ready self.new.ready) }
-        ensures err { OnErr result (SameKeys self.old.ready self.new.ready) }
+        ensures entries { self.new.entries ≡ self.old.entries }
+        ensures ok { OnOk result (MarksKey key.now true (can_take self.old) (can_take self.new)) }
+        ensures err { OnErr result (SameKeys (can_take self.old) (can_take self.new)) }
     {
         join(&mut self.ready, key)
     }
 
     /// Lets a key no longer be taken.
     pub fn unmake_ready(&mut self, key: &Key)
-        ensures entries { self.new.by_key ≡ self.old.by_key }
-        ensures ready { MarksKey key.now false self.old.ready self.new.ready }
+        ensures entries { self.new.entries ≡ self.old.entries }
+        ensures ready { MarksKey key.now false (can_take self.old) (can_take self.new) }
     {
         leave(&mut self.ready, key);
     }
 
     /// Gives a key its value; it is not handed out then, and can't be taken.
     pub fn keep(&mut self, key: &Key, value: Arc<Value>)
-        ensures entries { ChangesEntry key.now (with_value value) self.old.by_key self.new.by_key }
-        ensures ready { MarksKey key.now false self.old.ready self.new.ready }
+        ensures entries { ChangesEntry key.now (with_value value) (entry_at self.old) (entry_at self.new) }
+        ensures ready { MarksKey key.now false (can_take self.old) (can_take self.new) }
     {
         keep(&mut self.by_key, key, value);
         leave(&mut self.ready, key);
@@ -261,7 +262,7 @@ impl Entries {
 
     /// Keeps for a pending key the value that a job for another key computed on its way. The key stays pending.
     pub fn keep_found(&mut self, key: &Key, found: Arc<Value>)
-        ensures entries { ChangesEntry key.now (with_found found) self.old.by_key self.new.by_key }
+        ensures entries { ChangesEntry key.now (with_found found) (entry_at self.old) (entry_at self.new) }
         ensures ready { self.new.ready ≡ self.old.ready }
     {
         keep_found(&mut self.by_key, key, found);

@@ -8,10 +8,16 @@ use Rattle.fb_deploy.proofs.Library.Names.{name_total, exact_name}
 use Rattle.fb_deploy.specs.Iface.declared.fault.Fault.{Fault}
 use Rattle.fb_deploy.specs.Iface.Fault.{fault_cmp, fault_cmp_total}
 use Rattle.fb_deploy.proofs.Iface.FaultLemmas.{fault_cmp-exact}
+use Rattle.fb_jobs.specs.declared.key.Key.{Key}
+use Rattle.fb_jobs.specs.KeyOrder.{key_cmp_total, same_key}
+use Rattle.fb_jobs.proofs.Order.{exact_key}
 use Rattle.fb_network.proofs.Alike.{SameLeftBy, same_to_end_by, told_by}
 
 pub one_name : (a b : List ℕ) → IsTrue (is_at (name_cmp a) b) ↔ (a ≡ b)
 one_name = told_by name_total exact_name
+
+pub one_key : (a b : Key) → IsTrue (same_key a b) ↔ (a ≡ b)
+one_key = told_by key_cmp_total exact_key
 
 pub one_fault : (a b : Fault) → IsTrue (eq_by_cmp fault_cmp a b) ↔ (a ≡ b)
 one_fault = told_by fault_cmp_total fault_cmp-exact
