@@ -49,51 +49,30 @@ said_in said.NotAlone = SharedHistory
 
 -- ---- which answers there are
 
-abbrev pub IsCommitted : Reply → Type 0
-IsCommitted (OfCommit answer) = Unit {0}
-IsCommitted _ = ⊥
-
-abbrev pub IsTaken : Reply → Type 0
-IsTaken (OfTake order) = Unit {0}
-IsTaken _ = ⊥
-
-abbrev pub IsDelivered : Reply → Type 0
-IsDelivered (OfDeliver answer) = Unit {0}
-IsDelivered _ = ⊥
-
-abbrev pub IsReturned : Reply → Type 0
-IsReturned (OfGiveBack answer) = Unit {0}
-IsReturned _ = ⊥
-
-abbrev pub IsAsked : Reply → Type 0
-IsAsked (OfAsk shown) = Unit {0}
-IsAsked _ = ⊥
-
 -- a reply of the call's kind
 abbrev pub Fits : Call → Reply → Type 0
-Fits (ToCommit edits) answer = IsCommitted answer
-Fits ToTake answer = IsTaken answer
-Fits (ToDeliver order) answer = IsDelivered answer
-Fits (ToGiveBack key) answer = IsReturned answer
-Fits (ToAsk key) answer = IsAsked answer
-
--- an answer to a call with such a reply
-abbrev pub IsCallAnswer : (Reply → Type 0) → Answer → Type 0
-IsCallAnswer IsOfKind (Replied reply) = IsOfKind reply
-IsCallAnswer IsOfKind FullHistory = Unit {0}
-IsCallAnswer IsOfKind BehindHistory = Unit {0}
-IsCallAnswer IsOfKind _ = ⊥
-
--- an answer to a checkpoint
-abbrev pub IsCheckpointAnswer : Answer → Type 0
-IsCheckpointAnswer (Checked checking) = Unit {0}
-IsCheckpointAnswer SharedHistory = Unit {0}
-IsCheckpointAnswer _ = ⊥
+Fits (ToCommit edits) (OfCommit answer) = Unit {0}
+Fits ToTake (OfTake order) = Unit {0}
+Fits (ToDeliver order) (OfDeliver answer) = Unit {0}
+Fits (ToGiveBack key) (OfGiveBack answer) = Unit {0}
+Fits (ToAsk key) (OfAsk shown) = Unit {0}
+Fits _ _ = ⊥
 
 -- an answer of the deed's kind
 abbrev pub Suits : Deed → Answer → Type 0
-Suits (Makes call) answer = IsCallAnswer (Fits call) answer
-Suits (Keeps limits) answer = IsCheckpointAnswer answer
+Suits (Makes call) (Replied reply) = Fits call reply
+Suits (Makes call) FullHistory = Unit {0}
+Suits (Makes call) BehindHistory = Unit {0}
+Suits (Keeps limits) (Checked checking) = Unit {0}
+Suits (Keeps limits) SharedHistory = Unit {0}
+Suits _ _ = ⊥
+
+-- an answer to a call
+abbrev pub IsOfCall : Answer → Type 0
+IsOfCall (Replied reply) = Unit {0}
+IsOfCall FullHistory = Unit {0}
+IsOfCall BehindHistory = Unit {0}
+IsOfCall _ = ⊥
 
 -- ---- what is said of the desk
 

@@ -1,6 +1,6 @@
 //! Desks: the recorded calls, as one session makes them.
 ghost use Rattle.std.specs.Prelude.{◌≡◌, IfOk};
-ghost use Rattle.fb_bench.specs.Calls.{said_in, IsAnswered, IsCallAnswer};
+ghost use Rattle.fb_bench.specs.Calls.{said_in, IsAnswered, IsOfCall};
 
 use crate::answers::{Answered, Taken};
 use crate::bench::Bench;
@@ -58,7 +58,7 @@ pub enum Said {
 
 /// The answer to a call, or why it is not recorded.
 fn answer_of(said: Result<Said, AllocError>) -> Result<Answered, DeskRefused>
-    requires { IfOk said (λ told. IsCallAnswer (λ reply. Unit {0}) (said_in told)) }
+    requires { IfOk said (λ told. IsOfCall (said_in told)) }
     ensures { IsAnswered said result }
 {
     match said {
