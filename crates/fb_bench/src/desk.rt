@@ -65,8 +65,7 @@ fn answer_of(said: Result<Said, AllocError>) -> Result<Answered, DeskRefused>
         Ok(Said::Answered(answer)) => Ok(answer),
         Ok(Said::HistoryFull) => Err(DeskRefused::HistoryFull),
         Ok(Said::Behind) => Err(DeskRefused::Behind),
-        Ok(Said::Kept(_) | Said::UnitsOver(_) | Said::NumbersOver | Said::NotAlone) =>
-            unreachable!(),
+        Ok(_) => unreachable!(),
         Err(_) => Err(DeskRefused::Memory),
     }
 }
@@ -96,8 +95,7 @@ pub trait Desk {
         let _finished: Option<&Finished> = None;
         match answer_of(self.serve(&Demand::Call(Request::Commit(changes))))? {
             Answered::Commit(committed) => Ok(committed),
-            Answered::Take(_) | Answered::Deliver(_) | Answered::GiveBack(_) | Answered::Ask(_) =>
-                unreachable!(),
+            _ => unreachable!(),
         }
     }
 
@@ -109,8 +107,7 @@ pub trait Desk {
         let _finished: Option<&Finished> = None;
         match answer_of(self.serve(&Demand::Call(Request::Take)))? {
             Answered::Take(taken) => Ok(taken),
-            Answered::Commit(_) | Answered::Deliver(_) | Answered::GiveBack(_) | Answered::Ask(_) =>
-                unreachable!(),
+            _ => unreachable!(),
         }
     }
 
@@ -121,8 +118,7 @@ pub trait Desk {
         let _changes: &[Change] = &[];
         match answer_of(self.serve(&Demand::Call(Request::Deliver(finished))))? {
             Answered::Deliver(delivered) => Ok(delivered),
-            Answered::Commit(_) | Answered::Take(_) | Answered::GiveBack(_) | Answered::Ask(_) =>
-                unreachable!(),
+            _ => unreachable!(),
         }
     }
 
@@ -134,8 +130,7 @@ pub trait Desk {
         let _finished: Option<&Finished> = None;
         match answer_of(self.serve(&Demand::Call(Request::GiveBack(key))))? {
             Answered::GiveBack(returned) => Ok(returned),
-            Answered::Commit(_) | Answered::Take(_) | Answered::Deliver(_) | Answered::Ask(_) =>
-                unreachable!(),
+            _ => unreachable!(),
         }
     }
 
@@ -147,10 +142,7 @@ pub trait Desk {
         let _finished: Option<&Finished> = None;
         match answer_of(self.serve(&Demand::Call(Request::Ask(key))))? {
             Answered::Ask(asked) => Ok(asked),
-            Answered::Commit(_)
-            | Answered::Take(_)
-            | Answered::Deliver(_)
-            | Answered::GiveBack(_) => unreachable!(),
+            _ => unreachable!(),
         }
     }
 
@@ -165,7 +157,7 @@ pub trait Desk {
             Ok(Said::UnitsOver(count)) => Err(DeskCheckpointRefused::UnitsOver(count)),
             Ok(Said::NumbersOver) => Err(DeskCheckpointRefused::NumbersOver),
             Ok(Said::NotAlone) => Err(DeskCheckpointRefused::NotAlone),
-            Ok(Said::Answered(_) | Said::HistoryFull | Said::Behind) => unreachable!(),
+            Ok(_) => unreachable!(),
             Err(_) => Err(DeskCheckpointRefused::Memory),
         }
     }

@@ -278,32 +278,14 @@ impl Kept for Entries {
     ghost found = { λ it key. found_in (entry_at it key) };
 
     fn value(&self, key: &Key) -> Option<&Arc<Value>> {
-        match self.by_key.get(key) {
-            Some(entry) => match &entry.value {
-                Some(value) => Some(value),
-                None => None,
-            },
-            None => None,
-        }
+        self.by_key.get(key)?.value.as_ref()
     }
 
     fn found(&self, key: &Key) -> Option<&Arc<Value>> {
-        match self.by_key.get(key) {
-            Some(entry) => match &entry.found {
-                Some(value) => Some(value),
-                None => None,
-            },
-            None => None,
-        }
+        self.by_key.get(key)?.found.as_ref()
     }
 
     fn former(&self, key: &Key) -> Option<&Arc<Value>> {
-        match self.by_key.get(key) {
-            Some(entry) => match &entry.former {
-                Some(value) => Some(value),
-                None => None,
-            },
-            None => None,
-        }
+        self.by_key.get(key)?.former.as_ref()
     }
 }
