@@ -65,7 +65,8 @@ fn answer_of(said: Result<Said, AllocError>) -> Result<Answered, DeskRefused>
         Ok(Said::Answered(answer)) => Ok(answer),
         Ok(Said::HistoryFull) => Err(DeskRefused::HistoryFull),
         Ok(Said::Behind) => Err(DeskRefused::Behind),
-        Ok(_) => unreachable!(),
+        Ok(Said::Kept(_) | Said::UnitsOver(_) | Said::NumbersOver | Said::NotAlone) =>
+            unreachable!(),
         Err(_) => Err(DeskRefused::Memory),
     }
 }
@@ -95,7 +96,8 @@ pub trait Desk {
         let _finished: Option<&Finished> = None;
         match answer_of(self.serve(&Demand::Call(Request::Commit(changes))))? {
             Answered::Commit(committed) => Ok(committed),
-            _ => unreachable!(),
+            Answered::Take(_) | Answered::Deliver(_) | Answered::GiveBack(_) | Answered::Ask(_) =>
+                unreachable!(),
         }
     }
 
@@ -107,7 +109,8 @@ pub trait Desk {
         let _finished: Option<&Finished> = None;
         match answer_of(self.serve(&Demand::Call(Request::Take)))? {
             Answered::Take(taken) => Ok(taken),
-            _ => unreachable!(),
+            Answered::Commit(_) | Answered::Deliver(_) | Answered::GiveBack(_) | Answered::Ask(_) =>
+                unreachable!(),
         }
     }
 
@@ -118,7 +121,8 @@ pub trait Desk {
         let _changes: &[Change] = &[];
         match answer_of(self.serve(&Demand::Call(Request::Deliver(finished))))? {
             Answered::Deliver(delivered) => Ok(delivered),
-            _ => unreachable!(),
+            Answered::Commit(_) | Answered::Take(_) | Answered::GiveBack(_) | Answered::Ask(_) =>
+                unreachable!(),
         }
     }
 
@@ -130,7 +134,8 @@ pub trait Desk {
         let _finished: Option<&Finished> = None;
         match answer_of(self.serve(&Demand::Call(Request::GiveBack(key))))? {
             Answered::GiveBack(returned) => Ok(returned),
-            _ => unreachable!(),
+            Answered::Commit(_) | Answered::Take(_) | Answered::Deliver(_) | Answered::Ask(_) =>
+                unreachable!(),
         }
     }
 
@@ -142,7 +147,10 @@ pub trait Desk {
         let _finished: Option<&Finished> = None;
         match answer_of(self.serve(&Demand::Call(Request::Ask(key))))? {
             Answered::Ask(asked) => Ok(asked),
-            _ => unreachable!(),
+            Answered::Commit(_)
+            | Answered::Take(_)
+            | Answered::Deliver(_)
+            | Answered::GiveBack(_) => unreachable!(),
         }
     }
 
@@ -157,7 +165,7 @@ pub trait Desk {
             Ok(Said::UnitsOver(count)) => Err(DeskCheckpointRefused::UnitsOver(count)),
             Ok(Said::NumbersOver) => Err(DeskCheckpointRefused::NumbersOver),
             Ok(Said::NotAlone) => Err(DeskCheckpointRefused::NotAlone),
-            Ok(_) => unreachable!(),
+            Ok(Said::Answered(_) | Said::HistoryFull | Said::Behind) => unreachable!(),
             Err(_) => Err(DeskCheckpointRefused::Memory),
         }
     }
