@@ -55,7 +55,7 @@ fn plan_flat<V: View>(
     ensures { IfOk result
         (λ deploy. plain_deploy deploy ≡ flat_plan (V.sources view.now) system.now flat.now) }
 {
-    match homes_of(alloc, view, system, flat.blocks())? {
+    match homes_of(alloc, view, system, flat)? {
         Homes::Faulty(found) => Ok(Deploy::Faulty(found)),
         Homes::On(homes) => plan_homes(alloc, view, system, flat, homes.as_slice()),
     }

@@ -1,14 +1,16 @@
 //! What a workbench knows of its keys.
-ghost use Rattle.std.specs.Prelude.{◌≡◌, [], None, IfOk, OnOk, OnErr, count_by, slice_get};
+ghost use Rattle.std.specs.Prelude.{◌≡◌, [], None, true, false, IfOk, OnOk, OnErr, count_by, length, slice_get};
+ghost use Rattle.std.specs.Option.{option_copied};
 ghost use Rattle.std.specs.BTreeMap as tree;
 ghost use Rattle.fb_jobs.specs.KeyOrder.{key_cmp};
 ghost use Rattle.fb_entries.specs.Indexed.{IsIndexOf};
 ghost use Rattle.fb_jobs.specs.Reach.{AgreeApartFrom, first_repeated};
-ghost use Rattle.fb_entries.specs.Marking.{is_handed_out, is_unkept, keys_with, LosesEntries, LosesKeys};
-ghost use Rattle.fb_entries.specs.Found.{units_of, Alters, MakesRoom, LosesRoom};
-ghost use Rattle.fb_entries.specs.Renew.{IsCarriedOut};
+ghost use Rattle.fb_entries.specs.Marking.{is_handed_out, is_unkept, keys_with, with_found, with_out, with_value, ChangesEntry, LosesEntries, LosesKeys, MarksKey, SameKeys};
+ghost use Rattle.fb_entries.specs.Found.{units_of};
+ghost use Rattle.fb_entries.specs.Keyed.{entry_at, IsFirstReady};
+ghost use Rattle.fb_entries.specs.Renew.{HasRoom, IsCarriedOut, IsRenewal, IsTakenBack};
 
-use crate::entry::Entry;
+use crate::entry::{Entry, join, keep, keep_found, leave, mark_out};
 use crate::keys::only_present;
 use crate::reach::{reached_keys, reindexed};
 use crate::renewal::{
@@ -21,14 +23,15 @@ use fb_jobs::{Kept, Key, Value, keys_by_name};
 use fb_text::Name;
 use std::alloc::{AllocError, Global};
 use std::collections::{BTreeMap, BTreeSet};
+use std::marker::Model;
 use std::sync::Arc;
 
 /// The keys of a library, what is kept of each, and which of them can be taken.
 #[derive(Drop)]
 pub struct Entries {
-    pub by_key: BTreeMap<Key, Entry>,
+    by_key: BTreeMap<Key, Entry>,
     /// The keys that are pending and not handed out.
-    pub ready: BTreeSet<Key>,
+    ready: BTreeSet<Key>,
 }
 
 /// The keys that are pending and those that are handed out, by rising key.
@@ -46,6 +49,14 @@ pub struct Found {
     pub renewal: Renewal,
 }
 
+impl Model for Entries {
+    ghost use Rattle.fb_entries.specs.Keyed.{Keyed};
+
+    ghost Value = { Keyed };
+
+    ghost view = { λ it. record { by_key = it.by_key; ready = it.ready } };
+}
+
 impl Entries {
     /// No keys.
     pub fn new(alloc: Global) -> Entries
@@ -55,6 +66,31 @@ impl Entries {
         Entries {
             by_key: BTreeMap::new(alloc),
             ready: BTreeSet::new(alloc),
+        }
+    }
+
+    /// How many keys there are.
+    pub fn len(&self) -> usize
+        ensures len { result ≡ length self.now.by_key.entries }
+        ensures ordered { tree.IsOrdered key_cmp self.now.by_key }
+    {
+        self.by_key.len()
+    }
+
+    /// What is kept of a key.
+    pub fn get(&self, key: &Key) -> Option<&Entry>
+        ensures { option_copied result ≡ entry_at self.now key.now }
+    {
+        self.by_key.get(key)
+    }
+
+    /// The least key that can be taken.
+    pub fn first_ready(&self) -> Option<Key>
+        ensures { IsFirstReady self.now result }
+    {
+        match self.ready.first() {
+            Some(key) => Some(*key),
+            None => None,
         }
     }
 
@@ -112,7 +148,7 @@ impl Entries {
         requires others { AgreeApartFrom (units_of changes.now) before.now after.now }
         ensures index { IfOk result (λ found. IsIndexOf after.now found.index) }
         ensures renewal { IfOk result
-            (λ found. Alters after.now (units_of changes.now) self.now found.renewal) }
+            (λ found. IsRenewal after.now (units_of changes.now) self.now found.renewal) }
     {
         let units = changed_units(alloc, changes)?;
         let index = reindexed(alloc, index, before, after, &units)?;
@@ -129,7 +165,7 @@ impl Entries {
         units: &[Name],
     ) -> Result<Renewal, AllocError>
         requires indexed { IsIndexOf library.now index.now }
-        ensures { IfOk result (Alters library.now units.now self.now) }
+        ensures { IfOk result (IsRenewal library.now units.now self.now) }
     {
         let own = keys_by_name(alloc, units)?;
         let present = only_present(alloc, library, &own)?;
@@ -148,8 +184,8 @@ impl Entries {
 
     /// Makes room for new entries and marks, or leaves all as it was.
     pub fn make_room(&mut self, alloc: Global, renewal: &Renewal) -> Result<(), AllocError>
-        ensures ok { OnOk result (MakesRoom renewal.now self.old self.new) }
-        ensures err { OnErr result (LosesRoom renewal.now self.old self.new) }
+        ensures ok { OnOk result (HasRoom renewal.now self.old self.new) }
+        ensures err { OnErr result (IsTakenBack renewal.now self.old self.new) }
     {
         let is_made = put_blank(alloc, &mut self.by_key, &renewal.fresh).is_ok();
         if is_made && join_all(&mut self.ready, &renewal.unready).is_ok() {
@@ -170,8 +206,7 @@ impl Entries {
 
     /// Writes what was found, and gives the index back. Nothing here can fail.
     pub fn carry_out(&mut self, found: Found) -> Index
-        ensures entries { IsCarriedOut found.renewal self.old.by_key self.new.by_key }
-        ensures ready { LosesKeys found.renewal.gone.items self.old.ready self.new.ready }
+        ensures entries { IsCarriedOut found.renewal self.old self.new }
         ensures index { result ≡ found.index }
     {
         let Found { index, renewal } = found;
@@ -180,14 +215,66 @@ impl Entries {
         renew_all(&mut self.by_key, &renewal.renewed);
         index
     }
+
+    /// Hands a key out: it can no longer be taken.
+    pub fn hand_out(&mut self, key: &Key)
+        ensures entries { ChangesEntry key.now (with_out true) self.old.by_key self.new.by_key }
+        ensures ready { MarksKey key.now false self.old.ready self.new.ready }
+    {
+        mark_out(&mut self.by_key, key, true);
+        leave(&mut self.ready, key);
+    }
+
+    /// Clears the mark that a key is handed out.
+    pub fn bring_back(&mut self, key: &Key)
+        ensures entries { ChangesEntry key.now (with_out false) self.old.by_key self.new.by_key }
+        ensures ready { self.new.ready ≡ self.old.ready }
+    {
+        mark_out(&mut self.by_key, key, false);
+    }
+
+    /// Lets a key be taken, or leaves all as it was.
+    pub fn make_ready(&mut self, key: &Key) -> Result<(), AllocError>
+        ensures entries { self.new.by_key ≡ self.old.by_key }
+        ensures ok { OnOk result (MarksKey key.now true self.old.ready self.new.ready) }
+        ensures err { OnErr result (SameKeys self.old.ready self.new.ready) }
+    {
+        join(&mut self.ready, key)
+    }
+
+    /// Lets a key no longer be taken.
+    pub fn unmake_ready(&mut self, key: &Key)
+        ensures entries { self.new.by_key ≡ self.old.by_key }
+        ensures ready { MarksKey key.now false self.old.ready self.new.ready }
+    {
+        leave(&mut self.ready, key);
+    }
+
+    /// Gives a key its value; it is not handed out then, and can't be taken.
+    pub fn keep(&mut self, key: &Key, value: Arc<Value>)
+        ensures entries { ChangesEntry key.now (with_value value) self.old.by_key self.new.by_key }
+        ensures ready { MarksKey key.now false self.old.ready self.new.ready }
+    {
+        keep(&mut self.by_key, key, value);
+        leave(&mut self.ready, key);
+    }
+
+    /// Keeps for a pending key the value that a job for another key computed on its way. The key stays pending.
+    pub fn keep_found(&mut self, key: &Key, found: Arc<Value>)
+        ensures entries { ChangesEntry key.now (with_found found) self.old.by_key self.new.by_key }
+        ensures ready { self.new.ready ≡ self.old.ready }
+    {
+        keep_found(&mut self.by_key, key, found);
+    }
 }
 
 impl Kept for Entries {
     ghost use Rattle.fb_entries.specs.Found.{found_in, kept_in};
+    ghost use Rattle.fb_entries.specs.Keyed.{entry_at};
 
-    ghost kept = { λ it key. kept_in (tree.get key_cmp it.by_key key) };
+    ghost kept = { λ it key. kept_in (entry_at it key) };
 
-    ghost found = { λ it key. found_in (tree.get key_cmp it.by_key key) };
+    ghost found = { λ it key. found_in (entry_at it key) };
 
     fn value(&self, key: &Key) -> Option<&Arc<Value>> {
         match self.by_key.get(key) {

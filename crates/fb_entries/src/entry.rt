@@ -50,7 +50,7 @@ impl Entry {
 }
 
 /// Marks a key that has an entry as handed out or not.
-pub fn mark_out(entries: &mut BTreeMap<Key, Entry>, key: &Key, out: bool)
+pub(crate) fn mark_out(entries: &mut BTreeMap<Key, Entry>, key: &Key, out: bool)
     ensures { ChangesEntry key.now (with_out out) entries.old entries.new }
 {
     if let Some(entry) = entries.get_mut(key) {
@@ -59,7 +59,7 @@ pub fn mark_out(entries: &mut BTreeMap<Key, Entry>, key: &Key, out: bool)
 }
 
 /// Gives a key that has an entry its value; the key is not handed out then.
-pub fn keep(entries: &mut BTreeMap<Key, Entry>, key: &Key, value: Arc<Value>)
+pub(crate) fn keep(entries: &mut BTreeMap<Key, Entry>, key: &Key, value: Arc<Value>)
     ensures { ChangesEntry key.now (with_value value) entries.old entries.new }
 {
     if let Some(entry) = entries.get_mut(key) {
@@ -81,7 +81,7 @@ fn unless_kept(value: &Option<Arc<Value>>, found: Arc<Value>) -> Option<Arc<Valu
 }
 
 /// Keeps for a pending key that has an entry the value that a job for another key computed on its way. The key stays pending.
-pub fn keep_found(entries: &mut BTreeMap<Key, Entry>, key: &Key, found: Arc<Value>)
+pub(crate) fn keep_found(entries: &mut BTreeMap<Key, Entry>, key: &Key, found: Arc<Value>)
     ensures { ChangesEntry key.now (with_found found) entries.old entries.new }
 {
     if let Some(entry) = entries.get_mut(key) {
@@ -112,14 +112,14 @@ pub(crate) fn renew(entries: &mut BTreeMap<Key, Entry>, key: &Key)
 }
 
 /// Takes a key out of a set.
-pub fn leave(keys: &mut BTreeSet<Key>, key: &Key)
+pub(crate) fn leave(keys: &mut BTreeSet<Key>, key: &Key)
     ensures { MarksKey key.now false keys.old keys.new }
 {
     let _ = keys.remove(key);
 }
 
 /// Puts a key into a set.
-pub fn join(keys: &mut BTreeSet<Key>, key: &Key) -> Result<(), AllocError>
+pub(crate) fn join(keys: &mut BTreeSet<Key>, key: &Key) -> Result<(), AllocError>
     ensures ok { OnOk result (MarksKey key.now true keys.old keys.new) }
     ensures err { OnErr result (SameKeys keys.old keys.new) }
 {

@@ -7,17 +7,24 @@ ghost use Rattle.fb_deploy.specs.Library.Texts.{Texts};
 ghost use Rattle.fb_jobs.specs.declared.key.Key.{Key};
 ghost use Rattle.fb_jobs.specs.declared.key.Kind.{Kind};
 ghost use Rattle.fb_jobs.specs.Hints.{IsNetOf};
-ghost use Rattle.fb_jobs.specs.KeyOrder.{kind_cmp};
+ghost use Rattle.fb_jobs.specs.KeyOrder.{key_cmp, kind_cmp};
 ghost use Rattle.fb_jobs.specs.declared.hints.Hint.{Hint};
 ghost use Rattle.fb_jobs.specs.Work.{IsFoundFor};
 ghost use Rattle.fb_jobs.specs.Kinds.{all_kinds};
 ghost use Rattle.fb_jobs.specs.Keys.{has_key, needs, scratch};
 ghost use Rattle.fb_jobs.specs.Reads.{Agree, PlainJob, IsLeastStale, IsRight, read_names, read_texts, stale};
 
+use crate::key::Key;
+
 /// Each kind is one of all kinds, and these stand in order, each once.
 pub fn kinds_in_order()
     ensures all { (kind : Kind) → Contains all_kinds kind }
     ensures order { IsStrictlySortedBy kind_cmp all_kinds }
+{}
+
+/// Keys are ordered by their kinds, and those of one kind by the bytes of their units' names.
+pub fn keys_in_order()
+    ensures { (a b : Key) → ⟦<Key as Ord>⟧.cmp a b ≡ key_cmp a b }
 {}
 
 /// Texts that agree on what a key needs have the same needs and the same value for it, whatever their revisions.

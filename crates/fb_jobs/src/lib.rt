@@ -22,7 +22,8 @@ pub use kept::Kept;
 pub use key::{Key, Kind};
 pub use kinds::{all_kinds, keys_by_name, keys_near_and_far};
 pub use laws::{
-    current_nets, current_reads, kinds_in_order, least_stale, locality, needs_in_order,
+    current_nets, current_reads, keys_in_order, kinds_in_order, least_stale, locality,
+    needs_in_order,
 };
 pub use read::{Read, has_key};
 pub use reads::needed;

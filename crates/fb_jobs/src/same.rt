@@ -11,7 +11,6 @@ use fb_deploy::flatten::Net;
 use fb_deploy::library::Version;
 use fb_deploy::placing::Misplaced;
 use fb_deploy::{Deploy, ResourcePlan};
-use fb_network::{Flat, FlatBlock};
 use fb_text::{Name, same_name};
 use std::sync::Arc;
 
@@ -29,34 +28,6 @@ pub(crate) fn are_equal<T: PartialEq>(a: &[T], b: &[T]) -> bool
     a == b
 }
 
-fn is_same_block(a: &FlatBlock, b: &FlatBlock) -> bool
-    ensures { IsTrue result ↔ (a.now ≡ b.now) }
-{
-    a.path == b.path && is_one_name(&a.type_name, &b.type_name)
-}
-
-fn are_same_blocks(a: &[FlatBlock], b: &[FlatBlock]) -> bool
-    ensures { IsTrue result ↔ (a.now ≡ b.now) }
-{
-    if a.len() != b.len() {
-        return false;
-    }
-    for place in 0..a.len() {
-        if !is_same_block(&a[place], &b[place]) {
-            return false;
-        }
-    }
-    true
-}
-
-fn is_same_flat(a: &Flat, b: &Flat) -> bool
-    ensures { IsTrue result ↔ (a.now ≡ b.now) }
-{
-    are_same_blocks(a.blocks(), b.blocks())
-        && are_equal(a.links(), b.links())
-        && are_equal(a.borders(), b.borders())
-}
-
 fn is_same_net(a: &Net, b: &Net) -> bool
     ensures { IsTrue result ↔ (plain_net a.now ≡ plain_net b.now) }
 {
@@ -64,7 +35,7 @@ fn is_same_net(a: &Net, b: &Net) -> bool
         (Net::Blocked(a), Net::Blocked(b)) => are_equal(a, b),
         (Net::Recursive(a), Net::Recursive(b)) => are_equal(a, b),
         (Net::TooLarge, Net::TooLarge) => true,
-        (Net::Flat(a), Net::Flat(b)) => is_same_flat(a, b),
+        (Net::Flat(a), Net::Flat(b)) => a.is_same(b),
         _ => false,
     }
 }

@@ -30,11 +30,11 @@ fn place_flat<V: View>(
     ensures { IfOk result
         (λ placed. plain_placed placed ≡ flat_placed (V.sources view.now) system.now flat.now) }
 {
-    match homes_of(alloc, view, system, flat.blocks())? {
+    match homes_of(alloc, view, system, flat)? {
         Homes::Faulty(found) => Ok(Placed::Faulty(found)),
         Homes::On(homes) => {
             let table = home_table(alloc, homes.as_slice())?;
-            let cuts = cuts_of(alloc, &table, flat.links())?;
+            let cuts = cuts_of(alloc, &table, flat)?;
             Ok(Placed::On { homes, cuts })
         }
     }

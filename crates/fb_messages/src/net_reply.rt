@@ -1,8 +1,9 @@
 //! The replies that show nets.
-ghost use Rattle.std.specs.Prelude.{◌≡◌};
+ghost use Rattle.std.specs.Prelude.{◌≡◌, codes};
+ghost use Rattle.serde_json.specs.Data.{array};
 ghost use Rattle.fb_jobs.specs.Flatten.Net.{plain_net};
-ghost use Rattle.fb_messages.specs.NetReplies.{block_item, border_item, flat_said, link_item, net_said, sort_text};
-ghost use Rattle.fb_messages.specs.Tokens.{IsSaid};
+ghost use Rattle.fb_messages.specs.NetReplies.{block_item, block_items, border_item, border_items, flat_said, link_item, link_items, net_said, sort_text};
+ghost use Rattle.fb_messages.specs.Tokens.{IsMember, IsSaid};
 
 use crate::to_json::{ToJson, write_list_member, write_one_list, write_three, write_two};
 use fb_jobs::flatten::Net;
@@ -47,13 +48,35 @@ impl ToJson for Link {
     }
 }
 
+fn write_blocks(out: &mut Writer, flat: &Flat) -> Result<(), AllocError>
+    ensures { IsMember result out.old out.new (codes "blocks") (array (block_items flat.now.blocks)) }
+{
+    let blocks = flat.plain_blocks(flat.allocator())?;
+    write_list_member(out, "blocks", &blocks)
+}
+
+fn write_borders(out: &mut Writer, flat: &Flat) -> Result<(), AllocError>
+    ensures { IsMember result out.old out.new (codes "borders")
+        (array (border_items flat.now.borders)) }
+{
+    let borders = flat.plain_borders(flat.allocator())?;
+    write_list_member(out, "borders", &borders)
+}
+
+fn write_links(out: &mut Writer, flat: &Flat) -> Result<(), AllocError>
+    ensures { IsMember result out.old out.new (codes "links") (array (link_items flat.now.links)) }
+{
+    let links = flat.plain_links(flat.allocator())?;
+    write_list_member(out, "links", &links)
+}
+
 fn write_flat(out: &mut Writer, flat: &Flat) -> Result<(), AllocError>
     ensures { IsSaid result out.old out.new (flat_said flat.now) }
 {
     out.begin_object()?;
-    write_list_member(out, "blocks", flat.blocks())?;
-    write_list_member(out, "borders", flat.borders())?;
-    write_list_member(out, "links", flat.links())?;
+    write_blocks(out, flat)?;
+    write_borders(out, flat)?;
+    write_links(out, flat)?;
     out.end_object()
 }
 

@@ -1,10 +1,14 @@
 -- What is composed, put in order, is the flat network.
-use Rattle.std.proofs.Common.{◌≡◌, ◌++◌, List, sym, subst}
+use Rattle.std.proofs.Common.{ℕ, ◌≡◌, ◌++◌, List, Option, length, map, refl, sym, subst, ◌∙◌}
 use Rattle.std.specs.Prelude.{Contains, flat_map}
 use Rattle.std.specs.List.Sorted.{IsStrictlySortedBy}
 use Rattle.fb_network.specs.declared.flat.FlatBlock.{FlatBlock}
 use Rattle.fb_network.specs.declared.flat.Link.{Link}
 use Rattle.fb_network.specs.declared.flat.Border.{Border}
+use Rattle.fb_network.specs.declared.entries.Leaf.{Leaf}
+use Rattle.fb_network.specs.declared.entries.Edge.{Edge}
+use Rattle.fb_network.specs.declared.draft.Draft.{Draft}
+use Rattle.fb_network.specs.declared.table.Standing.{Standing}
 use Rattle.fb_network.specs.Plain.{PlainNetwork}
 use Rattle.fb_network.specs.LinkOrder.{border_cmp, link_cmp}
 use Rattle.fb_network.specs.Network.{View, instance_named}
@@ -14,9 +18,16 @@ use Rattle.fb_network.specs.Instances.{AreBlocks}
 use Rattle.fb_network.specs.FlatNet.{IsFlat}
 use Rattle.fb_network.specs.Ready.{Nets, AreFinished}
 use Rattle.fb_network.specs.Composed.{Instances, behind_of, composed_blocks, composed_borders, composed_links, inner_links, links_of_sort}
-use Rattle.fb_network.specs.Part.{SameAdapters}
+use Rattle.fb_network.specs.Part.{IsFlatInWhole, SameAdapters}
+use Rattle.fb_network.specs.PlainFlat.{PlainFlat}
+use Rattle.fb_network.specs.Laid.{IsLaid, border_at, link_at}
+use Rattle.fb_network.specs.Reading.{AreEdges, AreJoins, AreLeaves, IsFinish}
+use Rattle.fb_network.specs.Standing.{AddsConnections, AreEdgesOf, HasOwn, HoldsInstances}
 use Rattle.fb_network.proofs.BlockLemmas.{composed_blocks_are}
 use Rattle.fb_network.proofs.Composing.{borders_kept, composed_borders_are, composed_links_are, links_kept}
+use Rattle.fb_network.proofs.Connections.{own_grown}
+use Rattle.fb_network.proofs.Readings.{leaves_grown}
+use Rattle.fb_network.proofs.Standings.{grows_twice, table_grown}
 
 -- a list holds what another holds, in order
 pub record IsOrderOf {X : Type 0} (made sorted : List X) : Type 0 where
@@ -44,3 +55,29 @@ flat_of {view = view} {network = network} {nets = nets} instances blocks made li
       links_sorted = links_sorted;
       borders_sorted = borders_sorted;
     }
+
+-- what the draft and the borders say is what is composed
+pub record HoldsAll (part : View) (network : PlainNetwork) (nets : Nets) (draft : Draft) (edges : List Edge) : Type 0 where
+  pub blocks : AreLeaves draft.fronts.items draft.leaves.items (composed_blocks network nets)
+  pub links : AreJoins draft.fronts.items draft.joins.items (composed_links part network (instance_named network.instances) nets)
+  pub borders : AreEdges draft.fronts.items edges (composed_borders network (instance_named network.instances) nets)
+
+pub holds_all : (part : View) (network : PlainNetwork) (nets : Nets) (table : List ℕ → Option Standing) (start held draft : Draft) (edges : List Edge) → HasOwn start.fronts.items network → HoldsInstances nets start held table network.instances → AddsConnections part network table held draft network.connections → AreEdgesOf network table edges network.connections → HoldsAll part network nets draft edges
+holds_all part network nets table start held draft edges own h adds are =
+    let more = adds nets h.standing in
+    let own_there = own_grown start.fronts.items draft.fronts.items network (grows_twice start.fronts.items held.fronts.items draft.fronts.items h.grows more.grows) own in
+    let stands = table_grown held.fronts.items draft.fronts.items nets table network.instances more.grows h.standing in
+    record {
+      blocks = subst (λ (ls : List Leaf). AreLeaves draft.fronts.items ls (composed_blocks network nets)) (sym more.same_blocks) (leaves_grown more.grows h.blocks);
+      links = more.links (flat_map (inner_links nets) network.instances) h.links;
+      borders = are draft.fronts.items nets stands own_there;
+    }
+
+pub laid_of : {part : View} {network : PlainNetwork} {nets : Nets} {draft : Draft} {edges : List Edge} → HoldsAll part network nets draft edges → IsLaid (length draft.fronts.items) draft.leaves.items draft.joins.items edges
+laid_of h = record { leaves_below = h.blocks.in_range; joins_below = h.links.in_range; edges_below = h.borders.in_range }
+
+pub flat_in_whole : {part : View} {network : PlainNetwork} {nets : Nets} {draft : Draft} {edges : List Edge} (flat : PlainFlat) → HoldsAll part network nets draft edges → IsFinish draft edges flat → IsFlatInWhole part network nets flat
+flat_in_whole {network = network} {nets = nets} {draft = draft} {edges = edges} flat h f whole same clean ready =
+    flat_of (instance_named network.instances) flat.blocks (map (link_at draft.fronts.items) draft.joins.items) flat.links (map (border_at draft.fronts.items) edges) flat.borders
+    clean ready refl (f.blocks ∙ h.blocks.is) (h.links.is ∙ same_links network (instance_named network.instances) nets same) h.borders.is
+    (record { kept = f.links.kept; added = f.links.added }) (record { kept = f.borders.kept; added = f.borders.added }) f.links.sorted f.borders.sorted

@@ -8,8 +8,16 @@ pub mod BlockLemmas
 pub mod InOrder
 pub mod SameSorted
 pub mod OneFlat
-pub mod Tables
 pub mod FlatLemmas
 pub mod EmptyMaps
 pub mod SystemLemmas
 pub mod NothingLemmas
+pub mod Texts
+pub mod Readings
+pub mod SortedOnce
+pub mod Drafts
+pub mod Standings
+pub mod Behinds
+pub mod PortMembers
+pub mod Connections
+pub mod Alike

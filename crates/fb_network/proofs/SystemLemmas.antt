@@ -1,15 +1,25 @@
 -- The links of a system.
-use Rattle.std.proofs.Common.{◌≡◌, ◌∙◌, List, sym, subst}
+use Rattle.std.proofs.Common.{ℕ, ◌≡◌, ◌<◌, ◌+◌, ◌∙◌, List, [], ◌∷◌, length, map, take, get_or, refl, sym, ap, subst}
 use Rattle.std.specs.Prelude.{◌↔◌, Contains}
-use Rattle.std.specs.List.{flat_map}
+use Rattle.std.specs.List.{All, flat_map}
+use Rattle.std.proofs.lemmas.List.Elements.{All-nil}
+use Rattle.fb_network.specs.declared.flat.FlatBlock.{FlatBlock}
 use Rattle.fb_network.specs.declared.flat.Link.{Link}
+use Rattle.fb_network.specs.declared.entries.Leaf.{Leaf}
+use Rattle.fb_network.specs.declared.entries.Join.{Join}
+use Rattle.fb_network.specs.declared.entries.Edge.{Edge}
+use Rattle.fb_network.specs.declared.draft.Draft.{Draft}
 use Rattle.fb_network.specs.declared.application.FlatApplication.{FlatApplication}
 use Rattle.fb_network.specs.Composed.{link_within}
 use Rattle.fb_network.specs.PlainFlat.{PlainFlat}
 use Rattle.fb_network.specs.LinkOrder.{link_cmp_total}
-use Rattle.fb_network.specs.SystemFlat.{IsApplicationLink, IsSystemFlat, application_links}
+use Rattle.fb_network.specs.SystemFlat.{IsApplicationLink, IsSystemFlat, application_blocks, application_links}
+use Rattle.fb_network.specs.Laid.{IsEdgeBelow, IsJoinBelow, IsLaid, IsLeafBelow, block_at, border_at, link_at}
+use Rattle.fb_network.specs.Reading.{AreJoins, AreLeaves, IsFinish, TakesIn}
+use Rattle.fb_network.proofs.Readings.{reading_nothing}
 use Rattle.fb_network.proofs.SameSorted.{same_sorted}
-use Rattle.fb_tree.proofs.Text.Members.{contains_map, origin_in_map, contains_flat_map, origin_in_flat_map}
+use Rattle.fb_network.proofs.Standings.{flat_map_push, next_taken}
+use Rattle.fb_tree.proofs.Text.Members.{contains_flat_map, contains_here, contains_map, contains_nothing, origin_in_flat_map, origin_in_map}
 
 link_of_application : (applications : List FlatApplication) (link : Link) → Contains (flat_map application_links applications) link → IsApplicationLink applications link
 link_of_application applications link c =
@@ -29,6 +39,50 @@ system_links_are applications made links is kept added link = (
   λ c. link_of_application applications link (subst (λ (ls : List Link). Contains ls link) is (added link c)),
   λ i. kept link (subst (λ (ls : List Link). Contains ls link) (sym is) (application_link_listed applications link i)),
 )
+
+-- the draft has what the applications hold
+pub record HoldsApplications (draft : Draft) (applications : List FlatApplication) : Type 0 where
+  pub blocks : AreLeaves draft.fronts.items draft.leaves.items (flat_map application_blocks applications)
+  pub links : AreJoins draft.fronts.items draft.joins.items (flat_map application_links applications)
+
+pub applications_none : (draft : Draft) → draft.leaves.items ≡ [] → draft.joins.items ≡ [] → HoldsApplications draft []
+applications_none draft no_leaves no_joins =
+    record {
+      blocks = subst (λ (es : List Leaf). AreLeaves draft.fronts.items es []) (sym no_leaves) (reading_nothing IsLeafBelow block_at draft.fronts.items);
+      links = subst (λ (es : List Join). AreJoins draft.fronts.items es []) (sym no_joins) (reading_nothing IsJoinBelow link_at draft.fronts.items);
+    }
+
+-- one application more has been taken in
+pub applications_more : (old new : Draft) (xs : List FlatApplication) (k : ℕ) (a : FlatApplication) (edges : List Edge) → k < length xs → a ≡ get_or xs k a → HoldsApplications old (take k xs) → TakesIn old new a.name a.flat edges → HoldsApplications new (take (k + 1) xs)
+applications_more old new xs k a edges lt e h t =
+    let blocks = sym (flat_map_push application_blocks (take k xs) a) ∙ ap (flat_map application_blocks) (next_taken xs k a lt e) in
+    let links = sym (flat_map_push application_links (take k xs) a) ∙ ap (flat_map application_links) (next_taken xs k a lt e) in
+    record {
+      blocks = subst (λ (bs : List FlatBlock). AreLeaves new.fronts.items new.leaves.items bs) blocks (t.blocks _ h.blocks);
+      links = subst (λ (ls : List Link). AreJoins new.fronts.items new.joins.items ls) links (t.links _ h.links);
+    }
+
+pub applications_laid : (draft : Draft) (applications : List FlatApplication) (edges : List Edge) → HoldsApplications draft applications → edges ≡ [] → IsLaid (length draft.fronts.items) draft.leaves.items draft.joins.items edges
+applications_laid draft applications edges h none =
+    record {
+      leaves_below = h.blocks.in_range;
+      joins_below = h.links.in_range;
+      edges_below = subst (All (IsEdgeBelow (length draft.fronts.items))) (sym none) (All-nil (IsEdgeBelow (length draft.fronts.items)));
+    }
+
+without_members : {X : Type 0} (xs : List X) → ((x : X) → Contains xs x → Contains [] x) → xs ≡ []
+without_members [] none = refl
+without_members (x ∷ xs) none = absurd (contains_nothing x (none x (contains_here x xs)))
+
+-- what the applications hold, put in order, is the flat network of the system
+pub system_is : (draft : Draft) (applications : List FlatApplication) (edges : List Edge) (flat : PlainFlat) → HoldsApplications draft applications → edges ≡ [] → IsFinish draft edges flat → IsSystemFlat applications flat
+system_is draft applications edges flat h none f =
+    record {
+      blocks = f.blocks ∙ h.blocks.is;
+      links = system_links_are applications (map (link_at draft.fronts.items) draft.joins.items) flat.links h.links.is f.links.kept f.links.added;
+      links_sorted = f.links.sorted;
+      borders = without_members flat.borders (λ b c. subst (λ (es : List Edge). Contains (map (border_at draft.fronts.items) es) b) none (f.borders.added b c));
+    }
 
 -- a system has one flat network only
 pub same_system : (applications : List FlatApplication) (a b : PlainFlat) → IsSystemFlat applications a → IsSystemFlat applications b → a ≡ b

@@ -18,3 +18,9 @@ pub mod Ready
 pub mod Ordered
 pub mod Part
 pub mod SystemFlat
+pub mod PlainFront
+pub mod Laid
+pub mod Reading
+pub mod Once
+pub mod Standing
+pub mod Behind

@@ -2,85 +2,77 @@
 ghost use Rattle.std.specs.Prelude.{◌≡◌, IfOk};
 ghost use Rattle.std.specs.BTreeMap.{get};
 ghost use Rattle.fb_tree.specs.Text.Order.{name_cmp};
-ghost use Rattle.fb_network.specs.Composed.{behind_instance, behind_of, belongs, border_places};
+ghost use Rattle.fb_network.specs.Behind.{border_places_at, edge_belongs, places_behind, places_of_standing};
 
-use crate::flat::{Border, Flat};
-use crate::look_up::Nets;
-use crate::network::{End, Instance, InstanceKind, is_same_sort};
-use crate::path::Path;
-use crate::table::Table;
+use crate::entries::Edge;
+use crate::network::{End, InstanceKind, is_same_sort};
+use crate::place::Place;
+use crate::table::{Standing, Table};
 use fb_tree::Sort;
 use fb_tree::text::{Name, same_name};
 use std::alloc::{AllocError, Global};
 
-fn is_border_of(border: &Border, sort: Sort, port: &Name) -> bool
-    ensures { result ≡ belongs sort port.now border.now }
+fn is_border_of(edge: &Edge, sort: Sort, port: &Name) -> bool
+    ensures { result ≡ edge_belongs sort port.now edge.now }
 {
-    is_same_sort(border.sort, sort) && same_name(&border.port, port)
+    is_same_sort(edge.sort, sort) && same_name(&edge.port, port)
 }
 
 /// The places behind a port of a subapplication instance.
 fn border_places_of(
     alloc: Global,
-    flat: &Flat,
+    borders: &[Edge],
     sort: Sort,
-    name: &Name,
     port: &Name,
-) -> Result<Vec<Path>, AllocError>
+) -> Result<Vec<Place>, AllocError>
     ensures { IfOk result
-        (λ places. places.items ≡ border_places sort name.now port.now flat.now.borders) }
+        (λ places. places.items ≡ border_places_at sort port.now borders.now) }
 {
     let mut places = Vec::new(alloc);
-    for border in flat.borders() {
-        if is_border_of(border, sort, port) {
-            places.push(border.place.within(alloc, name)?)?;
+    for edge in borders {
+        if is_border_of(edge, sort, port) {
+            places.push(edge.place)?;
         }
     }
     Ok(places)
 }
 
-/// The places behind a port of an instance.
-fn places_of<N: Nets>(
+/// The places behind a port of an instance. That of the port itself is `own`.
+fn places_of(
     alloc: Global,
-    nets: &N,
-    instance: &Instance,
+    standing: &Standing,
     sort: Sort,
-    name: &Name,
     port: &Name,
-) -> Result<Vec<Path>, AllocError>
+    own: Place,
+) -> Result<Vec<Place>, AllocError>
     ensures { IfOk result
-        (λ places. places.items
-        ≡ behind_instance (N.nets nets.now) sort name.now port.now instance.now) }
+        (λ places. places.items ≡ places_of_standing sort port.now own standing.now) }
 {
-    match instance.kind {
+    match standing.instance.kind {
         InstanceKind::Block => {
             let mut places = Vec::new(alloc);
-            places.push(Path::of_two(alloc, name, port)?)?;
+            places.push(own)?;
             Ok(places)
         }
-        InstanceKind::Subapplication => match nets.net(&instance.type_name) {
-            Some(inner) => border_places_of(alloc, inner, sort, name, port),
-            None => Ok(Vec::new(alloc)),
-        },
+        InstanceKind::Subapplication => border_places_of(alloc, &standing.borders, sort, port),
     }
 }
 
 /// The places behind an end: the port of a block itself, and those that a subapplication instance has behind its port.
-pub fn behind<N: Nets>(
+pub fn behind(
     alloc: Global,
-    instances: &Table,
-    nets: &N,
+    table: &Table,
     sort: Sort,
     end: &End,
-) -> Result<Vec<Path>, AllocError>
+    own: Place,
+) -> Result<Vec<Place>, AllocError>
     ensures { IfOk result
-        (λ places. places.items
-        ≡ behind_of (get name_cmp instances.now) (N.nets nets.now) sort end.now) }
+        (λ places. places.items ≡ places_behind (get name_cmp table.now) sort own end.now) }
 {
     match end {
         End::Own(_) => Ok(Vec::new(alloc)),
-        End::Of(name, port) => match instances.get(name) {
-            Some(instance) => places_of(alloc, nets, instance, sort, name, port),
+        End::Of(name, port) => match table.get(name) {
+            Some(standing) => places_of(alloc, standing, sort, port, own),
             None => Ok(Vec::new(alloc)),
         },
     }

@@ -2,92 +2,78 @@
 ghost use Rattle.std.specs.Prelude.{◌≡◌, ◌++◌, IfOk, OnOk};
 ghost use Rattle.std.specs.BTreeMap.{get};
 ghost use Rattle.fb_tree.specs.Text.Order.{name_cmp};
-ghost use Rattle.fb_network.specs.declared.network.End.TheVariants.{Own};
-ghost use Rattle.fb_network.specs.Composed.{behind_of, composed_borders, connection_borders, end_borders};
+ghost use Rattle.fb_network.specs.Behind.{connection_edges, edges_of_end, places_behind};
+ghost use Rattle.fb_network.specs.Standing.{AreEdgesOf};
 
 use crate::behind::behind;
-use crate::flat::Border;
-use crate::look_up::Nets;
+use crate::entries::Edge;
+use crate::links::own_text;
 use crate::network::{Connection, End, Network};
-use crate::path::Path;
+use crate::pairs::push_end_edges;
+use crate::place::Place;
 use crate::table::Table;
 use fb_tree::Sort;
-use fb_tree::text::Name;
 use std::alloc::{AllocError, Global};
 
-/// The borders of an own port at these places.
-fn push_port_borders(
-    borders: &mut Vec<Border>,
-    sort: Sort,
-    port: &Name,
-    places: Vec<Path>,
-) -> Result<(), AllocError>
-    ensures { OnOk result
-        (borders.new.items ≡ borders.old.items ++ end_borders sort (Own port.now) places.items) }
-{
-    for place in places {
-        borders.push(Border {
-            sort,
-            port: *port,
-            place,
-        })?;
-    }
-    Ok(())
-}
-
-/// The borders of an end that is an own port, at the places behind the other end.
-fn push_end_borders<N: Nets>(
+/// Adds the borders of an end that is an own port, at the places behind the other end, which is itself at the place `own`.
+fn push_borders_of_end(
     alloc: Global,
-    borders: &mut Vec<Border>,
-    instances: &Table,
-    nets: &N,
+    edges: &mut Vec<Edge>,
+    table: &Table,
     sort: Sort,
     end: &End,
     other: &End,
+    own: Place,
 ) -> Result<(), AllocError>
-    ensures { OnOk result (borders.new.items ≡ borders.old.items
-        ++ end_borders sort end.now
-        (behind_of (get name_cmp instances.now) (N.nets nets.now) sort other.now)) }
+    ensures { OnOk result
+        (edges.new.items ≡ edges.old.items
+        ++ edges_of_end sort end.now (places_behind (get name_cmp table.now) sort own other.now)) }
 {
     match end {
-        End::Own(port) => {
-            let places = behind(alloc, instances, nets, sort, other)?;
-            push_port_borders(borders, sort, port, places)
+        End::Own(_) => {
+            let places = behind(alloc, table, sort, other, own)?;
+            push_end_edges(edges, sort, end, &places)
         }
         End::Of(_, _) => Ok(()),
     }
 }
 
-fn push_connection_borders<N: Nets>(
+fn push_connection_borders(
     alloc: Global,
-    borders: &mut Vec<Border>,
-    instances: &Table,
-    nets: &N,
+    edges: &mut Vec<Edge>,
+    table: &Table,
     connection: &Connection,
+    from: Place,
+    to: Place,
 ) -> Result<(), AllocError>
-    ensures { OnOk result (borders.new.items ≡ borders.old.items
-        ++ connection_borders (get name_cmp instances.now) (N.nets nets.now) connection.now) }
+    ensures { OnOk result
+        (edges.new.items ≡ edges.old.items
+        ++ connection_edges (get name_cmp table.now) from to connection.now) }
 {
     let sort = connection.sort;
     let source = &connection.source;
     let destination = &connection.destination;
-    push_end_borders(alloc, borders, instances, nets, sort, source, destination)?;
-    push_end_borders(alloc, borders, instances, nets, sort, destination, source)
+    push_borders_of_end(alloc, edges, table, sort, source, destination, to)?;
+    push_borders_of_end(alloc, edges, table, sort, destination, source, from)
 }
 
 /// The borders of a network, by its own connections.
-pub fn borders_of_network<N: Nets>(
+pub fn borders_of_network(
     alloc: Global,
     network: &Network,
-    instances: &Table,
-    nets: &N,
-) -> Result<Vec<Border>, AllocError>
-    ensures { IfOk result (λ borders. borders.items
-        ≡ composed_borders network.now (get name_cmp instances.now) (N.nets nets.now)) }
+    table: &Table,
+) -> Result<Vec<Edge>, AllocError>
+    ensures { IfOk result
+        (λ edges. AreEdgesOf network.now (get name_cmp table.now) edges.items
+        network.now.connections) }
 {
-    let mut borders = Vec::new(alloc);
-    for connection in network.connections() {
-        push_connection_borders(alloc, &mut borders, instances, nets, connection)?;
+    let connections = network.connections();
+    let sources = network.instances().len();
+    let mut edges = Vec::new(alloc);
+    for place in 0..connections.len() {
+        let from = own_text(sources, place)?;
+        let to = own_text(connections.len(), from.end as usize)?;
+        push_connection_borders(alloc, &mut edges, table, &connections[place], from, to)?;
     }
-    Ok(borders)
+    Ok(edges)
 }

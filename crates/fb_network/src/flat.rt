@@ -1,13 +1,17 @@
 //! Flat networks.
-ghost use Rattle.std.specs.Prelude.{◌≡◌, refl};
+ghost use Rattle.std.specs.Prelude.{◌≡◌, ◌↔◌, refl, IfOk, IsTrue};
 ghost use Rattle.std.specs.Ordering.{eq_by_cmp, as_partial_cmp};
 ghost use Rattle.std.specs.Cmp.{eq_by_cmp_equiv, partial_equiv_from_equiv, partial_order_from_total};
 ghost use Rattle.fb_network.specs.LinkOrder.{link_cmp, link_cmp_total, border_cmp, border_cmp_total};
 
+use crate::entries::{Edge, Join, Leaf, plain_blocks, plain_borders, plain_links};
+use crate::front::Front;
 use crate::network::sort_number;
 use crate::path::Path;
+use crate::same::{are_same_edges, are_same_joins, are_same_leaves};
 use fb_tree::Sort;
 use fb_tree::text::Name;
+use std::alloc::{AllocError, Global};
 use std::cmp::Ordering;
 use std::marker::Model;
 
@@ -116,50 +120,60 @@ impl Ord for Border {
 }
 
 /// A network with its subapplications replaced by what they hold: its blocks, the links between them, and the borders, which join its own
-/// ports with them.
+/// ports with them. Paths are numbers: each has a front, which places of one network share, and an end behind it.
 #[derive(Debug, Drop)]
 pub struct Flat {
-    blocks: Vec<FlatBlock>,
-    links: Vec<Link>,
-    borders: Vec<Border>,
+    pub(crate) fronts: Vec<Front>,
+    pub(crate) leaves: Vec<Leaf>,
+    pub(crate) joins: Vec<Join>,
+    pub(crate) edges: Vec<Edge>,
 }
 
 impl Model for Flat {
+    ghost use Rattle.std.specs.Prelude.{length};
     ghost use Rattle.fb_network.specs.PlainFlat.{PlainFlat};
+    ghost use Rattle.fb_network.specs.Laid.{flat_at, IsLaid};
 
     ghost Value = { PlainFlat };
 
-    ghost view = { λ it. record { blocks = it.blocks.items; links = it.links.items; borders = it.borders.items } };
+    ghost view = { λ it. flat_at it.fronts.items it.leaves.items it.joins.items it.edges.items };
+
+    ghost invariant = { λ it. IsLaid (length it.fronts.items) it.leaves.items it.joins.items it.edges.items };
 }
 
 impl Flat {
-    /// A flat network of these lists.
-    pub fn new(blocks: Vec<FlatBlock>, links: Vec<Link>, borders: Vec<Border>) -> Flat
-        ensures { result
-            ≡ record { blocks = blocks.items; links = links.items; borders = borders.items } }
-    {
-        Flat {
-            blocks,
-            links,
-            borders,
-        }
+    /// Where its lists are allocated.
+    pub fn allocator(&self) -> Global {
+        *self.fronts.allocator()
     }
 
-    pub fn blocks(&self) -> &[FlatBlock]
-        ensures { result.now ≡ self.now.blocks }
+    /// The blocks in plain, in the order of the text.
+    pub fn plain_blocks(&self, alloc: Global) -> Result<Vec<FlatBlock>, AllocError>
+        ensures { IfOk result (λ blocks. blocks.items ≡ self.now.blocks) }
     {
-        &self.blocks
+        plain_blocks(alloc, &self.fronts, &self.leaves)
     }
 
-    pub fn links(&self) -> &[Link]
-        ensures { result.now ≡ self.now.links }
+    /// The links in plain, in order.
+    pub fn plain_links(&self, alloc: Global) -> Result<Vec<Link>, AllocError>
+        ensures { IfOk result (λ links. links.items ≡ self.now.links) }
     {
-        &self.links
+        plain_links(alloc, &self.fronts, &self.joins)
     }
 
-    pub fn borders(&self) -> &[Border]
-        ensures { result.now ≡ self.now.borders }
+    /// The borders in plain, in order.
+    pub fn plain_borders(&self, alloc: Global) -> Result<Vec<Border>, AllocError>
+        ensures { IfOk result (λ borders. borders.items ≡ self.now.borders) }
     {
-        &self.borders
+        plain_borders(alloc, &self.fronts, &self.edges)
+    }
+
+    /// Whether both say the same. It takes no memory.
+    pub fn is_same(&self, other: &Flat) -> bool
+        ensures { IsTrue result ↔ (self.now ≡ other.now) }
+    {
+        are_same_leaves(&self.fronts, &self.leaves, &other.fronts, &other.leaves)
+            && are_same_joins(&self.fronts, &self.joins, &other.fronts, &other.joins)
+            && are_same_edges(&self.fronts, &self.edges, &other.fronts, &other.edges)
     }
 }

@@ -1,19 +1,35 @@
 //! The flat network of a network.
-ghost use Rattle.std.specs.Prelude.{IfOk};
+ghost use Rattle.std.specs.Prelude.{◌≡◌, [], IfOk};
 ghost use Rattle.fb_network.specs.Clean.{IsCleanThroughout};
 ghost use Rattle.fb_network.specs.FlatNet.{IsFlat};
 ghost use Rattle.fb_network.specs.Part.{IsFlatInWhole};
 ghost use Rattle.fb_network.specs.Ready.{AreFinished};
+ghost use Rattle.fb_network.specs.Standing.{HasOwn};
 
-use crate::blocks::blocks_of_network;
 use crate::borders::borders_of_network;
+use crate::draft::{Draft, finish};
 use crate::flat::Flat;
-use crate::links::links_of_network;
+use crate::front::Front;
+use crate::instances::take_instances;
+use crate::links::push_links;
 use crate::look_up::{Nets, Networks};
 use crate::network::Network;
-use crate::sorted::sort_once;
-use crate::table::table_of;
+use crate::own::texts_of;
+use crate::path::Path;
 use std::alloc::{AllocError, Global};
+use std::sync::Arc;
+
+/// A draft with the front of a network's own texts, without blocks and links.
+fn own_draft(alloc: Global, network: &Network) -> Result<Draft, AllocError>
+    ensures own { IfOk result (λ draft. HasOwn draft.fronts.items network.now) }
+    ensures leaves { IfOk result (λ draft. draft.leaves.items ≡ []) }
+    ensures joins { IfOk result (λ draft. draft.joins.items ≡ []) }
+{
+    let texts = Arc::new(alloc, texts_of(alloc, network)?)?;
+    let mut draft = Draft::new(alloc);
+    draft.fronts.push(Front::new(Path::nothing(alloc), texts))?;
+    Ok(draft)
+}
 
 /// The flat network of a network, composed of the flat networks of its subapplications.
 pub fn compose<V: Networks, N: Nets>(
@@ -39,11 +55,9 @@ pub fn compose_by_part<V: Networks, N: Nets>(
 ) -> Result<Flat, AllocError>
     ensures { IfOk result (IsFlatInWhole (V.networks part.now) network.now (N.nets nets.now)) }
 {
-    let instances = table_of(alloc, network.instances())?;
-    let blocks = blocks_of_network(alloc, network, nets)?;
-    let mut links = links_of_network(alloc, part, network, &instances, nets)?;
-    sort_once(&mut links)?;
-    let mut borders = borders_of_network(alloc, network, &instances, nets)?;
-    sort_once(&mut borders)?;
-    Ok(Flat::new(blocks, links, borders))
+    let mut draft = own_draft(alloc, network)?;
+    let table = take_instances(alloc, &mut draft, nets, network.instances())?;
+    push_links(alloc, &mut draft, part, network, &table)?;
+    let edges = borders_of_network(alloc, network, &table)?;
+    finish(draft, edges)
 }

@@ -1,155 +1,167 @@
-//! The links of a network, not yet in order.
-ghost use Rattle.std.specs.Prelude.{◌≡◌, ◌++◌, IfOk, OnOk, Some};
+//! The links by the connections of a network itself.
+ghost use Rattle.std.specs.Prelude.{◌≡◌, ◌+◌, [], ◌∷◌, length, map, IfOk, OnOk};
+ghost use Rattle.std.specs.List.{All};
 ghost use Rattle.std.specs.BTreeMap.{get};
 ghost use Rattle.fb_tree.specs.Text.Order.{name_cmp};
-ghost use Rattle.fb_network.specs.Network.{instance_named};
-ghost use Rattle.fb_network.specs.Composed.{composed_links, connection_links, inner_links, link_pairs, links_from, links_of};
-ghost use Rattle.std.specs.List.{flat_map};
+ghost use Rattle.fb_network.specs.Ready as ready;
+ghost use Rattle.fb_network.specs.Network.{place_of};
+ghost use Rattle.fb_network.specs.Clean.{adapter_at};
+ghost use Rattle.fb_network.specs.Composed.{adapter_links, link_pairs, links_of_sort};
+ghost use Rattle.fb_network.specs.Laid.{path_at};
+ghost use Rattle.fb_network.specs.Reading.{IsPlaceBelow};
+ghost use Rattle.fb_network.specs.Standing.{AddsConnections, AddsLinks, HasInstances, HasOwn, IsTable, Says, end_text, own_place};
 
-use crate::adapters::{find_adapter, push_adapter_links};
+use crate::adapters::find_adapter;
 use crate::behind::behind;
-use crate::flat::{Flat, Link};
-use crate::look_up::{Nets, Networks};
-use crate::network::{Connection, Instance, InstanceKind, Network};
-use crate::path::Path;
+use crate::draft::Draft;
+use crate::look_up::Networks;
+use crate::members::{port_names, push_adapter_joins, push_member_fronts};
+use crate::network::{Connection, Network, Port};
+use crate::pairs::push_join_pairs;
+use crate::place::{Place, number};
 use crate::table::Table;
 use fb_tree::Sort;
-use fb_tree::text::Name;
 use std::alloc::{AllocError, Global};
+use std::sync::Arc;
 
-fn push_links_from(
-    links: &mut Vec<Link>,
-    sort: Sort,
-    from: &Path,
-    tos: &[Path],
-) -> Result<(), AllocError>
-    ensures { OnOk result (links.new.items ≡ links.old.items ++ links_from sort tos.now from.now) }
+/// The place of the text of that number behind so many others of the network's own.
+pub fn own_text(before: usize, place: usize) -> Result<Place, AllocError>
+    ensures { IfOk result (λ text. text ≡ own_place (before + place)) }
 {
-    for to in tos {
-        links.push(Link {
-            sort,
-            from: from.copy()?,
-            to: to.copy()?,
-        })?;
+    match before.checked_add(place) {
+        Some(end) => Ok(Place {
+            front: 0,
+            end: number(end)?,
+        }),
+        None => Err(AllocError),
     }
-    Ok(())
 }
 
-fn push_link_pairs(
-    links: &mut Vec<Link>,
-    sort: Sort,
-    froms: &[Path],
-    tos: &[Path],
-) -> Result<(), AllocError>
-    ensures { OnOk result (links.new.items ≡ links.old.items ++ link_pairs sort froms.now tos.now) }
-{
-    for from in froms {
-        push_links_from(links, sort, from, tos)?;
-    }
-    Ok(())
-}
-
-/// The links of a flat network, inside the instance of that name.
-pub fn push_links_within(
+/// Adds the links of an adapter's ports between plugs and sockets.
+fn push_members(
     alloc: Global,
-    links: &mut Vec<Link>,
-    name: &Name,
-    inner: &Flat,
+    draft: &mut Draft,
+    ports: &[Port],
+    plugs: &[Place],
+    sockets: &[Place],
 ) -> Result<(), AllocError>
+    requires plugs { All (IsPlaceBelow (length draft.old.fronts.items)) plugs.now }
+    requires sockets { All (IsPlaceBelow (length draft.old.fronts.items)) sockets.now }
     ensures { OnOk result
-        (links.new.items ≡ links.old.items ++ links_of name.now (Some inner.now)) }
+        (AddsLinks draft.old draft.new
+        (adapter_links ports.now (map (path_at draft.old.fronts.items) plugs.now)
+        (map (path_at draft.old.fronts.items) sockets.now))) }
 {
-    for link in inner.links() {
-        let from = link.from.within(alloc, name)?;
-        let to = link.to.within(alloc, name)?;
-        links.push(Link {
-            sort: link.sort,
-            from,
-            to,
-        })?;
-    }
-    Ok(())
+    let names = Arc::new(alloc, port_names(alloc, ports)?)?;
+    let plugged = push_member_fronts(alloc, &mut draft.fronts, plugs, &names)?;
+    let socketed = push_member_fronts(alloc, &mut draft.fronts, sockets, &names)?;
+    push_adapter_joins(&mut draft.joins, ports, &plugged, &socketed)
 }
 
-fn push_inner_links<N: Nets>(
-    alloc: Global,
-    links: &mut Vec<Link>,
-    nets: &N,
-    instance: &Instance,
+/// Adds a link from each of the first places to each of the others.
+fn push_pairs(
+    draft: &mut Draft,
+    sort: Sort,
+    froms: &[Place],
+    tos: &[Place],
 ) -> Result<(), AllocError>
+    requires froms { All (IsPlaceBelow (length draft.old.fronts.items)) froms.now }
+    requires tos { All (IsPlaceBelow (length draft.old.fronts.items)) tos.now }
     ensures { OnOk result
-        (links.new.items ≡ links.old.items ++ inner_links (N.nets nets.now) instance.now) }
+        (AddsLinks draft.old draft.new
+        (link_pairs sort (map (path_at draft.old.fronts.items) froms.now)
+        (map (path_at draft.old.fronts.items) tos.now))) }
 {
-    match instance.kind {
-        InstanceKind::Block => Ok(()),
-        InstanceKind::Subapplication => match nets.net(&instance.type_name) {
-            Some(inner) => push_links_within(alloc, links, &instance.name, inner),
+    push_join_pairs(&mut draft.joins, sort, froms, tos)
+}
+
+/// Adds the links by a connection between the places behind its ends: from each behind its source to each behind its destination.
+fn push_between<V: Networks>(
+    alloc: Global,
+    draft: &mut Draft,
+    view: &V,
+    network: &Network,
+    table: &Table,
+    connection: &Connection,
+    froms: &[Place],
+    tos: &[Place],
+) -> Result<(), AllocError>
+    requires table { HasInstances (get name_cmp table.now) network.now.instances }
+    requires froms { All (IsPlaceBelow (length draft.old.fronts.items)) froms.now }
+    requires tos { All (IsPlaceBelow (length draft.old.fronts.items)) tos.now }
+    ensures { OnOk result
+        (AddsLinks draft.old draft.new
+        (links_of_sort connection.now.sort
+        (adapter_at (V.networks view.now) network.now (place_of connection.now.source))
+        (map (path_at draft.old.fronts.items) froms.now)
+        (map (path_at draft.old.fronts.items) tos.now))) }
+{
+    match connection.sort {
+        Sort::Event => push_pairs(draft, Sort::Event, froms, tos),
+        Sort::Data => push_pairs(draft, Sort::Data, froms, tos),
+        Sort::Adapter => match find_adapter(view, network, table, &connection.source) {
+            Some(adapter) => push_members(alloc, draft, adapter.ports(), froms, tos),
             None => Ok(()),
         },
     }
 }
 
-/// The links by a connection of the network itself: each place behind its source with each behind its destination.
-fn push_connection_links<V: Networks, N: Nets>(
+/// Adds the links by a connection, whose ends are themselves at these places.
+fn push_connection_links<V: Networks>(
     alloc: Global,
-    links: &mut Vec<Link>,
+    draft: &mut Draft,
     view: &V,
     network: &Network,
-    instances: &Table,
-    nets: &N,
+    table: &Table,
     connection: &Connection,
+    source: Place,
+    destination: Place,
 ) -> Result<(), AllocError>
-    requires { get name_cmp instances.now ≡ instance_named network.now.instances }
-    ensures { OnOk result (links.new.items ≡ links.old.items
-        ++ connection_links (V.networks view.now) network.now (get name_cmp instances.now)
-        (N.nets nets.now) connection.now) }
+    requires table { (nets : ready.Nets)
+        × IsTable draft.old.fronts.items nets (get name_cmp table.now) network.now.instances }
+    requires source { Says draft.old.fronts.items source (end_text connection.now.source) }
+    requires destination { Says draft.old.fronts.items destination
+        (end_text connection.now.destination) }
+    ensures { OnOk result
+        (AddsConnections (V.networks view.now) network.now (get name_cmp table.now) draft.old
+        draft.new (connection.now ∷ [])) }
 {
     let sort = connection.sort;
-    let froms = behind(alloc, instances, nets, sort, &connection.source)?;
-    let tos = behind(alloc, instances, nets, sort, &connection.destination)?;
-    match sort {
-        Sort::Event => push_link_pairs(links, Sort::Event, &froms, &tos),
-        Sort::Data => push_link_pairs(links, Sort::Data, &froms, &tos),
-        Sort::Adapter => match find_adapter(view, network, instances, &connection.source) {
-            Some(adapter) => push_adapter_links(alloc, links, adapter.ports(), &froms, &tos),
-            None => Ok(()),
-        },
-    }
+    let froms = behind(alloc, table, sort, &connection.source, source)?;
+    let tos = behind(alloc, table, sort, &connection.destination, destination)?;
+    push_between(alloc, draft, view, network, table, connection, &froms, &tos)
 }
 
-fn inner_links_of<N: Nets>(
+/// Adds the links by all connections.
+pub fn push_links<V: Networks>(
     alloc: Global,
-    network: &Network,
-    nets: &N,
-) -> Result<Vec<Link>, AllocError>
-    ensures { IfOk result
-        (λ links. links.items ≡ flat_map (inner_links (N.nets nets.now)) network.now.instances) }
-{
-    let mut links = Vec::new(alloc);
-    for instance in network.instances() {
-        push_inner_links(alloc, &mut links, nets, instance)?;
-    }
-    Ok(links)
-}
-
-/// The links of a network: those inside its subapplication instances, and those by its own connections.
-pub fn links_of_network<V: Networks, N: Nets>(
-    alloc: Global,
+    draft: &mut Draft,
     view: &V,
     network: &Network,
-    instances: &Table,
-    nets: &N,
-) -> Result<Vec<Link>, AllocError>
-    requires { get name_cmp instances.now ≡ instance_named network.now.instances }
-    ensures { IfOk result (λ links. links.items
-        ≡ composed_links (V.networks view.now) network.now (get name_cmp instances.now)
-        (N.nets nets.now)) }
+    table: &Table,
+) -> Result<(), AllocError>
+    requires table { (nets : ready.Nets)
+        × IsTable draft.old.fronts.items nets (get name_cmp table.now) network.now.instances }
+    requires own { HasOwn draft.old.fronts.items network.now }
+    ensures { OnOk result
+        (AddsConnections (V.networks view.now) network.now (get name_cmp table.now) draft.old
+        draft.new network.now.connections) }
 {
-    let mut links = inner_links_of(alloc, network, nets)?;
-    for connection in network.connections() {
+    let connections = network.connections();
+    let sources = network.instances().len();
+    for place in 0..connections.len() {
+        let source = own_text(sources, place)?;
+        let destination = own_text(connections.len(), source.end as usize)?;
         push_connection_links(
-            alloc, &mut links, view, network, instances, nets, connection,
+            alloc,
+            draft,
+            view,
+            network,
+            table,
+            &connections[place],
+            source,
+            destination,
         )?;
     }
-    Ok(links)
+    Ok(())
 }

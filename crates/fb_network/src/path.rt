@@ -1,5 +1,5 @@
 //! Paths and places: names joined by points.
-ghost use Rattle.std.specs.Prelude.{◌≡◌, IfOk, nat_eq, refl, string_bytes};
+ghost use Rattle.std.specs.Prelude.{◌≡◌, ◌++◌, [], IfOk, nat_eq, refl, string_bytes};
 ghost use Rattle.std.specs.Ordering.{as_partial_cmp};
 ghost use Rattle.std.specs.Cmp.{partial_equiv_from_equiv};
 ghost use Rattle.std.specs.Cmp.Lexicographic.{pointwise, nat_list_eq_equiv, nat_list_cmp_total, texts_po, texts_ties};
@@ -28,6 +28,15 @@ impl Model for Path {
 }
 
 impl Path {
+    /// The path without a name.
+    pub fn nothing(alloc: Global) -> Path
+        ensures { result ≡ [] }
+    {
+        Path {
+            text: String::new(alloc),
+        }
+    }
+
     /// The path of one name.
     pub fn of(alloc: Global, name: &Name) -> Result<Path, AllocError>
         ensures { IfOk result (λ path. path ≡ name.now) }
@@ -41,6 +50,24 @@ impl Path {
         ensures { IfOk result (λ path. path ≡ dotted first.now second.now) }
     {
         let text = joined(alloc, first.as_str(), second.as_str())?;
+        Ok(Path { text })
+    }
+
+    /// The path of two texts, the second right behind the first.
+    pub fn of_parts(alloc: Global, start: &str, end: &str) -> Result<Path, AllocError>
+        ensures { IfOk result (λ path. path ≡ start.now ++ end.now) }
+    {
+        let mut text = String::with_capacity(alloc, start.len() + end.len())?;
+        text.push_str(start)?;
+        text.push_str(end)?;
+        Ok(Path { text })
+    }
+
+    /// This path with a point behind it.
+    pub fn pointed(&self, alloc: Global) -> Result<Path, AllocError>
+        ensures { IfOk result (λ path. path ≡ dotted self.now []) }
+    {
+        let text = joined(alloc, self.as_str(), "")?;
         Ok(Path { text })
     }
 

@@ -1,26 +1,40 @@
-//! The instances of a network by their names.
-ghost use Rattle.std.specs.Prelude.{◌≡◌, IfOk};
+//! What stands in a network under each name.
+ghost use Rattle.std.specs.Prelude.{◌≡◌, List, ℕ, OnOk};
 ghost use Rattle.std.specs.BTreeMap.{get};
 ghost use Rattle.fb_tree.specs.Text.Order.{name_cmp};
-ghost use Rattle.fb_network.specs.Network.{instance_named};
+ghost use Rattle.fb_network.specs.Standing.{or_alone};
 
+use crate::entries::Edge;
 use crate::network::Instance;
 use fb_tree::text::Name;
-use std::alloc::{AllocError, Global};
+use std::alloc::AllocError;
 use std::collections::BTreeMap;
 
-/// Instances by their names.
-pub type Table = BTreeMap<Name, Instance>;
+/// An instance, with the borders of what it holds.
+#[derive(Debug, Drop)]
+pub struct Standing {
+    pub instance: Instance,
+    pub borders: Vec<Edge>,
+}
 
-/// The table of a list, in which a name stands for its first instance.
-pub fn table_of(alloc: Global, instances: &[Instance]) -> Result<Table, AllocError>
-    ensures { IfOk result (λ table. get name_cmp table ≡ instance_named instances.now) }
+/// The first instance of each name.
+pub type Table = BTreeMap<Name, Standing>;
+
+/// Puts an instance into the table, unless one of its name stands there.
+pub fn put(table: &mut Table, instance: &Instance, borders: Vec<Edge>) -> Result<(), AllocError>
+    ensures { OnOk result
+        ((name : List ℕ) → get name_cmp table.new name
+        ≡ or_alone (record { instance = instance.now; borders = borders }) name
+        (get name_cmp table.old name)) }
 {
-    let mut table = BTreeMap::new(alloc);
-    for instance in instances {
-        if !table.contains_key(&instance.name) {
-            table.insert(instance.name, *instance)?;
-        }
+    if !table.contains_key(&instance.name) {
+        table.insert(
+            instance.name,
+            Standing {
+                instance: *instance,
+                borders,
+            },
+        )?;
     }
-    Ok(table)
+    Ok(())
 }

@@ -1,8 +1,10 @@
 -- Tables of instances by their names.
 use Rattle.std.specs.Prelude.{ℕ, ◌≡◌, List, Option, Some, String, option_map}
-use Rattle.std.specs.BTreeMap.{BTreeMap, get_by_text}
+use Rattle.std.specs.HashMap.{HashMap, get_by_text}
 use Rattle.std.specs.Borrow.{Bor}
 use Rattle.std.specs.declared.alloc.Global.{Global}
+use Rattle.std.specs.declared.hash.FoldHasher.{FoldHasher}
+use Rattle.std.specs.declared.hash.BuildHasherDefault.{BuildHasherDefault}
 use Rattle.fb_tree.specs.Tree.{ApplicationTree, InstanceTree, instance_tree}
 use Rattle.fb_tree.specs.declared.network.Instance.{Instance}
 use Rattle.fb_netcheck.specs.Library.View.{Sources, tree_at}
@@ -10,7 +12,7 @@ use Rattle.fb_placing.specs.Firsts.{first_at}
 use Rattle.fb_placing.specs.Standing.{inner_instances, instance_called}
 
 abbrev pub Instances : Type 0
-Instances = BTreeMap (String Global) (Bor Instance)
+Instances = HashMap (String Global) (Bor Instance) (BuildHasherDefault FoldHasher)
 
 -- the instance that a table has under a name
 abbrev pub instance_at : Instances → List ℕ → Option InstanceTree

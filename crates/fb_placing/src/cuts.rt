@@ -1,19 +1,19 @@
 //! Links between blocks with different homes.
 ghost use Rattle.std.specs.Prelude.{◌≡◌, IfOk, option_copied};
-ghost use Rattle.std.specs.BTreeMap.{get_by_text};
+ghost use Rattle.std.specs.HashMap.{get_by_text};
 ghost use Rattle.fb_placing.specs.Cuts.{cuts_of, home_at, is_cut, same_home};
 
 use crate::fronts::{PathTable, add_first, nearest};
 use crate::homes::Home;
-use fb_network::{Link, Path};
+use fb_network::{Flat, Link, Path};
 use std::alloc::{AllocError, Global};
-use std::collections::BTreeMap;
+use std::collections::HashMap;
 
 /// The homes of blocks by their paths.
 pub fn home_table(alloc: Global, homes: &[Home]) -> Result<PathTable, AllocError>
     ensures { IfOk result (λ table. get_by_text table ≡ home_at homes.now) }
 {
-    let mut table = BTreeMap::new(alloc);
+    let mut table = HashMap::new(alloc);
     for home in homes {
         let text = String::from_str(alloc, home.path.as_str())?;
         add_first(&mut table, text, home.resource.copy()?)?;
@@ -52,8 +52,8 @@ pub(crate) fn link_copy(link: &Link) -> Result<Link, AllocError>
     })
 }
 
-/// The links whose two homes differ, in the order of the links.
-pub fn cuts_of(alloc: Global, table: &PathTable, links: &[Link]) -> Result<Vec<Link>, AllocError>
+/// The links whose two homes differ, of these links, in their order.
+fn cuts_among(alloc: Global, table: &PathTable, links: &[Link]) -> Result<Vec<Link>, AllocError>
     ensures { IfOk result (λ cuts. cuts.items ≡ cuts_of (get_by_text table.now) links.now) }
 {
     let mut cuts = Vec::new(alloc);
@@ -63,4 +63,13 @@ pub fn cuts_of(alloc: Global, table: &PathTable, links: &[Link]) -> Result<Vec<L
         }
     }
     Ok(cuts)
+}
+
+/// The links whose two homes differ, in the order of the links.
+pub fn cuts_of(alloc: Global, table: &PathTable, flat: &Flat) -> Result<Vec<Link>, AllocError>
+    ensures { IfOk result
+        (λ cuts. cuts.items ≡ cuts_of (get_by_text table.now) flat.now.links) }
+{
+    let links = flat.plain_links(alloc)?;
+    cuts_among(alloc, table, &links)
 }

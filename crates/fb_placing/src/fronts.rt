@@ -1,20 +1,20 @@
 //! What stands in front of paths.
 ghost use Rattle.std.specs.Prelude.{◌≡◌, ℕ, List, Option, Some, None, if◌then◌else◌, OnOk, option_copied, string_bytes};
-ghost use Rattle.std.specs.BTreeMap.{get_by_text};
+ghost use Rattle.std.specs.HashMap.{get_by_text};
 ghost use Rattle.std.specs.Option.{option_or};
 ghost use Rattle.std.specs.Str.{bytes_eq};
 ghost use Rattle.fb_placing.specs.Fronts.{nearest};
 
 use fb_network::Path;
 use std::alloc::AllocError;
-use std::collections::BTreeMap;
+use std::collections::HashMap;
 
 /// Paths by the texts that stand for them.
-pub type PathTable = BTreeMap<String, Path>;
+pub type PathTable = HashMap<String, Path>;
 
 /// Adds what a text stands for, where it stands for nothing yet.
 pub(crate) fn add_first<X: Drop>(
-    table: &mut BTreeMap<String, X>,
+    table: &mut HashMap<String, X>,
     text: String,
     value: X,
 ) -> Result<(), AllocError>

@@ -1,6 +1,7 @@
 //! The homes of the blocks of a system.
 ghost use Rattle.std.specs.Prelude.{◌≡◌, [], ◌∷◌, ◌++◌, map, IfOk, OnOk};
-ghost use Rattle.std.specs.BTreeMap.{get, get_by_text};
+ghost use Rattle.std.specs.BTreeMap.{get};
+ghost use Rattle.std.specs.HashMap.{get_by_text};
 ghost use Rattle.fb_tree.specs.Text.Order.{name_cmp};
 ghost use Rattle.fb_tree.specs.Tree.{mapping_tree};
 ghost use Rattle.fb_netcheck.specs.Library.View.{tree_at};
@@ -16,7 +17,7 @@ use crate::sorted::sorted_paths;
 use crate::standing::leads_nowhere;
 use crate::tables::{Applications, Units, applications_in};
 use fb_netcheck::library::{View, tree_by_name};
-use fb_network::{FlatBlock, Path};
+use fb_network::{Flat, FlatBlock, Path};
 use fb_tree::text::{Name, NameUse};
 use fb_tree::{Decl, Mapping};
 use std::alloc::{AllocError, Global};
@@ -213,8 +214,8 @@ fn misplaced_in<V: View>(
     Ok(found)
 }
 
-/// The homes of the blocks of a system, in the order of the blocks, or what is misplaced.
-pub fn homes_of<V: View>(
+/// The homes of these blocks of a system, in their order, or what is misplaced.
+fn homes_of_blocks<V: View>(
     alloc: Global,
     view: &V,
     system: &Name,
@@ -230,4 +231,18 @@ pub fn homes_of<V: View>(
     } else {
         Ok(Homes::Faulty(found))
     }
+}
+
+/// The homes of the blocks of a system, in the order of the blocks, or what is misplaced.
+pub fn homes_of<V: View>(
+    alloc: Global,
+    view: &V,
+    system: &Name,
+    flat: &Flat,
+) -> Result<Homes, AllocError>
+    ensures { IfOk result (λ homes. plain_homes homes
+        ≡ homes_of (V.sources view.now) system.now flat.now.blocks) }
+{
+    let blocks = flat.plain_blocks(alloc)?;
+    homes_of_blocks(alloc, view, system, &blocks)
 }

@@ -1,6 +1,7 @@
 //! Commands in the order of the places that they are about.
 ghost use Rattle.std.specs.Prelude.{◌≡◌, ◌++◌, IfOk, OnOk, map, Some, refl};
-ghost use Rattle.std.specs.BTreeMap.{get, get_by_text};
+ghost use Rattle.std.specs.BTreeMap.{get};
+ghost use Rattle.std.specs.HashMap.{get_by_text};
 ghost use Rattle.std.specs.List.{filter_map, flat_map};
 ghost use Rattle.std.specs.Ordering.{eq_by_cmp, as_partial_cmp};
 ghost use Rattle.std.specs.Cmp.{eq_by_cmp_equiv, partial_equiv_from_equiv, partial_order_from_total};

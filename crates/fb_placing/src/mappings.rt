@@ -1,6 +1,6 @@
 //! Mappings by their paths.
 ghost use Rattle.std.specs.Prelude.{◌≡◌, ◌∷◌, map, IfOk, string_bytes};
-ghost use Rattle.std.specs.BTreeMap.{get_by_text};
+ghost use Rattle.std.specs.HashMap.{get_by_text};
 ghost use Rattle.fb_tree.specs.Tree.{mapping_tree};
 ghost use Rattle.fb_network.specs.Printed.{printed};
 ghost use Rattle.fb_placing.specs.Mappings.{mapping_home, mapping_path, names_used, resource_at};
@@ -10,7 +10,7 @@ use fb_network::Path;
 use fb_tree::Mapping;
 use fb_tree::text::NameUse;
 use std::alloc::{AllocError, Global};
-use std::collections::BTreeMap;
+use std::collections::HashMap;
 
 /// The names with points between.
 fn joined(alloc: Global, names: &[NameUse]) -> Result<String, AllocError>
@@ -64,7 +64,7 @@ pub(crate) fn mapping_table(alloc: Global, mappings: &[Mapping]) -> Result<PathT
     ensures { IfOk result
         (λ table. get_by_text table ≡ resource_at (map mapping_tree mappings.now)) }
 {
-    let mut table = BTreeMap::new(alloc);
+    let mut table = HashMap::new(alloc);
     for mapping in mappings {
         let text = path_text(alloc, mapping)?;
         add_first(&mut table, text, home(alloc, mapping)?)?;

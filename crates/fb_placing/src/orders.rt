@@ -1,10 +1,11 @@
 //! The commands of a system, each with the resource that it is for.
 ghost use Rattle.std.specs.Prelude.{◌≡◌, [], ◌∷◌, ◌++◌, IfOk, OnOk, map, option_copied};
-ghost use Rattle.std.specs.BTreeMap.{get_by_text};
+ghost use Rattle.std.specs.HashMap.{get_by_text};
 ghost use Rattle.fb_netcheck.specs.Library.View.{tree_at};
 ghost use Rattle.std.specs.List.{cons_option};
 ghost use Rattle.fb_placing.specs.Cuts.{cuts_of, home_at};
 ghost use Rattle.fb_placing.specs.Systems.{applications_in};
+ghost use Rattle.fb_placing.specs.Lines.{create_lines};
 ghost use Rattle.fb_placing.specs.Orders.{connection_orders, connection_text, line_order, order_on, orders_of, start_order};
 
 use crate::command::Command;
@@ -88,7 +89,7 @@ fn push_link(
     }
 }
 
-/// Adds the links that are cut, and the commands that join the ends of the others.
+/// Adds those of the links that are cut, and the commands that join the ends of the others.
 fn push_links(
     alloc: Global,
     homes: &PathTable,
@@ -130,6 +131,37 @@ fn push_start_orders(
     Ok(())
 }
 
+/// Adds the commands that make the blocks.
+fn push_create_orders(
+    alloc: Global,
+    homes: &PathTable,
+    flat: &Flat,
+    orders: &mut Vec<Order>,
+) -> Result<(), AllocError>
+    ensures { OnOk result (orders.new.items
+        ≡ orders.old.items ++ map line_order (create_lines (get_by_text homes.now) flat.now.blocks)) }
+{
+    let blocks = flat.plain_blocks(alloc)?;
+    push_line_orders(create_lines(alloc, homes, &blocks)?, orders)
+}
+
+/// Adds the links that are cut, and the commands that join the ends of the others.
+fn push_flat_links(
+    alloc: Global,
+    homes: &PathTable,
+    flat: &Flat,
+    cuts: &mut Vec<Link>,
+    orders: &mut Vec<Order>,
+) -> Result<(), AllocError>
+    ensures cuts { OnOk result
+        (cuts.new.items ≡ cuts.old.items ++ cuts_of (get_by_text homes.now) flat.now.links) }
+    ensures orders { OnOk result (orders.new.items
+        ≡ orders.old.items ++ connection_orders (get_by_text homes.now) flat.now.links) }
+{
+    let links = flat.plain_links(alloc)?;
+    push_links(alloc, homes, &links, cuts, orders)
+}
+
 /// All commands: blocks are made first, then parameters are set, then connections are made, then resources are started. Adds the links
 /// that are cut.
 pub(crate) fn orders_of<V: View>(
@@ -149,9 +181,9 @@ pub(crate) fn orders_of<V: View>(
 {
     let table = &home_table(alloc, homes)?;
     let mut orders = Vec::new(alloc);
-    push_line_orders(create_lines(alloc, table, flat.blocks())?, &mut orders)?;
+    push_create_orders(alloc, table, flat, &mut orders)?;
     push_line_orders(write_lines(alloc, view, system, homes)?, &mut orders)?;
-    push_links(alloc, table, flat.links(), cuts, &mut orders)?;
+    push_flat_links(alloc, table, flat, cuts, &mut orders)?;
     push_start_orders(alloc, resources, &mut orders)?;
     Ok(orders)
 }

@@ -1,6 +1,6 @@
 //! The resources of a system, and the commands of each.
 ghost use Rattle.std.specs.Prelude.{◌≡◌, ◌++◌, ℕ, List, [], map, IfOk, None, OnOk, find, option_copied, unwrap_or};
-ghost use Rattle.std.specs.BTreeMap.{get_by_text};
+ghost use Rattle.std.specs.HashMap.{get_by_text};
 ghost use Rattle.std.specs.Map.{update};
 ghost use Rattle.std.specs.Option.{option_map_or};
 ghost use Rattle.std.specs.Str.{bytes_eq};
@@ -18,7 +18,7 @@ use fb_network::Path;
 use fb_tree::text::Name;
 use fb_tree::{Decl, Device, Resource};
 use std::alloc::{AllocError, Global};
-use std::collections::BTreeMap;
+use std::collections::HashMap;
 use std::marker::Model;
 
 /// A resource, as `DEVICE.RESOURCE`, with its commands in their order.
@@ -105,7 +105,7 @@ pub(crate) fn resources_of<V: View>(
 }
 
 /// Commands by the resources that they are for.
-type Groups = BTreeMap<String, Vec<Command>>;
+type Groups = HashMap<String, Vec<Command>>;
 
 /// The commands for each resource, in their order.
 fn grouped(alloc: Global, orders: Vec<Order>) -> Result<Groups, AllocError>
@@ -113,7 +113,7 @@ fn grouped(alloc: Global, orders: Vec<Order>) -> Result<Groups, AllocError>
         → option_map_or (λ g. g.items) (get_by_text groups resource) []
         ≡ commands_for orders.items resource) }
 {
-    let mut groups: Groups = BTreeMap::new(alloc);
+    let mut groups: Groups = HashMap::new(alloc);
     for order in orders {
         let name = order.resource.into_string();
         groups.entry(name)?.or_default().push(order.command)?;

@@ -1,6 +1,7 @@
 //! What stands at the paths of a system.
 ghost use Rattle.std.specs.Prelude.{◌≡◌, ℕ, List, map, IfOk, OnOk, Option, Some, option_map};
-ghost use Rattle.std.specs.BTreeMap.{get, get_by_text};
+ghost use Rattle.std.specs.BTreeMap.{get};
+ghost use Rattle.std.specs.HashMap.{get_by_text};
 ghost use Rattle.fb_tree.specs.Text.Order.{name_cmp};
 ghost use Rattle.fb_tree.specs.Tree.{InstanceTree};
 ghost use Rattle.fb_netcheck.specs.Library.View.{tree_at};

@@ -1,6 +1,7 @@
 //! Instances by their names, so that each is found without a walk over those before it.
 ghost use Rattle.std.specs.Prelude.{◌≡◌, map, IfOk, IsSome, OnOk, Some};
-ghost use Rattle.std.specs.BTreeMap.{get, get_by_text};
+ghost use Rattle.std.specs.BTreeMap.{get};
+ghost use Rattle.std.specs.HashMap.{get_by_text};
 ghost use Rattle.fb_tree.specs.Text.Order.{name_cmp};
 ghost use Rattle.fb_tree.specs.Tree.{application_tree, decl_tree, instance_tree};
 ghost use Rattle.fb_netcheck.specs.Library.View.{tree_at};
@@ -13,13 +14,13 @@ use fb_netcheck::library::{View, tree_by_name};
 use fb_tree::text::Name;
 use fb_tree::{Application, Decl, Instance};
 use std::alloc::{AllocError, Global};
-use std::collections::BTreeMap;
+use std::collections::{BTreeMap, HashMap};
 
 /// Instances by their names, of those of one name the first.
-pub(crate) type Instances<'a> = BTreeMap<String, &'a Instance>;
+pub(crate) type Instances<'a> = HashMap<String, &'a Instance>;
 
 /// The instances of each application of a system, by the names of these, of those of one name the first.
-pub(crate) type Applications<'a> = BTreeMap<String, Instances<'a>>;
+pub(crate) type Applications<'a> = HashMap<String, Instances<'a>>;
 
 /// The instances of the units that were looked into, by the names of these.
 pub(crate) type Units<'a> = BTreeMap<Name, Instances<'a>>;
@@ -32,7 +33,7 @@ fn instances_by_name<'a>(
     ensures { IfOk result
         (λ table. instance_at table ≡ instance_called (map instance_tree instances.now)) }
 {
-    let mut table = BTreeMap::new(alloc);
+    let mut table = HashMap::new(alloc);
     for instance in instances {
         let text = String::from_str(alloc, instance.name.name.as_str())?;
         add_first(&mut table, text, instance)?;
@@ -48,7 +49,7 @@ fn applications_by_name<'a>(
     ensures { IfOk result
         (λ table. AreApplications (map application_tree applications.now) (get_by_text table)) }
 {
-    let mut table = BTreeMap::new(alloc);
+    let mut table = HashMap::new(alloc);
     for application in applications {
         let text = String::from_str(alloc, application.name.name.as_str())?;
         let instances = instances_by_name(alloc, application.network.instances.as_slice())?;

@@ -6,8 +6,8 @@ ghost use Rattle.network_tests.specs.Border.{inner};
 
 use crate::told::flat_told;
 use fb_network::{
-    Border, Connection, End, Flat, FlatApplication, FlatBlock, Instance, InstanceKind, Link,
-    Network, Path, Port, compose, compose_in_order, join,
+    Connection, End, Flat, FlatApplication, Instance, InstanceKind, Network, Port, compose,
+    compose_by_part, compose_in_order, join,
 };
 use fb_tree::text::Name;
 use fb_tree::{Side, Sort};
@@ -16,34 +16,36 @@ use std::collections::BTreeMap;
 use std::process::Abort;
 use std::test::Fail;
 
-const SORT: Sort = Sort::Event;
-
-fn blocks(alloc: Global, block: &Name) -> Result<Vec<FlatBlock>, Fail> {
-    let type_name = Name::read("T")?;
-    let path = Path::of(alloc, block)?;
-    Ok(vec![in alloc; FlatBlock { path, type_name }]?)
+fn connection(source: End, destination: End) -> Connection {
+    let sort = Sort::Event;
+    Connection {
+        sort,
+        source,
+        destination,
+    }
 }
 
-/// A link from a port of a block to itself.
-fn links(alloc: Global, block: &Name, port: &Name) -> Result<Vec<Link>, Fail> {
-    let from = Path::of_two(alloc, block, port)?;
-    let to = from.copy()?;
-    let sort = SORT;
-    Ok(vec![in alloc; Link { sort, from, to }]?)
-}
-
-fn borders(alloc: Global, block: &Name, port: Name) -> Result<Vec<Border>, Fail> {
-    let place = Path::of_two(alloc, block, &port)?;
-    let sort = SORT;
-    Ok(vec![in alloc; Border { sort, port, place }]?)
+/// A block whose event is joined to itself and to the network's own event.
+fn looped_network(alloc: Global) -> Result<Network, Fail> {
+    let [name, type_name, event] = [Name::read("B")?, Name::read("T")?, Name::read("E")?];
+    let kind = InstanceKind::Block;
+    let end = End::Of(name, event);
+    let instance = Instance {
+        name,
+        kind,
+        type_name,
+    };
+    let instances = vec![in alloc; instance]?;
+    let connections = vec![in alloc; connection(end, end), connection(End::Own(event), end)]?;
+    Ok(Network::new(Vec::new(alloc), instances, connections))
 }
 
 /// A block, a link from it to itself, and a border.
 fn looped(alloc: Global) -> Result<Flat, Fail> {
-    let [block, port] = [Name::read("B")?, Name::read("E")?];
-    let blocks = blocks(alloc, &block)?;
-    let links = links(alloc, &block, &port)?;
-    Ok(Flat::new(blocks, links, borders(alloc, &block, port)?))
+    let types: BTreeMap<Name, Network> = BTreeMap::new(alloc);
+    let nets: BTreeMap<Name, Flat> = BTreeMap::new(alloc);
+    let network = looped_network(alloc)?;
+    Ok(compose_by_part(alloc, &types, &network, &nets)?)
 }
 
 /// Adds an application.

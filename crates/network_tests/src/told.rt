@@ -94,9 +94,9 @@ pub fn say_borders(told: &mut String, borders: &[Border]) -> Result<(), AllocErr
 /// Blocks, links and borders.
 pub fn flat_told(alloc: Global, flat: &Flat) -> Result<String, Fail> {
     let mut told = String::new(alloc);
-    say_blocks(&mut told, flat.blocks())?;
-    say_links(&mut told, flat.links())?;
-    say_borders(&mut told, flat.borders())?;
+    say_blocks(&mut told, &flat.plain_blocks(alloc)?)?;
+    say_links(&mut told, &flat.plain_links(alloc)?)?;
+    say_borders(&mut told, &flat.plain_borders(alloc)?)?;
     Ok(told)
 }
 

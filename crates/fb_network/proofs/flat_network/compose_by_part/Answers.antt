@@ -1,23 +1,40 @@
--- What is composed is the flat network, and the sort keeps its members.
-use Rattle.std.proofs.Common.{sym, subst, ap, ◌∙◌}
-use Rattle.fb_network.specs.PlainFlat.{PlainFlat}
-use Rattle.fb_network.specs.Network.{instance_named}
-use Rattle.fb_network.specs.FlatNet.{IsFlat}
-use Rattle.fb_network.proofs.Equals.{exact_border, exact_link}
-use Rattle.fb_network.proofs.FlatLemmas.{flat_of, same_links}
+-- The draft holds what is composed, and what is finished of it is the flat network.
+use Rattle.std.proofs.Common.{List, subst, sym}
+use Rattle.std.specs.BTreeMap.{get}
+use Rattle.std.proofs.lemmas.Result.{IfOk-weaker}
+use Rattle.fb_tree.specs.Text.Order.{name_cmp}
+use Rattle.fb_network.specs.declared.network.Instance.{Instance}
+use Rattle.fb_network.specs.Standing.{AreNamed, HoldsInstances}
+use Rattle.fb_network.proofs.Connections.{are_named, own_grown}
+use Rattle.fb_network.proofs.FlatLemmas.{flat_in_whole, holds_all, laid_of}
 use Rattle.fb_network.proofs.flat_network.compose_by_part.Goals as goal
 
+pub take_instances-requires-clause-named : goal.take_instances-requires-clause-named
+take_instances-requires-clause-named g c =
+    let fronts = c.in_ok-draft.draft.fronts.items in
+    subst (λ (xs : List Instance). AreNamed fronts xs) (sym c.instances.ensures) (are_named fronts c.args.network.now c.in_ok-draft.ensures.own)
+
+pub push_links-requires-clause-table : goal.push_links-requires-clause-table
+push_links-requires-clause-table g c =
+    let nets = g.N.Nets.nets c.args.nets.now in
+    let held = subst (λ (xs : List Instance). HoldsInstances nets c.in_ok-draft.draft c.take_instances.new.draft (get name_cmp c.in_ok-table.table) xs) c.instances.ensures c.in_ok-table.ensures in
+    (nets, held.standing)
+
+pub push_links-requires-clause-own : goal.push_links-requires-clause-own
+push_links-requires-clause-own g c =
+    own_grown c.in_ok-draft.draft.fronts.items c.take_instances.new.draft.fronts.items c.args.network.now c.in_ok-table.ensures.grows c.in_ok-draft.ensures.own
+
+pub finish-requires : goal.finish-requires
+finish-requires g c =
+    let nets = g.N.Nets.nets c.args.nets.now in
+    let table = get name_cmp c.in_ok-table.table in
+    let held = subst (λ (xs : List Instance). HoldsInstances nets c.in_ok-draft.draft c.take_instances.new.draft table xs) c.instances.ensures c.in_ok-table.ensures in
+    laid_of (holds_all (g.V.Networks.networks c.args.part.now) c.args.network.now nets table c.in_ok-draft.draft c.take_instances.new.draft c.push_links.new.draft c.in_ok-edges.edges.items c.in_ok-draft.ensures.own held c.in_ok-push_links.ensures c.in_ok-edges.ensures)
+
 pub returns : goal.returns
-returns g c whole same clean finished =
-    subst (λ (flat : PlainFlat). IsFlat whole c.args.network.now flat) (sym c.new.ensures)
-    (flat_of _ _ _ _ _ _ clean finished (c.in_ok-instances.ensures ∙ ap instance_named c.instances.ensures) c.in_ok-blocks.ensures
-    (c.in_ok-links.ensures ∙ same_links c.args.network.now _ _ same) c.in_ok-borders.ensures
-    (record { kept = c.in_ok-sort_once.ensures.kept; added = c.in_ok-sort_once.ensures.added })
-    (record { kept = c.in_ok-sort_once-2.ensures.kept; added = c.in_ok-sort_once-2.ensures.added })
-    c.in_ok-sort_once.ensures.sorted c.in_ok-sort_once-2.ensures.sorted)
-
-pub sort_once-requires : goal.sort_once-requires
-sort_once-requires g c = λ a b e. exact_link a b e
-
-pub sort_once-requires-2 : goal.sort_once-requires-2
-sort_once-requires-2 g c = λ a b e. exact_border a b e
+returns g c =
+    let nets = g.N.Nets.nets c.args.nets.now in
+    let table = get name_cmp c.in_ok-table.table in
+    let held = subst (λ (xs : List Instance). HoldsInstances nets c.in_ok-draft.draft c.take_instances.new.draft table xs) c.instances.ensures c.in_ok-table.ensures in
+    let all = holds_all (g.V.Networks.networks c.args.part.now) c.args.network.now nets table c.in_ok-draft.draft c.take_instances.new.draft c.push_links.new.draft c.in_ok-edges.edges.items c.in_ok-draft.ensures.own held c.in_ok-push_links.ensures c.in_ok-edges.ensures in
+    IfOk-weaker c.finish.result _ _ (λ flat is. flat_in_whole flat all is) c.finish.ensures

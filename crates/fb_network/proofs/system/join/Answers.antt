@@ -1,20 +1,24 @@
 -- What the applications hold, put in order, is the flat network of the system.
-use Rattle.std.proofs.Common.{sym, subst}
-use Rattle.fb_network.specs.PlainFlat.{PlainFlat}
-use Rattle.fb_network.specs.SystemFlat.{IsSystemFlat}
-use Rattle.fb_network.proofs.Equals.{exact_link}
-use Rattle.fb_network.proofs.SystemLemmas.{system_links_are}
+use Rattle.std.proofs.Common.{subst, take, List}
+use Rattle.std.proofs.lemmas.List.{take_all}
+use Rattle.std.proofs.lemmas.Result.{IfOk-weaker}
+use Rattle.fb_network.specs.declared.application.FlatApplication.{FlatApplication}
+use Rattle.fb_network.proofs.SystemLemmas.{HoldsApplications, applications_laid, applications_more, applications_none, system_is}
 use Rattle.fb_network.proofs.system.join.Goals as goal
+
+pub loop-application-init : goal.loop-application-init
+loop-application-init c = applications_none c.new-draft.result c.new-draft.ensures.leaves c.new-draft.ensures.joins
+
+pub loop-application-preserved : goal.loop-application-preserved
+loop-application-preserved c =
+    applications_more c.loop-application.draft c.take_in.new.draft c.args.applications.now c.loop-application.application-index c.application-item.result c.in_ok-take_in.field-0.items
+    c.loop-application-test.true c.application-item.is c.loop-application.invariant c.in_ok-take_in.ensures
+
+pub finish-requires : goal.finish-requires
+finish-requires c = applications_laid c.loop-application.draft (take c.loop-application.application-index c.args.applications.now) c.new.result.items c.loop-application.invariant c.new.ensures.items
 
 pub returns : goal.returns
 returns c =
-    subst (λ (flat : PlainFlat). IsSystemFlat c.args.applications.now flat) (sym c.new-2.ensures)
-    (record {
-      blocks = c.in_ok-blocks.ensures;
-      links = system_links_are c.args.applications.now _ _ c.in_ok-links.ensures c.in_ok-sort_once.ensures.kept c.in_ok-sort_once.ensures.added;
-      links_sorted = c.in_ok-sort_once.ensures.sorted;
-      borders = c.new.ensures.items;
-    })
-
-pub sort_once-requires : goal.sort_once-requires
-sort_once-requires c = λ a b e. exact_link a b e
+    let all = take_all c.loop-application.application-index c.args.applications.now c.loop-application-test.false in
+    let holds = subst (λ (xs : List FlatApplication). HoldsApplications c.loop-application.draft xs) all c.loop-application.invariant in
+    IfOk-weaker c.finish.result _ _ (λ flat is. system_is c.loop-application.draft c.args.applications.now c.new.result.items flat holds c.new.ensures.items is) c.finish.ensures

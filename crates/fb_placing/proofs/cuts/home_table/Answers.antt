@@ -1,6 +1,6 @@
 -- Each home that is passed is added, if its path has none yet.
 use Rattle.std.proofs.Common.{◌≡◌, cond, Some, None, string_bytes, ◌∙◌}
-use Rattle.std.specs.BTreeMap.{get_by_text}
+use Rattle.std.specs.HashMap.{get_by_text}
 use Rattle.std.specs.Option.{option_or}
 use Rattle.std.specs.Str.{bytes_eq}
 use Rattle.fb_placing.specs.declared.homes.Home.{Home}

@@ -1,6 +1,6 @@
 -- The table has the homes passed so far.
 use Rattle.std.proofs.Common.{◌≡◌, ℕ, List, take}
-use Rattle.std.specs.BTreeMap.{get_by_text}
+use Rattle.std.specs.HashMap.{get_by_text}
 use Rattle.fb_placing.specs.Cuts.{home_at}
 use Rattle.fb_placing.proofs.cuts.home_table.Given as goal
 

@@ -1,6 +1,6 @@
 -- From the path itself to its shortest front.
 use Rattle.std.proofs.Common.{◌≡◌, ℕ, suc, ◌-◌, List, Some, None, get_or, take, sym, ◌∙◌, ap, eq-eqb, arith, rules}
-use Rattle.std.specs.BTreeMap.{get_by_text}
+use Rattle.std.specs.HashMap.{get_by_text}
 use Rattle.fb_placing.proofs.FrontLemmas.{nearest_below, nearest_here, nearest_in_front, below_nothing, below_here}
 use Rattle.fb_placing.proofs.fronts.nearest.Goals as goal
 

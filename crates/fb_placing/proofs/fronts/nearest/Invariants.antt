@@ -1,6 +1,6 @@
 -- No front that ends at a later point stands for anything.
 use Rattle.std.proofs.Common.{◌≡◌}
-use Rattle.std.specs.BTreeMap.{get_by_text}
+use Rattle.std.specs.HashMap.{get_by_text}
 use Rattle.fb_placing.specs.Fronts.{nearest}
 use Rattle.fb_placing.proofs.FrontLemmas.{nearest_below}
 use Rattle.fb_placing.proofs.fronts.nearest.Given as goal

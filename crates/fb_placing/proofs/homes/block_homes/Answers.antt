@@ -1,5 +1,5 @@
 use Rattle.std.proofs.Common.{[], ◌++◌, Option, sym, ◌∙◌, ap, append-nil}
-use Rattle.std.specs.BTreeMap.{get_by_text}
+use Rattle.std.specs.HashMap.{get_by_text}
 use Rattle.std.specs.List.{cons_option}
 use Rattle.fb_placing.specs.Homes.{block_home}
 use Rattle.fb_placing.specs.declared.homes.Home.{Home}

@@ -1,5 +1,5 @@
 use Rattle.std.proofs.Common.{◌≡◌, take}
-use Rattle.std.specs.BTreeMap.{get_by_text}
+use Rattle.std.specs.HashMap.{get_by_text}
 use Rattle.fb_placing.specs.Homes.{homeless}
 use Rattle.fb_placing.proofs.homes.homeless.Given as goal
 

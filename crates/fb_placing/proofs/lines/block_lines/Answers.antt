@@ -1,5 +1,5 @@
 use Rattle.std.proofs.Common.{[], ◌++◌, Option, sym, ◌∙◌, ap, append-nil}
-use Rattle.std.specs.BTreeMap.{get_by_text}
+use Rattle.std.specs.HashMap.{get_by_text}
 use Rattle.std.specs.List.{cons_option}
 use Rattle.fb_placing.proofs.ListLemmas.{filter_map_step}
 use Rattle.fb_placing.specs.Lines.{create_line}

@@ -1,5 +1,5 @@
 use Rattle.std.proofs.Common.{◌≡◌, take}
-use Rattle.std.specs.BTreeMap.{get_by_text}
+use Rattle.std.specs.HashMap.{get_by_text}
 use Rattle.std.specs.List.{filter_map}
 use Rattle.fb_placing.specs.Lines.{create_line}
 use Rattle.fb_placing.proofs.lines.block_lines.Given as goal

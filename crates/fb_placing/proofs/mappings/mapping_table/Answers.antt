@@ -1,6 +1,6 @@
 -- Each mapping that is passed is added, if its path has none yet.
 use Rattle.std.proofs.Common.{◌≡◌, ℕ, List, cond, Some, None, string_bytes, ◌∙◌, ap, sym}
-use Rattle.std.specs.BTreeMap.{get_by_text}
+use Rattle.std.specs.HashMap.{get_by_text}
 use Rattle.std.specs.Option.{option_or}
 use Rattle.std.specs.Str.{bytes_eq}
 use Rattle.std.proofs.lemmas.List.{take_all}

@@ -1,6 +1,6 @@
 -- The table has the mappings passed so far.
 use Rattle.std.proofs.Common.{◌≡◌, ℕ, List, take}
-use Rattle.std.specs.BTreeMap.{get_by_text}
+use Rattle.std.specs.HashMap.{get_by_text}
 use Rattle.fb_tree.specs.Tree.{mapping_tree}
 use Rattle.fb_placing.specs.Firsts.{first_at}
 use Rattle.fb_placing.specs.Mappings.{mapping_home, mapping_path}

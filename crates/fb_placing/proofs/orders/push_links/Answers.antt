@@ -1,5 +1,5 @@
 -- One link further.
-use Rattle.std.specs.BTreeMap.{get_by_text}
+use Rattle.std.specs.HashMap.{get_by_text}
 use Rattle.std.proofs.lemmas.List.Elements.{filter-append, filter_map-append}
 use Rattle.fb_placing.specs.Cuts.{cuts_of, is_cut}
 use Rattle.fb_placing.specs.Orders.{connection_order, connection_orders}

@@ -1,6 +1,6 @@
 -- The links passed so far are cut, or have their commands.
 use Rattle.std.proofs.Common.{◌≡◌, ◌++◌, take}
-use Rattle.std.specs.BTreeMap.{get_by_text}
+use Rattle.std.specs.HashMap.{get_by_text}
 use Rattle.fb_placing.specs.Cuts.{cuts_of}
 use Rattle.fb_placing.specs.Orders.{connection_orders}
 use Rattle.fb_placing.proofs.orders.push_links.Given as goal

@@ -1,10 +1,10 @@
 -- The group is taken out, or was before.
 use Rattle.std.proofs.Common.{ℕ, ◌≡◌, List, None, sym, ◌∙◌, ap, subst}
 use Rattle.std.specs.Prelude.{IfOk}
-use Rattle.std.specs.BTreeMap.{get_by_text}
+use Rattle.std.specs.HashMap.{get_by_text}
 use Rattle.std.specs.Map.{update}
 use Rattle.std.specs.Str.{bytes_eq}
-use Rattle.std.proofs.lemmas.Map.Text.{btree_map_updates_text}
+use Rattle.std.proofs.lemmas.Map.Text.{hash_map_updates_text}
 use Rattle.fb_placing.proofs.GroupLemmas.{held_before, held_in_group}
 use Rattle.fb_placing.proofs.resources.commands_for.Goals as goal
 
@@ -15,7 +15,7 @@ returns-in-Some-clause-commands c = λ of held.
 
 pub returns-in-Some-clause-taken : goal.returns-in-Some-clause-taken
 returns-in-Some-clause-taken c = λ q.
-    btree_map_updates_text c.as_str.result.now c.args.groups.now c.remove.new.self None c.in-Some.ensures.updates q
+    hash_map_updates_text c.as_str.result.now c.args.groups.now c.remove.new.self None c.in-Some.ensures.updates q
     ∙ ap (λ (t : List ℕ). update bytes_eq (get_by_text c.args.groups.now) t None q) c.as_str.ensures
 
 pub returns-in-None-clause-commands : goal.returns-in-None-clause-commands
@@ -26,5 +26,5 @@ returns-in-None-clause-commands c = λ of held.
 
 pub returns-in-None-clause-taken : goal.returns-in-None-clause-taken
 returns-in-None-clause-taken c = λ q.
-    btree_map_updates_text c.as_str.result.now c.args.groups.now c.remove.new.self None c.in-None.ensures.updates q
+    hash_map_updates_text c.as_str.result.now c.args.groups.now c.remove.new.self None c.in-None.ensures.updates q
     ∙ ap (λ (t : List ℕ). update bytes_eq (get_by_text c.args.groups.now) t None q) c.as_str.ensures

@@ -1,6 +1,6 @@
 -- One plan further.
 use Rattle.std.proofs.Common.{ℕ, ◌≡◌, List, [], ◌∷◌, ◌++◌, map, sym, ◌∙◌, ap, subst}
-use Rattle.std.specs.BTreeMap.{get_by_text}
+use Rattle.std.specs.HashMap.{get_by_text}
 use Rattle.fb_placing.specs.Groups.{AreHeld}
 use Rattle.fb_placing.specs.PlainResource.{PlainResource}
 use Rattle.fb_placing.specs.Resources.{commands_for, resource_plan}

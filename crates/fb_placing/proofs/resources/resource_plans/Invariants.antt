@@ -1,6 +1,6 @@
 -- The plans so far, and where the commands of the others are.
 use Rattle.std.proofs.Common.{◌≡◌, map}
-use Rattle.std.specs.BTreeMap.{get_by_text}
+use Rattle.std.specs.HashMap.{get_by_text}
 use Rattle.fb_placing.specs.Groups.{AreHeld}
 use Rattle.fb_placing.specs.Resources.{commands_for, resource_plan}
 use Rattle.fb_placing.proofs.resources.resource_plans.Given as goal

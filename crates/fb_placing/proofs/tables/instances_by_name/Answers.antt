@@ -1,6 +1,6 @@
 -- Each instance that is passed is added, if its name has none yet.
 use Rattle.std.proofs.Common.{◌≡◌, ℕ, List, cond, Some, None, string_bytes, ◌∙◌, ap, sym}
-use Rattle.std.specs.BTreeMap.{get_by_text}
+use Rattle.std.specs.HashMap.{get_by_text}
 use Rattle.std.specs.Option.{option_or}
 use Rattle.std.specs.Prelude.{option_map}
 use Rattle.std.specs.Borrow.{Bor}

@@ -1,0 +1,83 @@
+-- Tests of equality that are right, of single values and of lists.
+use Rattle.std.proofs.Common.{◌≡◌, ◌↔◌, ℕ, ◌<◌, ◌≤◌, ◌+◌, List, ◌∷◌, true, false, IsTrue, map, length, drop, get_or, sym, ap, add-one, ◌∙◌, subst, arith}
+use Rattle.std.proofs.Math.Seq.{drop-cons}
+use Rattle.std.proofs.lemmas.List.{drop_all, length-map}
+use Rattle.std.specs.declared.cmp.Ordering.{Ordering}
+use Rattle.std.specs.declared.cmp.Ordering.TheVariants.{Equal}
+use Rattle.std.specs.Ordering.{eq_by_cmp, is_eq}
+use Rattle.std.specs.Cmp.{IsTotalOrder, tied_itself}
+use Rattle.std.specs.BTreeMap.{is_at}
+use Rattle.fb_tree.specs.Text.Order.{name_cmp}
+use Rattle.fb_tree.proofs.Text.OrderLemmas.{is_equal}
+use Rattle.fb_network.specs.LinkOrder.{border_cmp, border_cmp_total, link_cmp, link_cmp_total}
+use Rattle.fb_network.specs.declared.flat.FlatBlock.{FlatBlock}
+use Rattle.fb_network.specs.declared.flat.Link.{Link}
+use Rattle.fb_network.specs.declared.flat.Border.{Border}
+use Rattle.fb_network.proofs.Equals.{at_not, bytes_same, exact_border, exact_link, same_bytes}
+
+-- what is told by an order in which only equal items are equal
+pub told_by : {X : Type 0} {order : X → X → Ordering} → IsTotalOrder order → ((a b : X) → order a b ≡ Equal → a ≡ b) → (a b : X) → IsTrue (eq_by_cmp order a b) ↔ (a ≡ b)
+told_by {order = order} total exact a b = (
+  (λ same. exact a b (is_equal (order a b) same)),
+  (λ e. subst (λ c. eq_by_cmp order a c ≡ true) e (ap is_eq (tied_itself total a))),
+)
+
+pub one_link : (a b : Link) → IsTrue (eq_by_cmp link_cmp a b) ↔ (a ≡ b)
+one_link = told_by link_cmp_total (λ a b e. exact_link a b (ap is_eq e))
+
+pub one_border : (a b : Border) → IsTrue (eq_by_cmp border_cmp a b) ↔ (a ≡ b)
+one_border = told_by border_cmp_total (λ a b e. exact_border a b (ap is_eq e))
+
+-- blocks at one path are told by the names of their types
+pub one_block : (a b : FlatBlock) → is_at (name_cmp a.path) b.path ≡ true → IsTrue (is_at (name_cmp a.type_name) b.type_name) ↔ (a ≡ b)
+one_block a b e = (
+  (λ same i. record { path = same_bytes a.path b.path e i; type_name = same_bytes a.type_name b.type_name same i }),
+  (λ r. subst (λ (name : List ℕ). is_at (name_cmp a.type_name) name ≡ true) (ap (λ (x : FlatBlock). x.type_name) r) (bytes_same a.type_name)),
+)
+
+pub other_block : (a b : FlatBlock) → is_at (name_cmp a.path) b.path ≡ false → IsTrue false ↔ (a ≡ b)
+other_block a b e = (
+  (λ same. absurd (cc)),
+  (λ r. absurd (at_not a.path b.path e (sym (ap (λ (x : FlatBlock). x.path) r)))),
+)
+
+-- ---- lists, item by item
+
+-- what is left of a list, at an item
+at_item : {X : Type 0} (xs : List X) (k : ℕ) (x : X) → k < length xs → x ≡ get_or xs k x → drop k xs ≡ x ∷ drop (k + 1) xs
+at_item xs k x lt e = drop-cons xs k x lt ∙ (λ i. sym e i ∷ drop (sym (add-one k) i) xs)
+
+same_first : {Z : Type 0} (a b : Z) (us vs : List Z) → a ∷ us ≡ b ∷ vs → a ≡ b
+same_first a b us vs e = cc
+
+same_rest : {Z : Type 0} (a b : Z) (us vs : List Z) → a ∷ us ≡ b ∷ vs → us ≡ vs
+same_rest a b us vs e = cc
+
+module _ {X Y Z : Type 0} (f : X → Z) (g : Y → Z) where
+  -- what is left of both lists is the same where the lists are
+  abbrev pub SameLeftBy : List X → List Y → ℕ → Type 0
+  SameLeftBy xs ys k = (map f (drop k xs) ≡ map g (drop k ys)) ↔ (map f xs ≡ map g ys)
+
+  pub same_to_end_by : (xs : List X) (ys : List Y) (k : ℕ) → length xs ≡ length ys → length xs ≤ k → SameLeftBy xs ys k → map f xs ≡ map g ys
+  same_to_end_by xs ys k long past left = left.0 (ap (map f) (drop_all k xs past) ∙ sym (ap (map g) (drop_all k ys (omega (arith, long)))))
+
+  pub same_lengths : (xs : List X) (ys : List Y) → map f xs ≡ map g ys → length xs ≡ length ys
+  same_lengths xs ys e = sym (length-map xs f) ∙ ap length e ∙ length-map ys g
+
+  module _ (xs : List X) (ys : List Y) (k : ℕ) (x : X) (y : Y) (within : k < length xs) (long : length xs ≡ length ys) (at_x : x ≡ get_or xs k x) (at_y : y ≡ get_or ys k y) (left : SameLeftBy xs ys k) where
+    left_of_xs : map f (drop k xs) ≡ f x ∷ map f (drop (k + 1) xs)
+    left_of_xs = ap (map f) (at_item xs k x within at_x)
+
+    left_of_ys : map g (drop k ys) ≡ g y ∷ map g (drop (k + 1) ys)
+    left_of_ys = ap (map g) (at_item ys k y (omega (arith, within, long)) at_y)
+
+    -- both items say the same
+    pub same_more : f x ≡ g y → SameLeftBy xs ys (k + 1)
+    same_more same = (
+      λ e. left.0 (left_of_xs ∙ (λ i. same i ∷ e i) ∙ sym left_of_ys),
+      λ e. same_rest (f x) (g y) (map f (drop (k + 1) xs)) (map g (drop (k + 1) ys)) (sym left_of_xs ∙ left.1 e ∙ left_of_ys),
+    )
+
+    -- the items say what is different
+    pub same_never : (f x ≡ g y → ⊥) → map f xs ≡ map g ys → ⊥
+    same_never differ e = differ (same_first (f x) (g y) (map f (drop (k + 1) xs)) (map g (drop (k + 1) ys)) (sym left_of_xs ∙ left.1 e ∙ left_of_ys))

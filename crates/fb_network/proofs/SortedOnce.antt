@@ -1,0 +1,47 @@
+-- What is sorted by what it says, and then deduplicated, says each thing once, in order.
+use Rattle.std.proofs.Common.{◌≡◌, Bool, true, List, [], ◌∷◌, map, refl, sym, subst, ◌∙◌}
+use Rattle.std.specs.declared.cmp.Ordering.{Ordering}
+use Rattle.std.specs.declared.cmp.Ordering.TheVariants.{Less}
+use Rattle.std.specs.Ordering.{eq_by_cmp, is_lt, on}
+use Rattle.std.specs.Cmp.{IsTotalOrder, eq_by_cmp_equiv, on_total}
+use Rattle.std.specs.List.{All, AllByRecursion, Contains, dedup}
+use Rattle.std.specs.List.Sorted.{IsPermutation, IsSortedBy, IsStrictlySortedBy}
+use Rattle.std.proofs.lemmas.List.Elements.{All-contains, All-contains_itself, All-weaker}
+use Rattle.std.proofs.lemmas.List.Kept.{Any-dedup, Contains-from_dedup, IsStrictlySortedBy-dedup}
+use Rattle.std.proofs.lemmas.List.Sorted.{Contains-permutation, IsPermutation-sym}
+use Rattle.fb_tree.proofs.Text.Members.{contains_map, origin_in_map}
+use Rattle.fb_network.specs.Once.{IsOnce}
+
+module _ {E X : Type 0} (says : E → X) (R : X → X → Ordering) where
+  below_map : (x : E) (xs : List E) → AllByRecursion (λ y. on says R x y ≡ Less) xs → AllByRecursion (λ y. R (says x) y ≡ Less) (map says xs)
+  below_map x [] p = tt
+  below_map x (y ∷ ys) p = (p.0, below_map x ys p.1)
+
+  strict_map : (xs : List E) → IsStrictlySortedBy (on says R) xs → IsStrictlySortedBy R (map says xs)
+  unfolding IsStrictlySortedBy
+  strict_map [] p = tt
+  strict_map (x ∷ xs) p = (below_map x xs p.0, strict_map xs p.1)
+
+  module _ (o : IsTotalOrder R) (exact : (x y : X) → eq_by_cmp R x y ≡ true → x ≡ y) where
+    abbrev same : E → E → Bool
+    same a b = eq_by_cmp R (says a) (says b)
+
+    kept_once : (old sorted : List E) → IsPermutation old sorted → (x : X) → Contains (map says old) x → Contains (map says (dedup same sorted)) x
+    kept_once old sorted moved x c =
+        let m = origin_in_map says old x c in
+        let k = Any-dedup (eq_by_cmp_equiv (on_total says o)) sorted m.origin (Contains-permutation old sorted m.origin moved m.among) in
+        let there : Contains (map says (dedup same sorted)) (says k.1) = contains_map says (dedup same sorted) k.1 (k.0, k.2, k.3) in
+        subst (λ (y : X). Contains (map says (dedup same sorted)) y) (sym (exact (says m.origin) (says k.1) k.4) ∙ m.gives) there
+
+    pub sorted_once : (old sorted new : List E) → IsPermutation old sorted → IsSortedBy (λ a b. is_lt (R (says a) (says b))) sorted → new ≡ dedup same sorted → IsOnce says R old new
+    sorted_once old sorted new moved up is =
+        subst (λ (es : List E). IsOnce says R old es) (sym is)
+        (record {
+          sorted = strict_map (dedup same sorted) (IsStrictlySortedBy-dedup (on_total says o) (λ a b. refl) sorted up);
+          kept = kept_once old sorted moved;
+          left = λ e c. Contains-permutation sorted old e (IsPermutation-sym old sorted moved) (Contains-from_dedup same sorted e c);
+        })
+
+-- what holds of all old entries holds of what is left
+pub all_left : {E X : Type 0} {says : E → X} {R : X → X → Ordering} (P : E → Type 0) (old new : List E) → IsOnce says R old new → All P old → All P new
+all_left P old new once all = All-weaker (Contains new) P (λ e c. All-contains P old e all (once.left e c)) new (All-contains_itself new)

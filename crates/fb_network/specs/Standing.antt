@@ -1,0 +1,128 @@
+-- What stands under each name of a network that is being composed.
+use Rattle.std.specs.Prelude.{ℕ, ◌<◌, ◌≡◌, cond, List, [], ◌++◌, Option, Some, None, ⊤, length, map, flat_map, option_map, slice_get, slice_index_or}
+use Rattle.std.specs.BTreeMap.{is_at}
+use Rattle.fb_tree.specs.Text.Order.{name_cmp}
+use Rattle.fb_network.specs.declared.network.InstanceKind.{InstanceKind}
+use Rattle.fb_network.specs.declared.network.InstanceKind.TheVariants.{Block, Subapplication}
+use Rattle.fb_network.specs.declared.network.Instance.{Instance}
+use Rattle.fb_network.specs.declared.network.End.{End}
+use Rattle.fb_network.specs.declared.network.End.TheVariants.{Own, Of}
+use Rattle.fb_network.specs.declared.flat.FlatBlock.{FlatBlock}
+use Rattle.fb_network.specs.declared.flat.Link.{Link}
+use Rattle.fb_network.specs.declared.flat.Border.{Border}
+use Rattle.fb_network.specs.declared.place.Place.{Place}
+use Rattle.fb_network.specs.declared.entries.Edge.{Edge}
+use Rattle.fb_network.specs.declared.draft.Draft.{Draft}
+use Rattle.fb_network.specs.declared.table.Standing.{Standing}
+use Rattle.fb_network.specs.Network.{instance_named}
+use Rattle.fb_network.specs.Places.{dotted}
+use Rattle.fb_network.specs.Plain.{PlainNetwork}
+use Rattle.fb_network.specs.PlainFlat.{PlainFlat}
+use Rattle.fb_network.specs.PlainFront.{PlainFront}
+use Rattle.fb_network.specs.Ready.{Nets}
+use Rattle.fb_network.specs.declared.network.Connection.{Connection}
+use Rattle.fb_network.specs.Network.{View}
+use Rattle.fb_network.specs.Composed.{connection_borders, connection_links, inner_blocks, inner_links}
+use Rattle.fb_network.specs.Laid.{path_at}
+use Rattle.fb_network.specs.Reading.{AreEdges, AreJoins, AreLeaves, Grows, border_within}
+
+-- the text of an end of a connection
+abbrev pub end_text : End → List ℕ
+end_text (Own port) = port
+end_text (Of name port) = dotted name port
+
+-- the texts of a network's own: the names of its instances, then the sources and then the destinations of its connections
+abbrev pub own_texts : PlainNetwork → List (List ℕ)
+own_texts network =
+    (map (λ i. i.name) network.instances ++ map (λ c. end_text c.source) network.connections) ++ map (λ c. end_text c.destination) network.connections
+
+-- there is a front for the place, and it says the text
+pub record Says (fronts : List PlainFront) (place : Place) (text : List ℕ) : Type 0 where
+  pub in_range : place.front < length fronts
+  pub is : path_at fronts place ≡ text
+
+-- the place of that number among a network's own
+abbrev pub own_place : ℕ → Place
+own_place k = record { front = 0; end = k }
+
+-- the first of a network's own texts are the names of the instances
+abbrev pub AreNamed : List PlainFront → List Instance → Type 0
+AreNamed fronts instances = (k : ℕ) (i : Instance) → k < length instances → i ≡ slice_index_or instances k i → Says fronts (own_place k) i.name
+
+abbrev pub borders_of : List ℕ → Option PlainFlat → List Border
+borders_of name None = []
+borders_of name (Some net) = map (border_within name) net.borders
+
+abbrev pub inner_borders_of_kind : InstanceKind → Nets → List ℕ → List ℕ → List Border
+inner_borders_of_kind Block nets name type = []
+inner_borders_of_kind Subapplication nets name type = borders_of name (nets type)
+
+-- the borders of an instance, seen from outside
+abbrev pub inner_borders : Nets → Instance → List Border
+inner_borders nets i = inner_borders_of_kind i.kind nets i.name i.type_name
+
+-- the draft has taken in the instance, which has these borders
+pub record TakesInstance (nets : Nets) (old new : Draft) (i : Instance) (edges : List Edge) : Type 0 where
+  pub grows : Grows old.fronts.items new.fronts.items
+  pub blocks :
+      (blocks : List FlatBlock) → AreLeaves old.fronts.items old.leaves.items blocks
+      → AreLeaves new.fronts.items new.leaves.items (blocks ++ inner_blocks nets i)
+  pub links :
+      (links : List Link) → AreJoins old.fronts.items old.joins.items links
+      → AreJoins new.fronts.items new.joins.items (links ++ inner_links nets i)
+  pub borders : AreEdges new.fronts.items edges (inner_borders nets i)
+
+-- the instance stands there with its borders
+abbrev pub StandsFor : List PlainFront → Nets → Option Standing → Option Instance → Type 0
+StandsFor fronts nets None None = ⊤
+StandsFor fronts nets None (Some i) = ⊥
+StandsFor fronts nets (Some s) None = ⊥
+StandsFor fronts nets (Some s) (Some i) = (s.instance ≡ i) × AreEdges fronts s.borders.items (inner_borders nets i)
+
+-- the first instance of each name stands there
+abbrev pub IsTable : List PlainFront → Nets → (List ℕ → Option Standing) → List Instance → Type 0
+IsTable fronts nets table instances = (name : List ℕ) → StandsFor fronts nets (table name) (instance_named instances name)
+
+-- what stands under a name, or else the new one if it has that name
+abbrev pub or_alone : Standing → List ℕ → Option Standing → Option Standing
+or_alone s name None = cond (is_at (name_cmp s.instance.name) name) (Some s) None
+or_alone s name (Some t) = Some t
+
+abbrev pub or_instance : Instance → List ℕ → Option Instance → Option Instance
+or_instance i name None = cond (is_at (name_cmp i.name) name) (Some i) None
+or_instance i name (Some x) = Some x
+
+-- the draft and the table have these instances
+pub record HoldsInstances (nets : Nets) (old new : Draft) (table : List ℕ → Option Standing) (instances : List Instance) : Type 0 where
+  pub grows : Grows old.fronts.items new.fronts.items
+  pub blocks : AreLeaves new.fronts.items new.leaves.items (flat_map (inner_blocks nets) instances)
+  pub links : AreJoins new.fronts.items new.joins.items (flat_map (inner_links nets) instances)
+  pub standing : IsTable new.fronts.items nets table instances
+
+-- the first instance of each name stands in the table
+abbrev pub HasInstances : (List ℕ → Option Standing) → List Instance → Type 0
+HasInstances table instances = (name : List ℕ) → option_map (λ (s : Standing). s.instance) (table name) ≡ instance_named instances name
+
+-- the first front has the network's own texts
+abbrev pub HasOwn : List PlainFront → PlainNetwork → Type 0
+HasOwn fronts network = slice_get fronts 0 ≡ Some (record { start = []; ends = own_texts network })
+
+-- the draft has these links more, and no other blocks
+pub record AddsLinks (old new : Draft) (more : List Link) : Type 0 where
+  pub grows : Grows old.fronts.items new.fronts.items
+  pub same_blocks : new.leaves.items ≡ old.leaves.items
+  pub links :
+      (links : List Link) → AreJoins old.fronts.items old.joins.items links
+      → AreJoins new.fronts.items new.joins.items (links ++ more)
+
+-- where the table is that of the network's instances, the draft has the links of connections more
+abbrev pub AddsConnections : View → PlainNetwork → (List ℕ → Option Standing) → Draft → Draft → List Connection → Type 0
+AddsConnections view network table old new connections =
+    (nets : Nets) → IsTable old.fronts.items nets table network.instances
+    → AddsLinks old new (flat_map (connection_links view network (instance_named network.instances) nets) connections)
+
+-- where the table is that of the network's instances, the entries say the borders of connections
+abbrev pub AreEdgesOf : PlainNetwork → (List ℕ → Option Standing) → List Edge → List Connection → Type 0
+AreEdgesOf network table edges connections =
+    (fronts : List PlainFront) (nets : Nets) → IsTable fronts nets table network.instances → HasOwn fronts network
+    → AreEdges fronts edges (flat_map (connection_borders (instance_named network.instances) nets) connections)

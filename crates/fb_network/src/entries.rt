@@ -1,0 +1,150 @@
+//! Blocks, links and borders by numbers.
+ghost use Rattle.std.specs.Prelude.{◌≡◌, ◌++◌, IfOk, OnOk, map};
+ghost use Rattle.fb_network.specs.Laid.{block_at, border_at, edge_moved, join_moved, leaf_moved, link_at};
+ghost use Rattle.fb_network.specs.LinkOrder.{border_cmp, link_cmp};
+
+use crate::flat::{Border, FlatBlock, Link};
+use crate::front::Front;
+use crate::network::sort_number;
+use crate::place::{Place, compare_places, moved, path_of};
+use fb_tree::Sort;
+use fb_tree::text::Name;
+use std::alloc::{AllocError, Global};
+use std::cmp::Ordering;
+
+/// A block, with the name of its type.
+#[derive(Clone, Copy, Debug)]
+pub struct Leaf {
+    pub place: Place,
+    pub type_name: Name,
+}
+
+/// A link.
+#[derive(Clone, Copy, Debug)]
+pub struct Join {
+    pub sort: Sort,
+    pub from: Place,
+    pub to: Place,
+}
+
+/// A border.
+#[derive(Clone, Copy, Debug)]
+pub struct Edge {
+    pub sort: Sort,
+    pub port: Name,
+    pub place: Place,
+}
+
+/// Adds blocks of an inner network whose fronts stand so many further.
+pub fn push_leaves_moved(leaves: &mut Vec<Leaf>, by: u32, inner: &[Leaf]) -> Result<(), AllocError>
+    ensures { OnOk result (leaves.new.items ≡ leaves.old.items ++ map (leaf_moved by) inner.now) }
+{
+    leaves.reserve(inner.len())?;
+    for leaf in inner {
+        leaves.push(Leaf {
+            place: moved(&leaf.place, by)?,
+            type_name: leaf.type_name,
+        })?;
+    }
+    Ok(())
+}
+
+/// Adds links of an inner network whose fronts stand so many further.
+pub fn push_joins_moved(joins: &mut Vec<Join>, by: u32, inner: &[Join]) -> Result<(), AllocError>
+    ensures { OnOk result (joins.new.items ≡ joins.old.items ++ map (join_moved by) inner.now) }
+{
+    joins.reserve(inner.len())?;
+    for join in inner {
+        joins.push(Join {
+            sort: join.sort,
+            from: moved(&join.from, by)?,
+            to: moved(&join.to, by)?,
+        })?;
+    }
+    Ok(())
+}
+
+/// Borders of an inner network whose fronts stand so many further.
+pub fn edges_moved(alloc: Global, by: u32, inner: &[Edge]) -> Result<Vec<Edge>, AllocError>
+    ensures { IfOk result (λ edges. edges.items ≡ map (edge_moved by) inner.now) }
+{
+    let mut edges = Vec::with_capacity(alloc, inner.len())?;
+    for edge in inner {
+        edges.push(Edge {
+            sort: edge.sort,
+            port: edge.port,
+            place: moved(&edge.place, by)?,
+        })?;
+    }
+    Ok(edges)
+}
+
+/// The order of two links by sort and paths, each among fronts of its own.
+pub fn compare_joins(fronts: &[Front], a: &Join, others: &[Front], b: &Join) -> Ordering
+    ensures { result ≡ link_cmp (link_at fronts.now a.now) (link_at others.now b.now) }
+{
+    let sorts = sort_number(a.sort).cmp(&sort_number(b.sort));
+    let froms = sorts.then_with(|| compare_places(fronts, &a.from, others, &b.from));
+    froms.then_with(|| compare_places(fronts, &a.to, others, &b.to))
+}
+
+/// The order of two borders by sort, port and path, each among fronts of its own.
+pub fn compare_edges(fronts: &[Front], a: &Edge, others: &[Front], b: &Edge) -> Ordering
+    ensures { result ≡ border_cmp (border_at fronts.now a.now) (border_at others.now b.now) }
+{
+    let sorts = sort_number(a.sort).cmp(&sort_number(b.sort));
+    let ports = sorts.then_with(|| a.port.cmp(&b.port));
+    ports.then_with(|| compare_places(fronts, &a.place, others, &b.place))
+}
+
+/// The blocks in plain.
+pub fn plain_blocks(
+    alloc: Global,
+    fronts: &[Front],
+    leaves: &[Leaf],
+) -> Result<Vec<FlatBlock>, AllocError>
+    ensures { IfOk result (λ blocks. blocks.items ≡ map (block_at fronts.now) leaves.now) }
+{
+    let mut blocks = Vec::with_capacity(alloc, leaves.len())?;
+    for leaf in leaves {
+        blocks.push(FlatBlock {
+            path: path_of(alloc, fronts, &leaf.place)?,
+            type_name: leaf.type_name,
+        })?;
+    }
+    Ok(blocks)
+}
+
+/// The links in plain.
+pub fn plain_links(alloc: Global, fronts: &[Front], joins: &[Join]) -> Result<Vec<Link>, AllocError>
+    ensures { IfOk result (λ links. links.items ≡ map (link_at fronts.now) joins.now) }
+{
+    let mut links = Vec::with_capacity(alloc, joins.len())?;
+    for join in joins {
+        links.push(Link {
+            sort: join.sort,
+            from: path_of(alloc, fronts, &join.from)?,
+            to: path_of(alloc, fronts, &join.to)?,
+        })?;
+    }
+    Ok(links)
+}
+
+/// The borders in plain.
+pub fn plain_borders(
+    alloc: Global,
+    fronts: &[Front],
+    edges: &[Edge],
+) -> Result<Vec<Border>, AllocError>
+    ensures { IfOk result (λ borders. borders.items ≡ map (border_at fronts.now) edges.now) }
+{
+    let mut borders = Vec::with_capacity(alloc, edges.len())?;
+    for edge in edges {
+        borders.push(Border {
+            sort: edge.sort,
+            port: edge.port,
+            place: path_of(alloc, fronts, &edge.place)?,
+        })?;
+    }
+    Ok(borders)
+}

@@ -1,0 +1,28 @@
+//! Entries in order, each once.
+ghost use Rattle.std.specs.Prelude.{OnOk};
+ghost use Rattle.fb_network.specs.Laid.{border_at, link_at};
+ghost use Rattle.fb_network.specs.LinkOrder.{border_cmp, link_cmp};
+ghost use Rattle.fb_network.specs.Once.{IsOnce};
+
+use crate::entries::{Edge, Join, compare_edges, compare_joins};
+use crate::front::Front;
+use std::alloc::AllocError;
+
+/// Sorts links by what they say, and leaves each once.
+pub fn sort_joins(fronts: &[Front], joins: &mut Vec<Join>) -> Result<(), AllocError>
+    ensures { OnOk result (IsOnce (link_at fronts.now) link_cmp joins.old.items joins.new.items) }
+{
+    joins.sort_by(|a, b| compare_joins(fronts, a, fronts, b))?;
+    joins.dedup_by(|a, b| compare_joins(fronts, a, fronts, b).is_eq());
+    Ok(())
+}
+
+/// Sorts borders by what they say, and leaves each once.
+pub fn sort_edges(fronts: &[Front], edges: &mut Vec<Edge>) -> Result<(), AllocError>
+    ensures { OnOk result
+        (IsOnce (border_at fronts.now) border_cmp edges.old.items edges.new.items) }
+{
+    edges.sort_by(|a, b| compare_edges(fronts, a, fronts, b))?;
+    edges.dedup_by(|a, b| compare_edges(fronts, a, fronts, b).is_eq());
+    Ok(())
+}
