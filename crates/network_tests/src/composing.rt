@@ -87,6 +87,47 @@ fn a_system_has_what_its_applications_hold(rt: HostRuntime) -> Result<(), Fail> 
     compare_system(&rt, rt.alloc(), applications.as_slice())
 }
 
+/// The flat network of an application `A`, whose network is a loop.
+fn joined(alloc: Global) -> Result<Flat, Fail> {
+    let mut applications = Vec::new(alloc);
+    add(alloc, &mut applications, "A")?;
+    Ok(join(alloc, &applications)?)
+}
+
+/// A network whose one instance, `A`, is a subapplication of that type.
+fn holder(alloc: Global, type_name: Name) -> Result<Network, Fail> {
+    let instance = Instance {
+        name: Name::read("A")?,
+        kind: InstanceKind::Subapplication,
+        type_name,
+    };
+    let instances = vec![in alloc; instance]?;
+    Ok(Network::new(Vec::new(alloc), instances, Vec::new(alloc)))
+}
+
+/// The flat network of a subapplication `A`, whose network is a loop.
+fn held(alloc: Global) -> Result<Flat, Fail> {
+    let types: BTreeMap<Name, Network> = BTreeMap::new(alloc);
+    let type_name = Name::read("S")?;
+    let mut nets = BTreeMap::new(alloc);
+    nets.insert(type_name, looped(alloc)?)?;
+    let network = holder(alloc, type_name)?;
+    Ok(compose_by_part(alloc, &types, &network, &nets)?)
+}
+
+/// Whether what is joined is what is held, and whether it is the loop alone.
+fn comparisons(alloc: Global) -> Result<[bool; 2], Fail> {
+    let joined = joined(alloc)?;
+    let is_held = joined.is_same(&held(alloc)?);
+    Ok([is_held, joined.is_same(&looped(alloc)?)])
+}
+
+#[test]
+fn flat_networks_are_told_by_what_they_say(rt: HostRuntime) -> Result<(), Fail> {
+    assert_eq!(rt; comparisons(rt.alloc())?, [true, false]);
+    Ok(())
+}
+
 #[test]
 fn a_network_of_nothing_is_flat(rt: HostRuntime) -> Result<(), Fail> {
     let alloc = rt.alloc();

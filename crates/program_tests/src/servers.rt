@@ -257,14 +257,14 @@ fn a_session_fails_alone(rt: HostRuntime) -> Result<(), Fail> {
     let line = long_line(rt.alloc())?;
     let play = Play {
         workers: 1,
-        sessions: 2,
+        sessions: 3,
         good_writes: ALWAYS,
-        texts: &[line.as_str(), FIRST],
+        texts: &[FIRST, line.as_str(), SECOND],
     };
     let wanted = Wanted {
-        told: FIRST_TOLD,
+        told: BOTH_TOLD,
         printed: "closed\n",
-        errors: "session 1: line too long\n",
+        errors: "session 2: line too long\n",
         status: 0,
     };
     compare(&rt, rt.alloc(), &play, &wanted)
