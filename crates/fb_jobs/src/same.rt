@@ -10,7 +10,7 @@ use crate::value::Value;
 use fb_deploy::flatten::Net;
 use fb_deploy::library::Version;
 use fb_deploy::placing::Misplaced;
-use fb_deploy::{Deploy, ResourcePlan};
+use fb_deploy::Deploy;
 use fb_text::{Name, same_name};
 use std::sync::Arc;
 
@@ -64,42 +64,13 @@ fn are_same_misplaced(a: &[Misplaced], b: &[Misplaced]) -> bool
     true
 }
 
-fn is_same_resource(a: &ResourcePlan, b: &ResourcePlan) -> bool
-    ensures { IsTrue result ↔ (a.now ≡ b.now) }
-{
-    a.name() == b.name() && are_equal(a.commands(), b.commands())
-}
-
-fn are_same_resources(a: &[ResourcePlan], b: &[ResourcePlan]) -> bool
-    ensures { IsTrue result ↔ (a.now ≡ b.now) }
-{
-    if a.len() != b.len() {
-        return false;
-    }
-    for place in 0..a.len() {
-        if !is_same_resource(&a[place], &b[place]) {
-            return false;
-        }
-    }
-    true
-}
-
 fn is_same_deploy(a: &Deploy, b: &Deploy) -> bool
     ensures { IsTrue result ↔ (plain_deploy a.now ≡ plain_deploy b.now) }
 {
     match (a, b) {
         (Deploy::Stopped(a), Deploy::Stopped(b)) => is_same_net(a, b),
         (Deploy::Faulty(a), Deploy::Faulty(b)) => are_same_misplaced(a, b),
-        (
-            Deploy::Plan {
-                cuts: a,
-                resources: of_a,
-            },
-            Deploy::Plan {
-                cuts: b,
-                resources: of_b,
-            },
-        ) => are_equal(a, b) && are_same_resources(of_a, of_b),
+        (Deploy::Plan(a), Deploy::Plan(b)) => a.is_same(b),
         _ => false,
     }
 }

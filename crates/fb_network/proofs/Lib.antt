@@ -21,3 +21,4 @@ pub mod Behinds
 pub mod PortMembers
 pub mod Connections
 pub mod Alike
+pub mod Numbers

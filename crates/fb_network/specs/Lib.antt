@@ -20,6 +20,7 @@ pub mod Part
 pub mod SystemFlat
 pub mod PlainFront
 pub mod Laid
+pub mod Numbered
 pub mod Reading
 pub mod Once
 pub mod Standing

@@ -59,5 +59,5 @@ pub fn compose_by_part<V: Networks, N: Nets>(
     let table = take_instances(alloc, &mut draft, nets, network.instances())?;
     push_links(alloc, &mut draft, part, network, &table)?;
     let edges = borders_of_network(alloc, network, &table)?;
-    finish(draft, edges)
+    finish(alloc, draft, edges)
 }

@@ -21,6 +21,7 @@ mod links;
 mod look_up;
 mod members;
 mod network;
+mod numbered;
 mod order;
 mod own;
 mod pairs;
@@ -32,6 +33,7 @@ mod system;
 mod table;
 
 pub use application::FlatApplication;
+pub use compare::compare_parts;
 pub use count::INSTANCE_LIMIT;
 pub use flat::{Border, Flat, FlatBlock, Link};
 pub use flat_network::{compose, compose_by_part};

@@ -13,4 +13,3 @@ pub mod HomesLocal
 pub mod LineLemmas
 pub mod LinesLocal
 pub mod StepLemmas
-pub mod GroupLemmas

@@ -10,10 +10,14 @@ pub mod Cuts
 pub mod Laws
 pub mod Written
 pub mod Lines
+pub mod Order
 pub mod Orders
 pub mod PlainResource
 pub mod Resources
-pub mod Groups
+pub mod Parts
+pub mod Creates
+pub mod PlainPlan
+pub mod Items
 pub mod Commands
 -- Of the crates below, for the crates above.
 pub use Rattle.fb_tree.specs as Tree

@@ -1,6 +1,6 @@
 //! Texts of units in, and what is made of them out, as phrases with `; ` between.
 use fb_deploy::parse::Source;
-use fb_deploy::{Deploy, ResourcePlan, plan};
+use fb_deploy::{Deploy, Plan, ResourcePlan, plan};
 use fb_flatten::{Net, has_net, net};
 use fb_library::{Change, Library, tree_by_name};
 use fb_mapping::{Home, Misplaced, Placed, is_system, place};
@@ -247,13 +247,24 @@ fn say_commands(told: &mut String, resource: &ResourcePlan) -> Result<(), AllocE
     Ok(())
 }
 
-/// Cut links, and the commands of each resource.
-fn commands_told(alloc: Global, cuts: &[Link], resources: &[ResourcePlan]) -> Result<String, Fail> {
-    let mut told = String::new(alloc);
-    say_links(&mut told, cuts)?;
+fn say_resources(told: &mut String, resources: &[ResourcePlan]) -> Result<(), AllocError> {
     for resource in resources {
-        say_commands(&mut told, resource)?;
+        say_commands(told, resource)?;
     }
+    Ok(())
+}
+
+fn say_cuts(alloc: Global, told: &mut String, plan: &Plan) -> Result<(), AllocError> {
+    let cuts = plan.plain_cuts(alloc)?;
+    say_links(told, &cuts)
+}
+
+/// Cut links, and the commands of each resource.
+fn commands_told(alloc: Global, plan: &Plan) -> Result<String, Fail> {
+    let mut told = String::new(alloc);
+    say_cuts(alloc, &mut told, plan)?;
+    let resources = plan.plain_resources(alloc)?;
+    say_resources(&mut told, &resources)?;
     Ok(told)
 }
 
@@ -261,9 +272,7 @@ pub fn deploy_told(alloc: Global, deploy: &Deploy) -> Result<String, Fail> {
     match deploy {
         Deploy::Stopped(net) => net_told(alloc, net),
         Deploy::Faulty(found) => misplaced_told(alloc, found.as_slice()),
-        Deploy::Plan { cuts, resources } => {
-            commands_told(alloc, cuts.as_slice(), resources.as_slice())
-        }
+        Deploy::Plan(plan) => commands_told(alloc, plan),
     }
 }
 

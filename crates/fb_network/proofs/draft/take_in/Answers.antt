@@ -15,7 +15,7 @@ returns c =
     let by = c.in_ok-before.before in
     IfOk-weaker c.edges_moved.result _ _
     (λ edges is.
-    taken_in draft _ c.args.name.now c.args.inner.now edges.items by c.inner.inside.fronts.items c.inner.inside.leaves.items c.inner.inside.joins.items c.inner.inside.edges.items
+    taken_in draft _ c.args.name.now c.args.inner.now edges.items by c.inner.inside.tables.value.fronts.items c.inner.inside.tables.value.leaves.items c.inner.inside.tables.value.joins.items c.inner.inside.tables.value.edges.items
     (c.in_ok-before.ensures ∙ ap length c.deref.ensures.value)
     (c.in_ok-push_fronts_within.ensures ∙ ap (λ (fs : List PlainFront). draft.fronts.items ++ map (front_within c.args.name.now) fs) c.deref-2.ensures.value)
     (c.in_ok-push_leaves_moved.ensures ∙ ap (λ (ls : List Leaf). draft.leaves.items ++ map (leaf_moved by) ls) c.deref-3.ensures.value)
