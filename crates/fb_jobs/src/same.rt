@@ -7,10 +7,10 @@ ghost use Rattle.fb_jobs.specs.Texts.{text_of};
 ghost use Rattle.fb_jobs.specs.Values.{finding_of};
 
 use crate::value::Value;
+use fb_deploy::Deploy;
 use fb_deploy::flatten::Net;
 use fb_deploy::library::Version;
 use fb_deploy::placing::Misplaced;
-use fb_deploy::Deploy;
 use fb_text::{Name, same_name};
 use std::sync::Arc;
 

@@ -13,3 +13,6 @@ pub mod HomesLocal
 pub mod LineLemmas
 pub mod LinesLocal
 pub mod StepLemmas
+pub mod PartLemmas
+pub mod CreateLemmas
+pub mod ItemLemmas

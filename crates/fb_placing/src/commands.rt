@@ -66,11 +66,7 @@ fn count_for(orders: &[Numbered<'_>], name: &Path) -> usize {
 }
 
 /// The commands for a resource, in their order.
-fn items_for(
-    alloc: Global,
-    orders: &[Numbered<'_>],
-    name: &Path,
-) -> Result<Vec<Item>, AllocError>
+fn items_for(alloc: Global, orders: &[Numbered<'_>], name: &Path) -> Result<Vec<Item>, AllocError>
     ensures { IfOk result (λ items. items.items
         ≡ map (λ o. o.item) (filter (λ o. bytes_eq name.now o.resource.now) orders.now)) }
 {

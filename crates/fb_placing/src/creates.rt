@@ -92,6 +92,7 @@ fn compare_types(flat: &Flat, a: u32, b: u32) -> Ordering
 }
 
 /// The order of the commands that make two blocks.
+#[tactic(auto, using(crate::proofs::CreateLemmas::by_types))]
 fn compare_created(flat: &Flat, a: &Created<'_>, b: &Created<'_>) -> Ordering
     ensures { result ≡ line_cmp (created_line flat.now a.now) (created_line flat.now b.now) }
 {

@@ -68,20 +68,21 @@ fn is_same_item(
 /// The same commands of a resource.
 fn are_same_items(
     it: &Subject<'_>,
-    a: &ResourceItems,
+    name: &Path,
+    a: &[Item],
     other: &Subject<'_>,
-    b: &ResourceItems,
+    other_name: &Path,
+    b: &[Item],
 ) -> bool
     ensures { IsTrue result
-        ↔ (items_text it.now.flat.now it.now.writes.now a.now.name a.now.items.items
-        ≡ items_text other.now.flat.now other.now.writes.now b.now.name b.now.items.items) }
+        ↔ (items_text it.now.flat.now it.now.writes.now name.now a.now
+        ≡ items_text other.now.flat.now other.now.writes.now other_name.now b.now) }
 {
-    let (items, others) = (a.items.as_slice(), b.items.as_slice());
-    if items.len() != others.len() {
+    if a.len() != b.len() {
         return false;
     }
-    for place in 0..items.len() {
-        if !is_same_item(it, &a.name, items[place], other, &b.name, others[place]) {
+    for place in 0..a.len() {
+        if !is_same_item(it, name, a[place], other, other_name, b[place]) {
             return false;
         }
     }
@@ -99,7 +100,7 @@ fn is_same_resource(
         ↔ (plain_resource it.now.flat.now it.now.writes.now a.now
         ≡ plain_resource other.now.flat.now other.now.writes.now b.now) }
 {
-    a.name == b.name && are_same_items(it, a, other, b)
+    a.name == b.name && are_same_items(it, &a.name, &a.items, other, &b.name, &b.items)
 }
 
 /// The same resources with the same commands.
