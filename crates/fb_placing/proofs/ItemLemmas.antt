@@ -1,5 +1,5 @@
 -- The commands of resources, by items.
-use Rattle.std.proofs.Common.{ℕ, ◌≡◌, ◌<◌, Bool, true, false, cond, List, [], ◌∷◌, length, get_or, map, refl, sym, ap, ◌∙◌}
+use Rattle.std.proofs.Common.{ℕ, ◌≡◌, ◌<◌, Bool, true, false, cond, List, [], ◌∷◌, ◌++◌, length, get_or, map, refl, sym, ap, ◌∙◌, append_assoc}
 use Rattle.std.specs.Prelude.{filter, slice_get}
 use Rattle.std.specs.Cmp.Lexicographic.{same_text}
 use Rattle.std.specs.Str.{bytes_eq}
@@ -8,7 +8,9 @@ use Rattle.std.specs.Option.{option_map}
 use Rattle.fb_network.specs.Laid.{text_or_nothing}
 use Rattle.fb_network.specs.PlainFlat.{PlainFlat}
 use Rattle.fb_placing.specs.Items.{item_text, items_text, plain_order}
-use Rattle.fb_placing.specs.Resources.{commands_for}
+use Rattle.fb_placing.specs.PlainResource.{PlainResource}
+use Rattle.fb_placing.specs.Resources.{commands_for, resource_plan}
+use Rattle.fb_placing.specs.declared.items.Item.{Item}
 use Rattle.fb_placing.specs.declared.lines.Line.{Line}
 use Rattle.fb_placing.specs.declared.orders.Numbered.{Numbered}
 
@@ -27,3 +29,17 @@ items_said flat writes name (o ∷ os) = by_test (bytes_eq name o.resource.now) 
 pub write_there : (lines : List Line) (i : ℕ) (x : Line) → i < length lines → x ≡ get_or lines i x → text_or_nothing (slice_get (map (λ l. l.command) lines) i) ≡ x.command
 write_there lines i x lt e =
     ap text_or_nothing (slice_get-map (λ (l : Line). l.command) lines i ∙ ap (option_map (λ (l : Line). l.command)) (slice_get_read lines (length lines) i x refl lt e))
+
+-- a resource with the items that are for it
+pub resource_said : (flat : PlainFlat) (writes : List (List ℕ)) (name copy : List ℕ) (items : List Item) (orders : List Numbered) → copy ≡ name → items ≡ map (λ o. o.item) (filter (λ o. bytes_eq name o.resource.now) orders) → (let r : PlainResource = record { name = copy; commands = items_text flat writes copy items } in r) ≡ resource_plan (map (plain_order flat writes) orders) name
+resource_said flat writes name copy items orders same are =
+    (λ i. record { name = same i; commands = items_text flat writes (same i) items })
+    ∙ ap (λ (commands : List (List ℕ)). (let r : PlainResource = record { name = name; commands = commands } in r)) (ap (items_text flat writes name) are ∙ items_said flat writes name orders)
+
+-- four lists, each behind those before it
+pub four_behind : {X : Type 0} (n0 n1 n2 n3 n4 ks bs cs ds : List X) → n0 ≡ [] → n1 ≡ n0 ++ ks → n2 ≡ n1 ++ bs → n3 ≡ n2 ++ cs → n4 ≡ n3 ++ ds → n4 ≡ ks ++ bs ++ cs ++ ds
+four_behind {X = X} n0 n1 n2 n3 n4 ks bs cs ds none a b c d =
+    let one : n1 ≡ ks = a ∙ ap (λ (l : List X). l ++ ks) none in
+    let two : n2 ≡ ks ++ bs = b ∙ ap (λ (l : List X). l ++ bs) one in
+    let three : n3 ≡ ks ++ bs ++ cs = c ∙ ap (λ (l : List X). l ++ cs) two ∙ append_assoc ks bs cs in
+    d ∙ ap (λ (l : List X). l ++ ds) three ∙ append_assoc ks (bs ++ cs) ds ∙ ap (λ (l : List X). ks ++ l) (append_assoc bs cs ds)

@@ -54,28 +54,18 @@ fn orders_of<'a>(
     Ok(orders)
 }
 
-/// How many commands are for the resource.
-fn count_for(orders: &[Numbered<'_>], name: &Path) -> usize {
-    let mut count = 0_usize;
-    for order in orders {
-        if name.as_str() == order.resource.as_str() {
-            count = count.saturating_add(1);
-        }
-    }
-    count
-}
-
 /// The commands for a resource, in their order.
 fn items_for(alloc: Global, orders: &[Numbered<'_>], name: &Path) -> Result<Vec<Item>, AllocError>
     ensures { IfOk result (λ items. items.items
         ≡ map (λ o. o.item) (filter (λ o. bytes_eq name.now o.resource.now) orders.now)) }
 {
-    let mut items = Vec::with_capacity(alloc, count_for(orders, name))?;
+    let mut items = Vec::new(alloc);
     for order in orders {
         if name.as_str() == order.resource.as_str() {
             items.push(order.item)?;
         }
     }
+    items.shrink_to_fit();
     Ok(items)
 }
 

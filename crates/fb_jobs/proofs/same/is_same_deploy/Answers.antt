@@ -1,5 +1,6 @@
-use Rattle.fb_network.proofs.Alike.{one_link}
+-- Plans are told by what they say.
+use Rattle.fb_jobs.proofs.Alike.{told_of_plans}
 use Rattle.fb_jobs.proofs.same.is_same_deploy.Goals as goal
 
-pub are_equal-requires : goal.are_equal-requires
-are_equal-requires c = one_link
+pub returns-in-Plan-Plan : goal.returns-in-Plan-Plan
+returns-in-Plan-Plan c = told_of_plans c.is_same.result c.in-Plan-Plan.a.now c.in-Plan-Plan.b.now c.is_same.ensures

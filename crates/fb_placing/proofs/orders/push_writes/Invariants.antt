@@ -8,5 +8,5 @@ use Rattle.fb_placing.proofs.orders.push_writes.Given as goal
 abbrev pub invariant-loop-i : goal.invariant-loop-i
 invariant-loop-i l =
     (flat : PlainFlat)
-    → map (plain_order flat (map (λ l. l.command) l.lines)) l.orders.items
-    ≡ map (plain_order flat (map (λ l. l.command) l.lines)) l.fn.orders.items ++ map line_order (take l.i l.lines)
+    → map (plain_order flat (map (λ line. line.command) l.lines)) l.orders.items
+    ≡ map (plain_order flat (map (λ line. line.command) l.lines)) l.fn.orders.items ++ map line_order (take l.i l.lines)
