@@ -16,3 +16,4 @@ pub mod StepLemmas
 pub mod PartLemmas
 pub mod CreateLemmas
 pub mod ItemLemmas
+pub mod ResourceLemmas

@@ -1,12 +1,15 @@
 //! Whether two plans say the same. It takes no memory.
-ghost use Rattle.std.specs.Prelude.{◌≡◌, ◌↔◌, ◌++◌, IsTrue, map};
+ghost use Rattle.std.specs.Prelude.{◌≡◌, ◌↔◌, IsTrue, map};
+ghost use Rattle.fb_tree.specs.Text.Order.{name_cmp};
+ghost use Rattle.fb_network.specs.LinkOrder.{link_cmp};
 ghost use Rattle.fb_network.specs.Numbered.{link_numbered};
 ghost use Rattle.fb_placing.specs.Items.{item_text, items_text, plain_resource};
 
 use crate::command::Command;
 use crate::items::{Item, ResourceItems, parts_of};
 use crate::parts::is_same_text;
-use fb_network::{Flat, Path, compare_parts, is_same_sort};
+use fb_network::{Flat, Path, compare_parts, sort_number};
+use std::cmp::Ordering;
 
 /// A flat network and the commands that set parameters, which the numbers of items are about.
 #[derive(Clone, Copy)]
@@ -15,20 +18,39 @@ pub(crate) struct Subject<'a> {
     pub writes: &'a [Command],
 }
 
-/// The same text in two parts each.
-fn is_same_path(a: (&str, &str), b: (&str, &str)) -> bool
-    ensures { IsTrue result ↔ (a.0.now ++ a.1.now ≡ b.0.now ++ b.1.now) }
+/// The order of the paths where two links begin, each of a flat network of its own.
+fn compare_froms(flat: &Flat, a: u32, other: &Flat, b: u32) -> Ordering
+    ensures { result
+        ≡ name_cmp (link_numbered flat.now a).from (link_numbered other.now b).from }
 {
-    compare_parts(a.0, a.1, b.0, b.1).is_eq()
+    let (start, end) = flat.link_from(a);
+    let (other_start, other_end) = other.link_from(b);
+    compare_parts(start, end, other_start, other_end)
+}
+
+/// The order of the paths where two links end, each of a flat network of its own.
+fn compare_tos(flat: &Flat, a: u32, other: &Flat, b: u32) -> Ordering
+    ensures { result ≡ name_cmp (link_numbered flat.now a).to (link_numbered other.now b).to }
+{
+    let (start, end) = flat.link_to(a);
+    let (other_start, other_end) = other.link_to(b);
+    compare_parts(start, end, other_start, other_end)
+}
+
+/// The order of two links, each of a flat network of its own.
+fn compare_links(flat: &Flat, a: u32, other: &Flat, b: u32) -> Ordering
+    ensures { result ≡ link_cmp (link_numbered flat.now a) (link_numbered other.now b) }
+{
+    let sorts = sort_number(flat.link_sort(a)).cmp(&sort_number(other.link_sort(b)));
+    let froms = sorts.then_with(|| compare_froms(flat, a, other, b));
+    froms.then_with(|| compare_tos(flat, a, other, b))
 }
 
 /// The same link, each of a flat network of its own.
 fn is_same_link(flat: &Flat, a: u32, other: &Flat, b: u32) -> bool
     ensures { IsTrue result ↔ (link_numbered flat.now a ≡ link_numbered other.now b) }
 {
-    is_same_sort(flat.link_sort(a), other.link_sort(b))
-        && is_same_path(flat.link_from(a), other.link_from(b))
-        && is_same_path(flat.link_to(a), other.link_to(b))
+    compare_links(flat, a, other, b).is_eq()
 }
 
 /// The same links, each list of a flat network of its own.

@@ -276,6 +276,26 @@ pub fn deploy_told(alloc: Global, deploy: &Deploy) -> Result<String, Fail> {
     }
 }
 
+/// The plan of a system, if it has one.
+pub fn plan_in(alloc: Global, library: &Library, system: &str) -> Result<Option<Plan>, Fail> {
+    let name = Name::read(system)?;
+    if !is_system(library, &name) {
+        return Ok(None);
+    }
+    match plan(alloc, library, name)? {
+        Deploy::Plan(plan) => Ok(Some(plan)),
+        Deploy::Stopped(_) | Deploy::Faulty(_) => Ok(None),
+    }
+}
+
+/// Whether two plans say the same.
+pub fn plans_told(a: &Option<Plan>, b: &Option<Plan>) -> &'static str {
+    match (a, b) {
+        (Some(a), Some(b)) => { if a.is_same(b) { "same" } else { "different" } }
+        _ => "no plans",
+    }
+}
+
 /// The plan of a system.
 pub fn plan_told(alloc: Global, library: &Library, system: &str) -> Result<String, Fail> {
     let name = Name::read(system)?;
