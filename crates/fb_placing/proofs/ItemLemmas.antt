@@ -1,5 +1,5 @@
 -- The commands of resources, by items.
-use Rattle.std.proofs.Common.{ℕ, ◌≡◌, ◌<◌, Bool, true, false, cond, List, [], ◌∷◌, ◌++◌, length, get_or, map, refl, sym, ap, ◌∙◌, append_assoc}
+use Rattle.std.proofs.Common.{ℕ, ◌≡◌, ◌<◌, Bool, true, false, cond, List, [], ◌∷◌, ◌++◌, length, get_or, map, refl, sym, ap, ◌∙◌}
 use Rattle.std.specs.Prelude.{filter, slice_get}
 use Rattle.std.specs.Cmp.Lexicographic.{same_text}
 use Rattle.std.specs.Str.{bytes_eq}
@@ -19,6 +19,7 @@ pub items_said : (flat : PlainFlat) (writes : List (List ℕ)) (name : List ℕ)
 items_said flat writes name [] = refl
 items_said flat writes name (o ∷ os) = by_test (bytes_eq name o.resource.now) refl (items_said flat writes name os)
   where
+    rest : List Numbered
     rest = filter (λ (n : Numbered). bytes_eq name n.resource.now) os
 
     by_test : (b : Bool) → bytes_eq name o.resource.now ≡ b → items_text flat writes name (map (λ (n : Numbered). n.item) rest) ≡ commands_for (map (plain_order flat writes) os) name → items_text flat writes name (map (λ (n : Numbered). n.item) (cond b (o ∷ rest) rest)) ≡ map (λ n. n.command) (cond b (plain_order flat writes o ∷ filter (λ n. bytes_eq name n.resource) (map (plain_order flat writes) os)) (filter (λ n. bytes_eq name n.resource) (map (plain_order flat writes) os)))
@@ -41,5 +42,5 @@ pub four_behind : {X : Type 0} (n0 n1 n2 n3 n4 ks bs cs ds : List X) → n0 ≡ 
 four_behind {X = X} n0 n1 n2 n3 n4 ks bs cs ds none a b c d =
     let one : n1 ≡ ks = a ∙ ap (λ (l : List X). l ++ ks) none in
     let two : n2 ≡ ks ++ bs = b ∙ ap (λ (l : List X). l ++ bs) one in
-    let three : n3 ≡ ks ++ bs ++ cs = c ∙ ap (λ (l : List X). l ++ cs) two ∙ append_assoc ks bs cs in
-    d ∙ ap (λ (l : List X). l ++ ds) three ∙ append_assoc ks (bs ++ cs) ds ∙ ap (λ (l : List X). ks ++ l) (append_assoc bs cs ds)
+    let three : n3 ≡ ks ++ bs ++ cs = c ∙ ap (λ (l : List X). l ++ cs) two in
+    d ∙ ap (λ (l : List X). l ++ ds) three

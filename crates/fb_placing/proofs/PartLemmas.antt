@@ -1,5 +1,5 @@
 -- Texts in parts, byte by byte.
-use Rattle.std.proofs.Common.{ℕ, zero, suc, ◌≡◌, Bool, true, false, ◌<◌, ◌≤◌, ◌+◌, List, [], ◌∷◌, ◌++◌, Some, None, length, get_or, take, drop, refl, sym, ap, ◌∙◌, arith, add-one, append-nil, append_assoc, ◌↔◌, IsTrue}
+use Rattle.std.proofs.Common.{ℕ, zero, suc, ◌≡◌, Bool, true, false, ◌<◌, ◌≤◌, ◌+◌, List, [], ◌∷◌, ◌++◌, Some, None, length, get_or, take, drop, refl, sym, ap, ◌∙◌, arith, add-one, append-nil, ◌↔◌, IsTrue}
 use Rattle.std.specs.Prelude.{not, slice_get}
 use Rattle.std.specs.Str.{bytes_eq}
 use Rattle.std.specs.Cmp.Lexicographic.{same_text}
@@ -74,20 +74,3 @@ same_unless xs ys b e f = by_test (bytes_eq xs ys) refl
 -- what is told of two texts
 pub told_same : (told : Bool) (x x' y y' : List ℕ) → x ≡ x' → y ≡ y' → IsTrue told ↔ (x ≡ y) → IsTrue told ↔ (x' ≡ y')
 told_same told x x' y y' p q same = (λ t. sym p ∙ same.0 t ∙ q, λ e. same.1 (p ∙ e ∙ sym q))
-
--- ---- the parts of commands
-
--- a word and a path in two parts, and a text behind a blank
-pub block_parts : (word start end path text : List ℕ) → start ++ end ≡ path → word ++ (start ++ (end ++ (32 ∷ (text ++ [])))) ≡ word ++ path ++ 32 ∷ text
-block_parts word start end path text is =
-    ap (λ (t : List ℕ). word ++ (start ++ (end ++ (32 ∷ t)))) (append-nil text)
-    ∙ ap (λ (t : List ℕ). word ++ t) (sym (append_assoc start end (32 ∷ text)))
-    ∙ ap (λ (t : List ℕ). word ++ (t ++ 32 ∷ text)) is
-
--- a word and two paths in two parts, with a blank between
-pub link_parts : (word start end from start' end' to : List ℕ) → start ++ end ≡ from → start' ++ end' ≡ to → word ++ (start ++ (end ++ (32 ∷ (start' ++ (end' ++ []))))) ≡ word ++ from ++ 32 ∷ to
-link_parts word start end from start' end' to is is' =
-    ap (λ (t : List ℕ). word ++ (start ++ (end ++ (32 ∷ (start' ++ t))))) (append-nil end')
-    ∙ ap (λ (t : List ℕ). word ++ (start ++ (end ++ (32 ∷ t)))) is'
-    ∙ ap (λ (t : List ℕ). word ++ t) (sym (append_assoc start end (32 ∷ to)))
-    ∙ ap (λ (t : List ℕ). word ++ (t ++ 32 ∷ to)) is

@@ -156,10 +156,5 @@ pub fn plan_of<V: View>(
     let resources = resources_with_items(alloc, &table, &lines, &names, flat, &mut cuts)?;
     let writes = commands_of_lines(alloc, lines)?;
     let flat = flat.share()?;
-    Ok(Plan {
-        flat,
-        writes,
-        cuts,
-        resources,
-    })
+    Ok(Plan::new(flat, writes, cuts, resources))
 }

@@ -2,6 +2,7 @@
 ghost use Rattle.std.specs.Prelude.{◌≡◌, [], ◌++◌, IfOk, OnOk, List, ℕ, map, option_copied};
 ghost use Rattle.std.specs.HashMap.{get_by_text};
 ghost use Rattle.std.specs.List.{cons_option, filter_map};
+ghost use Rattle.std.specs.Ordering.{ordering_then};
 ghost use Rattle.fb_tree.specs.Text.Order.{in_order, name_cmp};
 ghost use Rattle.fb_network.specs.Numbered.{block_numbered};
 ghost use Rattle.fb_network.specs.Once.{IsOnce};
@@ -91,14 +92,26 @@ fn compare_types(flat: &Flat, a: u32, b: u32) -> Ordering
     flat.block_type(a).cmp(flat.block_type(b))
 }
 
-/// The order of the commands that make two blocks.
-#[tactic(auto, using(crate::proofs::CreateLemmas::by_types))]
-fn compare_created(flat: &Flat, a: &Created<'_>, b: &Created<'_>) -> Ordering
-    ensures { result ≡ line_cmp (created_line flat.now a.now) (created_line flat.now b.now) }
+/// The order of the paths of two blocks, of the names of their types, and of their resources.
+fn compare_each(flat: &Flat, a: &Created<'_>, b: &Created<'_>) -> Ordering
+    ensures { result ≡ ordering_then
+        (ordering_then
+        (name_cmp (block_numbered flat.now a.now.block).path
+        (block_numbered flat.now b.now.block).path)
+        (name_cmp (block_numbered flat.now a.now.block).type_name
+        (block_numbered flat.now b.now.block).type_name))
+        (name_cmp a.now.resource.now b.now.resource.now) }
 {
     let paths = compare_paths(flat, a.block, b.block);
     let types = paths.then_with(|| compare_types(flat, a.block, b.block));
     types.then_with(|| a.resource.cmp(b.resource))
+}
+
+/// The order of the commands that make two blocks.
+fn compare_created(flat: &Flat, a: &Created<'_>, b: &Created<'_>) -> Ordering
+    ensures { result ≡ line_cmp (created_line flat.now a.now) (created_line flat.now b.now) }
+{
+    compare_each(flat, a, b)
 }
 
 /// Sorts blocks by their commands, and leaves each once.

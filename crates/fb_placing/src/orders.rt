@@ -4,13 +4,14 @@ ghost use Rattle.std.specs.HashMap.{get_by_text};
 ghost use Rattle.std.specs.List.{cons_option};
 ghost use Rattle.fb_network.specs.Numbered.{link_numbered};
 ghost use Rattle.fb_network.specs.PlainFlat.{PlainFlat};
+ghost use Rattle.fb_placing.specs.Creates.{created_line};
 ghost use Rattle.fb_placing.specs.Cuts.{cuts_of};
 ghost use Rattle.fb_placing.specs.Fronts.{nearest};
 ghost use Rattle.fb_placing.specs.Items.{plain_order};
 ghost use Rattle.fb_placing.specs.Lines.{create_lines};
 ghost use Rattle.fb_placing.specs.Orders.{connection_orders, line_order, order_on, start_order};
 
-use crate::creates::created_in_order;
+use crate::creates::{Created, created_in_order};
 use crate::cuts::same_home;
 use crate::fronts::{PathTable, nearest};
 use crate::items::Item;
@@ -27,6 +28,25 @@ pub(crate) struct Numbered<'a> {
     pub item: Item,
 }
 
+/// Adds the commands that make these blocks.
+fn push_created<'a>(
+    created: &[Created<'a>],
+    orders: &mut Vec<Numbered<'a>>,
+) -> Result<(), AllocError>
+    ensures { OnOk result ((flat : PlainFlat) (writes : List (List ℕ))
+        → map (plain_order flat writes) orders.new.items
+        ≡ map (plain_order flat writes) orders.old.items
+        ++ map line_order (map (created_line flat) created.now)) }
+{
+    for it in created {
+        orders.push(Numbered {
+            resource: it.resource,
+            item: Item::Create(it.block),
+        })?;
+    }
+    Ok(())
+}
+
 /// Adds the commands that make blocks, by the bytes of their paths.
 pub(crate) fn push_creates<'a>(
     alloc: Global,
@@ -40,14 +60,7 @@ pub(crate) fn push_creates<'a>(
         ++ map line_order (create_lines (get_by_text homes.now) flat.now.blocks)) }
 {
     let created = created_in_order(alloc, homes, flat)?;
-    orders.reserve(created.len())?;
-    for it in &created {
-        orders.push(Numbered {
-            resource: it.resource,
-            item: Item::Create(it.block),
-        })?;
-    }
-    Ok(())
+    push_created(&created, orders)
 }
 
 /// Adds the commands of lines that set parameters.

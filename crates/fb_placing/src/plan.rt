@@ -1,5 +1,6 @@
 //! Plans: a flat network, and the commands of each resource by numbers.
 ghost use Rattle.std.specs.Prelude.{◌≡◌, ◌↔◌, IfOk, IsTrue};
+ghost use Rattle.fb_placing.specs.Items.{plain_plan};
 
 use crate::command::Command;
 use crate::items::{ResourceItems, plain_links, plain_resources};
@@ -13,10 +14,10 @@ use std::marker::Model;
 /// links of the flat network, with which the plan shares its tables.
 #[derive(Debug, Drop)]
 pub struct Plan {
-    pub(crate) flat: Flat,
-    pub(crate) writes: Vec<Command>,
-    pub(crate) cuts: Vec<u32>,
-    pub(crate) resources: Vec<ResourceItems>,
+    flat: Flat,
+    writes: Vec<Command>,
+    cuts: Vec<u32>,
+    resources: Vec<ResourceItems>,
 }
 
 impl Model for Plan {
@@ -29,6 +30,23 @@ impl Model for Plan {
 }
 
 impl Plan {
+    /// The plan of this flat network, with these commands that set parameters, and these numbers.
+    pub(crate) fn new(
+        flat: Flat,
+        writes: Vec<Command>,
+        cuts: Vec<u32>,
+        resources: Vec<ResourceItems>,
+    ) -> Plan
+        ensures { result ≡ plain_plan flat writes.items cuts.items resources.items }
+    {
+        Plan {
+            flat,
+            writes,
+            cuts,
+            resources,
+        }
+    }
+
     /// Where its lists are allocated.
     pub fn allocator(&self) -> Global {
         *self.cuts.allocator()
