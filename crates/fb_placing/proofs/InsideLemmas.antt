@@ -25,7 +25,7 @@ last_before {X = X} (x ∷ xs) ys none = ap (λ (o : Option X). option_or o x) (
 
 nothing_there : {X : Type 0} (at : List ℕ → Option X) (path : List ℕ) → ((inner : List ℕ) → at (path ++ 46 ∷ inner) ≡ None) → (fs : List (List ℕ)) → last_there (map at (map (λ (front : List ℕ). path ++ 46 ∷ front) fs)) ≡ None
 nothing_there at path none [] = refl
-nothing_there {X = X} at path none (f ∷ fs) = λ i. option_or {X = X} (nothing_there at path none fs i) (none f i)
+nothing_there at path none (f ∷ fs) = λ i. option_or (nothing_there at path none fs i) (none f i)
 
 -- where nothing stands inside a path for anything, all that is inside is nearest to what the path is
 pub nearest_inside : {X : Type 0} (at : List ℕ → Option X) (path inner : List ℕ) → ((rest : List ℕ) → at (path ++ 46 ∷ rest) ≡ None) → nearest at (path ++ 46 ∷ inner) ≡ nearest at path

@@ -17,3 +17,4 @@ pub mod PartLemmas
 pub mod CreateLemmas
 pub mod ItemLemmas
 pub mod ResourceLemmas
+pub mod InsideLemmas

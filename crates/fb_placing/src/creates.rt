@@ -84,12 +84,11 @@ fn compare_paths(flat: &Flat, a: u32, b: u32) -> Ordering
     compare_parts(start, end, other_start, other_end)
 }
 
-/// The order of the names of the types of two blocks.
-fn compare_types(flat: &Flat, a: u32, b: u32) -> Ordering
-    ensures { result
-        ≡ name_cmp (block_numbered flat.now a).type_name (block_numbered flat.now b).type_name }
+/// An order, or else that of two texts.
+fn or_of_texts(first: Ordering, a: &str, b: &str) -> Ordering
+    ensures { result ≡ ordering_then first (name_cmp a.now b.now) }
 {
-    flat.block_type(a).cmp(flat.block_type(b))
+    first.then_with(|| a.cmp(b))
 }
 
 /// The order of the paths of two blocks, of the names of their types, and of their resources.
@@ -103,8 +102,8 @@ fn compare_each(flat: &Flat, a: &Created<'_>, b: &Created<'_>) -> Ordering
         (name_cmp a.now.resource.now b.now.resource.now) }
 {
     let paths = compare_paths(flat, a.block, b.block);
-    let types = paths.then_with(|| compare_types(flat, a.block, b.block));
-    types.then_with(|| a.resource.cmp(b.resource))
+    let types = or_of_texts(paths, flat.block_type(a.block), flat.block_type(b.block));
+    or_of_texts(types, a.resource.as_str(), b.resource.as_str())
 }
 
 /// The order of the commands that make two blocks.

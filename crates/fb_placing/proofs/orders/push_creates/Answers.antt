@@ -12,7 +12,7 @@ pub returns : goal.returns
 returns c =
     let flat = c.args.flat.now in
     on_ok_weaker c.push_created.result
-    (λ e same writes.
+    (λ same writes.
     same flat writes
     ∙ ap (λ (l : List Created). map (plain_order flat writes) c.args.orders.now.items ++ map line_order (map (created_line flat) l)) c.deref.ensures.value
     ∙ ap (λ (l : List Line). map (plain_order flat writes) c.args.orders.now.items ++ map line_order l) c.in_ok-created.ensures)

@@ -23,7 +23,7 @@ loop-i-preserved c = λ flat.
     ap (λ (n : ℕ). text_or_nothing (slice_get writes n)) c.in_ok-number.ensures ∙ write_there lines i x lt c.index-lines-i.is in
     ap (map (plain_order flat writes)) c.in_ok-push.ensures.items
     ∙ map-push (plain_order flat writes) c.loop-i.orders.items _
-    ∙ (λ k. c.loop-i.invariant flat k ++ (let o : Order = record { resource = x.resource; command = command k } in o) ∷ [])
+    ∙ (λ k. c.loop-i.invariant flat k ++ (let o : Order = record { resource = (sym c.index-lines-i.is k).resource; command = command k } in o) ∷ [])
     ∙ append_assoc base (map line_order (take i lines)) (line_order x ∷ [])
     ∙ ap (λ (l : List Order). base ++ l) (sym (ap (map line_order) (one_more lines i x lt c.index-lines-i.is) ∙ map-push line_order (take i lines) x))
 
