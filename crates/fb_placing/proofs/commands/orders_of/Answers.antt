@@ -1,5 +1,5 @@
 -- The four kinds of commands, one behind the other.
-use Rattle.std.proofs.Common.{ℕ, List, map, ap}
+use Rattle.std.proofs.Common.{map, ap}
 use Rattle.std.specs.HashMap.{get_by_text}
 use Rattle.fb_placing.specs.Items.{plain_order}
 use Rattle.fb_placing.specs.Lines.{create_lines}

@@ -1,5 +1,5 @@
 -- The commands are those of the homes, and what they are about is the flat network that is shared.
-use Rattle.std.proofs.Common.{ℕ, ◌≡◌, ◌++◌, List, Option, map, sym, ap, ◌∙◌}
+use Rattle.std.proofs.Common.{◌≡◌, ◌++◌, map, sym, ap, ◌∙◌}
 use Rattle.std.specs.HashMap.{get_by_text}
 use Rattle.fb_netcheck.specs.Library.View.{tree_at}
 use Rattle.fb_placing.specs.Cuts.{home_at}

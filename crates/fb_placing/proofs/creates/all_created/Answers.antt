@@ -1,5 +1,5 @@
 -- One block further.
-use Rattle.std.proofs.Common.{◌≡◌, ◌<◌, length, map, refl, ap, ◌∙◌, arith}
+use Rattle.std.proofs.Common.{◌<◌, length, map, refl, ap, ◌∙◌, arith}
 use Rattle.std.specs.HashMap.{get_by_text}
 use Rattle.std.specs.List.{filter_map}
 use Rattle.std.proofs.lemmas.List.{take_all}

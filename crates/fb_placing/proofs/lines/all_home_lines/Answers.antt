@@ -1,5 +1,5 @@
 -- The lines of one home more.
-use Rattle.std.proofs.Common.{List, [], ◌∷◌, ◌++◌, sym, ◌∙◌, ap, append-nil}
+use Rattle.std.proofs.Common.{List, [], ◌++◌, sym, ◌∙◌, ap, append-nil}
 use Rattle.std.specs.List.{flat_map}
 use Rattle.std.proofs.lemmas.Grind.{flat_map-append}
 use Rattle.fb_netcheck.specs.Library.View.{tree_at}

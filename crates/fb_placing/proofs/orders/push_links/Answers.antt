@@ -1,10 +1,8 @@
 -- One link further.
-use Rattle.std.proofs.Common.{ℕ, ◌≡◌, ◌<◌, ◌++◌, List, length, map, ap, ◌∙◌, arith}
+use Rattle.std.proofs.Common.{◌<◌, length, map, arith}
 use Rattle.std.specs.HashMap.{get_by_text}
-use Rattle.std.proofs.lemmas.List.{take_all}
 use Rattle.std.proofs.lemmas.List.Elements.{filter-append, filter_map-append}
 use Rattle.fb_network.specs.Numbered.{link_numbered}
-use Rattle.fb_network.specs.declared.flat.Link.{Link}
 use Rattle.fb_placing.specs.Cuts.{cuts_of, is_cut}
 use Rattle.fb_placing.specs.Items.{plain_order}
 use Rattle.fb_placing.specs.Orders.{connection_order, connection_orders}

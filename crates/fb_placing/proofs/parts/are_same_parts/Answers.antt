@@ -1,6 +1,5 @@
 -- One part more of each.
-use Rattle.std.proofs.Common.{ℕ, ◌≡◌, ◌<◌, ◌++◌, List, length, sym, ap, ◌∙◌, arith}
-use Rattle.fb_placing.specs.Parts.{joined}
+use Rattle.std.proofs.Common.{◌≡◌, ◌++◌, sym, ◌∙◌, arith}
 use Rattle.fb_placing.proofs.PartLemmas.{joined_more, part_text, same_unless}
 use Rattle.fb_placing.proofs.parts.are_same_parts.Goals as goal
 

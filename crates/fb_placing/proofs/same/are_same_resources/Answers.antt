@@ -1,5 +1,5 @@
 -- One resource further.
-use Rattle.std.proofs.Common.{◌≡◌, false, true, IsTrue, sym, ◌∙◌, rules}
+use Rattle.std.proofs.Common.{◌≡◌, false, true, sym, ◌∙◌, rules}
 use Rattle.std.proofs.lemmas.Bool.{false≢true}
 use Rattle.fb_network.proofs.Alike.{same_more, same_never}
 use Rattle.fb_placing.specs.Items.{plain_resource}
