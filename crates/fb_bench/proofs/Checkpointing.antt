@@ -1,10 +1,8 @@
 -- What is kept after a checkpoint.
 use Rattle.std.proofs.Common.{◌≡◌, ℕ, List, filter, refl, sym, subst, arith}
-use Rattle.std.specs.BTreeMap as tree
-use Rattle.std.specs.BTreeSet as set
+use Rattle.fb_entries.specs.Keyed.{Keyed}
 use Rattle.fb_entries.specs.Library.Texts.{Texts}
 use Rattle.fb_entries.specs.Jobs.declared.key.Key.{Key}
-use Rattle.fb_entries.specs.declared.entry.Entry.{Entry}
 use Rattle.fb_entries.specs.Index.Indexed.{Indexed}
 use Rattle.fb_history.specs.Checkpoints.{checkpointed, restarted}
 use Rattle.fb_history.specs.Limits.{Bounds}
@@ -19,16 +17,16 @@ pub restarted_is : (limits : Bounds) (story : Story) (units : Texts) (commits : 
 restarted_is limits story units commits pending out units_are commits_are pending_are out_are =
     λ i. restarted limits (units_are i) (commits_are i) (pending_are i) (out_are i) story
 
-pub kept_checkpointed : (units : Texts) (commits : ℕ) (entries : tree.BTreeMap Key Entry) (ready : set.BTreeSet Key) (index : Indexed) (limits : Bounds) (story : Story) → IsKept units commits entries ready index story → IsKept units commits entries ready index (checkpointed limits story)
+pub kept_checkpointed : (units : Texts) (commits : ℕ) (entries : Keyed) (index : Indexed) (limits : Bounds) (story : Story) → IsKept units commits entries index story → IsKept units commits entries index (checkpointed limits story)
 unfolding replies
-kept_checkpointed units commits entries ready index limits story kept =
+kept_checkpointed units commits entries index limits story kept =
     let s : State = state_of story in
     let agrees = kept.agrees in
-    let same : Agrees units commits entries ready (record s { most_units = limits.units }) =
+    let same : Agrees units commits entries (record s { most_units = limits.units }) =
     record { units_are = agrees.units_are; commits_are = agrees.commits_are; each = agrees.each; ready_are = agrees.ready_are } in
     record {
       begins = goes_on limits story kept.begins;
-      agrees = subst (λ t. Agrees units commits entries ready t) (sym (unseen limits story kept.begins)) same;
+      agrees = subst (λ t. Agrees units commits entries t) (sym (unseen limits story kept.begins)) same;
       replayed = refl;
       indexed = kept.indexed;
       few = omega (arith, kept.few);

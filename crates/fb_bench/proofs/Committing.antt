@@ -1,13 +1,10 @@
 -- A commit's answer, and what it leaves.
 use Rattle.std.proofs.Common.{◌≡◌, ℕ, ◌+◌, ◌<◌, ◌≤◌, Bool, true, false, List, [], ◌∷◌, map, length, refl, sym, ap, ◌∙◌, subst, Option, Some, None, cond, nat_lt, ◌==◌, arith}
 use Rattle.std.proofs.lemmas.Bool.Decides.{nat_tests}
-use Rattle.std.specs.BTreeMap as tree
-use Rattle.std.specs.BTreeSet as set
 use Rattle.std.specs.Option.{option_map}
+use Rattle.fb_entries.specs.Keyed.{Keyed}
 use Rattle.fb_entries.specs.Library.Texts.{Texts, Held, held, text_in, text_at, Edit, Puts, Removes, unit_of, all_edited}
 use Rattle.fb_entries.specs.Jobs.declared.key.Key.{Key}
-use Rattle.fb_entries.specs.Jobs.KeyOrder.{key_cmp}
-use Rattle.fb_entries.specs.declared.entry.Entry.{Entry}
 use Rattle.fb_history.specs.declared.answers.Committed.{Committed}
 use Rattle.fb_history.specs.declared.answers.Committed.TheVariants.{Done, NoChange, TooManyChanges, SameUnitTwice, StaleBase, NoSuchUnit, TooManyUnits}
 use Rattle.fb_history.specs.declared.answers.Delivered.{Delivered}
@@ -19,8 +16,7 @@ use Rattle.fb_history.specs.Story.{Story, opened, replay, calls_of, state_of}
 use Rattle.fb_bench.specs.Kept.{Agrees}
 use Rattle.fb_entries.specs.declared.renewal.Renewal.{Renewal}
 use Rattle.fb_bench.specs.Outcomes.{answer_at}
-use Rattle.fb_entries.specs.Marking.{is_of, waiting_if}
-use Rattle.fb_entries.specs.Renew.{IsRenewal, HasRoom}
+use Rattle.fb_entries.specs.Renew.{IsCarriedOut, IsRenewal, HasRoom}
 use Rattle.fb_history.proofs.Steps.{reply_commit, after_commit_is}
 use Rattle.fb_history.specs.Laws.{AgreeApartFrom}
 use Rattle.fb_bench.proofs.Renewing.{ScratchLocal, held_all_edited}
@@ -141,11 +137,11 @@ committed_is s made edits answer same is = after_commit_is s made ∙ (λ i. aft
 
 -- ---- what is kept after a commit that is done
 
-pub agrees_renewed : ScratchLocal → (n : ℕ) (edits : List Edit) (T U : Texts) (old_entries room_entries new_entries : tree.BTreeMap Key Entry) (old_ready room_ready new_ready : set.BTreeSet Key) (s : State) (it : Renewal) → U ≡ all_edited (n + 1) edits T → Agrees T n old_entries old_ready s → IsRenewal U (map unit_of edits) old_entries old_ready it → HasRoom it old_entries room_entries old_ready room_ready → ((q : Key) → tree.get key_cmp new_entries q ≡ waiting_if (is_of q it.renewed.items) (cond (is_of q it.gone.items) None (tree.get key_cmp room_entries q))) → ((q : Key) → set.contains key_cmp new_ready q ≡ cond (is_of q it.gone.items) false (set.contains key_cmp room_ready q)) → Agrees U (n + 1) new_entries new_ready (after_done (n + 1) edits s)
-agrees_renewed law n edits T U old_entries room_entries new_entries old_ready room_ready new_ready s it is agrees found room written ready =
+pub agrees_renewed : ScratchLocal → (n : ℕ) (edits : List Edit) (T U : Texts) (old room new : Keyed) (s : State) (it : Renewal) → U ≡ all_edited (n + 1) edits T → Agrees T n old s → IsRenewal U (map unit_of edits) old it → HasRoom it old room → IsCarriedOut it room new → Agrees U (n + 1) new (after_done (n + 1) edits s)
+agrees_renewed law n edits T U old room new s it is agrees found made done =
     let units : U ≡ all_edited (n + 1) edits s.units = is ∙ ap (λ us. all_edited (n + 1) edits us) agrees.units_are in
-    subst (λ us. Agrees us (n + 1) new_entries new_ready (after_done (n + 1) edits s)) (sym units)
-    (agrees_done law n edits T s it (n + 1) old_entries room_entries new_entries old_ready room_ready new_ready agrees (subst (λ us. IsRenewal us (map unit_of edits) old_entries old_ready it) units found) room written ready)
+    subst (λ us. Agrees us (n + 1) new (after_done (n + 1) edits s)) (sym units)
+    (agrees_done law n edits T s it (n + 1) old room new agrees (subst (λ us. IsRenewal us (map unit_of edits) old it) units found) made done)
 
 -- ---- a commit that nothing is against
 

@@ -1,15 +1,13 @@
 -- A workbench that has done nothing.
 use Rattle.std.proofs.Common.{◌≡◌, ℕ, false, [], refl, sym, ap, subst, arith}
-use Rattle.std.specs.BTreeMap as tree
-use Rattle.std.specs.BTreeSet as set
 use Rattle.std.specs.Map.{lookup}
 use Rattle.std.specs.BTreeMap.{is_at}
 use Rattle.std.specs.List.{list_any}
+use Rattle.fb_entries.specs.Keyed.{Keyed}
 use Rattle.fb_entries.specs.Library.Texts.{Texts}
 use Rattle.fb_entries.specs.Jobs.declared.key.Key.{Key}
 use Rattle.fb_entries.specs.Jobs.Keys.{has_key}
 use Rattle.fb_entries.specs.Jobs.KeyOrder.{key_cmp}
-use Rattle.fb_entries.specs.declared.entry.Entry.{Entry}
 use Rattle.fb_history.specs.Story.{Story, empty_origin, new_story, opened, replay, replies}
 use Rattle.fb_bench.specs.Kept.{Agrees, IsKept, EntryFits}
 use Rattle.fb_entries.specs.Index.Indexed.{Indexed, nothing_indexed}
@@ -21,20 +19,20 @@ no_key : (key : Key) → has_key [] key ≡ false
 unfolding has_key
 no_key key = no_kind key.kind
 
-agrees_empty : (most : ℕ) (entries : tree.BTreeMap Key Entry) (ready : set.BTreeSet Key) → entries.entries ≡ [] → ready.keys ≡ [] → Agrees [] 0 entries ready (opened (empty_origin most))
-agrees_empty most entries ready no_entries no_keys = record {
+agrees_empty : (most : ℕ) (entries : Keyed) → entries.entries ≡ [] → entries.ready ≡ [] → Agrees [] 0 entries (opened (empty_origin most))
+agrees_empty most entries no_entries no_keys = record {
   units_are = refl;
   commits_are = refl;
   each = λ key. subst (λ es. EntryFits (opened (empty_origin most)) key (lookup (is_at (key_cmp key)) es)) (sym no_entries) (no_key key, refl, refl);
   ready_are = λ key. ap (λ ks. list_any (is_at (key_cmp key)) ks) no_keys;
 }
 
-kept_start : (most limit : ℕ) (entries : tree.BTreeMap Key Entry) (ready : set.BTreeSet Key) (index : Indexed) → entries.entries ≡ [] → ready.keys ≡ [] → index ≡ nothing_indexed → IsKept [] 0 entries ready index (new_story most limit)
+kept_start : (most limit : ℕ) (entries : Keyed) (index : Indexed) → entries.entries ≡ [] → entries.ready ≡ [] → index ≡ nothing_indexed → IsKept [] 0 entries index (new_story most limit)
 unfolding replay replies
-kept_start most limit entries ready index no_entries no_keys empty = record { begins = begins_empty most; agrees = agrees_empty most entries ready no_entries no_keys; replayed = refl; indexed = indexed_none [] index refl empty; few = omega arith }
+kept_start most limit entries index no_entries no_keys empty = record { begins = begins_empty most; agrees = agrees_empty most entries no_entries no_keys; replayed = refl; indexed = indexed_none [] index refl empty; few = omega arith }
 
-pub kept_empty : (most limit : ℕ) (units : Texts) (entries : tree.BTreeMap Key Entry) (ready : set.BTreeSet Key) (index : Indexed) (story : Story) → units ≡ [] → entries.entries ≡ [] → ready.keys ≡ [] → index ≡ nothing_indexed → story ≡ new_story most limit → IsKept units 0 entries ready index story
-kept_empty most limit units entries ready index story no_units no_entries no_keys empty is =
-    subst (λ st. IsKept units 0 entries ready index st) (sym is)
-    (subst (λ us. IsKept us 0 entries ready index (new_story most limit)) (sym no_units)
-    (kept_start most limit entries ready index no_entries no_keys empty))
+pub kept_empty : (most limit : ℕ) (units : Texts) (entries : Keyed) (index : Indexed) (story : Story) → units ≡ [] → entries.entries ≡ [] → entries.ready ≡ [] → index ≡ nothing_indexed → story ≡ new_story most limit → IsKept units 0 entries index story
+kept_empty most limit units entries index story no_units no_entries no_keys empty is =
+    subst (λ st. IsKept units 0 entries index st) (sym is)
+    (subst (λ us. IsKept us 0 entries index (new_story most limit)) (sym no_units)
+    (kept_start most limit entries index no_entries no_keys empty))

@@ -1,10 +1,7 @@
 -- What is kept after one more call.
 use Rattle.std.proofs.Common.{◌≡◌, ℕ, ◌≤◌, ◌+◌, sym, subst, arith, length-append}
-use Rattle.std.specs.BTreeMap as tree
-use Rattle.std.specs.BTreeSet as set
+use Rattle.fb_entries.specs.Keyed.{Keyed}
 use Rattle.fb_entries.specs.Library.Texts.{Texts}
-use Rattle.fb_entries.specs.Jobs.declared.key.Key.{Key}
-use Rattle.fb_entries.specs.declared.entry.Entry.{Entry}
 use Rattle.fb_history.specs.Machine.{Call, Reply, after, reply}
 use Rattle.fb_history.specs.Story.{Story, IsOrigin, last_number, state_of, logged, IsReplay}
 use Rattle.fb_bench.specs.Kept.{Agrees, IsKept}
@@ -13,18 +10,18 @@ use Rattle.fb_entries.specs.Indexed.{IsIndexOf}
 use Rattle.fb_history.proofs.Steps.{state_recorded, replayed_recorded}
 
 -- what is kept after one more recorded call
-pub kept_recorded : (units : Texts) (commits : ℕ) (entries : tree.BTreeMap Key Entry) (ready : set.BTreeSet Key) (index : Indexed) (story : Story) (caller : ℕ) (call : Call) (answer : Reply) → IsOrigin story.origin → answer ≡ reply (state_of story) call → Agrees units commits entries ready (after (state_of story) call) → IsReplay story → IsIndexOf units index → commits ≤ last_number story + 1 → IsKept units commits entries ready index (logged story caller call answer)
-kept_recorded units commits entries ready index story caller call answer begins same agrees so_far indexed few =
-    subst (λ a. IsKept units commits entries ready index (logged story caller call a)) (sym same)
+pub kept_recorded : (units : Texts) (commits : ℕ) (entries : Keyed) (index : Indexed) (story : Story) (caller : ℕ) (call : Call) (answer : Reply) → IsOrigin story.origin → answer ≡ reply (state_of story) call → Agrees units commits entries (after (state_of story) call) → IsReplay story → IsIndexOf units index → commits ≤ last_number story + 1 → IsKept units commits entries index (logged story caller call answer)
+kept_recorded units commits entries index story caller call answer begins same agrees so_far indexed few =
+    subst (λ a. IsKept units commits entries index (logged story caller call a)) (sym same)
     (record {
       begins = begins;
-      agrees = subst (λ s. Agrees units commits entries ready s) (sym (state_recorded story caller call)) agrees;
+      agrees = subst (λ s. Agrees units commits entries s) (sym (state_recorded story caller call)) agrees;
       replayed = replayed_recorded story caller call so_far;
       indexed = indexed;
       few = simp length-append (omega arith);
     })
 
 -- the same, where the story is known by an equation
-pub kept_pushed : (units : Texts) (commits : ℕ) (entries : tree.BTreeMap Key Entry) (ready : set.BTreeSet Key) (index : Indexed) (story next_story : Story) (caller : ℕ) (call : Call) (answer : Reply) → IsOrigin story.origin → next_story ≡ logged story caller call answer → answer ≡ reply (state_of story) call → Agrees units commits entries ready (after (state_of story) call) → IsReplay story → IsIndexOf units index → commits ≤ last_number story + 1 → IsKept units commits entries ready index next_story
-kept_pushed units commits entries ready index story next_story caller call answer begins is same agrees so_far indexed few =
-    subst (λ st. IsKept units commits entries ready index st) (sym is) (kept_recorded units commits entries ready index story caller call answer begins same agrees so_far indexed few)
+pub kept_pushed : (units : Texts) (commits : ℕ) (entries : Keyed) (index : Indexed) (story next_story : Story) (caller : ℕ) (call : Call) (answer : Reply) → IsOrigin story.origin → next_story ≡ logged story caller call answer → answer ≡ reply (state_of story) call → Agrees units commits entries (after (state_of story) call) → IsReplay story → IsIndexOf units index → commits ≤ last_number story + 1 → IsKept units commits entries index next_story
+kept_pushed units commits entries index story next_story caller call answer begins is same agrees so_far indexed few =
+    subst (λ st. IsKept units commits entries index st) (sym is) (kept_recorded units commits entries index story caller call answer begins same agrees so_far indexed few)

@@ -1,29 +1,30 @@
 -- The keys that have entries are those of the texts, in order, and as many of the entries have no value as keys wait.
 use Rattle.std.proofs.Common.{◌≡◌, ℕ, ◌+◌, Bool, true, false, List, [], ◌∷◌, All, filter, get_or, map, refl, sym, ap, subst, ◌∙◌, Option, Some, None, is_some, cond, count_by}
-use Rattle.std.specs.BTreeMap as tree
 use Rattle.std.specs.BTreeMap.{is_at}
-use Rattle.std.specs.BTreeSet as set
 use Rattle.std.specs.BTreeSet.{insert_key}
 use Rattle.std.specs.List.Sorted.{IsStrictlySortedBy}
 use Rattle.std.specs.Map.{keys_of as keys_in, values_of}
 use Rattle.std.specs.Ordering.{match_ordering}
 use Rattle.std.proofs.lemmas.List.Elements.{All-head, All-tail}
 use Rattle.std.proofs.lemmas.List.Sums.{sum_by-cons}
-use Rattle.std.proofs.lemmas.Map.Entries.{btree_map_get_place}
+use Rattle.std.proofs.lemmas.Map.Entries.{lookup_from_place}
+use Rattle.std.proofs.lemmas.Map.Keys.{IsDistinct-from_sorted}
+use Rattle.std.proofs.lemmas.Cmp.{eq_by_cmp_equiv}
 use Rattle.std.proofs.lemmas.Map.Made.{is_some-lookup}
 use Rattle.std.proofs.lemmas.Option.{slice_get-get_or}
 use Rattle.fb_text.specs.Order.{in_order}
 use Rattle.fb_text.proofs.OrderLemmas.{in_order-same}
+use Rattle.fb_entries.specs.Keyed.{Keyed, entry_at}
 use Rattle.fb_entries.specs.Library.Texts.{Texts}
 use Rattle.fb_entries.specs.Jobs.declared.key.Key.{Key}
 use Rattle.fb_entries.specs.Jobs.Keys.{has_key}
-use Rattle.fb_entries.specs.Jobs.KeyOrder.{key_cmp}
+use Rattle.fb_entries.specs.Jobs.KeyOrder.{key_cmp, key_cmp_total}
 use Rattle.fb_entries.specs.declared.entry.Entry.{Entry}
 use Rattle.fb_history.specs.Machine.{State, keys_of}
 use Rattle.fb_history.specs.Story.{Story, IsOrigin, state_of}
 use Rattle.fb_bench.specs.Kept.{EntryFits, Agrees}
 use Rattle.fb_entries.specs.Marking.{is_handed_out, is_of, is_unkept, keys_with}
-use Rattle.fb_entries.proofs.Jobs.Order.{key_total, same_keys}
+use Rattle.fb_entries.proofs.Jobs.Order.{exact_key}
 use Rattle.fb_history.proofs.Least.{of_keys}
 use Rattle.fb_history.proofs.Sorted.{keys_rise}
 
@@ -37,7 +38,7 @@ already_in_order (k ∷ l ∷ ks) rise =
     ap (λ xs. insert_key key_cmp xs k) (already_in_order (l ∷ ks) rise.1) ∙ ap (λ r. match_ordering r (k ∷ l ∷ ks) (l ∷ ks) (l ∷ insert_key key_cmp ks k)) rise.0.0
 
 pub same_rising : (ks ls : List Key) → IsStrictlySortedBy key_cmp ks → IsStrictlySortedBy key_cmp ls → ((q : Key) → is_of q ks ≡ is_of q ls) → ks ≡ ls
-same_rising ks ls rise rise' same = sym (already_in_order ks rise) ∙ in_order-same key_cmp key_total same_keys ks ls same ∙ already_in_order ls rise'
+same_rising ks ls rise rise' same = sym (already_in_order ks rise) ∙ in_order-same key_cmp key_cmp_total exact_key ks ls same ∙ already_in_order ls rise'
 
 -- ---- as many values pass as keys do
 
@@ -65,36 +66,36 @@ has_entry : (s : State) (q : Key) (o : Option Entry) → EntryFits s q o → is_
 has_entry s q None fits = sym fits.0
 has_entry s q (Some it) fits = sym fits.0
 
-module _ (story : Story) (begins : IsOrigin story.origin) (T : Texts) (commits : ℕ) (entries : tree.BTreeMap Key Entry) (ready : set.BTreeSet Key) (agrees : Agrees T commits entries ready (state_of story)) (rise : tree.IsOrdered key_cmp entries) where
+module _ (story : Story) (begins : IsOrigin story.origin) (T : Texts) (commits : ℕ) (entries : Keyed) (agrees : Agrees T commits entries (state_of story)) (rise : IsStrictlySortedBy key_cmp (keys_in entries.entries)) where
   -- they are those of the texts, in order
-  pub keys_are : tree.keys entries ≡ keys_of (state_of story).units
+  pub keys_are : keys_in entries.entries ≡ keys_of (state_of story).units
   keys_are =
-      same_rising (tree.keys entries) (keys_of (state_of story).units) rise (keys_rise story begins)
-      (λ q. sym (is_some-lookup (is_at (key_cmp q)) entries.entries) ∙ has_entry (state_of story) q (tree.get key_cmp entries q) (agrees.each q) ∙ sym (of_keys (state_of story).units q))
+      same_rising (keys_in entries.entries) (keys_of (state_of story).units) rise (keys_rise story begins)
+      (λ q. sym (is_some-lookup (is_at (key_cmp q)) entries.entries) ∙ has_entry (state_of story) q (entry_at entries q) (agrees.each q) ∙ sym (of_keys (state_of story).units q))
 
   -- a key waits exactly where its entry has no value
   unkept : All (λ (e : Key × Entry). (state_of story).pending e.0 ≡ is_unkept e.1) entries.entries
   unkept i d below =
       let e = get_or entries.entries i d in
-      let at : tree.get key_cmp entries e.0 ≡ Some e.1 = btree_map_get_place key_total entries i e.0 e.1 rise (slice_get-get_or entries.entries i d below) in
+      let at : entry_at entries e.0 ≡ Some e.1 = lookup_from_place (eq_by_cmp_equiv key_cmp_total) entries.entries i e.0 e.1 (IsDistinct-from_sorted key_cmp _ rise) (slice_get-get_or entries.entries i d below) in
       let fits : EntryFits (state_of story) e.0 (Some e.1) = subst (λ o. EntryFits (state_of story) e.0 o) at (agrees.each e.0) in
       fits.1
 
   -- as many entries have no value as keys wait
-  pub pending_are : count_by is_unkept (tree.values entries) ≡ count_by (state_of story).pending (keys_of (state_of story).units)
+  pub pending_are : count_by is_unkept (values_of entries.entries) ≡ count_by (state_of story).pending (keys_of (state_of story).units)
   pending_are = counts (state_of story).pending is_unkept entries.entries unkept ∙ ap (count_by (state_of story).pending) keys_are
 
   -- the pending keys are those whose entries have no value
-  pub pending_listed : keys_with is_unkept entries ≡ filter (state_of story).pending (keys_of (state_of story).units)
+  pub pending_listed : keys_with is_unkept entries.entries ≡ filter (state_of story).pending (keys_of (state_of story).units)
   pending_listed = listed (state_of story).pending is_unkept entries.entries unkept ∙ ap (filter (state_of story).pending) keys_are
 
   handed : All (λ (e : Key × Entry). (state_of story).out e.0 ≡ is_handed_out e.1) entries.entries
   handed i d below =
       let e = get_or entries.entries i d in
-      let at : tree.get key_cmp entries e.0 ≡ Some e.1 = btree_map_get_place key_total entries i e.0 e.1 rise (slice_get-get_or entries.entries i d below) in
+      let at : entry_at entries e.0 ≡ Some e.1 = lookup_from_place (eq_by_cmp_equiv key_cmp_total) entries.entries i e.0 e.1 (IsDistinct-from_sorted key_cmp _ rise) (slice_get-get_or entries.entries i d below) in
       let fits : EntryFits (state_of story) e.0 (Some e.1) = subst (λ o. EntryFits (state_of story) e.0 o) at (agrees.each e.0) in
       fits.2
 
   -- the keys that are handed out are those whose entries say so
-  pub out_listed : keys_with is_handed_out entries ≡ filter (state_of story).out (keys_of (state_of story).units)
+  pub out_listed : keys_with is_handed_out entries.entries ≡ filter (state_of story).out (keys_of (state_of story).units)
   out_listed = listed (state_of story).out is_handed_out entries.entries handed ∙ ap (filter (state_of story).out) keys_are

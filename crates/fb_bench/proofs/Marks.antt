@@ -1,12 +1,12 @@
 -- What an entry says of the marks of its key.
-use Rattle.std.proofs.Common.{◌≡◌, ℕ, ◌<◌, Bool, true, false, ◌||◌, ◌&&◌, not, List, [], ◌∷◌, length, refl, sym, ap, ◌∙◌, subst, Option, Some, None, cond, IsSome, arith}
-use Rattle.std.specs.List.{list_any}
+use Rattle.std.proofs.Common.{◌≡◌, ℕ, Bool, true, false, ◌||◌, ◌&&◌, not, List, refl, sym, ap, ◌∙◌, subst, Option, Some, None, cond}
 use Rattle.std.specs.Option.{option_map}
-use Rattle.std.specs.BTreeMap as tree
 use Rattle.std.specs.BTreeMap.{is_at}
-use Rattle.std.specs.BTreeSet as set
+use Rattle.std.specs.List.{list_any}
+use Rattle.std.specs.Map.{lookup}
 use Rattle.std.specs.declared.sync.Arc.{Arc}
 use Rattle.std.specs.declared.alloc.Global.{Global}
+use Rattle.fb_entries.specs.Keyed.{Keyed, IsFirstReady, can_take, entry_at}
 use Rattle.fb_entries.specs.Library.Texts.{Texts}
 use Rattle.fb_entries.specs.Jobs.declared.key.Key.{Key}
 use Rattle.fb_entries.specs.Jobs.declared.value.Value.{Value}
@@ -16,13 +16,14 @@ use Rattle.fb_entries.specs.Jobs.Keys.{Finding, has_key, scratch}
 use Rattle.fb_entries.specs.Jobs.KeyOrder.{key_cmp, same_key}
 use Rattle.fb_entries.specs.declared.entry.Entry.{Entry}
 use Rattle.fb_entries.specs.Jobs.Reads.{PlainJob, stale}
-use Rattle.fb_history.specs.Machine.{State, is_ready, after_take, after_deliver, removed, unless_stale, deliver_answer}
+use Rattle.fb_history.specs.Machine.{State, is_ready, next, after_take, after_deliver, removed, unless_stale, deliver_answer}
 use Rattle.fb_history.specs.declared.answers.Delivered.{Delivered}
 use Rattle.fb_history.specs.declared.answers.Delivered.TheVariants.{Accepted, NoSuchKey, NotPending, Stale}
 use Rattle.fb_bench.specs.Kept.{Agrees, EntryFits, IsScratch}
 use Rattle.fb_entries.specs.Found.{found_in, kept_in}
-use Rattle.fb_entries.specs.Marking.{unless_kept, with_found, with_value}
+use Rattle.fb_entries.specs.Marking.{unless_kept, with_found, with_out, with_value, ChangesEntry, MarksKey, SameKeys}
 use Rattle.fb_entries.proofs.Jobs.Order.{keys_equal}
+use Rattle.fb_history.proofs.Least.{next_none, next_some}
 
 pub ready_has : (s : State) (k : Key) (o : Option Entry) → EntryFits s k o → is_ready s k ≡ true → has_key s.units k ≡ true
 ready_has s k None fits ready = let no : is_ready s k ≡ false = ap (λ b. b && not (s.out k)) fits.1 in cc
@@ -41,18 +42,21 @@ entry_found s k None finding fits e = cc
 entry_found s k (Some it) finding fits e = kept_value s.units k it.found finding fits.4 e
 
 -- the values that are kept are those of the texts
-pub all_kept : {units : Texts} {commits : ℕ} {entries : tree.BTreeMap Key Entry} {ready : set.BTreeSet Key} {s : State} → Agrees units commits entries ready s → AreKept units (λ key. kept_in (tree.get key_cmp entries key))
+pub all_kept : {units : Texts} {commits : ℕ} {entries : Keyed} {s : State} → Agrees units commits entries s → AreKept units (λ key. kept_in (entry_at entries key))
 all_kept {entries = entries} {s = s} agrees k finding e =
-    entry_kept s k (tree.get key_cmp entries k) finding (agrees.each k) e ∙ ap (λ texts. scratch texts k) (sym agrees.units_are)
+    entry_kept s k (entry_at entries k) finding (agrees.each k) e ∙ ap (λ texts. scratch texts k) (sym agrees.units_are)
 
 -- and so are those that were found
-pub all_found : {units : Texts} {commits : ℕ} {entries : tree.BTreeMap Key Entry} {ready : set.BTreeSet Key} {s : State} → Agrees units commits entries ready s → AreKept units (λ key. found_in (tree.get key_cmp entries key))
+pub all_found : {units : Texts} {commits : ℕ} {entries : Keyed} {s : State} → Agrees units commits entries s → AreKept units (λ key. found_in (entry_at entries key))
 all_found {entries = entries} {s = s} agrees k finding e =
-    entry_found s k (tree.get key_cmp entries k) finding (agrees.each k) e ∙ ap (λ texts. scratch texts k) (sym agrees.units_are)
+    entry_found s k (entry_at entries k) finding (agrees.each k) e ∙ ap (λ texts. scratch texts k) (sym agrees.units_are)
 
-pub none_in : (keys : List Key) (q : Key) → (0 < length keys → IsSome {T = Key} None) → list_any (is_at (key_cmp q)) keys ≡ false
-none_in [] q some = refl
-none_in (k ∷ ks) q some = let no : IsSome {T = Key} None = some (omega arith) in cc
+-- the first key that can be taken is the least that is ready
+pub first_is_next : (units : Texts) (commits : ℕ) (it : Keyed) (s : State) (first : Option Key) → Agrees units commits it s → IsFirstReady it first → first ≡ next s
+first_is_next units commits it s None agrees none = sym (next_none s (λ q. sym (agrees.ready_are q) ∙ none q))
+first_is_next units commits it s (Some k) agrees first =
+    let ready : is_ready s k ≡ true = sym (agrees.ready_are k) ∙ first.0 in
+    sym (next_some s k ready (ready_has s k _ (agrees.each k) ready) (λ q passes. first.1 q (agrees.ready_are q ∙ passes)))
 
 -- ---- after a take
 
@@ -74,12 +78,12 @@ take_ready s k q true now same was = sym (ap (λ b. s.pending q && not (b || s.o
 take_ready s k q false now same was = was ∙ sym (ap (λ b. s.pending q && not (b || s.out q)) same)
 
 -- what is kept agrees after a key is handed out
-pub agrees_take : (units : Texts) (commits : ℕ) (es fs : tree.BTreeMap Key Entry) (rs ts : set.BTreeSet Key) (s : State) (k : Key) → Agrees units commits es rs s → is_ready s k ≡ true → ((q : Key) → tree.get key_cmp fs q ≡ cond (same_key k q) (option_map (λ (it : Entry). record it { out = true }) (tree.get key_cmp es q)) (tree.get key_cmp es q)) → ((q : Key) → set.contains key_cmp ts q ≡ cond (same_key k q) false (set.contains key_cmp rs q)) → Agrees units commits fs ts (after_take (Some k) s)
-agrees_take units commits es fs rs ts s k agrees ready marked left = record {
+pub agrees_take : (units : Texts) (commits : ℕ) (old new : Keyed) (s : State) (k : Key) → Agrees units commits old s → is_ready s k ≡ true → ChangesEntry k (with_out true) (entry_at old) (entry_at new) → MarksKey k false (can_take old) (can_take new) → Agrees units commits new (after_take (Some k) s)
+agrees_take units commits old new s k agrees ready marked left = record {
   units_are = agrees.units_are;
   commits_are = agrees.commits_are;
-  each = λ q. subst (λ o. EntryFits (after_take (Some k) s) q o) (sym (marked q)) (take_fits s k q (tree.get key_cmp es q) (same_key k q) refl ready (agrees.each q));
-  ready_are = λ q. left q ∙ take_ready s k q (same_key k q) (set.contains key_cmp rs q) refl (agrees.ready_are q);
+  each = λ q. subst (λ o. EntryFits (after_take (Some k) s) q o) (sym (marked q)) (take_fits s k q (entry_at old q) (same_key k q) refl ready (agrees.each q));
+  ready_are = λ q. left q ∙ take_ready s k q (same_key k q) (can_take old q) refl (agrees.ready_are q);
 }
 
 -- ---- after a result that is accepted
@@ -95,12 +99,12 @@ pub deliver_ready : (s : State) (k q : Key) (b now : Bool) → same_key k q ≡ 
 deliver_ready s k q true now same was = sym (ap (λ b. (not b && s.pending q) && not (not b && s.out q)) same)
 deliver_ready s k q false now same was = was ∙ sym (ap (λ b. (not b && s.pending q) && not (not b && s.out q)) same)
 
-pub agrees_deliver : (units : Texts) (commits : ℕ) (es fs : tree.BTreeMap Key Entry) (rs ts : set.BTreeSet Key) (s : State) (k : Key) (v : Arc Value Global) → Agrees units commits es rs s → finding_of v.value ≡ scratch s.units k → ((q : Key) → tree.get key_cmp fs q ≡ cond (same_key k q) (option_map (with_value v) (tree.get key_cmp es q)) (tree.get key_cmp es q)) → ((q : Key) → set.contains key_cmp ts q ≡ cond (same_key k q) false (set.contains key_cmp rs q)) → Agrees units commits fs ts (after_deliver Accepted k s)
-agrees_deliver units commits es fs rs ts s k v agrees value marked left = record {
+pub agrees_deliver : (units : Texts) (commits : ℕ) (old new : Keyed) (s : State) (k : Key) (v : Arc Value Global) → Agrees units commits old s → finding_of v.value ≡ scratch s.units k → ChangesEntry k (with_value v) (entry_at old) (entry_at new) → MarksKey k false (can_take old) (can_take new) → Agrees units commits new (after_deliver Accepted k s)
+agrees_deliver units commits old new s k v agrees value marked left = record {
   units_are = agrees.units_are;
   commits_are = agrees.commits_are;
-  each = λ q. subst (λ o. EntryFits (after_deliver Accepted k s) q o) (sym (marked q)) (deliver_fits s k q (tree.get key_cmp es q) v (same_key k q) refl value (agrees.each q));
-  ready_are = λ q. left q ∙ deliver_ready s k q (same_key k q) (set.contains key_cmp rs q) refl (agrees.ready_are q);
+  each = λ q. subst (λ o. EntryFits (after_deliver Accepted k s) q o) (sym (marked q)) (deliver_fits s k q (entry_at old q) v (same_key k q) refl value (agrees.each q));
+  ready_are = λ q. left q ∙ deliver_ready s k q (same_key k q) (can_take old q) refl (agrees.ready_are q);
 }
 
 accepted_stale : (o : Option (List ℕ)) → Accepted ≡ unless_stale o → o ≡ None
@@ -145,29 +149,46 @@ return_kept s k q true now same kept was =
     was ∙ ap (λ p. p && not (s.out q)) none ∙ sym (ap (λ p. p && not (not (same_key k q) && s.out q)) none)
 return_kept s k q false now same kept was = was ∙ sym (ap (λ b. s.pending q && not (not b && s.out q)) same)
 
-pub agrees_return : (units : Texts) (commits : ℕ) (es fs : tree.BTreeMap Key Entry) (rs ts : set.BTreeSet Key) (s : State) (k : Key) → Agrees units commits es rs s → s.pending k ≡ true → ((q : Key) → tree.get key_cmp fs q ≡ cond (same_key k q) (option_map (λ (it : Entry). record it { out = false }) (tree.get key_cmp es q)) (tree.get key_cmp es q)) → ((q : Key) → set.contains key_cmp ts q ≡ cond (same_key k q) true (set.contains key_cmp rs q)) → Agrees units commits fs ts (returned s k)
-agrees_return units commits es fs rs ts s k agrees waits marked joined = record {
+-- the key waits for a result and was made ready, and then its mark was cleared
+pub agrees_return : (units : Texts) (commits : ℕ) (old ready new : Keyed) (s : State) (k : Key) → Agrees units commits old s → s.pending k ≡ true → ready.entries ≡ old.entries → MarksKey k true (can_take old) (can_take ready) → ChangesEntry k (with_out false) (entry_at ready) (entry_at new) → new.ready ≡ ready.ready → Agrees units commits new (returned s k)
+agrees_return units commits old ready new s k agrees waits kept joined marked left = record {
   units_are = agrees.units_are;
   commits_are = agrees.commits_are;
-  each = λ q. subst (λ o. EntryFits (returned s k) q o) (sym (marked q)) (return_fits s k q (tree.get key_cmp es q) (same_key k q) refl (agrees.each q));
-  ready_are = λ q. joined q ∙ return_ready s k q (same_key k q) (set.contains key_cmp rs q) refl waits (agrees.ready_are q);
+  each = λ q.
+      subst (λ o. EntryFits (returned s k) q o) (sym (marked q ∙ ap (λ es. cond (same_key k q) (option_map (with_out false) (lookup (is_at (key_cmp q)) es)) (lookup (is_at (key_cmp q)) es)) kept)) (return_fits s k q (entry_at old q) (same_key k q) refl (agrees.each q));
+  ready_are = λ q. ap (λ ks. list_any (is_at (key_cmp q)) ks) left ∙ joined q ∙ return_ready s k q (same_key k q) (can_take old q) refl waits (agrees.ready_are q);
 }
 
-pub agrees_return_kept : (units : Texts) (commits : ℕ) (es fs : tree.BTreeMap Key Entry) (rs : set.BTreeSet Key) (s : State) (k : Key) → Agrees units commits es rs s → s.pending k ≡ false → ((q : Key) → tree.get key_cmp fs q ≡ cond (same_key k q) (option_map (λ (it : Entry). record it { out = false }) (tree.get key_cmp es q)) (tree.get key_cmp es q)) → Agrees units commits fs rs (returned s k)
-agrees_return_kept units commits es fs rs s k agrees kept marked = record {
+-- the key has a value, and its mark was cleared
+pub agrees_return_kept : (units : Texts) (commits : ℕ) (old new : Keyed) (s : State) (k : Key) → Agrees units commits old s → s.pending k ≡ false → ChangesEntry k (with_out false) (entry_at old) (entry_at new) → new.ready ≡ old.ready → Agrees units commits new (returned s k)
+agrees_return_kept units commits old new s k agrees kept marked left = record {
   units_are = agrees.units_are;
   commits_are = agrees.commits_are;
-  each = λ q. subst (λ o. EntryFits (returned s k) q o) (sym (marked q)) (return_fits s k q (tree.get key_cmp es q) (same_key k q) refl (agrees.each q));
-  ready_are = λ q. return_kept s k q (same_key k q) (set.contains key_cmp rs q) refl kept (agrees.ready_are q);
+  each = λ q. subst (λ o. EntryFits (returned s k) q o) (sym (marked q)) (return_fits s k q (entry_at old q) (same_key k q) refl (agrees.each q));
+  ready_are = λ q. ap (λ ks. list_any (is_at (key_cmp q)) ks) left ∙ return_kept s k q (same_key k q) (can_take old q) refl kept (agrees.ready_are q);
 }
 
--- a key put among the ready ones and taken out again, which was not there
-pub put_and_taken : (rs ts us : set.BTreeSet Key) (s : State) (k : Key) → s.out k ≡ true → ((q : Key) → set.contains key_cmp rs q ≡ is_ready s q) → ((q : Key) → set.contains key_cmp ts q ≡ cond (same_key k q) true (set.contains key_cmp rs q)) → ((q : Key) → set.contains key_cmp us q ≡ cond (same_key k q) false (set.contains key_cmp ts q)) → (q : Key) → set.contains key_cmp us q ≡ is_ready s q
-put_and_taken rs ts us s k out was put taken q = taken q ∙ ap (λ b. cond (same_key k q) false b) (put q ∙ ap (λ b. cond (same_key k q) true b) (was q)) ∙ back (same_key k q) refl
+-- a key that was not ready was made so and no longer is
+pub agrees_unready : (units : Texts) (commits : ℕ) (old ready new : Keyed) (s : State) (k : Key) → Agrees units commits old s → s.out k ≡ true → ready.entries ≡ old.entries → MarksKey k true (can_take old) (can_take ready) → new.entries ≡ ready.entries → MarksKey k false (can_take ready) (can_take new) → Agrees units commits new s
+agrees_unready units commits old ready new s k agrees out kept put same taken = record {
+  units_are = agrees.units_are;
+  commits_are = agrees.commits_are;
+  each = λ q. subst (λ es. EntryFits s q (lookup (is_at (key_cmp q)) es)) (sym (same ∙ kept)) (agrees.each q);
+  ready_are = λ q. taken q ∙ ap (λ b. cond (same_key k q) false b) (put q ∙ ap (λ b. cond (same_key k q) true b) (agrees.ready_are q)) ∙ back q (same_key k q) refl;
+}
   where
-    back : (b : Bool) → same_key k q ≡ b → cond b false (cond b true (is_ready s q)) ≡ is_ready s q
-    back true same = sym (ap (λ o. s.pending q && not o) (subst (λ x. s.out x ≡ true) (keys_equal k q same) out) ∙ and_not_true (s.pending q))
-    back false same = refl
+    back : (q : Key) (b : Bool) → same_key k q ≡ b → cond b false (cond b true (is_ready s q)) ≡ is_ready s q
+    back q true at = sym (ap (λ o. s.pending q && not o) (subst (λ x. s.out x ≡ true) (keys_equal k q at) out) ∙ and_not_true (s.pending q))
+    back q false at = refl
+
+-- entries with the same contents agree
+pub agrees_same : (units : Texts) (commits : ℕ) (old new : Keyed) (s : State) → Agrees units commits old s → new.entries ≡ old.entries → SameKeys (can_take old) (can_take new) → Agrees units commits new s
+agrees_same units commits old new s agrees same keys = record {
+  units_are = agrees.units_are;
+  commits_are = agrees.commits_are;
+  each = λ q. subst (λ es. EntryFits s q (lookup (is_at (key_cmp q)) es)) (sym same) (agrees.each q);
+  ready_are = λ q. keys q ∙ agrees.ready_are q;
+}
 
 -- ---- after a net was found for a key
 
@@ -181,10 +202,10 @@ found_fits s k q (Some it) v true same value fits =
     (fits.0, fits.1, fits.2, fits.3, unless_scratch s.units q it.value v (value ∙ ap (λ x. scratch s.units x) (keys_equal k q same)))
 found_fits s k q o v false same value fits = fits
 
-pub agrees_found : (units : Texts) (commits : ℕ) (es fs : tree.BTreeMap Key Entry) (rs : set.BTreeSet Key) (s : State) (k : Key) (v : Arc Value Global) → Agrees units commits es rs s → finding_of v.value ≡ scratch s.units k → ((q : Key) → tree.get key_cmp fs q ≡ cond (same_key k q) (option_map (with_found v) (tree.get key_cmp es q)) (tree.get key_cmp es q)) → Agrees units commits fs rs s
-agrees_found units commits es fs rs s k v agrees value found = record {
+pub agrees_found : (units : Texts) (commits : ℕ) (old new : Keyed) (s : State) (k : Key) (v : Arc Value Global) → Agrees units commits old s → finding_of v.value ≡ scratch s.units k → ChangesEntry k (with_found v) (entry_at old) (entry_at new) → new.ready ≡ old.ready → Agrees units commits new s
+agrees_found units commits old new s k v agrees value found left = record {
   units_are = agrees.units_are;
   commits_are = agrees.commits_are;
-  each = λ q. subst (λ o. EntryFits s q o) (sym (found q)) (found_fits s k q (tree.get key_cmp es q) v (same_key k q) refl value (agrees.each q));
-  ready_are = agrees.ready_are;
+  each = λ q. subst (λ o. EntryFits s q o) (sym (found q)) (found_fits s k q (entry_at old q) v (same_key k q) refl value (agrees.each q));
+  ready_are = λ q. ap (λ ks. list_any (is_at (key_cmp q)) ks) left ∙ agrees.ready_are q;
 }

@@ -1,14 +1,12 @@
 -- What is kept after a commit that is done, and after one that found no memory.
 use Rattle.std.proofs.Common.{◌≡◌, ℕ, Bool, true, false, ◌||◌, ◌&&◌, not, List, map, refl, sym, ap, ◌∙◌, subst, Option, Some, None, cond, is_none}
-use Rattle.std.specs.BTreeMap as tree
-use Rattle.std.specs.BTreeSet as set
 use Rattle.fb_text.proofs.Tests.{or_true, and_false}
+use Rattle.fb_entries.specs.Keyed.{Keyed, can_take, entry_at}
 use Rattle.fb_entries.specs.Library.Texts.{Texts, Edit, unit_of, all_edited, text_in}
 use Rattle.std.specs.Option.{option_map}
 use Rattle.fb_entries.specs.Jobs.declared.key.Key.{Key}
 use Rattle.fb_entries.specs.Jobs.declared.key.Kind.{Kind}
 use Rattle.fb_entries.specs.Jobs.Keys.{has_key, has_kind_at}
-use Rattle.fb_entries.specs.Jobs.KeyOrder.{key_cmp}
 use Rattle.fb_entries.specs.Jobs.Reads.{is_among}
 use Rattle.fb_entries.proofs.Jobs.SameNeeds.{has_key_local}
 use Rattle.fb_entries.specs.declared.entry.Entry.{Entry}
@@ -16,7 +14,7 @@ use Rattle.fb_entries.specs.declared.renewal.Renewal.{Renewal}
 use Rattle.fb_history.specs.Machine.{State, is_ready, after_done, reaches}
 use Rattle.fb_bench.specs.Kept.{EntryFits, Agrees}
 use Rattle.fb_entries.specs.Marking.{is_of, waiting_if}
-use Rattle.fb_entries.specs.Renew.{is_own, is_fresh, is_renewed, IsRenewal, HasRoom, IsTakenBack}
+use Rattle.fb_entries.specs.Renew.{is_own, is_fresh, is_renewed, IsCarriedOut, IsRenewal, HasRoom, IsTakenBack}
 use Rattle.fb_entries.proofs.Jobs.KindLemmas.{in_all_keys}
 use Rattle.fb_bench.proofs.Renewing.{held_all_edited, agree_unreached, ScratchLocal, waiting_fits, kept_fits, gone_fits}
 
@@ -175,41 +173,41 @@ joined_bits false was = refl
 -- ---- all of it
 
 module _ (law : ScratchLocal) (commits : ℕ) (es : List Edit) (T : Texts) (s : State) (it : Renewal) where
-  module _ (commit : ℕ) (old_entries room_entries new_entries : tree.BTreeMap Key Entry) (old_ready room_ready new_ready : set.BTreeSet Key) where
+  module _ (commit : ℕ) (old room new : Keyed) where
     abbrev Done : Type 0
-    Done = Agrees (all_edited commit es s.units) commit new_entries new_ready (after_done commit es s)
+    Done = Agrees (all_edited commit es s.units) commit new (after_done commit es s)
 
-    module _ (agrees : Agrees T commits old_entries old_ready s) (is : IsRenewal (all_edited commit es s.units) (map unit_of es) old_entries old_ready it) (room : HasRoom it old_entries room_entries old_ready room_ready) (q : Key) where
+    module _ (agrees : Agrees T commits old s) (is : IsRenewal (all_edited commit es s.units) (map unit_of es) old it) (made : HasRoom it old room) (q : Key) where
       abbrev units : Texts
       units = all_edited commit es s.units
 
-      fresh_is : is_fresh units (map unit_of es) old_entries q ≡ fresh_of (has_key units q) (has_key s.units q) (is_own (map unit_of es) q)
-      fresh_is = ap (λ b. (is_own (map unit_of es) q && has_key units q) && b) (none_bits s q (tree.get key_cmp old_entries q) (agrees.each q))
+      fresh_is : is_fresh units (map unit_of es) old q ≡ fresh_of (has_key units q) (has_key s.units q) (is_own (map unit_of es) q)
+      fresh_is = ap (λ b. (is_own (map unit_of es) q && has_key units q) && b) (none_bits s q (entry_at old q) (agrees.each q))
 
       met : has_key units q ≡ true → has_key s.units q ≡ false → reaches (map unit_of es) units q ≡ true
       met = new_reached commit es s.units q
 
-      done_entry : tree.get key_cmp new_entries q ≡ waiting_if (is_of q it.renewed.items) (cond (is_of q it.gone.items) None (tree.get key_cmp room_entries q)) → EntryFits (after_done commit es s) q (tree.get key_cmp new_entries q)
+      done_entry : entry_at new q ≡ waiting_if (is_of q it.renewed.items) (cond (is_of q it.gone.items) None (entry_at room q)) → EntryFits (after_done commit es s) q (entry_at new q)
       done_entry written =
-          each_fits law commit es s q (tree.get key_cmp old_entries q) (tree.get key_cmp room_entries q) (tree.get key_cmp new_entries q) (has_key units q) (has_key s.units q) (is_own (map unit_of es) q) (reaches (map unit_of es) units q) refl refl refl (has_apart commit es s.units q) met (agrees.each q)
-          (λ none. room.others q (is.fresh_are q ∙ fresh_is ∙ none))
-          (λ some. room.there q (is.fresh_are q ∙ fresh_is ∙ some))
-          (written ∙ (λ i. waiting_if (is.renewed_are q i) (cond (is.gone_are q i) None (tree.get key_cmp room_entries q))))
+          each_fits law commit es s q (entry_at old q) (entry_at room q) (entry_at new q) (has_key units q) (has_key s.units q) (is_own (map unit_of es) q) (reaches (map unit_of es) units q) refl refl refl (has_apart commit es s.units q) met (agrees.each q)
+          (λ none. made.others q (is.fresh_are q ∙ fresh_is ∙ none))
+          (λ some. made.there q (is.fresh_are q ∙ fresh_is ∙ some))
+          (written ∙ (λ i. waiting_if (is.renewed_are q i) (cond (is.gone_are q i) None (entry_at room q))))
 
-      done_ready : set.contains key_cmp new_ready q ≡ cond (is_of q it.gone.items) false (set.contains key_cmp room_ready q) → set.contains key_cmp new_ready q ≡ is_ready (after_done commit es s) q
+      done_ready : can_take new q ≡ cond (is_of q it.gone.items) false (can_take room q) → can_take new q ≡ is_ready (after_done commit es s) q
       done_ready left =
           left
-          ∙ (λ i. cond (is.gone_are q i) false ((room.readies q ∙ ap (λ b. b || set.contains key_cmp old_ready q) (is.unready_are q) ∙ joined_bits (is_renewed units (map unit_of es) q) (set.contains key_cmp old_ready q)) i))
+          ∙ (λ i. cond (is.gone_are q i) false ((made.readies q ∙ ap (λ b. b || can_take old q) (is.unready_are q) ∙ joined_bits (is_renewed units (map unit_of es) q) (can_take old q)) i))
           ∙ (λ i. cond (is_own (map unit_of es) q && not (has_key units q)) false (is_renewed units (map unit_of es) q || agrees.ready_are q i))
-          ∙ ready_bits (has_key units q) (has_key s.units q) (is_own (map unit_of es) q) (reaches (map unit_of es) units q) (s.pending q) (s.out q) (has_apart commit es s.units q) met (absent_pending s q (tree.get key_cmp old_entries q) (agrees.each q))
+          ∙ ready_bits (has_key units q) (has_key s.units q) (is_own (map unit_of es) q) (reaches (map unit_of es) units q) (s.pending q) (s.out q) (has_apart commit es s.units q) met (absent_pending s q (entry_at old q) (agrees.each q))
 
     -- what is kept agrees with the state after the commit
-    pub agrees_done : Agrees T commits old_entries old_ready s → IsRenewal (all_edited commit es s.units) (map unit_of es) old_entries old_ready it → HasRoom it old_entries room_entries old_ready room_ready → ((q : Key) → tree.get key_cmp new_entries q ≡ waiting_if (is_of q it.renewed.items) (cond (is_of q it.gone.items) None (tree.get key_cmp room_entries q))) → ((q : Key) → set.contains key_cmp new_ready q ≡ cond (is_of q it.gone.items) false (set.contains key_cmp room_ready q)) → Done
-    agrees_done agrees is room written ready = record {
+    pub agrees_done : Agrees T commits old s → IsRenewal (all_edited commit es s.units) (map unit_of es) old it → HasRoom it old room → IsCarriedOut it room new → Done
+    agrees_done agrees is made done = record {
       units_are = refl;
       commits_are = refl;
-      each = λ q. done_entry agrees is room q (written q);
-      ready_are = λ q. done_ready agrees is room q (ready q);
+      each = λ q. done_entry agrees is made q (done.entries q);
+      ready_are = λ q. done_ready agrees is made q (done.readies q);
     }
 
 -- ---- where there was no memory
@@ -226,10 +224,10 @@ back_mark r true false is = refl
 back_mark r false was is = refl
 
 -- all is as it was
-pub agrees_back : (T U : Texts) (commits : ℕ) (names : List (List ℕ)) (old_entries room_entries : tree.BTreeMap Key Entry) (old_ready room_ready : set.BTreeSet Key) (s : State) (it : Renewal) → Agrees T commits old_entries old_ready s → IsRenewal U names old_entries old_ready it → IsTakenBack it old_entries room_entries old_ready room_ready → Agrees T commits room_entries room_ready s
-agrees_back T U commits names old_entries room_entries old_ready room_ready s it agrees is back = record {
+pub agrees_back : (T U : Texts) (commits : ℕ) (names : List (List ℕ)) (old new : Keyed) (s : State) (it : Renewal) → Agrees T commits old s → IsRenewal U names old it → IsTakenBack it old new → Agrees T commits new s
+agrees_back T U commits names old new s it agrees is back = record {
   units_are = agrees.units_are;
   commits_are = agrees.commits_are;
-  each = λ q. subst (λ o. EntryFits s q o) (sym (back.entries q ∙ back_entry (is_own names q && has_key U q) (is_of q it.fresh.items) (tree.get key_cmp old_entries q) (is.fresh_are q))) (agrees.each q);
-  ready_are = λ q. back.readies q ∙ back_mark (is_renewed U names q) (is_of q it.unready.items) (set.contains key_cmp old_ready q) (is.unready_are q) ∙ agrees.ready_are q;
+  each = λ q. subst (λ o. EntryFits s q o) (sym (back.entries q ∙ back_entry (is_own names q && has_key U q) (is_of q it.fresh.items) (entry_at old q) (is.fresh_are q))) (agrees.each q);
+  ready_are = λ q. back.readies q ∙ back_mark (is_renewed U names q) (is_of q it.unready.items) (can_take old q) (is.unready_are q) ∙ agrees.ready_are q;
 }

@@ -1,15 +1,12 @@
 -- Nets that were computed on the way to another value.
 use Rattle.std.specs.Prelude.{ℕ, List, All}
-use Rattle.std.specs.BTreeMap as tree
-use Rattle.std.specs.BTreeSet as set
+use Rattle.fb_entries.specs.Keyed.{Keyed}
 use Rattle.fb_entries.specs.Library.Texts.{Texts}
 use Rattle.fb_entries.specs.Jobs.declared.hints.Hint.{Hint}
-use Rattle.fb_entries.specs.Jobs.declared.key.Key.{Key}
 use Rattle.fb_entries.specs.Jobs.declared.value.Value.{Value}
 use Rattle.fb_entries.specs.Jobs.Hints.{IsNetOf}
 use Rattle.fb_entries.specs.Jobs.Reads.{PlainJob, read_texts}
 use Rattle.fb_entries.specs.Jobs.Work.{IsFoundFor}
-use Rattle.fb_entries.specs.declared.entry.Entry.{Entry}
 use Rattle.fb_history.specs.Machine.{State}
 use Rattle.fb_bench.specs.Kept.{Agrees}
 
@@ -18,10 +15,9 @@ abbrev pub said : Hint → List ℕ × Value
 said hint = (hint.unit, hint.value.value)
 
 -- entries that agree with a state of which each of these is a net agree with it still
-abbrev pub KeepsAgreement : List Hint → tree.BTreeMap Key Entry → tree.BTreeMap Key Entry → Type 0
+abbrev pub KeepsAgreement : List Hint → Keyed → Keyed → Type 0
 KeepsAgreement found old new =
-    (units : Texts) (commits : ℕ) (ready : set.BTreeSet Key) (state : State)
-    → Agrees units commits old ready state → All (IsNetOf state.units) found → Agrees units commits new ready state
+    (units : Texts) (commits : ℕ) (state : State) → Agrees units commits old state → All (IsNetOf state.units) found → Agrees units commits new state
 
 -- nets that are found for current reads are those of the present texts
 abbrev pub HasNetsOf : Texts → PlainJob → Type 0

@@ -1,18 +1,15 @@
 -- What a workbench keeps beside its history agrees with where the history has led.
 use Rattle.std.specs.Prelude.{◌≡◌, ℕ, ◌≤◌, true, false, Option, Some, None, is_none}
-use Rattle.std.specs.BTreeMap as tree
-use Rattle.std.specs.BTreeSet as set
 use Rattle.std.specs.declared.sync.Arc.{Arc}
 use Rattle.std.specs.declared.alloc.Global.{Global}
+use Rattle.fb_entries.specs.Keyed.{Keyed, can_take, entry_at}
 use Rattle.fb_entries.specs.Library.Texts.{Texts}
 use Rattle.fb_entries.specs.Jobs.declared.key.Key.{Key}
 use Rattle.fb_entries.specs.Jobs.declared.value.Value.{Value}
 use Rattle.fb_entries.specs.Jobs.Keys.{has_key, scratch}
-use Rattle.fb_entries.specs.Jobs.KeyOrder.{key_cmp}
 use Rattle.fb_entries.specs.Jobs.Values.{finding_of}
 use Rattle.fb_history.specs.Machine.{State, is_ready}
 use Rattle.fb_history.specs.Story.{Story, IsOrigin, last_number, state_of, IsReplay}
-use Rattle.fb_entries.specs.declared.entries.Entries.{Entries}
 use Rattle.fb_entries.specs.declared.entry.Entry.{Entry}
 use Rattle.fb_entries.specs.Index.Indexed.{Indexed}
 use Rattle.fb_entries.specs.Indexed.{IsIndexOf}
@@ -29,20 +26,16 @@ EntryFits state key (Some it) =
     (has_key state.units key ≡ true) × (state.pending key ≡ is_none it.value) × (state.out key ≡ it.out) × IsScratch state.units key it.value × IsScratch state.units key it.found
 
 -- what is kept agrees with a state
-pub record Agrees (units : Texts) (commits : ℕ) (entries : tree.BTreeMap Key Entry) (ready : set.BTreeSet Key) (state : State) : Type 0 where
+pub record Agrees (units : Texts) (commits : ℕ) (entries : Keyed) (state : State) : Type 0 where
   pub units_are : units ≡ state.units
   pub commits_are : commits ≡ state.commits
-  pub each : (key : Key) → EntryFits state key (tree.get key_cmp entries key)
-  pub ready_are : (key : Key) → set.contains key_cmp ready key ≡ is_ready state key
+  pub each : (key : Key) → EntryFits state key (entry_at entries key)
+  pub ready_are : (key : Key) → can_take entries key ≡ is_ready state key
 
 -- and so does the history: each stored answer is the machine's. The index is that of the texts
-pub record IsKept (units : Texts) (commits : ℕ) (entries : tree.BTreeMap Key Entry) (ready : set.BTreeSet Key) (index : Indexed) (story : Story) : Type 0 where
+pub record IsKept (units : Texts) (commits : ℕ) (entries : Keyed) (index : Indexed) (story : Story) : Type 0 where
   pub begins : IsOrigin story.origin
-  pub agrees : Agrees units commits entries ready (state_of story)
+  pub agrees : Agrees units commits entries (state_of story)
   pub replayed : IsReplay story
   pub indexed : IsIndexOf units index
   pub few : commits ≤ last_number story
-
--- the same of all that is kept of the keys
-abbrev pub KeepsAll : Texts → ℕ → Entries → Indexed → Story → Type 0
-KeepsAll units commits it index story = IsKept units commits it.by_key it.ready index story

@@ -1,14 +1,14 @@
 -- What a commit comes to, before anything is written.
 use Rattle.std.specs.Prelude.{◌≡◌, ℕ, List, map, length, nat_lt, if◌then◌else◌}
+use Rattle.fb_entries.specs.Keyed.{Keyed}
 use Rattle.fb_entries.specs.Library.Texts.{Texts, Edit, unit_of, all_edited}
 use Rattle.fb_history.specs.declared.answers.Committed.{Committed}
 use Rattle.fb_history.specs.declared.answers.Committed.TheVariants as answer
 use Rattle.fb_bench.specs.declared.commit.Outcome.{Outcome}
 use Rattle.fb_bench.specs.declared.commit.Outcome.TheVariants.{Refused, Done}
-use Rattle.fb_entries.specs.declared.entries.Entries.{Entries}
 use Rattle.fb_entries.specs.Indexed.{IsIndexOf}
 use Rattle.fb_history.specs.Machine.{State, refusal, or_else, after_commit}
-use Rattle.fb_entries.specs.Found.{Alters}
+use Rattle.fb_entries.specs.Renew.{IsRenewal}
 
 -- the answer to changes of these texts, where at most so many units may be and a good commit has this number
 abbrev pub answer_at : ℕ → ℕ → Texts → List Edit → Committed
@@ -16,11 +16,11 @@ answer_at most_units number texts edits =
     or_else (refusal texts edits) (if nat_lt most_units (length (all_edited number edits texts)) then answer.TooManyUnits else answer.Done number)
 
 -- A refusal, which leaves every state. Or the texts after the changes, with their index, and what the changes alter.
-abbrev pub IsOutcome : ℕ → ℕ → Texts → List Edit → Entries → Outcome → Type 0
+abbrev pub IsOutcome : ℕ → ℕ → Texts → List Edit → Keyed → Outcome → Type 0
 IsOutcome most_units number texts edits entries (Refused refused) =
     (refused ≡ answer_at most_units number texts edits) × ((state : State) → after_commit refused edits state ≡ state)
 IsOutcome most_units number texts edits entries (Done library found) =
     (answer.Done number ≡ answer_at most_units number texts edits)
     × (library ≡ all_edited number edits texts)
     × IsIndexOf library found.index
-    × Alters library (map unit_of edits) entries found.renewal
+    × IsRenewal library (map unit_of edits) entries found.renewal

@@ -12,7 +12,7 @@ use crate::request::{Request, call_of_result, reply_of_job};
 use fb_entries::index::Index;
 use fb_entries::jobs::{Finished, Job, Key, Read, current_nets, current_reads, locality};
 use fb_entries::library::{Change, Library};
-use fb_entries::{Entries, Marks, join, keep, leave, mark_out};
+use fb_entries::{Entries, Marks};
 use fb_history::{
     Asked, Call, CheckpointRefused, Committed, Delivered, GivenBack, History, Limits, Record,
     Refused, Reply, Start, TextChange,
@@ -39,11 +39,11 @@ impl Model for Bench {
 
     ghost Value = { Story };
 
-    ghost use Rattle.fb_bench.specs.Kept.{KeepsAll};
+    ghost use Rattle.fb_bench.specs.Kept.{IsKept};
 
     ghost view = { λ it. it.history };
 
-    ghost invariant = { λ it. KeepsAll it.library it.commits it.entries it.index it.history };
+    ghost invariant = { λ it. IsKept it.library it.commits it.entries it.index it.history };
 }
 
 impl Bench {
@@ -61,6 +61,7 @@ impl Bench {
     ghost use Rattle.fb_bench.specs.Founds.{HasNetsOf};
     ghost use Rattle.fb_bench.specs.Refusals.{IsFullRefusal};
     ghost use Rattle.fb_bench.specs.Requests.{call_for, reply_in};
+    ghost use Rattle.fb_bench.specs.Calls.{Fits};
     ghost use Rattle.fb_bench.specs.Peeks.{shown_by, is_pending};
     ghost use Rattle.fb_history.specs.Checkpoints.{checking, checkpointed, ChecksAs};
     ghost use Rattle.fb_history.specs.Due.{is_due};
@@ -152,7 +153,7 @@ impl Bench {
     pub fn key_count(&self) -> usize
         ensures { result ≡ length (keys_of (state_of self.now).units) }
     {
-        self.entries.by_key.len()
+        self.entries.len()
     }
 
     /// The key at a place, counted from 0, by kind and then by name. It passes over those before it.
@@ -177,7 +178,7 @@ impl Bench {
         ensures stored { IfOk result (λ made. shown_in made.1 ≡ shown (state_of self.now) key) }
         ensures key { IfOk result (λ made. made.2.value ≡ key) }
     {
-        let Some(entry) = self.entries.by_key.get(&key) else {
+        let Some(entry) = self.entries.get(&key) else {
             let own = Arc::new(self.alloc, key)?;
             return Ok((Asked::NoSuchKey, Asked::NoSuchKey, own));
         };
@@ -239,7 +240,7 @@ impl Bench {
         ensures shown { shown_by result ≡ shown (state_of self.now) key.now }
         ensures begins { IsOrigin self.now.origin }
     {
-        match self.entries.by_key.get(key) {
+        match self.entries.get(key) {
             None => Shown::NoSuchKey,
             Some(entry) => match &entry.value {
                 None => Shown::Pending,
@@ -266,10 +267,7 @@ impl Bench {
     fn next(&self) -> Option<Key>
         ensures { result ≡ next (state_of self.now) }
     {
-        match self.entries.ready.first() {
-            Some(key) => Some(*key),
-            None => None,
-        }
+        self.entries.first_ready()
     }
 
     /// Hands out a job for the least key that is pending and not handed out.
@@ -329,8 +327,7 @@ impl Bench {
         ensures err { OnErr result (self.new ≡ self.old) }
     {
         let share = self.history.push(caller, Call::Take, answer)?;
-        mark_out(&mut self.entries.by_key, key, true);
-        leave(&mut self.entries.ready, key);
+        self.entries.hand_out(key);
         Ok(share)
     }
 
@@ -473,9 +470,8 @@ impl Bench {
         let answer = Reply::Delivering(None);
         let share = self.history.push(caller, call, answer)?;
         let key = finished.key();
-        keep(&mut self.entries.by_key, &key, value);
-        keep_all(&mut self.entries.by_key, found);
-        leave(&mut self.entries.ready, &key);
+        self.entries.keep(&key, value);
+        keep_all(&mut self.entries, found);
         Ok(share)
     }
 
@@ -483,7 +479,7 @@ impl Bench {
     pub fn is_out(&self, key: &Key) -> bool
         ensures { result ≡ (state_of self.now).out key.now }
     {
-        match self.entries.by_key.get(key) {
+        match self.entries.get(key) {
             None => false,
             Some(entry) => entry.out,
         }
@@ -493,7 +489,7 @@ impl Bench {
     fn waits(&self, key: &Key) -> bool
         ensures { result ≡ (state_of self.now).pending key.now }
     {
-        match self.entries.by_key.get(key) {
+        match self.entries.get(key) {
             None => false,
             Some(entry) => entry.value.is_none(),
         }
@@ -503,7 +499,7 @@ impl Bench {
     fn giving_back(&self, key: Key) -> Result<Call, AllocError>
         ensures { IfOk result (λ call. call_of call ≡ ToGiveBack key) }
     {
-        let shared = match self.entries.by_key.get(&key) {
+        let shared = match self.entries.get(&key) {
             None => Arc::new(self.alloc, key)?,
             Some(entry) => entry.share_of(self.alloc, key)?,
         };
@@ -564,15 +560,15 @@ impl Bench {
         ensures err { OnErr result (self.new ≡ self.old) }
     {
         let call = self.giving_back(*key)?;
-        join(&mut self.entries.ready, key)?;
+        self.entries.make_ready(key)?;
         let answer = Reply::GivingBack(GivenBack::Returned);
         match self.history.push(caller, call, answer) {
             Ok(share) => {
-                mark_out(&mut self.entries.by_key, key, false);
+                self.entries.bring_back(key);
                 Ok(share)
             }
             Err(error) => {
-                leave(&mut self.entries.ready, key);
+                self.entries.unmake_ready(key);
                 Err(error)
             }
         }
@@ -591,7 +587,7 @@ impl Bench {
         let call = self.giving_back(*key)?;
         let answer = Reply::GivingBack(GivenBack::Returned);
         let share = self.history.push(caller, call, answer)?;
-        mark_out(&mut self.entries.by_key, key, false);
+        self.entries.bring_back(key);
         Ok(share)
     }
 
@@ -618,7 +614,7 @@ impl Bench {
         Ok(before)
     }
 
-    /// Makes any call. It gives a share of the record, and the answer.
+    /// Makes any call. It gives a share of the record, and the answer, which is of the call's kind.
     pub fn perform(
         &mut self,
         caller: u32,
@@ -629,6 +625,7 @@ impl Bench {
             (λ made. made.0.value ≡ record_of self.old caller (call_for request.now)) }
         ensures answer { IfOk result
             (λ made. reply_in made.1 ≡ reply_at self.old (call_for request.now)) }
+        ensures fits { IfOk result (λ made. Fits (call_for request.now) (reply_in made.1)) }
         ensures full { IsFullRefusal self.old.log result }
         ensures err { OnErr result (self.new ≡ self.old) }
     {
@@ -661,7 +658,7 @@ impl Bench {
         ensures { result ≡ deliver_answer (state_of self.now)
             (record { key = key; reads = all_seen reads.now }) }
     {
-        match self.entries.by_key.get(&key) {
+        match self.entries.get(&key) {
             None => Delivered::NoSuchKey,
             Some(entry) => {
                 if entry.value.is_some() {

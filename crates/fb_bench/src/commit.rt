@@ -6,7 +6,7 @@ ghost use Rattle.fb_entries.specs.Jobs.Reads.{is_among};
 ghost use Rattle.fb_history.specs.Machine.{most_changes, first_repeated, misfit, first_misfit, refusal};
 ghost use Rattle.fb_entries.specs.Indexed.{IsIndexOf};
 ghost use Rattle.fb_bench.specs.Outcomes.{IsOutcome};
-ghost use Rattle.fb_entries.specs.Found.{MakesRoom, LosesRoom};
+ghost use Rattle.fb_entries.specs.Renew.{HasRoom, IsTakenBack};
 ghost use Rattle.fb_bench.specs.Records.{call_of, reply_of};
 ghost use Rattle.fb_history.specs.Story.{logged, record_after};
 
@@ -154,8 +154,8 @@ pub(crate) fn record_with_room(
     answer: Reply,
 ) -> Result<Arc<Record>, AllocError>
     requires { length history.old.log.records < history.old.log.limit }
-    ensures room { OnOk result (MakesRoom renewal.now entries.old entries.new) }
-    ensures back { OnErr result (LosesRoom renewal.now entries.old entries.new) }
+    ensures room { OnOk result (HasRoom renewal.now entries.old entries.new) }
+    ensures back { OnErr result (IsTakenBack renewal.now entries.old entries.new) }
     ensures logged { OnOk result
         (history.new ≡ logged history.old caller (call_of call) (reply_of answer)) }
     ensures share { IfOk result

@@ -2,10 +2,9 @@
 ghost use Rattle.std.specs.Prelude.{◌≡◌, IfOk, map};
 ghost use Rattle.fb_bench.specs.Founds.{KeepsAgreement, said};
 
+use fb_entries::Entries;
 use fb_entries::jobs::{Hint, Key, Kind};
-use fb_entries::{Entry, keep_found};
 use std::alloc::{AllocError, Global};
-use std::collections::BTreeMap;
 
 /// Shares of the nets.
 pub(crate) fn shares_of(alloc: Global, found: &[Hint]) -> Result<Vec<Hint>, AllocError>
@@ -22,7 +21,7 @@ pub(crate) fn shares_of(alloc: Global, found: &[Hint]) -> Result<Vec<Hint>, Allo
 }
 
 /// Keeps each for its unit's key, if that is pending.
-pub(crate) fn keep_all(entries: &mut BTreeMap<Key, Entry>, found: Vec<Hint>)
+pub(crate) fn keep_all(entries: &mut Entries, found: Vec<Hint>)
     ensures { KeepsAgreement found.items entries.old entries.new }
 {
     for it in found {
@@ -30,6 +29,6 @@ pub(crate) fn keep_all(entries: &mut BTreeMap<Key, Entry>, found: Vec<Hint>)
             kind: Kind::Net,
             unit: it.unit,
         };
-        keep_found(entries, &key, it.value);
+        entries.keep_found(&key, it.value);
     }
 }

@@ -26,7 +26,7 @@ pub data PlainDeploy : Type 0 where
 abbrev pub plain_deploy : Deploy → PlainDeploy
 plain_deploy (deploy.Stopped net) = stopped (plain_net net)
 plain_deploy (deploy.Faulty found) = faulty found.items
-plain_deploy (deploy.Plan cuts resources) = planned cuts.items resources.items
+plain_deploy (deploy.Plan plan) = planned plan.cuts plan.resources
 
 abbrev pub tree_plan : Sources → List ℕ → Option DeclTree → PlainFlat → List Home → PlainDeploy
 tree_plan sources system tree flat homes =

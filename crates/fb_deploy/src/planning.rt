@@ -10,8 +10,8 @@ ghost use Rattle.fb_deploy.specs.Plans.{plan_at};
 
 use fb_mapping::flatten::{Hints, Net, NoHints, net_with};
 use fb_mapping::library::View;
-use fb_mapping::placing::{Commands, Home, Homes, Misplaced, ResourcePlan, commands_of, homes_of};
-use fb_mapping::plain::{Flat, Link};
+use fb_mapping::placing::{Home, Homes, Misplaced, Plan, homes_of, plan_of};
+use fb_mapping::plain::Flat;
 use fb_mapping::text::Name;
 use std::alloc::{AllocError, Global};
 
@@ -23,10 +23,7 @@ pub enum Deploy {
     /// Blocks and mappings do not meet.
     Faulty(Vec<Misplaced>),
     /// The links between resources, and the commands of each resource, in the order of the text.
-    Plan {
-        cuts: Vec<Link>,
-        resources: Vec<ResourcePlan>,
-    },
+    Plan(Plan),
 }
 
 /// The plan of a system whose blocks have these homes.
@@ -41,8 +38,8 @@ fn plan_homes<V: View>(
         ≡ tree_plan (V.sources view.now) system.now
         (tree_at (V.sources view.now) system.now) flat.now homes.now) }
 {
-    let Commands { cuts, resources } = commands_of(alloc, view, system, flat, homes)?;
-    Ok(Deploy::Plan { cuts, resources })
+    let plan = plan_of(alloc, view, system, flat, homes)?;
+    Ok(Deploy::Plan(plan))
 }
 
 /// The plan of a system by its flat network.

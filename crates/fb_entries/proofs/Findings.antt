@@ -1,12 +1,10 @@
 -- What is found before anything is changed, and room that is taken back.
 use Rattle.std.proofs.Common.{◌≡◌, ◌↔◌, ℕ, Bool, true, false, ◌||◌, ◌&&◌, not, List, filter, refl, sym, ap, ◌∙◌, Option, None, cond, is_none}
-use Rattle.std.specs.BTreeMap as tree
-use Rattle.std.specs.BTreeSet as set
 use Rattle.fb_text.proofs.Tests.{and_false}
 use Rattle.fb_index.specs.Library.Texts.{Texts}
 use Rattle.fb_jobs.specs.declared.key.Key.{Key}
 use Rattle.fb_jobs.specs.Keys.{has_key}
-use Rattle.fb_jobs.specs.KeyOrder.{key_cmp}
+use Rattle.fb_entries.specs.Keyed.{Keyed, can_take, entry_at}
 use Rattle.fb_entries.specs.declared.entry.Entry.{Entry}
 use Rattle.fb_entries.specs.declared.renewal.Renewal.{Renewal}
 use Rattle.fb_jobs.specs.Kinds.{all_keys}
@@ -28,8 +26,8 @@ and_found true true r same = same refl
 and_found false true r same = same refl
 and_found a false r same = and_false a
 
-module _ (U : Texts) (index : Indexed) (names : List (List ℕ)) (old_entries : tree.BTreeMap Key Entry) (old_ready : set.BTreeSet Key) (it : Renewal) (own present reached : List Key) where
-  pub found : IsIndexOf U index → own ≡ all_keys names → present ≡ filter (has_key U) own → it.fresh.items ≡ filter (λ k. is_none (tree.get key_cmp old_entries k)) present → it.gone.items ≡ filter (λ k. not (has_key U k)) own → ((q : Key) → (is_of q reached ≡ true) ↔ IsReached index names q.kind q.unit) → it.renewed.items ≡ filter (has_key U) reached → it.unready.items ≡ filter (λ k. not (set.contains key_cmp old_ready k)) it.renewed.items → IsRenewal U names old_entries old_ready it
+module _ (U : Texts) (index : Indexed) (names : List (List ℕ)) (old : Keyed) (it : Renewal) (own present reached : List Key) where
+  pub found : IsIndexOf U index → own ≡ all_keys names → present ≡ filter (has_key U) own → it.fresh.items ≡ filter (λ k. is_none (entry_at old k)) present → it.gone.items ≡ filter (λ k. not (has_key U k)) own → ((q : Key) → (is_of q reached ≡ true) ↔ IsReached index names q.kind q.unit) → it.renewed.items ≡ filter (has_key U) reached → it.unready.items ≡ filter (λ k. not (can_take old k)) it.renewed.items → IsRenewal U names old it
   found indexed own_is present_is fresh_is gone_is reached_is renewed_is unready_is =
       let owns : (q : Key) → is_of q own ≡ is_own names q = λ q. ap (λ ks. is_of q ks) own_is in
       let alls : (q : Key) → is_of q it.renewed.items ≡ is_renewed U names q = λ q.
@@ -41,11 +39,11 @@ module _ (U : Texts) (index : Indexed) (names : List (List ℕ)) (old_entries : 
       (λ h. (reached_is q).1 ((reached_by U index indexed q names has).0 h))) in
       record {
         fresh_are = λ q.
-            ap (λ ks. is_of q ks) fresh_is ∙ of_filtered (λ k. is_none (tree.get key_cmp old_entries k)) q present
-            ∙ ap (λ b. b && is_none (tree.get key_cmp old_entries q)) (ap (λ ks. is_of q ks) present_is ∙ of_filtered (has_key U) q own ∙ ap (λ b. b && has_key U q) (owns q));
+            ap (λ ks. is_of q ks) fresh_is ∙ of_filtered (λ k. is_none (entry_at old k)) q present
+            ∙ ap (λ b. b && is_none (entry_at old q)) (ap (λ ks. is_of q ks) present_is ∙ of_filtered (has_key U) q own ∙ ap (λ b. b && has_key U q) (owns q));
         gone_are = λ q. ap (λ ks. is_of q ks) gone_is ∙ of_filtered (λ k. not (has_key U k)) q own ∙ ap (λ b. b && not (has_key U q)) (owns q);
         renewed_are = alls;
-        unready_are = λ q. ap (λ ks. is_of q ks) unready_is ∙ of_filtered (λ k. not (set.contains key_cmp old_ready k)) q it.renewed.items ∙ ap (λ b. b && not (set.contains key_cmp old_ready q)) (alls q);
+        unready_are = λ q. ap (λ ks. is_of q ks) unready_is ∙ of_filtered (λ k. not (can_take old k)) q it.renewed.items ∙ ap (λ b. b && not (can_take old q)) (alls q);
       }
 
 -- ---- room that is taken back
@@ -59,8 +57,8 @@ room_mark true was now is = refl
 room_mark false was now is = is
 
 -- room that was made, and was taken back
-pub taken_back : (old_entries room_entries new_entries : tree.BTreeMap Key Entry) (old_ready room_ready new_ready : set.BTreeSet Key) (it : Renewal) → HasRoom it old_entries room_entries old_ready room_ready → ((q : Key) → tree.get key_cmp new_entries q ≡ cond (is_of q it.fresh.items) None (tree.get key_cmp room_entries q)) → ((q : Key) → set.contains key_cmp new_ready q ≡ cond (is_of q it.unready.items) false (set.contains key_cmp room_ready q)) → IsTakenBack it old_entries new_entries old_ready new_ready
-taken_back old_entries room_entries new_entries old_ready room_ready new_ready it room entries ready = record {
-  entries = λ q. entries q ∙ room_entry (is_of q it.fresh.items) (tree.get key_cmp room_entries q) (tree.get key_cmp old_entries q) (room.others q);
-  readies = λ q. ready q ∙ room_mark (is_of q it.unready.items) (set.contains key_cmp old_ready q) (set.contains key_cmp room_ready q) (room.readies q);
+pub taken_back : (old room new : Keyed) (it : Renewal) → HasRoom it old room → IsTakenBack it room new → IsTakenBack it old new
+taken_back old room new it made back = record {
+  entries = λ q. back.entries q ∙ room_entry (is_of q it.fresh.items) (entry_at room q) (entry_at old q) (made.others q);
+  readies = λ q. back.readies q ∙ room_mark (is_of q it.unready.items) (can_take old q) (can_take room q) (made.readies q);
 }

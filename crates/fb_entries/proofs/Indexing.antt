@@ -5,11 +5,11 @@ use Rattle.std.specs.BTreeMap.{is_at}
 use Rattle.std.specs.Option.{option_and_then}
 use Rattle.fb_text.proofs.Tests.{by_bool, or_cases, or_false, no_both}
 use Rattle.fb_text.specs.Order.{name_cmp}
-use Rattle.fb_tree.specs.Mentions.{Mentioned, nothing_mentioned}
+use Rattle.fb_tree.specs.Mentions.{Mentioned}
 use Rattle.fb_index.specs.Indexed.{Indexed, is_indexed, nothing_indexed, IsIndexedAs, IsReplaced}
 use Rattle.fb_index.proofs.Lookups.{flips}
 use Rattle.fb_index.proofs.Replacing.{indexed_none as nothing_known, still_indexed}
-use Rattle.fb_index.proofs.Library.SeenLemmas.{or_left, or_right, same_is, same_self, has-push}
+use Rattle.fb_index.proofs.Library.SeenLemmas.{or_left, or_right, same_is, has-push}
 use Rattle.fb_index.specs.Library.Texts.{Texts, sources_of, text_at}
 use Rattle.fb_index.specs.Library.View.{tree_of, mentions_of_tree, mentioned_at}
 use Rattle.fb_index.proofs.Library.Sources.{get_source}

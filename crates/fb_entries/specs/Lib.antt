@@ -1,3 +1,4 @@
+pub mod Keyed
 pub mod Marking
 pub mod Renew
 pub mod Indexed

@@ -2,13 +2,11 @@
 use Rattle.std.specs.Prelude.{◌≡◌, Bool, true, false, List, map, filter, Option, Some, None, is_none, if◌then◌else◌}
 use Rattle.std.specs.List.{list_any}
 use Rattle.std.specs.Option.{option_map, option_or}
-use Rattle.std.specs.BTreeMap as tree
-use Rattle.std.specs.BTreeSet as set
 use Rattle.std.specs.declared.sync.Arc.{Arc}
 use Rattle.std.specs.declared.alloc.Global.{Global}
 use Rattle.fb_jobs.specs.declared.key.Key.{Key}
 use Rattle.fb_jobs.specs.declared.value.Value.{Value}
-use Rattle.fb_jobs.specs.KeyOrder.{key_cmp, same_key}
+use Rattle.fb_jobs.specs.KeyOrder.{same_key}
 use Rattle.fb_entries.specs.declared.entry.Entry.{Entry}
 
 -- whether the key is one of these
@@ -30,8 +28,8 @@ abbrev pub is_handed_out : Entry → Bool
 is_handed_out it = it.out
 
 -- the keys whose entries pass, in order
-abbrev pub keys_with : (Entry → Bool) → tree.BTreeMap Key Entry → List Key
-keys_with passes entries = map (λ (e : Key × Entry). e.0) (filter (λ (e : Key × Entry). passes e.1) entries.entries)
+abbrev pub keys_with : (Entry → Bool) → List (Key × Entry) → List Key
+keys_with passes entries = map (λ (e : Key × Entry). e.0) (filter (λ (e : Key × Entry). passes e.1) entries)
 
 -- an entry with this handed-out mark
 abbrev pub with_out : Bool → Entry → Entry
@@ -58,49 +56,59 @@ waiting it = record it { value = None; out = false; found = None; former = optio
 abbrev pub waiting_if : Bool → Option Entry → Option Entry
 waiting_if renewed it = if renewed then option_map waiting it else it
 
+-- ---- what becomes of entries and of sets of keys, key by key
+
+-- the entry of each key
+abbrev pub Entries : Type 0
+Entries = Key → Option Entry
+
+-- whether each key is in a set
+abbrev pub Keys : Type 0
+Keys = Key → Bool
+
 -- the entry of the key, if there is one, is changed, and no other
-abbrev pub ChangesEntry : Key → (Entry → Entry) → tree.BTreeMap Key Entry → tree.BTreeMap Key Entry → Type 0
+abbrev pub ChangesEntry : Key → (Entry → Entry) → Entries → Entries → Type 0
 ChangesEntry key change old new =
-    (other : Key) → tree.get key_cmp new other ≡ (if same_key key other then option_map change (tree.get key_cmp old other) else tree.get key_cmp old other)
+    (other : Key) → new other ≡ (if same_key key other then option_map change (old other) else old other)
 
 -- the entry of the key, if there is one, waits for a result, and no other is changed
-abbrev pub RenewsEntry : Key → tree.BTreeMap Key Entry → tree.BTreeMap Key Entry → Type 0
-RenewsEntry key old new = (other : Key) → tree.get key_cmp new other ≡ waiting_if (same_key key other) (tree.get key_cmp old other)
+abbrev pub RenewsEntry : Key → Entries → Entries → Type 0
+RenewsEntry key old new = (other : Key) → new other ≡ waiting_if (same_key key other) (old other)
 
 -- the same for each of these keys
-abbrev pub RenewsEntries : List Key → tree.BTreeMap Key Entry → tree.BTreeMap Key Entry → Type 0
-RenewsEntries keys old new = (other : Key) → tree.get key_cmp new other ≡ waiting_if (is_of other keys) (tree.get key_cmp old other)
+abbrev pub RenewsEntries : List Key → Entries → Entries → Type 0
+RenewsEntries keys old new = (other : Key) → new other ≡ waiting_if (is_of other keys) (old other)
 
 -- these keys have no entry any more, and no other entry is changed
-abbrev pub LosesEntries : List Key → tree.BTreeMap Key Entry → tree.BTreeMap Key Entry → Type 0
-LosesEntries keys old new = (other : Key) → tree.get key_cmp new other ≡ (if is_of other keys then None else tree.get key_cmp old other)
+abbrev pub LosesEntries : List Key → Entries → Entries → Type 0
+LosesEntries keys old new = (other : Key) → new other ≡ (if is_of other keys then None else old other)
 
 -- no entry is changed but those of these keys
-abbrev pub KeepsOtherEntries : List Key → tree.BTreeMap Key Entry → tree.BTreeMap Key Entry → Type 0
-KeepsOtherEntries keys old new = (other : Key) → is_of other keys ≡ false → tree.get key_cmp new other ≡ tree.get key_cmp old other
+abbrev pub KeepsOtherEntries : List Key → Entries → Entries → Type 0
+KeepsOtherEntries keys old new = (other : Key) → is_of other keys ≡ false → new other ≡ old other
 
 -- each of these keys has an entry
-abbrev pub HasEntries : List Key → tree.BTreeMap Key Entry → Type 0
-HasEntries keys entries = (other : Key) → is_of other keys ≡ true → is_none (tree.get key_cmp entries other) ≡ false
+abbrev pub HasEntries : List Key → Entries → Type 0
+HasEntries keys entries = (other : Key) → is_of other keys ≡ true → is_none (entries other) ≡ false
 
 -- ---- sets of keys
 
 -- both have the same keys
-abbrev pub SameKeys : set.BTreeSet Key → set.BTreeSet Key → Type 0
-SameKeys old new = (other : Key) → set.contains key_cmp new other ≡ set.contains key_cmp old other
+abbrev pub SameKeys : Keys → Keys → Type 0
+SameKeys old new = (other : Key) → new other ≡ old other
 
 -- the key is in the set now or not, and all else is as it was
-abbrev pub MarksKey : Key → Bool → set.BTreeSet Key → set.BTreeSet Key → Type 0
-MarksKey key mark old new = (other : Key) → set.contains key_cmp new other ≡ (if same_key key other then mark else set.contains key_cmp old other)
+abbrev pub MarksKey : Key → Bool → Keys → Keys → Type 0
+MarksKey key mark old new = (other : Key) → new other ≡ (if same_key key other then mark else old other)
 
 -- these keys are no longer in the set, and all else is as it was
-abbrev pub LosesKeys : List Key → set.BTreeSet Key → set.BTreeSet Key → Type 0
-LosesKeys keys old new = (other : Key) → set.contains key_cmp new other ≡ (if is_of other keys then false else set.contains key_cmp old other)
+abbrev pub LosesKeys : List Key → Keys → Keys → Type 0
+LosesKeys keys old new = (other : Key) → new other ≡ (if is_of other keys then false else old other)
 
 -- no key has joined or left but these
-abbrev pub KeepsOtherKeys : List Key → set.BTreeSet Key → set.BTreeSet Key → Type 0
-KeepsOtherKeys keys old new = (other : Key) → is_of other keys ≡ false → set.contains key_cmp new other ≡ set.contains key_cmp old other
+abbrev pub KeepsOtherKeys : List Key → Keys → Keys → Type 0
+KeepsOtherKeys keys old new = (other : Key) → is_of other keys ≡ false → new other ≡ old other
 
 -- each of these keys is in the set
-abbrev pub HasKeys : List Key → set.BTreeSet Key → Type 0
-HasKeys keys members = (other : Key) → is_of other keys ≡ true → set.contains key_cmp members other ≡ true
+abbrev pub HasKeys : List Key → Keys → Type 0
+HasKeys keys members = (other : Key) → is_of other keys ≡ true → members other ≡ true

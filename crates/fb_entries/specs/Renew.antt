@@ -1,15 +1,12 @@
 -- What a commit does to the entries.
 use Rattle.std.specs.Prelude.{◌≡◌, ℕ, Bool, ◌&&◌, ◌||◌, not, List, None, is_none, if◌then◌else◌}
-use Rattle.std.specs.BTreeMap as tree
-use Rattle.std.specs.BTreeSet as set
 use Rattle.fb_jobs.specs.declared.key.Key.{Key}
 use Rattle.fb_jobs.specs.Keys.{has_key}
-use Rattle.fb_jobs.specs.KeyOrder.{key_cmp}
 use Rattle.fb_index.specs.Library.Texts.{Texts}
 use Rattle.fb_jobs.specs.Kinds.{all_keys}
 use Rattle.fb_jobs.specs.Reach.{reaches}
+use Rattle.fb_entries.specs.Keyed.{Keyed, can_take, entry_at}
 use Rattle.fb_entries.specs.Marking.{is_of, waiting_if, KeepsOtherEntries, HasEntries, LosesEntries, LosesKeys}
-use Rattle.fb_entries.specs.declared.entry.Entry.{Entry}
 use Rattle.fb_entries.specs.declared.renewal.Renewal.{Renewal}
 
 -- whether the key is of a changed unit
@@ -17,32 +14,32 @@ abbrev pub is_own : List (List ℕ) → Key → Bool
 is_own changed key = is_of key (all_keys changed)
 
 -- whether the new texts have a key of a changed unit that has no entry
-abbrev pub is_fresh : Texts → List (List ℕ) → tree.BTreeMap Key Entry → Key → Bool
-is_fresh texts changed entries key = (is_own changed key && has_key texts key) && is_none (tree.get key_cmp entries key)
+abbrev pub is_fresh : Texts → List (List ℕ) → Keyed → Key → Bool
+is_fresh texts changed it key = (is_own changed key && has_key texts key) && is_none (entry_at it key)
 
 -- whether the new texts have the key and one of the changed names decides its value
 abbrev pub is_renewed : Texts → List (List ℕ) → Key → Bool
 is_renewed texts changed key = has_key texts key && reaches changed texts key
 
 -- what is found before anything is changed
-pub record IsRenewal (texts : Texts) (changed : List (List ℕ)) (entries : tree.BTreeMap Key Entry) (ready : set.BTreeSet Key) (it : Renewal) : Type 0 where
-  pub fresh_are : (key : Key) → is_of key it.fresh.items ≡ is_fresh texts changed entries key
+pub record IsRenewal (texts : Texts) (changed : List (List ℕ)) (old : Keyed) (it : Renewal) : Type 0 where
+  pub fresh_are : (key : Key) → is_of key it.fresh.items ≡ is_fresh texts changed old key
   pub gone_are : (key : Key) → is_of key it.gone.items ≡ (is_own changed key && not (has_key texts key))
   pub renewed_are : (key : Key) → is_of key it.renewed.items ≡ is_renewed texts changed key
-  pub unready_are : (key : Key) → is_of key it.unready.items ≡ (is_renewed texts changed key && not (set.contains key_cmp ready key))
+  pub unready_are : (key : Key) → is_of key it.unready.items ≡ (is_renewed texts changed key && not (can_take old key))
 
 -- there is an entry for each new key, the keys have joined the set, and all else is as it was
-pub record HasRoom (it : Renewal) (old new : tree.BTreeMap Key Entry) (ready ready' : set.BTreeSet Key) : Type 0 where
-  pub others : KeepsOtherEntries it.fresh.items old new
-  pub there : HasEntries it.fresh.items new
-  pub readies : (key : Key) → set.contains key_cmp ready' key ≡ (is_of key it.unready.items || set.contains key_cmp ready key)
+pub record HasRoom (it : Renewal) (old new : Keyed) : Type 0 where
+  pub others : KeepsOtherEntries it.fresh.items (entry_at old) (entry_at new)
+  pub there : HasEntries it.fresh.items (entry_at new)
+  pub readies : (key : Key) → can_take new key ≡ (is_of key it.unready.items || can_take old key)
 
 -- there is none of them
-pub record IsTakenBack (it : Renewal) (old new : tree.BTreeMap Key Entry) (ready ready' : set.BTreeSet Key) : Type 0 where
-  pub entries : LosesEntries it.fresh.items old new
-  pub readies : LosesKeys it.unready.items ready ready'
+pub record IsTakenBack (it : Renewal) (old new : Keyed) : Type 0 where
+  pub entries : LosesEntries it.fresh.items (entry_at old) (entry_at new)
+  pub readies : LosesKeys it.unready.items (can_take old) (can_take new)
 
--- the gone keys have no entry any more, and the renewed ones wait for a result
-abbrev pub IsCarriedOut : Renewal → tree.BTreeMap Key Entry → tree.BTreeMap Key Entry → Type 0
-IsCarriedOut it old new =
-    (key : Key) → tree.get key_cmp new key ≡ waiting_if (is_of key it.renewed.items) (if is_of key it.gone.items then None else tree.get key_cmp old key)
+-- the gone keys have no entry any more and can't be taken, and the renewed ones wait for a result
+pub record IsCarriedOut (it : Renewal) (old new : Keyed) : Type 0 where
+  pub entries : (key : Key) → entry_at new key ≡ waiting_if (is_of key it.renewed.items) (if is_of key it.gone.items then None else entry_at old key)
+  pub readies : LosesKeys it.gone.items (can_take old) (can_take new)

@@ -1,14 +1,17 @@
 //! What a workbench knows of its keys.
-ghost use Rattle.std.specs.Prelude.{◌≡◌, [], None, IfOk, OnOk, OnErr, count_by, slice_get};
-ghost use Rattle.std.specs.BTreeMap as tree;
+ghost use Rattle.std.specs.Prelude.{◌≡◌, [], None, true, false, IfOk, OnOk, OnErr, count_by, length, slice_get};
+ghost use Rattle.std.specs.Option.{option_copied};
+ghost use Rattle.std.specs.List.Sorted.{IsStrictlySortedBy};
+ghost use Rattle.std.specs.Map.{keys_of, values_of};
 ghost use Rattle.fb_jobs.specs.KeyOrder.{key_cmp};
 ghost use Rattle.fb_entries.specs.Indexed.{IsIndexOf};
 ghost use Rattle.fb_jobs.specs.Reach.{AgreeApartFrom, first_repeated};
-ghost use Rattle.fb_entries.specs.Marking.{is_handed_out, is_unkept, keys_with, LosesEntries, LosesKeys};
-ghost use Rattle.fb_entries.specs.Found.{units_of, Alters, MakesRoom, LosesRoom};
-ghost use Rattle.fb_entries.specs.Renew.{IsCarriedOut};
+ghost use Rattle.fb_entries.specs.Marking.{is_handed_out, is_unkept, keys_with, with_found, with_out, with_value, ChangesEntry, LosesEntries, LosesKeys, MarksKey, SameKeys};
+ghost use Rattle.fb_entries.specs.Found.{units_of};
+ghost use Rattle.fb_entries.specs.Keyed.{can_take, entry_at, IsFirstReady};
+ghost use Rattle.fb_entries.specs.Renew.{HasRoom, IsCarriedOut, IsRenewal, IsTakenBack};
 
-use crate::entry::Entry;
+use crate::entry::{Entry, join, keep, keep_found, leave, mark_out};
 use crate::keys::only_present;
 use crate::reach::{reached_keys, reindexed};
 use crate::renewal::{
@@ -21,14 +24,15 @@ use fb_jobs::{Kept, Key, Value, keys_by_name};
 use fb_text::Name;
 use std::alloc::{AllocError, Global};
 use std::collections::{BTreeMap, BTreeSet};
+use std::marker::Model;
 use std::sync::Arc;
 
 /// The keys of a library, what is kept of each, and which of them can be taken.
 #[derive(Drop)]
 pub struct Entries {
-    pub by_key: BTreeMap<Key, Entry>,
+    by_key: BTreeMap<Key, Entry>,
     /// The keys that are pending and not handed out.
-    pub ready: BTreeSet<Key>,
+    ready: BTreeSet<Key>,
 }
 
 /// The keys that are pending and those that are handed out, by rising key.
@@ -46,11 +50,19 @@ pub struct Found {
     pub renewal: Renewal,
 }
 
+impl Model for Entries {
+    ghost use Rattle.fb_entries.specs.Keyed.{Keyed};
+
+    ghost Value = { Keyed };
+
+    ghost view = { λ it. record { entries = it.by_key.entries; ready = it.ready.keys } };
+}
+
 impl Entries {
     /// No keys.
     pub fn new(alloc: Global) -> Entries
-        ensures entries { result.by_key.entries ≡ [] }
-        ensures ready { result.ready.keys ≡ [] }
+        ensures entries { result.entries ≡ [] }
+        ensures ready { result.ready ≡ [] }
     {
         Entries {
             by_key: BTreeMap::new(alloc),
@@ -58,18 +70,43 @@ impl Entries {
         }
     }
 
+    /// How many keys there are.
+    pub fn len(&self) -> usize
+        ensures len { result ≡ length self.now.entries }
+        ensures ordered { IsStrictlySortedBy key_cmp (keys_of self.now.entries) }
+    {
+        self.by_key.len()
+    }
+
+    /// What is kept of a key.
+    pub fn get(&self, key: &Key) -> Option<&Entry>
+        ensures { option_copied result ≡ entry_at self.now key.now }
+    {
+        self.by_key.get(key)
+    }
+
+    /// The least key that can be taken.
+    pub fn first_ready(&self) -> Option<Key>
+        ensures { IsFirstReady self.now result }
+    {
+        match self.ready.first() {
+            Some(key) => Some(*key),
+            None => None,
+        }
+    }
+
     /// The key at a place, counted from 0. It passes over those before it.
     pub fn key_at(&self, place: usize) -> Option<Key>
-        ensures key { result ≡ slice_get (tree.keys self.now.by_key) place }
-        ensures ordered { tree.IsOrdered key_cmp self.now.by_key }
+        ensures key { result ≡ slice_get (keys_of self.now.entries) place }
+        ensures ordered { IsStrictlySortedBy key_cmp (keys_of self.now.entries) }
     {
         self.by_key.keys().nth(place).copied()
     }
 
     /// How many keys are pending. It looks at each entry.
     pub fn pending_count(&self) -> usize
-        ensures count { result ≡ count_by is_unkept (tree.values self.now.by_key) }
-        ensures ordered { tree.IsOrdered key_cmp self.now.by_key }
+        ensures count { result ≡ count_by is_unkept (values_of self.now.entries) }
+        ensures ordered { IsStrictlySortedBy key_cmp (keys_of self.now.entries) }
     {
         self.by_key
             .values()
@@ -80,10 +117,10 @@ impl Entries {
     /// Which keys are pending, and which are handed out. It looks at each entry.
     pub fn marks(&self, alloc: Global) -> Result<Marks, AllocError>
         ensures pending { IfOk result
-            (λ marks. marks.pending.items ≡ keys_with is_unkept self.now.by_key) }
+            (λ marks. marks.pending.items ≡ keys_with is_unkept self.now.entries) }
         ensures out { IfOk result
-            (λ marks. marks.out.items ≡ keys_with is_handed_out self.now.by_key) }
-        ensures ordered { tree.IsOrdered key_cmp self.now.by_key }
+            (λ marks. marks.out.items ≡ keys_with is_handed_out self.now.entries) }
+        ensures ordered { IsStrictlySortedBy key_cmp (keys_of self.now.entries) }
     {
         let mut pending = Vec::new(alloc);
         let mut out = Vec::new(alloc);
@@ -112,7 +149,7 @@ impl Entries {
         requires others { AgreeApartFrom (units_of changes.now) before.now after.now }
         ensures index { IfOk result (λ found. IsIndexOf after.now found.index) }
         ensures renewal { IfOk result
-            (λ found. Alters after.now (units_of changes.now) self.now found.renewal) }
+            (λ found. IsRenewal after.now (units_of changes.now) self.now found.renewal) }
     {
         let units = changed_units(alloc, changes)?;
         let index = reindexed(alloc, index, before, after, &units)?;
@@ -129,7 +166,7 @@ impl Entries {
         units: &[Name],
     ) -> Result<Renewal, AllocError>
         requires indexed { IsIndexOf library.now index.now }
-        ensures { IfOk result (Alters library.now units.now self.now) }
+        ensures { IfOk result (IsRenewal library.now units.now self.now) }
     {
         let own = keys_by_name(alloc, units)?;
         let present = only_present(alloc, library, &own)?;
@@ -148,8 +185,8 @@ impl Entries {
 
     /// Makes room for new entries and marks, or leaves all as it was.
     pub fn make_room(&mut self, alloc: Global, renewal: &Renewal) -> Result<(), AllocError>
-        ensures ok { OnOk result (MakesRoom renewal.now self.old self.new) }
-        ensures err { OnErr result (LosesRoom renewal.now self.old self.new) }
+        ensures ok { OnOk result (HasRoom renewal.now self.old self.new) }
+        ensures err { OnErr result (IsTakenBack renewal.now self.old self.new) }
     {
         let is_made = put_blank(alloc, &mut self.by_key, &renewal.fresh).is_ok();
         if is_made && join_all(&mut self.ready, &renewal.unready).is_ok() {
@@ -161,8 +198,8 @@ impl Entries {
 
     /// Takes the room back that was made.
     pub fn take_back(&mut self, renewal: &Renewal)
-        ensures entries { LosesEntries renewal.now.fresh.items self.old.by_key self.new.by_key }
-        ensures ready { LosesKeys renewal.now.unready.items self.old.ready self.new.ready }
+        ensures entries { LosesEntries renewal.now.fresh.items (entry_at self.old) (entry_at self.new) }
+        ensures ready { LosesKeys renewal.now.unready.items (can_take self.old) (can_take self.new) }
     {
         take_out(&mut self.by_key, &renewal.fresh);
         leave_all(&mut self.ready, &renewal.unready);
@@ -170,8 +207,7 @@ impl Entries {
 
     /// Writes what was found, and gives the index back. Nothing here can fail.
     pub fn carry_out(&mut self, found: Found) -> Index
-        ensures entries { IsCarriedOut found.renewal self.old.by_key self.new.by_key }
-        ensures ready { LosesKeys found.renewal.gone.items self.old.ready self.new.ready }
+        ensures entries { IsCarriedOut found.renewal self.old self.new }
         ensures index { result ≡ found.index }
     {
         let Found { index, renewal } = found;
@@ -180,42 +216,76 @@ impl Entries {
         renew_all(&mut self.by_key, &renewal.renewed);
         index
     }
+
+    /// Hands a key out: it can no longer be taken.
+    pub fn hand_out(&mut self, key: &Key)
+        ensures entries { ChangesEntry key.now (with_out true) (entry_at self.old) (entry_at self.new) }
+        ensures ready { MarksKey key.now false (can_take self.old) (can_take self.new) }
+    {
+        mark_out(&mut self.by_key, key, true);
+        leave(&mut self.ready, key);
+    }
+
+    /// Clears the mark that a key is handed out.
+    pub fn bring_back(&mut self, key: &Key)
+        ensures entries { ChangesEntry key.now (with_out false) (entry_at self.old) (entry_at self.new) }
+        ensures ready { self.new.ready ≡ self.old.ready }
+    {
+        mark_out(&mut self.by_key, key, false);
+    }
+
+    /// Lets a key be taken, or leaves all as it was.
+    pub fn make_ready(&mut self, key: &Key) -> Result<(), AllocError>
+        ensures entries { self.new.entries ≡ self.old.entries }
+        ensures ok { OnOk result (MarksKey key.now true (can_take self.old) (can_take self.new)) }
+        ensures err { OnErr result (SameKeys (can_take self.old) (can_take self.new)) }
+    {
+        join(&mut self.ready, key)
+    }
+
+    /// Lets a key no longer be taken.
+    pub fn unmake_ready(&mut self, key: &Key)
+        ensures entries { self.new.entries ≡ self.old.entries }
+        ensures ready { MarksKey key.now false (can_take self.old) (can_take self.new) }
+    {
+        leave(&mut self.ready, key);
+    }
+
+    /// Gives a key its value; it is not handed out then, and can't be taken.
+    pub fn keep(&mut self, key: &Key, value: Arc<Value>)
+        ensures entries { ChangesEntry key.now (with_value value) (entry_at self.old) (entry_at self.new) }
+        ensures ready { MarksKey key.now false (can_take self.old) (can_take self.new) }
+    {
+        keep(&mut self.by_key, key, value);
+        leave(&mut self.ready, key);
+    }
+
+    /// Keeps for a pending key the value that a job for another key computed on its way. The key stays pending.
+    pub fn keep_found(&mut self, key: &Key, found: Arc<Value>)
+        ensures entries { ChangesEntry key.now (with_found found) (entry_at self.old) (entry_at self.new) }
+        ensures ready { self.new.ready ≡ self.old.ready }
+    {
+        keep_found(&mut self.by_key, key, found);
+    }
 }
 
 impl Kept for Entries {
     ghost use Rattle.fb_entries.specs.Found.{found_in, kept_in};
+    ghost use Rattle.fb_entries.specs.Keyed.{entry_at};
 
-    ghost kept = { λ it key. kept_in (tree.get key_cmp it.by_key key) };
+    ghost kept = { λ it key. kept_in (entry_at it key) };
 
-    ghost found = { λ it key. found_in (tree.get key_cmp it.by_key key) };
+    ghost found = { λ it key. found_in (entry_at it key) };
 
     fn value(&self, key: &Key) -> Option<&Arc<Value>> {
-        match self.by_key.get(key) {
-            Some(entry) => match &entry.value {
-                Some(value) => Some(value),
-                None => None,
-            },
-            None => None,
-        }
+        self.by_key.get(key)?.value.as_ref()
     }
 
     fn found(&self, key: &Key) -> Option<&Arc<Value>> {
-        match self.by_key.get(key) {
-            Some(entry) => match &entry.found {
-                Some(value) => Some(value),
-                None => None,
-            },
-            None => None,
-        }
+        self.by_key.get(key)?.found.as_ref()
     }
 
     fn former(&self, key: &Key) -> Option<&Arc<Value>> {
-        match self.by_key.get(key) {
-            Some(entry) => match &entry.former {
-                Some(value) => Some(value),
-                None => None,
-            },
-            None => None,
-        }
+        self.by_key.get(key)?.former.as_ref()
     }
 }

@@ -1,6 +1,9 @@
 //! What is kept of a key.
 ghost use Rattle.std.specs.Prelude.{◌≡◌, true, false, IfOk, OnOk, OnErr};
 ghost use Rattle.std.specs.Option.{option_or};
+ghost use Rattle.std.specs.BTreeMap as tree;
+ghost use Rattle.std.specs.BTreeSet as set;
+ghost use Rattle.fb_jobs.specs.KeyOrder.{key_cmp};
 ghost use Rattle.fb_entries.specs.Marking.{blank, unless_kept, with_found, with_out, with_value, ChangesEntry, RenewsEntry, MarksKey, SameKeys};
 
 use fb_jobs::{Key, Value};
@@ -50,8 +53,8 @@ impl Entry {
 }
 
 /// Marks a key that has an entry as handed out or not.
-pub fn mark_out(entries: &mut BTreeMap<Key, Entry>, key: &Key, out: bool)
-    ensures { ChangesEntry key.now (with_out out) entries.old entries.new }
+pub(crate) fn mark_out(entries: &mut BTreeMap<Key, Entry>, key: &Key, out: bool)
+    ensures { ChangesEntry key.now (with_out out) (tree.get key_cmp entries.old) (tree.get key_cmp entries.new) }
 {
     if let Some(entry) = entries.get_mut(key) {
         entry.out = out;
@@ -59,8 +62,8 @@ pub fn mark_out(entries: &mut BTreeMap<Key, Entry>, key: &Key, out: bool)
 }
 
 /// Gives a key that has an entry its value; the key is not handed out then.
-pub fn keep(entries: &mut BTreeMap<Key, Entry>, key: &Key, value: Arc<Value>)
-    ensures { ChangesEntry key.now (with_value value) entries.old entries.new }
+pub(crate) fn keep(entries: &mut BTreeMap<Key, Entry>, key: &Key, value: Arc<Value>)
+    ensures { ChangesEntry key.now (with_value value) (tree.get key_cmp entries.old) (tree.get key_cmp entries.new) }
 {
     if let Some(entry) = entries.get_mut(key) {
         entry.value = Some(value);
@@ -81,8 +84,8 @@ fn unless_kept(value: &Option<Arc<Value>>, found: Arc<Value>) -> Option<Arc<Valu
 }
 
 /// Keeps for a pending key that has an entry the value that a job for another key computed on its way. The key stays pending.
-pub fn keep_found(entries: &mut BTreeMap<Key, Entry>, key: &Key, found: Arc<Value>)
-    ensures { ChangesEntry key.now (with_found found) entries.old entries.new }
+pub(crate) fn keep_found(entries: &mut BTreeMap<Key, Entry>, key: &Key, found: Arc<Value>)
+    ensures { ChangesEntry key.now (with_found found) (tree.get key_cmp entries.old) (tree.get key_cmp entries.new) }
 {
     if let Some(entry) = entries.get_mut(key) {
         entry.found = unless_kept(&entry.value, found);
@@ -101,7 +104,7 @@ fn last_of(value: Option<Arc<Value>>, former: Option<Arc<Value>>) -> Option<Arc<
 
 /// Lets a key that has an entry wait for a result; the key is not handed out then, and what was found for it is dropped.
 pub(crate) fn renew(entries: &mut BTreeMap<Key, Entry>, key: &Key)
-    ensures { RenewsEntry key.now entries.old entries.new }
+    ensures { RenewsEntry key.now (tree.get key_cmp entries.old) (tree.get key_cmp entries.new) }
 {
     if let Some(entry) = entries.get_mut(key) {
         let former = last_of(entry.value.take(), entry.former.take());
@@ -112,16 +115,16 @@ pub(crate) fn renew(entries: &mut BTreeMap<Key, Entry>, key: &Key)
 }
 
 /// Takes a key out of a set.
-pub fn leave(keys: &mut BTreeSet<Key>, key: &Key)
-    ensures { MarksKey key.now false keys.old keys.new }
+pub(crate) fn leave(keys: &mut BTreeSet<Key>, key: &Key)
+    ensures { MarksKey key.now false (set.contains key_cmp keys.old) (set.contains key_cmp keys.new) }
 {
     let _ = keys.remove(key);
 }
 
 /// Puts a key into a set.
-pub fn join(keys: &mut BTreeSet<Key>, key: &Key) -> Result<(), AllocError>
-    ensures ok { OnOk result (MarksKey key.now true keys.old keys.new) }
-    ensures err { OnErr result (SameKeys keys.old keys.new) }
+pub(crate) fn join(keys: &mut BTreeSet<Key>, key: &Key) -> Result<(), AllocError>
+    ensures ok { OnOk result (MarksKey key.now true (set.contains key_cmp keys.old) (set.contains key_cmp keys.new)) }
+    ensures err { OnErr result (SameKeys (set.contains key_cmp keys.old) (set.contains key_cmp keys.new)) }
 {
     match keys.insert(*key) {
         Ok(_) => Ok(()),

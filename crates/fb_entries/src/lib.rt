@@ -8,7 +8,7 @@ mod reach;
 mod renewal;
 
 pub use entries::{Entries, Found, Marks};
-pub use entry::{Entry, join, keep, keep_found, leave, mark_out};
+pub use entry::Entry;
 pub use renewal::Renewal;
 
 /// Of `fb_parse`, for the crates above.

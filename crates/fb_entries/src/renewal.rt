@@ -97,8 +97,8 @@ pub(crate) fn put_blank(
     entries: &mut BTreeMap<Key, Entry>,
     keys: &[Key],
 ) -> Result<(), AllocError>
-    ensures others { KeepsOtherEntries keys.now entries.old entries.new }
-    ensures there { OnOk result (HasEntries keys.now entries.new) }
+    ensures others { KeepsOtherEntries keys.now (tree.get key_cmp entries.old) (tree.get key_cmp entries.new) }
+    ensures there { OnOk result (HasEntries keys.now (tree.get key_cmp entries.new)) }
 {
     for key in keys {
         let shared = Arc::new(alloc, *key)?;
@@ -111,7 +111,7 @@ pub(crate) fn put_blank(
 
 /// Takes the entries of these keys out.
 pub(crate) fn take_out(entries: &mut BTreeMap<Key, Entry>, keys: &[Key])
-    ensures { LosesEntries keys.now entries.old entries.new }
+    ensures { LosesEntries keys.now (tree.get key_cmp entries.old) (tree.get key_cmp entries.new) }
 {
     for key in keys {
         let _ = entries.remove(key);
@@ -119,8 +119,8 @@ pub(crate) fn take_out(entries: &mut BTreeMap<Key, Entry>, keys: &[Key])
 }
 
 pub(crate) fn join_all(members: &mut BTreeSet<Key>, keys: &[Key]) -> Result<(), AllocError>
-    ensures others { KeepsOtherKeys keys.now members.old members.new }
-    ensures there { OnOk result (HasKeys keys.now members.new) }
+    ensures others { KeepsOtherKeys keys.now (set.contains key_cmp members.old) (set.contains key_cmp members.new) }
+    ensures there { OnOk result (HasKeys keys.now (set.contains key_cmp members.new)) }
 {
     for key in keys {
         join(members, key)?;
@@ -129,7 +129,7 @@ pub(crate) fn join_all(members: &mut BTreeSet<Key>, keys: &[Key]) -> Result<(), 
 }
 
 pub(crate) fn leave_all(members: &mut BTreeSet<Key>, keys: &[Key])
-    ensures { LosesKeys keys.now members.old members.new }
+    ensures { LosesKeys keys.now (set.contains key_cmp members.old) (set.contains key_cmp members.new) }
 {
     for key in keys {
         leave(members, key);
@@ -138,7 +138,7 @@ pub(crate) fn leave_all(members: &mut BTreeSet<Key>, keys: &[Key])
 
 /// Lets all of these keys wait for a result.
 pub(crate) fn renew_all(entries: &mut BTreeMap<Key, Entry>, keys: &[Key])
-    ensures { RenewsEntries keys.now entries.old entries.new }
+    ensures { RenewsEntries keys.now (tree.get key_cmp entries.old) (tree.get key_cmp entries.new) }
 {
     for key in keys {
         renew(entries, key);

@@ -17,7 +17,7 @@ use Rattle.fb_flatten.specs.Net.{IsSound, IsWhole}
 use Rattle.fb_flatten.proofs.ComputedNets.{done, present_below, unit_faultless}
 use Rattle.fb_flatten.proofs.OrderLemmas.{HasTree, reaches_part, tree_of_faultless}
 
-no_names_sorted : IsStrictlySortedBy name_cmp []
+pub no_names_sorted : IsStrictlySortedBy name_cmp []
 unfolding IsStrictlySortedBy
 no_names_sorted = tt
 

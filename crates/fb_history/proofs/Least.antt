@@ -12,12 +12,12 @@ use Rattle.fb_text.specs.Order.{name_cmp}
 use Rattle.fb_jobs.specs.Reads.{is_among}
 use Rattle.fb_jobs.specs.declared.key.Key.{Key}
 use Rattle.fb_jobs.specs.Keys.{has_key, has_kind_at}
-use Rattle.fb_jobs.specs.KeyOrder.{key_cmp, same_key}
+use Rattle.fb_jobs.specs.KeyOrder.{key_cmp, key_cmp_total, same_key}
 use Rattle.fb_jobs.specs.Kinds.{all_keys}
 use Rattle.fb_history.specs.Machine.{State, is_ready, keys_of, least, lesser, next}
 use Rattle.fb_jobs.proofs.KindLemmas.{in_all_keys, no_kind}
 use Rattle.fb_jobs.proofs.Members.{of_filtered}
-use Rattle.fb_jobs.proofs.Order.{key_total, keys_equal}
+use Rattle.fb_jobs.proofs.Order.{keys_equal}
 
 -- ---- the keys of texts
 
@@ -97,7 +97,7 @@ module _ (p : Key → Bool) where
   module _ (k : Key) (here : p k ≡ true) (low : (q : Key) → p q ≡ true → is_gt (key_cmp k q) ≡ false) where
     first : (o : Option Key) → Passes o → lesser k o ≡ Some k
     first None rest = refl
-    first (Some m) rest = ap (λ b. Some (cond b m k)) (ap is_lt (key_total.antisymm m k) ∙ reversed (key_cmp k m) (low m rest))
+    first (Some m) rest = ap (λ b. Some (cond b m k)) (ap is_lt (key_cmp_total.antisymm m k) ∙ reversed (key_cmp k m) (low m rest))
 
     later : (x : Key) → p x ≡ true → same_key k x ≡ false → lesser x (Some k) ≡ Some k
     later x passes apart = ap (λ b. Some (cond b k x)) (less (key_cmp k x) (low x passes) apart)

@@ -1,5 +1,5 @@
 -- Tests of equality that are right, of single values and of lists.
-use Rattle.std.proofs.Common.{◌≡◌, ◌↔◌, ℕ, ◌≤◌, List, IsTrue, map, length, sym, ◌∙◌}
+use Rattle.std.proofs.Common.{◌≡◌, ◌↔◌, ℕ, ◌≤◌, Bool, List, IsTrue, map, length, sym, ap, ◌∙◌}
 use Rattle.std.specs.Ordering.{eq_by_cmp}
 use Rattle.std.specs.BTreeMap.{is_at}
 use Rattle.std.proofs.lemmas.List.{map-id}
@@ -8,10 +8,14 @@ use Rattle.fb_deploy.proofs.Library.Names.{name_total, exact_name}
 use Rattle.fb_deploy.specs.Iface.declared.fault.Fault.{Fault}
 use Rattle.fb_deploy.specs.Iface.Fault.{fault_cmp, fault_cmp_total}
 use Rattle.fb_deploy.proofs.Iface.FaultLemmas.{fault_cmp-exact}
-use Rattle.fb_network.proofs.Alike.{SameLeftBy, same_to_end_by, told_by}
 use Rattle.fb_jobs.specs.declared.key.Key.{Key}
 use Rattle.fb_jobs.specs.KeyOrder.{key_cmp_total, same_key}
-use Rattle.fb_jobs.proofs.KeyLemmas.{exact_key}
+use Rattle.fb_jobs.proofs.Order.{exact_key}
+use Rattle.fb_network.proofs.Alike.{SameLeftBy, same_to_end_by, told_by}
+use Rattle.fb_network.specs.declared.flat.Link.{Link}
+use Rattle.fb_deploy.specs.Placing.PlainPlan.{PlainPlan}
+use Rattle.fb_deploy.specs.Placing.PlainResource.{PlainResource}
+use Rattle.fb_deploy.specs.Deploy.{planned}
 
 pub one_name : (a b : List ℕ) → IsTrue (is_at (name_cmp a) b) ↔ (a ≡ b)
 one_name = told_by name_total exact_name
@@ -35,3 +39,18 @@ module _ {X Y : Type 0} (f : X → Y) where
 -- items that count as they are
 pub same_whole : {X : Type 0} (xs ys : List X) (k : ℕ) → length xs ≡ length ys → length xs ≤ k → SameLeft (λ (x : X). x) xs ys k → xs ≡ ys
 same_whole xs ys k long past left = sym (map-id xs) ∙ (same_to_end (λ x. x) xs ys k long past left ∙ map-id ys)
+
+-- ---- plans
+
+same_cuts : (cuts cuts' : List Link) (resources resources' : List PlainResource) → planned cuts resources ≡ planned cuts' resources' → cuts ≡ cuts'
+same_cuts cuts cuts' resources resources' e = cc
+
+same_resources : (cuts cuts' : List Link) (resources resources' : List PlainResource) → planned cuts resources ≡ planned cuts' resources' → resources ≡ resources'
+same_resources cuts cuts' resources resources' e = cc
+
+-- what is told of two plans
+pub told_of_plans : (told : Bool) (a b : PlainPlan) → IsTrue told ↔ (a ≡ b) → IsTrue told ↔ (planned a.cuts a.resources ≡ planned b.cuts b.resources)
+told_of_plans told a b same = (
+  (λ t. ap (λ (p : PlainPlan). planned p.cuts p.resources) (same.0 t)),
+  (λ e. same.1 (λ i. record { cuts = same_cuts a.cuts b.cuts a.resources b.resources e i; resources = same_resources a.cuts b.cuts a.resources b.resources e i })),
+)

@@ -23,7 +23,7 @@ use Rattle.fb_jobs.specs.Keys.{has_kind_at, needs_of}
 use Rattle.fb_jobs.specs.Kinds.{all_kinds, all_keys, keys_near_and_far, keys_of_kind, names_for, needs_all}
 use Rattle.fb_jobs.specs.Reads.{is_among}
 use Rattle.fb_text.proofs.OrderLemmas.{is_equal}
-use Rattle.fb_jobs.proofs.KeyLemmas.{exact_kind}
+use Rattle.fb_jobs.proofs.Order.{exact_kind}
 
 -- ---- each kind
 

@@ -1,5 +1,4 @@
 pub mod Alike
-pub mod KeyLemmas
 pub mod KindLemmas
 pub mod Order
 pub mod Members

@@ -5,14 +5,14 @@ use Rattle.std.specs.List.{list_any}
 use Rattle.std.proofs.lemmas.List.Folds.{list_any-append}
 use Rattle.std.proofs.lemmas.Cmp.{eq_by_cmp_equiv}
 use Rattle.fb_jobs.specs.declared.key.Key.{Key}
-use Rattle.fb_jobs.specs.KeyOrder.{same_key}
-use Rattle.fb_jobs.proofs.Order.{key_total, keys_equal}
+use Rattle.fb_jobs.specs.KeyOrder.{key_cmp_total, same_key}
+use Rattle.fb_jobs.proofs.Order.{keys_equal}
 
 abbrev is_of : Key → List Key → Bool
 is_of key keys = list_any (same_key key) keys
 
 same_flips : (a b : Key) → same_key a b ≡ same_key b a
-same_flips a b = (eq_by_cmp_equiv key_total).symm a b
+same_flips a b = (eq_by_cmp_equiv key_cmp_total).symm a b
 
 pub of_more : (q k : Key) (ks : List Key) → is_of q (ks ++ k ∷ []) ≡ (is_of q ks || same_key k q)
 of_more q k ks = list_any-append (same_key q) ks (k ∷ []) ∙ ap (λ b. is_of q ks || b) (or_false (same_key q k) ∙ same_flips q k)

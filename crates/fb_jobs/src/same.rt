@@ -1,7 +1,7 @@
 //! Whether two values say the same, by content.
 ghost use Rattle.std.specs.Prelude.{◌≡◌, ◌↔◌, IsTrue, map};
 ghost use Rattle.fb_deploy.specs.Flatten.Net.{plain_net};
-ghost use Rattle.fb_deploy.specs.Deploy.{plain_deploy};
+ghost use Rattle.fb_deploy.specs.Deploy.{plain_deploy, planned};
 ghost use Rattle.fb_deploy.specs.Library.Filed.{filed_text};
 ghost use Rattle.fb_jobs.specs.Texts.{text_of};
 ghost use Rattle.fb_jobs.specs.Values.{finding_of};
@@ -10,7 +10,7 @@ use crate::value::Value;
 use fb_deploy::flatten::Net;
 use fb_deploy::library::Version;
 use fb_deploy::placing::Misplaced;
-use fb_deploy::{Deploy, ResourcePlan};
+use fb_deploy::{Deploy, Plan};
 use fb_text::{Name, same_name};
 use std::sync::Arc;
 
@@ -64,24 +64,11 @@ fn are_same_misplaced(a: &[Misplaced], b: &[Misplaced]) -> bool
     true
 }
 
-fn is_same_resource(a: &ResourcePlan, b: &ResourcePlan) -> bool
-    ensures { IsTrue result ↔ (a.now ≡ b.now) }
+fn is_same_plan(a: &Plan, b: &Plan) -> bool
+    ensures { IsTrue result
+        ↔ (planned a.now.cuts a.now.resources ≡ planned b.now.cuts b.now.resources) }
 {
-    a.name() == b.name() && are_equal(a.commands(), b.commands())
-}
-
-fn are_same_resources(a: &[ResourcePlan], b: &[ResourcePlan]) -> bool
-    ensures { IsTrue result ↔ (a.now ≡ b.now) }
-{
-    if a.len() != b.len() {
-        return false;
-    }
-    for place in 0..a.len() {
-        if !is_same_resource(&a[place], &b[place]) {
-            return false;
-        }
-    }
-    true
+    a.is_same(b)
 }
 
 fn is_same_deploy(a: &Deploy, b: &Deploy) -> bool
@@ -90,16 +77,7 @@ fn is_same_deploy(a: &Deploy, b: &Deploy) -> bool
     match (a, b) {
         (Deploy::Stopped(a), Deploy::Stopped(b)) => is_same_net(a, b),
         (Deploy::Faulty(a), Deploy::Faulty(b)) => are_same_misplaced(a, b),
-        (
-            Deploy::Plan {
-                cuts: a,
-                resources: of_a,
-            },
-            Deploy::Plan {
-                cuts: b,
-                resources: of_b,
-            },
-        ) => are_equal(a, b) && are_same_resources(of_a, of_b),
+        (Deploy::Plan(a), Deploy::Plan(b)) => is_same_plan(a, b),
         _ => false,
     }
 }

@@ -12,7 +12,7 @@ use Rattle.fb_placing.specs.Fronts.{nearest}
 use Rattle.fb_placing.specs.Orders.{connection_orders, connection_text, line_order, link_resource, start_order, start_text}
 use Rattle.fb_placing.specs.Resources.{commands_for}
 use Rattle.fb_placing.specs.declared.lines.Line.{Line}
-use Rattle.fb_placing.specs.declared.orders.Order.{Order}
+use Rattle.fb_placing.specs.Order.{Order}
 use Rattle.fb_laws.proofs.HomeLemmas.{bytes_same, same_bytes}
 
 -- ---- what a list gives

@@ -27,7 +27,7 @@ use Rattle.fb_placing.specs.Written.{written}
 use Rattle.fb_placing.specs.PlainResource.{PlainResource}
 use Rattle.fb_placing.specs.Resources.{commands_for, resource_plan, resource_plans, resources_of}
 use Rattle.fb_placing.specs.declared.lines.Line.{Line}
-use Rattle.fb_placing.specs.declared.orders.Order.{Order}
+use Rattle.fb_placing.specs.Order.{Order}
 use Rattle.fb_laws.proofs.Joined.{of_either}
 use Rattle.fb_laws.proofs.HomeLemmas.{bytes_same, home_listed, nearest_of, of_nearest, same_bytes}
 use Rattle.fb_laws.proofs.PlannedLemmas.{Known, home_there, homes_in, known, links_sorted, mapped, names_in, stands}

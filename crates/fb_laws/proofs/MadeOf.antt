@@ -2,11 +2,9 @@
 use Rattle.std.proofs.Common.{◌≡◌, ◌≢◌, ℕ, false, List, [], ◌∷◌, filter, Option, Some, None, ◌⊎◌, inl, inr, refl, sym, ap, ◌∙◌, subst}
 use Rattle.std.specs.FinMap.{get}
 use Rattle.std.specs.List.{Contains}
-use Rattle.std.specs.List.Sorted.{IsStrictlySortedBy}
 use Rattle.std.specs.Option.{option_and_then}
 use Rattle.std.proofs.lemmas.List.Elements.{Contains-append_cases}
 use Rattle.fb_text.specs.Elementary.{is_elementary}
-use Rattle.fb_text.specs.Order.{name_cmp}
 use Rattle.fb_text.proofs.Members.{contains_flat_map, contains_here, contains_map, contains_nothing, origin_in_flat_map, origin_in_map, passes_in_filter}
 use Rattle.fb_tree.specs.Mentions.{instance_types, types_in, value_types, variable_types}
 use Rattle.fb_tree.specs.Tree.{ApplicationTree, DeclTree, InstanceTree, TypeTree, VariablesTree, adapter_type, block_type, structure_type, subapplication_type, system_configuration}
@@ -23,6 +21,7 @@ use Rattle.fb_deploy.proofs.Library.Locality.{part_mention, rests_more, value_me
 use Rattle.fb_deploy.proofs.Library.Opening.{from_names}
 use Rattle.fb_deploy.proofs.Iface.ScopeLocal.{in_order_has}
 use Rattle.fb_deploy.proofs.Flatten.ComputedNets.{net_at_is}
+use Rattle.fb_deploy.proofs.Flatten.SoundLemmas.{no_names_sorted}
 use Rattle.fb_wiring.specs.Reaches.{IsRecursive, Reaches, directly, onward}
 use Rattle.fb_wiring.proofs.StackLemmas.{reaches_more}
 use Rattle.fb_laws.specs.Declarations.{HasUnknownType, IsDeclaredAt}
@@ -209,10 +208,6 @@ module _ (sources : Sources) (unit : List ℕ) where
   way_faulty (absent_type {holder = holder} decl i made is held absent) = record { name = holder; below = made; faulty = holder_faulty holder decl i is held absent }
 
   -- ---- whole units
-
-  no_names_sorted : IsStrictlySortedBy name_cmp []
-  unfolding IsStrictlySortedBy
-  no_names_sorted = tt
 
   none_below : IsWhole sources unit → HasNoFaultsBelow sources unit
   none_below whole name made = by (faults_of sources name) refl

@@ -2,7 +2,8 @@
 use Rattle.std.proofs.Common.{◌≡◌, ◌+◌, ◌≤◌, refl, ap, sym, subst, arith}
 use Rattle.fb_bench.specs.History.Machine.{State, Call, ToCommit, ToTake, ToDeliver, ToGiveBack, ToAsk, reply}
 use Rattle.fb_bench.specs.History.Story.{all_turns, last_number, state_of}
-use Rattle.fb_locked.specs.Seats.{Hall, SeatState, Claim, Fits, next_claim, IsReceiptOf}
+use Rattle.fb_bench.specs.Calls.{Fits}
+use Rattle.fb_locked.specs.Seats.{Hall, SeatState, Claim, next_claim, IsReceiptOf}
 
 -- the machine's reply is of the call's kind
 pub fits_reply : (state : State) (call : Call) → Fits call (reply state call)

@@ -1,6 +1,7 @@
 -- What contracts see of a seat, of a receipt and of what lies under the lock.
 use Rattle.std.specs.Prelude.{◌≡◌, ℕ, ◌+◌, ◌<◌, List, Bool, Some, length, slice_get}
-use Rattle.fb_bench.specs.History.Machine.{Call, ToCommit, ToTake, ToDeliver, ToGiveBack, ToAsk, Reply, OfCommit, OfTake, OfDeliver, OfGiveBack, OfAsk}
+use Rattle.fb_bench.specs.Calls.{Fits}
+use Rattle.fb_bench.specs.History.Machine.{Call}
 use Rattle.fb_bench.specs.History.Story.{Record, Story, all_turns, last_number, recorded, record_of}
 
 -- a seat: whose it is, how many calls were recorded with it, and the greatest number of a record that it has seen
@@ -31,39 +32,6 @@ next_claim hall caller call = record { number = last_number hall.bench + 1; entr
 -- the seat after the call of this receipt
 abbrev pub seat_after : SeatState → Claim → SeatState
 seat_after seat claim = record seat { turns = claim.entry.turn; seen = claim.number }
-
--- an answer to a commit
-abbrev pub IsCommitted : Reply → Type 0
-IsCommitted (OfCommit answer) = Unit {0}
-IsCommitted _ = ⊥
-
--- an answer to a delivery
-abbrev pub IsDelivered : Reply → Type 0
-IsDelivered (OfDeliver answer) = Unit {0}
-IsDelivered _ = ⊥
-
--- an answer to a key that is given back
-abbrev pub IsReturned : Reply → Type 0
-IsReturned (OfGiveBack answer) = Unit {0}
-IsReturned _ = ⊥
-
--- an answer to a question
-abbrev pub IsAsked : Reply → Type 0
-IsAsked (OfAsk shown) = Unit {0}
-IsAsked _ = ⊥
-
--- an answer to a take
-abbrev pub IsTaken : Reply → Type 0
-IsTaken (OfTake order) = Unit {0}
-IsTaken _ = ⊥
-
--- a reply of the call's kind
-abbrev pub Fits : Call → Reply → Type 0
-Fits (ToCommit edits) answer = IsCommitted answer
-Fits ToTake answer = IsTaken answer
-Fits (ToDeliver order) answer = IsDelivered answer
-Fits (ToGiveBack key) answer = IsReturned answer
-Fits (ToAsk key) answer = IsAsked answer
 
 -- the receipt is of this call, the seat's next, with a reply of its kind, and newer than all that the seat has seen
 pub record IsReceiptOf (seat : SeatState) (call : Call) (claim : Claim) : Type 0 where

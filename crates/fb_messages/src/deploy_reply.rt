@@ -1,13 +1,14 @@
 //! The replies that show plans.
-ghost use Rattle.serde_json.specs.Data.{string};
+ghost use Rattle.std.specs.Prelude.{codes};
+ghost use Rattle.serde_json.specs.Data.{array, string};
 ghost use Rattle.fb_jobs.specs.Deploy.Deploy.{plain_deploy};
-ghost use Rattle.fb_messages.specs.DeployReplies.{deploy_said, misplaced_item, plan_said, resource_item};
-ghost use Rattle.fb_messages.specs.Tokens.{IsSaid};
+ghost use Rattle.fb_messages.specs.DeployReplies.{deploy_said, misplaced_item, plan_said, resource_item, resource_items};
+ghost use Rattle.fb_messages.specs.NetReplies.{link_items};
+ghost use Rattle.fb_messages.specs.Tokens.{IsMember, IsSaid};
 
 use crate::to_json::{ToJson, write_list, write_list_member, write_one, write_one_list, write_two};
-use fb_jobs::deploy::{Command, Deploy, ResourcePlan};
+use fb_jobs::deploy::{Command, Deploy, Plan, ResourcePlan};
 use fb_jobs::placing::Misplaced;
-use fb_network::Link;
 use json::Writer;
 use std::alloc::AllocError;
 
@@ -41,12 +42,27 @@ impl ToJson for ResourcePlan {
     }
 }
 
-fn write_plan(out: &mut Writer, cuts: &[Link], resources: &[ResourcePlan]) -> Result<(), AllocError>
-    ensures { IsSaid result out.old out.new (plan_said cuts.now resources.now) }
+fn write_cuts(out: &mut Writer, plan: &Plan) -> Result<(), AllocError>
+    ensures { IsMember result out.old out.new (codes "cuts") (array (link_items plan.now.cuts)) }
+{
+    let cuts = plan.plain_cuts(plan.allocator())?;
+    write_list_member(out, "cuts", &cuts)
+}
+
+fn write_resources(out: &mut Writer, plan: &Plan) -> Result<(), AllocError>
+    ensures { IsMember result out.old out.new (codes "resources")
+        (array (resource_items plan.now.resources)) }
+{
+    let resources = plan.plain_resources(plan.allocator())?;
+    write_list_member(out, "resources", &resources)
+}
+
+fn write_plan(out: &mut Writer, plan: &Plan) -> Result<(), AllocError>
+    ensures { IsSaid result out.old out.new (plan_said plan.now.cuts plan.now.resources) }
 {
     out.begin_object()?;
-    write_list_member(out, "cuts", cuts)?;
-    write_list_member(out, "resources", resources)?;
+    write_cuts(out, plan)?;
+    write_resources(out, plan)?;
     out.end_object()
 }
 
@@ -57,7 +73,7 @@ impl ToJson for Deploy {
         match self {
             Deploy::Stopped(net) => write_one(out, "stopped", net),
             Deploy::Faulty(found) => write_one_list(out, "faulty", found),
-            Deploy::Plan { cuts, resources } => write_plan(out, cuts, resources),
+            Deploy::Plan(plan) => write_plan(out, plan),
         }
     }
 }

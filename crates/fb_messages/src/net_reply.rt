@@ -1,13 +1,13 @@
 //! The replies that show nets.
-ghost use Rattle.std.specs.Prelude.{◌≡◌, codes};
+ghost use Rattle.std.specs.Prelude.{◌≡◌};
 ghost use Rattle.serde_json.specs.Data.{array};
 ghost use Rattle.fb_jobs.specs.Flatten.Net.{plain_net};
-ghost use Rattle.fb_messages.specs.NetReplies.{block_item, block_items, border_item, border_items, flat_said, link_item, link_items, net_said, sort_text};
-ghost use Rattle.fb_messages.specs.Tokens.{IsMember, IsSaid};
+ghost use Rattle.fb_messages.specs.NetReplies.{block_items, border_items, flat_said, link_item, link_items, net_said, sort_text};
+ghost use Rattle.fb_messages.specs.Tokens.{IsSaid};
 
-use crate::to_json::{ToJson, write_list_member, write_one_list, write_three, write_two};
+use crate::to_json::{ToJson, write_one_list, write_three, write_two};
 use fb_jobs::flatten::Net;
-use fb_network::{Border, Flat, FlatBlock, Link};
+use fb_network::{Flat, Link};
 use fb_tree::Sort;
 use json::Writer;
 use std::alloc::AllocError;
@@ -22,23 +22,6 @@ fn sort_text(sort: Sort) -> &'static str
     }
 }
 
-impl ToJson for FlatBlock {
-    ghost said = { block_item };
-
-    fn write(&self, out: &mut Writer) -> Result<(), AllocError> {
-        write_two(out, self.path.as_str(), self.type_name.as_str())
-    }
-}
-
-impl ToJson for Border {
-    ghost said = { border_item };
-
-    fn write(&self, out: &mut Writer) -> Result<(), AllocError> {
-        let sort = sort_text(self.sort);
-        write_three(out, sort, self.port.as_str(), self.place.as_str())
-    }
-}
-
 impl ToJson for Link {
     ghost said = { link_item };
 
@@ -48,34 +31,55 @@ impl ToJson for Link {
     }
 }
 
+/// The blocks, each with the name of its type. One text is used for all paths.
 fn write_blocks(out: &mut Writer, flat: &Flat) -> Result<(), AllocError>
-    ensures { IsMember result out.old out.new (codes "blocks") (array (block_items flat.now.blocks)) }
+    ensures { IsSaid result out.old out.new (array (block_items flat.now.blocks)) }
 {
-    let blocks = flat.plain_blocks(flat.allocator())?;
-    write_list_member(out, "blocks", &blocks)
+    let mut path = String::new(flat.allocator());
+    out.begin_array()?;
+    for place in 0..flat.block_count() {
+        let type_name = flat.put_block(place, &mut path)?;
+        write_two(out, path.as_str(), type_name.as_str())?;
+    }
+    out.end_array()
 }
 
+/// The borders. One text is used for all places.
 fn write_borders(out: &mut Writer, flat: &Flat) -> Result<(), AllocError>
-    ensures { IsMember result out.old out.new (codes "borders")
-        (array (border_items flat.now.borders)) }
+    ensures { IsSaid result out.old out.new (array (border_items flat.now.borders)) }
 {
-    let borders = flat.plain_borders(flat.allocator())?;
-    write_list_member(out, "borders", &borders)
+    let mut at = String::new(flat.allocator());
+    out.begin_array()?;
+    for place in 0..flat.border_count() {
+        let (sort, port) = flat.put_border(place, &mut at)?;
+        write_three(out, sort_text(sort), port.as_str(), at.as_str())?;
+    }
+    out.end_array()
 }
 
+/// The links. Two texts are used for all places.
 fn write_links(out: &mut Writer, flat: &Flat) -> Result<(), AllocError>
-    ensures { IsMember result out.old out.new (codes "links") (array (link_items flat.now.links)) }
+    ensures { IsSaid result out.old out.new (array (link_items flat.now.links)) }
 {
-    let links = flat.plain_links(flat.allocator())?;
-    write_list_member(out, "links", &links)
+    let mut from = String::new(flat.allocator());
+    let mut to = String::new(flat.allocator());
+    out.begin_array()?;
+    for place in 0..flat.link_count() {
+        let sort = flat.put_link(place, &mut from, &mut to)?;
+        write_three(out, sort_text(sort), from.as_str(), to.as_str())?;
+    }
+    out.end_array()
 }
 
 fn write_flat(out: &mut Writer, flat: &Flat) -> Result<(), AllocError>
     ensures { IsSaid result out.old out.new (flat_said flat.now) }
 {
     out.begin_object()?;
+    out.key("blocks")?;
     write_blocks(out, flat)?;
+    out.key("borders")?;
     write_borders(out, flat)?;
+    out.key("links")?;
     write_links(out, flat)?;
     out.end_object()
 }

@@ -5,13 +5,11 @@ pub mod LinkLemmas
 pub mod AdapterLemmas
 pub mod Composing
 pub mod BlockLemmas
-pub mod InOrder
 pub mod SameSorted
 pub mod OneFlat
 pub mod FlatLemmas
 pub mod EmptyMaps
 pub mod SystemLemmas
-pub mod NothingLemmas
 pub mod Texts
 pub mod Readings
 pub mod SortedOnce
@@ -21,3 +19,4 @@ pub mod Behinds
 pub mod PortMembers
 pub mod Connections
 pub mod Alike
+pub mod Numbers

@@ -33,8 +33,6 @@ by_cut (x ∷ xs) [] vs n e le = rw e refl
 by_cut (x ∷ xs) (y ∷ ys) vs n e le =
     rw e (ap (ordering_then (nat_cmp x y)) (by_cut xs ys vs (length ys) refl (omega (arith, le))) ∙ ordering_then-assoc (nat_cmp x y) (name_cmp (take (length ys) xs) ys) (name_cmp (drop (length ys) xs) vs))
 
-pub ruleset text_orders = (by_start, by_cut)
-
 -- the other text is cut where this one's start ends
 pub by_other_cut : (xs us ys vs : List ℕ) (n : ℕ) → n ≡ length xs → length xs ≤ length ys → name_cmp (xs ++ us) (ys ++ vs) ≡ ordering_then (name_cmp xs (take n ys)) (name_cmp us (drop n ys ++ vs))
 by_other_cut [] us ys vs n e le = rw e refl

@@ -15,11 +15,11 @@ pub mod Count
 pub mod Composition
 pub mod Composed
 pub mod Ready
-pub mod Ordered
 pub mod Part
 pub mod SystemFlat
 pub mod PlainFront
 pub mod Laid
+pub mod Numbered
 pub mod Reading
 pub mod Once
 pub mod Standing

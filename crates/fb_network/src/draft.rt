@@ -4,12 +4,13 @@ ghost use Rattle.fb_network.specs.Laid.{front_within, IsLaid};
 ghost use Rattle.fb_network.specs.Reading.{IsFinish, TakesIn};
 
 use crate::entries::{Edge, Join, Leaf, edges_moved, push_joins_moved, push_leaves_moved};
-use crate::flat::Flat;
+use crate::flat::{Flat, Tables};
 use crate::front::Front;
 use crate::order::{sort_edges, sort_joins};
 use crate::place::number;
 use fb_tree::text::Name;
 use std::alloc::{AllocError, Global};
+use std::sync::Arc;
 
 /// The fronts, the blocks and the links that a flat network has so far.
 #[derive(Debug, Drop)]
@@ -67,15 +68,16 @@ pub fn take_in(
 ) -> Result<Vec<Edge>, AllocError>
     ensures { IfOk result (λ edges. TakesIn draft.old draft.new name.now inner.now edges.items) }
 {
+    let tables = &*inner.tables;
     let before = count_of(&draft.fronts)?;
-    push_fronts_within(alloc, &mut draft.fronts, name, &inner.fronts)?;
-    push_leaves_moved(&mut draft.leaves, before, &inner.leaves)?;
-    push_joins_moved(&mut draft.joins, before, &inner.joins)?;
-    edges_moved(alloc, before, &inner.edges)
+    push_fronts_within(alloc, &mut draft.fronts, name, &tables.fronts)?;
+    push_leaves_moved(&mut draft.leaves, before, &tables.leaves)?;
+    push_joins_moved(&mut draft.joins, before, &tables.joins)?;
+    edges_moved(alloc, before, &tables.edges)
 }
 
 /// The flat network of a draft and of borders, these and the links in order, each once.
-pub fn finish(draft: Draft, mut edges: Vec<Edge>) -> Result<Flat, AllocError>
+pub fn finish(alloc: Global, draft: Draft, mut edges: Vec<Edge>) -> Result<Flat, AllocError>
     requires { IsLaid (length draft.fronts.items) draft.leaves.items draft.joins.items edges.items }
     ensures { IfOk result (IsFinish draft edges.items) }
 {
@@ -86,10 +88,12 @@ pub fn finish(draft: Draft, mut edges: Vec<Edge>) -> Result<Flat, AllocError>
     } = draft;
     sort_joins(&fronts, &mut joins)?;
     sort_edges(&fronts, &mut edges)?;
-    Ok(Flat {
+    let tables = Tables {
         fronts,
         leaves,
         joins,
         edges,
-    })
+    };
+    let tables = Arc::new(alloc, tables)?;
+    Ok(Flat { tables })
 }

@@ -14,6 +14,7 @@ use fb_tree::text::Name;
 use std::alloc::{AllocError, Global};
 use std::cmp::Ordering;
 use std::marker::Model;
+use std::sync::Arc;
 
 /// A block of a flat network, with the name of its type.
 #[derive(Debug, Drop)]
@@ -119,14 +120,20 @@ impl Ord for Border {
     }
 }
 
-/// A network with its subapplications replaced by what they hold: its blocks, the links between them, and the borders, which join its own
-/// ports with them. Paths are numbers: each has a front, which places of one network share, and an end behind it.
+/// The tables of a flat network.
 #[derive(Debug, Drop)]
-pub struct Flat {
+pub(crate) struct Tables {
     pub(crate) fronts: Vec<Front>,
     pub(crate) leaves: Vec<Leaf>,
     pub(crate) joins: Vec<Join>,
     pub(crate) edges: Vec<Edge>,
+}
+
+/// A network with its subapplications replaced by what they hold: its blocks, the links between them, and the borders, which join its own
+/// ports with them. Paths are numbers: each has a front, which places of one network share, and an end behind it. Plans share the tables.
+#[derive(Debug, Drop)]
+pub struct Flat {
+    pub(crate) tables: Arc<Tables>,
 }
 
 impl Model for Flat {
@@ -136,44 +143,53 @@ impl Model for Flat {
 
     ghost Value = { PlainFlat };
 
-    ghost view = { λ it. flat_at it.fronts.items it.leaves.items it.joins.items it.edges.items };
+    ghost view = { λ it. flat_at it.tables.value.fronts.items it.tables.value.leaves.items it.tables.value.joins.items it.tables.value.edges.items };
 
-    ghost invariant = { λ it. IsLaid (length it.fronts.items) it.leaves.items it.joins.items it.edges.items };
+    ghost invariant = { λ it. IsLaid (length it.tables.value.fronts.items) it.tables.value.leaves.items it.tables.value.joins.items it.tables.value.edges.items };
 }
 
 impl Flat {
     /// Where its lists are allocated.
     pub fn allocator(&self) -> Global {
-        *self.fronts.allocator()
+        *self.tables.fronts.allocator()
+    }
+
+    /// The same network, with the same tables.
+    pub fn share(&self) -> Result<Flat, AllocError>
+        ensures { IfOk result (λ flat. flat ≡ self.now) }
+    {
+        let tables = self.tables.clone()?;
+        Ok(Flat { tables })
     }
 
     /// The blocks in plain, in the order of the text.
     pub fn plain_blocks(&self, alloc: Global) -> Result<Vec<FlatBlock>, AllocError>
         ensures { IfOk result (λ blocks. blocks.items ≡ self.now.blocks) }
     {
-        plain_blocks(alloc, &self.fronts, &self.leaves)
+        plain_blocks(alloc, &self.tables.fronts, &self.tables.leaves)
     }
 
     /// The links in plain, in order.
     pub fn plain_links(&self, alloc: Global) -> Result<Vec<Link>, AllocError>
         ensures { IfOk result (λ links. links.items ≡ self.now.links) }
     {
-        plain_links(alloc, &self.fronts, &self.joins)
+        plain_links(alloc, &self.tables.fronts, &self.tables.joins)
     }
 
     /// The borders in plain, in order.
     pub fn plain_borders(&self, alloc: Global) -> Result<Vec<Border>, AllocError>
         ensures { IfOk result (λ borders. borders.items ≡ self.now.borders) }
     {
-        plain_borders(alloc, &self.fronts, &self.edges)
+        plain_borders(alloc, &self.tables.fronts, &self.tables.edges)
     }
 
     /// Whether both say the same. It takes no memory.
     pub fn is_same(&self, other: &Flat) -> bool
         ensures { IsTrue result ↔ (self.now ≡ other.now) }
     {
-        are_same_leaves(&self.fronts, &self.leaves, &other.fronts, &other.leaves)
-            && are_same_joins(&self.fronts, &self.joins, &other.fronts, &other.joins)
-            && are_same_edges(&self.fronts, &self.edges, &other.fronts, &other.edges)
+        let (a, b) = (&*self.tables, &*other.tables);
+        are_same_leaves(&a.fronts, &a.leaves, &b.fronts, &b.leaves)
+            && are_same_joins(&a.fronts, &a.joins, &b.fronts, &b.joins)
+            && are_same_edges(&a.fronts, &a.edges, &b.fronts, &b.edges)
     }
 }

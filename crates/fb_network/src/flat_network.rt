@@ -1,9 +1,6 @@
 //! The flat network of a network.
 ghost use Rattle.std.specs.Prelude.{◌≡◌, [], IfOk};
-ghost use Rattle.fb_network.specs.Clean.{IsCleanThroughout};
-ghost use Rattle.fb_network.specs.FlatNet.{IsFlat};
 ghost use Rattle.fb_network.specs.Part.{IsFlatInWhole};
-ghost use Rattle.fb_network.specs.Ready.{AreFinished};
 ghost use Rattle.fb_network.specs.Standing.{HasOwn};
 
 use crate::borders::borders_of_network;
@@ -31,22 +28,8 @@ fn own_draft(alloc: Global, network: &Network) -> Result<Draft, AllocError>
     Ok(draft)
 }
 
-/// The flat network of a network, composed of the flat networks of its subapplications.
-pub fn compose<V: Networks, N: Nets>(
-    alloc: Global,
-    view: &V,
-    network: &Network,
-    nets: &N,
-) -> Result<Flat, AllocError>
-    requires clean { IsCleanThroughout (V.networks view.now) network.now }
-    requires finished { AreFinished (V.networks view.now) network.now (N.nets nets.now) }
-    ensures { IfOk result (IsFlat (V.networks view.now) network.now) }
-{
-    compose_by_part(alloc, view, network, nets)
-}
-
-/// The same by a part of a view, which need have no more than the types of the network's instances and the adapters of ports, its own and
-/// theirs.
+/// The flat network of a network, composed of the flat networks of its subapplications. Of the view it needs a part alone: the types of the
+/// network's instances and the adapters of ports, its own and theirs.
 pub fn compose_by_part<V: Networks, N: Nets>(
     alloc: Global,
     part: &V,
@@ -59,5 +42,5 @@ pub fn compose_by_part<V: Networks, N: Nets>(
     let table = take_instances(alloc, &mut draft, nets, network.instances())?;
     push_links(alloc, &mut draft, part, network, &table)?;
     let edges = borders_of_network(alloc, network, &table)?;
-    finish(draft, edges)
+    finish(alloc, draft, edges)
 }

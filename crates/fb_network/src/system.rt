@@ -15,5 +15,5 @@ pub fn join(alloc: Global, applications: &[FlatApplication]) -> Result<Flat, All
     for application in applications {
         take_in(alloc, &mut draft, &application.name, &application.flat)?;
     }
-    finish(draft, Vec::new(alloc))
+    finish(alloc, draft, Vec::new(alloc))
 }

@@ -6,6 +6,7 @@ pub mod NearestLemmas
 pub mod NameLemmas
 pub mod ListLemmas
 pub mod PathNameLemmas
+pub mod PartedLemmas
 pub mod InstanceLemmas
 pub mod StandingLemmas
 pub mod StandingLocal
@@ -13,4 +14,12 @@ pub mod HomesLocal
 pub mod LineLemmas
 pub mod LinesLocal
 pub mod StepLemmas
-pub mod GroupLemmas
+pub mod PartLemmas
+pub mod CreateLemmas
+pub mod ItemLemmas
+pub mod ResourceLemmas
+pub mod InsideLemmas
+pub mod SameLists
+pub mod HousedLemmas
+pub mod ApartLemmas
+pub mod ListedLemmas

@@ -1,12 +1,12 @@
 -- Instances with their unit, and where names lead to from them.
-use Rattle.std.proofs.Common.{ℕ, suc, ◌≡◌, ◌<◌, List, [], ◌∷◌, Option, Some, None, refl, ◌∙◌, ap, drop, get_or, length, map, arith}
+use Rattle.std.proofs.Common.{ℕ, suc, ◌≡◌, ◌<◌, List, [], ◌∷◌, ◌++◌, Option, Some, None, refl, ◌∙◌, ap, drop, get_or, length, map, arith}
 use Rattle.std.proofs.Math.Seq.{drop-cons}
 use Rattle.std.specs.Borrow.{Bor}
-use Rattle.std.specs.Prelude.{find, is_none, is_some, not, option_map}
+use Rattle.std.specs.Prelude.{find, is_none, is_some, not, option_and_then, option_map}
 use Rattle.std.specs.Str.{bytes_eq}
-use Rattle.fb_tree.specs.Tree.{ApplicationTree}
+use Rattle.fb_tree.specs.Tree.{ApplicationTree, InstanceTree}
 use Rattle.fb_netcheck.specs.Library.View.{Sources}
-use Rattle.fb_placing.specs.Standing.{PlainStanding, instance_called, leads_nowhere, standing_beyond, standing_inside}
+use Rattle.fb_placing.specs.Standing.{PlainStanding, application_called, instance_called, leads_nowhere, standing_among, standing_at, standing_beyond, standing_from, standing_inside}
 use Rattle.fb_placing.specs.Tables.{Instances, instance_at, instances_called}
 
 pub beyond_nothing : (sources : Sources) (names : List (List ℕ)) → standing_beyond sources None names ≡ None
@@ -34,3 +34,21 @@ nowhere_alone sources system applications (n ∷ []) d o one e = by_found (find 
         by_both (Some t) (Some a) f = refl
         by_both None (Some a) f = absurd (cc)
         by_both (Some t) None f = absurd (cc)
+
+beyond_more : (sources : Sources) (o : Option PlainStanding) (names : List (List ℕ)) (name : List ℕ) → standing_beyond sources o (names ++ name ∷ []) ≡ option_and_then (standing_inside sources name) (standing_beyond sources o names)
+beyond_more sources o [] name = refl
+beyond_more sources o (n ∷ ns) name = beyond_more sources (option_and_then (standing_inside sources n) o) ns name
+
+-- what stands at one name further
+pub at_more : (sources : Sources) (system : List ℕ) (applications : List ApplicationTree) (names : List (List ℕ)) (name : List ℕ) (s : PlainStanding) → standing_at sources system applications names ≡ Some s → standing_at sources system applications (names ++ name ∷ []) ≡ standing_inside sources name s
+at_more sources system applications [] name s e = absurd (let no : ⊥ = cc in no)
+at_more sources system applications (a ∷ names) name s e = by_application (application_called applications a) e
+  where
+    from_more : (instances : List InstanceTree) (ns : List (List ℕ)) → standing_from sources system instances ns ≡ Some s → standing_from sources system instances (ns ++ name ∷ []) ≡ standing_inside sources name s
+    from_more instances [] f = absurd (let no : ⊥ = cc in no)
+    from_more instances (n ∷ ns) f =
+        beyond_more sources (standing_among system instances n) ns name ∙ ap (option_and_then (standing_inside sources name)) f
+
+    by_application : (o : Option ApplicationTree) → option_and_then (λ (it : ApplicationTree). standing_from sources system it.network.instances names) o ≡ Some s → option_and_then (λ (it : ApplicationTree). standing_from sources system it.network.instances (names ++ name ∷ [])) o ≡ standing_inside sources name s
+    by_application None f = absurd (let no : ⊥ = cc in no)
+    by_application (Some it) f = from_more it.network.instances names f

@@ -9,7 +9,7 @@ use Rattle.fb_placing.specs.Cuts.{home_at, same_home}
 use Rattle.fb_placing.specs.Fronts.{nearest}
 use Rattle.fb_placing.specs.declared.homes.Home.{Home}
 use Rattle.fb_placing.specs.declared.lines.Line.{Line}
-use Rattle.fb_placing.specs.declared.orders.Order.{Order}
+use Rattle.fb_placing.specs.Order.{Order}
 use Rattle.fb_placing.specs.Lines.{create_lines, write_lines}
 
 abbrev pub line_order : Line → Order

@@ -5,7 +5,7 @@ use Rattle.std.specs.Str.{bytes_eq}
 use Rattle.fb_tree.specs.Tree.{DeviceTree}
 use Rattle.fb_network.specs.Places.{dotted}
 use Rattle.fb_placing.specs.PlainResource.{PlainResource}
-use Rattle.fb_placing.specs.declared.orders.Order.{Order}
+use Rattle.fb_placing.specs.Order.{Order}
 
 -- the resources of a device, as DEVICE.RESOURCE
 abbrev pub device_resources : DeviceTree → List (List ℕ)

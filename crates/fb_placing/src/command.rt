@@ -1,9 +1,10 @@
 //! The texts of commands.
-ghost use Rattle.std.specs.Prelude.{◌≡◌, ◌∷◌, ◌++◌, IfOk, nat_eq, refl, string_bytes};
+ghost use Rattle.std.specs.Prelude.{◌≡◌, IfOk, nat_eq, refl, string_bytes};
 ghost use Rattle.std.specs.Ordering.{as_partial_cmp};
 ghost use Rattle.std.specs.Cmp.{partial_equiv_from_equiv};
 ghost use Rattle.std.specs.Cmp.Lexicographic.{pointwise, nat_list_eq_equiv, nat_list_cmp_total, texts_po, texts_ties};
 ghost use Rattle.fb_tree.specs.Text.Order.{name_cmp};
+ghost use Rattle.fb_placing.specs.Parts.{joined};
 
 use std::alloc::{AllocError, Global};
 use std::cmp::Ordering;
@@ -24,41 +25,24 @@ impl Model for Command {
     ghost view = { λ it. string_bytes it.text };
 }
 
+/// How many bytes the parts have.
+fn room_for(parts: &[&str]) -> usize {
+    let mut room = 0_usize;
+    for part in parts {
+        room = room.saturating_add(part.len());
+    }
+    room
+}
+
 impl Command {
-    /// A word with a text behind it.
-    pub(crate) fn of(alloc: Global, word: &str, text: &str) -> Result<Command, AllocError>
-        ensures { IfOk result (λ command. command ≡ word.now ++ text.now) }
+    /// The command that the parts make.
+    pub(crate) fn of_parts(alloc: Global, parts: &[&str]) -> Result<Command, AllocError>
+        ensures { IfOk result (λ command. command ≡ joined parts.now) }
     {
-        let room = word.len().saturating_add(text.len());
-        let mut command = String::with_capacity(alloc, room)?;
-        command.push_str(word)?;
-        command.push_str(text)?;
-        Ok(Command { text: command })
-    }
-
-    /// A word with two texts behind it, and a blank between these.
-    pub(crate) fn of_two(
-        alloc: Global,
-        word: &str,
-        first: &str,
-        second: &str,
-    ) -> Result<Command, AllocError>
-        ensures { IfOk result (λ command. command ≡ word.now ++ first.now ++ 32 ∷ second.now) }
-    {
-        let texts = first.len() + 1 + second.len();
-        let mut command = String::with_capacity(alloc, word.len().saturating_add(texts))?;
-        command.push_str(word)?;
-        command.push_str(first)?;
-        command.push(' ')?;
-        command.push_str(second)?;
-        Ok(Command { text: command })
-    }
-
-    /// The same command again.
-    pub(crate) fn copy(&self) -> Result<Command, AllocError>
-        ensures { IfOk result (λ copy. copy ≡ self.now) }
-    {
-        let text = self.text.clone()?;
+        let mut text = String::with_capacity(alloc, room_for(parts))?;
+        for part in parts {
+            text.push_str(part)?;
+        }
         Ok(Command { text })
     }
 

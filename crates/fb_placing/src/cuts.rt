@@ -42,7 +42,7 @@ pub fn is_cut(table: &PathTable, link: &Link) -> bool
 }
 
 /// The same link again.
-pub(crate) fn link_copy(link: &Link) -> Result<Link, AllocError>
+fn link_copy(link: &Link) -> Result<Link, AllocError>
     ensures { IfOk result (λ copy. copy ≡ link.now) }
 {
     Ok(Link {

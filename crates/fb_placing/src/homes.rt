@@ -1,10 +1,12 @@
 //! The homes of the blocks of a system.
-ghost use Rattle.std.specs.Prelude.{◌≡◌, [], ◌∷◌, ◌++◌, map, IfOk, OnOk};
+ghost use Rattle.std.specs.Prelude.{◌≡◌, [], ◌∷◌, ◌++◌, length, List, map, IfOk, OnOk};
 ghost use Rattle.std.specs.BTreeMap.{get};
 ghost use Rattle.std.specs.HashMap.{get_by_text};
 ghost use Rattle.fb_tree.specs.Text.Order.{name_cmp};
 ghost use Rattle.fb_tree.specs.Tree.{mapping_tree};
 ghost use Rattle.fb_netcheck.specs.Library.View.{tree_at};
+ghost use Rattle.fb_network.specs.Numbered.{block_numbered};
+ghost use Rattle.fb_network.specs.declared.flat.FlatBlock.{FlatBlock};
 ghost use Rattle.fb_placing.specs.Homes.{astray, block_home, block_homes, homeless, homes_of, misplaced, plain_homes};
 ghost use Rattle.fb_placing.specs.Mappings.{names_used, resource_at};
 ghost use Rattle.fb_placing.specs.Systems.{applications_in, mappings_in};
@@ -13,6 +15,7 @@ ghost use Rattle.fb_placing.specs.declared.homes.Misplaced.TheVariants.{NoSuchBl
 
 use crate::fronts::{PathTable, nearest};
 use crate::mappings::{mapping_table, path_of_names};
+use crate::numbers::number;
 use crate::sorted::sorted_paths;
 use crate::standing::leads_nowhere;
 use crate::tables::{Applications, Units, applications_in};
@@ -57,12 +60,19 @@ fn mappings_of<'a, V: View>(view: &'a V, system: &Name) -> &'a [Mapping]
 }
 
 /// The home of a block, where the table has what is mapped.
-fn block_home(table: &PathTable, block: &FlatBlock) -> Result<Option<Home>, AllocError>
-    ensures { IfOk result (λ home. home ≡ block_home (get_by_text table.now) block.now) }
+fn block_home(
+    alloc: Global,
+    table: &PathTable,
+    flat: &Flat,
+    block: u32,
+) -> Result<Option<Home>, AllocError>
+    ensures { IfOk result (λ home. home
+        ≡ block_home (get_by_text table.now) (block_numbered flat.now block)) }
 {
-    match nearest(table, block.path.as_str()) {
+    let (start, end) = flat.block_path(block);
+    let path = Path::of_parts(alloc, start, end)?;
+    match nearest(table, path.as_str()) {
         Some(resource) => {
-            let path = block.path.copy()?;
             let resource = resource.copy()?;
             Ok(Some(Home { path, resource }))
         }
@@ -71,16 +81,14 @@ fn block_home(table: &PathTable, block: &FlatBlock) -> Result<Option<Home>, Allo
 }
 
 /// The homes of the blocks, where the table has what is mapped.
-fn block_homes(
-    alloc: Global,
-    table: &PathTable,
-    blocks: &[FlatBlock],
-) -> Result<Vec<Home>, AllocError>
-    ensures { IfOk result (λ homes. homes.items ≡ block_homes (get_by_text table.now) blocks.now) }
+fn block_homes(alloc: Global, table: &PathTable, flat: &Flat) -> Result<Vec<Home>, AllocError>
+    ensures { IfOk result
+        (λ homes. homes.items ≡ block_homes (get_by_text table.now) flat.now.blocks) }
 {
-    let mut homes = Vec::new(alloc);
-    for block in blocks {
-        if let Some(home) = block_home(table, block)? {
+    let count = number(flat.block_count())?;
+    let mut homes = Vec::with_capacity(alloc, flat.block_count())?;
+    for block in 0..count {
+        if let Some(home) = block_home(alloc, table, flat, block)? {
             homes.push(home)?;
         }
     }
@@ -98,6 +106,24 @@ fn homeless(alloc: Global, table: &PathTable, blocks: &[FlatBlock]) -> Result<Ve
         }
     }
     Ok(paths)
+}
+
+/// The same of a flat network whose blocks have so many homes. Where each has one, none is looked for.
+fn homeless_blocks(
+    alloc: Global,
+    table: &PathTable,
+    flat: &Flat,
+    homes: usize,
+) -> Result<Vec<Path>, AllocError>
+    requires { homes ≡ length (block_homes (get_by_text table.now) flat.now.blocks) }
+    ensures { IfOk result
+        (λ paths. paths.items ≡ homeless (get_by_text table.now) flat.now.blocks) }
+{
+    if homes == flat.block_count() {
+        return Ok(Vec::new(alloc));
+    }
+    let blocks = flat.plain_blocks(alloc)?;
+    homeless(alloc, table, &blocks)
 }
 
 /// The names of a mapping's path.
@@ -192,45 +218,24 @@ fn push_no_such_block(paths: Vec<Path>, found: &mut Vec<Misplaced>) -> Result<()
     Ok(())
 }
 
-/// Blocks that no mapping places, and then mappings that are of nothing, each by the bytes of their paths.
+/// Blocks that no mapping places, of which these are the paths, and then mappings that are of nothing, each by the bytes of their paths.
 fn misplaced_in<V: View>(
     alloc: Global,
     view: &V,
     system: &Name,
-    table: &PathTable,
-    blocks: &[FlatBlock],
+    unmapped: Vec<Path>,
 ) -> Result<Vec<Misplaced>, AllocError>
-    requires { get_by_text table.now
-        ≡ resource_at (mappings_in (tree_at (V.sources view.now) system.now)) }
-    ensures { IfOk result (λ found. found.items
+    ensures { IfOk result (λ found. (blocks : List FlatBlock) → unmapped.items
+        ≡ homeless (resource_at (mappings_in (tree_at (V.sources view.now) system.now))) blocks
+        → found.items
         ≡ misplaced (V.sources view.now) system.now
-        (tree_at (V.sources view.now) system.now) blocks.now) }
+        (tree_at (V.sources view.now) system.now) blocks) }
 {
     let mut found = Vec::new(alloc);
-    let unmapped = sorted_paths(homeless(alloc, table, blocks)?)?;
-    push_unmapped(unmapped, &mut found)?;
+    push_unmapped(sorted_paths(unmapped)?, &mut found)?;
     let nowhere = sorted_paths(astray(alloc, view, system, mappings_of(view, system))?)?;
     push_no_such_block(nowhere, &mut found)?;
     Ok(found)
-}
-
-/// The homes of these blocks of a system, in their order, or what is misplaced.
-fn homes_of_blocks<V: View>(
-    alloc: Global,
-    view: &V,
-    system: &Name,
-    blocks: &[FlatBlock],
-) -> Result<Homes, AllocError>
-    ensures { IfOk result
-        (λ homes. plain_homes homes ≡ homes_of (V.sources view.now) system.now blocks.now) }
-{
-    let table = mapping_table(alloc, mappings_of(view, system))?;
-    let found = misplaced_in(alloc, view, system, &table, blocks)?;
-    if found.is_empty() {
-        Ok(Homes::On(block_homes(alloc, &table, blocks)?))
-    } else {
-        Ok(Homes::Faulty(found))
-    }
 }
 
 /// The homes of the blocks of a system, in the order of the blocks, or what is misplaced.
@@ -243,6 +248,13 @@ pub fn homes_of<V: View>(
     ensures { IfOk result (λ homes. plain_homes homes
         ≡ homes_of (V.sources view.now) system.now flat.now.blocks) }
 {
-    let blocks = flat.plain_blocks(alloc)?;
-    homes_of_blocks(alloc, view, system, &blocks)
+    let table = mapping_table(alloc, mappings_of(view, system))?;
+    let homes = block_homes(alloc, &table, flat)?;
+    let unmapped = homeless_blocks(alloc, &table, flat, homes.len())?;
+    let found = misplaced_in(alloc, view, system, unmapped)?;
+    if found.is_empty() {
+        Ok(Homes::On(homes))
+    } else {
+        Ok(Homes::Faulty(found))
+    }
 }

@@ -4,25 +4,37 @@
 
 mod command;
 mod commands;
+mod creates;
 mod cuts;
+mod ends;
 mod fronts;
 mod homes;
+mod items;
 mod laws;
 mod lines;
+mod lists;
 mod mappings;
+mod near;
+mod numbers;
 mod orders;
+mod parted;
+mod parts;
+mod plan;
 mod resources;
+mod same;
 mod sorted;
+mod spots;
 mod standing;
 mod tables;
 mod written;
 
 pub use command::Command;
-pub use commands::{Commands, commands_of};
+pub use commands::plan_of;
 pub use cuts::{cuts_of, home_table, is_cut};
 pub use fronts::{PathTable, nearest};
 pub use homes::{Home, Homes, Misplaced, homes_of};
 pub use laws::homes_are_nearest;
+pub use plan::Plan;
 pub use resources::ResourcePlan;
 pub use standing::path_names;
 

@@ -1,27 +1,28 @@
 //! Commands in the order of the places that they are about.
-ghost use Rattle.std.specs.Prelude.{◌≡◌, ◌++◌, IfOk, OnOk, map, Some, refl};
+ghost use Rattle.std.specs.Prelude.{◌≡◌, ◌++◌, IfOk, OnOk, map, Some, refl, string_bytes};
 ghost use Rattle.std.specs.BTreeMap.{get};
 ghost use Rattle.std.specs.HashMap.{get_by_text};
-ghost use Rattle.std.specs.List.{filter_map, flat_map};
+ghost use Rattle.std.specs.List.{flat_map};
 ghost use Rattle.std.specs.Ordering.{eq_by_cmp, as_partial_cmp};
 ghost use Rattle.std.specs.Cmp.{eq_by_cmp_equiv, partial_equiv_from_equiv, partial_order_from_total};
 ghost use Rattle.fb_tree.specs.Text.Order.{in_order, name_cmp};
 ghost use Rattle.fb_tree.specs.Tree.{parameter_tree};
 ghost use Rattle.fb_netcheck.specs.Library.View.{tree_at};
+ghost use Rattle.fb_placing.specs.Near.{IsNear};
 ghost use Rattle.fb_placing.specs.Standing.{plain_standing};
 ghost use Rattle.fb_placing.specs.Systems.{applications_in};
-ghost use Rattle.fb_placing.specs.Lines.{create_line, create_lines, home_lines, line_cmp, line_cmp_total, lines_at, write_line, write_lines};
+ghost use Rattle.fb_placing.specs.Lines.{home_lines, line_cmp, line_cmp_total, lines_at, write_line, write_lines};
 ghost use Rattle.fb_placing.specs.Tables.{AreApplications, AreUnits};
 
 use crate::command::Command;
-use crate::fronts::PathTable;
 use crate::homes::Home;
-use crate::standing::{Standing, path_names, standing_at};
+use crate::near::{Near, standing_near};
+use crate::standing::Standing;
 use crate::tables::{Applications, Units, applications_in};
 use crate::written::written;
 use fb_netcheck::library::View;
 use fb_netcheck::text_by_name;
-use fb_network::{FlatBlock, Path, sort_once};
+use fb_network::{Path, sort_once};
 use fb_tree::Parameter;
 use fb_tree::text::Name;
 use std::alloc::{AllocError, Global};
@@ -85,59 +86,6 @@ fn sorted_lines(lines: Vec<Line>) -> Result<Vec<Line>, AllocError>
     Ok(sorted)
 }
 
-/// The command that makes a block, if the block has a home.
-fn create_line(
-    alloc: Global,
-    homes: &PathTable,
-    block: &FlatBlock,
-) -> Result<Option<Line>, AllocError>
-    ensures { IfOk result (λ line. line ≡ create_line (get_by_text homes.now) block.now) }
-{
-    let path = block.path.as_str();
-    match homes.get(path) {
-        Some(resource) => {
-            let command = Command::of_two(alloc, "CREATE FB ", path, block.type_name.as_str())?;
-            let place = block.path.copy()?;
-            let resource = resource.copy()?;
-            Ok(Some(Line {
-                place,
-                command,
-                resource,
-            }))
-        }
-        None => Ok(None),
-    }
-}
-
-/// The commands that make blocks, in the order of the blocks.
-fn block_lines(
-    alloc: Global,
-    homes: &PathTable,
-    blocks: &[FlatBlock],
-) -> Result<Vec<Line>, AllocError>
-    ensures { IfOk result
-        (λ lines. lines.items ≡ filter_map (create_line (get_by_text homes.now)) blocks.now) }
-{
-    let mut lines = Vec::new(alloc);
-    for block in blocks {
-        if let Some(line) = create_line(alloc, homes, block)? {
-            lines.push(line)?;
-        }
-    }
-    Ok(lines)
-}
-
-/// The commands that make blocks, by the bytes of their paths.
-pub(crate) fn create_lines(
-    alloc: Global,
-    homes: &PathTable,
-    blocks: &[FlatBlock],
-) -> Result<Vec<Line>, AllocError>
-    ensures { IfOk result (λ lines. lines.items ≡ create_lines (get_by_text homes.now) blocks.now) }
-{
-    sorted_lines(block_lines(alloc, homes, blocks)?)
-}
-
 /// The command that sets a parameter of a block.
 fn write_line(
     alloc: Global,
@@ -150,7 +98,8 @@ fn write_line(
 {
     let place = home.path.then(alloc, &parameter.name.name.name())?;
     let value = written(alloc, text, &parameter.value)?;
-    let command = Command::of_two(alloc, "WRITE ", place.as_str(), value.as_str())?;
+    let parts = ["WRITE ", place.as_str(), " ", value.as_str()];
+    let command = Command::of_parts(alloc, &parts)?;
     let resource = home.resource.copy()?;
     Ok(Line {
         place,
@@ -203,19 +152,26 @@ fn push_home_lines<'a, V: View>(
     home: &Home,
     applications: &Applications<'a>,
     units: &mut Units<'a>,
+    near: &mut Near<'a>,
     lines: &mut Vec<Line>,
 ) -> Result<(), AllocError>
     requires applications { AreApplications
         (applications_in (tree_at (V.sources view.now) system.now))
         (get_by_text applications.now) }
     requires units { AreUnits (V.sources view.now) (get name_cmp units.old) }
+    requires near { IsNear (V.sources view.now) system.now
+        (applications_in (tree_at (V.sources view.now) system.now))
+        (string_bytes near.old.path) near.old.standing }
     ensures right { OnOk result (AreUnits (V.sources view.now) (get name_cmp units.new)) }
+    ensures near { OnOk result (IsNear (V.sources view.now) system.now
+        (applications_in (tree_at (V.sources view.now) system.now))
+        (string_bytes near.new.path) near.new.standing) }
     ensures lines { OnOk result (lines.new.items ≡ lines.old.items
         ++ home_lines (V.sources view.now) system.now
         (applications_in (tree_at (V.sources view.now) system.now)) home.now) }
 {
-    let names = path_names(alloc, home.path.as_str())?;
-    match standing_at(alloc, view, system, &names, applications, units) {
+    let path = home.path.as_str();
+    match standing_near(alloc, view, system, path, applications, units, near) {
         Ok(Some(it)) => push_lines_of(alloc, view, home, &it, lines),
         Ok(None) => Ok(()),
         Err(error) => Err(error),
@@ -236,6 +192,7 @@ fn all_home_lines<V: View>(
 {
     let applications = applications_in(alloc, view, system)?;
     let mut units = BTreeMap::new(alloc);
+    let mut near = Near::new(alloc);
     let mut lines = Vec::new(alloc);
     for home in homes {
         push_home_lines(
@@ -245,6 +202,7 @@ fn all_home_lines<V: View>(
             home,
             &applications,
             &mut units,
+            &mut near,
             &mut lines,
         )?;
     }

@@ -1,189 +1,198 @@
-//! The commands of a system, each with the resource that it is for.
-ghost use Rattle.std.specs.Prelude.{◌≡◌, [], ◌∷◌, ◌++◌, IfOk, OnOk, map, option_copied};
-ghost use Rattle.std.specs.HashMap.{get_by_text};
-ghost use Rattle.fb_netcheck.specs.Library.View.{tree_at};
+//! The commands of a system by numbers, each with the resource that it is for.
+ghost use Rattle.std.specs.Prelude.{◌≡◌, [], ◌∷◌, ◌++◌, IfOk, IsTrue, OnOk, List, ℕ, map, option_copied, string_bytes};
 ghost use Rattle.std.specs.List.{cons_option};
-ghost use Rattle.fb_placing.specs.Cuts.{cuts_of, home_at};
-ghost use Rattle.fb_placing.specs.Systems.{applications_in};
+ghost use Rattle.fb_network.specs.Numbered.{link_numbered};
+ghost use Rattle.fb_network.specs.PlainFlat.{PlainFlat};
+ghost use Rattle.fb_placing.specs.Creates.{created_line};
+ghost use Rattle.fb_placing.specs.Cuts.{cuts_of};
+ghost use Rattle.fb_placing.specs.Items.{plain_order};
 ghost use Rattle.fb_placing.specs.Lines.{create_lines};
-ghost use Rattle.fb_placing.specs.Orders.{connection_orders, connection_text, line_order, order_on, orders_of, start_order};
+ghost use Rattle.fb_placing.specs.Orders.{connection_orders, line_order, order_on, start_order};
+ghost use Rattle.fb_placing.specs.Points.{AreApart};
+ghost use Rattle.fb_placing.specs.Spots.{IsKnown, spot_at};
 
-use crate::command::Command;
-use crate::cuts::{home_table, link_copy, same_home};
-use crate::fronts::{PathTable, nearest};
-use crate::homes::Home;
-use crate::lines::{Line, create_lines, write_lines};
-use fb_netcheck::library::View;
-use fb_network::{Flat, Link, Path};
-use fb_tree::text::Name;
+use crate::creates::{Created, created_in_order};
+use crate::cuts::same_home;
+use crate::ends::{LastBlock, home_of_end};
+use crate::items::Item;
+use crate::lines::Line;
+use crate::numbers::number;
+use crate::spots::Spots;
+use fb_network::{Flat, Path};
 use std::alloc::{AllocError, Global};
 
-/// A command and the resource that it is for.
-#[derive(Debug, Drop)]
-pub struct Order {
-    pub resource: Path,
-    pub command: Command,
+/// A command by number, and the resource that it is for.
+#[derive(Clone, Copy, Debug)]
+pub(crate) struct Numbered<'a> {
+    pub resource: &'a Path,
+    pub item: Item,
 }
 
-/// Adds the commands of lines.
-fn push_line_orders(lines: Vec<Line>, orders: &mut Vec<Order>) -> Result<(), AllocError>
-    ensures { OnOk result (orders.new.items ≡ orders.old.items ++ map line_order lines.items) }
+/// Adds the commands that make these blocks.
+fn push_created<'a>(
+    created: &[Created<'a>],
+    orders: &mut Vec<Numbered<'a>>,
+) -> Result<(), AllocError>
+    ensures { OnOk result ((flat : PlainFlat) (writes : List (List ℕ))
+        → map (plain_order flat writes) orders.new.items
+        ≡ map (plain_order flat writes) orders.old.items
+        ++ map line_order (map (created_line flat) created.now)) }
 {
-    for line in lines {
-        orders.push(Order {
-            resource: line.resource,
-            command: line.command,
+    for it in created {
+        orders.push(Numbered {
+            resource: it.resource,
+            item: Item::Create(it.block),
         })?;
     }
     Ok(())
 }
 
-/// The command that joins the ends of a link, which both stand on the resource.
-fn connection_order(alloc: Global, link: &Link, resource: &Path) -> Result<Order, AllocError>
-    ensures { IfOk result (λ order. order ≡ record {
-      resource = resource.now;
-      command = connection_text link.now.from link.now.to;
-    }) }
+/// Adds the commands that make blocks, by the bytes of their paths.
+pub(crate) fn push_creates<'a>(
+    alloc: Global,
+    homes: &Spots<'a>,
+    flat: &Flat,
+    orders: &mut Vec<Numbered<'a>>,
+) -> Result<(), AllocError>
+    ensures { OnOk result ((writes : List (List ℕ))
+        → map (plain_order flat.now writes) orders.new.items
+        ≡ map (plain_order flat.now writes) orders.old.items
+        ++ map line_order (create_lines (spot_at homes.now) flat.now.blocks)) }
 {
-    let from = link.from.as_str();
-    let command = Command::of_two(alloc, "CREATE CONNECTION ", from, link.to.as_str())?;
-    let resource = resource.copy()?;
-    Ok(Order { resource, command })
+    let created = created_in_order(alloc, homes, flat)?;
+    push_created(&created, orders)
 }
 
-/// Adds the command that joins the ends of a link, if it is not cut.
-fn push_connection_order(
-    alloc: Global,
-    resource: Option<&Path>,
-    link: &Link,
-    orders: &mut Vec<Order>,
+/// Adds the commands of lines that set parameters.
+pub(crate) fn push_writes<'a>(
+    lines: &'a [Line],
+    orders: &mut Vec<Numbered<'a>>,
 ) -> Result<(), AllocError>
-    ensures { OnOk result (orders.new.items ≡ orders.old.items
-        ++ cons_option (order_on (option_copied resource.entry) link.now) []) }
+    ensures { OnOk result ((flat : PlainFlat)
+        → map (plain_order flat (map (λ l. l.command) lines.now)) orders.new.items
+        ≡ map (plain_order flat (map (λ l. l.command) lines.now)) orders.old.items
+        ++ map line_order lines.now) }
 {
-    if let Some(resource) = resource {
-        orders.push(connection_order(alloc, link, resource)?)?;
+    orders.reserve(lines.len())?;
+    for i in 0..lines.len() {
+        orders.push(Numbered {
+            resource: &lines[i].resource,
+            item: Item::Write(number(i)?),
+        })?;
     }
     Ok(())
 }
 
-/// Adds a link to those that are cut, or the command that joins its ends.
-fn push_link(
-    alloc: Global,
-    homes: &PathTable,
-    link: &Link,
-    cuts: &mut Vec<Link>,
-    orders: &mut Vec<Order>,
+/// Adds the command that makes a link, if it has a resource.
+fn push_connection<'a>(
+    flat: &Flat,
+    link: u32,
+    resource: Option<&'a Path>,
+    orders: &mut Vec<Numbered<'a>>,
 ) -> Result<(), AllocError>
-    ensures cuts { OnOk result
-        (cuts.new.items ≡ cuts.old.items ++ cuts_of (get_by_text homes.now) (link.now ∷ [])) }
-    ensures orders { OnOk result (orders.new.items
-        ≡ orders.old.items ++ connection_orders (get_by_text homes.now) (link.now ∷ [])) }
+    ensures { OnOk result ((writes : List (List ℕ))
+        → map (plain_order flat.now writes) orders.new.items
+        ≡ map (plain_order flat.now writes) orders.old.items
+        ++ cons_option (order_on (option_copied resource.entry) (link_numbered flat.now link)) []) }
 {
-    let from = nearest(homes, link.from.as_str());
-    if same_home(from, nearest(homes, link.to.as_str())) {
-        push_connection_order(alloc, from, link, orders)
+    if let Some(resource) = resource {
+        orders.push(Numbered {
+            resource,
+            item: Item::Connect(link),
+        })?;
+    }
+    Ok(())
+}
+
+/// Adds a link to those that are cut, or the command that makes it.
+fn push_link<'a>(
+    homes: &Spots<'a>,
+    apart: bool,
+    flat: &Flat,
+    link: u32,
+    last_from: &mut LastBlock<'a>,
+    last_to: &mut LastBlock<'a>,
+    cuts: &mut Vec<u32>,
+    orders: &mut Vec<Numbered<'a>>,
+) -> Result<(), AllocError>
+    requires apart { IsTrue apart → AreApart (spot_at homes.now) }
+    requires from { IsKnown homes.now (string_bytes last_from.old.path) last_from.old.home }
+    requires to { IsKnown homes.now (string_bytes last_to.old.path) last_to.old.home }
+    ensures from { OnOk result
+        (IsKnown homes.now (string_bytes last_from.new.path) last_from.new.home) }
+    ensures to { OnOk result
+        (IsKnown homes.now (string_bytes last_to.new.path) last_to.new.home) }
+    ensures cuts { OnOk result (map (link_numbered flat.now) cuts.new.items
+        ≡ map (link_numbered flat.now) cuts.old.items
+        ++ cuts_of (spot_at homes.now) (link_numbered flat.now link ∷ [])) }
+    ensures orders { OnOk result ((writes : List (List ℕ))
+        → map (plain_order flat.now writes) orders.new.items
+        ≡ map (plain_order flat.now writes) orders.old.items
+        ++ connection_orders (spot_at homes.now) (link_numbered flat.now link ∷ [])) }
+{
+    let (start, end) = flat.link_from(link);
+    let from = home_of_end(homes, apart, start, end, last_from)?;
+    let (start, end) = flat.link_to(link);
+    let to = home_of_end(homes, apart, start, end, last_to)?;
+    if same_home(from, to) {
+        push_connection(flat, link, from, orders)
     } else {
-        cuts.push(link_copy(link)?)?;
+        cuts.push(link)?;
         Ok(())
     }
 }
 
-/// Adds those of the links that are cut, and the commands that join the ends of the others.
-fn push_links(
+/// Adds the links that are cut, and the commands that make the others.
+pub(crate) fn push_links<'a>(
     alloc: Global,
-    homes: &PathTable,
-    links: &[Link],
-    cuts: &mut Vec<Link>,
-    orders: &mut Vec<Order>,
+    homes: &Spots<'a>,
+    apart: bool,
+    flat: &Flat,
+    cuts: &mut Vec<u32>,
+    orders: &mut Vec<Numbered<'a>>,
 ) -> Result<(), AllocError>
-    ensures cuts { OnOk result
-        (cuts.new.items ≡ cuts.old.items ++ cuts_of (get_by_text homes.now) links.now) }
-    ensures orders { OnOk result (orders.new.items
-        ≡ orders.old.items ++ connection_orders (get_by_text homes.now) links.now) }
+    requires { IsTrue apart → AreApart (spot_at homes.now) }
+    ensures cuts { OnOk result (map (link_numbered flat.now) cuts.new.items
+        ≡ map (link_numbered flat.now) cuts.old.items
+        ++ cuts_of (spot_at homes.now) flat.now.links) }
+    ensures orders { OnOk result ((writes : List (List ℕ))
+        → map (plain_order flat.now writes) orders.new.items
+        ≡ map (plain_order flat.now writes) orders.old.items
+        ++ connection_orders (spot_at homes.now) flat.now.links) }
 {
-    for link in links {
-        push_link(alloc, homes, link, cuts, orders)?;
+    let count = number(flat.link_count())?;
+    orders.reserve(flat.link_count())?;
+    let mut last_from = LastBlock::new(alloc);
+    let mut last_to = LastBlock::new(alloc);
+    for link in 0..count {
+        push_link(
+            homes,
+            apart,
+            flat,
+            link,
+            &mut last_from,
+            &mut last_to,
+            cuts,
+            orders,
+        )?;
     }
     Ok(())
 }
 
-fn start_order(alloc: Global, resource: &Path) -> Result<Order, AllocError>
-    ensures { IfOk result (λ order. order ≡ start_order resource.now) }
-{
-    let command = Command::of(alloc, "START ", resource.as_str())?;
-    Ok(Order {
-        resource: resource.copy()?,
-        command,
-    })
-}
-
-fn push_start_orders(
-    alloc: Global,
-    resources: &[Path],
-    orders: &mut Vec<Order>,
+/// Adds the commands that start resources.
+pub(crate) fn push_starts<'a>(
+    resources: &'a [Path],
+    orders: &mut Vec<Numbered<'a>>,
 ) -> Result<(), AllocError>
-    ensures { OnOk result (orders.new.items ≡ orders.old.items ++ map start_order resources.now) }
+    ensures { OnOk result ((flat : PlainFlat) (writes : List (List ℕ))
+        → map (plain_order flat writes) orders.new.items
+        ≡ map (plain_order flat writes) orders.old.items ++ map start_order resources.now) }
 {
     for resource in resources {
-        orders.push(start_order(alloc, resource)?)?;
+        orders.push(Numbered {
+            resource,
+            item: Item::Start,
+        })?;
     }
     Ok(())
-}
-
-/// Adds the commands that make the blocks.
-fn push_create_orders(
-    alloc: Global,
-    homes: &PathTable,
-    flat: &Flat,
-    orders: &mut Vec<Order>,
-) -> Result<(), AllocError>
-    ensures { OnOk result (orders.new.items
-        ≡ orders.old.items ++ map line_order (create_lines (get_by_text homes.now) flat.now.blocks)) }
-{
-    let blocks = flat.plain_blocks(alloc)?;
-    push_line_orders(create_lines(alloc, homes, &blocks)?, orders)
-}
-
-/// Adds the links that are cut, and the commands that join the ends of the others.
-fn push_flat_links(
-    alloc: Global,
-    homes: &PathTable,
-    flat: &Flat,
-    cuts: &mut Vec<Link>,
-    orders: &mut Vec<Order>,
-) -> Result<(), AllocError>
-    ensures cuts { OnOk result
-        (cuts.new.items ≡ cuts.old.items ++ cuts_of (get_by_text homes.now) flat.now.links) }
-    ensures orders { OnOk result (orders.new.items
-        ≡ orders.old.items ++ connection_orders (get_by_text homes.now) flat.now.links) }
-{
-    let links = flat.plain_links(alloc)?;
-    push_links(alloc, homes, &links, cuts, orders)
-}
-
-/// All commands: blocks are made first, then parameters are set, then connections are made, then resources are started. Adds the links
-/// that are cut.
-pub(crate) fn orders_of<V: View>(
-    alloc: Global,
-    view: &V,
-    system: &Name,
-    resources: &[Path],
-    flat: &Flat,
-    homes: &[Home],
-    cuts: &mut Vec<Link>,
-) -> Result<Vec<Order>, AllocError>
-    ensures cuts { OnOk result
-        (cuts.new.items ≡ cuts.old.items ++ cuts_of (home_at homes.now) flat.now.links) }
-    ensures orders { IfOk result (λ orders. orders.items ≡ orders_of (V.sources view.now) system.now
-        (applications_in (tree_at (V.sources view.now) system.now))
-        resources.now flat.now homes.now) }
-{
-    let table = &home_table(alloc, homes)?;
-    let mut orders = Vec::new(alloc);
-    push_create_orders(alloc, table, flat, &mut orders)?;
-    push_line_orders(write_lines(alloc, view, system, homes)?, &mut orders)?;
-    push_flat_links(alloc, table, flat, cuts, &mut orders)?;
-    push_start_orders(alloc, resources, &mut orders)?;
-    Ok(orders)
 }

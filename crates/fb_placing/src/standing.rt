@@ -53,7 +53,7 @@ fn standing_among<'a>(unit: Name, instances: &Instances<'a>, name: &str) -> Opti
 }
 
 /// The instance of that name in the type of an instance.
-fn standing_inside<'a, V: View>(
+pub(crate) fn standing_inside<'a, V: View>(
     alloc: Global,
     view: &'a V,
     name: &str,
@@ -66,6 +66,9 @@ fn standing_inside<'a, V: View>(
         ≡ standing_inside (V.sources view.now) name.now (plain_standing outer.now)) }
 {
     let unit = outer.instance.type_name.name.name();
+    if let Some(instances) = units.get(&unit) {
+        return Ok(standing_among(unit, instances, name));
+    }
     look_into(alloc, view, &unit, units)?;
     let instances = units.get(&unit).unwrap();
     Ok(standing_among(unit, instances, name))

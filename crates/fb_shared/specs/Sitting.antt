@@ -2,10 +2,6 @@
 use Rattle.std.specs.Prelude.{◌≡◌, ◌++◌, ◌∷◌, [], List, ℕ}
 use Rattle.fb_locked.specs.History.Machine.{Call}
 use Rattle.fb_locked.specs.Bench.Calls.{Answer, Deed, Makes, Keeps, Replied, FullHistory, BehindHistory, Checked, SharedHistory}
-use Rattle.fb_locked.specs.Bench.declared.desk.DeskRefused.{DeskRefused}
-use Rattle.fb_locked.specs.Bench.declared.desk.DeskRefused.TheVariants as desk
-use Rattle.fb_locked.specs.declared.locked.SharedRefused.{SharedRefused}
-use Rattle.fb_locked.specs.declared.locked.SharedRefused.TheVariants.{SeatDiffers, Behind, HistoryFull, Memory}
 use Rattle.fb_locked.specs.Seats.{SeatState, Claim, IsReceiptOf, seat_after}
 
 -- a workbench behind its lock: for how many callers seats were made. What lies there is known to nobody without the lock
@@ -16,13 +12,6 @@ pub record Sharing : Type 0 where
 pub record Sitter : Type 0 where
   pub seat : SeatState
   pub receipts : List Claim
-
--- a refusal as a desk says it
-abbrev pub desk_refused : SharedRefused → DeskRefused
-desk_refused (SeatDiffers turns book) = desk.Behind
-desk_refused (Behind seen len) = desk.Behind
-desk_refused HistoryFull = desk.HistoryFull
-desk_refused Memory = desk.Memory
 
 -- An answered call adds one receipt, which is of the call, with the reply, and which the seat has then seen. A refused one changes neither.
 abbrev pub IsCallSitting : Sitter → Call → Answer → Sitter → Type 0

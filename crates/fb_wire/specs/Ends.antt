@@ -1,6 +1,6 @@
 -- How a run ends, and what it has said and done by then.
 use Rattle.std.specs.Prelude.{◌≡◌, ◌↔◌, ◌≤◌, ◌+◌, ℕ, Bool, List, [], ◌∷◌, ◌++◌, take, Option, IsTrue}
-use Rattle.std.specs.Io.KnownBytes.{IsAtEnd}
+use Rattle.std.specs.Io.KnownBytes.{Consumes, IsAtEnd}
 use Rattle.fb_streams.specs.Streams.{StaysFlushed}
 use Rattle.serde_json.specs.Data.{Data}
 use Rattle.fb_wire.specs.Lines.{Fits, IsTooLong, lines_of}
@@ -53,15 +53,29 @@ IsBetweenLines WriteFailed = ⊥
 IsBetweenLines Memory = ⊥
 IsBetweenLines _ = Unit {0}
 
--- ---- what an end says of the reader and the writer
+-- ---- what is said and done by an end
 
--- what is known of a reader and a writer: what is left to be read, how often was read, and what has failed or is flushed
+-- what a reader and a writer tell: what was read and is left, how often was read, what was written, and what has failed or is flushed
 pub record Streams : Type 0 where
+  pub given : List ℕ
   pub left : Option (List ℕ)
   pub reads : ℕ
   pub read_has_failed : Bool
+  pub held : List ℕ
   pub is_flushed : Bool
   pub write_has_failed : Bool
+
+-- the same of a reader and a writer of any type
+abbrev pub streams : {R W : Type 0} → (R → List ℕ) → (R → Option (List ℕ)) → (R → ℕ) → (R → Bool) → (W → List ℕ) → (W → Bool) → (W → Bool) → R → W → Streams
+streams given left reads read_has_failed held is_flushed write_has_failed reader writer = record {
+  given = given reader;
+  left = left reader;
+  reads = reads reader;
+  read_has_failed = read_has_failed reader;
+  held = held writer;
+  is_flushed = is_flushed writer;
+  write_has_failed = write_has_failed writer;
+}
 
 -- At the end of the input nothing is left. No more was read than the turns, and as often where these are over. A read or a write has failed
 -- exactly where the end says so, and else all that was written is flushed, if it was before.
@@ -72,3 +86,14 @@ pub record ShowsEnd (end : RunEnd) (turns : ℕ) (old new : Streams) : Type 0 wh
   pub read_failed : IsTrue new.read_has_failed ↔ (end ≡ ReadFailed)
   pub flushed : StaysFlushed old.is_flushed new.write_has_failed new.is_flushed
   pub write_failed : IsTrue new.write_has_failed ↔ (end ≡ WriteFailed)
+
+-- what was read, asked and written is what stands at this end, which the reader and the writer show
+pub record IsTalk (end : RunEnd) (turns : ℕ) (old new : Streams) : Type 0 where
+  pub bytes : List ℕ
+  pub pairs : List Pair
+  pub out : List ℕ
+  pub given : new.given ≡ old.given ++ bytes
+  pub consumed : Consumes old.left new.left bytes
+  pub written : new.held ≡ old.held ++ out
+  pub stands : Stands end bytes pairs out
+  pub shown : ShowsEnd end turns old new

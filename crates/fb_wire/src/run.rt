@@ -3,10 +3,10 @@ ghost use Rattle.std.specs.Prelude.{◌≡◌, ◌↔◌, ◌≤◌, ◌<◌, �
 ghost use Rattle.std.specs.Io.KnownBytes.{Consumes, IsAtEnd};
 ghost use Rattle.fb_bench.specs.Solo.{IsStep};
 ghost use Rattle.fb_streams.specs.Streams.{StaysFlushed};
-ghost use Rattle.fb_wire.specs.Ends.{ShowsEnd, Stands};
+ghost use Rattle.fb_wire.specs.Ends.{IsTalk, streams};
 ghost use Rattle.fb_wire.specs.Script.{SaysBy};
 ghost use Rattle.fb_wire.specs.Turns.{StopsAtEnd, StopsRead, TakesPiece};
-ghost use Rattle.fb_wire.specs.Talk.{Pair, Runs};
+ghost use Rattle.fb_wire.specs.Talk.{Runs};
 
 use crate::end::RunEnd;
 use crate::line::{Conversation, say_line};
@@ -87,28 +87,12 @@ pub fn run_lines<F: Feed, S: Sink, D: Desk>(
 ) -> RunEnd
     requires reader { F.has_failed reader.old ≡ false }
     requires writer { S.has_failed writer.old ≡ false }
-    // What was read, asked and written is what stands at this end.
-    ensures talk { (bytes : List ℕ) × (pairs : List Pair) × (out : List ℕ)
-        × (F.given reader.new ≡ F.given reader.old ++ bytes)
-        × Consumes (F.left reader.old) (F.left reader.new) bytes
-        × Runs D.step desk.old pairs desk.new
-        × (S.held writer.new ≡ S.held writer.old ++ out)
-        × Stands result bytes pairs out }
-    ensures shown { ShowsEnd result turns
-        (record {
-          left = F.left reader.old;
-          reads = F.reads reader.old;
-          read_has_failed = F.has_failed reader.old;
-          is_flushed = S.is_flushed writer.old;
-          write_has_failed = S.has_failed writer.old;
-        })
-        (record {
-          left = F.left reader.new;
-          reads = F.reads reader.new;
-          read_has_failed = F.has_failed reader.new;
-          is_flushed = S.is_flushed writer.new;
-          write_has_failed = S.has_failed writer.new;
-        }) }
+    ensures { (talk : IsTalk result turns
+        (streams F.given F.left F.reads F.has_failed S.held S.is_flushed S.has_failed reader.old
+        writer.old)
+        (streams F.given F.left F.reads F.has_failed S.held S.is_flushed S.has_failed reader.new
+        writer.new))
+        × Runs D.step desk.old talk.pairs desk.new }
 {
     let mut talk = Conversation::new(alloc);
     let mut buffer = [0; READ_SIZE];
@@ -130,29 +114,14 @@ fn run_solo<F: Feed, S: Sink>(
 ) -> RunEnd
     requires reader { F.has_failed reader.old ≡ false }
     requires writer { S.has_failed writer.old ≡ false }
-    ensures script { (bytes : List ℕ) × (pairs : List Pair) × (out : List ℕ)
-        × (F.given reader.new ≡ F.given reader.old ++ bytes)
-        × Consumes (F.left reader.old) (F.left reader.new) bytes
-        × Runs (IsStep solo.old.caller) solo.old.bench.now pairs solo.new.bench.now
-        × (S.held writer.new ≡ S.held writer.old ++ out)
-        × Stands result bytes pairs out
-        × SaysBy result solo.old.caller solo.old.bench.now bytes out solo.new.bench.now }
+    ensures run { (talk : IsTalk result turns
+        (streams F.given F.left F.reads F.has_failed S.held S.is_flushed S.has_failed reader.old
+        writer.old)
+        (streams F.given F.left F.reads F.has_failed S.held S.is_flushed S.has_failed reader.new
+        writer.new))
+        × Runs (IsStep solo.old.caller) solo.old.bench.now talk.pairs solo.new.bench.now
+        × SaysBy result solo.old.caller solo.old.bench.now talk.bytes talk.out solo.new.bench.now }
     ensures same_reference { solo.new.bench.ghost_name ≡ solo.old.bench.ghost_name }
-    ensures shown { ShowsEnd result turns
-        (record {
-          left = F.left reader.old;
-          reads = F.reads reader.old;
-          read_has_failed = F.has_failed reader.old;
-          is_flushed = S.is_flushed writer.old;
-          write_has_failed = S.has_failed writer.old;
-        })
-        (record {
-          left = F.left reader.new;
-          reads = F.reads reader.new;
-          read_has_failed = F.has_failed reader.new;
-          is_flushed = S.is_flushed writer.new;
-          write_has_failed = S.has_failed writer.new;
-        }) }
 {
     run_lines(alloc, reader, writer, solo, turns)
 }
@@ -169,28 +138,13 @@ pub fn run_script<F: Feed, S: Sink>(
     requires reader { F.has_failed reader.old ≡ false }
     requires writer { S.has_failed writer.old ≡ false }
     // Each answer is the machine's, from the state before on: what is written is the script's output, or a front of it.
-    ensures script { (bytes : List ℕ) × (pairs : List Pair) × (out : List ℕ)
-        × (F.given reader.new ≡ F.given reader.old ++ bytes)
-        × Consumes (F.left reader.old) (F.left reader.new) bytes
-        × Runs (IsStep caller) bench.old pairs bench.new
-        × (S.held writer.new ≡ S.held writer.old ++ out)
-        × Stands result bytes pairs out
-        × SaysBy result caller bench.old bytes out bench.new }
-    ensures shown { ShowsEnd result turns
-        (record {
-          left = F.left reader.old;
-          reads = F.reads reader.old;
-          read_has_failed = F.has_failed reader.old;
-          is_flushed = S.is_flushed writer.old;
-          write_has_failed = S.has_failed writer.old;
-        })
-        (record {
-          left = F.left reader.new;
-          reads = F.reads reader.new;
-          read_has_failed = F.has_failed reader.new;
-          is_flushed = S.is_flushed writer.new;
-          write_has_failed = S.has_failed writer.new;
-        }) }
+    ensures { (talk : IsTalk result turns
+        (streams F.given F.left F.reads F.has_failed S.held S.is_flushed S.has_failed reader.old
+        writer.old)
+        (streams F.given F.left F.reads F.has_failed S.held S.is_flushed S.has_failed reader.new
+        writer.new))
+        × Runs (IsStep caller) bench.old talk.pairs bench.new
+        × SaysBy result caller bench.old talk.bytes talk.out bench.new }
 {
     let mut solo = Solo::new(bench, caller);
     run_solo(alloc, reader, writer, &mut solo, turns)

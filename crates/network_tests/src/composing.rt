@@ -1,13 +1,8 @@
 //! Flat networks, composed of those of inner types.
-ghost use Rattle.std.specs.Prelude.{◌≡◌, Some};
-ghost use Rattle.std.specs.BTreeMap.{get};
-ghost use Rattle.fb_tree.specs.Text.Order.{name_cmp};
-ghost use Rattle.network_tests.specs.Border.{inner};
-
 use crate::told::flat_told;
 use fb_network::{
-    Connection, End, Flat, FlatApplication, Instance, InstanceKind, Network, Port, compose,
-    compose_by_part, compose_in_order, join,
+    Connection, End, Flat, FlatApplication, Instance, InstanceKind, Network, Port, compose_by_part,
+    join,
 };
 use fb_tree::text::Name;
 use fb_tree::{Side, Sort};
@@ -128,66 +123,61 @@ fn flat_networks_are_told_by_what_they_say(rt: HostRuntime) -> Result<(), Fail> 
     Ok(())
 }
 
-#[test]
-fn a_network_of_nothing_is_flat(rt: HostRuntime) -> Result<(), Fail> {
-    let alloc = rt.alloc();
-    let types: BTreeMap<Name, Network> = BTreeMap::new(alloc);
-    let nets = compose_in_order(alloc, &types, &[])?;
-    let nothing = Network::new(Vec::new(alloc), Vec::new(alloc), Vec::new(alloc));
-    let flat = compose(alloc, &types, &nothing, &nets)?;
-    compare(&rt, alloc, &flat, "")
-}
-
-/// Compares the flat network of one whose event input is joined to that of its block.
-fn compare_border(
+/// Compares the flat network of a network without subapplications.
+fn compare_composed(
     rt: &impl Abort,
     alloc: Global,
     types: &BTreeMap<Name, Network>,
-    type_name: Name,
-    name: Name,
-    event: Name,
-) -> Result<(), Fail>
-    requires held { get name_cmp types.now type_name ≡ Some (inner event) }
-{
-    let sort = Sort::Event;
-    let port = Port {
-        sort,
+    network: &Network,
+    expected: &str,
+) -> Result<(), Fail> {
+    let nets: BTreeMap<Name, Flat> = BTreeMap::new(alloc);
+    let flat = compose_by_part(alloc, types, network, &nets)?;
+    compare(rt, alloc, &flat, expected)
+}
+
+#[test]
+fn a_network_of_nothing_is_flat(rt: HostRuntime) -> Result<(), Fail> {
+    let alloc = rt.alloc();
+    let nothing = Network::new(Vec::new(alloc), Vec::new(alloc), Vec::new(alloc));
+    compare_composed(&rt, alloc, &BTreeMap::new(alloc), &nothing, "")
+}
+
+/// An event input.
+fn input(name: Name) -> Port {
+    Port {
+        sort: Sort::Event,
         side: Side::Input,
-        name: event,
+        name,
         adapter: None,
-    };
+    }
+}
+
+/// A network whose event input is joined to that of its block.
+fn bordered(alloc: Global, type_name: Name, name: Name, event: Name) -> Result<Network, Fail> {
     let instance = Instance {
         name,
         kind: InstanceKind::Block,
         type_name,
     };
-    let connection = Connection {
-        sort,
-        source: End::Own(event),
-        destination: End::Of(name, event),
-    };
-    let network = Network::new(
-        vec![in alloc; port]?,
+    Ok(Network::new(
+        vec![in alloc; input(event)]?,
         vec![in alloc; instance]?,
-        vec![in alloc; connection]?,
-    );
-    let nets = compose_in_order(alloc, types, &[type_name])?;
-    let flat = compose(alloc, types, &network, &nets)?;
-    compare(rt, alloc, &flat, "F:B; Event I AT F.I")
+        vec![in alloc; connection(End::Own(event), End::Of(name, event))]?,
+    ))
 }
 
 #[test]
 fn a_block_behind_a_border(rt: HostRuntime) -> Result<(), Fail> {
     let alloc = rt.alloc();
     let [type_name, name, event] = [Name::read("B")?, Name::read("F")?, Name::read("I")?];
-    let port = Port {
-        sort: Sort::Event,
-        side: Side::Input,
-        name: event,
-        adapter: None,
-    };
-    let inner = Network::new(vec![in alloc; port]?, Vec::new(alloc), Vec::new(alloc));
+    let inner = Network::new(
+        vec![in alloc; input(event)]?,
+        Vec::new(alloc),
+        Vec::new(alloc),
+    );
     let mut types = BTreeMap::new(alloc);
     types.insert(type_name, inner)?;
-    compare_border(&rt, alloc, &types, type_name, name, event)
+    let outer = bordered(alloc, type_name, name, event)?;
+    compare_composed(&rt, alloc, &types, &outer, "F:B; Event I AT F.I")
 }

@@ -1,5 +1,6 @@
 //! Placements and plans of systems.
-use crate::told::{library_of, placement_told, plan_told};
+use crate::told::{library_of, placement_told, plan_in, plan_told, plans_told};
+use fb_deploy::Plan;
 use fb_library::Library;
 use std::alloc::Global;
 use std::process::Abort;
@@ -178,6 +179,57 @@ const PLANS: &[Row] = &[
         "RESOURCE E.R; START E.R; RESOURCE E.Q; CREATE FB A.B TN; CREATE FB V.B TN; WRITE A.B.DT T#2s; WRITE V.B.DT T#1s; START E.Q",
     ),
 ];
+
+// The same network by other types, and networks and mappings of which each differs from Y's in one thing.
+const SB: &str =
+    "SUBAPPLICATION SB FBS F:TN; G:TN(DT:=T#250ms); H:TN; END_FBS EVENT_CONNECTIONS F.O TO G.I; G.O TO H.I; END_CONNECTIONS END_SUBAPPLICATION";
+
+const Y_OF_SB: &str =
+    "SYSTEM Y APPLICATION APP SUBAPPS SUB:SB; END_SUBAPPS END_APPLICATION DEVICE D:DT RESOURCE R1:RT END_RESOURCE RESOURCE R2:RT END_RESOURCE END_DEVICE MAPPINGS APP ON D.R1; END_MAPPINGS END_SYSTEM";
+
+const OTHER_TIME: &str =
+    "SUBAPPLICATION SA FBS F:TN; G:TN(DT:=T#251ms); H:TN; END_FBS EVENT_CONNECTIONS F.O TO G.I; G.O TO H.I; END_CONNECTIONS END_SUBAPPLICATION";
+
+const OTHER_LINK: &str =
+    "SUBAPPLICATION SA FBS F:TN; G:TN(DT:=T#250ms); H:TN; END_FBS EVENT_CONNECTIONS F.O TO G.I; F.O TO H.I; END_CONNECTIONS END_SUBAPPLICATION";
+
+const OTHER_RESOURCE: &str =
+    "SYSTEM Y APPLICATION APP SUBAPPS SUB:SA; END_SUBAPPS END_APPLICATION DEVICE D:DT RESOURCE R1:RT END_RESOURCE RESOURCE R2:RT END_RESOURCE END_DEVICE MAPPINGS APP ON D.R2; END_MAPPINGS END_SYSTEM";
+
+const CUT: &str =
+    "SYSTEM Y APPLICATION APP SUBAPPS SUB:SA; END_SUBAPPS END_APPLICATION DEVICE D:DT RESOURCE R1:RT END_RESOURCE RESOURCE R2:RT END_RESOURCE END_DEVICE MAPPINGS APP ON D.R1; APP.SUB.H ON D.R2; END_MAPPINGS END_SYSTEM";
+
+const SAME_PLANS: &[Row] = &[
+    (&[TN, SA, Y], "Y", "same"),
+    (&[TN, SB, Y_OF_SB], "Y", "same"),
+    (&[TN, OTHER_TIME, Y], "Y", "different"),
+    (&[TN, OTHER_LINK, Y], "Y", "different"),
+    (&[TN, SA, OTHER_RESOURCE], "Y", "different"),
+    (&[TN, SA, CUT], "Y", "different"),
+    (&[Y], "Y", "no plans"),
+];
+
+/// The plan of a system of these units.
+fn plan_of_units(alloc: Global, texts: &[&str], system: &str) -> Result<Option<Plan>, Fail> {
+    let library = library_of(alloc, texts)?;
+    plan_in(alloc, &library, system)
+}
+
+/// Whether the plan of a system of these units is Y's.
+fn is_plan_of_y(alloc: Global, texts: &[&str], system: &str) -> Result<&'static str, Fail> {
+    let wanted = plan_of_units(alloc, &[TN, SA, Y], "Y")?;
+    let found = plan_of_units(alloc, texts, system)?;
+    Ok(plans_told(&wanted, &found))
+}
+
+#[test]
+fn plans_are_told_apart(rt: HostRuntime) -> Result<(), Fail> {
+    for (texts, system, expected) in SAME_PLANS {
+        let found = is_plan_of_y(rt.alloc(), texts, system)?;
+        assert_eq!(rt; found, *expected);
+    }
+    Ok(())
+}
 
 /// Compares a part of what is made of Y by each row.
 fn compare_rows(

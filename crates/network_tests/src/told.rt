@@ -1,6 +1,6 @@
 //! Texts of units in, and what is made of them out, as phrases with `; ` between.
 use fb_deploy::parse::Source;
-use fb_deploy::{Deploy, ResourcePlan, plan};
+use fb_deploy::{Deploy, Plan, ResourcePlan, plan};
 use fb_flatten::{Net, has_net, net};
 use fb_library::{Change, Library, tree_by_name};
 use fb_mapping::{Home, Misplaced, Placed, is_system, place};
@@ -247,13 +247,24 @@ fn say_commands(told: &mut String, resource: &ResourcePlan) -> Result<(), AllocE
     Ok(())
 }
 
-/// Cut links, and the commands of each resource.
-fn commands_told(alloc: Global, cuts: &[Link], resources: &[ResourcePlan]) -> Result<String, Fail> {
-    let mut told = String::new(alloc);
-    say_links(&mut told, cuts)?;
+fn say_resources(told: &mut String, resources: &[ResourcePlan]) -> Result<(), AllocError> {
     for resource in resources {
-        say_commands(&mut told, resource)?;
+        say_commands(told, resource)?;
     }
+    Ok(())
+}
+
+fn say_cuts(alloc: Global, told: &mut String, plan: &Plan) -> Result<(), AllocError> {
+    let cuts = plan.plain_cuts(alloc)?;
+    say_links(told, &cuts)
+}
+
+/// Cut links, and the commands of each resource.
+fn commands_told(alloc: Global, plan: &Plan) -> Result<String, Fail> {
+    let mut told = String::new(alloc);
+    say_cuts(alloc, &mut told, plan)?;
+    let resources = plan.plain_resources(alloc)?;
+    say_resources(&mut told, &resources)?;
     Ok(told)
 }
 
@@ -261,9 +272,27 @@ pub fn deploy_told(alloc: Global, deploy: &Deploy) -> Result<String, Fail> {
     match deploy {
         Deploy::Stopped(net) => net_told(alloc, net),
         Deploy::Faulty(found) => misplaced_told(alloc, found.as_slice()),
-        Deploy::Plan { cuts, resources } => {
-            commands_told(alloc, cuts.as_slice(), resources.as_slice())
-        }
+        Deploy::Plan(plan) => commands_told(alloc, plan),
+    }
+}
+
+/// The plan of a system, if it has one.
+pub fn plan_in(alloc: Global, library: &Library, system: &str) -> Result<Option<Plan>, Fail> {
+    let name = Name::read(system)?;
+    if !is_system(library, &name) {
+        return Ok(None);
+    }
+    match plan(alloc, library, name)? {
+        Deploy::Plan(plan) => Ok(Some(plan)),
+        Deploy::Stopped(_) | Deploy::Faulty(_) => Ok(None),
+    }
+}
+
+/// Whether two plans say the same.
+pub fn plans_told(a: &Option<Plan>, b: &Option<Plan>) -> &'static str {
+    match (a, b) {
+        (Some(a), Some(b)) => { if a.is_same(b) { "same" } else { "different" } }
+        _ => "no plans",
     }
 }
 

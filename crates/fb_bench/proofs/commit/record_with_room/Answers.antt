@@ -4,7 +4,5 @@ use Rattle.fb_bench.proofs.commit.record_with_room.Goals as goal
 
 pub returns-in-Err-clause-back : goal.returns-in-Err-clause-back
 returns-in-Err-clause-back c =
-    let old = c.args.entries.now in
-    let room = c.make_room.new.self in
-    let back = c.take_back.new.self in
-    taken_back old.by_key room.by_key back.by_key old.ready room.ready back.ready c.args.renewal.now c.in_ok-make_room.ensures.ok c.take_back.ensures.entries c.take_back.ensures.ready
+    taken_back c.args.entries.now c.make_room.new.self c.take_back.new.self c.args.renewal.now c.in_ok-make_room.ensures.ok
+    (record { entries = c.take_back.ensures.entries; readies = c.take_back.ensures.ready })

@@ -1,7 +1,5 @@
 use Rattle.std.specs.Prelude.{ℕ, All}
-use Rattle.std.specs.BTreeSet as set
 use Rattle.fb_entries.specs.Library.Texts.{Texts}
-use Rattle.fb_entries.specs.Jobs.declared.key.Key.{Key}
 use Rattle.fb_entries.specs.Jobs.Hints.{IsNetOf}
 use Rattle.fb_history.specs.Machine.{State}
 use Rattle.fb_bench.specs.Kept.{Agrees}
@@ -9,5 +7,4 @@ use Rattle.fb_bench.proofs.found.keep_all.Given as goal
 
 abbrev pub invariant-loop-it : goal.invariant-loop-it
 invariant-loop-it l =
-    (units : Texts) (commits : ℕ) (ready : set.BTreeSet Key) (state : State)
-    → Agrees units commits l.initial.entries ready state → All (IsNetOf state.units) l.fn.found.items → Agrees units commits l.entries ready state
+    (units : Texts) (commits : ℕ) (state : State) → Agrees units commits l.initial.entries state → All (IsNetOf state.units) l.fn.found.items → Agrees units commits l.entries state

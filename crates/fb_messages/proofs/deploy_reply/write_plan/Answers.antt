@@ -10,6 +10,6 @@ use Rattle.fb_messages.proofs.deploy_reply.write_plan.Goals as goal
 pub returns : goal.returns
 returns c =
     let begun = c.in_ok-begin_object.ensures in
-    two_members c.end_object.result c.args.out.now c.begin_object.new.self c.write_list_member.new.out c.write_list_member-2.new.out c.end_object.new.self
-    (key (codes "cuts") ∷ tokens_of (array (link_items c.args.cuts.now))) (key (codes "resources") ∷ tokens_of (array (resource_items c.args.resources.now)))
-    (begun.room.0, begun.ok) c.in_ok-write_list_member.ensures c.in_ok-write_list_member-2.ensures c.end_object.ensures
+    two_members c.end_object.result c.args.out.now c.begin_object.new.self c.write_cuts.new.out c.write_resources.new.out c.end_object.new.self
+    (key (codes "cuts") ∷ tokens_of (array (link_items c.args.plan.now.cuts))) (key (codes "resources") ∷ tokens_of (array (resource_items c.args.plan.now.resources)))
+    (begun.room.0, begun.ok) c.in_ok-write_cuts.ensures c.in_ok-write_resources.ensures c.end_object.ensures

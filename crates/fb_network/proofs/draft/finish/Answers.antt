@@ -11,14 +11,15 @@ use Rattle.fb_network.proofs.draft.finish.Goals as goal
 pub invariant_of-result : goal.invariant_of-result
 invariant_of-result c =
     let count = length c.args.draft.fronts.items in
-    record {
+    rw c.in_ok-tables.ensures.ok
+    (record {
       leaves_below = c.requires.leaves_below;
       joins_below = all_left (IsJoinBelow count) c.args.draft.joins.items c.sort_joins.new.joins.items c.in_ok-sort_joins.ensures c.requires.joins_below;
       edges_below = all_left (IsEdgeBelow count) c.args.edges.items c.sort_edges.new.edges.items c.in_ok-sort_edges.ensures c.requires.edges_below;
-    }
+    })
 
 pub returns : goal.returns
 returns c =
     let joins = subst (λ (fs : List PlainFront). IsOnce (link_at fs) link_cmp c.args.draft.joins.items c.sort_joins.new.joins.items) c.deref.ensures.value c.in_ok-sort_joins.ensures in
     let edges = subst (λ (fs : List PlainFront). IsOnce (border_at fs) border_cmp c.args.edges.items c.sort_edges.new.edges.items) c.deref-2.ensures.value c.in_ok-sort_edges.ensures in
-    record { blocks = refl; links = once_ordered c.args.draft.joins.items c.sort_joins.new.joins.items joins; borders = once_ordered c.args.edges.items c.sort_edges.new.edges.items edges }
+    rw c.in_ok-tables.ensures.ok (record { blocks = refl; links = once_ordered c.args.draft.joins.items c.sort_joins.new.joins.items joins; borders = once_ordered c.args.edges.items c.sort_edges.new.edges.items edges })

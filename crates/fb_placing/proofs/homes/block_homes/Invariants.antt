@@ -4,4 +4,4 @@ use Rattle.fb_placing.specs.Homes.{block_homes}
 use Rattle.fb_placing.proofs.homes.block_homes.Given as goal
 
 abbrev pub invariant-loop-block : goal.invariant-loop-block
-invariant-loop-block l = l.homes.items ≡ block_homes (get_by_text l.table) (take l.block-index l.blocks)
+invariant-loop-block l = l.homes.items ≡ block_homes (get_by_text l.table) (take l.block l.flat.blocks)

@@ -1,5 +1,5 @@
 -- The lines of one home more.
-use Rattle.std.proofs.Common.{List, [], ◌∷◌, ◌++◌, sym, ◌∙◌, ap, append-nil}
+use Rattle.std.proofs.Common.{List, [], ◌++◌, sym, ◌∙◌, ap, append-nil, rules}
 use Rattle.std.specs.List.{flat_map}
 use Rattle.std.proofs.lemmas.Grind.{flat_map-append}
 use Rattle.fb_netcheck.specs.Library.View.{tree_at}
@@ -17,6 +17,14 @@ loop-home-preserved g c =
     let before = c.loop-home.lines.items in
     record {
       right = c.in_ok-push_home_lines.ensures.right;
+      near = c.in_ok-push_home_lines.ensures.near;
       lines = step_added (flat_map lines_of) (flat_map-append lines_of) c.args.homes.now c.loop-home.home-index x [] before c.push_home_lines.new.lines.items c.loop-home-test.true c.home-item.is c.loop-home.invariant.lines
           (c.in_ok-push_home_lines.ensures.lines ∙ ap (λ (l : List Line). before ++ l) (sym (append-nil (lines_of x))));
     }
+
+pub loop-home-init : goal.loop-home-init
+loop-home-init g c = record {
+  right = search rules;
+  near = λ s e. absurd (let nothing = sym c.new-near.ensures ∙ e in let no : ⊥ = cc in no);
+  lines = search rules;
+}

@@ -5,21 +5,57 @@ use Rattle.fb_wire.proofs.Ends.{not_failed}
 use Rattle.fb_wire.proofs.Takings.{begins, run_breaks, run_stops, pieces_come}
 use Rattle.fb_wire.proofs.run.run_lines.Goals as goal
 
-pub returns-in-Err-clause-talk : goal.returns-in-Err-clause-talk
-returns-in-Err-clause-talk g c =
+pub returns-in-Err : goal.returns-in-Err
+returns-in-Err g c =
     let inv = c.loop-turn.invariant in
     let turn = rw c.in-Err.is at c.take_turn.ensures.taken in
     let both = pieces_come g.D.Desk.step c.args.desk.now c.loop-turn.desk c.take_turn.new.desk [] c.loop-turn.talk.line.items c.take_turn.new.talk.line.items [] c.loop-turn.talk.held.items c.take_turn.new.talk.held.items
     (g.S.Sink.held c.args.writer.now) (g.S.Sink.held c.loop-turn.writer) (g.S.Sink.held c.take_turn.new.writer) inv.3 turn.0 [] (Err c.in-Err.end) inv.6 turn.3 in
     let ran = run_stops g.D.Desk.step c.args.desk.now c.take_turn.new.desk c.take_turn.new.talk.line.items c.take_turn.new.talk.held.items (g.S.Sink.held c.args.writer.now) (g.S.Sink.held c.take_turn.new.writer) (inv.3 ++ turn.0) c.in-Err.end both in
-    let left = Consumes-trans (g.F.Feed.left c.args.reader.now) (g.F.Feed.left c.loop-turn.reader) (g.F.Feed.left c.take_turn.new.reader) inv.3 turn.0 inv.5 turn.2 in
-    (inv.3 ++ turn.0, ran.0, ran.1, turn.1 ∙ ap (λ xs. xs ++ turn.0) inv.4 ∙ append_assoc _ inv.3 turn.0, left, ran.2, ran.3, ran.4)
+    let left = Consumes-trans (g.F.Feed.left c.args.reader.now) (g.F.Feed.left c.loop-turn.reader) (g.F.Feed.left c.take_turn.new.reader) inv.3 turn.0 inv.5 turn.2 in (
+      record {
+        bytes = inv.3 ++ turn.0;
+        pairs = ran.0;
+        out = ran.1;
+        given = turn.1 ∙ ap (λ xs. xs ++ turn.0) inv.4 ∙ append_assoc _ inv.3 turn.0;
+        consumed = left;
+        written = ran.3;
+        stands = ran.4;
+        shown = record {
+          whole = search rules;
+          turns_are = search rules;
+          all_turns = search rules;
+          read_failed = search rules;
+          flushed = search rules;
+          write_failed = search rules;
+        };
+      },
+      ran.2,
+    )
 
-pub returns-clause-talk : goal.returns-clause-talk
-returns-clause-talk g c =
+pub returns : goal.returns
+returns g c =
     let inv = c.loop-turn.invariant in
-    let ran = run_breaks g.D.Desk.step c.args.desk.now c.loop-turn.desk c.loop-turn.talk.line.items c.loop-turn.talk.held.items (g.S.Sink.held c.args.writer.now) (g.S.Sink.held c.loop-turn.writer) inv.3 inv.6 in
-    (inv.3, ran.0, ran.1, inv.4, inv.5, ran.2, ran.3, ran.4)
+    let ran = run_breaks g.D.Desk.step c.args.desk.now c.loop-turn.desk c.loop-turn.talk.line.items c.loop-turn.talk.held.items (g.S.Sink.held c.args.writer.now) (g.S.Sink.held c.loop-turn.writer) inv.3 inv.6 in (
+      record {
+        bytes = inv.3;
+        pairs = ran.0;
+        out = ran.1;
+        given = inv.4;
+        consumed = inv.5;
+        written = ran.3;
+        stands = ran.4;
+        shown = record {
+          whole = λ is. let other : end.TurnsOver ≡ end.End = is in absurd cc;
+          turns_are = search rules;
+          all_turns = search rules;
+          read_failed = search rules;
+          flushed = search rules;
+          write_failed = search rules;
+        };
+      },
+      ran.2,
+    )
 
 pub loop-turn-init : goal.loop-turn-init
 loop-turn-init g c = (
@@ -50,25 +86,3 @@ loop-turn-preserved g c =
       both,
       λ was. c.take_turn.ensures.flushed (inv.7 was) written,
     )
-
-pub returns-in-Err-clause-shown : goal.returns-in-Err-clause-shown
-returns-in-Err-clause-shown g c =
-    let inv = c.loop-turn.invariant in
-    record {
-      whole = search rules;
-      turns_are = search rules;
-      all_turns = search rules;
-      read_failed = search rules;
-      flushed = search rules;
-      write_failed = search rules;
-    }
-
-pub returns-clause-shown : goal.returns-clause-shown
-returns-clause-shown g c = record {
-  whole = λ is. let other : end.TurnsOver ≡ end.End = is in absurd cc;
-  turns_are = search rules;
-  all_turns = search rules;
-  read_failed = search rules;
-  flushed = search rules;
-  write_failed = search rules;
-}

@@ -12,8 +12,8 @@ pub invariant_of-self-2 : goal.invariant_of-self-2
 invariant_of-self-2 c =
     let story : Story = c.self.inside.history in
     let answer : OfAsk (shown_in c.in_ok-answer.stored) ≡ reply (state_of story) (ToAsk c.args.key) = ap OfAsk (c.in_ok-answer.ensures.stored ∙ ap (λ st. shown (state_of st) c.args.key) (sym c.self.view_is)) ∙ sym (reply_ask _ _) in
-    kept_pushed _ _ _ _ _ story _ c.args.caller (ToAsk c.args.key) _ c.self.invariant.begins (c.in_ok-share.ensures.ok ∙ ap (λ k. logged story c.args.caller (ToAsk k) (OfAsk (shown_in c.in_ok-answer.stored))) c.in_ok-answer.ensures.key) answer
-    (subst (λ s. Agrees c.self.inside.library c.self.inside.commits c.self.inside.entries.by_key c.self.inside.entries.ready s) (sym (after_ask (state_of story) c.args.key)) c.self.invariant.agrees)
+    kept_pushed _ _ _ _ story _ c.args.caller (ToAsk c.args.key) _ c.self.invariant.begins (c.in_ok-share.ensures.ok ∙ ap (λ k. logged story c.args.caller (ToAsk k) (OfAsk (shown_in c.in_ok-answer.stored))) c.in_ok-answer.ensures.key) answer
+    (subst (λ s. Agrees c.self.inside.library c.self.inside.commits c.self.inside.entries s) (sym (after_ask (state_of story) c.args.key)) c.self.invariant.agrees)
     c.self.invariant.replayed c.self.invariant.indexed (omega (arith, c.self.invariant.few))
 
 pub returns-clause-step : goal.returns-clause-step

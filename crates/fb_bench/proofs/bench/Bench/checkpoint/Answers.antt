@@ -14,12 +14,12 @@ invariant_of-self-2 c =
     let agrees = c.self.invariant.agrees in
     let begins = c.self.invariant.begins in
     let ordered = c.in_ok-pending.ensures.ordered in
-    let pending = c.in_ok-pending.ensures.pending ∙ pending_listed story begins kept.library kept.commits kept.entries.by_key kept.entries.ready agrees ordered in
-    let out = c.in_ok-pending.ensures.out ∙ out_listed story begins kept.library kept.commits kept.entries.by_key kept.entries.ready agrees ordered in
+    let pending = c.in_ok-pending.ensures.pending ∙ pending_listed story begins kept.library kept.commits kept.entries agrees ordered in
+    let out = c.in_ok-pending.ensures.out ∙ out_listed story begins kept.library kept.commits kept.entries agrees ordered in
     let is : c.restart.new.self ≡ checkpointed c.args.limits story =
     c.in_ok-before.ensures.ok ∙ restarted_is c.args.limits story _ _ _ _ (c.in_ok-library.ensures ∙ agrees.units_are) agrees.commits_are pending out in
-    subst (λ st. IsKept kept.library kept.commits kept.entries.by_key kept.entries.ready kept.index st) (sym is)
-    (kept_checkpointed kept.library kept.commits kept.entries.by_key kept.entries.ready kept.index c.args.limits story c.self.invariant)
+    subst (λ st. IsKept kept.library kept.commits kept.entries kept.index st) (sym is)
+    (kept_checkpointed kept.library kept.commits kept.entries kept.index c.args.limits story c.self.invariant)
 
 pub returns-clause-kept : goal.returns-clause-kept
 returns-clause-kept c =
@@ -28,7 +28,7 @@ returns-clause-kept c =
     let agrees = c.self.invariant.agrees in
     let begins = c.self.invariant.begins in
     let ordered = c.in_ok-pending.ensures.ordered in
-    let pending = c.in_ok-pending.ensures.pending ∙ pending_listed story begins kept.library kept.commits kept.entries.by_key kept.entries.ready agrees ordered in
-    let out = c.in_ok-pending.ensures.out ∙ out_listed story begins kept.library kept.commits kept.entries.by_key kept.entries.ready agrees ordered in
+    let pending = c.in_ok-pending.ensures.pending ∙ pending_listed story begins kept.library kept.commits kept.entries agrees ordered in
+    let out = c.in_ok-pending.ensures.out ∙ out_listed story begins kept.library kept.commits kept.entries agrees ordered in
     c.in_ok-before.ensures.ok ∙ restarted_is c.args.limits story _ _ _ _ (c.in_ok-library.ensures ∙ agrees.units_are) agrees.commits_are pending out
     ∙ ap (checkpointed c.args.limits) c.self.view_is

@@ -16,9 +16,9 @@ invariant_of-self-2 c =
     let key = c.args.key.now in
     let out : s.out key ≡ true = ap (λ st. (state_of st).out key) c.self.view_is ∙ c.requires.out in
     let kept : s.pending key ≡ false = ap (λ st. (state_of st).pending key) c.self.view_is ∙ c.requires.kept in
-    kept_pushed _ _ _ _ _ story _ c.args.caller (ToGiveBack key) _ c.self.invariant.begins (c.in_ok-share.ensures.ok ∙ ap (λ it. logged story c.args.caller it (OfGiveBack Returned)) c.in_ok-call.ensures) (out_returned s key out)
-    (subst (λ t. Agrees c.self.inside.library c.self.inside.commits c.mark_out.new.entries c.self.inside.entries.ready t) (sym (after_returned s key out))
-    (agrees_return_kept _ _ c.self.inside.entries.by_key _ _ s key c.self.invariant.agrees kept c.mark_out.ensures))
+    kept_pushed _ _ _ _ story _ c.args.caller (ToGiveBack key) _ c.self.invariant.begins (c.in_ok-share.ensures.ok ∙ ap (λ it. logged story c.args.caller it (OfGiveBack Returned)) c.in_ok-call.ensures) (out_returned s key out)
+    (subst (λ t. Agrees c.self.inside.library c.self.inside.commits c.bring_back.new.self t) (sym (after_returned s key out))
+    (agrees_return_kept _ _ c.self.inside.entries c.bring_back.new.self s key c.self.invariant.agrees kept c.bring_back.ensures.entries c.bring_back.ensures.ready))
     c.self.invariant.replayed c.self.invariant.indexed (omega (arith, c.self.invariant.few))
 
 pub returns : goal.returns

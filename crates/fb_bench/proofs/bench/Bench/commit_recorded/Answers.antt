@@ -27,8 +27,8 @@ invariant_of-self-in-Refused c =
     let edits : List Edit = edits_of c.first_changes-changes.result.now in
     let refused = rw c.in-Refused.is at c.in_ok-outcome.ensures in
     let answer : c.in-Refused.refused ≡ commit_answer s edits = refused.0 ∙ ap (λ m. answer_at m (c.self.inside.commits + 1) c.self.inside.library edits) c.most_units-most_units.ensures ∙ answer_kept story c.self.inside.library c.self.inside.commits edits c.self.invariant.agrees.units_are c.self.invariant.agrees.commits_are in
-    kept_pushed _ _ _ _ _ story _ c.args.caller (ToCommit edits) _ c.self.invariant.begins (c.in_ok-share-in-Refused.ensures.ok ∙ ap (λ it. logged story c.args.caller it (reply_of c.in_ok-stored-in-Refused.stored)) (ap ToCommit c.in_ok-of_changes.ensures)) (c.in_ok-stored-in-Refused.ensures ∙ commits_is s edits edits c.in-Refused.refused refl answer)
-    (subst (λ t. Agrees c.self.inside.library c.self.inside.commits c.self.inside.entries.by_key c.self.inside.entries.ready t) (sym (committed_is s edits edits c.in-Refused.refused refl answer ∙ refused.1 s)) c.self.invariant.agrees)
+    kept_pushed _ _ _ _ story _ c.args.caller (ToCommit edits) _ c.self.invariant.begins (c.in_ok-share-in-Refused.ensures.ok ∙ ap (λ it. logged story c.args.caller it (reply_of c.in_ok-stored-in-Refused.stored)) (ap ToCommit c.in_ok-of_changes.ensures)) (c.in_ok-stored-in-Refused.ensures ∙ commits_is s edits edits c.in-Refused.refused refl answer)
+    (subst (λ t. Agrees c.self.inside.library c.self.inside.commits c.self.inside.entries t) (sym (committed_is s edits edits c.in-Refused.refused refl answer ∙ refused.1 s)) c.self.invariant.agrees)
     c.self.invariant.replayed c.self.invariant.indexed (omega (arith, c.self.invariant.few))
 
 pub returns-in_ok-share-in-Refused : goal.returns-in_ok-share-in-Refused
@@ -52,12 +52,11 @@ invariant_of-self-in_err-share-in-Done c =
     let story : Story = c.self.inside.history in
     let kept = c.self.invariant in
     let done = rw c.in-Done.is at c.in_ok-outcome.ensures in
-    let old = c.self.inside.entries in
     let new = c.record_with_room.new.entries in
-    subst (λ l. IsKept c.self.inside.library c.self.inside.commits new.by_key new.ready c.self.inside.index l) (sym c.in_err-share-in-Done.ensures.unlogged)
+    subst (λ l. IsKept c.self.inside.library c.self.inside.commits new c.self.inside.index l) (sym c.in_err-share-in-Done.ensures.unlogged)
     (record {
       begins = kept.begins;
-      agrees = agrees_back c.self.inside.library c.in-Done.library c.self.inside.commits (map unit_of (edits_of c.first_changes-changes.result.now)) old.by_key new.by_key old.ready new.ready (state_of story) c.in-Done.found.renewal kept.agrees done.3 c.in_err-share-in-Done.ensures.back;
+      agrees = agrees_back c.self.inside.library c.in-Done.library c.self.inside.commits (map unit_of (edits_of c.first_changes-changes.result.now)) c.self.inside.entries new (state_of story) c.in-Done.found.renewal kept.agrees done.3 c.in_err-share-in-Done.ensures.back;
       replayed = kept.replayed;
       indexed = kept.indexed;
       few = kept.few;
@@ -73,12 +72,11 @@ invariant_of-self-in-Done c =
     let answer : Done number ≡ commit_answer s edits = done.0 ∙ ap (λ m. answer_at m number c.self.inside.library edits) c.most_units-most_units.ensures ∙ answer_kept story c.self.inside.library c.self.inside.commits edits c.self.invariant.agrees.units_are c.self.invariant.agrees.commits_are in
     let agrees = c.self.invariant.agrees in
     let it = c.in-Done.found.renewal in
-    let old = c.self.inside.entries in
     let room = c.record_with_room.new.entries in
     let new = c.carry_out.new.self in
-    kept_pushed _ _ _ _ _ story _ c.args.caller (ToCommit edits) _ c.self.invariant.begins (c.in_ok-share-in-Done.ensures.logged ∙ ap (λ it. logged story c.args.caller it (reply_of c.in_ok-stored-in-Done.stored)) (ap ToCommit c.in_ok-of_changes.ensures)) (c.in_ok-stored-in-Done.ensures ∙ commits_is s edits edits (Done number) refl answer)
-    (subst (λ t. Agrees c.in-Done.library number new.by_key new.ready t) (sym (committed_is s edits edits (Done number) refl answer))
-    (agrees_renewed c.locality.ensures.value c.self.inside.commits edits c.self.inside.library c.in-Done.library old.by_key room.by_key new.by_key old.ready room.ready new.ready s it done.1 agrees done.3 c.in_ok-share-in-Done.ensures.room c.carry_out.ensures.entries c.carry_out.ensures.ready))
+    kept_pushed _ _ _ _ story _ c.args.caller (ToCommit edits) _ c.self.invariant.begins (c.in_ok-share-in-Done.ensures.logged ∙ ap (λ it. logged story c.args.caller it (reply_of c.in_ok-stored-in-Done.stored)) (ap ToCommit c.in_ok-of_changes.ensures)) (c.in_ok-stored-in-Done.ensures ∙ commits_is s edits edits (Done number) refl answer)
+    (subst (λ t. Agrees c.in-Done.library number new t) (sym (committed_is s edits edits (Done number) refl answer))
+    (agrees_renewed c.locality.ensures.value c.self.inside.commits edits c.self.inside.library c.in-Done.library c.self.inside.entries room new s it done.1 agrees done.3 c.in_ok-share-in-Done.ensures.room c.carry_out.ensures.entries))
     c.self.invariant.replayed
     (subst (λ it. IsIndexOf c.in-Done.library it) (sym c.carry_out.ensures.index) done.2)
     (omega (arith, c.self.invariant.few))

@@ -37,10 +37,10 @@ invariant_of-self-in_default c =
     let now : PlainJob = c.args.finished.now in
     let judged : ◌≡◌ {A = PlainJob} (record { key = c.key.result; reads = all_seen c.reads.result.now }) now = λ i. record { key = c.key.ensures i; reads = c.reads.ensures.same i } in
     let answer : c.judged-answer.result ≡ deliver_answer s now = c.judged-answer.ensures ∙ (λ i. deliver_answer (state_of (sym c.self.view_is i)) (judged i)) in
-    kept_pushed _ _ _ _ _ story _ c.args.caller (ToDeliver now) _ c.self.invariant.begins
+    kept_pushed _ _ _ _ story _ c.args.caller (ToDeliver now) _ c.self.invariant.begins
     (c.in_ok-share-in_default.ensures.ok ∙ (λ i. logged c.self.inside.history c.args.caller (c.in_ok-call.ensures i) (c.in_ok-reply-in_default.ensures i)))
     (delivers_is s now now c.judged-answer.result refl answer)
-    (subst (λ t. Agrees c.self.inside.library c.self.inside.commits c.self.inside.entries.by_key c.self.inside.entries.ready t) (sym (delivered_is s now now now.key c.judged-answer.result refl refl answer ∙ deliver_stays c.judged-answer.result now.key s c.in_default.not-Accepted)) c.self.invariant.agrees)
+    (subst (λ t. Agrees c.self.inside.library c.self.inside.commits c.self.inside.entries t) (sym (delivered_is s now now now.key c.judged-answer.result refl refl answer ∙ deliver_stays c.judged-answer.result now.key s c.in_default.not-Accepted)) c.self.invariant.agrees)
     c.self.invariant.replayed c.self.invariant.indexed (omega (arith, c.self.invariant.few))
 
 pub returns-in_ok-share-in_default : goal.returns-in_ok-share-in_default

@@ -13,8 +13,8 @@ invariant_of-self-then-not-is_out c =
     let story : Story = c.self.inside.history in
     let s : State = state_of story in
     let free : s.out c.args.key ≡ false = ap (λ st. (state_of st).out c.args.key) c.self.view_is ∙ search rules in
-    kept_pushed _ _ _ _ _ story _ c.args.caller (ToGiveBack c.args.key) _ c.self.invariant.begins (c.in_ok-share.ensures.ok ∙ ap (λ it. logged story c.args.caller it (OfGiveBack NothingOut)) c.in_ok-call.ensures) (nothing_out s c.args.key free)
-    (subst (λ t. Agrees c.self.inside.library c.self.inside.commits c.self.inside.entries.by_key c.self.inside.entries.ready t) (sym (after_nothing_out s c.args.key free)) c.self.invariant.agrees)
+    kept_pushed _ _ _ _ story _ c.args.caller (ToGiveBack c.args.key) _ c.self.invariant.begins (c.in_ok-share.ensures.ok ∙ ap (λ it. logged story c.args.caller it (OfGiveBack NothingOut)) c.in_ok-call.ensures) (nothing_out s c.args.key free)
+    (subst (λ t. Agrees c.self.inside.library c.self.inside.commits c.self.inside.entries t) (sym (after_nothing_out s c.args.key free)) c.self.invariant.agrees)
     c.self.invariant.replayed c.self.invariant.indexed (omega (arith, c.self.invariant.few))
 
 pub returns-then-not-is_out-clause-step : goal.returns-then-not-is_out-clause-step

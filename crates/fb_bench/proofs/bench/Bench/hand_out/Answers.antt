@@ -17,9 +17,9 @@ invariant_of-self-2 c =
     let key = c.args.key.now in
     let some : Some key ≡ next s = c.requires.next ∙ ap (λ st. next (state_of st)) (sym c.self.view_is) in
     let answer : reply_of c.args.answer ≡ reply s ToTake = c.requires.answer ∙ ap (λ st. reply (state_of st) ToTake) (sym c.self.view_is) in
-    kept_pushed _ _ _ _ _ story _ c.args.caller ToTake _ c.self.invariant.begins c.in_ok-share.ensures.ok answer
-    (subst (λ t. Agrees c.self.inside.library c.self.inside.commits c.mark_out.new.entries c.leave.new.keys t) (sym (stays_some s key some))
-    (agrees_take _ _ c.self.inside.entries.by_key _ c.self.inside.entries.ready _ s key c.self.invariant.agrees (next_passes s key some) c.mark_out.ensures c.leave.ensures))
+    kept_pushed _ _ _ _ story _ c.args.caller ToTake _ c.self.invariant.begins c.in_ok-share.ensures.ok answer
+    (subst (λ t. Agrees c.self.inside.library c.self.inside.commits c.hand_out.new.self t) (sym (stays_some s key some))
+    (agrees_take _ _ c.self.inside.entries c.hand_out.new.self s key c.self.invariant.agrees (next_passes s key some) c.hand_out.ensures.entries c.hand_out.ensures.ready))
     c.self.invariant.replayed c.self.invariant.indexed (omega (arith, c.self.invariant.few))
 
 pub returns : goal.returns

@@ -13,7 +13,7 @@ returns-clause-key c =
     let story : Story = c.self.inside.history in
     let kept = c.self.inside in
     c.key_at.ensures.key
-    ∙ ap (λ keys. slice_get keys c.args.place) (keys_are story c.self.invariant.begins kept.library kept.commits kept.entries.by_key kept.entries.ready c.self.invariant.agrees c.key_at.ensures.ordered)
+    ∙ ap (λ keys. slice_get keys c.args.place) (keys_are story c.self.invariant.begins kept.library kept.commits kept.entries c.self.invariant.agrees c.key_at.ensures.ordered)
     ∙ ap (λ st. slice_get (keys_of (state_of st).units) c.args.place) c.self.view_is
 
 pub returns-clause-ordered : goal.returns-clause-ordered

@@ -10,6 +10,6 @@ pub returns : goal.returns
 returns c =
     let story : Story = c.self.inside.history in
     let kept = c.self.inside in
-    c.len.ensures.len ∙ sym (length-keys_of kept.entries.by_key.entries)
-    ∙ ap length (keys_are story c.self.invariant.begins kept.library kept.commits kept.entries.by_key kept.entries.ready c.self.invariant.agrees c.len.ensures.ordered)
+    c.len.ensures.len ∙ sym (length-keys_of kept.entries.entries)
+    ∙ ap length (keys_are story c.self.invariant.begins kept.library kept.commits kept.entries c.self.invariant.agrees c.len.ensures.ordered)
     ∙ ap (λ st. length (keys_of (state_of st).units)) c.self.view_is

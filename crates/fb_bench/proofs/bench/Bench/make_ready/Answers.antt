@@ -4,25 +4,20 @@ use Rattle.fb_history.specs.Machine.{State, ToGiveBack, OfGiveBack}
 use Rattle.fb_history.specs.declared.answers.GivenBack.TheVariants.{Returned}
 use Rattle.fb_history.specs.Story.{Story, logged, record_after, state_of}
 use Rattle.fb_bench.specs.Kept.{Agrees, IsKept}
-use Rattle.fb_bench.proofs.Marks.{agrees_return, put_and_taken}
+use Rattle.fb_bench.proofs.Marks.{agrees_return, agrees_same, agrees_unready}
 use Rattle.fb_bench.proofs.Keeping.{kept_pushed}
 use Rattle.fb_history.proofs.Steps.{story_pushed, share_pushed, out_returned, after_returned}
 use Rattle.fb_bench.proofs.bench.Bench.make_ready.Goals as goal
 
 pub invariant_of-self : goal.invariant_of-self
 invariant_of-self c =
-    let agrees = c.self.invariant.agrees in
+    let kept = c.self.invariant in
     record {
-      begins = c.self.invariant.begins;
-      agrees = record {
-        units_are = agrees.units_are;
-        commits_are = agrees.commits_are;
-        each = agrees.each;
-        ready_are = λ key. c.in_err-join.ensures.err key ∙ agrees.ready_are key;
-      };
-      replayed = c.self.invariant.replayed;
-      indexed = c.self.invariant.indexed;
-      few = c.self.invariant.few;
+      begins = kept.begins;
+      agrees = agrees_same _ _ c.self.inside.entries c.make_ready.new.self _ kept.agrees c.make_ready.ensures.entries c.in_err-make_ready.ensures.err;
+      replayed = kept.replayed;
+      indexed = kept.indexed;
+      few = kept.few;
     }
 
 pub invariant_of-self-in-Ok : goal.invariant_of-self-in-Ok
@@ -32,9 +27,9 @@ invariant_of-self-in-Ok c =
     let key = c.args.key.now in
     let out : s.out key ≡ true = ap (λ st. (state_of st).out key) c.self.view_is ∙ c.requires.out in
     let waits : s.pending key ≡ true = ap (λ st. (state_of st).pending key) c.self.view_is ∙ c.requires.waits in
-    kept_pushed _ _ _ _ _ story _ c.args.caller (ToGiveBack key) _ c.self.invariant.begins (c.in-Ok.ensures.ok ∙ ap (λ it. logged story c.args.caller it (OfGiveBack Returned)) c.in_ok-call.ensures) (out_returned s key out)
-    (subst (λ t. Agrees c.self.inside.library c.self.inside.commits c.mark_out.new.entries c.join.new.keys t) (sym (after_returned s key out))
-    (agrees_return _ _ c.self.inside.entries.by_key _ c.self.inside.entries.ready _ s key c.self.invariant.agrees waits c.mark_out.ensures c.in_ok-join.ensures.ok))
+    kept_pushed _ _ _ _ story _ c.args.caller (ToGiveBack key) _ c.self.invariant.begins (c.in-Ok.ensures.ok ∙ ap (λ it. logged story c.args.caller it (OfGiveBack Returned)) c.in_ok-call.ensures) (out_returned s key out)
+    (subst (λ t. Agrees c.self.inside.library c.self.inside.commits c.bring_back.new.self t) (sym (after_returned s key out))
+    (agrees_return _ _ c.self.inside.entries c.make_ready.new.self c.bring_back.new.self s key c.self.invariant.agrees waits c.make_ready.ensures.entries c.in_ok-make_ready.ensures.ok c.bring_back.ensures.entries c.bring_back.ensures.ready))
     c.self.invariant.replayed c.self.invariant.indexed (omega (arith, c.self.invariant.few))
 
 pub returns-in-Ok : goal.returns-in-Ok
@@ -55,17 +50,12 @@ invariant_of-self-in-Err c =
     let s : State = state_of story in
     let key = c.args.key.now in
     let out : s.out key ≡ true = ap (λ st. (state_of st).out key) c.self.view_is ∙ c.requires.out in
-    let agrees = c.self.invariant.agrees in
-    subst (λ l. IsKept c.self.inside.library c.self.inside.commits c.self.inside.entries.by_key c.leave.new.keys c.self.inside.index l) (sym c.in-Err.ensures.err)
+    let kept = c.self.invariant in
+    subst (λ l. IsKept c.self.inside.library c.self.inside.commits c.unmake_ready.new.self c.self.inside.index l) (sym c.in-Err.ensures.err)
     (record {
-      begins = c.self.invariant.begins;
-      agrees = record {
-        units_are = agrees.units_are;
-        commits_are = agrees.commits_are;
-        each = agrees.each;
-        ready_are = put_and_taken c.self.inside.entries.ready c.join.new.keys c.leave.new.keys s key out agrees.ready_are c.in_ok-join.ensures.ok c.leave.ensures;
-      };
-      replayed = c.self.invariant.replayed;
-      indexed = c.self.invariant.indexed;
-      few = c.self.invariant.few;
+      begins = kept.begins;
+      agrees = agrees_unready _ _ c.self.inside.entries c.make_ready.new.self c.unmake_ready.new.self s key kept.agrees out c.make_ready.ensures.entries c.in_ok-make_ready.ensures.ok c.unmake_ready.ensures.entries c.unmake_ready.ensures.ready;
+      replayed = kept.replayed;
+      indexed = kept.indexed;
+      few = kept.few;
     })

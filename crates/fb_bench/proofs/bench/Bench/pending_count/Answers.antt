@@ -10,5 +10,5 @@ returns c =
     let story : Story = c.self.inside.history in
     let kept = c.self.inside in
     c.pending_count.ensures.count
-    ∙ pending_are story c.self.invariant.begins kept.library kept.commits kept.entries.by_key kept.entries.ready c.self.invariant.agrees c.pending_count.ensures.ordered
+    ∙ pending_are story c.self.invariant.begins kept.library kept.commits kept.entries c.self.invariant.agrees c.pending_count.ensures.ordered
     ∙ ap (λ st. count_by (state_of st).pending (keys_of (state_of st).units)) c.self.view_is

@@ -11,8 +11,8 @@ pub invariant_of-self-in-None : goal.invariant_of-self-in-None
 invariant_of-self-in-None c =
     let story : Story = c.self.inside.history in
     let none : None ≡ next (state_of story) = c.in-None.ensures ∙ ap (λ st. next (state_of st)) (sym c.self.view_is) in
-    kept_pushed _ _ _ _ _ story _ c.args.caller ToTake _ c.self.invariant.begins c.in_ok-share-in-None.ensures.ok (take_none (state_of story) none)
-    (subst (λ s. Agrees c.self.inside.library c.self.inside.commits c.self.inside.entries.by_key c.self.inside.entries.ready s) (sym (stays_none (state_of story) none)) c.self.invariant.agrees)
+    kept_pushed _ _ _ _ story _ c.args.caller ToTake _ c.self.invariant.begins c.in_ok-share-in-None.ensures.ok (take_none (state_of story) none)
+    (subst (λ s. Agrees c.self.inside.library c.self.inside.commits c.self.inside.entries s) (sym (stays_none (state_of story) none)) c.self.invariant.agrees)
     c.self.invariant.replayed c.self.invariant.indexed (omega (arith, c.self.invariant.few))
 
 pub returns-in_ok-share-in-None : goal.returns-in_ok-share-in-None

@@ -18,4 +18,4 @@ reindexed-requires c =
 
 pub returns-clause-renewal : goal.returns-clause-renewal
 returns-clause-renewal c =
-    subst (λ us. IsRenewal c.args.after.now us c.args.self.now.by_key c.args.self.now.ready c.in_ok-renewal.renewal) (c.deref-2.ensures.value ∙ c.in_ok-units.ensures) c.in_ok-renewal.ensures
+    subst (λ us. IsRenewal c.args.after.now us c.args.self.now c.in_ok-renewal.renewal) (c.deref-2.ensures.value ∙ c.in_ok-units.ensures) c.in_ok-renewal.ensures

@@ -1,10 +1,13 @@
 -- The key after as many.
-use Rattle.std.proofs.Common.{◌∙◌}
+use Rattle.std.proofs.Common.{ap, slice_get, ◌∙◌}
 use Rattle.std.specs.BTreeMap as tree
 use Rattle.std.proofs.lemmas.Iterator.Consumers.{nth_from_yields_List, YieldsList-from_rest}
+use Rattle.std.specs.Map.{keys_of}
+use Rattle.fb_entries.specs.Keyed.{Keyed}
 use Rattle.fb_entries.proofs.entries.Entries.key_at.Goals as goal
 
 pub returns-clause-key : goal.returns-clause-key
 returns-clause-key c =
     c.copied.ensures
-    ∙ nth_from_yields_List c.nth.result c.nth.new.self c.args.place c.nth.ensures.ran (YieldsList-from_rest (tree.keys c.args.self.now.by_key) c.keys.ensures.rest)
+    ∙ nth_from_yields_List c.nth.result c.nth.new.self c.args.place c.nth.ensures.ran (YieldsList-from_rest (tree.keys c.self.inside.by_key) c.keys.ensures.rest)
+    ∙ ap (λ (it : Keyed). slice_get (keys_of it.entries) c.args.place) c.self.view_is

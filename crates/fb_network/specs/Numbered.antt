@@ -1,0 +1,22 @@
+-- What stands at the numbers of a flat network.
+use Rattle.std.specs.Prelude.{ℕ, [], Option, Some, None, slice_get}
+use Rattle.fb_tree.specs.declared.network.Sort.TheVariants.{Event}
+use Rattle.fb_network.specs.PlainFlat.{PlainFlat}
+use Rattle.fb_network.specs.declared.flat.FlatBlock.{FlatBlock}
+use Rattle.fb_network.specs.declared.flat.Link.{Link}
+
+abbrev pub block_or_nothing : Option FlatBlock → FlatBlock
+block_or_nothing None = record { path = []; type_name = [] }
+block_or_nothing (Some block) = block
+
+-- the block of that number; behind the last one there is one without names
+abbrev pub block_numbered : PlainFlat → ℕ → FlatBlock
+block_numbered flat n = block_or_nothing (slice_get flat.blocks n)
+
+abbrev pub link_or_nothing : Option Link → Link
+link_or_nothing None = record { sort = Event; from = []; to = [] }
+link_or_nothing (Some link) = link
+
+-- the link of that number; behind the last one there is one between nothing
+abbrev pub link_numbered : PlainFlat → ℕ → Link
+link_numbered flat n = link_or_nothing (slice_get flat.links n)

@@ -1,0 +1,144 @@
+-- Blocks none of which stands inside another one.
+use Rattle.std.proofs.Common.{ℕ, ◌≡◌, ◌<◌, ◌+◌, ◌==◌, ◌⊎◌, inl, inr, Bool, true, false, cond, List, [], ◌∷◌, ◌++◌, Option, Some, None, refl, sym, ◌∙◌, ap, subst, take, get_or, length, map, append_assoc, arith}
+use Rattle.std.specs.Prelude.{nat_eq, slice_index_or}
+use Rattle.std.specs.Option.{option_or}
+use Rattle.std.specs.Str.{bytes_eq}
+use Rattle.std.proofs.lemmas.Bool.Decides.{Decides-eqb}
+use Rattle.std.proofs.lemmas.List.{map-append}
+use Rattle.fb_placing.specs.Cuts.{home_at}
+use Rattle.fb_placing.specs.Fronts.{IsFront, IsNearest, fronts, last_there, nearest}
+use Rattle.fb_placing.specs.Points.{AreApart, HasNoPoint, IsInside}
+use Rattle.fb_placing.specs.declared.homes.Home.{Home}
+use Rattle.fb_placing.proofs.FirstLemmas.{first_at-push}
+use Rattle.fb_placing.proofs.FrontLemmas.{nearest_here}
+use Rattle.fb_placing.proofs.InsideLemmas.{fronts_inside, nearest_inside}
+use Rattle.fb_placing.proofs.NearestLemmas.{is_nearest}
+use Rattle.fb_placing.proofs.ListLemmas.{one_more}
+use Rattle.fb_placing.proofs.TableLemmas.{same_text}
+
+-- a name is its own front, and has no other
+one_front : (name : List ℕ) → HasNoPoint name → fronts name ≡ name ∷ []
+unfolding fronts
+one_front [] none = refl
+one_front (b ∷ bs) none =
+    (λ i. cond (none.0 i) ([] ∷ []) [] ++ map (λ (front : List ℕ). b ∷ front) (one_front bs none.1 i))
+
+last_more : {X : Type 0} (os : List (Option X)) (o : Option X) → last_there (os ++ o ∷ []) ≡ option_or o (last_there os)
+last_more [] None = refl
+last_more [] (Some x) = refl
+last_more {X = X} (p ∷ os) o = ap (λ (q : Option X). option_or q p) (last_more os o) ∙ grouped o (last_there os)
+  where
+    grouped : (a b : Option X) → option_or (option_or a b) p ≡ option_or a (option_or b p)
+    grouped None b = refl
+    grouped (Some x) b = refl
+
+-- what is nearest to a path in two parts is what the path stands for, or else what is nearest to the first part
+pub nearest_parted : {X : Type 0} (at : List ℕ → Option X) (outer name : List ℕ) → HasNoPoint name → nearest at (outer ++ 46 ∷ name) ≡ option_or (at (outer ++ 46 ∷ name)) (nearest at outer)
+unfolding nearest
+nearest_parted at outer name none =
+    ap (λ (fs : List (List ℕ)). last_there (map at fs))
+    (fronts_inside outer name ∙ ap (λ (fs : List (List ℕ)). fronts outer ++ map (λ (front : List ℕ). outer ++ 46 ∷ front) fs) (one_front name none))
+    ∙ ap last_there (map-append at (fronts outer) ((outer ++ 46 ∷ name) ∷ []))
+    ∙ last_more (map at (fronts outer)) (at (outer ++ 46 ∷ name))
+
+-- the home of what stands in a block
+pub apart_nearest : {X : Type 0} (at : List ℕ → Option X) (path outer name : List ℕ) (x : X) → AreApart at → path ≡ outer ++ 46 ∷ name → HasNoPoint name → at outer ≡ Some x → nearest at path ≡ Some x
+apart_nearest {X = X} at path outer name x apart e none there =
+    ap (nearest at) e ∙ nearest_parted at outer name none ∙ by_whole (at (outer ++ 46 ∷ name)) refl
+  where
+    by_whole : (o : Option X) → at (outer ++ 46 ∷ name) ≡ o → option_or o (nearest at outer) ≡ Some x
+    by_whole None f = nearest_here at outer x there
+    by_whole (Some y) f = absurd (let nothing = sym (apart outer name y none f) ∙ nearest_here at outer x there in let no : ⊥ = cc in no)
+
+no_point_inside : (outer name : List ℕ) → HasNoPoint (outer ++ 46 ∷ name) → ⊥
+no_point_inside [] name none = let point = none.0 in let no : ⊥ = cc in no
+no_point_inside (b ∷ bs) name none = no_point_inside bs name none.1
+
+-- a path is parted in one way
+same_outer : (a b x y : List ℕ) → HasNoPoint x → HasNoPoint y → a ++ 46 ∷ x ≡ b ++ 46 ∷ y → a ≡ b
+same_outer [] [] x y none never e = refl
+same_outer [] (b ∷ bs) x y none never e = absurd (no_point_inside bs y (subst HasNoPoint (let same : x ≡ bs ++ 46 ∷ y = cc in same) none))
+same_outer (a ∷ cs) [] x y none never e = absurd (no_point_inside cs x (subst HasNoPoint (let same : y ≡ cs ++ 46 ∷ x = cc in same) never))
+same_outer (a ∷ cs) (b ∷ bs) x y none never e =
+    let head : a ≡ b = cc in
+    let tail : cs ++ 46 ∷ x ≡ bs ++ 46 ∷ y = cc in
+    λ i. head i ∷ same_outer cs bs x y none never tail i
+
+-- nothing is near the first part of the path
+abbrev pub IsClear : {X : Type 0} → (List ℕ → Option X) → List ℕ → Type 0
+IsClear at path = (outer name : List ℕ) → HasNoPoint name → path ≡ outer ++ 46 ∷ name → nearest at outer ≡ None
+
+pub clear_name : {X : Type 0} (at : List ℕ → Option X) (path : List ℕ) → HasNoPoint path → IsClear at path
+clear_name at path alone outer name none e = absurd (no_point_inside outer name (subst HasNoPoint e alone))
+
+pub clear_parted : {X : Type 0} (at : List ℕ → Option X) (path outer name : List ℕ) → path ≡ outer ++ 46 ∷ name → HasNoPoint name → nearest at outer ≡ None → IsClear at path
+clear_parted at path outer name e none nothing other last never f =
+    ap (nearest at) (same_outer other outer last name never none (sym f ∙ e)) ∙ nothing
+
+-- each home so far that stands somewhere is clear
+abbrev pub AreClear : (List ℕ → Option (List ℕ)) → List Home → Type 0
+AreClear at homes = (q x : List ℕ) → home_at homes q ≡ Some x → IsClear at q
+
+pub one_clear : (at : List ℕ → Option (List ℕ)) (homes : List Home) (i : ℕ) (h : Home) → i < length homes → h ≡ get_or homes i h → AreClear at (take i homes) → IsClear at h.path → AreClear at (take (i + 1) homes)
+one_clear at homes i h lt e before clear q x there =
+    by_before (home_at (take i homes) q) refl (bytes_eq h.path q) refl
+    (sym (first_at-push (λ (it : Home). it.path) (λ (it : Home). it.resource) (take i homes) h q) ∙ sym (ap (λ (hs : List Home). home_at hs q) (one_more homes i h lt e)) ∙ there)
+  where
+    by_before : (o : Option (List ℕ)) → home_at (take i homes) q ≡ o → (b : Bool) → bytes_eq h.path q ≡ b → option_or (home_at (take i homes) q) (cond b (Some h.resource) None) ≡ Some x → IsClear at q
+    by_before (Some y) f b same given = before q y f
+    by_before None f true same given = subst (IsClear at) (same_text h.path q same) clear
+    by_before None f false same given = absurd (let nothing = sym (ap (λ (o : Option (List ℕ)). option_or o None) f) ∙ given in let no : ⊥ = cc in no)
+
+pub all_clear : (at : List ℕ → Option (List ℕ)) (homes : List Home) → at ≡ home_at homes → AreClear at homes → AreApart at
+all_clear at homes same clear outer name x none there = clear (outer ++ 46 ∷ name) x (sym (λ i. same i (outer ++ 46 ∷ name)) ∙ there) outer name none refl
+
+-- a text has a last point, or none
+record IsLast (text : List ℕ) : Type 0 where
+  pub outer : List ℕ
+  pub name : List ℕ
+  pub parts : text ≡ outer ++ 46 ∷ name
+  pub none : HasNoPoint name
+
+last_point : (text : List ℕ) → HasNoPoint text ⊎ IsLast text
+last_point [] = inl tt
+last_point (b ∷ bs) = by_rest (last_point bs)
+  where
+    by_test : HasNoPoint bs → (t : Bool) → (b == 46) ≡ t → HasNoPoint (b ∷ bs) ⊎ IsLast (b ∷ bs)
+    by_test none true e = inr (record { outer = []; name = bs; parts = ap (λ (c : ℕ). c ∷ bs) ((Decides-eqb b 46).0 e); none = none })
+    by_test none false e = inl (e, none)
+
+    by_rest : HasNoPoint bs ⊎ IsLast bs → HasNoPoint (b ∷ bs) ⊎ IsLast (b ∷ bs)
+    by_rest (inl none) = by_test none (b == 46) refl
+    by_rest (inr l) = inr (record { outer = b ∷ l.outer; name = l.name; parts = ap (λ (cs : List ℕ). b ∷ cs) l.parts; none = l.none })
+
+none_near : {X : Type 0} (at : List ℕ → Option X) (path front : List ℕ) → IsFront front path → nearest at path ≡ None → at front ≡ None
+none_near at path front is nothing = subst (IsNearest at path) nothing (is_nearest at path) front is
+
+module _ {X : Type 0} (at : List ℕ → Option X) (block : List ℕ) (x : X) (apart : AreApart at) (there : at block ≡ Some x) where
+  -- nothing stands inside a block
+  nothing_inside : (rest : List ℕ) → at (block ++ 46 ∷ rest) ≡ None
+  nothing_inside rest = by_value (at (block ++ 46 ∷ rest)) refl (last_point rest)
+    where
+      never : at block ≡ None → ⊥
+      never nothing = let given = sym nothing ∙ there in let no : ⊥ = cc in no
+
+      by_value : (o : Option X) → at (block ++ 46 ∷ rest) ≡ o → HasNoPoint rest ⊎ IsLast rest → o ≡ None
+      by_value None e l = refl
+      by_value (Some y) e (inl none) = absurd (never (none_near at block block (inl refl) (apart block rest y none e)))
+      by_value (Some y) e (inr l) =
+          let outer = block ++ 46 ∷ l.outer in
+          let whole : block ++ 46 ∷ rest ≡ outer ++ 46 ∷ l.name = ap (λ (r : List ℕ). block ++ 46 ∷ r) l.parts ∙ sym (append_assoc block (46 ∷ l.outer) (46 ∷ l.name)) in
+          absurd (never (none_near at outer block (inr (l.outer, refl)) (apart outer l.name y l.none (ap at (sym whole) ∙ e))))
+
+  -- the home of what stands in a block
+  pub apart_inside : (rest : List ℕ) → nearest at (block ++ 46 ∷ rest) ≡ Some x
+  apart_inside rest = nearest_inside at block rest nothing_inside ∙ nearest_here at block x there
+
+-- a path in two parts that begins with the text of a block and a point
+pub inside_parts : (start end block front name first rest : List ℕ) → block ≡ front ++ name → end ≡ first ++ rest → front ≡ start → first ≡ name → 0 < length rest → nat_eq (slice_index_or rest 0 0) 46 ≡ true → IsInside (start ++ end) block
+inside_parts start end block front name first [] e f same alike some point = absurd (omega (arith, some))
+inside_parts start end block front name first (b ∷ rest) e f same alike some point =
+    let at : b ≡ 46 = (Decides-eqb b 46).0 point in (
+      rest,
+      (λ i. sym same i ++ f i) ∙ (λ i. front ++ (alike i ++ at i ∷ rest)) ∙ sym (append_assoc front name (46 ∷ rest)) ∙ ap (λ (l : List ℕ). l ++ 46 ∷ rest) (sym e),
+    )

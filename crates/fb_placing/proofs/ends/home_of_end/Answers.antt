@@ -1,0 +1,15 @@
+-- The end is in the block that was found last.
+use Rattle.std.proofs.Common.{◌≡◌, ◌++◌, ◌∷◌, ℕ, List, string_bytes, sym, ◌∙◌, ap}
+use Rattle.fb_placing.specs.Fronts.{nearest}
+use Rattle.fb_placing.specs.Spots.{spot_at}
+use Rattle.fb_placing.proofs.ApartLemmas.{apart_inside}
+use Rattle.fb_placing.proofs.ends.home_of_end.Goals as goal
+
+pub returns-then-stands_in-clause-found : goal.returns-then-stands_in-clause-found
+returns-then-stands_in-clause-found c =
+    let at = spot_at c.args.spots.now in
+    let block = string_bytes c.args.last.now.path in
+    let inside = c.stands_in.ensures c.if-stands_in.true in
+    let whole : c.args.start.now ++ c.args.end.now ≡ block ++ 46 ∷ inside.0 =
+    (λ i. sym c.as_bytes.ensures.value i ++ sym c.as_bytes-in-Some.ensures.value i) ∙ inside.1 ∙ ap (λ (b : List ℕ). b ++ 46 ∷ inside.0) c.as_bytes-in-Some-2.ensures.value in
+    sym (ap (nearest at) whole ∙ apart_inside at block c.in-Some.home.now (c.requires.apart c.if-apart.true) (c.requires.known c.in-Some.home c.in-Some.is) inside.0)

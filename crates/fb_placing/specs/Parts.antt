@@ -1,0 +1,8 @@
+-- Texts in parts.
+use Rattle.std.specs.Prelude.{ℕ, List}
+use Rattle.std.specs.Borrow.{Bor}
+use Rattle.std.specs.List.{flat_map}
+
+-- the text that the parts make
+abbrev pub joined : List (Bor (List ℕ)) → List ℕ
+joined parts = flat_map (λ (p : Bor (List ℕ)). p.now) parts

@@ -1,0 +1,16 @@
+//! Paths in two parts.
+ghost use Rattle.std.specs.Prelude.{IfNone, IfSome};
+ghost use Rattle.fb_placing.specs.Points.{HasNoPoint, IsParted};
+
+/// A path up to its last point, and the name behind it.
+pub(crate) fn parted(path: &str) -> Option<(&str, &str)>
+    ensures parts { IfSome result (λ parts. IsParted path.now parts.0.now parts.1.now) }
+    ensures alone { IfNone result (HasNoPoint path.now) }
+{
+    for i in (0..path.len()).rev() {
+        if path.as_bytes()[i] == b'.' {
+            return Some((&path[..i], &path[i + 1..]));
+        }
+    }
+    None
+}

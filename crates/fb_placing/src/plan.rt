@@ -1,0 +1,84 @@
+//! Plans: a flat network, and the commands of each resource by numbers.
+ghost use Rattle.std.specs.Prelude.{◌≡◌, ◌↔◌, IfOk, IsTrue};
+ghost use Rattle.fb_placing.specs.Items.{plain_plan};
+
+use crate::command::Command;
+use crate::items::{ResourceItems, plain_links, plain_resources};
+use crate::resources::ResourcePlan;
+use crate::same::{Subject, are_same_links, are_same_resources};
+use fb_network::{Flat, Link};
+use std::alloc::{AllocError, Global};
+use std::marker::Model;
+
+/// The links between resources, and the commands of each resource, in the order of the text. What they are about are numbers of blocks and
+/// links of the flat network, with which the plan shares its tables.
+#[derive(Debug, Drop)]
+pub struct Plan {
+    flat: Flat,
+    writes: Vec<Command>,
+    cuts: Vec<u32>,
+    resources: Vec<ResourceItems>,
+}
+
+impl Model for Plan {
+    ghost use Rattle.fb_placing.specs.PlainPlan.{PlainPlan};
+    ghost use Rattle.fb_placing.specs.Items.{plain_plan};
+
+    ghost Value = { PlainPlan };
+
+    ghost view = { λ it. plain_plan it.flat it.writes.items it.cuts.items it.resources.items };
+}
+
+impl Plan {
+    /// The plan of this flat network, with these commands that set parameters, and these numbers.
+    pub(crate) fn new(
+        flat: Flat,
+        writes: Vec<Command>,
+        cuts: Vec<u32>,
+        resources: Vec<ResourceItems>,
+    ) -> Plan
+        ensures { result ≡ plain_plan flat writes.items cuts.items resources.items }
+    {
+        Plan {
+            flat,
+            writes,
+            cuts,
+            resources,
+        }
+    }
+
+    /// Where its lists are allocated.
+    pub fn allocator(&self) -> Global {
+        *self.cuts.allocator()
+    }
+
+    /// The links between resources in plain, in order.
+    pub fn plain_cuts(&self, alloc: Global) -> Result<Vec<Link>, AllocError>
+        ensures { IfOk result (λ cuts. cuts.items ≡ self.now.cuts) }
+    {
+        plain_links(alloc, &self.flat, &self.cuts)
+    }
+
+    /// The resources in plain, in the order of the text, each with its commands in their order.
+    pub fn plain_resources(&self, alloc: Global) -> Result<Vec<ResourcePlan>, AllocError>
+        ensures { IfOk result (λ resources. resources.items ≡ self.now.resources) }
+    {
+        plain_resources(alloc, &self.flat, &self.writes, &self.resources)
+    }
+
+    /// Whether both say the same. It takes no memory.
+    pub fn is_same(&self, other: &Plan) -> bool
+        ensures { IsTrue result ↔ (self.now ≡ other.now) }
+    {
+        let it = Subject {
+            flat: &self.flat,
+            writes: &self.writes,
+        };
+        let others = Subject {
+            flat: &other.flat,
+            writes: &other.writes,
+        };
+        are_same_links(&self.flat, &self.cuts, &other.flat, &other.cuts)
+            && are_same_resources(&it, &self.resources, &others, &other.resources)
+    }
+}

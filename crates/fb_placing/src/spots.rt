@@ -1,0 +1,90 @@
+//! Homes by the paths of blocks, none of which is copied.
+ghost use Rattle.std.specs.Prelude.{◌≡◌, ℕ, List, IfOk, IsTrue, OnOk, Some, None, if◌then◌else◌, option_copied};
+ghost use Rattle.std.specs.Option.{option_or};
+ghost use Rattle.std.specs.Str.{bytes_eq};
+ghost use Rattle.fb_placing.specs.Cuts.{home_at};
+ghost use Rattle.fb_placing.specs.Fronts.{nearest};
+ghost use Rattle.fb_placing.specs.Points.{AreApart};
+ghost use Rattle.fb_placing.specs.Spots.{spot_at};
+
+use crate::homes::Home;
+use crate::parted::parted;
+use fb_network::Path;
+use std::alloc::{AllocError, Global};
+use std::collections::HashMap;
+
+/// Resources by the paths of the blocks that stand on them.
+pub(crate) type Spots<'a> = HashMap<&'a str, &'a Path>;
+
+/// Adds what a path stands for, where it stands for nothing yet.
+fn add_spot<'a>(spots: &mut Spots<'a>, path: &'a str, resource: &'a Path) -> Result<(), AllocError>
+    ensures { OnOk result ((q : List ℕ) → spot_at spots.new q
+        ≡ option_or (spot_at spots.old q)
+        (if bytes_eq path.now q then Some resource.now else None)) }
+{
+    if !spots.contains_key(path) {
+        spots.insert(path, resource)?;
+    }
+    Ok(())
+}
+
+/// The homes of blocks by their paths.
+pub(crate) fn spots_of<'a>(alloc: Global, homes: &'a [Home]) -> Result<Spots<'a>, AllocError>
+    ensures { IfOk result (λ spots. spot_at spots ≡ home_at homes.now) }
+{
+    let mut spots = HashMap::new(alloc);
+    spots.reserve(homes.len())?;
+    for home in homes {
+        add_spot(&mut spots, home.path.as_str(), &home.resource)?;
+    }
+    Ok(spots)
+}
+
+/// What a path stands for.
+pub(crate) fn spot<'a>(spots: &Spots<'a>, path: &str) -> Option<&'a Path>
+    ensures { option_copied result ≡ spot_at spots.now path.now }
+{
+    match spots.get(path) {
+        Some(resource) => Some(*resource),
+        None => None,
+    }
+}
+
+/// What the longest front of the path stands for, of those that stand for something.
+pub(crate) fn nearest_spot<'a>(spots: &Spots<'a>, path: &str) -> Option<&'a Path>
+    ensures { option_copied result ≡ nearest (spot_at spots.now) path.now }
+{
+    if let Some(found) = spot(spots, path) {
+        return Some(found);
+    }
+    for i in (0..path.len()).rev() {
+        if path.as_bytes()[i] == b'.' {
+            if let Some(found) = spot(spots, &path[..i]) {
+                return Some(found);
+            }
+        }
+    }
+    None
+}
+
+/// Whether no block of these stands inside another one. A path in front of several blocks beside each other is looked at once.
+pub(crate) fn are_apart(spots: &Spots<'_>, homes: &[Home]) -> bool
+    requires { spot_at spots.now ≡ home_at homes.now }
+    ensures { IsTrue result → AreApart (spot_at spots.now) }
+{
+    let mut last = "";
+    if nearest_spot(spots, last).is_some() {
+        return false;
+    }
+    for home in homes {
+        if let Some((outer, _)) = parted(home.path.as_str()) {
+            if outer != last {
+                if nearest_spot(spots, outer).is_some() {
+                    return false;
+                }
+                last = outer;
+            }
+        }
+    }
+    true
+}
