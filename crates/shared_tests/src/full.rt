@@ -2,6 +2,7 @@
 //! there is.
 use crate::nest::{BEFORE, CALLS, Call, Given, begun, given_for};
 use crate::owners::{Owner, outcome_with, taken_over};
+use crate::setup::{both_of, pair};
 use crate::told::bench_told;
 use fb_shared::{Closed, Locked, Receipt, Seat, Shared, SharedRefused};
 use std::alloc::{AllocError, Global};
@@ -36,13 +37,11 @@ fn are_refused<R: Wait, T: Owner>(
 fn are_both_refused<R: Wait, T: Owner>(
     rt: &R,
     owner: &mut T,
-    seats: &mut [Seat],
+    first: &mut Seat,
+    second: &mut Seat,
     given: &Given,
     elsewhere: &Receipt,
 ) -> bool {
-    let [first, second] = seats else {
-        return false;
-    };
     second.show(elsewhere);
     let are_full = are_refused(rt, owner, first, given, CALLS, FULL);
     are_full && are_refused(rt, owner, second, given, CALLS, BEHIND)
@@ -57,9 +56,10 @@ fn after_calls<R: Wait, T: Owner>(
     given: &Given,
     elsewhere: &Receipt,
 ) -> Option<(Closed, bool)> {
+    let (mut first, mut second) = both_of(seats)?;
     let mut owner = owner;
-    let mut seats = seats;
-    let are_refused = are_both_refused(rt, &mut owner, seats.as_mut_slice(), given, elsewhere);
+    let are_refused = are_both_refused(rt, &mut owner, &mut first, &mut second, given, elsewhere);
+    let seats = pair(alloc, first, second)?;
     let closed = owner.closed(alloc, seats, &[]).ok()?;
     Some((closed, are_refused))
 }

@@ -145,7 +145,7 @@ impl<T: Owner> Trial for Over<T> {
 
     fn new(alloc: Global, _setting: ()) -> Result<Over<T>, Fail> {
         let (bench, receipts) = played_bench(alloc).ok_or("a workbench")?;
-        let (owner, seats) = taken_over(alloc, bench)?;
+        let (owner, seats) = taken_over::<T>(alloc, bench)?;
         Ok(Over {
             receipts,
             owner: Some(owner),

@@ -26,7 +26,7 @@ impl<'a, R: Wait, T: Owner> Trial for Called<'a, R, T> {
 
     fn new(alloc: Global, setting: (&'a R, Which, &'a Given)) -> Result<Called<'a, R, T>, Fail> {
         let (rt, which, given) = setting;
-        let (owner, seats) = owner_for(alloc, which)?;
+        let (owner, seats) = owner_for::<T>(alloc, which)?;
         let (first, second) = both_of(seats).ok_or("no two seats")?;
         Ok(Called {
             rt,

@@ -78,7 +78,7 @@ impl Owner for Locked {
     }
 }
 
-/// Nothing can be read of it but its seats.
+// Nothing can be read of it but its seats.
 impl Owner for Shared {
     fn empty(alloc: Global, limits: Limits) -> Result<(Shared, Vec<Seat>), AllocError> {
         Shared::new(alloc, limits, 2)
@@ -153,5 +153,5 @@ pub(crate) fn taken_over<T: Owner>(alloc: Global, bench: Bench) -> Result<(T, Ve
 /// A workbench on which such a call can be made, and the seats of its callers.
 pub(crate) fn owner_for<T: Owner>(alloc: Global, which: Which) -> Result<(T, Vec<Seat>), Fail> {
     let bench = bench_for(alloc, which)?;
-    taken_over(alloc, bench)
+    taken_over::<T>(alloc, bench)
 }

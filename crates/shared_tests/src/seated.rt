@@ -55,7 +55,7 @@ impl<'a, R: Wait> Trial for OfSeated<'a, R> {
 
     fn new(alloc: Global, setting: (&'a R, Which, &'a Given)) -> Result<OfSeated<'a, R>, Fail> {
         let (rt, which, given) = setting;
-        let (owner, seats) = owner_for(alloc, which)?;
+        let (owner, seats) = owner_for::<Shared>(alloc, which)?;
         let (first, _second) = both_of(seats).ok_or("no two seats")?;
         Ok(OfSeated {
             rt,
