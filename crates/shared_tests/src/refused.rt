@@ -69,12 +69,7 @@ fn try_alone(rt: &impl Print, alloc: Global, given: &Given) -> Result<(), Fail> 
     try_call::<Recorded<'_>>(rt, alloc, "Bench::ask", "", (Which::Ask, way, given))
 }
 
-fn try_requests(
-    rt: &impl Print,
-    alloc: Global,
-    given: &Given,
-    calls: &[Call],
-) -> Result<(), Fail> {
+fn try_requests(rt: &impl Print, alloc: Global, given: &Given, calls: &[Call]) -> Result<(), Fail> {
     for (which, about) in calls {
         let setting = (*which, Way::AsRequest, given);
         try_call::<Recorded<'_>>(rt, alloc, "Bench::perform", about, setting)?;

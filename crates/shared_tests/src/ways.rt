@@ -1,9 +1,7 @@
 //! The ways to make one of the five calls on a workbench of one thread and at a desk, and what it answers.
 use crate::nest::{Given, Which};
 use crate::told::{asked_word, committed_word, returned_word};
-use fb_bench::{
-    Answered, Bench, Delivered, Desk, DeskRefused, Refused, Request, Solo, Taken,
-};
+use fb_bench::{Answered, Bench, Delivered, Desk, DeskRefused, Refused, Request, Solo, Taken};
 use fb_jobs::Finished;
 use fb_shared::library::Change;
 

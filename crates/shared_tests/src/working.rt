@@ -92,7 +92,9 @@ fn commit_and_work<R: Wait>(
     number: u32,
 ) -> Option<Worked> {
     let changes = puts(alloc, &["A", "B"])?;
-    receipts.push(shared.commit(rt, first, &changes).ok()?).ok()?;
+    receipts
+        .push(shared.commit(rt, first, &changes).ok()?)
+        .ok()?;
     Some(work_without(rt, alloc, shared, first, second, receipts, number))
 }
 
