@@ -269,8 +269,8 @@ pub(crate) fn are_same(receipts: &[Receipt], others: &[Receipt]) -> bool {
 /// How many records there are, and how many of them the callers 1 and 2 have.
 pub(crate) type Counts = (usize, u64, u64);
 
-/// The counts of a closed workbench, where these callers are all.
-pub(crate) fn counts_of(closed: &Closed) -> Option<Counts> {
+// the counts of a closed workbench, where these callers are all
+fn counts_of(closed: &Closed) -> Option<Counts> {
     let first = closed.counts.get(&1).copied()?;
     let second = closed.counts.get(&2).copied()?;
     let is_all = closed.counts.len() == 2;

@@ -1,7 +1,7 @@
 //! A worker of which each allocation is refused in turn: what it recorded stays, its key is given back, and another worker does what is left.
-use crate::play::{is_accepted, is_taken};
-use crate::setup::{new_shared, pair, puts};
-use fb_shared::bench::{GivenBack, Reply};
+use crate::nest::{PLAIN, puts};
+use crate::owners::{both_of, pair};
+use fb_bench::{GivenBack, Limits, Reply};
 use fb_shared::{Plain, Receipt, Seat, Shared, WorkEnd, work_on};
 use refusing::{Refusals, refuse, report, was_refused};
 use std::alloc::Global;
@@ -14,6 +14,14 @@ struct Jobs {
     taken: u64,
     accepted: u64,
     returned: u64,
+}
+
+fn is_taken(reply: &Reply) -> bool {
+    matches!(reply, Reply::Taking(Some(_)))
+}
+
+fn is_accepted(reply: &Reply) -> bool {
+    matches!(reply, Reply::Delivering(None))
 }
 
 fn is_returned(reply: &Reply) -> bool {
@@ -90,17 +98,22 @@ fn commit_and_work<R: Wait>(
     second: &mut Seat,
     receipts: &mut Vec<Receipt>,
     number: u32,
-) -> Option<Worked> {
-    let changes = puts(alloc, &["A", "B"])?;
-    receipts
-        .push(shared.commit(rt, first, &changes).ok()?)
-        .ok()?;
-    Some(work_without(rt, alloc, shared, first, second, receipts, number))
+) -> Result<Worked, Fail> {
+    let changes = puts(alloc, 0, PLAIN)?;
+    receipts.push(shared.commit(rt, first, &changes)?)?;
+    Ok(work_without(rt, alloc, shared, first, second, receipts, number))
+}
+
+// a shared workbench, and the seats of its two callers
+fn new_shared(alloc: Global) -> Option<(Shared, Seat, Seat)> {
+    let (shared, seats) = Shared::new(alloc, Limits::new(4, 1000)?, 2).ok()?;
+    let (first, second) = both_of(seats)?;
+    Some((shared, first, second))
 }
 
 // the same on a new workbench, and whether that then closes with all receipts
-fn work_anew<R: Wait>(rt: &R, alloc: Global, number: u32) -> Option<(Worked, bool)> {
-    let (shared, mut first, mut second) = new_shared(alloc, 1000)?;
+fn work_anew<R: Wait>(rt: &R, alloc: Global, number: u32) -> Result<(Worked, bool), Fail> {
+    let (shared, mut first, mut second) = new_shared(alloc).ok_or("no workbench")?;
     let mut receipts = Vec::new(alloc);
     let worked = commit_and_work(
         rt,
@@ -111,8 +124,8 @@ fn work_anew<R: Wait>(rt: &R, alloc: Global, number: u32) -> Option<(Worked, boo
         &mut receipts,
         number,
     )?;
-    let seats = pair(alloc, first, second)?;
-    Some((worked, shared.close(alloc, seats, &receipts).is_ok()))
+    let seats = pair(alloc, first, second).ok_or("no seats")?;
+    Ok((worked, shared.close(alloc, seats, &receipts).is_ok()))
 }
 
 // A worker has used its turns, or found no memory where an allocation was refused.
@@ -124,7 +137,7 @@ fn is_right(worked: Worked, is_closed: bool) -> bool {
 fn each_refused<R: Wait>(rt: &R, alloc: Global) -> Result<Refusals, Fail> {
     let mut memory = 0u32;
     for number in 1..10_000u32 {
-        let (worked, is_closed) = work_anew(rt, alloc, number).ok_or("no worker")?;
+        let (worked, is_closed) = work_anew(rt, alloc, number)?;
         if !is_right(worked, is_closed) {
             return Err(Fail::from("another end"));
         }

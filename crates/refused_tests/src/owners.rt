@@ -118,6 +118,22 @@ impl Owner for Shared {
     }
 }
 
+/// The seats of two callers, which are the last ones.
+pub(crate) fn both_of(seats: Vec<Seat>) -> Option<(Seat, Seat)> {
+    let mut seats = seats;
+    let second = seats.pop()?;
+    let first = seats.pop()?;
+    Some((first, second))
+}
+
+/// Both seats, to close with.
+pub(crate) fn pair(alloc: Global, first: Seat, second: Seat) -> Option<Vec<Seat>> {
+    let mut seats = Vec::new(alloc);
+    seats.push(first).ok()?;
+    seats.push(second).ok()?;
+    Some(seats)
+}
+
 /// What a call came to: the number, caller and turn of its receipt and the sort of its reply, or why it was refused.
 pub(crate) type Outcome = Result<(u64, u32, u64, &'static str), SharedRefused>;
 

@@ -8,7 +8,7 @@ use std::alloc::Global;
 use std::test::Fail;
 
 /// A unit and its text.
-type Row = (&'static str, &'static str);
+pub(crate) type Row = (&'static str, &'static str);
 
 // Subapplications in one another, and a system that maps the outer one.
 const NEST: &[Row] = &[
@@ -30,6 +30,12 @@ const NEST: &[Row] = &[
     ),
 ];
 
+/// Two blocks of which nothing is said.
+pub(crate) const PLAIN: &[Row] = &[
+    ("A", "FUNCTION_BLOCK A END_FUNCTION_BLOCK"),
+    ("B", "FUNCTION_BLOCK B END_FUNCTION_BLOCK"),
+];
+
 // The innermost type without its event.
 const CHANGED: &[Row] = &[("T", "FUNCTION_BLOCK T END_FUNCTION_BLOCK")];
 
@@ -47,7 +53,8 @@ fn put(alloc: Global, changes: &mut Vec<Change>, base: u64, row: &Row) -> Result
     Ok(())
 }
 
-fn puts(alloc: Global, base: u64, rows: &[Row]) -> Result<Vec<Change>, Fail> {
+/// Changes that put units, which stand at this revision.
+pub(crate) fn puts(alloc: Global, base: u64, rows: &[Row]) -> Result<Vec<Change>, Fail> {
     let mut changes = Vec::new(alloc);
     for row in rows {
         put(alloc, &mut changes, base, row)?;

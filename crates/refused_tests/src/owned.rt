@@ -1,7 +1,6 @@
 //! The calls with two seats, with the lock and without, of which each allocation is refused in turn.
 use crate::nest::{Given, Which, given_for};
-use crate::owners::{Outcome, Owner, outcome_with, owner_for};
-use crate::setup::both_of;
+use crate::owners::{Outcome, Owner, both_of, outcome_with, owner_for};
 use fb_shared::{Locked, Seat, Shared, SharedRefused};
 use refusing::{Trial, try_call};
 use std::alloc::Global;

@@ -1,8 +1,7 @@
 //! A full history, with the lock and without: each of the five calls is refused for it, and before that for a seat that has seen more than
 //! there is.
 use crate::nest::{BEFORE, CALLS, Call, Given, begun, given_for};
-use crate::owners::{Owner, outcome_with, taken_over};
-use crate::setup::{both_of, pair};
+use crate::owners::{Owner, both_of, outcome_with, pair, taken_over};
 use crate::told::bench_told;
 use fb_shared::{Closed, Locked, Receipt, Seat, Shared, SharedRefused};
 use std::alloc::{AllocError, Global};

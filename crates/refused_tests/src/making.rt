@@ -1,11 +1,13 @@
 //! What makes a workbench for two callers, resumes it and closes it, of which each allocation is refused in turn.
-use crate::nest::{Which, bench_for};
-use crate::owners::{Owner, taken_over};
-use crate::play::{Counts, Played, counts_of, played_locked};
-use crate::setup::pair;
+use crate::nest::{PLAIN, Which, bench_for, puts};
+use crate::owners::{Owner, both_of, pair, taken_over};
 use crate::told::bench_told;
 use fb_bench::{Bench, Limits};
-use fb_shared::{CloseFault, Locked, NotClosed, NotResumed, Receipt, ResumeFault, Seat, Shared};
+use fb_jobs::{Key, Kind};
+use fb_shared::{
+    CloseFault, Closed, Locked, NotClosed, NotResumed, Receipt, ResumeFault, Seat, Shared,
+};
+use fb_text::Name;
 use refusing::{Trial, try_call};
 use std::alloc::{AllocError, Global};
 use std::mem::replace;
@@ -118,6 +120,9 @@ fn workbenches_are_resumed(rt: HostRuntime) -> Result<(), Fail> {
     try_call::<Resumed<Shared>>(&rt, rt.alloc(), "Shared::resume", "", which)
 }
 
+/// How many records there are, and how many of them the callers 1 and 2 have.
+type Counts = (usize, Option<u64>, Option<u64>);
+
 /// A workbench that is to be closed with these receipts, or its counts.
 #[derive(Drop)]
 struct Over<T: Owner> {
@@ -127,24 +132,46 @@ struct Over<T: Owner> {
     counts: Option<Counts>,
 }
 
-// The workbench of a conversation, and the receipts of its calls.
-fn played_bench(alloc: Global) -> Option<(Bench, Vec<Receipt>)> {
-    let Played {
-        owner,
-        first,
-        second,
-        receipts,
-    } = played_locked(alloc)?;
-    let seats = pair(alloc, first, second)?;
-    let closed = owner.close(alloc, seats, &receipts).ok()?;
-    Some((closed.bench, receipts))
+// The receipts of a commit of the first caller and of a question of the second.
+fn converse(
+    alloc: Global,
+    locked: &mut Locked,
+    first: &mut Seat,
+    second: &mut Seat,
+) -> Result<Vec<Receipt>, Fail> {
+    let key = Key {
+        kind: Kind::Faults,
+        unit: Name::read("A")?,
+    };
+    let changes = puts(alloc, 0, PLAIN)?;
+    let mut receipts = Vec::with_capacity(alloc, 2)?;
+    receipts.push(locked.commit(first, &changes)?)?;
+    receipts.push(locked.ask(second, key)?)?;
+    Ok(receipts)
+}
+
+// A workbench after these calls, and their receipts.
+fn bench_after(alloc: Global) -> Result<(Bench, Vec<Receipt>), Fail> {
+    let limits = Limits::new(5, 100).ok_or("limits")?;
+    let (mut locked, seats) = Locked::new(alloc, limits, 2)?;
+    let (mut first, mut second) = both_of(seats).ok_or("no two seats")?;
+    let receipts = converse(alloc, &mut locked, &mut first, &mut second)?;
+    let seats = pair(alloc, first, second).ok_or("no seats")?;
+    let closed = locked.close(alloc, seats, &receipts).ok().ok_or("open")?;
+    Ok((closed.bench, receipts))
+}
+
+fn counts_of(closed: &Closed) -> Counts {
+    let counts = &closed.counts;
+    let (first, second) = (counts.get(&1).copied(), counts.get(&2).copied());
+    (closed.bench.len(), first, second)
 }
 
 impl<T: Owner> Trial for Over<T> {
     type Setting = ();
 
     fn new(alloc: Global, _setting: ()) -> Result<Over<T>, Fail> {
-        let (bench, receipts) = played_bench(alloc).ok_or("a workbench")?;
+        let (bench, receipts) = bench_after(alloc)?;
         let (owner, seats) = taken_over::<T>(alloc, bench)?;
         Ok(Over {
             receipts,
@@ -161,7 +188,7 @@ impl<T: Owner> Trial for Over<T> {
         let seats = replace(&mut self.seats, Vec::new(alloc));
         match owner.closed(alloc, seats, self.receipts.as_slice()) {
             Ok(closed) => {
-                self.counts = counts_of(&closed);
+                self.counts = Some(counts_of(&closed));
                 true
             }
             Err(

@@ -1,7 +1,6 @@
 //! The five calls at the desk of a seat, of which each allocation is refused in turn.
 use crate::nest::{CALLS, Call, Given, Which, given_for};
-use crate::owners::owner_for;
-use crate::setup::both_of;
+use crate::owners::{both_of, owner_for};
 use crate::ways::{Answer, made_at};
 use fb_bench::DeskRefused;
 use fb_shared::{Seat, Seated, Shared};
