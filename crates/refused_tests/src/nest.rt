@@ -76,8 +76,8 @@ fn result_of(alloc: Global, bench: &mut Bench) -> Result<Finished, Fail> {
     Ok(job.run(alloc)?)
 }
 
-// Takes a job, runs it and delivers the result.
-fn work(alloc: Global, bench: &mut Bench) -> Result<(), Fail> {
+/// Takes a job, runs it and delivers the result.
+pub(crate) fn work(alloc: Global, bench: &mut Bench) -> Result<(), Fail> {
     let finished = result_of(alloc, bench)?;
     bench.deliver(1, &finished)?;
     Ok(())
