@@ -1,0 +1,138 @@
+-- What is read leaves a net as it was.
+use Rattle.std.proofs.Common.{◌≡◌, ℕ, ◌<◌, true, false, List, [], ◌∷◌, ◌⊎◌, inl, inr, length, suc, get_or, refl, sym, ap, subst, ◌∙◌, arith, Option, Some, None, is_none, map, ◌||◌, Bool}
+use Rattle.std.proofs.lemmas.List.{get_or-map, get_or_default}
+use Rattle.std.proofs.lemmas.List.Elements.{AllZip-get_or, length_all_zip}
+use Rattle.std.specs.BTreeSet as set
+use Rattle.std.specs.FinMap.{get}
+use Rattle.std.specs.List.{Contains}
+use Rattle.std.specs.Option.{option_and_then, option_map}
+use Rattle.fb_text.specs.Order.{name_cmp}
+use Rattle.fb_deploy.specs.Deploy.{PlainDeploy}
+use Rattle.fb_deploy.specs.Iface.declared.fault.Fault.{Fault}
+use Rattle.fb_deploy.specs.Faults.Faults.{faults_of}
+use Rattle.fb_deploy.specs.Library.Place.{IsAt}
+use Rattle.fb_deploy.specs.Library.Rests.{Rests, itself}
+use Rattle.fb_deploy.specs.Library.Texts.{Texts, held, sources_of, text_at, text_in}
+use Rattle.fb_deploy.specs.Library.View.{tree_of}
+use Rattle.fb_deploy.specs.Flatten.Blocking.{is_some_fault}
+use Rattle.fb_deploy.specs.Flatten.Far.{far_of}
+use Rattle.fb_deploy.specs.Flatten.Hints.{is_absent_or_faulty, is_whole_net}
+use Rattle.fb_deploy.specs.Flatten.Kept.{IsStill, LeavesNet}
+use Rattle.fb_deploy.specs.Flatten.Net.{PlainNet, plain_net}
+use Rattle.fb_deploy.specs.Flatten.Nets.{net_at}
+use Rattle.fb_deploy.specs.Flatten.Wiring.Local.{SaysSame}
+use Rattle.fb_deploy.proofs.Flatten.FarNames.{far_is_all}
+use Rattle.fb_deploy.proofs.Flatten.NetLeft.{net_left, no_faults_of_nothing}
+use Rattle.fb_jobs.specs.declared.key.Kind.{Kind}
+use Rattle.fb_jobs.specs.declared.key.Kind.TheVariants as kind
+use Rattle.fb_jobs.specs.declared.key.Key.{Key}
+use Rattle.fb_jobs.specs.declared.value.Value.{Value}
+use Rattle.fb_jobs.specs.declared.value.Value.TheVariants.{Faults, Net, Deploy}
+use Rattle.fb_jobs.specs.Hints.{net_key}
+use Rattle.fb_jobs.specs.Keys.{Finding, FaultsFound, NetFound, needs, net_finding, plan_finding, scratch, scratch_of}
+use Rattle.fb_jobs.specs.Known.{AreWithoutFaults, is_whole_value, net_in}
+use Rattle.fb_jobs.specs.Left.{AreStillRead, IsMade, IsStillRead, seen_text}
+use Rattle.fb_jobs.specs.Reads.{IsRight, Seen, read_names, read_texts}
+use Rattle.fb_jobs.specs.Values.{finding_of}
+use Rattle.fb_jobs.proofs.Currents.{reads_rise}
+use Rattle.fb_jobs.proofs.KnownLemmas.{faultless_in, net_found}
+use Rattle.fb_jobs.proofs.Searches.{found_at}
+use Rattle.fb_jobs.proofs.SameNeeds.{scratch_is}
+use Rattle.fb_jobs.proofs.Sources.{get_source}
+
+count_names : (reads : List Seen) → length (read_names reads) ≡ length reads
+count_names [] = refl
+count_names (r ∷ reads) = ap suc (count_names reads)
+
+-- what a net needs
+far_needed : (T : Texts) (unit : List ℕ) → needs T (net_key unit) ≡ far_of (sources_of T) unit
+unfolding needs
+far_needed T unit = refl
+
+module _ (unit : List ℕ) (before now : List Seen) (units : set.BTreeSet (List ℕ)) (right : IsRight (record { key = net_key unit; reads = before })) (right_now : IsRight (record { key = net_key unit; reads = now })) (without : AreWithoutFaults (read_texts now) units) (still : AreStillRead unit (set.contains name_cmp units) before now) where
+  same_count : length before ≡ length now
+  same_count = length_all_zip (IsStillRead unit (set.contains name_cmp units)) before now still
+
+  -- what was read and what is read under a name on which the unit rested
+  pub record IsPair (name : List ℕ) : Type 0 where
+    pub was : Seen
+    pub is : Seen
+    pub reads : IsStillRead unit (set.contains name_cmp units) was is
+    pub named : was.name ≡ name
+    pub text_was : get (sources_of (read_texts before)) name ≡ seen_text was
+    pub text_is : get (sources_of (read_texts now)) name ≡ seen_text is
+
+  under : (reads : List Seen) (name : List ℕ) (k : ℕ) (d : Seen) → IsRight (record { key = net_key unit; reads = reads }) → k < length reads → (get_or reads k d).name ≡ name → get (sources_of (read_texts reads)) name ≡ seen_text (get_or reads k d)
+  under reads name k d is lt named =
+      let names : List (List ℕ) = read_names reads in
+      let within : k < length names = omega (arith, lt, count_names reads) in
+      let at : IsAt names name k = record { in_range = within; named = get_or_default names k [] d.name within ∙ get_or-map (λ (it : Seen). it.name) reads k d d.name lt ∙ named } in
+      get_source (read_texts reads) name
+      ∙ ap (option_map text_in) (found_at reads name k d (reads_rise (record { key = net_key unit; reads = reads }) is) at)
+
+  pair : (name : List ℕ) → Rests (sources_of (read_texts before)) unit name → IsPair name
+  pair name r =
+      let far : Contains (read_names before) name = subst (λ (names : List (List ℕ)). Contains names name) (sym (far_needed (read_texts before) unit) ∙ sym right.names) (((far_is_all (sources_of (read_texts before)) unit).1 name).1 r) in
+      let lt : far.0 < length before = omega (arith, far.1, count_names before) in
+      let d : Seen = record { name = name; found = None } in
+      let here = AllZip-get_or (IsStillRead unit (set.contains name_cmp units)) before now far.0 d d still lt in
+      let named : (get_or before far.0 d).name ≡ name = sym (get_or-map (λ (it : Seen). it.name) before far.0 d name lt) ∙ far.2 in
+      record {
+        was = get_or before far.0 d;
+        is = get_or now far.0 d;
+        reads = here;
+        named = named;
+        text_was = under before name far.0 d right lt named;
+        text_is = under now name far.0 d right_now (omega (arith, lt, same_count)) (sym here.name ∙ named);
+      }
+
+  no_faults : (name : List ℕ) (it : Seen) → get (sources_of (read_texts now)) name ≡ seen_text it → it.name ≡ name → (seen_text it ≡ None) ⊎ (set.contains name_cmp units it.name ≡ true) → faults_of (sources_of (read_texts now)) name ≡ []
+  no_faults name it text named (inl none) = no_faults_of_nothing (sources_of (read_texts now)) name (text ∙ none)
+  no_faults name it text named (inr known) =
+      by (is_none (get (sources_of (read_texts now)) name)) (faults_of (sources_of (read_texts now)) name)
+      (faultless_in (read_texts now) units without name (ap (set.contains name_cmp units) (sym named) ∙ known))
+    where
+      by : (absent : Bool) (found : List Fault) → (absent || is_some_fault found) ≡ false → found ≡ []
+      by false [] e = refl
+      by true [] e = refl
+      by false (f ∷ fs) e = cc
+      by true (f ∷ fs) e = cc
+
+  still_there : (name : List ℕ) → IsPair name → IsStill (sources_of (read_texts before)) (sources_of (read_texts now)) name
+  still_there name it = record {
+    says = subst (λ (o : Option (List ℕ)). SaysSame (option_and_then tree_of o) (option_and_then tree_of (get (sources_of (read_texts now)) name))) (sym it.text_was)
+        (subst (λ (o : Option (List ℕ)). SaysSame (option_and_then tree_of (seen_text it.was)) (option_and_then tree_of o)) (sym it.text_is) it.reads.says);
+    faultless = no_faults name it.is it.text_is (sym it.reads.name ∙ it.named) it.reads.known;
+    absent = λ none. it.text_was ∙ it.reads.absent (sym it.text_is ∙ none);
+  }
+
+  leaves : LeavesNet (sources_of (read_texts before)) (sources_of (read_texts now)) unit
+  leaves =
+      let own = pair unit itself in
+      record {
+        own = own.text_was ∙ own.reads.own (sym own.reads.name ∙ own.named) ∙ sym own.text_is;
+        still = λ name r. still_there name (pair name r);
+      }
+
+  net_stays : (net : PlainNet) → is_whole_net net ≡ true → net_at (sources_of (read_texts before)) unit ≡ Some net → net_at (sources_of (read_texts now)) unit ≡ Some net
+  net_stays net whole at = net_left (sources_of (read_texts before)) (sources_of (read_texts now)) unit net leaves whole at
+
+no_plan : (o : Option PlainDeploy) (net : PlainNet) → NetFound net ≡ plan_finding o → ⊥
+no_plan None net e = cc
+no_plan (Some plan) net e = cc
+
+stays : (kind : Kind) (unit : List ℕ) (before now : List Seen) (value : Value) (units : set.BTreeSet (List ℕ)) → IsMade (record { kind = kind; unit = unit }) before value → IsRight (record { key = record { kind = kind; unit = unit }; reads = now }) → is_whole_value value ≡ true → AreWithoutFaults (read_texts now) units → AreStillRead unit (set.contains name_cmp units) before now → finding_of value ≡ scratch_of kind (sources_of (read_texts now)) unit
+stays kind unit before now (Faults faults) units made right whole without still = cc
+stays kind unit before now (Deploy deploy) units made right whole without still = cc
+stays kind.Faults unit before now (Net net) units made right whole without still =
+    let is = made.value_is ∙ scratch_is (read_texts before) (record { kind = kind.Faults; unit = unit }) in cc
+stays kind.Deploy unit before now (Net net) units made right whole without still =
+    absurd (no_plan _ (plain_net net) (made.value_is ∙ scratch_is (read_texts before) (record { kind = kind.Deploy; unit = unit })))
+stays kind.Net unit before now (Net net) units made right whole without still =
+    let at : net_at (sources_of (read_texts before)) unit ≡ Some (plain_net net) = net_found (net_at (sources_of (read_texts before)) unit) (plain_net net) (made.value_is ∙ scratch_is (read_texts before) (net_key unit)) in
+    ap net_finding (sym (net_stays unit before now units made.right right without still (plain_net net) whole at))
+
+-- a value that what is read leaves as it was is that of the reads
+pub left_value : (key : Key) (before now : List Seen) (value : Value) (units : set.BTreeSet (List ℕ)) → IsMade key before value → IsRight (record { key = key; reads = now }) → is_whole_value value ≡ true → AreWithoutFaults (read_texts now) units → AreStillRead key.unit (set.contains name_cmp units) before now → finding_of value ≡ scratch (read_texts now) key
+left_value key before now value units made right whole without still =
+    stays key.kind key.unit before now value units made right whole without still ∙ sym (scratch_is (read_texts now) key)
