@@ -1,12 +1,11 @@
 -- What a job knows beside its reads and its hints.
-use Rattle.std.specs.Prelude.{◌≡◌, ◌⊎◌, ℕ, Bool, true, List, [], Option, Some, None, Contains}
+use Rattle.std.specs.Prelude.{◌≡◌, ◌⊎◌, ℕ, true, List, [], Option, Some, None, Contains}
 use Rattle.std.specs.BTreeMap as tree
 use Rattle.std.specs.BTreeSet as set
 use Rattle.std.specs.declared.sync.Arc.{Arc}
 use Rattle.std.specs.declared.alloc.Global.{Global}
 use Rattle.fb_text.specs.Order.{name_cmp}
 use Rattle.fb_deploy.specs.Library.Texts.{Texts}
-use Rattle.fb_deploy.specs.Flatten.Hints.{is_whole_hint}
 use Rattle.fb_deploy.specs.Flatten.Net.{PlainNet, plain_net}
 use Rattle.fb_jobs.specs.declared.hints.Hint.{Hint}
 use Rattle.fb_jobs.specs.declared.known.Knowledge.{Knowledge}
@@ -29,10 +28,6 @@ abbrev pub net_in : Value → Option PlainNet
 net_in (Faults faults) = None
 net_in (Net net) = Some (plain_net net)
 net_in (Deploy deploy) = None
-
--- whether it is the net of a unit that is not blocked, and of which none of what it rests on reaches itself
-abbrev pub is_whole_value : Value → Bool
-is_whole_value value = is_whole_hint (net_in value)
 
 abbrev pub hint_in : Option (Arc Value Global) → Option PlainNet
 hint_in None = None

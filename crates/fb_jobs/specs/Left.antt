@@ -1,12 +1,19 @@
 -- What is read now, beside what gave a value before.
-use Rattle.std.specs.Prelude.{◌≡◌, ◌⊎◌, ℕ, Bool, true, List, Option, None, Some}
+use Rattle.std.specs.Prelude.{◌≡◌, ◌⊎◌, ℕ, Bool, true, false, List, Option, None, Some}
 use Rattle.std.specs.List.{AllZip}
 use Rattle.std.specs.Option.{option_and_then, option_map}
+use Rattle.fb_deploy.specs.Deploy.{plain_deploy}
+use Rattle.fb_deploy.specs.Plans.{is_whole_plan}
+use Rattle.fb_deploy.specs.Flatten.Hints.{is_whole_net}
+use Rattle.fb_deploy.specs.Flatten.Net.{plain_net}
 use Rattle.fb_deploy.specs.Library.Texts.{text_in}
 use Rattle.fb_deploy.specs.Library.View.{tree_of}
-use Rattle.fb_deploy.specs.Flatten.Wiring.Local.{SaysSame}
+use Rattle.fb_deploy.specs.Flatten.Wiring.Local.{AreAlikeBlocks, SaysSame}
+use Rattle.fb_deploy.specs.Flatten.Wiring.Tree.Mentions.{unit_kind_of}
+use Rattle.fb_deploy.specs.Flatten.Wiring.Tree.declared.kinds.UnitKind.TheVariants.{Block}
 use Rattle.fb_jobs.specs.declared.key.Key.{Key}
 use Rattle.fb_jobs.specs.declared.value.Value.{Value}
+use Rattle.fb_jobs.specs.declared.value.Value.TheVariants.{Faults, Net, Deploy}
 use Rattle.fb_jobs.specs.Keys.{scratch}
 use Rattle.fb_jobs.specs.Reads.{IsRight, Seen, read_texts}
 use Rattle.fb_jobs.specs.Values.{finding_of}
@@ -16,13 +23,24 @@ pub record IsMade (key : Key) (reads : List Seen) (value : Value) : Type 0 where
   pub right : IsRight (record { key = key; reads = reads })
   pub value_is : finding_of value ≡ scratch (read_texts reads) key
 
+-- whether it is a net to which nothing was in the way, or a plan by such a net
+abbrev pub is_whole_value : Value → Bool
+is_whole_value (Faults faults) = false
+is_whole_value (Net net) = is_whole_net (plain_net net)
+is_whole_value (Deploy deploy) = is_whole_plan (plain_deploy deploy)
+
 abbrev pub seen_text : Seen → Option (List ℕ)
 seen_text it = option_map text_in it.found
 
--- What is read under a name says what was read before: of the unit itself the same text is read. And if a text is there, its unit is known
--- to be without faults.
+-- the text of a name on which the unit rests is the same, or it is of another unit, a block type still that says the same
+abbrev pub IsStillText : List ℕ → List ℕ → List ℕ → List ℕ → Type 0
+IsStillText unit name before now = (before ≡ now) ⊎ ((name ≡ unit → ⊥) × AreAlikeBlocks (tree_of before) (tree_of now))
+
+-- What is read under a name is what was read before, or a block type still that says the same; of the unit itself the same text is read. And if
+-- a text is there, its unit is known to be without faults.
 pub record IsStillRead (unit : List ℕ) (faultless : List ℕ → Bool) (before now : Seen) : Type 0 where
   pub name : before.name ≡ now.name
+  pub text : (seen_text before ≡ seen_text now) ⊎ (option_map unit_kind_of (option_and_then tree_of (seen_text before)) ≡ Some Block)
   pub says : SaysSame (option_and_then tree_of (seen_text before)) (option_and_then tree_of (seen_text now))
   pub own : now.name ≡ unit → seen_text before ≡ seen_text now
   pub absent : seen_text now ≡ None → seen_text before ≡ None

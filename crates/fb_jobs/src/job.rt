@@ -20,7 +20,7 @@ use crate::hints::Hint;
 use crate::kept::Kept;
 use crate::key::Key;
 use crate::known::{Knowledge, KnownNets, nets_of};
-use crate::left::{are_still_read, is_whole_net};
+use crate::left::{are_still_read, is_whole_value};
 use crate::made::Made;
 use crate::read::Read;
 use crate::reads::reads_of;
@@ -155,8 +155,8 @@ impl Job {
         &self.knowledge.hints
     }
 
-    /// The value that the key had before, where what is read leaves it as it was: the net of a unit to which nothing was in the way, whose
-    /// own text is the same, and which rests on units without faults that say to networks what they said.
+    /// The value that the key had before, where what is read leaves it as it was: a net to which nothing was in the way, or a plan by one, of a
+    /// unit whose own text is the same, and which rests on units without faults that say to networks what they said.
     fn left(&self, alloc: Global) -> Result<Option<&Arc<Value>>, AllocError>
         ensures { IfOk result (λ left. IfSome left
             (λ value. finding_of value.now.value ≡ scratch (read_texts self.now.reads) self.now.key)) }
@@ -164,7 +164,7 @@ impl Job {
         let Some(made) = &self.former else {
             return Ok(None);
         };
-        if made.key() != self.key || !is_whole_net(made.value()) {
+        if made.key() != self.key || !is_whole_value(made.value()) {
             return Ok(None);
         }
         let faultless = &self.knowledge.faultless;
@@ -201,7 +201,7 @@ impl Job {
         }
     }
 
-    /// Computes the value that the reads give. What is taken along is not computed anew, nor is a net that what is read leaves as it was.
+    /// Computes the value that the reads give. What is taken along is not computed anew, nor is a net or a plan that what is read leaves as it was.
     pub fn run(&self, alloc: Global) -> Result<Finished, AllocError>
         ensures { IfOk result (λ finished. finished ≡ self.now) }
     {

@@ -3,14 +3,16 @@ ghost use Rattle.std.specs.Prelude.{◌≡◌, true, IfOk, string_bytes};
 ghost use Rattle.std.specs.BTreeSet as set;
 ghost use Rattle.fb_text.specs.Order.{name_cmp};
 ghost use Rattle.fb_deploy.specs.Library.View.{tree_of};
-ghost use Rattle.fb_deploy.specs.Flatten.Wiring.Local.{SaysSame};
-ghost use Rattle.fb_jobs.specs.Known.{is_whole_value};
-ghost use Rattle.fb_jobs.specs.Left.{AreStillRead, IsStillRead};
+ghost use Rattle.fb_deploy.specs.Flatten.Hints.{is_whole_net};
+ghost use Rattle.fb_deploy.specs.Flatten.Net.{plain_net};
+ghost use Rattle.fb_deploy.specs.Flatten.Wiring.Local.{AreAlikeBlocks};
+ghost use Rattle.fb_jobs.specs.Left.{AreStillRead, IsStillRead, IsStillText, is_whole_value};
 ghost use Rattle.fb_jobs.specs.Values.{all_seen, seen_of, text_seen};
 
 use crate::read::Read;
 use crate::texts::{TextRead, TextReads};
 use crate::value::Value;
+use fb_deploy::Deploy;
 use fb_deploy::flatten::{Net, is_alike};
 use fb_deploy::library::Version;
 use fb_deploy::parse::Source;
@@ -18,10 +20,10 @@ use fb_text::{Name, same_name};
 use std::alloc::{AllocError, Global};
 use std::collections::BTreeSet;
 
-/// Whether a text says to networks what the text before said. Where there is no memory to read that once more, this is not told.
+/// Whether both texts are of a block type, which says to networks what it said before. Where there is no memory to read that once more, this is not told.
 fn says_same(alloc: Global, before: &Version, now: &Source) -> Result<bool, AllocError>
     ensures { IfOk result (λ says. says ≡ true
-        → SaysSame (tree_of (string_bytes before.now.text.value)) (tree_of now.now.text)) }
+        → AreAlikeBlocks (tree_of (string_bytes before.now.text.value)) (tree_of now.now.text)) }
 {
     match Source::read(alloc, before.unit, before.text.as_str()) {
         Ok(source) => is_alike(alloc, &source, now),
@@ -29,7 +31,7 @@ fn says_same(alloc: Global, before: &Version, now: &Source) -> Result<bool, Allo
     }
 }
 
-/// Whether the text of a unit on which `unit` rests is the text before, or says the same to networks.
+/// Whether the text of a unit on which `unit` rests is the text before, or is of another unit, a block type that says the same to networks.
 fn is_still_text(
     alloc: Global,
     unit: &Name,
@@ -37,10 +39,8 @@ fn is_still_text(
     name: &Name,
     now: &Source,
 ) -> Result<bool, AllocError>
-    ensures says { IfOk result (λ is. is ≡ true
-        → SaysSame (tree_of (string_bytes before.now.text.value)) (tree_of now.now.text)) }
-    ensures own { IfOk result (λ is. is ≡ true
-        → name.now ≡ unit.now → string_bytes before.now.text.value ≡ now.now.text) }
+    ensures { IfOk result (λ is. is ≡ true
+        → IsStillText unit.now name.now (string_bytes before.now.text.value) now.now.text) }
 {
     if before.text.as_str() == now.text() {
         return Ok(true);
@@ -101,13 +101,22 @@ pub(crate) fn are_still_read(
     Ok(true)
 }
 
-/// Whether a value is the net of a unit to which nothing was in the way.
-pub(crate) fn is_whole_net(value: &Value) -> bool
+fn is_whole(net: &Net) -> bool
+    ensures { result ≡ is_whole_net (plain_net net.now) }
+{
+    match net {
+        Net::TooLarge | Net::Flat(_) => true,
+        Net::Blocked(_) | Net::Recursive(_) => false,
+    }
+}
+
+/// Whether a value is a net to which nothing was in the way, or a plan by such a net.
+pub(crate) fn is_whole_value(value: &Value) -> bool
     ensures { result ≡ is_whole_value value.now }
 {
     match value {
-        Value::Net(Net::TooLarge | Net::Flat(_)) => true,
-        Value::Net(Net::Blocked(_) | Net::Recursive(_)) => false,
-        Value::Faults(_) | Value::Deploy(_) => false,
+        Value::Net(net) | Value::Deploy(Deploy::Stopped(net)) => is_whole(net),
+        Value::Deploy(Deploy::Faulty(_) | Deploy::Plan(_)) => true,
+        Value::Faults(_) => false,
     }
 }

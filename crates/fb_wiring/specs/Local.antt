@@ -1,8 +1,9 @@
 -- What networks, applications and kinds depend on.
-use Rattle.std.specs.Prelude.{◌≡◌, ℕ, List, Option, option_map}
+use Rattle.std.specs.Prelude.{◌≡◌, ℕ, List, Option, Some, option_map}
 use Rattle.std.specs.FinMap.{get}
 use Rattle.fb_tree.specs.Mentions.{unit_kind_of}
 use Rattle.fb_tree.specs.Tree.{DeclTree}
+use Rattle.fb_tree.specs.declared.kinds.UnitKind.TheVariants.{Block}
 use Rattle.fb_iface.specs.Library.View.{Sources, parts_in, values_in}
 use Rattle.fb_wiring.specs.Applications.{applications_of}
 use Rattle.fb_wiring.specs.ByName.{applications_at, declared, kind_at}
@@ -29,3 +30,8 @@ pub record SaysSame (a b : Option DeclTree) : Type 0 where
   pub parts : parts_in a ≡ parts_in b
   pub values : values_in a ≡ values_in b
   pub said : SaysSameToNetworks a b
+
+-- both are trees of block types that say the same
+pub record AreAlikeBlocks (a b : Option DeclTree) : Type 0 where
+  pub block : option_map unit_kind_of a ≡ Some Block
+  pub says : SaysSame a b

@@ -1,8 +1,10 @@
 //! Whether a text says to others what another one says.
 ghost use Rattle.std.specs.Prelude.{◌≡◌, true, Some, IfOk};
+ghost use Rattle.fb_tree.specs.Mentions.{unit_kind_of};
 ghost use Rattle.fb_tree.specs.Tree.{decl_tree};
+ghost use Rattle.fb_tree.specs.declared.kinds.UnitKind.TheVariants.{Block};
 ghost use Rattle.fb_iface.specs.Library.View.{tree_of};
-ghost use Rattle.fb_wiring.specs.Local.{SaysSame, SaysSameToNetworks};
+ghost use Rattle.fb_wiring.specs.Local.{AreAlikeBlocks, SaysSameToNetworks};
 
 use crate::ports::ports_of_type;
 use fb_iface::is_same_side;
@@ -61,8 +63,10 @@ fn are_same_names(a: &[Name], b: &[Name]) -> bool
 
 /// Whether both declare a block type, with the same ports.
 fn are_alike_blocks(alloc: Global, a: &Decl, b: &Decl) -> Result<bool, AllocError>
-    ensures { IfOk result (λ are. are ≡ true
+    ensures says { IfOk result (λ are. are ≡ true
         → SaysSameToNetworks (Some (decl_tree a.now)) (Some (decl_tree b.now))) }
+    ensures block { IfOk result (λ are. are ≡ true
+        → unit_kind_of (decl_tree a.now) ≡ Block) }
 {
     match (a, b) {
         (Decl::Block(a), Decl::Block(b)) => {
@@ -85,7 +89,7 @@ fn mention_the_same(a: &Mentions, b: &Mentions) -> bool
 /// of them it is. Of other units it is not looked at.
 pub fn is_alike(alloc: Global, a: &Source, b: &Source) -> Result<bool, AllocError>
     ensures { IfOk result (λ is. is ≡ true
-        → SaysSame (tree_of a.now.text) (tree_of b.now.text)) }
+        → AreAlikeBlocks (tree_of a.now.text) (tree_of b.now.text)) }
 {
     match (a.body(), b.body()) {
         (Body::Tree(tree), Body::Tree(other)) if mention_the_same(a.mentions(), b.mentions()) => {
