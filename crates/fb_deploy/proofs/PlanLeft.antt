@@ -1,5 +1,5 @@
 -- Texts that leave the net of a system as it was leave its plan so.
-use Rattle.std.proofs.Common.{◌≡◌, ℕ, Bool, true, false, if◌then◌else◌, List, [], ◌⊎◌, inl, inr, Option, Some, None, refl, sym, ap, subst, ◌∙◌, option_map}
+use Rattle.std.proofs.Common.{◌≡◌, ℕ, Bool, true, false, if◌then◌else◌, List, [], ◌⊎◌, inl, inr, Option, Some, None, refl, sym, ap, subst, ◌∙◌, option_map, arith}
 use Rattle.std.specs.Prelude.{Contains}
 use Rattle.std.specs.FinMap.{get}
 use Rattle.std.specs.Option.{option_and_then}
@@ -16,7 +16,6 @@ use Rattle.fb_mapping.specs.Flatten.Wiring.ByName.{kind_at}
 use Rattle.fb_mapping.proofs.Flatten.NetLeft.{net_left}
 use Rattle.fb_mapping.specs.Placing.Standing.{inner_instances}
 use Rattle.fb_mapping.proofs.Placing.StandingLocal.{SameStandings, own_tree}
-use Rattle.fb_mapping.proofs.Library.Members.{contains_nothing}
 use Rattle.fb_deploy.specs.Deploy.{PlainDeploy, planned_by}
 use Rattle.fb_deploy.specs.Plans.{PlanIsLeft, has_plan_in, is_whole_plan, plan_at}
 use Rattle.fb_deploy.proofs.PlanLocal.{planned_same}
@@ -29,6 +28,9 @@ no_inner (Some (adapter_type d)) e = cc
 no_inner (Some (subapplication_type d)) e = cc
 no_inner (Some (system_configuration s)) e = cc
 no_inner (Some (structure_type s)) e = cc
+
+contains_nothing : {X : Type 0} (x : X) → Contains [] x → ⊥
+contains_nothing x c = omega (arith, c.1)
 
 module _ (a b : Sources) (unit : List ℕ) (leaves : LeavesNet a b unit) where
   inner_same : (v : List ℕ) → (get a v ≡ get b v) ⊎ (kind_at a v ≡ Some kinds.Block) → SaysSame (tree_at a v) (tree_at b v) → inner_instances (tree_at a v) ≡ inner_instances (tree_at b v)

@@ -14,7 +14,7 @@ use Rattle.fb_deploy.specs.Iface.declared.fault.Fault.{Fault}
 use Rattle.fb_deploy.specs.Faults.Faults.{faults_of}
 use Rattle.fb_deploy.specs.Library.Place.{IsAt}
 use Rattle.fb_deploy.specs.Library.Rests.{Rests, itself}
-use Rattle.fb_deploy.specs.Library.Texts.{Texts, held, sources_of, text_at, text_in}
+use Rattle.fb_deploy.specs.Library.Texts.{Held, Texts, sources_of, text_in}
 use Rattle.fb_deploy.specs.Library.View.{tree_of}
 use Rattle.fb_deploy.specs.Flatten.Blocking.{is_some_fault}
 use Rattle.fb_deploy.specs.Flatten.Far.{far_of}
@@ -27,6 +27,7 @@ use Rattle.fb_deploy.specs.Flatten.Wiring.Local.{SaysSame}
 use Rattle.fb_deploy.specs.Flatten.Wiring.Tree.Mentions.{unit_kind_of}
 use Rattle.fb_deploy.specs.Flatten.Wiring.Tree.declared.kinds.UnitKind.TheVariants.{Block}
 use Rattle.fb_deploy.proofs.Flatten.FarNames.{far_is_all}
+use Rattle.fb_deploy.proofs.Flatten.NetLocality.{says_itself}
 use Rattle.fb_deploy.proofs.Flatten.NetLeft.{net_left, no_faults_of_nothing}
 use Rattle.fb_deploy.proofs.PlanLeft.{plan_left}
 use Rattle.fb_jobs.specs.declared.key.Kind.{Kind}
@@ -37,13 +38,45 @@ use Rattle.fb_jobs.specs.declared.value.Value.TheVariants.{Faults, Net, Deploy}
 use Rattle.fb_jobs.specs.Hints.{net_key}
 use Rattle.fb_jobs.specs.Keys.{DeployFound, NetFound, needs, net_finding, plan_finding, scratch, scratch_of}
 use Rattle.fb_jobs.specs.Known.{AreWithoutFaults}
-use Rattle.fb_jobs.specs.Left.{AreStillRead, IsMade, IsStillRead, is_whole_value, seen_text}
+use Rattle.fb_jobs.specs.Left.{AreStillRead, IsMade, IsStillFound, IsStillRead, is_whole_value, seen_text}
 use Rattle.fb_jobs.specs.Reads.{IsRight, Seen, read_names, read_texts}
 use Rattle.fb_jobs.specs.Values.{finding_of}
 use Rattle.fb_jobs.proofs.KnownLemmas.{faultless_in, net_found}
 use Rattle.fb_jobs.proofs.Searches.{found_at}
 use Rattle.fb_jobs.proofs.SameNeeds.{needs_rise, scratch_is}
 use Rattle.fb_jobs.proofs.Sources.{get_source}
+
+module _ (unit : List ℕ) (faultless : List ℕ → Bool) (name : List ℕ) where
+  text_of : (a b : Option Held) → IsStillFound unit faultless name a b → (option_map text_in a ≡ option_map text_in b) ⊎ (option_map unit_kind_of (option_and_then tree_of (option_map text_in a)) ≡ Some Block)
+  text_of None None still = inl refl
+  text_of None (Some b) still = absurd still
+  text_of (Some a) None still = absurd still
+  text_of (Some a) (Some b) (inl same, known) = inl (ap (λ (t : List ℕ). Some t) same)
+  text_of (Some a) (Some b) (inr (other, alike), known) = inr alike.block
+
+  says_of : (a b : Option Held) → IsStillFound unit faultless name a b → SaysSame (option_and_then tree_of (option_map text_in a)) (option_and_then tree_of (option_map text_in b))
+  says_of None None still = says_itself None None refl
+  says_of None (Some b) still = absurd still
+  says_of (Some a) None still = absurd still
+  says_of (Some a) (Some b) (inl same, known) = says_itself (tree_of a.text) (tree_of b.text) (ap tree_of same)
+  says_of (Some a) (Some b) (inr (other, alike), known) = alike.says
+
+  own_of : (a b : Option Held) → IsStillFound unit faultless name a b → name ≡ unit → option_map text_in a ≡ option_map text_in b
+  own_of None None still own = refl
+  own_of None (Some b) still own = absurd still
+  own_of (Some a) None still own = absurd still
+  own_of (Some a) (Some b) (inl same, known) own = ap (λ (t : List ℕ). Some t) same
+  own_of (Some a) (Some b) (inr (other, alike), known) own = absurd (other own)
+
+  absent_of : (a b : Option Held) → IsStillFound unit faultless name a b → option_map text_in b ≡ None → option_map text_in a ≡ None
+  absent_of None b still none = refl
+  absent_of (Some a) None still none = absurd still
+  absent_of (Some a) (Some b) still none = cc
+
+  known_of : (a b : Option Held) → IsStillFound unit faultless name a b → (option_map text_in b ≡ None) ⊎ (faultless name ≡ true)
+  known_of a None still = inl refl
+  known_of None (Some b) still = absurd still
+  known_of (Some a) (Some b) still = inr still.1
 
 count_names : (reads : List Seen) → length (read_names reads) ≡ length reads
 count_names [] = refl
@@ -109,18 +142,18 @@ module _ (unit : List ℕ) (before now : List Seen) (units : set.BTreeSet (List 
 
   still_there : (name : List ℕ) → IsPair name → IsStill (sources_of (read_texts before)) (sources_of (read_texts now)) name
   still_there name it = record {
-    text = text_there name it it.reads.text;
+    text = text_there name it (text_of unit (set.contains name_cmp units) it.is.name it.was.found it.is.found it.reads.found);
     says = subst (λ (o : Option (List ℕ)). SaysSame (option_and_then tree_of o) (option_and_then tree_of (get (sources_of (read_texts now)) name))) (sym it.text_was)
-        (subst (λ (o : Option (List ℕ)). SaysSame (option_and_then tree_of (seen_text it.was)) (option_and_then tree_of o)) (sym it.text_is) it.reads.says);
-    faultless = no_faults name it.is it.text_is (sym it.reads.name ∙ it.named) it.reads.known;
-    absent = λ none. it.text_was ∙ it.reads.absent (sym it.text_is ∙ none);
+        (subst (λ (o : Option (List ℕ)). SaysSame (option_and_then tree_of (seen_text it.was)) (option_and_then tree_of o)) (sym it.text_is) (says_of unit (set.contains name_cmp units) it.is.name it.was.found it.is.found it.reads.found));
+    faultless = no_faults name it.is it.text_is (sym it.reads.name ∙ it.named) (known_of unit (set.contains name_cmp units) it.is.name it.was.found it.is.found it.reads.found);
+    absent = λ none. it.text_was ∙ absent_of unit (set.contains name_cmp units) it.is.name it.was.found it.is.found it.reads.found (sym it.text_is ∙ none);
   }
 
   leaves : LeavesNet (sources_of (read_texts before)) (sources_of (read_texts now)) unit
   leaves =
       let own = pair unit itself in
       record {
-        own = own.text_was ∙ own.reads.own (sym own.reads.name ∙ own.named) ∙ sym own.text_is;
+        own = own.text_was ∙ own_of unit (set.contains name_cmp units) own.is.name own.was.found own.is.found own.reads.found (sym own.reads.name ∙ own.named) ∙ sym own.text_is;
         still = λ name r. still_there name (pair name r);
       }
 

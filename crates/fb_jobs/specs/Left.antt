@@ -1,16 +1,14 @@
 -- What is read now, beside what gave a value before.
 use Rattle.std.specs.Prelude.{◌≡◌, ◌⊎◌, ℕ, Bool, true, false, List, Option, None, Some}
 use Rattle.std.specs.List.{AllZip}
-use Rattle.std.specs.Option.{option_and_then, option_map}
+use Rattle.std.specs.Option.{option_map}
 use Rattle.fb_deploy.specs.Deploy.{plain_deploy}
 use Rattle.fb_deploy.specs.Plans.{is_whole_plan}
 use Rattle.fb_deploy.specs.Flatten.Hints.{is_whole_net}
 use Rattle.fb_deploy.specs.Flatten.Net.{plain_net}
-use Rattle.fb_deploy.specs.Library.Texts.{text_in}
+use Rattle.fb_deploy.specs.Library.Texts.{Held, text_in}
 use Rattle.fb_deploy.specs.Library.View.{tree_of}
-use Rattle.fb_deploy.specs.Flatten.Wiring.Local.{AreAlikeBlocks, SaysSame}
-use Rattle.fb_deploy.specs.Flatten.Wiring.Tree.Mentions.{unit_kind_of}
-use Rattle.fb_deploy.specs.Flatten.Wiring.Tree.declared.kinds.UnitKind.TheVariants.{Block}
+use Rattle.fb_deploy.specs.Flatten.Wiring.Local.{AreAlikeBlocks}
 use Rattle.fb_jobs.specs.declared.key.Key.{Key}
 use Rattle.fb_jobs.specs.declared.value.Value.{Value}
 use Rattle.fb_jobs.specs.declared.value.Value.TheVariants.{Faults, Net, Deploy}
@@ -36,16 +34,18 @@ seen_text it = option_map text_in it.found
 abbrev pub IsStillText : List ℕ → List ℕ → List ℕ → List ℕ → Type 0
 IsStillText unit name before now = (before ≡ now) ⊎ ((name ≡ unit → ⊥) × AreAlikeBlocks (tree_of before) (tree_of now))
 
--- What is read under a name is what was read before, or a block type still that says the same; of the unit itself the same text is read. And if
--- a text is there, its unit is known to be without faults.
+-- and the unit of that name is known to be without faults; or there was no text, and there is none
+abbrev pub IsStillFound : List ℕ → (List ℕ → Bool) → List ℕ → Option Held → Option Held → Type 0
+IsStillFound unit faultless name None None = ⊤
+IsStillFound unit faultless name None (Some now) = ⊥
+IsStillFound unit faultless name (Some before) None = ⊥
+IsStillFound unit faultless name (Some before) (Some now) = IsStillText unit name before.text now.text × (faultless name ≡ true)
+
+-- so it is with what is read under a name, and was read before
 pub record IsStillRead (unit : List ℕ) (faultless : List ℕ → Bool) (before now : Seen) : Type 0 where
   pub name : before.name ≡ now.name
-  pub text : (seen_text before ≡ seen_text now) ⊎ (option_map unit_kind_of (option_and_then tree_of (seen_text before)) ≡ Some Block)
-  pub says : SaysSame (option_and_then tree_of (seen_text before)) (option_and_then tree_of (seen_text now))
-  pub own : now.name ≡ unit → seen_text before ≡ seen_text now
-  pub absent : seen_text now ≡ None → seen_text before ≡ None
-  pub known : (seen_text now ≡ None) ⊎ (faultless now.name ≡ true)
+  pub found : IsStillFound unit faultless now.name before.found now.found
 
--- so it is at each place
+-- and at each place
 abbrev pub AreStillRead : List ℕ → (List ℕ → Bool) → List Seen → List Seen → Type 0
 AreStillRead unit faultless before now = AllZip (IsStillRead unit faultless) before now
