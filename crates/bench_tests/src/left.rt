@@ -62,12 +62,12 @@ const OTHER_PORTS: &str = r#"
 < {"net":{"blocked":["SA","TN"]}}
 "#;
 
-#[test]
-fn a_changed_algorithm_leaves_nets(rt: HostRuntime) -> Result<(), Fail> {
-    compare(&rt, rt.alloc(), SAME_PORTS)
-}
+const TALKS: &[(&str, &str)] = &[
+    ("a changed algorithm", SAME_PORTS),
+    ("changed ports", OTHER_PORTS),
+];
 
 #[test]
-fn changed_ports_do_not_leave_nets(rt: HostRuntime) -> Result<(), Fail> {
-    compare(&rt, rt.alloc(), OTHER_PORTS)
+fn talks(rt: HostRuntime) -> Result<(), Fail> {
+    compare(&rt, rt.alloc(), TALKS)
 }
