@@ -25,6 +25,8 @@ returns-in-Err g c =
           whole = search rules;
           turns_are = search rules;
           all_turns = search rules;
+          gave = simp_lengths _ _ _ turn.1 (omega (arith, inv.2, inv.8, c.take_turn.ensures.turn));
+          all_gave = λ is. absurd (not_over c.in-Err.end c.take_turn.result c.take_turn.ensures.end c.in-Err.is is);
           read_failed = search rules;
           flushed = search rules;
           write_failed = search rules;
@@ -49,6 +51,8 @@ returns g c =
           whole = λ is. let other : end.TurnsOver ≡ end.End = is in absurd cc;
           turns_are = search rules;
           all_turns = search rules;
+          gave = omega (arith, inv.2, inv.8);
+          all_gave = λ is. omega (arith, inv.2, inv.8);
           read_failed = search rules;
           flushed = search rules;
           write_failed = search rules;
@@ -67,6 +71,7 @@ loop-turn-init g c = (
   Consumes-nil _,
   rw (c.new-talk.ensures.line, c.new-talk.ensures.held) (begins g.D.Desk.step _ _),
   λ was. was,
+  omega arith,
 )
 
 pub loop-turn-preserved : goal.loop-turn-preserved
@@ -85,4 +90,5 @@ loop-turn-preserved g c =
       left,
       both,
       λ was. c.take_turn.ensures.flushed (inv.7 was) written,
+      let more = rw c.in-Ok.is at c.take_turn.ensures.gave in omega (arith, inv.8, more),
     )
