@@ -27,10 +27,13 @@ fn is_same_adapter(a: &Option<Name>, b: &Option<Name>) -> bool
 fn is_same_port(a: &Port, b: &Port) -> bool
     ensures { result ≡ true → a.now ≡ b.now }
 {
-    is_same_sort(a.sort, b.sort)
-        && is_same_side(a.side, b.side)
-        && same_name(&a.name, &b.name)
-        && is_same_adapter(&a.adapter, &b.adapter)
+    if !is_same_sort(a.sort, b.sort) || !is_same_side(a.side, b.side) {
+        return false;
+    }
+    if !same_name(&a.name, &b.name) {
+        return false;
+    }
+    is_same_adapter(&a.adapter, &b.adapter)
 }
 
 fn are_same_ports(a: &[Port], b: &[Port]) -> bool
