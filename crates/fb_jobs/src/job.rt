@@ -164,12 +164,13 @@ impl Job {
         let Some(made) = &self.former else {
             return Ok(None);
         };
-        if made.key() != self.key || !is_whole_value(made.value()) {
+        let value = made.value();
+        if made.key() != self.key || !is_whole_value(value) {
             return Ok(None);
         }
         let faultless = &self.knowledge.faultless;
         if are_still_read(alloc, &self.key.unit, faultless, made.texts(), &self.reads)? {
-            return Ok(Some(made.value()));
+            return Ok(Some(value));
         }
         Ok(None)
     }
