@@ -18,7 +18,7 @@ use Rattle.fb_deploy.specs.Library.Texts.{Held, Texts, sources_of, text_in}
 use Rattle.fb_deploy.specs.Library.View.{tree_of}
 use Rattle.fb_deploy.specs.Flatten.Blocking.{is_some_fault}
 use Rattle.fb_deploy.specs.Flatten.Far.{far_of}
-use Rattle.fb_deploy.specs.Flatten.Hints.{is_absent_or_faulty, is_whole_net}
+use Rattle.fb_deploy.specs.Flatten.Hints.{is_whole_net}
 use Rattle.fb_deploy.specs.Flatten.Kept.{IsStill, LeavesNet}
 use Rattle.fb_deploy.specs.Flatten.Net.{PlainNet, plain_net}
 use Rattle.fb_deploy.specs.Flatten.Nets.{net_at}

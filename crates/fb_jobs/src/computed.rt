@@ -34,11 +34,7 @@ pub(crate) struct Worked {
 }
 
 /// The former value where the new one says the same, or else the new one.
-fn former_or(
-    alloc: Global,
-    former: &Option<Made>,
-    value: Value,
-) -> Result<Arc<Value>, AllocError>
+fn former_or(alloc: Global, former: &Option<Made>, value: Value) -> Result<Arc<Value>, AllocError>
     ensures { IfOk result (λ shared. finding_of shared.value ≡ finding_of value) }
 {
     match former {

@@ -84,7 +84,6 @@ pub own_tree : (a b : Sources) (unit : List ℕ) → SameStandings a b unit → 
 own_tree a b unit same = ap (option_and_then tree_of) same.own
 
 module _ (a b : Sources) (unit : List ℕ) (same : SameStandings a b unit) where
-
   -- the unit rests on the type of the instance
   abbrev Reached : Option PlainStanding → Type 0
   Reached o = (s : PlainStanding) → o ≡ Some s → Rests a unit (type_of s)

@@ -28,10 +28,10 @@ returns-in-Some-Some c =
     let version = c.in-Some-Some.version.now in
     IfOk-weaker c.is_still_text.result _ _
     (λ is text told.
-        let same = subst (λ (w : Written). IsStillText c.args.unit.now c.args.now.now.name (string_bytes version.text.value) w.text) c.deref.ensures (text told) in
-        record {
-          name = same_at c.args.before.now.name c.args.now.now.name (sym c.same_name.ensures ∙ c.if-not-same_name.false);
-          found = subst (λ (v : Option (Bor Version)). still (option_map version_held (option_copied v)) (found_in c.args.now.now.revision c.args.now.now.source)) (sym c.in-Some-Some.is-0)
-              (subst (λ (s : Option (Arc Written Global)). still (Some (version_held version)) (found_in c.args.now.now.revision s)) (sym c.in-Some-Some.is-1) (same, sym c.contains.ensures ∙ c.if-contains.true));
-        })
+    let same = subst (λ (w : Written). IsStillText c.args.unit.now c.args.now.now.name (string_bytes version.text.value) w.text) c.deref.ensures (text told) in
+    record {
+      name = same_at c.args.before.now.name c.args.now.now.name (sym c.same_name.ensures ∙ c.if-not-same_name.false);
+      found = subst (λ (v : Option (Bor Version)). still (option_map version_held (option_copied v)) (found_in c.args.now.now.revision c.args.now.now.source)) (sym c.in-Some-Some.is-0)
+          (subst (λ (s : Option (Arc Written Global)). still (Some (version_held version)) (found_in c.args.now.now.revision s)) (sym c.in-Some-Some.is-1) (same, sym c.contains.ensures ∙ c.if-contains.true));
+    })
     c.is_still_text.ensures

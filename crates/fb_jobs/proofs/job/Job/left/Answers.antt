@@ -23,14 +23,14 @@ returns-then-branch c =
     let now : List Seen = all_seen inside.reads.value.items in
     let units = inside.knowledge.faultless in
     let key : made.key ≡ inside.key = sym c.key.ensures ∙ (one_key c.key.result inside.key).0 (told _ (sym c.ne.ensures ∙ c.if-ne.false)) in
-    let whole : is_whole_value c.value.result.now.value ≡ true = ap is_whole_value (sym c.deref.ensures) ∙ sym c.is_whole_value.ensures ∙ c.if-not-is_whole_value.false in
+    let whole : is_whole_value c.value-value.result.now.value ≡ true = ap is_whole_value (sym c.deref.ensures) ∙ sym c.is_whole_value.ensures ∙ c.if-not-is_whole_value.false in
     let still = subst (λ (before : List Seen). AreStillRead inside.key.unit (set.contains name_cmp units) before now) c.texts.ensures.same
-        (subst (λ (reads : List Read). AreStillRead inside.key.unit (set.contains name_cmp units) c.texts.result.now (all_seen reads)) (c.deref-3.ensures.value ∙ ap (λ it. it.items) c.deref-2.ensures)
-        (c.in_ok-are_still_read.ensures c.if-branch.true)) in
-    left_value inside.key made.reads now c.value.result.now.value units
+    (subst (λ (reads : List Read). AreStillRead inside.key.unit (set.contains name_cmp units) c.texts.result.now (all_seen reads)) (c.deref-3.ensures.value ∙ ap (λ it. it.items) c.deref-2.ensures)
+    (c.in_ok-are_still_read.ensures c.if-branch.true)) in
+    left_value inside.key made.reads now c.value-value.result.now.value units
     (record {
       right = subst (λ (k : Key). IsRight (record { key = k; reads = made.reads })) key c.texts.ensures.right;
-      value_is = c.value.ensures ∙ ap (scratch (read_texts made.reads)) key;
+      value_is = c.value-value.ensures ∙ ap (scratch (read_texts made.reads)) key;
     })
     c.self.invariant.job.right whole c.self.invariant.known.faultless_are still
     ∙ ap (λ (it : PlainJob). scratch (read_texts it.reads) it.key) c.self.view_is
