@@ -1,11 +1,13 @@
 //! Tests of the machine's and the lines' public calls: conversations of request lines and replies, with checkpoints too, streams that
-//! fail, what a workbench shows after its calls, and jobs with what they read.
+//! fail, allocations that are refused, what a workbench shows after its calls, and jobs with what they read.
 #![tactic(auto)]
 
 #[cfg(test)]
 mod calls;
 #[cfg(test)]
 mod checkpoints;
+#[cfg(test)]
+mod cuts;
 #[cfg(test)]
 mod jobs;
 #[cfg(test)]
@@ -18,6 +20,8 @@ mod nets;
 mod plans;
 #[cfg(test)]
 mod refusals;
+#[cfg(test)]
+mod refused;
 #[cfg(test)]
 mod streams;
 #[cfg(test)]

@@ -1,7 +1,5 @@
 //! Runs over streams that come to their end, stop or fail.
-use crate::talk::{
-    ALWAYS, GOOD, Run, Streams, new_bench, replies_in, replies_within, requests_in, run_over,
-};
+use crate::talk::{ALWAYS, GOOD, Run, Streams, new_bench, run_over};
 use fb_wire::bench::Bench;
 use fb_wire::{Failed, Feed, FromRead, IntoWrite, RunEnd, Sink, run_script};
 use std::alloc::Global;
@@ -13,83 +11,10 @@ const TAKE: &[u8] = b"{\"op\":\"take\"}\n";
 
 const NO_JOB: &[u8] = b"{\"job\":0}\n";
 
-// A result that comes late, on streams of which a read or a write fails.
-const LATE: &str = r#"
-> {"op":"commit","changes":[{"put":"C","base":0,"text":"FUNCTION_BLOCK C FBS S:E_SPLIT; END_FBS END_FUNCTION_BLOCK"},{"put":"E_SPLIT","base":0,"text":"FUNCTION_BLOCK E_SPLIT EVENT_INPUT EI; END_EVENT EVENT_OUTPUT EO1; EO2; END_EVENT END_FUNCTION_BLOCK"}]}
-< {"commit":1}
-> {"op":"take"}
-< {"job":1,"kind":"faults","unit":"C"}
-> {"op":"commit","changes":[{"put":"E_SPLIT","base":1,"text":"FUNCTION_BLOCK E_SPLIT EVENT_INPUT EI; END_EVENT EVENT_OUTPUT EO1; EO2; END_EVENT END_FUNCTION_BLOCK"}]}
-< {"commit":2}
-> {"op":"deliver","job":1}
-< {"refused":"Stale","unit":"E_SPLIT"}
-> {"op":"ask","kind":"faults","unit":"C"}
-< {"answer":"pending"}
-> {"op":"work","turns":9}
-< {"accepted":2}
-"#;
-
 // A run over these bytes on a new workbench.
 fn run_alone(alloc: Global, input: &[u8], streams: Streams) -> Result<Run, Fail> {
     let mut bench = new_bench(alloc, 10, 1000)?;
     Ok(run_over(alloc, &mut bench, 1, input, streams)?)
-}
-
-// Compares a run whose reads of 50 bytes are good so many times: it answers the lines that have come whole.
-fn compare_reads(rt: &impl Abort, alloc: Global, requests: &[u8], good: u8) -> Result<(), Fail> {
-    let streams = Streams {
-        read: (50, u64::from(good)),
-        write: (50, ALWAYS),
-        turns: 1_000_000,
-    };
-    let replies = replies_within(alloc, LATE, 50 * usize::from(good))?;
-    let output = replies.as_bytes();
-    compare(rt, alloc, requests, streams, RunEnd::ReadFailed, output)
-}
-
-#[test]
-fn failing_reads(rt: HostRuntime) -> Result<(), Fail> {
-    let requests = requests_in(rt.alloc(), LATE)?;
-    for good in 0..12u8 {
-        compare_reads(&rt, rt.alloc(), requests.as_bytes(), good)?;
-    }
-    Ok(())
-}
-
-// Compares what a run writes of these replies, where its writes of 10 bytes are good so many times.
-fn compare_front(rt: &impl Abort, run: &Run, replies: &[u8], good: u8) {
-    assert_eq!(rt; run.end, RunEnd::WriteFailed);
-    assert!(rt; run.output.len() <= 10 * usize::from(good), "at {good}");
-    assert!(rt; replies.starts_with(&run.output), "at {good}");
-}
-
-fn compare_writes(
-    rt: &impl Abort,
-    alloc: Global,
-    requests: &[u8],
-    replies: &[u8],
-    good: u8,
-) -> Result<(), Fail> {
-    let streams = Streams {
-        read: (10, ALWAYS),
-        write: (10, u64::from(good)),
-        turns: 1_000_000,
-    };
-    let run = run_alone(alloc, requests, streams)?;
-    compare_front(rt, &run, replies, good);
-    Ok(())
-}
-
-// A run whose writes are good so many times writes a front of the replies.
-#[test]
-fn failing_writes(rt: HostRuntime) -> Result<(), Fail> {
-    let requests = requests_in(rt.alloc(), LATE)?;
-    let replies = replies_in(rt.alloc(), LATE)?;
-    for good in 0..14u8 {
-        let (requests, replies) = (requests.as_bytes(), replies.as_bytes());
-        compare_writes(&rt, rt.alloc(), requests, replies, good)?;
-    }
-    Ok(())
 }
 
 // A stream's bytes a call and its good calls.

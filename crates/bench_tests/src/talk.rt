@@ -133,8 +133,13 @@ fn alike(a: &str, b: &str) -> Option<usize> {
     Some(place.unwrap_or(0))
 }
 
-// What is said to a caller with these requests, in a run that comes to its end.
-fn said(alloc: Global, bench: &mut Bench, caller: u32, requests: &str) -> Result<String, Fail> {
+/// What is said to a caller with these requests, in a run that comes to its end.
+pub(crate) fn said(
+    alloc: Global,
+    bench: &mut Bench,
+    caller: u32,
+    requests: &str,
+) -> Result<String, Fail> {
     let run = run_over(alloc, bench, caller, requests.as_bytes(), GOOD)?;
     match run.end {
         RunEnd::End => Ok(String::from_utf8(run.output)?),

@@ -1,4 +1,4 @@
-//! Tests of the words of the program, of its runs, and of servers.
+//! Tests of the words of the program, of its runs, of sessions, and of servers.
 #![tactic(auto)]
 
 #[cfg(test)]
@@ -9,3 +9,5 @@ mod program;
 mod refused;
 #[cfg(test)]
 mod servers;
+#[cfg(test)]
+mod sessions;

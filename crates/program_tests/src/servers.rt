@@ -287,13 +287,13 @@ fn a_line_is_not_printed(rt: HostRuntime) -> Result<(), Fail> {
     compare(&rt, rt.alloc(), &play, &wanted)
 }
 
-// Whether a server on this port fails at once, and says nothing. It would let in no session.
-fn is_turned_away<R: Net<Listener = TcpListener, Stream = TcpStream> + Threads + Wait + Sync>(
+// The status of a server on this port that lets no session in, and whether it says nothing.
+fn serve_none<R: Net<Listener = TcpListener, Stream = TcpStream> + Threads + Wait + Sync>(
     rt: &R,
     alloc: Global,
     port: u16,
     limits: Limits,
-) -> bool {
+) -> (u8, bool) {
     let numbers = Numbers {
         workers: 1,
         sessions: 0,
@@ -302,15 +302,31 @@ fn is_turned_away<R: Net<Listener = TcpListener, Stream = TcpStream> + Threads +
     let mut out = MemorySink::new(alloc, 100, ALWAYS);
     let mut errors = Vec::new(alloc);
     let status = serve(rt, alloc, port, numbers, &mut out, &mut errors);
-    status == 1 && out.as_slice().is_empty() && errors.is_empty()
+    (status, out.as_slice().is_empty() && errors.is_empty())
+}
+
+// The same while somebody else listens on this port of this address.
+fn serve_beside<R: Net<Listener = TcpListener, Stream = TcpStream> + Threads + Wait + Sync>(
+    rt: &R,
+    alloc: Global,
+    address: &str,
+) -> Result<(u8, bool), Fail> {
+    let limits = Limits::new(16, 1000).ok_or("limits")?;
+    let listener = TcpListener::bind(rt, address)?;
+    let port = listener.local_addr()?.port();
+    Ok(serve_none(rt, alloc, port, limits))
 }
 
 // It listens where it is told to: somebody else does so there.
 #[test]
 fn a_port_that_is_taken(rt: HostRuntime) -> Result<(), Fail> {
-    let listener = TcpListener::bind(&rt, "127.0.0.1:0")?;
-    let port = listener.local_addr()?.port();
-    let limits = Limits::new(16, 1000).ok_or("limits")?;
-    assert!(rt; is_turned_away(&rt, rt.alloc(), port, limits));
+    assert_eq!(rt; serve_beside(&rt, rt.alloc(), "127.0.0.1:0")?, (1, true));
+    Ok(())
+}
+
+// No other address of this machine matters to it.
+#[test]
+fn one_address(rt: HostRuntime) -> Result<(), Fail> {
+    assert_eq!(rt; serve_beside(&rt, rt.alloc(), "127.0.0.2:0")?, (0, false));
     Ok(())
 }

@@ -10,7 +10,7 @@ use std::sync::atomic::{AtomicU64, Ordering};
 use std::test::Fail;
 use std::thread::join;
 
-// Counts the jobs that were run, and the workers that have ended.
+// Counts the jobs that were run, each for a while, and the workers that have ended.
 #[derive(Drop)]
 struct Counted {
     run: AtomicU64,
@@ -20,6 +20,7 @@ struct Counted {
 impl Gate for Counted {
     fn run(&self, alloc: Global, worker: u32, job: &Job) -> Result<Finished, AllocError> {
         let finished = Plain.run(alloc, worker, job);
+        pause();
         self.run.fetch_add(1, Ordering::SeqCst);
         finished
     }
@@ -62,7 +63,7 @@ fn work<R: Wait>(
 ) -> (WorkEnd, usize) {
     let mut receipts = Vec::new(alloc);
     let end = work_on(rt, alloc, shared, &mut seat, &mut receipts, gate, 1_000_000);
-    gate.ended.store(1, Ordering::SeqCst);
+    gate.ended.fetch_add(1, Ordering::SeqCst);
     (end, receipts.len())
 }
 
@@ -151,5 +152,58 @@ fn a_full_history_ends_a_worker_that_waits(rt: HostRuntime) -> Result<(), Fail> 
         || fill_and_wait(&rt, &shared, first, &gate),
     );
     assert_eq!(rt; (worked, is_over), ((WorkEnd::HistoryFull, 0), true));
+    Ok(())
+}
+
+// a workbench with room for three records, and the seats of its three callers
+fn room_for_three(alloc: Global) -> Option<(Shared, Seat, Seat, Seat)> {
+    let (shared, mut seats) = Shared::new(alloc, Limits::new(16, 3)?, 3).ok()?;
+    let third = seats.pop()?;
+    let second = seats.pop()?;
+    let first = seats.pop()?;
+    Some((shared, first, second, third))
+}
+
+fn put_one<R: Wait>(rt: &R, alloc: Global, shared: &Shared, seat: &mut Seat) -> Option<()> {
+    let changes = puts(alloc, &["A"])?;
+    shared.commit(rt, seat, &changes).ok()?;
+    Some(())
+}
+
+// puts a unit while both workers wait, and stops them where they do not end by themselves
+fn put_and_wait<R: Wait>(
+    rt: &R,
+    alloc: Global,
+    shared: &Shared,
+    mut seat: Seat,
+    gate: &Counted,
+) -> bool {
+    pause();
+    let put = put_one(rt, alloc, shared, &mut seat);
+    let are_over = is_changed(&gate.ended, 0) && is_changed(&gate.ended, 1);
+    shared.stop(rt);
+    are_over && put.is_some()
+}
+
+// The delivery of the one fills the history while the other waits.
+#[test]
+fn a_delivery_ends_a_worker_that_waits(rt: HostRuntime) -> Result<(), Fail> {
+    let alloc: Global = rt.alloc();
+    let (shared, first, second, third) = room_for_three(alloc).ok_or("a workbench")?;
+    let gate = new_count();
+    let ((a, b), are_over) = join(
+        &rt,
+        || {
+            join(
+                &rt,
+                || work(&rt, alloc, &shared, second, &gate),
+                || work(&rt, alloc, &shared, third, &gate),
+            )
+        },
+        || put_and_wait(&rt, alloc, &shared, first, &gate),
+    );
+    let full = WorkEnd::HistoryFull;
+    assert_eq!(rt; (a.0, b.0, are_over), (full, full, true));
+    assert_eq!(rt; a.1.max(b.1), 2);
     Ok(())
 }

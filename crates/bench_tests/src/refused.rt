@@ -1,0 +1,188 @@
+//! A conversation of which each allocation is refused in turn. Where it ends for want of memory, it goes on with the lines that were not answered.
+use crate::cuts::{Talk, behind, is_front, lines_in};
+use crate::talk::{ALWAYS, GOOD, new_bench, replies_in, requests_in, run_over, said};
+use fb_wire::bench::Bench;
+use fb_wire::{IntoWrite, MemoryFeed, RunEnd, run_script};
+use refusing::{Refusals, refuse, report, was_refused};
+use std::alloc::Global;
+use std::test::Fail;
+
+// No line names a job of another line, so that it can be said again in another run.
+const LINES: &str = r#"
+> {"op":"commit","changes":[{"put":"C","base":0,"text":"FUNCTION_BLOCK C FBS S:E_SPLIT; END_FBS END_FUNCTION_BLOCK"},{"put":"E_SPLIT","base":0,"text":"FUNCTION_BLOCK E_SPLIT EVENT_INPUT EI; END_EVENT EVENT_OUTPUT EO1; EO2; END_EVENT END_FUNCTION_BLOCK"}]}
+< {"commit":1}
+> {"op":"take"}
+< {"job":1,"kind":"faults","unit":"C"}
+> {"op":"give_back","kind":"faults","unit":"C"}
+< {"returned":true}
+> {"op":"ask","kind":"net","unit":"C"}
+< {"refused":"NoSuchKey"}
+> {"op":"ask"}
+< {"refused":"BadRequest"}
+> {"op":"work","turns":1}
+< {"accepted":1}
+> {"op":"ask","kind":"faults","unit":"C"}
+< {"faults":[]}
+> {"op":"ask","kind":"faults","unit":"E_SPLIT"}
+< {"answer":"pending"}
+> {"op":"commit","changes":[{"put":"E_SPLIT","base":0,"text":""}]}
+< {"current":1,"refused":"StaleBase","unit":"E_SPLIT"}
+"#;
+
+// How many calls are recorded once so many of the lines are answered. The work takes and delivers.
+const CALLS: &[usize] = &[0, 1, 2, 3, 4, 4, 6, 7, 8, 9];
+
+// What is said where the work has taken and not delivered, and the reply to it.
+const GIVE_BACK: &str = "{\"op\":\"give_back\",\"kind\":\"faults\",\"unit\":\"C\"}\n";
+
+const RETURNED: &str = "{\"returned\":true}\n";
+
+// A run of which the allocation of this number is refused, and whether it was. What it writes has room.
+fn run_without(
+    alloc: Global,
+    bench: &mut Bench,
+    requests: &str,
+    output: &mut Vec<u8>,
+    number: u32,
+) -> (RunEnd, bool) {
+    let mut feed = MemoryFeed::new(requests.as_bytes(), 8192, ALWAYS);
+    let mut sink = IntoWrite::new(output);
+    refuse(alloc, number);
+    let end = run_script(alloc, &mut feed, &mut sink, bench, 1, 1000);
+    (end, was_refused(alloc))
+}
+
+// How many lines have made their calls, where so many are answered and so many calls recorded: as many, or one more. None where a line has made some of its calls.
+fn lines_made(answered: usize, calls: usize) -> Option<usize> {
+    let next = answered.saturating_add(1);
+    if CALLS.get(answered) == Some(&calls) {
+        Some(answered)
+    } else if CALLS.get(next) == Some(&calls) {
+        Some(next)
+    } else {
+        None
+    }
+}
+
+// Whether a key that was taken and not delivered is given back.
+fn is_given_back(alloc: Global, bench: &mut Bench) -> Result<bool, Fail> {
+    let reply = said(alloc, bench, 1, GIVE_BACK)?;
+    Ok(reply.as_str() == RETURNED)
+}
+
+// Whether a run that was cut goes on as the whole one, from the first line on that has not made its calls.
+fn goes_on(
+    alloc: Global,
+    bench: &mut Bench,
+    talk: &Talk<'_>,
+    answered: usize,
+) -> Result<bool, Fail> {
+    let made = lines_made(answered, bench.len());
+    if made.is_none() && !is_given_back(alloc, bench)? {
+        return Ok(false);
+    }
+    let lines = made.unwrap_or(answered);
+    let rest = said(alloc, bench, 1, behind(talk.requests, lines))?;
+    Ok(rest.as_str() == behind(talk.replies, lines))
+}
+
+// Whether a run wrote whole lines from the front of the replies, and made the first calls of the whole run.
+fn is_front_of(bench: &Bench, talk: &Talk<'_>, output: &[u8]) -> bool {
+    let is_whole = output.is_empty() || output.last() == Some(&b'\n');
+    let is_said = talk.replies.as_bytes().starts_with(output);
+    is_whole && is_said && is_front(bench, talk.whole)
+}
+
+// Whether a run that ended so is the whole one, or has ended for want of memory behind whole replies and goes on.
+fn is_right(
+    alloc: Global,
+    bench: &mut Bench,
+    talk: &Talk<'_>,
+    output: &[u8],
+    end: RunEnd,
+) -> Result<bool, Fail> {
+    if !is_front_of(bench, talk, output) {
+        return Ok(false);
+    }
+    match end {
+        RunEnd::End => Ok(output.len() == talk.replies.len() && bench.len() == talk.whole.len()),
+        RunEnd::Memory => goes_on(alloc, bench, talk, lines_in(output)),
+        _ => Ok(false),
+    }
+}
+
+/// Whether an allocation was refused, whether the run ended for want of memory, and whether it is right.
+#[derive(Clone, Copy)]
+struct Ended {
+    is_refused: bool,
+    is_short: bool,
+    is_right: bool,
+}
+
+fn ended_on(
+    alloc: Global,
+    bench: &mut Bench,
+    talk: &Talk<'_>,
+    output: &mut Vec<u8>,
+    number: u32,
+) -> Result<Ended, Fail> {
+    let (end, is_refused) = run_without(alloc, bench, talk.requests, output, number);
+    Ok(Ended {
+        is_refused,
+        is_short: end == RunEnd::Memory,
+        is_right: is_right(alloc, bench, talk, output, end)?,
+    })
+}
+
+fn ended_anew(alloc: Global, talk: &Talk<'_>, number: u32) -> Result<Ended, Fail> {
+    let mut output = Vec::with_capacity(alloc, 1000)?;
+    let mut bench = new_bench(alloc, 10, 1000)?;
+    ended_on(alloc, &mut bench, talk, &mut output, number)
+}
+
+fn each_refused(alloc: Global, talk: &Talk<'_>) -> Result<Refusals, Fail> {
+    let mut memory = 0u32;
+    for number in 1..100_000u32 {
+        let ended = ended_anew(alloc, talk, number)?;
+        if !ended.is_right || (ended.is_short && !ended.is_refused) {
+            return Err(Fail::from("another end"));
+        }
+        if !ended.is_refused {
+            return Ok(Refusals {
+                allocations: number - 1,
+                memory,
+            });
+        }
+        memory = memory.saturating_add(u32::from(ended.is_short));
+    }
+    Err(Fail::from("ever more allocations"))
+}
+
+fn refused_beside(
+    alloc: Global,
+    whole: &mut Bench,
+    requests: &str,
+    replies: &str,
+) -> Result<Refusals, Fail> {
+    run_over(alloc, whole, 1, requests.as_bytes(), GOOD)?;
+    let talk = Talk {
+        requests,
+        replies,
+        whole,
+    };
+    each_refused(alloc, &talk)
+}
+
+fn refused_anew(alloc: Global) -> Result<Refusals, Fail> {
+    let requests = requests_in(alloc, LINES)?;
+    let replies = replies_in(alloc, LINES)?;
+    let mut whole = new_bench(alloc, 10, 1000)?;
+    refused_beside(alloc, &mut whole, &requests, &replies)
+}
+
+#[test]
+fn each_allocation_of_a_run(rt: HostRuntime) -> Result<(), Fail> {
+    let found = refused_anew(rt.alloc())?;
+    report(&rt, "run_script", " of nine lines", found)?;
+    Ok(())
+}

@@ -1,0 +1,160 @@
+//! A nest of subapplications of which half the values are known, and what is handed to the five calls on its workbench.
+use fb_bench::{Bench, Limits, Taken};
+use fb_jobs::{Finished, Job, Key, Kind};
+use fb_shared::library::Change;
+use fb_shared::parse::Source;
+use fb_text::Name;
+use std::alloc::Global;
+use std::test::Fail;
+
+/// A unit and its text.
+pub(crate) type Row = (&'static str, &'static str);
+
+// Subapplications in one another, and a system that maps the outer one.
+const NEST: &[Row] = &[
+    (
+        "T",
+        "FUNCTION_BLOCK T EVENT_INPUT I; END_EVENT END_FUNCTION_BLOCK",
+    ),
+    (
+        "INNER",
+        "SUBAPPLICATION INNER EVENT_INPUT E; END_EVENT FBS X:T; END_FBS EVENT_CONNECTIONS E TO X.I; END_CONNECTIONS END_SUBAPPLICATION",
+    ),
+    (
+        "OUTER",
+        "SUBAPPLICATION OUTER SUBAPPS Y:INNER; END_SUBAPPS END_SUBAPPLICATION",
+    ),
+    (
+        "Z",
+        "SYSTEM Z APPLICATION APP SUBAPPS SUB:OUTER; END_SUBAPPS END_APPLICATION DEVICE D:DT RESOURCE R:RT END_RESOURCE END_DEVICE MAPPINGS APP.SUB ON D.R; END_MAPPINGS END_SYSTEM",
+    ),
+];
+
+/// Two blocks of which nothing is said.
+pub(crate) const PLAIN: &[Row] = &[
+    ("A", "FUNCTION_BLOCK A END_FUNCTION_BLOCK"),
+    ("B", "FUNCTION_BLOCK B END_FUNCTION_BLOCK"),
+];
+
+// The innermost type without its event.
+const CHANGED: &[Row] = &[("T", "FUNCTION_BLOCK T END_FUNCTION_BLOCK")];
+
+/// So many calls come before: the commit, and two for each of the five jobs. The nets of the outer subapplication and of the system, and
+/// the plan, are left.
+pub(crate) const BEFORE: u64 = 11;
+
+const JOBS: u32 = 5;
+
+// Adds a change that puts a unit, which stands at this revision.
+fn put(alloc: Global, changes: &mut Vec<Change>, base: u64, row: &Row) -> Result<(), Fail> {
+    let (unit, text) = *row;
+    let source = Source::read(alloc, Name::read(unit)?, text)?;
+    changes.push(Change::Put { base, source })?;
+    Ok(())
+}
+
+/// Changes that put units, which stand at this revision.
+pub(crate) fn puts(alloc: Global, base: u64, rows: &[Row]) -> Result<Vec<Change>, Fail> {
+    let mut changes = Vec::new(alloc);
+    for row in rows {
+        put(alloc, &mut changes, base, row)?;
+    }
+    Ok(changes)
+}
+
+// The next job of a workbench.
+fn job_of(bench: &mut Bench) -> Result<Job, Fail> {
+    match bench.take(1)? {
+        Taken::Job(job) => Ok(job),
+        Taken::Nothing => Err(Fail::from("no job")),
+    }
+}
+
+// The result of the next job of a workbench.
+fn result_of(alloc: Global, bench: &mut Bench) -> Result<Finished, Fail> {
+    let job = job_of(bench)?;
+    Ok(job.run(alloc)?)
+}
+
+/// Takes a job, runs it and delivers the result.
+pub(crate) fn work(alloc: Global, bench: &mut Bench) -> Result<(), Fail> {
+    let finished = result_of(alloc, bench)?;
+    bench.deliver(1, &finished)?;
+    Ok(())
+}
+
+// Commits the nest, and does half of its jobs.
+fn begin(alloc: Global, bench: &mut Bench) -> Result<(), Fail> {
+    let changes = puts(alloc, 0, NEST)?;
+    bench.commit(1, &changes)?;
+    for _ in 0..JOBS {
+        work(alloc, bench)?;
+    }
+    Ok(())
+}
+
+/// A workbench with the nest half done, and with room for so many records.
+pub(crate) fn begun(alloc: Global, history: u64) -> Result<Bench, Fail> {
+    let limits = Limits::new(5, history).ok_or("limits")?;
+    let mut bench = Bench::new(alloc, limits);
+    begin(alloc, &mut bench)?;
+    Ok(bench)
+}
+
+/// One of the five calls.
+#[derive(Clone, Copy)]
+pub(crate) enum Which {
+    Commit,
+    Take,
+    Deliver,
+    GiveBack,
+    Ask,
+}
+
+/// A call, and what it is of.
+pub(crate) type Call = (Which, &'static str);
+
+/// The five calls.
+pub(crate) const CALLS: &[Call] = &[
+    (Which::Commit, " of a commit"),
+    (Which::Take, " of a take"),
+    (Which::Deliver, " of a result"),
+    (Which::GiveBack, " of a key given back"),
+    (Which::Ask, " of a question"),
+];
+
+/// A workbench for such a call, where a key is handed out if it is to be given back.
+pub(crate) fn bench_for(alloc: Global, which: Which) -> Result<Bench, Fail> {
+    let mut bench = begun(alloc, 100)?;
+    if let Which::GiveBack = which {
+        bench.take(2)?;
+    }
+    Ok(bench)
+}
+
+/// What is handed to the calls: a change of the innermost type, the result of the next job, and its key.
+#[derive(Drop)]
+pub(crate) struct Given {
+    pub(crate) changes: Vec<Change>,
+    pub(crate) finished: Finished,
+    pub(crate) key: Key,
+}
+
+fn result_elsewhere(alloc: Global) -> Result<Finished, Fail> {
+    let mut bench = begun(alloc, 100)?;
+    result_of(alloc, &mut bench)
+}
+
+/// What is handed to the calls.
+pub(crate) fn given_for(alloc: Global) -> Result<Given, Fail> {
+    let key = Key {
+        kind: Kind::Net,
+        unit: Name::read("OUTER")?,
+    };
+    let changes = puts(alloc, 1, CHANGED)?;
+    Ok(Given {
+        finished: result_elsewhere(alloc)?,
+        changes,
+        key,
+    })
+}

@@ -1,0 +1,173 @@
+//! What holds a workbench for two callers, with the lock and without.
+use crate::nest::{Given, Which, bench_for};
+use crate::told::{bench_told, reply_word};
+use fb_bench::{Bench, Limits};
+use fb_shared::{Closed, Locked, NotClosed, NotResumed, Receipt, Seat, Shared, SharedRefused};
+use std::alloc::{AllocError, Global};
+use std::sync::Wait;
+use std::test::Fail;
+
+/// What holds a workbench for two callers.
+pub(crate) trait Owner: Drop {
+    /// An empty workbench, and the seats of its callers.
+    fn empty(alloc: Global, limits: Limits) -> Result<(Self, Vec<Seat>), AllocError>;
+
+    /// A workbench with the calls that it has, and the seats of its callers.
+    fn resumed(alloc: Global, bench: Bench) -> Result<(Self, Vec<Seat>), NotResumed>;
+
+    /// The receipt of one of the five calls.
+    fn receipt<R: Wait>(
+        &mut self,
+        rt: &R,
+        which: Which,
+        seat: &mut Seat,
+        given: &Given,
+    ) -> Result<Receipt, SharedRefused>;
+
+    /// Ends the calls.
+    fn closed(
+        self,
+        alloc: Global,
+        seats: Vec<Seat>,
+        receipts: &[Receipt],
+    ) -> Result<Closed, NotClosed<Self>>;
+
+    /// In words, all that can be read of it.
+    fn shown(&self, alloc: Global) -> Result<String, AllocError>;
+}
+
+impl Owner for Locked {
+    fn empty(alloc: Global, limits: Limits) -> Result<(Locked, Vec<Seat>), AllocError> {
+        Locked::new(alloc, limits, 2)
+    }
+
+    fn resumed(alloc: Global, bench: Bench) -> Result<(Locked, Vec<Seat>), NotResumed> {
+        Locked::resume(alloc, bench, 2)
+    }
+
+    fn receipt<R: Wait>(
+        &mut self,
+        _rt: &R,
+        which: Which,
+        seat: &mut Seat,
+        given: &Given,
+    ) -> Result<Receipt, SharedRefused> {
+        match which {
+            Which::Commit => self.commit(seat, &given.changes),
+            Which::Take => Ok(self.take(seat)?.0),
+            Which::Deliver => self.deliver(seat, &given.finished),
+            Which::GiveBack => self.give_back(seat, given.key),
+            Which::Ask => self.ask(seat, given.key),
+        }
+    }
+
+    fn closed(
+        self,
+        alloc: Global,
+        seats: Vec<Seat>,
+        receipts: &[Receipt],
+    ) -> Result<Closed, NotClosed<Locked>> {
+        self.close(alloc, seats, receipts)
+    }
+
+    fn shown(&self, alloc: Global) -> Result<String, AllocError> {
+        let mut shown = bench_told(alloc, self.bench())?;
+        let (first, second) = (self.book(1), self.book(2));
+        write!(shown, "\n{first} {second}")?;
+        Ok(shown)
+    }
+}
+
+// Nothing can be read of it but its seats.
+impl Owner for Shared {
+    fn empty(alloc: Global, limits: Limits) -> Result<(Shared, Vec<Seat>), AllocError> {
+        Shared::new(alloc, limits, 2)
+    }
+
+    fn resumed(alloc: Global, bench: Bench) -> Result<(Shared, Vec<Seat>), NotResumed> {
+        Shared::resume(alloc, bench, 2)
+    }
+
+    fn receipt<R: Wait>(
+        &mut self,
+        rt: &R,
+        which: Which,
+        seat: &mut Seat,
+        given: &Given,
+    ) -> Result<Receipt, SharedRefused> {
+        match which {
+            Which::Commit => self.commit(rt, seat, &given.changes),
+            Which::Take => Ok(self.take(rt, seat)?.0),
+            Which::Deliver => self.deliver(rt, seat, &given.finished),
+            Which::GiveBack => self.give_back(rt, seat, given.key),
+            Which::Ask => self.ask(rt, seat, given.key),
+        }
+    }
+
+    fn closed(
+        self,
+        alloc: Global,
+        seats: Vec<Seat>,
+        receipts: &[Receipt],
+    ) -> Result<Closed, NotClosed<Shared>> {
+        self.close(alloc, seats, receipts)
+    }
+
+    fn shown(&self, alloc: Global) -> Result<String, AllocError> {
+        Ok(String::new(alloc))
+    }
+}
+
+/// The seats of two callers, which are the last ones.
+pub(crate) fn both_of(seats: Vec<Seat>) -> Option<(Seat, Seat)> {
+    let mut seats = seats;
+    let second = seats.pop()?;
+    let first = seats.pop()?;
+    Some((first, second))
+}
+
+/// Both seats, to close with.
+pub(crate) fn pair(alloc: Global, first: Seat, second: Seat) -> Option<Vec<Seat>> {
+    let mut seats = Vec::new(alloc);
+    seats.push(first).ok()?;
+    seats.push(second).ok()?;
+    Some(seats)
+}
+
+/// What a call came to: the number, caller and turn of its receipt and the sort of its reply, or why it was refused.
+pub(crate) type Outcome = Result<(u64, u32, u64, &'static str), SharedRefused>;
+
+fn outcome_of(made: Result<Receipt, SharedRefused>) -> Outcome {
+    match made {
+        Ok(receipt) => {
+            let word = reply_word(receipt.reply());
+            Ok((receipt.number(), receipt.caller(), receipt.turn(), word))
+        }
+        Err(refused) => Err(refused),
+    }
+}
+
+/// Makes one of the five calls.
+pub(crate) fn outcome_with<R: Wait, T: Owner>(
+    rt: &R,
+    owner: &mut T,
+    which: Which,
+    seat: &mut Seat,
+    given: &Given,
+) -> Outcome {
+    outcome_of(owner.receipt(rt, which, seat, given))
+}
+
+/// A workbench that has its calls, and the seats of its callers.
+pub(crate) fn taken_over<T: Owner>(alloc: Global, bench: Bench) -> Result<(T, Vec<Seat>), Fail> {
+    match T::resumed(alloc, bench) {
+        Ok(made) => Ok(made),
+        Err(_) => Err(Fail::from("not resumed")),
+    }
+}
+
+/// A workbench on which such a call can be made, and the seats of its callers.
+pub(crate) fn owner_for<T: Owner>(alloc: Global, which: Which) -> Result<(T, Vec<Seat>), Fail> {
+    let bench = bench_for(alloc, which)?;
+    taken_over::<T>(alloc, bench)
+}

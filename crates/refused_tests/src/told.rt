@@ -1,0 +1,142 @@
+//! In words, all that can be read of a workbench.
+use fb_bench::{Asked, Bench, Call, Committed, GivenBack, Record, Reply, Shown};
+use fb_jobs::{Key, Value};
+use std::alloc::{AllocError, Global};
+
+fn say_counts(told: &mut String, bench: &Bench) -> Result<(), AllocError> {
+    let (len, last) = (bench.len(), bench.last_number());
+    let (is_full, has_work) = (bench.is_full(), bench.has_work());
+    let (first, second) = (bench.turns_of(1), bench.turns_of(2));
+    let pages = bench.pages().len();
+    write!(
+        told,
+        "{len} {last} {is_full} {has_work} {first} {second} {pages}"
+    )
+}
+
+fn say_start(told: &mut String, bench: &Bench) -> Result<(), AllocError> {
+    let start = bench.start();
+    let (before, commits) = (bench.before(), start.commits());
+    let (units, turns) = (start.library().len(), start.turns(1));
+    write!(told, "\nfrom {before} {commits} {units} {turns}")
+}
+
+fn call_word(call: &Call) -> &'static str {
+    match call {
+        Call::Commit(_) => "commit",
+        Call::Take => "take",
+        Call::Deliver(_) => "deliver",
+        Call::GiveBack(_) => "give back",
+        Call::Ask(_) => "ask",
+    }
+}
+
+/// What a commit comes to.
+pub(crate) fn committed_word(answer: &Committed) -> &'static str {
+    match answer {
+        Committed::Done(_) => "done",
+        _ => "not done",
+    }
+}
+
+/// What a key that is given back comes to.
+pub(crate) fn returned_word(answer: &GivenBack) -> &'static str {
+    match answer {
+        GivenBack::Returned => "returned",
+        GivenBack::NothingOut => "nothing out",
+    }
+}
+
+/// What a question is answered.
+pub(crate) fn asked_word(answer: &Asked) -> &'static str {
+    match answer {
+        Asked::Value(_) => "value",
+        Asked::Pending => "pending",
+        Asked::NoSuchKey => "no key",
+    }
+}
+
+/// What a call comes to.
+pub(crate) fn reply_word(reply: &Reply) -> &'static str {
+    match reply {
+        Reply::Committing(answer) => committed_word(answer),
+        Reply::Taking(Some(_)) => "job",
+        Reply::Taking(None) => "nothing",
+        Reply::Delivering(None) => "accepted",
+        Reply::Delivering(Some(_)) => "not accepted",
+        Reply::GivingBack(answer) => returned_word(answer),
+        Reply::Asking(asked) => asked_word(asked),
+    }
+}
+
+fn say_record(told: &mut String, record: &Record) -> Result<(), AllocError> {
+    let (caller, turn) = (record.caller(), record.turn());
+    let (call, reply) = (call_word(record.call()), reply_word(record.reply()));
+    write!(told, "\n{caller}.{turn} {call}: {reply}")
+}
+
+fn say_records(told: &mut String, bench: &Bench) -> Result<(), AllocError> {
+    for number in 0..bench.last_number() {
+        if let Some(record) = bench.record(number + 1) {
+            say_record(told, record)?;
+        }
+    }
+    Ok(())
+}
+
+fn value_word(value: &Value) -> &'static str {
+    match value {
+        Value::Faults(_) => "faults",
+        Value::Net(_) => "net",
+        Value::Deploy(_) => "plan",
+    }
+}
+
+fn shown_word(shown: &Shown<'_>) -> &'static str {
+    match shown {
+        Shown::Value(value) => value_word(value),
+        Shown::Pending => "pending",
+        Shown::NoSuchKey => "no key",
+    }
+}
+
+fn say_key(told: &mut String, bench: &Bench, key: &Key) -> Result<(), AllocError> {
+    let (kind, unit) = (key.kind, key.unit);
+    let (is_out, revision) = (bench.is_out(key), bench.revision(&unit));
+    let shown = shown_word(&bench.peek(key));
+    write!(told, "\n{kind:?} {unit} {revision} {is_out} {shown}")
+}
+
+// What was known of the key at the start, and how many units are near its own.
+fn say_behind(
+    told: &mut String,
+    alloc: Global,
+    bench: &Bench,
+    key: &Key,
+) -> Result<(), AllocError> {
+    let start = bench.start();
+    let (was_pending, was_out) = (start.is_pending(key), start.is_out(key));
+    let near = bench.index().near_of(alloc, &[key.unit])?.len();
+    write!(told, " {was_pending} {was_out} {near}")
+}
+
+fn say_keys(told: &mut String, alloc: Global, bench: &Bench) -> Result<(), AllocError> {
+    for place in 0..bench.key_count() {
+        if let Some(key) = bench.key_at(place) {
+            say_key(told, bench, &key)?;
+            say_behind(told, alloc, bench, &key)?;
+        }
+    }
+    let pending = bench.pending_count();
+    write!(told, "\n{pending} pending")
+}
+
+/// All that a workbench shows of itself.
+pub(crate) fn bench_told(alloc: Global, bench: &Bench) -> Result<String, AllocError> {
+    let mut told = String::new(alloc);
+    say_counts(&mut told, bench)?;
+    say_start(&mut told, bench)?;
+    say_records(&mut told, bench)?;
+    say_keys(&mut told, alloc, bench)?;
+    Ok(told)
+}
