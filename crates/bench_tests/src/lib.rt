@@ -13,6 +13,8 @@ mod jobs;
 #[cfg(test)]
 mod kept;
 #[cfg(test)]
+mod left;
+#[cfg(test)]
 mod nets;
 #[cfg(test)]
 mod plans;

@@ -88,22 +88,22 @@ agrees_take units commits old new s k agrees ready marked left = record {
 
 -- ---- after a result that is accepted
 
-pub deliver_fits : (s : State) (k q : Key) (o : Option Entry) (v : Arc Value Global) (b : Bool) → same_key k q ≡ b → finding_of v.value ≡ scratch s.units k → EntryFits s q o → EntryFits (after_deliver Accepted k s) q (cond b (option_map (with_value v) o) o)
-deliver_fits s k q None v true same value fits = (fits.0, ap (λ b. not b && s.pending q) same, ap (λ b. not b && s.out q) same)
-deliver_fits s k q (Some it) v true same value fits =
+pub deliver_fits : (s : State) (k q : Key) (o : Option Entry) (v : Arc Value Global) (made : PlainJob) (b : Bool) → same_key k q ≡ b → finding_of v.value ≡ scratch s.units k → EntryFits s q o → EntryFits (after_deliver Accepted k s) q (cond b (option_map (with_value v made) o) o)
+deliver_fits s k q None v made true same value fits = (fits.0, ap (λ b. not b && s.pending q) same, ap (λ b. not b && s.out q) same)
+deliver_fits s k q (Some it) v made true same value fits =
     (fits.0, ap (λ b. not b && s.pending q) same, ap (λ b. not b && s.out q) same, value ∙ ap (λ x. scratch s.units x) (keys_equal k q same), tt)
-deliver_fits s k q None v false same value fits = (fits.0, ap (λ b. not b && s.pending q) same ∙ fits.1, ap (λ b. not b && s.out q) same ∙ fits.2)
-deliver_fits s k q (Some it) v false same value fits = (fits.0, ap (λ b. not b && s.pending q) same ∙ fits.1, ap (λ b. not b && s.out q) same ∙ fits.2, fits.3, fits.4)
+deliver_fits s k q None v made false same value fits = (fits.0, ap (λ b. not b && s.pending q) same ∙ fits.1, ap (λ b. not b && s.out q) same ∙ fits.2)
+deliver_fits s k q (Some it) v made false same value fits = (fits.0, ap (λ b. not b && s.pending q) same ∙ fits.1, ap (λ b. not b && s.out q) same ∙ fits.2, fits.3, fits.4)
 
 pub deliver_ready : (s : State) (k q : Key) (b now : Bool) → same_key k q ≡ b → now ≡ is_ready s q → cond b false now ≡ is_ready (after_deliver Accepted k s) q
 deliver_ready s k q true now same was = sym (ap (λ b. (not b && s.pending q) && not (not b && s.out q)) same)
 deliver_ready s k q false now same was = was ∙ sym (ap (λ b. (not b && s.pending q) && not (not b && s.out q)) same)
 
-pub agrees_deliver : (units : Texts) (commits : ℕ) (old new : Keyed) (s : State) (k : Key) (v : Arc Value Global) → Agrees units commits old s → finding_of v.value ≡ scratch s.units k → ChangesEntry k (with_value v) (entry_at old) (entry_at new) → MarksKey k false (can_take old) (can_take new) → Agrees units commits new (after_deliver Accepted k s)
-agrees_deliver units commits old new s k v agrees value marked left = record {
+pub agrees_deliver : (units : Texts) (commits : ℕ) (old new : Keyed) (s : State) (k : Key) (v : Arc Value Global) (made : PlainJob) → Agrees units commits old s → finding_of v.value ≡ scratch s.units k → ChangesEntry k (with_value v made) (entry_at old) (entry_at new) → MarksKey k false (can_take old) (can_take new) → Agrees units commits new (after_deliver Accepted k s)
+agrees_deliver units commits old new s k v made agrees value marked left = record {
   units_are = agrees.units_are;
   commits_are = agrees.commits_are;
-  each = λ q. subst (λ o. EntryFits (after_deliver Accepted k s) q o) (sym (marked q)) (deliver_fits s k q (entry_at old q) v (same_key k q) refl value (agrees.each q));
+  each = λ q. subst (λ o. EntryFits (after_deliver Accepted k s) q o) (sym (marked q)) (deliver_fits s k q (entry_at old q) v made (same_key k q) refl value (agrees.each q));
   ready_are = λ q. left q ∙ deliver_ready s k q (same_key k q) (can_take old q) refl (agrees.ready_are q);
 }
 

@@ -466,11 +466,12 @@ impl Bench {
         ensures err { OnErr result (self.new ≡ self.old) }
     {
         let value = finished.value().clone()?;
+        let made = finished.made()?;
         let found = shares_of(self.alloc, finished.found())?;
         let answer = Reply::Delivering(None);
         let share = self.history.push(caller, call, answer)?;
         let key = finished.key();
-        self.entries.keep(&key, value);
+        self.entries.keep(&key, value, made);
         keep_all(&mut self.entries, found);
         Ok(share)
     }

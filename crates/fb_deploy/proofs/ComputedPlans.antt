@@ -4,14 +4,13 @@ use Rattle.std.proofs.lemmas.Bool.{false≢true}
 use Rattle.std.specs.Prelude.{◌↔◌, IsTrue, is_some, option_map}
 use Rattle.fb_mapping.specs.Tree.Tree.{DeclTree, block_type, adapter_type, subapplication_type, system_configuration, structure_type}
 use Rattle.fb_mapping.specs.Library.View.{Sources, tree_at}
-use Rattle.fb_mapping.specs.Library.Rests.{itself}
 use Rattle.fb_mapping.specs.Flatten.Net.{PlainNet}
 use Rattle.fb_mapping.specs.Flatten.Nets.{net_at, net_in, net_of_tree}
 use Rattle.fb_mapping.specs.Flatten.Tables.{is_system_tree}
 use Rattle.fb_mapping.specs.Placed.{IsSystem}
 use Rattle.fb_mapping.proofs.Flatten.ComputedNets.{net_at_is, net_at_local}
 use Rattle.fb_mapping.proofs.KindLemmas.{no_system, system_kind}
-use Rattle.fb_mapping.proofs.Placing.StandingLocal.{tree_same}
+use Rattle.fb_mapping.proofs.Placing.StandingLocal.{own_tree, same_standings}
 use Rattle.fb_deploy.specs.Deploy.{PlainDeploy, IsPlan, planned_by}
 use Rattle.fb_deploy.specs.Plans.{HasPlanByText, PlanAtIsLocal, PlanAtIsPlan, PlanAtOfSystems, has_plan_in, plan_at}
 use Rattle.fb_deploy.proofs.PlanLocal.{one_plan_only, planned_same}
@@ -94,5 +93,5 @@ pub plan_at_local : PlanAtIsLocal
 unfolding plan_at
 plan_at_local a b unit agree =
     ap (λ (n : Option PlainNet). if has_plan_in (tree_at a unit) then option_map (planned_by a unit) n else None) (net_at_local a b unit agree)
-    ∙ ap (λ (f : PlainNet → PlainDeploy). if has_plan_in (tree_at a unit) then option_map f (net_at b unit) else None) (λ i net. planned_same a b unit agree net i)
-    ∙ ap (λ (t : Option DeclTree). if has_plan_in t then option_map (planned_by b unit) (net_at b unit) else None) (tree_same a b unit agree unit itself)
+    ∙ ap (λ (f : PlainNet → PlainDeploy). if has_plan_in (tree_at a unit) then option_map f (net_at b unit) else None) (λ i net. planned_same a b unit (same_standings a b unit agree) net i)
+    ∙ ap (λ (t : Option DeclTree). if has_plan_in t then option_map (planned_by b unit) (net_at b unit) else None) (own_tree a b unit (same_standings a b unit agree))

@@ -2,7 +2,6 @@
 use Rattle.std.proofs.Common.{ℕ, ◌≡◌, ◌++◌, List, Option, refl, sym, ◌∙◌, ap, map}
 use Rattle.fb_mapping.specs.Tree.Tree.{DeclTree}
 use Rattle.fb_mapping.specs.Library.View.{Sources, tree_at}
-use Rattle.fb_mapping.specs.Library.Rests.{itself}
 use Rattle.fb_mapping.specs.Library.Local.{AgreeFar}
 use Rattle.fb_mapping.specs.Network.PlainFlat.{PlainFlat}
 use Rattle.fb_mapping.specs.Flatten.Net.{PlainNet, blocked, recursive, too_large, flat_net}
@@ -13,7 +12,7 @@ use Rattle.fb_mapping.specs.Placing.Homes.{PlainHomes, faulty_homes, all_homes, 
 use Rattle.fb_mapping.specs.Placing.Systems.{devices_in}
 use Rattle.fb_mapping.specs.Placing.declared.homes.Home.{Home}
 use Rattle.fb_mapping.proofs.Placing.HomesLocal.{homes_same}
-use Rattle.fb_mapping.proofs.Placing.StandingLocal.{tree_same}
+use Rattle.fb_mapping.proofs.Placing.StandingLocal.{SameStandings, own_tree, same_standings}
 use Rattle.fb_mapping.proofs.Placing.LinesLocal.{write_lines_same}
 use Rattle.fb_deploy.specs.Deploy.{planned, planned_by, tree_plan, with_homes}
 use Rattle.fb_deploy.specs.Laws.{OnePlan, PlanIsLocal}
@@ -26,27 +25,27 @@ pub one_plan_only : OnePlan
 one_plan_only sources system a b p q =
     p.plan_is ∙ ap (planned_by sources system) (one_net_only sources system p.net q.net p.is_net q.is_net) ∙ sym q.plan_is
 
-module _ (a b : Sources) (system : List ℕ) (agree : AgreeFar system a b) where
+module _ (a b : Sources) (system : List ℕ) (same : SameStandings a b system) where
   tree_plan_same : (flat : PlainFlat) (homes : List Home) → tree_plan a system (tree_at a system) flat homes ≡ tree_plan b system (tree_at a system) flat homes
   tree_plan_same flat homes =
       ap (λ (lines : List Line). planned (cuts_of (home_at homes) flat.links)
       (resource_plans (map line_order (create_lines (home_at homes) flat.blocks) ++ map line_order lines ++ connection_orders (home_at homes) flat.links ++ map start_order (resources_of (devices_in (tree_at a system)))) (resources_of (devices_in (tree_at a system)))))
-      (write_lines_same a b system agree homes)
+      (write_lines_same a b system same homes)
 
   with_homes_same : (flat : PlainFlat) (homes : PlainHomes) → with_homes a system flat homes ≡ with_homes b system flat homes
   with_homes_same flat (faulty_homes found) = refl
   with_homes_same flat (all_homes homes) =
-      tree_plan_same flat homes ∙ ap (λ (t : Option DeclTree). tree_plan b system t flat homes) (tree_same a b system agree system itself)
+      tree_plan_same flat homes ∙ ap (λ (t : Option DeclTree). tree_plan b system t flat homes) (own_tree a b system same)
 
   pub planned_same : (net : PlainNet) → planned_by a system net ≡ planned_by b system net
   planned_same (blocked names) = refl
   planned_same (recursive names) = refl
   planned_same too_large = refl
-  planned_same (flat_net flat) = with_homes_same flat (homes_of a system flat.blocks) ∙ ap (with_homes b system flat) (homes_same a b system agree flat.blocks)
+  planned_same (flat_net flat) = with_homes_same flat (homes_of a system flat.blocks) ∙ ap (with_homes b system flat) (homes_same a b system same flat.blocks)
 
 pub plan_local : PlanIsLocal
 plan_local a b system agree plan p = record {
   net = p.net;
   is_net = net_local a b system agree p.net p.is_net;
-  plan_is = p.plan_is ∙ planned_same a b system agree p.net;
+  plan_is = p.plan_is ∙ planned_same a b system (same_standings a b system agree) p.net;
 }

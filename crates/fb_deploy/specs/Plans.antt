@@ -3,10 +3,12 @@ use Rattle.std.specs.Prelude.{◌≡◌, ◌↔◌, ℕ, Bool, true, if◌then�
 use Rattle.fb_mapping.specs.Tree.Tree.{DeclTree}
 use Rattle.fb_mapping.specs.Library.View.{Sources, tree_at}
 use Rattle.fb_mapping.specs.Library.Local.{AgreeFar}
+use Rattle.fb_mapping.specs.Flatten.Hints.{is_whole_net}
+use Rattle.fb_mapping.specs.Flatten.Kept.{LeavesNet}
 use Rattle.fb_mapping.specs.Flatten.Nets.{net_at}
 use Rattle.fb_mapping.specs.Flatten.Tables.{is_system_in}
 use Rattle.fb_mapping.specs.Placed.{IsSystem}
-use Rattle.fb_deploy.specs.Deploy.{PlainDeploy, IsPlan, planned_by}
+use Rattle.fb_deploy.specs.Deploy.{PlainDeploy, stopped, faulty, planned, IsPlan, planned_by}
 
 -- whether a unit with this tree, or with none, has a plan
 abbrev pub has_plan_in : Option DeclTree → Bool
@@ -34,3 +36,15 @@ PlanAtIsPlan = (sources : Sources) (unit : List ℕ) (plan : PlainDeploy) → (p
 -- it depends on the texts alone that the unit rests on
 abbrev pub PlanAtIsLocal : Type 0
 PlanAtIsLocal = (a b : Sources) (unit : List ℕ) → AgreeFar unit a b → plan_at a unit ≡ plan_at b unit
+
+-- a plan by a net to which nothing was in the way
+abbrev pub is_whole_plan : PlainDeploy → Bool
+is_whole_plan (stopped net) = is_whole_net net
+is_whole_plan (faulty found) = true
+is_whole_plan (planned cuts resources) = true
+
+-- texts that leave the net of a unit as it was leave its plan so
+abbrev pub PlanIsLeft : Type 0
+PlanIsLeft =
+    (before now : Sources) (unit : List ℕ) (plan : PlainDeploy)
+    → LeavesNet before now unit → is_whole_plan plan ≡ true → plan_at before unit ≡ Some plan → plan_at now unit ≡ Some plan

@@ -1,6 +1,6 @@
 //! Laws of plans.
 ghost use Rattle.fb_deploy.specs.Laws.{OnePlan, PlanIsLocal};
-ghost use Rattle.fb_deploy.specs.Plans.{HasPlanByText, PlanAtIsLocal, PlanAtIsPlan, PlanAtOfSystems};
+ghost use Rattle.fb_deploy.specs.Plans.{HasPlanByText, PlanAtIsLocal, PlanAtIsPlan, PlanAtOfSystems, PlanIsLeft};
 
 /// A system has one plan only.
 pub fn one_plan()
@@ -30,4 +30,9 @@ pub fn plan_at_is_plan()
 /// It depends on the texts alone that the unit rests on.
 pub fn plan_at_is_local()
     ensures { PlanAtIsLocal }
+{}
+
+/// Texts that leave the net of a system as it was leave its plan so.
+pub fn plan_is_left()
+    ensures { PlanIsLeft }
 {}

@@ -1,12 +1,13 @@
 -- What small steps write to entries and to sets of keys.
 use Rattle.std.specs.Prelude.{◌≡◌, Bool, true, false, List, map, filter, Option, Some, None, is_none, if◌then◌else◌}
 use Rattle.std.specs.List.{list_any}
-use Rattle.std.specs.Option.{option_map, option_or}
+use Rattle.std.specs.Option.{option_map}
 use Rattle.std.specs.declared.sync.Arc.{Arc}
 use Rattle.std.specs.declared.alloc.Global.{Global}
 use Rattle.fb_jobs.specs.declared.key.Key.{Key}
 use Rattle.fb_jobs.specs.declared.value.Value.{Value}
 use Rattle.fb_jobs.specs.KeyOrder.{same_key}
+use Rattle.fb_jobs.specs.Reads.{PlainJob}
 use Rattle.fb_entries.specs.declared.entry.Entry.{Entry}
 
 -- whether the key is one of these
@@ -35,9 +36,9 @@ keys_with passes entries = map (λ (e : Key × Entry). e.0) (filter (λ (e : Key
 abbrev pub with_out : Bool → Entry → Entry
 with_out out it = record it { out = out }
 
--- an entry that is not handed out, with this value, and with nothing from before
-abbrev pub with_value : Arc Value Global → Entry → Entry
-with_value value it = record it { value = Some value; out = false; found = None; former = None }
+-- an entry that is not handed out, with this value, and with what made it
+abbrev pub with_value : Arc Value Global → PlainJob → Entry → Entry
+with_value value made it = record it { value = Some value; out = false; found = None; former = Some made }
 
 -- what was found for an entry that has no value
 abbrev pub unless_kept : Option (Arc Value Global) → Arc Value Global → Option (Arc Value Global)
@@ -48,9 +49,9 @@ unless_kept (Some value) found = None
 abbrev pub with_found : Arc Value Global → Entry → Entry
 with_found found it = record it { found = unless_kept it.value found }
 
--- an entry that waits for a result again: what was found for it is gone, and the value that it had last is the former one
+-- an entry that waits for a result again: what was found for it is gone
 abbrev pub waiting : Entry → Entry
-waiting it = record it { value = None; out = false; found = None; former = option_or it.value it.former }
+waiting it = record it { value = None; out = false; found = None }
 
 -- the entry of a key that is to wait for a result or not
 abbrev pub waiting_if : Bool → Option Entry → Option Entry

@@ -20,7 +20,7 @@ use crate::renewal::{
 };
 use fb_index::Index;
 use fb_index::library::{Change, Library};
-use fb_jobs::{Kept, Key, Value, keys_by_name};
+use fb_jobs::{Kept, Key, Made, Value, keys_by_name};
 use fb_text::Name;
 use std::alloc::{AllocError, Global};
 use std::collections::{BTreeMap, BTreeSet};
@@ -251,12 +251,12 @@ impl Entries {
         leave(&mut self.ready, key);
     }
 
-    /// Gives a key its value; it is not handed out then, and can't be taken.
-    pub fn keep(&mut self, key: &Key, value: Arc<Value>)
-        ensures entries { ChangesEntry key.now (with_value value) (entry_at self.old) (entry_at self.new) }
+    /// Gives a key its value, with what made it; it is not handed out then, and can't be taken.
+    pub fn keep(&mut self, key: &Key, value: Arc<Value>, made: Made)
+        ensures entries { ChangesEntry key.now (with_value value made) (entry_at self.old) (entry_at self.new) }
         ensures ready { MarksKey key.now false (can_take self.old) (can_take self.new) }
     {
-        keep(&mut self.by_key, key, value);
+        keep(&mut self.by_key, key, value, made);
         leave(&mut self.ready, key);
     }
 
@@ -285,7 +285,7 @@ impl Kept for Entries {
         self.by_key.get(key)?.found.as_ref()
     }
 
-    fn former(&self, key: &Key) -> Option<&Arc<Value>> {
+    fn former(&self, key: &Key) -> Option<&Made> {
         self.by_key.get(key)?.former.as_ref()
     }
 }

@@ -1,12 +1,11 @@
 //! What is kept of a key.
 ghost use Rattle.std.specs.Prelude.{◌≡◌, true, false, IfOk, OnOk, OnErr};
-ghost use Rattle.std.specs.Option.{option_or};
 ghost use Rattle.std.specs.BTreeMap as tree;
 ghost use Rattle.std.specs.BTreeSet as set;
 ghost use Rattle.fb_jobs.specs.KeyOrder.{key_cmp};
 ghost use Rattle.fb_entries.specs.Marking.{blank, unless_kept, with_found, with_out, with_value, ChangesEntry, RenewsEntry, MarksKey, SameKeys};
 
-use fb_jobs::{Key, Value};
+use fb_jobs::{Key, Made, Value};
 use std::alloc::{AllocError, Global};
 use std::collections::{BTreeMap, BTreeSet};
 use std::sync::Arc;
@@ -22,8 +21,8 @@ pub struct Entry {
     pub out: bool,
     /// Of a pending key its value, where a job for another key computed it on the way.
     pub found: Option<Arc<Value>>,
-    /// Of a pending key the value that it had before, to be shared where it comes out again.
-    pub former: Option<Arc<Value>>,
+    /// The value that it had last, with the texts that gave it: it is shared where it comes out again.
+    pub former: Option<Made>,
 }
 
 impl Entry {
@@ -61,15 +60,15 @@ pub(crate) fn mark_out(entries: &mut BTreeMap<Key, Entry>, key: &Key, out: bool)
     }
 }
 
-/// Gives a key that has an entry its value; the key is not handed out then.
-pub(crate) fn keep(entries: &mut BTreeMap<Key, Entry>, key: &Key, value: Arc<Value>)
-    ensures { ChangesEntry key.now (with_value value) (tree.get key_cmp entries.old) (tree.get key_cmp entries.new) }
+/// Gives a key that has an entry its value, with what made it; the key is not handed out then.
+pub(crate) fn keep(entries: &mut BTreeMap<Key, Entry>, key: &Key, value: Arc<Value>, made: Made)
+    ensures { ChangesEntry key.now (with_value value made) (tree.get key_cmp entries.old) (tree.get key_cmp entries.new) }
 {
     if let Some(entry) = entries.get_mut(key) {
         entry.value = Some(value);
         entry.out = false;
         entry.found = None;
-        entry.former = None;
+        entry.former = Some(made);
     }
 }
 
@@ -92,25 +91,14 @@ pub(crate) fn keep_found(entries: &mut BTreeMap<Key, Entry>, key: &Key, found: A
     }
 }
 
-/// The value, or else the former one.
-fn last_of(value: Option<Arc<Value>>, former: Option<Arc<Value>>) -> Option<Arc<Value>>
-    ensures { result ≡ option_or value former }
-{
-    match value {
-        Some(value) => Some(value),
-        None => former,
-    }
-}
-
 /// Lets a key that has an entry wait for a result; the key is not handed out then, and what was found for it is dropped.
 pub(crate) fn renew(entries: &mut BTreeMap<Key, Entry>, key: &Key)
     ensures { RenewsEntry key.now (tree.get key_cmp entries.old) (tree.get key_cmp entries.new) }
 {
     if let Some(entry) = entries.get_mut(key) {
-        let former = last_of(entry.value.take(), entry.former.take());
+        entry.value = None;
         let _ = entry.found.take();
         entry.out = false;
-        entry.former = former;
     }
 }
 

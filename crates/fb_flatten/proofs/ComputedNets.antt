@@ -248,7 +248,7 @@ has_by_text sources unit = by (tree_at sources unit) refl
 pub net_at_is : NetAtIsNet
 net_at_is sources unit net = (computed_is sources unit net, λ h. is_computed sources unit net h.0 h.1)
 
-same_kind : (a b : Sources) (unit : List ℕ) → get a unit ≡ get b unit → HasNet a unit → HasNet b unit
+pub same_kind : (a b : Sources) (unit : List ℕ) → get a unit ≡ get b unit → HasNet a unit → HasNet b unit
 same_kind a b unit e has = subst (λ o. (option_map unit_kind_of (option_and_then tree_of o) ≡ Some kinds.Subapplication) ⊎ (option_map unit_kind_of (option_and_then tree_of o) ≡ Some kinds.System)) e has
 
 there : (a b : Sources) (unit : List ℕ) → AgreeFar unit a b → (net : PlainNet) → net_at a unit ≡ Some net → net_at b unit ≡ Some net

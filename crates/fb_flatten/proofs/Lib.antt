@@ -12,11 +12,13 @@ pub mod MentionLemmas
 pub mod OrderLemmas
 pub mod NetLemmas
 pub mod OneNet
+pub mod SaidFar
 pub mod NetLocality
 pub mod FarNames
 pub mod Depths
 pub mod ComputedFlats
 pub mod ComputedNets
+pub mod NetLeft
 pub mod HintLemmas
 pub mod SoundLemmas
 pub mod KeptLemmas

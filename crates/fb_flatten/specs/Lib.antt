@@ -11,6 +11,7 @@ pub mod Nets
 pub mod Hints
 pub mod Suspects
 pub mod Inner
+pub mod Kept
 -- Of the crates below, for the crates above.
 pub use Rattle.fb_wiring.specs.Parse as Parse
 pub use Rattle.fb_wiring.specs.Library as Library

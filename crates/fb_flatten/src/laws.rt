@@ -1,5 +1,6 @@
 //! Laws of flat networks of units.
 ghost use Rattle.fb_flatten.specs.Far.{FarIsAll, FarOfIsLocal};
+ghost use Rattle.fb_flatten.specs.Kept.{NetIsLeft};
 ghost use Rattle.fb_flatten.specs.Laws.{NetIsLocal, OneNet};
 ghost use Rattle.fb_flatten.specs.Locality.{FlatNetworksAreLocal};
 ghost use Rattle.fb_flatten.specs.Nets.{HasNetByText, NetAtIsLocal, NetAtIsNet};
@@ -42,4 +43,10 @@ pub fn net_at_is_net()
 /// It depends on the texts alone that the unit rests on.
 pub fn net_at_is_local()
     ensures { NetAtIsLocal }
+{}
+
+/// Texts that say the same to networks as those before, and mention the same, leave a net as it was to which nothing was in the way, where
+/// all that its unit rests on is without faults.
+pub fn net_is_left()
+    ensures { NetIsLeft }
 {}

@@ -53,7 +53,7 @@ use Rattle.fb_jobs.proofs.HintLemmas.{chosen_hints, hints_stay, net_stays}
 
 -- ---- nets by the names of their units
 
-net_found : (o : Option PlainNet) (net : PlainNet) → NetFound net ≡ net_finding o → o ≡ Some net
+pub net_found : (o : Option PlainNet) (net : PlainNet) → NetFound net ≡ net_finding o → o ≡ Some net
 net_found None net e = cc
 net_found (Some other) net e = cc
 

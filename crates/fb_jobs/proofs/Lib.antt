@@ -10,6 +10,7 @@ pub mod KnownLemmas
 pub mod WorkLemmas
 pub mod Searches
 pub mod TextLemmas
+pub mod LeftLemmas
 -- Of the crates below, for the crates above.
 pub use Rattle.fb_deploy.proofs.Library as Library
 pub use Rattle.fb_deploy.proofs.Flatten as Flatten

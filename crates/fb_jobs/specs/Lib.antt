@@ -10,6 +10,7 @@ pub mod Reach
 pub mod Hints
 pub mod Known
 pub mod Work
+pub mod Left
 pub mod Finished
 -- Of the crates below, for the crates above.
 pub use Rattle.fb_deploy.specs.Parse as Parse

@@ -15,6 +15,7 @@ ghost use Rattle.fb_jobs.specs.declared.key.Kind.TheVariants as kind;
 use crate::hints::Hint;
 use crate::key::{Key, Kind};
 use crate::known::{KnownNets, own_net_in};
+use crate::made::Made;
 use crate::same::is_same_value;
 use crate::value::Value;
 use fb_deploy::faults::faults;
@@ -33,25 +34,21 @@ pub(crate) struct Worked {
 }
 
 /// The former value where the new one says the same, or else the new one.
-fn former_or(
-    alloc: Global,
-    former: &Option<Arc<Value>>,
-    value: Value,
-) -> Result<Arc<Value>, AllocError>
+fn former_or(alloc: Global, former: &Option<Made>, value: Value) -> Result<Arc<Value>, AllocError>
     ensures { IfOk result (λ shared. finding_of shared.value ≡ finding_of value) }
 {
     match former {
-        Some(former) if is_same_value(former, &value) => Ok(former.clone()?),
+        Some(made) if is_same_value(made.value(), &value) => Ok(made.value().clone()?),
         _ => Ok(Arc::new(alloc, value)?),
     }
 }
 
 /// The same of a net that is known already.
-fn former_or_own(former: &Option<Arc<Value>>, own: &Arc<Value>) -> Result<Arc<Value>, AllocError>
+fn former_or_own(former: &Option<Made>, own: &Arc<Value>) -> Result<Arc<Value>, AllocError>
     ensures { IfOk result (λ shared. finding_of shared.value ≡ finding_of own.now.value) }
 {
     match former {
-        Some(former) if is_same_value(former, own) => Ok(former.clone()?),
+        Some(made) if is_same_value(made.value(), own) => Ok(made.value().clone()?),
         _ => Ok(own.clone()?),
     }
 }
@@ -76,7 +73,7 @@ fn faults_work<V: View>(
     alloc: Global,
     view: &V,
     unit: &Name,
-    former: &Option<Arc<Value>>,
+    former: &Option<Made>,
 ) -> Result<Worked, AllocError>
     ensures { IfOk result (IsWork kind.Faults (V.sources view.now) unit.now) }
 {
@@ -94,7 +91,7 @@ fn net_work<V: View>(
     unit: Name,
     known: &KnownNets<'_>,
     own: &Option<Arc<Value>>,
-    former: &Option<Arc<Value>>,
+    former: &Option<Made>,
 ) -> Result<Worked, AllocError>
     requires has { has_net_in (tree_at (V.sources view.now) unit) ≡ true }
     requires right { AreRightHints (V.sources view.now) (known_hints known.now) }
@@ -121,7 +118,7 @@ fn plan_value<V: View>(
     view: &V,
     system: Name,
     net: &Net,
-    former: &Option<Arc<Value>>,
+    former: &Option<Made>,
 ) -> Result<Arc<Value>, AllocError>
     requires has { has_plan_in (tree_at (V.sources view.now) system) ≡ true }
     requires net { net_at (V.sources view.now) system ≡ Some (plain_net net.now) }
@@ -139,7 +136,7 @@ fn plan_work<V: View>(
     system: Name,
     known: &KnownNets<'_>,
     own: &Option<Arc<Value>>,
-    former: &Option<Arc<Value>>,
+    former: &Option<Made>,
 ) -> Result<Worked, AllocError>
     requires has { has_plan_in (tree_at (V.sources view.now) system) ≡ true }
     requires right { AreRightHints (V.sources view.now) (known_hints known.now) }
@@ -167,7 +164,7 @@ pub(crate) fn work_of<V: View>(
     key: Key,
     known: &KnownNets<'_>,
     own: &Option<Arc<Value>>,
-    former: &Option<Arc<Value>>,
+    former: &Option<Made>,
 ) -> Result<Worked, AllocError>
     requires has { has_kind_at key.kind (map.get (V.sources view.now) key.unit) ≡ true }
     requires right { AreRightHints (V.sources view.now) (known_hints known.now) }

@@ -1,5 +1,5 @@
 //! Jobs.
-ghost use Rattle.std.specs.Prelude.{◌≡◌, true, IfOk, IfErr, All};
+ghost use Rattle.std.specs.Prelude.{◌≡◌, true, IfOk, IfErr, IfSome, All};
 ghost use Rattle.std.specs.Option.{option_map};
 ghost use Rattle.std.specs.FinMap as map;
 ghost use Rattle.std.specs.List.Sorted.{IsStrictlySortedBy};
@@ -9,16 +9,19 @@ ghost use Rattle.fb_deploy.specs.Library.Place.{IsAt, IsGapFor};
 ghost use Rattle.fb_jobs.specs.Finished.{plain_job};
 ghost use Rattle.fb_jobs.specs.Hints.{AreHints};
 ghost use Rattle.fb_jobs.specs.Kept.{AreKept};
-ghost use Rattle.fb_jobs.specs.Keys.{has_key};
+ghost use Rattle.fb_jobs.specs.Keys.{has_key, scratch};
 ghost use Rattle.fb_jobs.specs.Known.{IsKnowledge};
 ghost use Rattle.fb_jobs.specs.Reads.{IsRight, read_names, read_texts, reads_for};
-ghost use Rattle.fb_jobs.specs.Values.{all_seen, IsOwn};
+ghost use Rattle.fb_jobs.specs.Values.{all_seen, finding_of, IsOwn};
+ghost use Rattle.fb_jobs.specs.Work.{IsWork};
 
-use crate::computed::work_of;
+use crate::computed::{Worked, work_of};
 use crate::hints::Hint;
 use crate::kept::Kept;
 use crate::key::Key;
 use crate::known::{Knowledge, KnownNets, nets_of};
+use crate::left::{are_still_read, is_whole_value};
+use crate::made::Made;
 use crate::read::Read;
 use crate::reads::reads_of;
 use crate::result::Finished;
@@ -39,8 +42,8 @@ pub struct Job {
     reads: Arc<Vec<Read>>,
     texts: Arc<TextReads>,
     knowledge: Knowledge,
-    // a value that the key had once, to be shared where it comes out again
-    former: Option<Arc<Value>>,
+    // a value that the key had once, with the texts that gave it, to be shared where it comes out again
+    former: Option<Made>,
 }
 
 impl Model for Job {
@@ -93,7 +96,7 @@ impl Job {
         let (reads, texts) = reads_of(alloc, library, wanted)?;
         let knowledge = Knowledge::of_kept(alloc, library, kept, &key, &reads)?;
         let former = match kept.former(&key) {
-            Some(value) => Some(value.clone()?),
+            Some(made) => Some(made.share()?),
             None => None,
         };
         Job::of_reads(alloc, key, reads, texts, knowledge, former)
@@ -105,7 +108,7 @@ impl Job {
         reads: Vec<Read>,
         texts: TextReads,
         knowledge: Knowledge,
-        former: Option<Arc<Value>>,
+        former: Option<Made>,
     ) -> Result<Job, AllocError>
         requires right { IsRight (plain_job key reads.items) }
         requires own { All IsOwn reads.items }
@@ -152,9 +155,30 @@ impl Job {
         &self.knowledge.hints
     }
 
-    /// Computes the value that the reads give. What is taken along is not computed anew.
-    pub fn run(&self, alloc: Global) -> Result<Finished, AllocError>
-        ensures { IfOk result (λ finished. finished ≡ self.now) }
+    /// The value that the key had before, where what is read leaves it as it was: a net to which nothing was in the way, or a plan by one, of a
+    /// unit whose own text is the same, and which rests on units without faults that say to networks what they said.
+    fn left(&self, alloc: Global) -> Result<Option<&Arc<Value>>, AllocError>
+        ensures { IfOk result (λ left. IfSome left
+            (λ value. finding_of value.now.value ≡ scratch (read_texts self.now.reads) self.now.key)) }
+    {
+        let Some(made) = &self.former else {
+            return Ok(None);
+        };
+        let value = made.value();
+        if made.key() != self.key || !is_whole_value(value) {
+            return Ok(None);
+        }
+        let faultless = &self.knowledge.faultless;
+        if are_still_read(alloc, &self.key.unit, faultless, made.texts(), &self.reads)? {
+            return Ok(Some(value));
+        }
+        Ok(None)
+    }
+
+    /// Computes the value that the reads give, with what is taken along.
+    fn computed(&self, alloc: Global) -> Result<Worked, AllocError>
+        ensures { IfOk result
+            (IsWork self.now.key.kind (sources_of (read_texts self.now.reads)) self.now.key.unit) }
     {
         let nets = nets_of(alloc, &self.knowledge.hints)?;
         let known = KnownNets {
@@ -162,7 +186,27 @@ impl Job {
             faultless: &self.knowledge.faultless,
         };
         let own = &self.knowledge.own;
-        let work = work_of(alloc, self, self.key, &known, own, &self.former)?;
+        work_of(alloc, self, self.key, &known, own, &self.former)
+    }
+
+    fn worked(&self, alloc: Global) -> Result<Worked, AllocError>
+        ensures { IfOk result
+            (IsWork self.now.key.kind (sources_of (read_texts self.now.reads)) self.now.key.unit) }
+    {
+        match self.left(alloc)? {
+            Some(value) => Ok(Worked {
+                value: value.clone()?,
+                found: Vec::new(alloc),
+            }),
+            None => self.computed(alloc),
+        }
+    }
+
+    /// Computes the value that the reads give. What is taken along is not computed anew, nor is a net or a plan that what is read leaves as it was.
+    pub fn run(&self, alloc: Global) -> Result<Finished, AllocError>
+        ensures { IfOk result (λ finished. finished ≡ self.now) }
+    {
+        let work = self.worked(alloc)?;
         let reads = self.reads.clone()?;
         let texts = self.texts.clone()?;
         Ok(Finished::of_reads(self.key, reads, texts, work))

@@ -5,6 +5,7 @@ ghost use Rattle.fb_jobs.specs.Keys.{Finding};
 ghost use Rattle.fb_jobs.specs.Values.{finding_of};
 
 use crate::key::Key;
+use crate::made::Made;
 use crate::value::Value;
 use std::sync::Arc;
 
@@ -24,6 +25,6 @@ pub trait Kept {
         ensures { option_map (λ it. finding_of it.value) (option_copied result)
             ≡ found self.now key.now };
 
-    /// A value that the key had once, to be shared where it comes out again.
-    fn former(&self, key: &Key) -> Option<&Arc<Value>>;
+    /// A value that the key had once, with the texts that gave it: it is shared where it comes out again.
+    fn former(&self, key: &Key) -> Option<&Made>;
 }

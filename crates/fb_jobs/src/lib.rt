@@ -9,6 +9,8 @@ mod key;
 mod kinds;
 mod known;
 mod laws;
+mod left;
+mod made;
 mod read;
 mod reads;
 mod result;
@@ -24,6 +26,7 @@ pub use kinds::{all_kinds, keys_by_name, keys_near_and_far};
 pub use laws::{
     current_nets, current_reads, kinds_in_order, least_stale, locality, needs_in_order,
 };
+pub use made::Made;
 pub use read::{Read, has_key};
 pub use reads::needed;
 pub use result::Finished;

@@ -1,5 +1,5 @@
 //! Results of jobs.
-ghost use Rattle.std.specs.Prelude.{◌≡◌, All};
+ghost use Rattle.std.specs.Prelude.{◌≡◌, All, IfOk};
 ghost use Rattle.fb_jobs.specs.Finished.{IsFinished, plain_job};
 ghost use Rattle.fb_jobs.specs.Keys.{scratch};
 ghost use Rattle.fb_jobs.specs.Reads.{IsRight, read_texts};
@@ -9,9 +9,11 @@ ghost use Rattle.fb_jobs.specs.Work.{IsFoundFor};
 use crate::computed::Worked;
 use crate::hints::Hint;
 use crate::key::Key;
+use crate::made::Made;
 use crate::read::Read;
 use crate::texts::TextReads;
 use crate::value::Value;
+use std::alloc::AllocError;
 use std::marker::Model;
 use std::sync::Arc;
 
@@ -80,6 +82,15 @@ impl Finished {
         ensures { finding_of result.now.value ≡ scratch (read_texts self.now.reads) self.now.key }
     {
         &self.work.value
+    }
+
+    /// The value with the texts that give it.
+    pub fn made(&self) -> Result<Made, AllocError>
+        ensures { IfOk result (λ made. made ≡ self.now) }
+    {
+        let texts = self.texts.clone()?;
+        let value = self.work.value.clone()?;
+        Ok(Made::new(self.key, texts, value))
     }
 
     /// The nets of other units that were computed on the way, from scratch by the same reads.

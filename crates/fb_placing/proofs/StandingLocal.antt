@@ -1,9 +1,9 @@
--- What stands at the paths of a system depends on the texts alone that the system rests on.
+-- What stands at the paths of a system depends on the texts alone in which it is declared.
 use Rattle.std.proofs.Common.{ℕ, ◌≡◌, Bool, true, false, not, cond, List, [], ◌∷◌, Option, Some, None, refl, sym, ◌∙◌, ap, subst}
 use Rattle.std.specs.Prelude.{Contains, find, option_map, option_and_then}
 use Rattle.std.specs.Option.{option_map_or}
 use Rattle.std.specs.Str.{bytes_eq}
-use Rattle.std.specs.FinMap.{slice_cmp-IsAntisymmetric, nat_cmp-IsAntisymmetric}
+use Rattle.std.specs.FinMap.{get, slice_cmp-IsAntisymmetric, nat_cmp-IsAntisymmetric}
 use Rattle.std.specs.Cmp.Lexicographic.{nat_list_cmp_total}
 use Rattle.fb_tree.specs.Text.Order.{name_cmp}
 use Rattle.fb_tree.proofs.Text.OrderLemmas.{in_order-members}
@@ -66,10 +66,24 @@ application_mentioned (Some (system_configuration s)) a v c d =
     mentioned (system_configuration s) v (contains_flat_map (λ (x : ApplicationTree). types_in x.network.instances) s.applications a v c d)
 application_mentioned (Some (structure_type s)) a v c d = absurd (contains_nothing a c)
 
-module _ (a b : Sources) (unit : List ℕ) (agree : AgreeFar unit a b) where
-  pub tree_same : (v : List ℕ) → Rests a unit v → tree_at a v ≡ tree_at b v
-  tree_same v r = ap (option_and_then tree_of) (agree v r)
+-- what can be placed stands in the same texts in both: that of the system, and those of types that hold instances
+pub record SameStandings (a b : Sources) (unit : List ℕ) : Type 0 where
+  pub own : get a unit ≡ get b unit
+  pub instances : (v : List ℕ) → Rests a unit v → inner_instances (tree_at a v) ≡ inner_instances (tree_at b v)
+  pub texts : (v : List ℕ) (i : InstanceTree) → Rests a unit v → Contains (inner_instances (tree_at a v)) i → get a v ≡ get b v
 
+-- so it is where all texts are the same
+pub same_standings : (a b : Sources) (unit : List ℕ) → AgreeFar unit a b → SameStandings a b unit
+same_standings a b unit agree = record {
+  own = agree unit itself;
+  instances = λ v r. ap (λ (o : Option (List ℕ)). inner_instances (option_and_then tree_of o)) (agree v r);
+  texts = λ v i r c. agree v r;
+}
+
+pub own_tree : (a b : Sources) (unit : List ℕ) → SameStandings a b unit → tree_at a unit ≡ tree_at b unit
+own_tree a b unit same = ap (option_and_then tree_of) same.own
+
+module _ (a b : Sources) (unit : List ℕ) (same : SameStandings a b unit) where
   -- the unit rests on the type of the instance
   abbrev Reached : Option PlainStanding → Type 0
   Reached o = (s : PlainStanding) → o ≡ Some s → Rests a unit (type_of s)
@@ -79,7 +93,7 @@ module _ (a b : Sources) (unit : List ℕ) (agree : AgreeFar unit a b) where
       rests_on r (inner_mentioned (tree_at a (type_of s)) (type_of t) (among_typed (type_of s) (inner_instances (tree_at a (type_of s))) name t e))
 
   inside_same : (name : List ℕ) (s : PlainStanding) → Rests a unit (type_of s) → standing_inside a name s ≡ standing_inside b name s
-  inside_same name s r = ap (λ (t : Option DeclTree). standing_among (type_of s) (inner_instances t) name) (tree_same (type_of s) r)
+  inside_same name s r = ap (λ (is : List InstanceTree). standing_among (type_of s) is name) (same.instances (type_of s) r)
 
   beyond_same : (names : List (List ℕ)) (o : Option PlainStanding) → Reached o → standing_beyond a o names ≡ standing_beyond b o names
   beyond_same [] o r = refl
@@ -107,25 +121,25 @@ module _ (a b : Sources) (unit : List ℕ) (agree : AgreeFar unit a b) where
           let f = found_in (λ (x : ApplicationTree). x.name.name) (λ (x : ApplicationTree). x) apps first it e in
           from_same it (subst (λ (x : ApplicationTree). Contains apps x) f.gives f.among) names
 
-  -- the unit rests on the unit that declares the instance
+  -- the unit that declares the instance has the same text in both
   abbrev Declared : Option PlainStanding → Type 0
-  Declared o = (s : PlainStanding) → o ≡ Some s → Rests a unit s.unit
+  Declared o = (s : PlainStanding) → o ≡ Some s → get a s.unit ≡ get b s.unit
 
-  among_declared : (u : List ℕ) (instances : List InstanceTree) (name : List ℕ) → Rests a unit u → Declared (standing_among u instances name)
+  among_declared : (u : List ℕ) (instances : List InstanceTree) (name : List ℕ) → ((i : InstanceTree) → Contains instances i → get a u ≡ get b u) → Declared (standing_among u instances name)
   among_declared u instances name r s e =
       let f = found_in (λ (i : InstanceTree). i.name.name) (λ (i : InstanceTree). let it : PlainStanding = record { unit = u; instance = i } in it) instances name s e in
-      subst (λ (v : List ℕ). Rests a unit v) (ap (λ (t : PlainStanding). t.unit) f.gives) r
+      subst (λ (v : List ℕ). get a v ≡ get b v) (ap (λ (t : PlainStanding). t.unit) f.gives) (r f.item f.among)
 
   beyond_declared : (names : List (List ℕ)) (o : Option PlainStanding) → Reached o → Declared o → Declared (standing_beyond a o names)
   beyond_declared [] o r d = d
   beyond_declared (name ∷ names) None r d = λ s e. absurd (let nothing = beyond_nothing a names in let no : ⊥ = cc in no)
   beyond_declared (name ∷ names) (Some s) r d =
       beyond_declared names (standing_inside a name s) (inside_reached name s (r s refl))
-      (among_declared (type_of s) (inner_instances (tree_at a (type_of s))) name (r s refl))
+      (among_declared (type_of s) (inner_instances (tree_at a (type_of s))) name (λ i c. same.texts (type_of s) i (r s refl) c))
 
-  pub unit_reached : (names : List (List ℕ)) → Declared (standing_at a unit (applications_in (tree_at a unit)) names)
-  unit_reached [] = λ s e. absurd (let no : ⊥ = cc in no)
-  unit_reached (first ∷ names) = by_application (application_called apps first) refl
+  pub declared_alike : (names : List (List ℕ)) → Declared (standing_at a unit (applications_in (tree_at a unit)) names)
+  declared_alike [] = λ s e. absurd (let no : ⊥ = cc in no)
+  declared_alike (first ∷ names) = by_application (application_called apps first) refl
     where
       apps : List ApplicationTree
       apps = applications_in (tree_at a unit)
@@ -135,7 +149,7 @@ module _ (a b : Sources) (unit : List ℕ) (agree : AgreeFar unit a b) where
       from_declared it c (name ∷ ns) =
           beyond_declared ns (standing_among unit it.network.instances name)
           (λ s e. rests_on itself (application_mentioned (tree_at a unit) it (type_of s) c (among_typed unit it.network.instances name s e)))
-          (among_declared unit it.network.instances name itself)
+          (among_declared unit it.network.instances name (λ i c. same.own))
 
       by_application : (o : Option ApplicationTree) → application_called apps first ≡ o → Declared (option_and_then (λ (it : ApplicationTree). standing_from a unit it.network.instances names) o)
       by_application None e = λ s f. absurd (let no : ⊥ = cc in no)

@@ -38,6 +38,7 @@ use Rattle.fb_locked.specs.Placing.contracts.command.Command as Command
 use Rattle.fb_locked.specs.Placing.contracts.resources.ResourcePlan as ResourcePlan
 use Rattle.fb_locked.specs.Deploy.contracts.planning.Deploy as Deploy
 use Rattle.fb_locked.specs.Jobs.contracts.value.Value as Value
+use Rattle.fb_locked.specs.Jobs.contracts.made.Made as Made
 use Rattle.fb_locked.specs.History.contracts.record.Call as Call
 use Rattle.fb_locked.specs.History.contracts.answers.Asked as Asked
 use Rattle.fb_locked.specs.History.contracts.record.Reply as Reply
@@ -371,6 +372,9 @@ value_field_sync = search (fault_sync, net_field_sync, deploy_field_sync, crosse
 pub value_sync : IsSync Value.the_row
 value_sync = search (value_field_sync, crosses, maps.crosses, sendable) depth 60 fits 20000
 
+pub made_field_send : IsSend (Made.the_field).row
+made_field_send = search (value_send, value_sync, wanted_send, wanted_sync, crosses, maps.crosses, sendable) depth 60 fits 20000
+
 pub call_field_send : IsSend (Call.the_field).row
 call_field_send = search (wanted_send, crosses, maps.crosses, sendable) depth 60 fits 20000
 
@@ -426,7 +430,7 @@ pub start_field_send : IsSend (Start.the_field).row
 start_field_send = search (library_field_send, crosses, maps.crosses, sendable) depth 60 fits 20000
 
 pub bench_field_send : IsSend (Bench.the_field).row
-bench_field_send = search (start_field_send, index_field_send, library_field_send, record_field_send, record_field_sync, value_send, value_sync, crosses, maps.crosses, sendable) depth 60 fits 20000
+bench_field_send = search (start_field_send, index_field_send, library_field_send, record_field_send, record_field_sync, value_send, value_sync, made_field_send, crosses, maps.crosses, sendable) depth 60 fits 20000
 
 pub locked_field_send : IsSend (Locked.the_field).row
 locked_field_send = search (bench_field_send, crosses, maps.crosses, sendable) depth 60 fits 20000

@@ -1,5 +1,5 @@
 -- How a run ends, and what it has said and done by then.
-use Rattle.std.specs.Prelude.{◌≡◌, ◌↔◌, ◌≤◌, ◌+◌, ℕ, Bool, List, [], ◌∷◌, ◌++◌, take, Option, IsTrue}
+use Rattle.std.specs.Prelude.{◌≡◌, ◌↔◌, ◌≤◌, ◌+◌, ℕ, Bool, List, [], ◌∷◌, ◌++◌, length, take, Option, IsTrue}
 use Rattle.std.specs.Io.KnownBytes.{Consumes, IsAtEnd}
 use Rattle.fb_streams.specs.Streams.{StaysFlushed}
 use Rattle.serde_json.specs.Data.{Data}
@@ -77,12 +77,15 @@ streams given left reads read_has_failed held is_flushed write_has_failed reader
   write_has_failed = write_has_failed writer;
 }
 
--- At the end of the input nothing is left. No more was read than the turns, and as often where these are over. A read or a write has failed
--- exactly where the end says so, and else all that was written is flushed, if it was before.
+-- At the end of the input nothing is left. No more was read than the turns, and as often where these are over. Each read gave something but for the
+-- last one, after which nothing is read; where the turns are over, that one too. A read or a write has failed exactly where the end says so, and else
+-- all that was written is flushed, if it was before.
 pub record ShowsEnd (end : RunEnd) (turns : ℕ) (old new : Streams) : Type 0 where
   pub whole : end ≡ End → IsAtEnd new.left
   pub turns_are : new.reads ≤ old.reads + turns
   pub all_turns : end ≡ TurnsOver → new.reads ≡ old.reads + turns
+  pub gave : length old.given + new.reads ≤ length new.given + old.reads + 1
+  pub all_gave : end ≡ TurnsOver → length old.given + new.reads ≤ length new.given + old.reads
   pub read_failed : IsTrue new.read_has_failed ↔ (end ≡ ReadFailed)
   pub flushed : StaysFlushed old.is_flushed new.write_has_failed new.is_flushed
   pub write_failed : IsTrue new.write_has_failed ↔ (end ≡ WriteFailed)

@@ -1,8 +1,13 @@
 -- What networks, applications and kinds depend on.
-use Rattle.std.specs.Prelude.{◌≡◌, ℕ, List}
+use Rattle.std.specs.Prelude.{◌≡◌, ℕ, List, Option, Some, option_map}
 use Rattle.std.specs.FinMap.{get}
-use Rattle.fb_iface.specs.Library.View.{Sources}
+use Rattle.fb_tree.specs.Mentions.{unit_kind_of}
+use Rattle.fb_tree.specs.Tree.{DeclTree}
+use Rattle.fb_tree.specs.declared.kinds.UnitKind.TheVariants.{Block}
+use Rattle.fb_iface.specs.Library.View.{Sources, parts_in, values_in}
+use Rattle.fb_wiring.specs.Applications.{applications_of}
 use Rattle.fb_wiring.specs.ByName.{applications_at, declared, kind_at}
+use Rattle.fb_wiring.specs.Networks.{network_of}
 
 -- what is said under a name is the same in both
 pub record SameAt (a b : Sources) (name : List ℕ) : Type 0 where
@@ -13,3 +18,20 @@ pub record SameAt (a b : Sources) (name : List ℕ) : Type 0 where
 -- it depends on the text under that name alone
 abbrev pub NetworksAreLocal : Type 0
 NetworksAreLocal = (a b : Sources) (name : List ℕ) → get a name ≡ get b name → SameAt a b name
+
+-- two trees, or none, say the same to networks
+pub record SaysSameToNetworks (a b : Option DeclTree) : Type 0 where
+  pub network : option_map network_of a ≡ option_map network_of b
+  pub applications : option_map applications_of a ≡ option_map applications_of b
+  pub kind : option_map unit_kind_of a ≡ option_map unit_kind_of b
+
+-- they mention the same too, so that no net of what rests on one of them tells which it is
+pub record SaysSame (a b : Option DeclTree) : Type 0 where
+  pub parts : parts_in a ≡ parts_in b
+  pub values : values_in a ≡ values_in b
+  pub said : SaysSameToNetworks a b
+
+-- both are trees of block types that say the same
+pub record AreAlikeBlocks (a b : Option DeclTree) : Type 0 where
+  pub block : option_map unit_kind_of a ≡ Some Block
+  pub says : SaysSame a b

@@ -2,6 +2,7 @@
 //! what the nets of units are made of: networks and counts of types, kept nets, flat networks of types and applications.
 #![tactic(auto)]
 
+mod alike;
 mod composed;
 mod counts;
 mod cycles;
@@ -21,6 +22,7 @@ mod search;
 mod systems;
 mod tables;
 
+pub use alike::is_alike;
 pub use composed::flat_of_applications;
 pub use counts::{Counts, add_count, count_of_unit};
 pub use flats::{add_flat, flat_of_type, is_missing};

@@ -1,9 +1,20 @@
-use Rattle.std.proofs.Common.{◌≡◌, ◌++◌, [], Ok, Err, append-nil, append_assoc, sym, ap, ◌∙◌, arith, rules}
+use Rattle.std.proofs.Common.{◌≡◌, ℕ, ◌≤◌, ◌+◌, List, ◌++◌, [], length, length-append, subst, Ok, Err, append-nil, append_assoc, sym, ap, ◌∙◌, arith, rules}
 use Rattle.std.proofs.KnownBytes.{Consumes-nil, Consumes-trans}
+use Rattle.fb_wire.specs.declared.end.RunEnd.{RunEnd}
 use Rattle.fb_wire.specs.declared.end.RunEnd.TheVariants as end
+use Rattle.fb_wire.specs.Turns.{StopsRead}
 use Rattle.fb_wire.proofs.Ends.{not_failed}
 use Rattle.fb_wire.proofs.Takings.{begins, run_breaks, run_stops, pieces_come}
 use Rattle.fb_wire.proofs.run.run_lines.Goals as goal
+
+-- what is given grows
+length_given : (before more now : List ℕ) → now ≡ before ++ more → length before ≤ length now
+length_given before more now e =
+    let long : length now ≡ length before + length more = ap length e ∙ length-append before more in
+    omega (arith, long)
+
+not_over : (it : RunEnd) → it ≡ end.TurnsOver → StopsRead it → ⊥
+not_over it is stops = subst StopsRead is stops
 
 pub returns-in-Err : goal.returns-in-Err
 returns-in-Err g c =
@@ -25,6 +36,10 @@ returns-in-Err g c =
           whole = search rules;
           turns_are = search rules;
           all_turns = search rules;
+          gave =
+              let longer = length_given (g.F.Feed.given c.loop-turn.reader) turn.0 (g.F.Feed.given c.take_turn.new.reader) turn.1 in
+              omega (arith, longer, inv.2, inv.8, c.take_turn.ensures.turn);
+          all_gave = λ is. absurd (not_over c.in-Err.end is (rw c.in-Err.is at c.take_turn.ensures.end));
           read_failed = search rules;
           flushed = search rules;
           write_failed = search rules;
@@ -49,6 +64,8 @@ returns g c =
           whole = λ is. let other : end.TurnsOver ≡ end.End = is in absurd cc;
           turns_are = search rules;
           all_turns = search rules;
+          gave = omega (arith, inv.2, inv.8);
+          all_gave = λ is. omega (arith, inv.2, inv.8);
           read_failed = search rules;
           flushed = search rules;
           write_failed = search rules;
@@ -67,6 +84,7 @@ loop-turn-init g c = (
   Consumes-nil _,
   rw (c.new-talk.ensures.line, c.new-talk.ensures.held) (begins g.D.Desk.step _ _),
   λ was. was,
+  omega arith,
 )
 
 pub loop-turn-preserved : goal.loop-turn-preserved
@@ -85,4 +103,5 @@ loop-turn-preserved g c =
       left,
       both,
       λ was. c.take_turn.ensures.flushed (inv.7 was) written,
+      let more = rw c.in-Ok.is at c.take_turn.ensures.gave in omega (arith, inv.8, more),
     )
