@@ -1,5 +1,5 @@
 -- Tokens as the grammar sees them: the classification of tokens.
-use Rattle.std.specs.Prelude.{ℕ, not, nat_lt, nat_eq, ◌==◌, if◌then◌else◌, List, length, map, take, codes, slice_range, Option, Some, None, Result, Ok, Err}
+use Rattle.std.specs.Prelude.{ℕ, not, nat_lt, nat_eq, ◌==◌, if◌then◌else◌, List, [], ◌∷◌, length, map, take, codes, slice_range, Option, Some, None, Result, Ok, Err}
 use Rattle.std.specs.List.{list_any, prefix_len}
 use Rattle.std.specs.Cmp.Lexicographic.{pointwise}
 use Rattle.fb_tree.specs.Text.Bytes.{hash, point}
@@ -94,6 +94,11 @@ lexemes_in text (Err bad) = Err bad
 -- the tokens of a text, or the span of a comment that is never closed
 unfoldable pub lexemes_of : List ℕ → Result (List Lexeme) Span
 lexemes_of text = lexemes_in text (tokens_of text)
+
+-- the span of the first token, or the empty span at the end
+abbrev pub place : ℕ → List Lexeme → Span
+place end [] = record { start = end; end = end }
+place end (lexeme ∷ lexemes) = lexeme.span
 
 -- the name where it stands
 abbrev pub name_use : Lexeme → NameUse

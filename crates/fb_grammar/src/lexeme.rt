@@ -7,13 +7,13 @@ ghost use Rattle.fb_tree.specs.Text.declared.token.TokenKind.{TokenKind};
 ghost use Rattle.fb_tree.specs.Text.declared.token.TokenKind.TheVariants.{Word};
 ghost use Rattle.fb_grammar.specs.Kind.{is_among, name_kinds};
 ghost use Rattle.fb_grammar.specs.ReservedWords.{keyword};
-ghost use Rattle.fb_grammar.specs.Lexemes.{kind_of, lexeme_of, lexemes_of, name_kind, number_kind, symbol_kind, type_name, typed_kind, word_kind};
+ghost use Rattle.fb_grammar.specs.Lexemes.{kind_of, lexeme_of, lexemes_of, name_kind, number_kind, place, symbol_kind, type_name, typed_kind, word_kind};
 
 use crate::keywords::{keyword, symbol};
 use crate::kind::Kind;
 use fb_tree::text::{
-    KeptName, Name, NameUse, Place, Token, TokenFault, TokenKind, TypeClass, WideUse, same_word,
-    tokens, type_class,
+    KeptName, Name, NameUse, Place, Span, Token, TokenFault, TokenKind, TypeClass, WideUse,
+    same_word, tokens, type_class,
 };
 use std::alloc::{AllocError, Global};
 
@@ -174,6 +174,16 @@ pub fn lexemes(alloc: Global, text: &str) -> Result<Vec<Lexeme>, TokenFault>
         lexemes.push(lexeme_of(text, token))?;
     }
     Ok(lexemes)
+}
+
+/// Where tokens begin, or the end of the text where there are none.
+pub fn place_of(lexemes: &[Lexeme], end: usize) -> Span
+    ensures { result ≡ place end lexemes.now }
+{
+    match lexemes {
+        [lexeme, ..] => lexeme.span.span(),
+        [] => Span { start: end, end },
+    }
 }
 
 /// A token is a name where it is a word of at most 64 bytes that is not reserved.

@@ -11,7 +11,7 @@ mod repetition;
 mod stop;
 
 pub use kind::{Kind, own_numbers};
-pub use lexeme::{Lexeme, lexemes, names_are_words};
+pub use lexeme::{Lexeme, lexemes, names_are_words, place_of};
 pub use literals::{NUMBERS, literal_form, literal_use};
 pub use naming::{NAMES, NameReader, is_next, key, name, names, one_of};
 pub use repetition::{Reader, listed, separated, several};

@@ -8,7 +8,7 @@ use Rattle.std.proofs.lemmas.List.Elements.{filter-append}
 use Rattle.fb_text.proofs.Members.{contains_cases, contains_here, contains_later, contains_nothing}
 use Rattle.fb_wiring.specs.Network.declared.flat.Link.{Link}
 use Rattle.fb_placing.specs.Cuts.{same_home}
-use Rattle.fb_placing.specs.Fronts.{nearest}
+use Rattle.fb_wiring.specs.Network.Fronts.{nearest}
 use Rattle.fb_placing.specs.Orders.{connection_orders, connection_text, line_order, link_resource, start_order, start_text}
 use Rattle.fb_placing.specs.Resources.{commands_for}
 use Rattle.fb_placing.specs.declared.lines.Line.{Line}

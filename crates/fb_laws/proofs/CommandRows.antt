@@ -8,14 +8,13 @@ use Rattle.fb_text.proofs.OrderLemmas.{in_order-members, in_order-sorted}
 use Rattle.fb_text.proofs.Members.{contains_cases, contains_filter, contains_flat_map, contains_here, contains_later, contains_map, contains_nothing, origin_in_flat_map, origin_in_map, passes_in_filter}
 use Rattle.fb_placing.proofs.LineLemmas.{line_cmp-IsAntisymmetric}
 use Rattle.fb_tree.specs.Tree.{ApplicationTree, DeclTree, ParameterTree}
-use Rattle.fb_deploy.specs.Library.View.{Sources, tree_at}
+use Rattle.fb_deploy.specs.Library.View.{Sources, text_or_empty, tree_at}
 use Rattle.fb_wiring.specs.Network.LinkOrder.{link_cmp}
 use Rattle.fb_wiring.specs.Network.declared.flat.FlatBlock.{FlatBlock}
 use Rattle.fb_wiring.specs.Network.declared.flat.Link.{Link}
 use Rattle.fb_wiring.specs.Network.PlainFlat.{PlainFlat}
-use Rattle.fb_netcheck.specs.Spellings.{text_or_empty}
 use Rattle.fb_placing.specs.Cuts.{home_at}
-use Rattle.fb_placing.specs.Fronts.{nearest}
+use Rattle.fb_wiring.specs.Network.Fronts.{nearest}
 use Rattle.fb_placing.specs.Homes.{block_home}
 use Rattle.fb_placing.specs.Standing.{PlainStanding, path_names, standing_at}
 use Rattle.fb_placing.specs.Systems.{applications_in, devices_in}

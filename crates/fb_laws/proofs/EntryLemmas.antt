@@ -22,7 +22,7 @@ use Rattle.fb_wiring.specs.Network.Places.{dotted}
 use Rattle.fb_wiring.specs.Network.PlainFlat.{PlainFlat}
 use Rattle.fb_wiring.specs.Network.declared.flat.Link.{Link}
 use Rattle.fb_deploy.specs.Flatten.Net.{HasFlat}
-use Rattle.fb_placing.specs.Fronts.{IsNearest, nearest}
+use Rattle.fb_wiring.specs.Network.Fronts.{IsNearest, nearest}
 use Rattle.fb_placing.specs.Mappings.{mapping_home, mapping_path}
 use Rattle.fb_placing.specs.Systems.{applications_in, devices_in, mappings_in}
 use Rattle.fb_placing.specs.Orders.{orders_of}

@@ -8,11 +8,11 @@ use Rattle.std.proofs.lemmas.List.{take_all}
 use Rattle.std.proofs.lemmas.Slice.Eq.{bytes_eq-Decides}
 use native.Mathlib.Decide.{dec_lt}
 use Rattle.fb_text.proofs.Members.{contains_cases, contains_here, contains_later, contains_nothing}
-use Rattle.fb_placing.proofs.NearestLemmas.{is_nearest}
+use Rattle.fb_wiring.proofs.Network.NearestLemmas.{is_nearest}
 use Rattle.fb_wiring.specs.Network.declared.flat.FlatBlock.{FlatBlock}
 use Rattle.fb_placing.specs.Cuts.{home_at}
 use Rattle.fb_placing.specs.Firsts.{first_at}
-use Rattle.fb_placing.specs.Fronts.{IsFront, IsNearest, nearest}
+use Rattle.fb_wiring.specs.Network.Fronts.{IsFront, IsNearest, nearest}
 use Rattle.fb_placing.specs.Homes.{block_homes}
 use Rattle.fb_placing.specs.declared.homes.Home.{Home}
 use Rattle.fb_laws.specs.Planned.{IsBlockAt}

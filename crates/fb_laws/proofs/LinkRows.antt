@@ -8,7 +8,7 @@ use Rattle.fb_deploy.specs.Library.View.{Sources}
 use Rattle.fb_wiring.specs.Network.declared.flat.Link.{Link}
 use Rattle.fb_wiring.specs.Network.PlainFlat.{PlainFlat}
 use Rattle.fb_placing.specs.Cuts.{home_at, is_cut, same_home}
-use Rattle.fb_placing.specs.Fronts.{nearest}
+use Rattle.fb_wiring.specs.Network.Fronts.{nearest}
 use Rattle.fb_placing.specs.PlainResource.{PlainResource}
 use Rattle.fb_laws.proofs.HomeLemmas.{bytes_same, nearest_of, same_bytes, some_home}
 use Rattle.fb_laws.proofs.PlannedLemmas.{Known, home_there, homes_in, known, mapped, stands}

@@ -12,7 +12,7 @@ use Rattle.fb_deploy.specs.Library.View.{Sources}
 use Rattle.fb_deploy.specs.Iface.declared.code.Code.TheVariants.{MappedTwice}
 use Rattle.fb_deploy.specs.Iface.declared.fault.Fault.{Fault}
 use Rattle.fb_deploy.specs.Flatten.Net.{IsSound}
-use Rattle.fb_placing.specs.Fronts.{IsFront, IsNearest}
+use Rattle.fb_wiring.specs.Network.Fronts.{IsFront, IsNearest}
 use Rattle.fb_placing.specs.Mappings.{mapping_home, mapping_path, resource_at}
 use Rattle.fb_laws.specs.Mappings.{IsSystemAt, place_of_path}
 use Rattle.fb_laws.specs.Paths.{IsAbove, IsMappedTo, path_of, with_points}

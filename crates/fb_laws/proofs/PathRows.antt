@@ -18,7 +18,7 @@ use Rattle.fb_deploy.proofs.ComputedPlans.{plan_at_is}
 use Rattle.fb_wiring.specs.Network.PlainFlat.{PlainFlat}
 use Rattle.fb_wiring.specs.Network.declared.flat.FlatBlock.{FlatBlock}
 use Rattle.fb_wiring.specs.Network.declared.flat.Link.{Link}
-use Rattle.fb_placing.specs.Fronts.{IsNearest, nearest}
+use Rattle.fb_wiring.specs.Network.Fronts.{IsNearest, nearest}
 use Rattle.fb_placing.specs.Homes.{astray, block_homes, homeless, misplaced, unless_faulty}
 use Rattle.fb_placing.specs.Lines.{create_text}
 use Rattle.fb_placing.specs.Mappings.{mapping_path, names_used, resource_at}
@@ -29,7 +29,7 @@ use Rattle.fb_placing.specs.declared.homes.Home.{Home}
 use Rattle.fb_placing.specs.declared.homes.Misplaced.{Misplaced}
 use Rattle.fb_placing.specs.declared.homes.Misplaced.TheVariants.{NoSuchBlock, Unmapped}
 use Rattle.fb_placing.specs.declared.lines.Line.{Line}
-use Rattle.fb_placing.proofs.NearestLemmas.{is_nearest}
+use Rattle.fb_wiring.proofs.Network.NearestLemmas.{is_nearest}
 use Rattle.fb_laws.specs.Mappings.{IsSystemAt}
 use Rattle.fb_laws.specs.Paths.{AllBlocksAreMade, BlocksAreMadeWhereMapped, IsAbove, IsAtPath, IsMade, IsMappedTo, IsMisplaced, IsOfSomething, MakesMapped, MisplacedIsTold, NothingPlannedIsMisplaced, OnlyBlocksAreMade, making, of_nothing, path_of, unmapped, with_points}
 use Rattle.fb_laws.specs.Planned.{IsHome}

@@ -3,7 +3,7 @@ use Rattle.std.proofs.Common.{◌≡◌, ◌≢◌, ℕ, ◌<◌, ◌≤◌, ◌
 use Rattle.std.specs.List.{flat_map}
 use Rattle.std.proofs.lemmas.Bool.{eqb-true}
 use Rattle.fb_wiring.specs.Network.Printed.{printed}
-use Rattle.fb_placing.specs.Fronts.{IsFront}
+use Rattle.fb_wiring.specs.Network.Fronts.{IsFront}
 use Rattle.fb_placing.specs.Standing.{on_first, path_names}
 use Rattle.fb_laws.specs.Paths.{with_points}
 use Rattle.fb_laws.proofs.PlainNames.{AllPlain, IsPlain}

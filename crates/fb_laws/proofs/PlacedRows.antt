@@ -15,7 +15,7 @@ use Rattle.fb_wiring.specs.Network.declared.flat.FlatBlock.{FlatBlock}
 use Rattle.fb_wiring.specs.Network.PlainFlat.{PlainFlat}
 use Rattle.fb_deploy.specs.Flatten.Net.{HasFlat, flat_net}
 use Rattle.fb_placing.specs.Cuts.{cuts_of, home_at}
-use Rattle.fb_placing.specs.Fronts.{nearest}
+use Rattle.fb_wiring.specs.Network.Fronts.{nearest}
 use Rattle.fb_placing.specs.Homes.{astray, homeless, misplaced, unless_faulty}
 use Rattle.fb_placing.specs.Mappings.{mapping_path, names_used}
 use Rattle.fb_deploy.specs.Mapping.Placed.{IsSystem}

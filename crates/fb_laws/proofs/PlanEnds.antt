@@ -28,7 +28,7 @@ use Rattle.fb_wiring.specs.declared.systems.Application.{Application}
 use Rattle.fb_wiring.specs.Network.Composed.{block_within}
 use Rattle.fb_wiring.specs.Network.SystemFlat.{IsSystemFlat, application_blocks}
 use Rattle.fb_wiring.specs.Network.declared.application.FlatApplication.{FlatApplication}
-use Rattle.fb_placing.specs.Fronts.{IsFront}
+use Rattle.fb_wiring.specs.Network.Fronts.{IsFront}
 
 -- ---- blocks at ports
 

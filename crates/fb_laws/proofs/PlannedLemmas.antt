@@ -18,7 +18,7 @@ use Rattle.fb_deploy.specs.Flatten.Net.{HasFlat, flat_net}
 use Rattle.fb_wiring.specs.Units.{IsUnitFlat, OfSubapplication, OfSystem}
 use Rattle.fb_wiring.specs.Network.LinkOrder.{link_cmp}
 use Rattle.fb_placing.specs.Cuts.{cuts_of, home_at}
-use Rattle.fb_placing.specs.Fronts.{nearest}
+use Rattle.fb_wiring.specs.Network.Fronts.{nearest}
 use Rattle.fb_placing.specs.Homes.{block_homes, homeless, misplaced, unless_faulty}
 use Rattle.fb_placing.specs.Mappings.{resource_at}
 use Rattle.fb_deploy.specs.Mapping.Placed.{IsSystem}

@@ -6,7 +6,7 @@ use Rattle.fb_wiring.specs.Network.declared.flat.FlatBlock.{FlatBlock}
 use Rattle.fb_wiring.specs.Network.declared.flat.Link.{Link}
 use Rattle.fb_wiring.specs.Network.PlainFlat.{PlainFlat}
 use Rattle.fb_deploy.specs.Flatten.Net.{HasFlat}
-use Rattle.fb_placing.specs.Fronts.{IsFront, IsNearest}
+use Rattle.fb_wiring.specs.Network.Fronts.{IsFront, IsNearest}
 use Rattle.fb_placing.specs.Mappings.{names_used, resource_at}
 use Rattle.fb_placing.specs.Standing.{leads_nowhere}
 use Rattle.fb_placing.specs.Systems.{applications_in, mappings_in}

@@ -3,7 +3,7 @@ use Rattle.std.specs.Prelude.{◌≡◌, ◌≢◌, ◌↔◌, ◌⊎◌, ℕ, L
 use Rattle.std.specs.List.{flat_map}
 use Rattle.std.specs.List.Sorted.{IsStrictlySortedBy}
 use Rattle.fb_tree.specs.Tree.{ParameterTree, SystemTree, system_configuration}
-use Rattle.fb_deploy.specs.Library.View.{Sources, tree_at}
+use Rattle.fb_deploy.specs.Library.View.{Sources, text_or_empty, tree_at}
 use Rattle.fb_wiring.specs.Network.LinkOrder.{link_cmp}
 use Rattle.fb_wiring.specs.Network.Places.{dotted}
 use Rattle.fb_wiring.specs.Network.declared.flat.FlatBlock.{FlatBlock}
@@ -11,7 +11,6 @@ use Rattle.fb_wiring.specs.Network.declared.flat.Link.{Link}
 use Rattle.fb_wiring.specs.Network.PlainFlat.{PlainFlat}
 use Rattle.fb_deploy.specs.Mapping.Placed.{IsSystem}
 use Rattle.fb_deploy.specs.Flatten.Net.{HasFlat}
-use Rattle.fb_netcheck.specs.Spellings.{text_or_empty}
 use Rattle.fb_placing.specs.Standing.{PlainStanding, path_names, standing_at}
 use Rattle.fb_placing.specs.Systems.{applications_in}
 use Rattle.fb_placing.specs.Lines.{create_text, line_cmp, write_text}

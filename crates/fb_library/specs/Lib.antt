@@ -4,6 +4,7 @@ pub mod Place
 pub mod Rooms
 pub mod Seen
 pub mod Shelves
+pub mod Parts
 pub mod View
 pub mod Opened
 pub mod Near

@@ -1,5 +1,5 @@
 -- What is known by name, and what the text of a unit mentions.
-use Rattle.std.specs.Prelude.{ℕ, Bool, List, ◌++◌, Option, Some, None}
+use Rattle.std.specs.Prelude.{ℕ, Bool, List, [], ◌++◌, Option, Some, None, unwrap_or}
 use Rattle.std.specs.Option.{option_and_then}
 use Rattle.std.specs.FinMap.{FinMap, get}
 use Rattle.fb_parse.specs.Text.Order.{name_cmp}
@@ -10,6 +10,10 @@ use Rattle.fb_parse.specs.Body.{BodyTree, Whole, BrokenAt, body_of}
 -- the texts of units, by name
 abbrev pub Sources : Type 0
 Sources = FinMap name_cmp (List ℕ)
+
+-- the text of a unit, empty where it is absent
+abbrev pub text_or_empty : Sources → List ℕ → List ℕ
+text_or_empty sources unit = unwrap_or (get sources unit) []
 
 abbrev pub tree_in : BodyTree → Option DeclTree
 tree_in (Whole decl) = Some decl

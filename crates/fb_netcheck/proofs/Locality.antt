@@ -26,7 +26,8 @@ use Rattle.fb_netcheck.specs.Networks.{application_network, declared_faults, net
 use Rattle.fb_netcheck.specs.Parameters.{all_parameters}
 use Rattle.fb_netcheck.specs.Repeats.{second_adapters, second_sources}
 use Rattle.fb_netcheck.specs.Settings.{NetworkPlace}
-use Rattle.fb_netcheck.specs.Spellings.{part, same_by_form, words}
+use Rattle.fb_iface.specs.Library.Parts.{part}
+use Rattle.fb_netcheck.specs.Spellings.{same_by_form, words}
 use Rattle.fb_netcheck.specs.Types.{flow_faults, home, home_of, joined_types}
 
 -- each item of a list has the fact

@@ -1,8 +1,7 @@
 -- How types are spelled.
-use Rattle.std.specs.Prelude.{ℕ, Bool, false, ◌&&◌, ◌||◌, List, [], ◌∷◌, ◌++◌, length, Result, Ok, Err, nat_eq, nat_lt, nat_le, slice_index, slice_range, unwrap_or, if◌then◌else◌}
+use Rattle.std.specs.Prelude.{ℕ, Bool, false, List, [], ◌∷◌, ◌++◌, Result, Ok, Err, nat_eq, slice_range}
 use Rattle.std.specs.Cmp.Lexicographic.{pointwise}
 use Rattle.std.specs.List.{flat_map}
-use Rattle.std.specs.FinMap.{get}
 use Rattle.std.specs.Str.{str_to_ascii_uppercase}
 use Rattle.fb_tree.specs.Text.Tokens.{tokens_of}
 use Rattle.fb_tree.specs.Text.declared.token.Span.{Span}
@@ -10,16 +9,9 @@ use Rattle.fb_tree.specs.Text.declared.token.Token.{Token}
 use Rattle.fb_tree.specs.declared.interface.TypeForm.{TypeForm}
 use Rattle.fb_tree.specs.declared.interface.TypeForm.TheVariants.{Plain, Sized, Array}
 use Rattle.fb_tree.specs.declared.interface.TypeUse.{TypeUse}
-use Rattle.fb_iface.specs.Library.View.{Sources}
+use Rattle.fb_iface.specs.Library.Parts.{part}
+use Rattle.fb_iface.specs.Library.View.{Sources, text_or_empty}
 use Rattle.fb_iface.specs.Names.{is_same}
-
--- whether a place in a text is between two characters, at its start or at its end
-abbrev pub is_boundary : List ℕ → ℕ → Bool
-is_boundary text i = nat_le i (length text) && (nat_le (length text) i || nat_lt (slice_index text i) 128 || nat_le 192 (slice_index text i))
-
--- the part of a text, empty where the span is none of it
-abbrev pub part : List ℕ → Span → List ℕ
-part text span = if nat_le span.start span.end && is_boundary text span.start && is_boundary text span.end then slice_range text span.start span.end else []
 
 -- a token in upper case, with a blank behind it
 abbrev pub word : List ℕ → Token → List ℕ
@@ -32,10 +24,6 @@ words_of text (Err bad) = []
 -- the tokens of a text in upper case, each with a blank behind it
 abbrev pub words : List ℕ → List ℕ
 words text = words_of text (tokens_of text)
-
--- the text of a unit, empty where it is absent
-abbrev pub text_or_empty : Sources → List ℕ → List ℕ
-text_or_empty sources unit = unwrap_or (get sources unit) []
 
 -- the words of a part of a unit's text
 abbrev pub words_at : Sources → List ℕ → Span → List ℕ

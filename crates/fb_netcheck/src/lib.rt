@@ -18,7 +18,6 @@ pub use laws::{connections_are_right, faultless_networks_are_clean, net_faults_a
 pub use networks::{net_faults, report_network, report_networks};
 pub use paths::{Placed, report_repeated};
 pub use setting::Setting;
-pub use spellings::{part_of, text_by_name};
 
 /// Of `fb_parse`, for the crates above.
 pub mod parse {

@@ -5,9 +5,9 @@ ghost use Rattle.std.specs.Str.{str_to_ascii_uppercase};
 ghost use Rattle.fb_tree.specs.Text.Tokens.{LiesIn};
 ghost use Rattle.std.specs.BTreeMap.{get};
 ghost use Rattle.fb_netcheck.specs.Known.{AreSpellings, part_cmp};
-ghost use Rattle.fb_netcheck.specs.Spellings.{is_boundary, part, same_type, same_words, text_or_empty, word, words, words_at};
+ghost use Rattle.fb_netcheck.specs.Spellings.{same_type, same_words, word, words, words_at};
 
-use fb_iface::library::View;
+use fb_iface::library::{View, part_of, text_by_name};
 use fb_tree::text::{Name, Span, Token, TokenFault, same_name, tokens};
 use fb_tree::{TypeForm, WideTypeUse};
 use std::alloc::{AllocError, Global};
@@ -83,16 +83,6 @@ fn words_of_unit<V: View>(
     words_in(alloc, part_of(text_by_name(view, unit), span))
 }
 
-/// The text of a unit, empty where it is absent.
-pub fn text_by_name<'a, V: View>(view: &'a V, unit: &Name) -> &'a str
-    ensures { result.now ≡ text_or_empty (V.sources view.now) unit.now }
-{
-    match view.get(unit) {
-        Some(source) => source.text(),
-        None => "",
-    }
-}
-
 /// Whether two parts have the same tokens, by what is kept of them or else by their texts.
 fn is_spelled_alike<V: View>(
     alloc: Global,
@@ -116,24 +106,6 @@ fn is_spelled_alike<V: View>(
             Ok(spelling.as_slice() == other.as_slice())
         }
     }
-}
-
-/// The part of a text, empty where the span is none of it.
-pub fn part_of(text: &str, span: Span) -> &str
-    ensures { result.now ≡ part text.now span }
-{
-    if span.start <= span.end && is_between(text, span.start) && is_between(text, span.end) {
-        &text[span.start..span.end]
-    } else {
-        ""
-    }
-}
-
-/// Whether a place in a text is between two characters, at its start or at its end.
-fn is_between(text: &str, place: usize) -> bool
-    ensures { result ≡ is_boundary text.now place }
-{
-    text.is_char_boundary(place)
 }
 
 /// The tokens of a text in upper case, each with a blank behind it.

@@ -24,3 +24,4 @@ pub mod Reading
 pub mod Once
 pub mod Standing
 pub mod Behind
+pub mod Fronts

@@ -14,6 +14,7 @@ mod entries;
 mod flat;
 mod flat_network;
 mod front;
+mod fronts;
 mod instances;
 mod laws;
 mod links;
@@ -37,6 +38,7 @@ pub use compare::compare_parts;
 pub use count::INSTANCE_LIMIT;
 pub use flat::{Border, Flat, FlatBlock, Link};
 pub use flat_network::compose_by_part;
+pub use fronts::{PathTable, nearest};
 pub use laws::{chains_are_composed, flat_is_one, system_is_one};
 pub use look_up::{Nets, Networks};
 pub use network::{

@@ -3,11 +3,11 @@ use Rattle.std.proofs.Common.{◌≡◌, ℕ, ◌≤◌, ◌<◌, List, [], ◌�
 use Rattle.fb_tree.specs.Text.declared.token.Span.{Span}
 use Rattle.fb_tree.specs.Tree.{DeclTree}
 use Rattle.fb_structured_text.specs.Forms.declared.lexeme.Lexeme.{Lexeme}
-use Rattle.fb_parse.specs.Body.{BodyTree, Whole, BrokenAt, place, IsBodyIn, IsBody, whole_or_broken, body_read, body_in, body_of}
+use Rattle.fb_parse.specs.Body.{BodyTree, Whole, BrokenAt, IsBodyIn, IsBody, whole_or_broken, body_read, body_in, body_of}
 use Rattle.fb_structured_text.specs.Forms.Fault.{IsStuck, IsFault}
 use Rattle.fb_structured_text.specs.Forms.Form.{Form, Front}
 use Rattle.fb_parse.specs.Grammar.{unit}
-use Rattle.fb_structured_text.specs.Forms.Lexemes.{lexemes_of}
+use Rattle.fb_structured_text.specs.Forms.Lexemes.{lexemes_of, place}
 use Rattle.fb_structured_text.specs.Forms.Reading.{Outcome, read}
 use Rattle.fb_parse.proofs.Predictive.{predictive_unit}
 use Rattle.fb_structured_text.proofs.Forms.Forms.{spelled_of_ok, ok_of_spelled, none_spelled_of_rest, none_spelled_of_err, fault_of_rest, fault_of_err}

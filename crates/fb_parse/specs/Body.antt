@@ -9,7 +9,7 @@ use Rattle.fb_parse.specs.declared.body.Body.TheVariants.{Tree as IsTree, Broken
 use Rattle.fb_structured_text.specs.Forms.Form.{Spells}
 use Rattle.fb_structured_text.specs.Forms.Fault.{IsFault}
 use Rattle.fb_parse.specs.Grammar.{unit}
-use Rattle.fb_structured_text.specs.Forms.Lexemes.{lexemes_of}
+use Rattle.fb_structured_text.specs.Forms.Lexemes.{lexemes_of, place}
 use Rattle.fb_structured_text.specs.Forms.Reading.{Outcome, read}
 
 -- a body without where it lies in memory
@@ -25,11 +25,6 @@ body_tree (Broken span) = BrokenAt span
 abbrev pub mentions_in_body : BodyTree → Mentioned
 mentions_in_body (Whole decl) = all_mentions_of decl
 mentions_in_body (BrokenAt span) = nothing_mentioned
-
--- the span of the first token, or the empty span at the end
-abbrev pub place : ℕ → List Lexeme → Span
-place end [] = record { start = end; end = end }
-place end (lexeme ∷ lexemes) = lexeme.span
 
 -- By the tokens of a text of so many bytes. The tree that they spell; where they spell none, the place of the first token such
 -- that the tokens up to it are no front of a unit, or the end. Where there is a comment that is never closed, its span.

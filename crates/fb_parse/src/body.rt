@@ -8,7 +8,7 @@ ghost use Rattle.fb_tree.specs.Tree.{DeclTree};
 ghost use Rattle.std.specs.Prelude.{◌≡◌, ◌<◌, ℕ, IfOk, List, length};
 
 use crate::units::unit;
-use fb_structured_text::grammar::{Lexeme, Stop, lexemes};
+use fb_structured_text::grammar::{Lexeme, Stop, lexemes, place_of};
 use fb_tree::text::{Span, TokenFault};
 use fb_tree::{Decl, Mentions, mentions_of};
 use std::alloc::{AllocError, Global};
@@ -22,7 +22,7 @@ pub enum Body {
 
 impl Body {
     ghost use Rattle.fb_structured_text.specs.Forms.Reading.{read};
-    ghost use Rattle.fb_parse.specs.Body.{body_read, body_tree, mentions_in_body, place, whole_or_broken};
+    ghost use Rattle.fb_parse.specs.Body.{body_read, body_tree, mentions_in_body, whole_or_broken};
     ghost use Rattle.fb_tree.specs.Mentions.{mentioned};
     ghost use Rattle.fb_tree.specs.Tree.{decl_tree};
 
@@ -45,7 +45,7 @@ impl Body {
     {
         match unit(alloc, lexemes) {
             Ok((decl, rest)) => Ok(Self::whole_or_broken(decl, rest, end)),
-            Err(Stop::Broken(rest)) => Ok(Body::Broken(Self::place(rest, end))),
+            Err(Stop::Broken(rest)) => Ok(Body::Broken(place_of(rest, end))),
             Err(Stop::Memory) => Err(AllocError),
         }
     }
@@ -71,16 +71,6 @@ impl Body {
         match rest {
             [] => Body::Tree(decl),
             [lexeme, ..] => Body::Broken(lexeme.span.span()),
-        }
-    }
-
-    /// Where the tokens begin, or the end of the text.
-    fn place(lexemes: &[Lexeme], end: usize) -> Span
-        ensures { result ≡ place end lexemes.now }
-    {
-        match lexemes {
-            [lexeme, ..] => lexeme.span.span(),
-            [] => Span { start: end, end },
         }
     }
 }

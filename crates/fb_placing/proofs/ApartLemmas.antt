@@ -6,13 +6,13 @@ use Rattle.std.specs.Str.{bytes_eq}
 use Rattle.std.proofs.lemmas.Bool.Decides.{Decides-eqb}
 use Rattle.std.proofs.lemmas.List.{map-append}
 use Rattle.fb_placing.specs.Cuts.{home_at}
-use Rattle.fb_placing.specs.Fronts.{IsFront, IsNearest, fronts, last_there, nearest}
+use Rattle.fb_network.specs.Fronts.{IsFront, IsNearest, fronts, last_there, nearest}
 use Rattle.fb_placing.specs.Points.{AreApart, HasNoPoint, IsInside}
 use Rattle.fb_placing.specs.declared.homes.Home.{Home}
 use Rattle.fb_placing.proofs.FirstLemmas.{first_at-push}
-use Rattle.fb_placing.proofs.FrontLemmas.{nearest_here}
+use Rattle.fb_network.proofs.FrontLemmas.{nearest_here}
 use Rattle.fb_placing.proofs.InsideLemmas.{fronts_inside, nearest_inside}
-use Rattle.fb_placing.proofs.NearestLemmas.{is_nearest}
+use Rattle.fb_network.proofs.NearestLemmas.{is_nearest}
 use Rattle.fb_placing.proofs.ListLemmas.{one_more}
 use Rattle.fb_placing.proofs.TableLemmas.{same_text}
 

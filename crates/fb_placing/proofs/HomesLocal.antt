@@ -2,7 +2,7 @@
 use Rattle.std.proofs.Common.{ℕ, ◌≡◌, ◌++◌, List, Option, ◌∙◌, ap, map}
 use Rattle.fb_tree.specs.Text.Order.{names_in_order}
 use Rattle.fb_tree.specs.Tree.{DeclTree, MappingTree}
-use Rattle.fb_netcheck.specs.Library.View.{Sources, tree_at}
+use Rattle.fb_library.specs.View.{Sources, tree_at}
 use Rattle.fb_network.specs.declared.flat.FlatBlock.{FlatBlock}
 use Rattle.fb_placing.specs.Homes.{PlainHomes, astray, block_homes, homeless, homes_of, misplaced, unless_faulty}
 use Rattle.fb_placing.specs.Mappings.{mapping_path, names_used, resource_at}

@@ -2,7 +2,7 @@
 use Rattle.std.proofs.Common.{ℕ, ◌≡◌, ◌==◌, if◌then◌else◌, List, [], ◌∷◌, ◌++◌, Option, None, map, refl, sym, ap, ◌∙◌, append_assoc}
 use Rattle.std.specs.Option.{option_or}
 use Rattle.std.proofs.lemmas.List.{map-append}
-use Rattle.fb_placing.specs.Fronts.{fronts, last_there, nearest}
+use Rattle.fb_network.specs.Fronts.{fronts, last_there, nearest}
 
 -- the fronts of what stands inside a path: those of the path, and then those inside
 pub fronts_inside : (path inner : List ℕ) → fronts (path ++ 46 ∷ inner) ≡ fronts path ++ map (λ (front : List ℕ). path ++ 46 ∷ front) (fronts inner)

@@ -1,8 +1,6 @@
 -- Lemmas of the proofs.
 pub mod TableLemmas
 pub mod FirstLemmas
-pub mod FrontLemmas
-pub mod NearestLemmas
 pub mod NameLemmas
 pub mod ListLemmas
 pub mod PathNameLemmas

@@ -4,8 +4,7 @@ use Rattle.std.specs.Prelude.{unwrap_or}
 use Rattle.std.specs.FinMap.{get}
 use Rattle.std.specs.List.{flat_map}
 use Rattle.fb_tree.specs.Text.Order.{in_order}
-use Rattle.fb_netcheck.specs.Library.View.{Sources, tree_at}
-use Rattle.fb_netcheck.specs.Spellings.{text_or_empty}
+use Rattle.fb_library.specs.View.{Sources, text_or_empty, tree_at}
 use Rattle.fb_placing.specs.Standing.{PlainStanding, path_names, standing_at}
 use Rattle.fb_placing.specs.Systems.{applications_in}
 use Rattle.fb_placing.specs.declared.homes.Home.{Home}

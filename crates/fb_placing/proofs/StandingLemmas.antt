@@ -5,7 +5,7 @@ use Rattle.std.specs.Borrow.{Bor}
 use Rattle.std.specs.Prelude.{find, is_none, is_some, not, option_and_then, option_map}
 use Rattle.std.specs.Str.{bytes_eq}
 use Rattle.fb_tree.specs.Tree.{ApplicationTree, InstanceTree}
-use Rattle.fb_netcheck.specs.Library.View.{Sources}
+use Rattle.fb_library.specs.View.{Sources}
 use Rattle.fb_placing.specs.Standing.{PlainStanding, application_called, instance_called, leads_nowhere, standing_among, standing_at, standing_beyond, standing_from, standing_inside}
 use Rattle.fb_placing.specs.Tables.{Instances, instance_at, instances_called}
 

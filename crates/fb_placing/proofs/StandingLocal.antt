@@ -9,10 +9,10 @@ use Rattle.fb_tree.specs.Text.Order.{name_cmp}
 use Rattle.fb_tree.proofs.Text.OrderLemmas.{in_order-members}
 use Rattle.fb_tree.specs.Tree.{ApplicationTree, DeclTree, InstanceTree, block_type, adapter_type, subapplication_type, system_configuration, structure_type}
 use Rattle.fb_tree.specs.Mentions.{instance_types, types_in}
-use Rattle.fb_netcheck.specs.Library.View.{Sources, tree_at, tree_of, parts_at, parts_in}
-use Rattle.fb_netcheck.specs.Library.Rests.{Rests, itself}
-use Rattle.fb_netcheck.proofs.Library.Locality.{part_mention, rests_more}
-use Rattle.fb_netcheck.specs.Library.Local.{AgreeFar}
+use Rattle.fb_library.specs.View.{Sources, tree_at, tree_of, parts_at, parts_in}
+use Rattle.fb_library.specs.Rests.{Rests, itself}
+use Rattle.fb_library.proofs.Locality.{part_mention, rests_more}
+use Rattle.fb_library.specs.Local.{AgreeFar}
 use Rattle.fb_tree.proofs.Text.Members.{contains_nothing, contains_here, contains_later, contains_flat_map, contains_map}
 use Rattle.fb_placing.specs.Firsts.{first_at}
 use Rattle.fb_placing.specs.Standing.{PlainStanding, application_called, inner_instances, is_placed, leads_nowhere, standing_among, standing_at, standing_beyond, standing_from, standing_inside}

@@ -1,7 +1,7 @@
 -- The commands of each resource of a system (IEC 61499-1, clause 7: system configurations).
 use Rattle.std.specs.Prelude.{ℕ, List, Option}
 use Rattle.fb_tree.specs.Tree.{DeclTree}
-use Rattle.fb_netcheck.specs.Library.View.{Sources}
+use Rattle.fb_library.specs.View.{Sources}
 use Rattle.fb_network.specs.PlainFlat.{PlainFlat}
 use Rattle.fb_placing.specs.Systems.{applications_in, devices_in}
 use Rattle.fb_placing.specs.declared.homes.Home.{Home}

@@ -3,14 +3,14 @@ use Rattle.std.specs.Prelude.{ℕ, List, [], ◌∷◌, ◌++◌, map, filter, O
 use Rattle.std.specs.List.{filter_map}
 use Rattle.fb_tree.specs.Text.Order.{names_in_order}
 use Rattle.fb_tree.specs.Tree.{ApplicationTree, DeclTree, MappingTree}
-use Rattle.fb_netcheck.specs.Library.View.{Sources, tree_at}
+use Rattle.fb_library.specs.View.{Sources, tree_at}
 use Rattle.fb_network.specs.declared.flat.FlatBlock.{FlatBlock}
 use Rattle.fb_placing.specs.declared.homes.Home.{Home}
 use Rattle.fb_placing.specs.declared.homes.Homes.{Homes}
 use Rattle.fb_placing.specs.declared.homes.Homes.TheVariants as homes
 use Rattle.fb_placing.specs.declared.homes.Misplaced.{Misplaced}
 use Rattle.fb_placing.specs.declared.homes.Misplaced.TheVariants.{Unmapped, NoSuchBlock}
-use Rattle.fb_placing.specs.Fronts.{nearest}
+use Rattle.fb_network.specs.Fronts.{nearest}
 use Rattle.fb_placing.specs.Mappings.{mapping_path, names_used, resource_at}
 use Rattle.fb_placing.specs.Standing.{leads_nowhere}
 use Rattle.fb_placing.specs.Systems.{applications_in, mappings_in}

@@ -1,6 +1,5 @@
 -- What the contracts of this crate cite.
 pub mod Firsts
-pub mod Fronts
 pub mod Points
 pub mod Systems
 pub mod Mappings

@@ -7,10 +7,9 @@ use Rattle.std.specs.Cmp.{IsTotalOrder, then_total, on_total}
 use Rattle.std.specs.Cmp.Lexicographic.{nat_list_cmp_total}
 use Rattle.fb_tree.specs.Text.Order.{in_order, name_cmp}
 use Rattle.fb_tree.specs.Tree.{ApplicationTree, ParameterTree}
-use Rattle.fb_netcheck.specs.Library.View.{Sources}
+use Rattle.fb_library.specs.View.{Sources, text_or_empty}
 use Rattle.fb_network.specs.Places.{dotted}
 use Rattle.fb_network.specs.declared.flat.FlatBlock.{FlatBlock}
-use Rattle.fb_netcheck.specs.Spellings.{text_or_empty}
 use Rattle.fb_placing.specs.Standing.{PlainStanding, path_names, standing_at}
 use Rattle.fb_placing.specs.declared.homes.Home.{Home}
 use Rattle.fb_placing.specs.declared.lines.Line.{Line}

@@ -1,7 +1,7 @@
 -- What was looked at last.
 use Rattle.std.specs.Prelude.{ℕ, ◌≡◌, List, Option, Some}
 use Rattle.fb_tree.specs.Tree.{ApplicationTree}
-use Rattle.fb_netcheck.specs.Library.View.{Sources}
+use Rattle.fb_library.specs.View.{Sources}
 use Rattle.fb_placing.specs.Standing.{path_names, plain_standing, standing_at}
 use Rattle.fb_placing.specs.declared.standing.Standing.{Standing}
 

@@ -2,11 +2,11 @@
 use Rattle.std.specs.Prelude.{ℕ, List, ◌∷◌, ◌++◌, map, Option, None, option_map, if◌then◌else◌, codes}
 use Rattle.std.specs.List.{filter_map}
 use Rattle.fb_tree.specs.Tree.{ApplicationTree}
-use Rattle.fb_netcheck.specs.Library.View.{Sources}
+use Rattle.fb_library.specs.View.{Sources}
 use Rattle.fb_network.specs.PlainFlat.{PlainFlat}
 use Rattle.fb_network.specs.declared.flat.Link.{Link}
 use Rattle.fb_placing.specs.Cuts.{home_at, same_home}
-use Rattle.fb_placing.specs.Fronts.{nearest}
+use Rattle.fb_network.specs.Fronts.{nearest}
 use Rattle.fb_placing.specs.declared.homes.Home.{Home}
 use Rattle.fb_placing.specs.declared.lines.Line.{Line}
 use Rattle.fb_placing.specs.Order.{Order}

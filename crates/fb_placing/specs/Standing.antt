@@ -4,7 +4,7 @@ use Rattle.std.specs.Option.{option_map_or}
 use Rattle.fb_tree.specs.Tree.{ApplicationTree, DeclTree, InstanceTree, block_type, adapter_type, subapplication_type, system_configuration, structure_type, instance_tree}
 use Rattle.fb_tree.specs.declared.network.Role.{Role}
 use Rattle.fb_tree.specs.declared.network.Role.TheVariants as roles
-use Rattle.fb_netcheck.specs.Library.View.{Sources, tree_at}
+use Rattle.fb_library.specs.View.{Sources, tree_at}
 use Rattle.fb_placing.specs.declared.standing.Standing.{Standing}
 use Rattle.fb_placing.specs.Firsts.{first_at}
 

@@ -7,7 +7,7 @@ use Rattle.std.specs.declared.hash.FoldHasher.{FoldHasher}
 use Rattle.std.specs.declared.hash.BuildHasherDefault.{BuildHasherDefault}
 use Rattle.fb_tree.specs.Tree.{ApplicationTree, InstanceTree, instance_tree}
 use Rattle.fb_tree.specs.declared.network.Instance.{Instance}
-use Rattle.fb_netcheck.specs.Library.View.{Sources, tree_at}
+use Rattle.fb_library.specs.View.{Sources, tree_at}
 use Rattle.fb_placing.specs.Firsts.{first_at}
 use Rattle.fb_placing.specs.Standing.{inner_instances, instance_called}
 

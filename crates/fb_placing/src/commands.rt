@@ -1,6 +1,6 @@
 //! What is to be done on each resource of a system, and the links that are left.
 ghost use Rattle.std.specs.Prelude.{◌≡◌, ◌++◌, IfOk, IsTrue, List, OnOk, map, ℕ};
-ghost use Rattle.fb_netcheck.specs.Library.View.{tree_at};
+ghost use Rattle.fb_library.specs.View.{tree_at};
 ghost use Rattle.fb_network.specs.Numbered.{link_numbered};
 ghost use Rattle.fb_network.specs.PlainFlat.{PlainFlat};
 ghost use Rattle.fb_placing.specs.Commands.{commands_in};
@@ -22,7 +22,7 @@ use crate::orders::{Numbered, push_creates, push_links, push_starts, push_writes
 use crate::plan::Plan;
 use crate::resources::resources_of;
 use crate::spots::{Spots, are_apart, spots_of};
-use fb_netcheck::library::View;
+use fb_library::View;
 use fb_network::{Flat, Path};
 use fb_tree::text::Name;
 use std::alloc::{AllocError, Global};

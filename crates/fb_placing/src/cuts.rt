@@ -3,9 +3,9 @@ ghost use Rattle.std.specs.Prelude.{◌≡◌, IfOk, option_copied};
 ghost use Rattle.std.specs.HashMap.{get_by_text};
 ghost use Rattle.fb_placing.specs.Cuts.{cuts_of, home_at, is_cut, same_home};
 
-use crate::fronts::{PathTable, add_first, nearest};
+use crate::firsts::add_first;
 use crate::homes::Home;
-use fb_network::{Flat, Link, Path};
+use fb_network::{Flat, Link, Path, PathTable, nearest};
 use std::alloc::{AllocError, Global};
 use std::collections::HashMap;
 

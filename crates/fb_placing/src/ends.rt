@@ -1,6 +1,6 @@
 //! The homes of the ends of links. Those of links beside each other are often in one block.
 ghost use Rattle.std.specs.Prelude.{◌≡◌, ◌++◌, IfOk, IsTrue, None, OnOk, option_copied, string_bytes};
-ghost use Rattle.fb_placing.specs.Fronts.{nearest};
+ghost use Rattle.fb_network.specs.Fronts.{nearest};
 ghost use Rattle.fb_placing.specs.Points.{AreApart, IsInside};
 ghost use Rattle.fb_placing.specs.Spots.{IsKnown, spot_at};
 

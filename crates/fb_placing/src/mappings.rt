@@ -5,8 +5,8 @@ ghost use Rattle.fb_tree.specs.Tree.{mapping_tree};
 ghost use Rattle.fb_network.specs.Printed.{printed};
 ghost use Rattle.fb_placing.specs.Mappings.{mapping_home, mapping_path, names_used, resource_at};
 
-use crate::fronts::{PathTable, add_first};
-use fb_network::Path;
+use crate::firsts::add_first;
+use fb_network::{Path, PathTable};
 use fb_tree::Mapping;
 use fb_tree::text::NameUse;
 use std::alloc::{AllocError, Global};

@@ -3,7 +3,7 @@ ghost use Rattle.std.specs.Prelude.{◌≡◌, IfOk, None, OnOk, option_map, str
 ghost use Rattle.std.specs.BTreeMap.{get};
 ghost use Rattle.std.specs.HashMap.{get_by_text};
 ghost use Rattle.fb_tree.specs.Text.Order.{name_cmp};
-ghost use Rattle.fb_netcheck.specs.Library.View.{tree_at};
+ghost use Rattle.fb_library.specs.View.{tree_at};
 ghost use Rattle.fb_placing.specs.Near.{IsNear};
 ghost use Rattle.fb_placing.specs.Standing.{path_names, plain_standing, standing_at};
 ghost use Rattle.fb_placing.specs.Systems.{applications_in};
@@ -12,7 +12,7 @@ ghost use Rattle.fb_placing.specs.Tables.{AreApplications, AreUnits};
 use crate::parted::parted;
 use crate::standing::{Standing, path_names, standing_at, standing_inside};
 use crate::tables::{Applications, Units};
-use fb_netcheck::library::View;
+use fb_library::View;
 use fb_tree::text::Name;
 use std::alloc::{AllocError, Global};
 

@@ -1,13 +1,13 @@
 //! The resources of a system, and plans of these in plain.
 ghost use Rattle.std.specs.Prelude.{◌≡◌, ◌++◌, map, IfOk, OnOk};
 ghost use Rattle.fb_tree.specs.Tree.{device_tree, resource_tree};
-ghost use Rattle.fb_netcheck.specs.Library.View.{tree_at};
+ghost use Rattle.fb_library.specs.View.{tree_at};
 ghost use Rattle.fb_network.specs.Places.{dotted};
 ghost use Rattle.fb_placing.specs.Systems.{devices_in};
 ghost use Rattle.fb_placing.specs.Resources.{resources_of};
 
 use crate::command::Command;
-use fb_netcheck::library::{View, tree_by_name};
+use fb_library::{View, tree_by_name};
 use fb_network::Path;
 use fb_tree::text::Name;
 use fb_tree::{Decl, Device, Resource};

@@ -3,7 +3,7 @@ ghost use Rattle.std.specs.Prelude.{◌≡◌, ℕ, List, IfOk, IsTrue, OnOk, So
 ghost use Rattle.std.specs.Option.{option_or};
 ghost use Rattle.std.specs.Str.{bytes_eq};
 ghost use Rattle.fb_placing.specs.Cuts.{home_at};
-ghost use Rattle.fb_placing.specs.Fronts.{nearest};
+ghost use Rattle.fb_network.specs.Fronts.{nearest};
 ghost use Rattle.fb_placing.specs.Points.{AreApart};
 ghost use Rattle.fb_placing.specs.Spots.{spot_at};
 

@@ -4,13 +4,13 @@ ghost use Rattle.std.specs.BTreeMap.{get};
 ghost use Rattle.std.specs.HashMap.{get_by_text};
 ghost use Rattle.fb_tree.specs.Text.Order.{name_cmp};
 ghost use Rattle.fb_tree.specs.Tree.{InstanceTree};
-ghost use Rattle.fb_netcheck.specs.Library.View.{tree_at};
+ghost use Rattle.fb_library.specs.View.{tree_at};
 ghost use Rattle.fb_placing.specs.Standing.{instance_called, leads_nowhere, is_placed, path_names, plain_standing, standing_at, standing_beyond, standing_from, standing_in, standing_inside};
 ghost use Rattle.fb_placing.specs.Systems.{applications_in};
 ghost use Rattle.fb_placing.specs.Tables.{AreApplications, AreUnits, instance_at};
 
 use crate::tables::{Applications, Instances, Units, look_into};
-use fb_netcheck::library::View;
+use fb_library::View;
 use fb_tree::text::Name;
 use fb_tree::{Instance, Role};
 use std::alloc::{AllocError, Global};

@@ -4,13 +4,13 @@ ghost use Rattle.std.specs.BTreeMap.{get};
 ghost use Rattle.std.specs.HashMap.{get_by_text};
 ghost use Rattle.fb_tree.specs.Text.Order.{name_cmp};
 ghost use Rattle.fb_tree.specs.Tree.{application_tree, decl_tree, instance_tree};
-ghost use Rattle.fb_netcheck.specs.Library.View.{tree_at};
+ghost use Rattle.fb_library.specs.View.{tree_at};
 ghost use Rattle.fb_placing.specs.Standing.{inner_instances, instance_called};
 ghost use Rattle.fb_placing.specs.Systems.{applications_in};
 ghost use Rattle.fb_placing.specs.Tables.{AreApplications, AreUnits, instance_at};
 
-use crate::fronts::add_first;
-use fb_netcheck::library::{View, tree_by_name};
+use crate::firsts::add_first;
+use fb_library::{View, tree_by_name};
 use fb_tree::text::Name;
 use fb_tree::{Application, Decl, Instance};
 use std::alloc::{AllocError, Global};

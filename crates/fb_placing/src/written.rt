@@ -3,17 +3,16 @@ ghost use Rattle.std.specs.Prelude.{◌≡◌, All, IfOk, string_bytes};
 ghost use Rattle.std.specs.List.{flat_map};
 ghost use Rattle.fb_tree.specs.Text.Tokens.{LiesIn};
 ghost use Rattle.fb_tree.specs.Tree.{constant_tree};
-ghost use Rattle.fb_netcheck.specs.Spellings.{part};
-ghost use Rattle.fb_netcheck.specs.Iface.Literals.{simple_span};
-ghost use Rattle.fb_placing.specs.Written.{constant_span, token_text, without_gaps, written};
+ghost use Rattle.fb_library.specs.Parts.{part};
+ghost use Rattle.fb_placing.specs.Written.{constant_span, token_text, value_span, without_gaps, written};
 
-use fb_netcheck::part_of;
+use fb_library::part_of;
 use fb_tree::text::{Span, Token, TokenFault, tokens};
 use fb_tree::{Constant, Simple};
 use std::alloc::{AllocError, Global};
 
-fn span_of_simple(value: &Simple) -> Span
-    ensures { result ≡ simple_span value.now }
+fn span_of_value(value: &Simple) -> Span
+    ensures { result ≡ value_span value.now }
 {
     match value {
         Simple::Literal(literal) => literal.span.span(),
@@ -25,7 +24,7 @@ fn span_of(constant: &Constant) -> Span
     ensures { result ≡ constant_span (constant_tree constant.now) }
 {
     match constant {
-        Constant::One(value) => span_of_simple(value),
+        Constant::One(value) => span_of_value(value),
         Constant::List(_, span) => span.span(),
     }
 }

@@ -1,7 +1,7 @@
 -- The commands are those of the homes, and what they are about is the flat network that is shared.
 use Rattle.std.proofs.Common.{◌≡◌, ◌++◌, map, sym, ap, ◌∙◌}
 use Rattle.fb_placing.specs.Spots.{spot_at}
-use Rattle.fb_netcheck.specs.Library.View.{tree_at}
+use Rattle.fb_library.specs.View.{tree_at}
 use Rattle.fb_placing.specs.Cuts.{home_at}
 use Rattle.fb_placing.specs.Items.{plain_resource}
 use Rattle.fb_placing.specs.Lines.{create_lines, write_lines}

@@ -1,6 +1,6 @@
 -- The end is in the block that was found last.
 use Rattle.std.proofs.Common.{◌≡◌, ◌++◌, ◌∷◌, ℕ, List, string_bytes, sym, ◌∙◌, ap}
-use Rattle.fb_placing.specs.Fronts.{nearest}
+use Rattle.fb_network.specs.Fronts.{nearest}
 use Rattle.fb_placing.specs.Spots.{spot_at}
 use Rattle.fb_placing.proofs.ApartLemmas.{apart_inside}
 use Rattle.fb_placing.proofs.ends.home_of_end.Goals as goal

@@ -3,7 +3,7 @@ use Rattle.std.proofs.Common.{◌≡◌, take, map}
 use Rattle.std.specs.BTreeMap.{get}
 use Rattle.fb_tree.specs.Text.Order.{name_cmp}
 use Rattle.fb_tree.specs.Tree.{mapping_tree}
-use Rattle.fb_netcheck.specs.Library.View.{tree_at}
+use Rattle.fb_library.specs.View.{tree_at}
 use Rattle.fb_placing.specs.Homes.{astray}
 use Rattle.fb_placing.specs.Systems.{applications_in}
 use Rattle.fb_placing.specs.Tables.{AreUnits}

@@ -1,7 +1,7 @@
 -- The homes, or what is misplaced.
 use Rattle.std.proofs.Common.{◌≡◌, List, ℕ, Option, ap, ◌∙◌, rules}
 use Rattle.std.specs.HashMap.{get_by_text}
-use Rattle.fb_netcheck.specs.Library.View.{tree_at}
+use Rattle.fb_library.specs.View.{tree_at}
 use Rattle.fb_placing.specs.Homes.{block_homes, homeless}
 use Rattle.fb_placing.specs.Mappings.{resource_at}
 use Rattle.fb_placing.specs.Systems.{mappings_in}

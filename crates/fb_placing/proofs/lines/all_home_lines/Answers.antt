@@ -2,7 +2,7 @@
 use Rattle.std.proofs.Common.{List, [], ◌++◌, sym, ◌∙◌, ap, append-nil, rules}
 use Rattle.std.specs.List.{flat_map}
 use Rattle.std.proofs.lemmas.Grind.{flat_map-append}
-use Rattle.fb_netcheck.specs.Library.View.{tree_at}
+use Rattle.fb_library.specs.View.{tree_at}
 use Rattle.fb_placing.specs.Lines.{home_lines}
 use Rattle.fb_placing.specs.Systems.{applications_in}
 use Rattle.fb_placing.specs.declared.lines.Line.{Line}

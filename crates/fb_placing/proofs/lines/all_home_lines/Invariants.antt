@@ -3,7 +3,7 @@ use Rattle.std.proofs.Common.{◌≡◌, string_bytes, take}
 use Rattle.std.specs.BTreeMap.{get}
 use Rattle.std.specs.List.{flat_map}
 use Rattle.fb_tree.specs.Text.Order.{name_cmp}
-use Rattle.fb_netcheck.specs.Library.View.{tree_at}
+use Rattle.fb_library.specs.View.{tree_at}
 use Rattle.fb_placing.specs.Systems.{applications_in}
 use Rattle.fb_placing.specs.Lines.{home_lines}
 use Rattle.fb_placing.specs.Near.{IsNear}

@@ -1,7 +1,7 @@
 -- The name is looked for in the instance that stands in front of it.
 use Rattle.std.proofs.Common.{◌≡◌, ℕ, List, Some, sym, ◌∙◌, ap}
 use Rattle.std.proofs.lemmas.Result.{IfOk-weaker}
-use Rattle.fb_netcheck.specs.Library.View.{tree_at}
+use Rattle.fb_library.specs.View.{tree_at}
 use Rattle.fb_placing.specs.Standing.{path_names, plain_standing, standing_at, standing_inside}
 use Rattle.fb_placing.specs.Systems.{applications_in}
 use Rattle.fb_placing.proofs.PartedLemmas.{names_parted}

@@ -2,7 +2,7 @@
 use Rattle.std.proofs.Common.{◌≡◌, None, take}
 use denote.Shadow.{shadow}
 use denote.Text.{Utf8}
-use Rattle.fb_placing.specs.Fronts.{nearest}
+use Rattle.fb_network.specs.Fronts.{nearest}
 use Rattle.fb_placing.specs.Spots.{spot_at}
 use Rattle.fb_placing.proofs.ApartLemmas.{AreClear}
 use Rattle.fb_placing.proofs.spots.are_apart.Given as goal

@@ -1,7 +1,7 @@
 -- From the path itself to its shortest front.
 use Rattle.std.proofs.Common.{◌≡◌, ℕ, suc, ◌-◌, List, Some, None, get_or, take, sym, ◌∙◌, ap, eq-eqb, arith, rules}
 use Rattle.fb_placing.specs.Spots.{spot_at}
-use Rattle.fb_placing.proofs.FrontLemmas.{nearest_below, nearest_here, nearest_in_front, below_nothing, below_here}
+use Rattle.fb_network.proofs.FrontLemmas.{nearest_below, nearest_here, nearest_in_front, below_nothing, below_here}
 use Rattle.fb_placing.proofs.spots.nearest_spot.Goals as goal
 
 pub returns-in-Some : goal.returns-in-Some

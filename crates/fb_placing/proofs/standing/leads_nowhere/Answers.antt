@@ -1,7 +1,7 @@
 -- One name is that of an application.
 use Rattle.std.proofs.Common.{◌∙◌, ap}
 use Rattle.std.specs.Prelude.{not}
-use Rattle.fb_netcheck.specs.Library.View.{tree_at}
+use Rattle.fb_library.specs.View.{tree_at}
 use Rattle.fb_placing.specs.Systems.{applications_in}
 use Rattle.fb_placing.proofs.StandingLemmas.{nowhere_alone}
 use Rattle.fb_placing.proofs.standing.leads_nowhere.Goals as goal

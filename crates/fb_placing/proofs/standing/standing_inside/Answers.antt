@@ -4,7 +4,7 @@ use Rattle.std.specs.Prelude.{option_copied, option_map}
 use Rattle.std.specs.BTreeMap.{get}
 use Rattle.fb_tree.specs.Text.Order.{name_cmp}
 use Rattle.fb_tree.specs.Tree.{InstanceTree}
-use Rattle.fb_netcheck.specs.Library.View.{tree_at}
+use Rattle.fb_library.specs.View.{tree_at}
 use Rattle.fb_placing.specs.Standing.{inner_instances, standing_in}
 use Rattle.fb_placing.specs.Tables.{instance_at}
 use Rattle.fb_placing.proofs.InstanceLemmas.{among_called}

@@ -2,7 +2,7 @@
 use Rattle.std.proofs.Common.{◌≡◌, ℕ, List, ◌∙◌, ap}
 use Rattle.std.specs.BTreeMap.{get}
 use Rattle.fb_tree.specs.Text.Order.{name_cmp}
-use Rattle.fb_netcheck.specs.Library.View.{tree_at}
+use Rattle.fb_library.specs.View.{tree_at}
 use Rattle.fb_placing.specs.Standing.{inner_instances, instance_called}
 use Rattle.fb_placing.specs.Tables.{Instances, instance_at}
 use Rattle.fb_placing.proofs.InstanceLemmas.{one_added}

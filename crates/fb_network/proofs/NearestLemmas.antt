@@ -4,8 +4,8 @@ use Rattle.std.proofs.lemmas.Bool.Decides.{Decides-eqb}
 use Rattle.std.proofs.Math.Seq.{drop-cons, take-append_seam, get_or-append_seam}
 use Rattle.std.specs.Option.{option_or}
 use native.Mathlib.Decide.{dec_lt}
-use Rattle.fb_placing.specs.Fronts.{IsFront, IsNearest, nearest}
-use Rattle.fb_placing.proofs.FrontLemmas.{nearest_below, nearest_is, below_no_point, below_nothing, below_here}
+use Rattle.fb_network.specs.Fronts.{IsFront, IsNearest, nearest}
+use Rattle.fb_network.proofs.FrontLemmas.{nearest_below, nearest_is, below_no_point, below_nothing, below_here}
 
 -- the test of a byte as a fact
 is_point : (b : ℕ) → ((b == 46) ≡ true) ⊎ ((b == 46) ≡ false)

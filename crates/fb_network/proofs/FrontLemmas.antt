@@ -1,7 +1,7 @@
 -- What stands in front of a path, place by place.
 use Rattle.std.proofs.Common.{ℕ, zero, suc, ◌≡◌, ◌==◌, Bool, true, false, cond, List, [], ◌∷◌, ◌++◌, Option, Some, None, refl, sym, ◌∙◌, ap, take, get_or, length, map, append_assoc, append-nil}
 use Rattle.std.specs.Option.{option_or}
-use Rattle.fb_placing.specs.Fronts.{fronts, last_there, nearest}
+use Rattle.fb_network.specs.Fronts.{fronts, last_there, nearest}
 
 -- the front that ends at a point
 abbrev pub cut_at : List ℕ → ℕ → List (List ℕ)

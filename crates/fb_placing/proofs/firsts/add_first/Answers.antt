@@ -3,7 +3,7 @@ use Rattle.std.proofs.Common.{◌≡◌, ℕ, List, false, is_some, string_bytes
 use Rattle.std.specs.HashMap.{get_by_text}
 use Rattle.std.proofs.lemmas.Map.Text.{hash_map_updates_text}
 use Rattle.fb_placing.proofs.TableLemmas.{added_first}
-use Rattle.fb_placing.proofs.fronts.add_first.Goals as goal
+use Rattle.fb_placing.proofs.firsts.add_first.Goals as goal
 
 pub returns-in_ok-insert : goal.returns-in_ok-insert
 returns-in_ok-insert g c =

@@ -1,0 +1,27 @@
+//! What stands in front of paths.
+ghost use Rattle.std.specs.Prelude.{◌≡◌, option_copied};
+ghost use Rattle.std.specs.HashMap.{get_by_text};
+ghost use Rattle.fb_network.specs.Fronts.{nearest};
+
+use crate::path::Path;
+use std::collections::HashMap;
+
+/// Paths by the texts that stand for them.
+pub type PathTable = HashMap<String, Path>;
+
+/// What the longest front of the path stands for, of those that stand for something.
+pub fn nearest<'a>(table: &'a PathTable, path: &str) -> Option<&'a Path>
+    ensures { option_copied result ≡ nearest (get_by_text table.now) path.now }
+{
+    if let Some(found) = table.get(path) {
+        return Some(found);
+    }
+    for i in (0..path.len()).rev() {
+        if path.as_bytes()[i] == b'.' {
+            if let Some(found) = table.get(&path[..i]) {
+                return Some(found);
+            }
+        }
+    }
+    None
+}
