@@ -1,5 +1,5 @@
 -- Calls with one seat, one after another, and those that a worker makes.
-use Rattle.std.specs.Prelude.{◌≡◌, ℕ, ◌≤◌, ◌++◌, [], ◌∷◌, List, Option, Some, None, length}
+use Rattle.std.specs.Prelude.{◌≡◌, ℕ, ◌≤◌, ◌<◌, ◌++◌, [], ◌∷◌, List, Option, Some, None, length, ⊤}
 use Rattle.fb_bench.specs.Jobs.Reads.{PlainJob}
 use Rattle.fb_bench.specs.History.Machine.{Call, ToCommit, ToTake, ToDeliver, ToGiveBack, ToAsk, Reply}
 use Rattle.fb_bench.specs.Requests.{job_of}
@@ -90,3 +90,9 @@ abbrev pub AddsLook : Look → SeatState → List Claim → List Claim → SeatS
 AddsLook (Taken job) seat old new after = AddsWork Empty 1 seat old new after (Holds job)
 AddsLook Nothing seat old new after = (new ≡ old) × (after ≡ seat)
 AddsLook (Ended end) seat old new after = (new ≡ old) × (after ≡ seat)
+
+-- Where a look takes a job, so many receipts have room for one more.
+abbrev pub LeavesRoom : Look → ℕ → ℕ → Type 0
+LeavesRoom (Taken job) count capacity = count < capacity
+LeavesRoom Nothing count capacity = ⊤
+LeavesRoom (Ended end) count capacity = ⊤

@@ -1,5 +1,5 @@
 //! What lies under the lock, and the calls on it.
-ghost use Rattle.std.specs.Prelude.{◌≡◌, true, false, IfOk, IfErr, OnOk, OnErr, None, Some};
+ghost use Rattle.std.specs.Prelude.{◌≡◌, ◌≤◌, ◌+◌, true, false, IfOk, IfErr, OnOk, OnErr, None, Some, vec_len, vec_capacity};
 ghost use Rattle.fb_bench.specs.History.Machine.{ToCommit, ToTake, ToDeliver, ToGiveBack, ToAsk};
 ghost use Rattle.fb_bench.specs.Records.{listed};
 ghost use Rattle.fb_bench.specs.Requests.{call_for, reply_in, job_of};
@@ -169,6 +169,8 @@ impl Locked {
             receipts.old.items self.new seat.new receipts.new.items }
         ensures answers { AnswersKept seat.old (call_for request.now) result
             receipts.old.items seat.new receipts.new.items }
+        ensures one { OnOk result (vec_len receipts.new ≡ vec_len receipts.old + 1) }
+        ensures room { vec_capacity receipts.old ≤ vec_capacity receipts.new }
     {
         if receipts.reserve(1).is_err() {
             self.admit(seat)?;

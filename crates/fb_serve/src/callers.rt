@@ -1,5 +1,5 @@
 //! The threads of a server: a session for each connection, and the workers beside them.
-ghost use Rattle.std.specs.Prelude.{List};
+ghost use Rattle.std.specs.Prelude.{◌≡◌, [], if◌then◌else◌, List};
 ghost use Rattle.fb_serve.specs.Shown.{IsNew, IsShown, AreShown};
 
 use crate::session::{Session, run_session};
@@ -122,7 +122,9 @@ pub(crate) fn run_callers<R: Threads + Wait + Sync>(
 }
 
 /// The seats, or none of them where a worker was not started.
-fn seats_beside(working: &Started, seats: Vec<NewSeat>) -> Vec<NewSeat> {
+fn seats_beside(working: &Started, seats: Vec<NewSeat>) -> Vec<NewSeat>
+    ensures { result.items ≡ (if working.now.is_whole then seats.items else []) }
+{
     let mut seats = seats;
     if !working.is_whole {
         seats.clear();
