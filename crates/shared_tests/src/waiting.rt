@@ -10,17 +10,23 @@ use std::sync::atomic::{AtomicU64, Ordering};
 use std::test::Fail;
 use std::thread::join;
 
-// Counts the jobs that were run, each for a while, and the workers that have ended.
+// Counts the jobs that were run, each for a while, and the workers that have ended. The first jobs, as many as are poor, find no
+// memory.
 #[derive(Drop)]
 struct Counted {
+    poor: AtomicU64,
     run: AtomicU64,
     ended: AtomicU64,
 }
 
 impl Gate for Counted {
     fn run(&self, alloc: Global, worker: u32, job: &Job) -> Result<Finished, AllocError> {
-        let finished = Plain.run(alloc, worker, job);
         pause();
+        if self.poor.load(Ordering::SeqCst) > 0 {
+            self.poor.fetch_sub(1, Ordering::SeqCst);
+            return Err(AllocError);
+        }
+        let finished = Plain.run(alloc, worker, job);
         self.run.fetch_add(1, Ordering::SeqCst);
         finished
     }
@@ -28,6 +34,7 @@ impl Gate for Counted {
 
 fn new_count() -> Counted {
     Counted {
+        poor: AtomicU64::new(0),
         run: AtomicU64::new(0),
         ended: AtomicU64::new(0),
     }
@@ -155,9 +162,9 @@ fn a_full_history_ends_a_worker_that_waits(rt: HostRuntime) -> Result<(), Fail> 
     Ok(())
 }
 
-// a workbench with room for three records, and the seats of its three callers
-fn room_for_three(alloc: Global) -> Option<(Shared, Seat, Seat, Seat)> {
-    let (shared, mut seats) = Shared::new(alloc, Limits::new(16, 3)?, 3).ok()?;
+// a workbench with room for so many records, and the seats of its three callers
+fn room_for_three(alloc: Global, history: u64) -> Option<(Shared, Seat, Seat, Seat)> {
+    let (shared, mut seats) = Shared::new(alloc, Limits::new(16, history)?, 3).ok()?;
     let third = seats.pop()?;
     let second = seats.pop()?;
     let first = seats.pop()?;
@@ -189,7 +196,7 @@ fn put_and_wait<R: Wait>(
 #[test]
 fn a_delivery_ends_a_worker_that_waits(rt: HostRuntime) -> Result<(), Fail> {
     let alloc: Global = rt.alloc();
-    let (shared, first, second, third) = room_for_three(alloc).ok_or("a workbench")?;
+    let (shared, first, second, third) = room_for_three(alloc, 3).ok_or("a workbench")?;
     let gate = new_count();
     let ((a, b), are_over) = join(
         &rt,
@@ -205,5 +212,50 @@ fn a_delivery_ends_a_worker_that_waits(rt: HostRuntime) -> Result<(), Fail> {
     let full = WorkEnd::HistoryFull;
     assert_eq!(rt; (a.0, b.0, are_over), (full, full, true));
     assert_eq!(rt; a.1.max(b.1), 2);
+    Ok(())
+}
+
+// puts a unit while both workers wait, and stops them once its job was run
+fn put_and_run<R: Wait>(
+    rt: &R,
+    alloc: Global,
+    shared: &Shared,
+    mut seat: Seat,
+    gate: &Counted,
+) -> bool {
+    pause();
+    let put = put_one(rt, alloc, shared, &mut seat);
+    let is_run = is_changed(&gate.run, 0);
+    shared.stop(rt);
+    is_run && put.is_some()
+}
+
+// The one finds no memory and gives its key back while the other waits.
+#[test]
+fn a_key_given_back_goes_to_a_worker_that_waits(rt: HostRuntime) -> Result<(), Fail> {
+    let alloc: Global = rt.alloc();
+    let (shared, first, second, third) = room_for_three(alloc, 1000).ok_or("a workbench")?;
+    let gate = new_count();
+    gate.poor.store(1, Ordering::SeqCst);
+    let ((a, b), is_run) = join(
+        &rt,
+        || {
+            join(
+                &rt,
+                || work(&rt, alloc, &shared, second, &gate),
+                || work(&rt, alloc, &shared, third, &gate),
+            )
+        },
+        || put_and_run(&rt, alloc, &shared, first, &gate),
+    );
+    let (poor, other) = if a.0 == WorkEnd::Memory {
+        (a, b)
+    } else {
+        (b, a)
+    };
+    assert_eq!(rt;
+        (poor, other, is_run),
+        ((WorkEnd::Memory, 2), (WorkEnd::Stopped, 2), true)
+    );
     Ok(())
 }
