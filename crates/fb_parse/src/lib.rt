@@ -16,7 +16,7 @@ pub use source::{ReadFault, Source};
 
 /// Of `fb_text`, for the crates above.
 pub mod text {
-    pub use fb_tree::text::{Name, sorted_names};
+    pub use fb_tree::text::{Name, Span, sorted_names};
 }
 
 /// Of `fb_tree`, for the crates above.
