@@ -6,15 +6,14 @@ use fb_shared::{Gate, Plain, Seat, Shared, WorkEnd, work_on};
 use std::alloc::{AllocError, Global};
 use std::hint::spin_loop;
 use std::sync::Wait;
-use std::sync::atomic::{AtomicU64, Ordering};
+use std::sync::atomic::{AtomicBool, AtomicU64, Ordering};
 use std::test::Fail;
 use std::thread::join;
 
-// Counts the jobs that were run, each for a while, and the workers that have ended. The first jobs, as many as are poor, find no
-// memory.
+// Counts the jobs that were run, each for a while, and the workers that have ended. Where it is poor, the first job finds no memory.
 #[derive(Drop)]
 struct Counted {
-    poor: AtomicU64,
+    is_poor: AtomicBool,
     run: AtomicU64,
     ended: AtomicU64,
 }
@@ -22,8 +21,7 @@ struct Counted {
 impl Gate for Counted {
     fn run(&self, alloc: Global, worker: u32, job: &Job) -> Result<Finished, AllocError> {
         pause();
-        if self.poor.load(Ordering::SeqCst) > 0 {
-            self.poor.fetch_sub(1, Ordering::SeqCst);
+        if self.is_poor.swap(false, Ordering::SeqCst) {
             return Err(AllocError);
         }
         let finished = Plain.run(alloc, worker, job);
@@ -34,7 +32,7 @@ impl Gate for Counted {
 
 fn new_count() -> Counted {
     Counted {
-        poor: AtomicU64::new(0),
+        is_poor: AtomicBool::new(false),
         run: AtomicU64::new(0),
         ended: AtomicU64::new(0),
     }
@@ -236,7 +234,7 @@ fn a_key_given_back_goes_to_a_worker_that_waits(rt: HostRuntime) -> Result<(), F
     let alloc: Global = rt.alloc();
     let (shared, first, second, third) = room_for_three(alloc, 1000).ok_or("a workbench")?;
     let gate = new_count();
-    gate.poor.store(1, Ordering::SeqCst);
+    gate.is_poor.store(true, Ordering::SeqCst);
     let ((a, b), is_run) = join(
         &rt,
         || {
