@@ -80,7 +80,7 @@ fn faults_of_units(rt: HostRuntime) -> Result<(), Fail> {
     try_call::<Judged>(&rt, alloc, "ecc_faults", "", (Some(charts), TEXT))?;
     try_call::<Judged>(&rt, alloc, "net_faults", "", (Some(networks), TEXT))?;
     try_call::<Judged>(&rt, alloc, "faults", "", (None, TEXT))?;
-    try_call::<Judged>(&rt, alloc, "faults", "structure", (None, STRUCTURE))
+    try_call::<Judged>(&rt, alloc, "faults", " of a structure", (None, STRUCTURE))
 }
 
 /// The ports of a text.

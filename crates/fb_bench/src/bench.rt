@@ -24,7 +24,6 @@ use std::marker::Model;
 use std::sync::Arc;
 
 /// The workbench of one thread. All that it is follows from its history, with what that begins from.
-#[derive(Drop)]
 pub struct Bench {
     alloc: Global,
     history: History,
@@ -32,6 +31,19 @@ pub struct Bench {
     commits: u64,
     entries: Entries,
     index: Index,
+}
+
+impl Drop for Bench {
+    fn drop(self) {
+        let Self {
+            alloc: _,
+            history: _,
+            library: _,
+            commits: _,
+            entries: _,
+            index: _,
+        } = self;
+    }
 }
 
 impl Model for Bench {

@@ -28,11 +28,19 @@ use std::marker::Model;
 use std::sync::Arc;
 
 /// The keys of a library, what is kept of each, and which of them can be taken.
-#[derive(Drop)]
 pub struct Entries {
     by_key: BTreeMap<Key, Entry>,
     /// The keys that are pending and not handed out.
     ready: BTreeSet<Key>,
+}
+
+impl Drop for Entries {
+    fn drop(self) {
+        let Self {
+            by_key: _,
+            ready: _,
+        } = self;
+    }
 }
 
 /// The keys that are pending and those that are handed out, by rising key.

@@ -11,7 +11,6 @@ use std::collections::{BTreeMap, BTreeSet};
 use std::sync::Arc;
 
 /// What is kept of a key.
-#[derive(Drop)]
 pub struct Entry {
     /// The key, to be shared with what is recorded of it.
     pub key: Arc<Key>,
@@ -23,6 +22,18 @@ pub struct Entry {
     pub found: Option<Arc<Value>>,
     /// The value that it had last, with the texts that gave it: it is shared where it comes out again.
     pub former: Option<Made>,
+}
+
+impl Drop for Entry {
+    fn drop(self) {
+        let Self {
+            key: _,
+            value: _,
+            out: _,
+            found: _,
+            former: _,
+        } = self;
+    }
 }
 
 impl Entry {

@@ -17,7 +17,6 @@ use std::collections::{BTreeMap, BTreeSet};
 use std::sync::Arc;
 
 /// The keys that a commit makes, reaches and ends. Nothing is changed by finding them.
-#[derive(Drop)]
 pub struct Renewal {
     /// New keys, which have no entry yet.
     pub fresh: Vec<Key>,
@@ -27,6 +26,17 @@ pub struct Renewal {
     pub renewed: Vec<Key>,
     /// Those of them that are to join the set of the keys that can be taken.
     pub unready: Vec<Key>,
+}
+
+impl Drop for Renewal {
+    fn drop(self) {
+        let Self {
+            fresh: _,
+            gone: _,
+            renewed: _,
+            unready: _,
+        } = self;
+    }
 }
 
 /// The units of the changes.

@@ -12,13 +12,24 @@ use std::sync::Arc;
 
 /// What it begins from, and the calls that were recorded since, at most `limit` of them; `turns` counts the calls of each caller, those
 /// before the start included.
-#[derive(Drop)]
 pub struct History {
     alloc: Global,
     start: Start,
     limit: u64,
     records: Vec<Arc<Record>>,
     turns: BTreeMap<u32, u64>,
+}
+
+impl Drop for History {
+    fn drop(self) {
+        let Self {
+            alloc: _,
+            start: _,
+            limit: _,
+            records: _,
+            turns: _,
+        } = self;
+    }
 }
 
 impl Model for History {

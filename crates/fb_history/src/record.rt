@@ -14,14 +14,18 @@ use std::marker::Model;
 use std::sync::Arc;
 
 /// A key with the texts that a job for it has read.
-#[derive(Drop)]
 pub struct Wanted {
     pub key: Key,
     pub reads: Arc<TextReads>,
 }
 
+impl Drop for Wanted {
+    fn drop(self) {
+        let Self { key: _, reads: _ } = self;
+    }
+}
+
 /// A change as it is recorded.
-#[derive(Drop)]
 pub enum TextChange {
     Put {
         unit: Name,
@@ -32,6 +36,19 @@ pub enum TextChange {
         unit: Name,
         base: u64,
     },
+}
+
+impl Drop for TextChange {
+    fn drop(self) {
+        match self {
+            Self::Put {
+                unit: _,
+                base: _,
+                text: _,
+            }
+            | Self::Remove { unit: _, base: _ } => {}
+        }
+    }
 }
 
 impl TextChange {
@@ -74,7 +91,6 @@ impl TextChange {
 }
 
 /// A recorded call, in 16 bytes: what is larger stands in a box, or is shared with what the workbench keeps of the key.
-#[derive(Drop)]
 pub enum Call {
     Commit(Box<Vec<TextChange>>),
     Take,
@@ -83,8 +99,15 @@ pub enum Call {
     Ask(Arc<Key>),
 }
 
+impl Drop for Call {
+    fn drop(self) {
+        match self {
+            Self::Commit(_) | Self::Take | Self::Deliver(_) | Self::GiveBack(_) | Self::Ask(_) => {}
+        }
+    }
+}
+
 /// The answer to a recorded call. What is large stands in a box.
-#[derive(Drop)]
 pub enum Reply {
     Committing(Box<Committed>),
     Taking(Option<Box<Wanted>>),
@@ -92,6 +115,18 @@ pub enum Reply {
     Delivering(Option<Box<Delivered>>),
     GivingBack(GivenBack),
     Asking(Asked),
+}
+
+impl Drop for Reply {
+    fn drop(self) {
+        match self {
+            Self::Committing(_)
+            | Self::Taking(_)
+            | Self::Delivering(_)
+            | Self::GivingBack(_)
+            | Self::Asking(_) => {}
+        }
+    }
 }
 
 impl Reply {
@@ -114,12 +149,22 @@ impl Reply {
 }
 
 /// One call of the history. `turn` counts its caller's recorded calls up to this one.
-#[derive(Drop)]
 pub struct Record {
     pub(crate) caller: u32,
     pub(crate) turn: u64,
     pub(crate) call: Call,
     pub(crate) reply: Reply,
+}
+
+impl Drop for Record {
+    fn drop(self) {
+        let Self {
+            caller: _,
+            turn: _,
+            call: _,
+            reply: _,
+        } = self;
+    }
 }
 
 impl Model for Record {

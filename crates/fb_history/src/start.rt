@@ -11,7 +11,6 @@ use std::marker::Model;
 
 /// What a history begins from: a state, and how many calls of each caller came before. It holds the texts that it began with until it is
 /// replaced, those that were changed since too.
-#[derive(Drop)]
 pub struct Start {
     pub(crate) most_units: u64,
     pub(crate) library: Library,
@@ -20,6 +19,20 @@ pub struct Start {
     pub(crate) out: Vec<Key>,
     pub(crate) before: u64,
     pub(crate) calls: BTreeMap<u32, u64>,
+}
+
+impl Drop for Start {
+    fn drop(self) {
+        let Self {
+            most_units: _,
+            library: _,
+            commits: _,
+            pending: _,
+            out: _,
+            before: _,
+            calls: _,
+        } = self;
+    }
 }
 
 impl Model for Start {

@@ -3,9 +3,8 @@ use Rattle.std.specs.Prelude.{Bool, List, [], ◌∷◌, not, map, filter, if◌
 use Rattle.std.specs.List.{flat_map}
 use Rattle.std.specs.Option.{option_map_or}
 use Rattle.fb_tree.specs.Text.declared.token.Span.{Span}
-use Rattle.fb_tree.specs.Tree.{ConstantTree, one_value, value_list, VariablesTree}
+use Rattle.fb_tree.specs.Tree.{ConstantTree, one_value, value_list, value_span, VariablesTree}
 use Rattle.fb_tree.specs.declared.constant.Simple.{Simple}
-use Rattle.fb_tree.specs.declared.constant.Simple.TheVariants as constants
 use Rattle.fb_tree.specs.declared.interface.TypeForm.{TypeForm}
 use Rattle.fb_tree.specs.declared.interface.TypeForm.TheVariants as forms
 use Rattle.fb_tree.specs.declared.interface.TypeUse.{TypeUse}
@@ -14,16 +13,12 @@ use Rattle.fb_iface.specs.declared.code.Code.TheVariants.{Literal}
 use Rattle.fb_iface.specs.declared.fault.Fault.{Fault}
 use Rattle.fb_iface.specs.Class.{class_of_name, class_of_simple, class_of_type, is_free, takes}
 
-abbrev pub simple_span : Simple → Span
-simple_span (constants.Literal literal) = literal.span
-simple_span (constants.Name name) = name.span
-
 abbrev pub literal_fault : Span → Fault
 literal_fault span = record { code = Literal; span = span }
 
 -- the constants that a type of this class doesn't take
 abbrev pub misfits : Class → List Simple → List Fault
-misfits class values = map (λ v. literal_fault (simple_span v)) (filter (λ v. not (takes class (class_of_simple v))) values)
+misfits class values = map (λ v. literal_fault (value_span v)) (filter (λ v. not (takes class (class_of_simple v))) values)
 
 -- an array takes no constant that stands alone, but one that is not judged
 abbrev pub fits_alone : TypeForm → Class → Class → Bool
@@ -40,7 +35,7 @@ list_faults forms.Sized used values span = if is_free (class_of_type used) then 
 -- a constant that doesn't fit the type, or the elements of a list that don't
 abbrev pub constant_faults : TypeUse → ConstantTree → List Fault
 constant_faults used (one_value value) =
-    if fits_alone used.form (class_of_type used) (class_of_simple value) then [] else literal_fault (simple_span value) ∷ []
+    if fits_alone used.form (class_of_type used) (class_of_simple value) then [] else literal_fault (value_span value) ∷ []
 constant_faults used (value_list values span) = list_faults used.form used values span
 
 -- the initial value of variables

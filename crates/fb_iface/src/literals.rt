@@ -1,7 +1,7 @@
 //! Constants that do not fit their type.
 ghost use Rattle.std.specs.Prelude.{◌≡◌, ◌++◌, OnOk};
 ghost use Rattle.fb_tree.specs.Tree.{one_value, constant_tree};
-ghost use Rattle.fb_iface.specs.Literals.{constant_faults, fits_alone, list_faults, literal_fault, misfits, simple_span};
+ghost use Rattle.fb_iface.specs.Literals.{constant_faults, fits_alone, list_faults, literal_fault, misfits};
 
 use crate::classes::{Class, class_by_name, class_of_constant, class_of_wide, is_taken};
 use crate::code::Code;
@@ -36,7 +36,7 @@ fn report_alone(
         (found.new.items ≡ found.old.items ++ constant_faults used.now (one_value value.now)) }
 {
     if !is_fit(used.form(), class_of_wide(used), class_of_constant(value)) {
-        found.push(misfit(span_of(value)))?;
+        found.push(misfit(value.span()))?;
     }
     Ok(())
 }
@@ -81,7 +81,7 @@ fn report_elements(
 {
     for value in values {
         if !is_taken(class, class_of_constant(value)) {
-            found.push(misfit(span_of(value)))?;
+            found.push(misfit(value.span()))?;
         }
     }
     Ok(())
@@ -93,15 +93,5 @@ fn misfit(span: Span) -> Fault
     Fault {
         code: Code::Literal,
         span,
-    }
-}
-
-/// Where a constant stands.
-fn span_of(constant: &Simple) -> Span
-    ensures { result ≡ simple_span constant.now }
-{
-    match constant {
-        Simple::Literal(literal) => literal.span.span(),
-        Simple::Name(name) => name.span.span(),
     }
 }

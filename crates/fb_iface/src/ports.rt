@@ -38,11 +38,20 @@ pub struct DeclaredInstance {
 
 /// What the events, variables and instances of a unit are, by their names, in the order of the text. A name that is declared more than once
 /// stands for its first declaration: an internal variable or an instance may hide a port of that name.
-#[derive(Drop)]
 pub struct Ports {
     events: IndexMap<Name, DeclaredEvent>,
     variables: IndexMap<Name, DeclaredVariable>,
     instances: IndexMap<Name, DeclaredInstance>,
+}
+
+impl Drop for Ports {
+    fn drop(self) {
+        let Self {
+            events: _,
+            variables: _,
+            instances: _,
+        } = self;
+    }
 }
 
 impl Model for Ports {

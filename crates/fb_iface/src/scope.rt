@@ -25,10 +25,15 @@ struct KeptType {
 }
 
 /// What names stand for in a network. The ports of each type are read once, however many instances have it.
-#[derive(Drop)]
 pub struct Scope {
     own: Ports,
     types: HashMap<Name, KeptType>,
+}
+
+impl Drop for Scope {
+    fn drop(self) {
+        let Self { own: _, types: _ } = self;
+    }
 }
 
 impl Scope {

@@ -21,9 +21,14 @@ use std::marker::Model;
 
 /// The fields of a structure by name, in the order of the text. A name that is declared more than once stands for its first
 /// declaration.
-#[derive(Drop)]
 pub struct FieldTable {
     by_name: IndexMap<Name, DeclaredVariable>,
+}
+
+impl Drop for FieldTable {
+    fn drop(self) {
+        let Self { by_name: _ } = self;
+    }
 }
 
 impl Model for FieldTable {
@@ -79,9 +84,14 @@ pub enum Behind<'a> {
 
 /// The types of values that a unit and its parts carry: structures with their fields, and those that are absent or broken. The fields
 /// of each structure are read once.
-#[derive(Drop)]
 pub struct Structures {
     by_name: HashMap<Name, KeptFields>,
+}
+
+impl Drop for Structures {
+    fn drop(self) {
+        let Self { by_name: _ } = self;
+    }
 }
 
 impl Structures {

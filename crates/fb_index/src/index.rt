@@ -19,7 +19,6 @@ use std::marker::Model;
 use std::sync::Arc;
 
 /// Which units mention a name, directly or through others. A unit stays indexed from its first `replace` on.
-#[derive(Drop)]
 pub struct Index {
     /// Under each name the units that have it as a part.
     parts: Users,
@@ -27,6 +26,16 @@ pub struct Index {
     of_values: Users,
     /// The indexed units, and whether each is a structure.
     units: Table<bool>,
+}
+
+impl Drop for Index {
+    fn drop(self) {
+        let Self {
+            parts: _,
+            of_values: _,
+            units: _,
+        } = self;
+    }
 }
 
 impl Model for Index {

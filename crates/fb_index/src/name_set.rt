@@ -1,5 +1,5 @@
 //! Names, each once.
-ghost use Rattle.std.specs.Prelude.{◌≡◌, true, [], IfOk, OnOk};
+ghost use Rattle.std.specs.Prelude.{◌≡◌, ◌==◌, length, [], IfOk, OnOk};
 ghost use Rattle.fb_index.specs.Steps.{AreWith, AreWithout};
 
 use fb_library::Table;
@@ -46,7 +46,7 @@ impl NameSet {
 
     /// Whether there are none.
     pub fn is_empty(&self) -> bool
-        ensures { (result ≡ true) → self.now ≡ [] }
+        ensures { result ≡ (length self.now == 0) }
     {
         self.names.len() == 0
     }

@@ -36,7 +36,6 @@ use std::sync::Arc;
 
 /// A key with all that its value depends on. The reads are one list, which the result shares; their texts are another, which
 /// the history keeps.
-#[derive(Drop)]
 pub struct Job {
     key: Key,
     reads: Arc<Vec<Read>>,
@@ -44,6 +43,18 @@ pub struct Job {
     knowledge: Knowledge,
     // a value that the key had once, with the texts that gave it, to be shared where it comes out again
     former: Option<Made>,
+}
+
+impl Drop for Job {
+    fn drop(self) {
+        let Self {
+            key: _,
+            reads: _,
+            texts: _,
+            knowledge: _,
+            former: _,
+        } = self;
+    }
 }
 
 impl Model for Job {

@@ -13,11 +13,20 @@ use std::marker::Model;
 use std::sync::Arc;
 
 /// A value of a key, with the texts that give it. Both are shared with whoever else keeps them.
-#[derive(Drop)]
 pub struct Made {
     key: Key,
     texts: Arc<TextReads>,
     value: Arc<Value>,
+}
+
+impl Drop for Made {
+    fn drop(self) {
+        let Self {
+            key: _,
+            texts: _,
+            value: _,
+        } = self;
+    }
 }
 
 impl Model for Made {

@@ -11,11 +11,20 @@ use fb_text::Name;
 use std::sync::Arc;
 
 /// What was read under a name: a source with its revision, or nothing, with revision 0.
-#[derive(Drop)]
 pub struct Read {
     pub name: Name,
     pub revision: u64,
     pub source: Option<Arc<Source>>,
+}
+
+impl Drop for Read {
+    fn drop(self) {
+        let Self {
+            name: _,
+            revision: _,
+            source: _,
+        } = self;
+    }
 }
 
 /// Whether the library has the key: each unit has its faults, a subapplication and a system have a net, a system has a plan.

@@ -18,12 +18,22 @@ use std::marker::Model;
 use std::sync::Arc;
 
 /// What a job came to: its value is that of its own reads.
-#[derive(Drop)]
 pub struct Finished {
     key: Key,
     reads: Arc<Vec<Read>>,
     texts: Arc<TextReads>,
     work: Worked,
+}
+
+impl Drop for Finished {
+    fn drop(self) {
+        let Self {
+            key: _,
+            reads: _,
+            texts: _,
+            work: _,
+        } = self;
+    }
 }
 
 impl Model for Finished {

@@ -16,11 +16,19 @@ pub struct TextRead<'a> {
 }
 
 /// The texts of reads, in their order, without the trees that they spell. Each is shared with whoever else keeps it, so that a read of a text takes 16 bytes here.
-#[derive(Drop)]
 pub struct TextReads {
     versions: Vec<Option<Arc<Version>>>,
     // the names of the reads without a text, in the same order
     absent: Vec<Name>,
+}
+
+impl Drop for TextReads {
+    fn drop(self) {
+        let Self {
+            versions: _,
+            absent: _,
+        } = self;
+    }
 }
 
 const _: () = prove!(size_of::<Option<Arc<Version>>>() == 16);

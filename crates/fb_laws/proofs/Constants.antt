@@ -11,7 +11,7 @@ use Rattle.fb_sections.specs.Constants.{number_with, number, other_literal_kinds
 use Rattle.fb_tree.specs.declared.constant.Literal.{Literal}
 use Rattle.fb_text.specs.declared.name.NameUse.{NameUse}
 use Rattle.fb_laws.specs.SpanParts.{constant_part, tree_parts}
-use Rattle.fb_laws.specs.Written.{constant_span}
+use Rattle.fb_tree.specs.Tree.{constant_span}
 use Rattle.fb_laws.specs.Alone.{nearer, nearer_span, nearer_simple, nearer_constant, ReadsAlone}
 use Rattle.fb_laws.specs.Spans.{ConstantsReadAlone}
 use Rattle.fb_laws.proofs.Alone.{parts_read_alone}

@@ -11,14 +11,13 @@ use Rattle.fb_sections.specs.Constants.{number, ranges, length_of_string, elemen
 use Rattle.fb_sections.specs.Interface.{with_names, event, events, initial, variables, data_variables, internal_variables, fields}
 use Rattle.fb_sections.specs.Network.{parameter, listed_parameters, parameters, optional_parameters, instance, plugs, sockets, blocks, inner_subapplication, subapplications, end, connection, connections}
 use Rattle.fb_sections.specs.SystemParts.{path, mapping, mappings, header, resource, device}
-use Rattle.fb_tree.specs.Tree.{ParameterTree, one_value}
+use Rattle.fb_tree.specs.Tree.{ParameterTree, one_value, value_span}
 use Rattle.fb_tree.specs.declared.interface.Section.{Section}
 use Rattle.fb_tree.specs.declared.interface.Side.{Side}
 use Rattle.fb_tree.specs.declared.interface.TypeUse.{TypeUse}
 use Rattle.fb_tree.specs.declared.network.Role.{Role}
 use Rattle.fb_tree.specs.declared.network.Sort.{Sort}
 use Rattle.fb_laws.specs.SpanParts.{Part, name_part, constant_part, type_part, name_parts, names_in, option_parts, simple_parts, constant_parts, type_use_parts, event_parts, variables_parts, parameter_parts, instance_parts, end_parts, connection_parts, action_parts, state_parts, resource_parts, device_parts, mapping_parts}
-use Rattle.fb_laws.specs.Written.{simple_span}
 use Rattle.fb_laws.proofs.Tokens.{Each}
 use Rattle.fb_laws.proofs.Filling.{Filled, filled_as, filled_either, filled_token, filled_name, Ends, ends_filled, ends_second, ends_behind, filled_across, filled_more, filled_from}
 use Rattle.fb_laws.proofs.Sound.{Sound, sound_nothing, sound_both, sound_first, sound_second, sound_as, sound_either, sound_option, sound_many, sound_behind, sound_before, sound_optional_list, sound_separated, sound_section, sound_own, sound_name, sound_named, sound_names, sound_optional_name, sound_same}
@@ -31,12 +30,12 @@ filled_number =
     filled_as _ _ (λ l. l.span)
     (filled_from (one _) (one _) (λ l. l.span) (λ l. l.span) _ (λ token. refl) (λ sign token. refl) (filled_token _) (filled_token _))
 
-filled_simple : Filled simple simple_span
+filled_simple : Filled simple value_span
 unfolding simple
 filled_simple =
-    filled_either _ _ simple_span (filled_as _ name simple_span filled_name)
-    (filled_either _ _ simple_span (filled_as _ _ simple_span (filled_token other_literal_kinds))
-    (filled_as _ number simple_span filled_number))
+    filled_either _ _ value_span (filled_as _ name value_span filled_name)
+    (filled_either _ _ value_span (filled_as _ _ value_span (filled_token other_literal_kinds))
+    (filled_as _ number value_span filled_number))
 
 sound_names_in : Sound simple names_in
 unfolding simple

@@ -5,11 +5,11 @@ use Rattle.fb_structured_text.specs.Forms.Form.{Spells}
 use Rattle.fb_structured_text.specs.Forms.Lexemes.{lexemes_of}
 use Rattle.fb_structured_text.specs.Forms.declared.lexeme.Lexeme.{Lexeme}
 use Rattle.fb_sections.specs.Constants.{constant}
-use Rattle.fb_tree.specs.Tree.{ConstantTree, one_value, value_list}
+use Rattle.fb_tree.specs.Tree.{ConstantTree, constant_span, one_value, value_list}
 use Rattle.fb_tree.specs.declared.constant.Simple.{Simple}
 use Rattle.fb_tree.specs.declared.constant.Simple.TheVariants as simple
 use Rattle.fb_laws.specs.SpanParts.{Part}
-use Rattle.fb_laws.specs.Written.{part_span, constant_span, SpellsPart}
+use Rattle.fb_laws.specs.Written.{part_span, SpellsPart}
 
 -- The same, so many bytes nearer to the begin of the text
 

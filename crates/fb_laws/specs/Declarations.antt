@@ -3,7 +3,7 @@ use Rattle.std.specs.Prelude.{◌≡◌, ◌≢◌, ℕ, ◌<◌, true, false, L
 use Rattle.fb_text.specs.declared.token.Span.{Span}
 use Rattle.fb_text.specs.declared.name.NameUse.{NameUse}
 use Rattle.fb_tree.specs.Mentions.{unit_kind_of}
-use Rattle.fb_tree.specs.Tree.{ConstantTree, DeclTree, EventTree, InstanceTree, StructureTree, TypeTree, VariablesTree, block_type, structure_type, one_value, value_list}
+use Rattle.fb_tree.specs.Tree.{ConstantTree, DeclTree, EventTree, InstanceTree, StructureTree, TypeTree, VariablesTree, block_type, structure_type, one_value, value_list, value_span}
 use Rattle.fb_tree.specs.declared.constant.Simple.{Simple}
 use Rattle.fb_tree.specs.declared.interface.TypeForm.TheVariants as forms
 use Rattle.fb_tree.specs.declared.interface.TypeUse.{TypeUse}
@@ -13,7 +13,6 @@ use Rattle.fb_deploy.specs.Iface.declared.code.Code.TheVariants.{Duplicate, Lite
 use Rattle.fb_deploy.specs.Iface.declared.ports.DeclaredVariable.{DeclaredVariable}
 use Rattle.fb_deploy.specs.Iface.Class.{class_of_name, class_of_simple, class_of_type, is_free, takes}
 use Rattle.fb_deploy.specs.Iface.Declarations.{declared_name}
-use Rattle.fb_deploy.specs.Iface.Literals.{simple_span}
 use Rattle.fb_deploy.specs.Iface.Names.{stands_for}
 use Rattle.fb_deploy.specs.Iface.Ports.{variables_in}
 use Rattle.fb_deploy.specs.Iface.Sides.{goes_with}
@@ -93,9 +92,9 @@ pub record HasUnknownWith (sources : Sources) (unit : List ℕ) (span : Span) : 
 -- where a constant doesn't fit its type: a constant that stands alone, one that stands alone for an array, an element of the list for an array,
 -- a list for what is no array and not of a generic type
 pub data IsMisfit (used : TypeUse) : ConstantTree → Span → Type 0 where
-  alone : {v : Simple} → used.form ≢ forms.Array → takes (class_of_type used) (class_of_simple v) ≡ false → IsMisfit used (one_value v) (simple_span v)
-  no_list : {v : Simple} → used.form ≡ forms.Array → is_free (class_of_simple v) ≡ false → IsMisfit used (one_value v) (simple_span v)
-  element : {values : List Simple} {span : Span} {v : Simple} → used.form ≡ forms.Array → Contains values v → takes (class_of_name used.name.name) (class_of_simple v) ≡ false → IsMisfit used (value_list values span) (simple_span v)
+  alone : {v : Simple} → used.form ≢ forms.Array → takes (class_of_type used) (class_of_simple v) ≡ false → IsMisfit used (one_value v) (value_span v)
+  no_list : {v : Simple} → used.form ≡ forms.Array → is_free (class_of_simple v) ≡ false → IsMisfit used (one_value v) (value_span v)
+  element : {values : List Simple} {span : Span} {v : Simple} → used.form ≡ forms.Array → Contains values v → takes (class_of_name used.name.name) (class_of_simple v) ≡ false → IsMisfit used (value_list values span) (value_span v)
   no_array : {values : List Simple} {span : Span} → used.form ≢ forms.Array → is_free (class_of_type used) ≡ false → IsMisfit used (value_list values span) span
 
 -- an initial value that doesn't fit the type of its variables or fields

@@ -9,9 +9,7 @@ use Rattle.fb_structured_text.specs.Forms.declared.kind.Kind.{Kind}
 use Rattle.fb_structured_text.specs.Forms.declared.lexeme.Lexeme.{Lexeme}
 use Rattle.fb_sections.specs.Constants.{constant, type_use}
 use Rattle.fb_tree.specs.Expression.{Expression, literal_expression, reference_expression, unary_expression, row_expression, parentheses, Operands, no_operands, operand_then}
-use Rattle.fb_tree.specs.Tree.{ConstantTree, one_value, value_list}
-use Rattle.fb_tree.specs.declared.constant.Simple.{Simple}
-use Rattle.fb_tree.specs.declared.constant.Simple.TheVariants as simple
+use Rattle.fb_tree.specs.Tree.{constant_span}
 use Rattle.fb_tree.specs.declared.expression.BinaryUse.{BinaryUse}
 use Rattle.fb_tree.specs.declared.expression.UnaryUse.{UnaryUse}
 use Rattle.fb_structured_text.specs.Expression.{levels, expression}
@@ -19,14 +17,6 @@ use Rattle.fb_structured_text.specs.Operators.{signs, strengths, unary_use, bina
 use Rattle.fb_laws.specs.SpanParts.{Part, name_part, constant_part, type_part, expression_part, sign_part, operator_part, mark_part}
 
 -- Where a part stands
-
-abbrev pub simple_span : Simple → Span
-simple_span (simple.Literal literal) = literal.span
-simple_span (simple.Name name) = name.span
-
-abbrev pub constant_span : ConstantTree → Span
-constant_span (one_value value) = simple_span value
-constant_span (value_list values span) = span
 
 abbrev mutual
   -- an expression, with the parentheses and the subscripts that belong to it

@@ -10,10 +10,17 @@ use std::sync::Arc;
 
 /// One change of a commit. `base` is the revision that the change was written against, 0 where the
 /// unit was absent.
-#[derive(Drop)]
 pub enum Change {
     Put { base: u64, source: Arc<Source> },
     Remove { unit: Name, base: u64 },
+}
+
+impl Drop for Change {
+    fn drop(self) {
+        match self {
+            Self::Put { base: _, source: _ } | Self::Remove { unit: _, base: _ } => {}
+        }
+    }
 }
 
 impl Change {

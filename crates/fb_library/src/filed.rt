@@ -9,7 +9,6 @@ use std::marker::Model;
 use std::sync::Arc;
 
 /// The text of a unit as a commit put it, without the tree that it spells.
-#[derive(Drop)]
 pub struct Version {
     pub unit: Name,
     /// The number of the commit.
@@ -17,11 +16,29 @@ pub struct Version {
     pub text: Arc<String>,
 }
 
+impl Drop for Version {
+    fn drop(self) {
+        let Self {
+            unit: _,
+            revision: _,
+            text: _,
+        } = self;
+    }
+}
+
 /// What is kept of a unit: its source, and beside it what may be kept longer than that. Both are shared.
-#[derive(Drop)]
 pub struct Filed {
     version: Arc<Version>,
     source: Arc<Source>,
+}
+
+impl Drop for Filed {
+    fn drop(self) {
+        let Self {
+            version: _,
+            source: _,
+        } = self;
+    }
 }
 
 impl Model for Filed {

@@ -7,6 +7,7 @@ mod laws;
 mod library;
 mod look_up;
 mod mentions;
+mod parts;
 mod room;
 mod rooms;
 mod seen;
@@ -21,8 +22,9 @@ pub use laws::{
     carried_is_all, carried_is_local, far_is_local, far_is_one_list, near_is_all, near_is_local,
 };
 pub use library::Library;
-pub use look_up::{View, declaration_by_name, part_of, text_by_name, tree_by_name};
+pub use look_up::{View, declaration_by_name, text_by_name, tree_by_name};
 pub use mentions::{is_structure, mentions_by_name, part_mentions, value_mentions};
+pub use parts::part_of;
 pub use seen::{names_of, open_new};
 pub use table::Table;
 pub use walk::{carried, far, near};

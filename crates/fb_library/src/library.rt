@@ -19,10 +19,15 @@ use std::marker::Model;
 use std::sync::Arc;
 
 /// The texts of a workbench by name.
-#[derive(Drop)]
 pub struct Library {
     alloc: Global,
     units: Table<Filed>,
+}
+
+impl Drop for Library {
+    fn drop(self) {
+        let Self { alloc: _, units: _ } = self;
+    }
 }
 
 impl Model for Library {

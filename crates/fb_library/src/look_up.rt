@@ -3,10 +3,9 @@ ghost use Rattle.std.specs.Prelude.{◌≡◌};
 ghost use Rattle.std.specs.Option.{option_map};
 ghost use Rattle.std.specs.FinMap as map;
 ghost use Rattle.fb_parse.specs.Tree.Tree.{decl_tree, type_tree};
-ghost use Rattle.fb_library.specs.Parts.{is_boundary, part};
 ghost use Rattle.fb_library.specs.View.{Sources, declaration_at, text_or_empty, tree_at, tree_of, type_in};
 
-use fb_parse::text::{Name, Span};
+use fb_parse::text::Name;
 use fb_parse::tree::{Decl, TypeDeclaration};
 use fb_parse::{Body, Source};
 
@@ -27,24 +26,6 @@ pub fn text_by_name<'a, V: View>(view: &'a V, unit: &Name) -> &'a str
         Some(source) => source.text(),
         None => "",
     }
-}
-
-/// The part of a text, empty where the span is none of it.
-pub fn part_of(text: &str, span: Span) -> &str
-    ensures { result.now ≡ part text.now span }
-{
-    if span.start <= span.end && is_between(text, span.start) && is_between(text, span.end) {
-        &text[span.start..span.end]
-    } else {
-        ""
-    }
-}
-
-/// Whether a place in a text is between two characters, at its start or at its end.
-fn is_between(text: &str, place: usize) -> bool
-    ensures { result ≡ is_boundary text.now place }
-{
-    text.is_char_boundary(place)
 }
 
 /// The declaration that a source spells, where it is not broken.

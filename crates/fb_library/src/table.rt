@@ -14,10 +14,15 @@ use std::marker::Model;
 use std::sync::Arc;
 
 /// Values by name, in the order of the names. A copy shares all that is not changed after it.
-#[derive(Drop)]
 pub struct Table<V> {
     rooms: Vec<Room<V>>,
     len: usize,
+}
+
+impl<V: Drop> Drop for Table<V> {
+    fn drop(self) {
+        let Self { rooms: _, len: _ } = self;
+    }
 }
 
 impl<V> Model for Table<V> {

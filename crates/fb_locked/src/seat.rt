@@ -7,11 +7,21 @@ use std::marker::Model;
 use std::sync::Arc;
 
 /// The right of one caller to make calls. It can't be copied.
-#[derive(Drop, Debug)]
+#[derive(Debug)]
 pub struct Seat {
     pub(crate) caller: u32,
     pub(crate) turns: u64,
     pub(crate) seen: u64,
+}
+
+impl Drop for Seat {
+    fn drop(self) {
+        let Self {
+            caller: _,
+            turns: _,
+            seen: _,
+        } = self;
+    }
 }
 
 impl Model for Seat {

@@ -39,7 +39,6 @@ pub enum Refusal {
 }
 
 /// What is said to a line.
-#[derive(Drop)]
 pub enum Reply {
     Committed(u64),
     StaleBase { unit: Name, current: u64 },
@@ -54,6 +53,29 @@ pub enum Reply {
     Checkpointed(u64),
     Refused(Refusal),
     RefusedUnit(Refusal, Name),
+}
+
+impl Drop for Reply {
+    fn drop(self) {
+        match self {
+            Self::Committed(_)
+            | Self::StaleBase {
+                unit: _,
+                current: _,
+            }
+            | Self::Pending
+            | Self::Found(_)
+            | Self::Worked(_)
+            | Self::WorkRefused(_, _)
+            | Self::Job(_, _)
+            | Self::NoJob
+            | Self::Delivered
+            | Self::GivenBack(_)
+            | Self::Checkpointed(_)
+            | Self::Refused(_)
+            | Self::RefusedUnit(_, _) => {}
+        }
+    }
 }
 
 impl Refusal {

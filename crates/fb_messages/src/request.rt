@@ -24,7 +24,6 @@ pub enum AskedChange<'a> {
 }
 
 /// A request, before its names are read. It lends its texts from the value.
-#[derive(Drop)]
 pub enum Request<'a> {
     Commit(Vec<AskedChange<'a>>),
     Ask { kind: Kind, unit: &'a str },
@@ -33,6 +32,20 @@ pub enum Request<'a> {
     Deliver(u64),
     GiveBack { kind: Kind, unit: &'a str },
     Checkpoint(Limits),
+}
+
+impl Drop for Request<'_> {
+    fn drop(self) {
+        match self {
+            Self::Commit(_)
+            | Self::Ask { kind: _, unit: _ }
+            | Self::Work(_)
+            | Self::Take
+            | Self::Deliver(_)
+            | Self::GiveBack { kind: _, unit: _ }
+            | Self::Checkpoint(_) => {}
+        }
+    }
 }
 
 fn member_text<'a>(value: &'a Value, name: &str) -> Option<&'a str>

@@ -5,9 +5,18 @@ use fb_tree::UnitKind;
 use fb_tree::text::Name;
 
 /// Where a network stands: the unit, what it is, and what names stand for in the network.
-#[derive(Drop)]
 pub struct Setting {
     pub unit: Name,
     pub kind: UnitKind,
     pub scope: Scope,
+}
+
+impl Drop for Setting {
+    fn drop(self) {
+        let Self {
+            unit: _,
+            kind: _,
+            scope: _,
+        } = self;
+    }
 }

@@ -131,9 +131,15 @@ pub(crate) struct Tables {
 
 /// A network with its subapplications replaced by what they hold: its blocks, the links between them, and the borders, which join its own
 /// ports with them. Paths are numbers: each has a front, which places of one network share, and an end behind it. Plans share the tables.
-#[derive(Debug, Drop)]
+#[derive(Debug)]
 pub struct Flat {
     pub(crate) tables: Arc<Tables>,
+}
+
+impl Drop for Flat {
+    fn drop(self) {
+        let Self { tables: _ } = self;
+    }
 }
 
 impl Model for Flat {

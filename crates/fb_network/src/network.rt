@@ -71,11 +71,21 @@ pub struct Connection {
 
 /// The ports, instances and connections of a type, each list in the order of the text. A block type or an adapter type has ports alone,
 /// an application has no ports.
-#[derive(Debug, Drop)]
+#[derive(Debug)]
 pub struct Network {
     ports: Vec<Port>,
     instances: Vec<Instance>,
     connections: Vec<Connection>,
+}
+
+impl Drop for Network {
+    fn drop(self) {
+        let Self {
+            ports: _,
+            instances: _,
+            connections: _,
+        } = self;
+    }
 }
 
 impl Model for Network {

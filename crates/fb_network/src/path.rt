@@ -14,9 +14,14 @@ use std::marker::Model;
 
 /// The names of an instance from the network down, or such names with a port's behind them, joined by points. Paths are ordered by their
 /// bytes, and a contract sees a path as the list of these.
-#[derive(Drop)]
 pub struct Path {
     text: String,
+}
+
+impl Drop for Path {
+    fn drop(self) {
+        let Self { text: _ } = self;
+    }
 }
 
 impl Model for Path {

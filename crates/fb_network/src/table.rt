@@ -11,10 +11,19 @@ use std::alloc::AllocError;
 use std::collections::BTreeMap;
 
 /// An instance, with the borders of what it holds.
-#[derive(Debug, Drop)]
+#[derive(Debug)]
 pub struct Standing {
     pub instance: Instance,
     pub borders: Vec<Edge>,
+}
+
+impl Drop for Standing {
+    fn drop(self) {
+        let Self {
+            instance: _,
+            borders: _,
+        } = self;
+    }
 }
 
 /// The first instance of each name.

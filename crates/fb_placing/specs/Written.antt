@@ -4,9 +4,7 @@ use Rattle.std.specs.List.{flat_map}
 use Rattle.fb_tree.specs.Text.Tokens.{tokens_of}
 use Rattle.fb_tree.specs.Text.declared.token.Span.{Span}
 use Rattle.fb_tree.specs.Text.declared.token.Token.{Token}
-use Rattle.fb_tree.specs.Tree.{ConstantTree, one_value, value_list}
-use Rattle.fb_tree.specs.declared.constant.Simple.{Simple}
-use Rattle.fb_tree.specs.declared.constant.Simple.TheVariants as simple
+use Rattle.fb_tree.specs.Tree.{ConstantTree, constant_span}
 use Rattle.fb_library.specs.Parts.{part}
 
 abbrev pub token_text : List ℕ → Token → List ℕ
@@ -19,16 +17,6 @@ joined_tokens text (Err bad) = []
 -- the tokens of a text as they are written, without blanks and comments between
 abbrev pub without_gaps : List ℕ → List ℕ
 without_gaps text = joined_tokens text (tokens_of text)
-
--- where a value stands in its text
-abbrev pub value_span : Simple → Span
-value_span (simple.Literal literal) = literal.span
-value_span (simple.Name name) = name.span
-
--- where a constant stands in its text
-abbrev pub constant_span : ConstantTree → Span
-constant_span (one_value value) = value_span value
-constant_span (value_list values span) = span
 
 -- a constant as it is written in the text, without blanks and comments between its tokens
 abbrev pub written : List ℕ → ConstantTree → List ℕ

@@ -12,9 +12,14 @@ use std::fmt;
 use std::marker::Model;
 
 /// The text of a command. A contract sees it as the list of its bytes.
-#[derive(Drop)]
 pub struct Command {
     text: String,
+}
+
+impl Drop for Command {
+    fn drop(self) {
+        let Self { text: _ } = self;
+    }
 }
 
 impl Model for Command {

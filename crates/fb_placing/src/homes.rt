@@ -26,19 +26,36 @@ use std::alloc::{AllocError, Global};
 use std::collections::BTreeMap;
 
 /// The path of a block, and the resource on which it stands, as `DEVICE.RESOURCE`.
-#[derive(Debug, Drop)]
+#[derive(Debug)]
 pub struct Home {
     pub path: Path,
     pub resource: Path,
 }
 
+impl Drop for Home {
+    fn drop(self) {
+        let Self {
+            path: _,
+            resource: _,
+        } = self;
+    }
+}
+
 /// A path at which blocks and mappings do not meet.
-#[derive(Debug, Drop)]
+#[derive(Debug)]
 pub enum Misplaced {
     /// A block that no mapping places.
     Unmapped(Path),
     /// A mapping that is of no application, block or subapplication instance.
     NoSuchBlock(Path),
+}
+
+impl Drop for Misplaced {
+    fn drop(self) {
+        match self {
+            Self::Unmapped(_) | Self::NoSuchBlock(_) => {}
+        }
+    }
 }
 
 /// The homes of the blocks of a system, or what is misplaced.

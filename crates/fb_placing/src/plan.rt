@@ -12,12 +12,23 @@ use std::marker::Model;
 
 /// The links between resources, and the commands of each resource, in the order of the text. What they are about are numbers of blocks and
 /// links of the flat network, with which the plan shares its tables.
-#[derive(Debug, Drop)]
+#[derive(Debug)]
 pub struct Plan {
     flat: Flat,
     writes: Vec<Command>,
     cuts: Vec<u32>,
     resources: Vec<ResourceItems>,
+}
+
+impl Drop for Plan {
+    fn drop(self) {
+        let Self {
+            flat: _,
+            writes: _,
+            cuts: _,
+            resources: _,
+        } = self;
+    }
 }
 
 impl Model for Plan {

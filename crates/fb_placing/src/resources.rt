@@ -15,10 +15,19 @@ use std::alloc::{AllocError, Global};
 use std::marker::Model;
 
 /// A resource, as `DEVICE.RESOURCE`, with its commands in their order.
-#[derive(Debug, Drop)]
+#[derive(Debug)]
 pub struct ResourcePlan {
     name: Path,
     commands: Vec<Command>,
+}
+
+impl Drop for ResourcePlan {
+    fn drop(self) {
+        let Self {
+            name: _,
+            commands: _,
+        } = self;
+    }
 }
 
 impl Model for ResourcePlan {

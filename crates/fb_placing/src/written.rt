@@ -4,30 +4,12 @@ ghost use Rattle.std.specs.List.{flat_map};
 ghost use Rattle.fb_tree.specs.Text.Tokens.{LiesIn};
 ghost use Rattle.fb_tree.specs.Tree.{constant_tree};
 ghost use Rattle.fb_library.specs.Parts.{part};
-ghost use Rattle.fb_placing.specs.Written.{constant_span, token_text, value_span, without_gaps, written};
+ghost use Rattle.fb_placing.specs.Written.{token_text, without_gaps, written};
 
 use fb_library::part_of;
-use fb_tree::text::{Span, Token, TokenFault, tokens};
-use fb_tree::{Constant, Simple};
+use fb_tree::Constant;
+use fb_tree::text::{Token, TokenFault, tokens};
 use std::alloc::{AllocError, Global};
-
-fn span_of_value(value: &Simple) -> Span
-    ensures { result ≡ value_span value.now }
-{
-    match value {
-        Simple::Literal(literal) => literal.span.span(),
-        Simple::Name(name) => name.span.span(),
-    }
-}
-
-fn span_of(constant: &Constant) -> Span
-    ensures { result ≡ constant_span (constant_tree constant.now) }
-{
-    match constant {
-        Constant::One(value) => span_of_value(value),
-        Constant::List(_, span) => span.span(),
-    }
-}
 
 fn joined(alloc: Global, text: &str, tokens: &[Token]) -> Result<String, AllocError>
     requires { All (λ t. LiesIn text.now t.span) tokens.now }
@@ -56,5 +38,5 @@ pub(crate) fn written(alloc: Global, text: &str, constant: &Constant) -> Result<
     ensures { IfOk result
         (λ told. string_bytes told ≡ written text.now (constant_tree constant.now)) }
 {
-    without_gaps(alloc, part_of(text, span_of(constant)))
+    without_gaps(alloc, part_of(text, constant.span()))
 }

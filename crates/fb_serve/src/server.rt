@@ -31,10 +31,18 @@ pub struct Numbers {
 }
 
 /// What a server leaves: its workbench, closed, and the receipts of all calls of its sessions and workers.
-#[derive(Drop)]
 pub struct Served {
     pub closed: Closed,
     pub receipts: Vec<Receipt>,
+}
+
+impl Drop for Served {
+    fn drop(self) {
+        let Self {
+            closed: _,
+            receipts: _,
+        } = self;
+    }
 }
 
 /// A server that did not come to its close.

@@ -17,11 +17,20 @@ use std::marker::Model;
 use std::sync::{Condvar, Mutex, Wait};
 
 /// A workbench that threads share. Each call holds the lock once. For how many callers seats were made stands beside the lock.
-#[derive(Drop)]
 pub struct Shared {
     pub(crate) state: Mutex<Locked>,
     pub(crate) callers: u32,
     pub(crate) changed: Condvar,
+}
+
+impl Drop for Shared {
+    fn drop(self) {
+        let Self {
+            state: _,
+            callers: _,
+            changed: _,
+        } = self;
+    }
 }
 
 impl Model for Shared {

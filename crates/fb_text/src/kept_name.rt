@@ -17,9 +17,14 @@ enum Stored {
 }
 
 /// A name that is kept. A contract sees it as the list of its bytes.
-#[derive(Drop)]
 pub struct KeptName {
     stored: Stored,
+}
+
+impl Drop for KeptName {
+    fn drop(self) {
+        let Self { stored: _ } = self;
+    }
 }
 
 impl Model for KeptName {

@@ -38,10 +38,16 @@ pub struct Name {
 }
 
 /// A name where it stands.
-#[derive(Debug, Drop)]
+#[derive(Debug)]
 pub struct NameUse {
     pub name: KeptName,
     pub span: Place,
+}
+
+impl Drop for NameUse {
+    fn drop(self) {
+        let Self { name: _, span: _ } = self;
+    }
 }
 
 // Each use of a name in a declaration takes so many bytes.

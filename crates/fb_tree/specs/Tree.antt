@@ -5,6 +5,7 @@ use Rattle.fb_text.specs.declared.name.NameUse.{NameUse}
 use Rattle.fb_tree.specs.Expression.{Expression, expression_tree}
 use Rattle.fb_tree.specs.Statement.{Statement, statement_tree}
 use Rattle.fb_tree.specs.declared.constant.Simple.{Simple}
+use Rattle.fb_tree.specs.declared.constant.Simple.TheVariants as simple
 use Rattle.fb_tree.specs.declared.constant.Constant.{Constant}
 use Rattle.fb_tree.specs.declared.constant.Constant.TheVariants as constant
 use Rattle.fb_tree.specs.declared.interface.Side.{Side}
@@ -43,6 +44,16 @@ pub data ConstantTree : Type 0 where
 abbrev pub constant_tree : Constant → ConstantTree
 constant_tree (constant.One value) = one_value value
 constant_tree (constant.List values span) = value_list values.items span
+
+-- where a value stands in its text
+abbrev pub value_span : Simple → Span
+value_span (simple.Literal literal) = literal.span
+value_span (simple.Name name) = name.span
+
+-- where a constant stands in its text
+abbrev pub constant_span : ConstantTree → Span
+constant_span (one_value value) = value_span value
+constant_span (value_list values span) = span
 
 pub record EventTree : Type 0 where
   pub side : Side

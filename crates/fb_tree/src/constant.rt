@@ -1,6 +1,8 @@
 //! Literals and constants.
+ghost use Rattle.std.specs.Prelude.{◌≡◌};
+ghost use Rattle.fb_tree.specs.Tree.{constant_span, constant_tree, value_span};
 
-use fb_text::{NameUse, Place, TypeClass};
+use fb_text::{NameUse, Place, Span, TypeClass};
 
 /// What kind of literal it is, as far as its class of values goes.
 #[derive(Clone, Copy, Debug, PartialEq, Eq)]
@@ -27,15 +29,55 @@ pub struct Literal {
 }
 
 /// One constant.
-#[derive(Debug, Drop)]
+#[derive(Debug)]
 pub enum Simple {
     Literal(Literal),
     Name(NameUse),
 }
 
+impl Drop for Simple {
+    fn drop(self) {
+        match self {
+            Self::Literal(_) | Self::Name(_) => {}
+        }
+    }
+}
+
+impl Simple {
+    /// Where it stands in its text.
+    pub fn span(&self) -> Span
+        ensures { result ≡ value_span self.now }
+    {
+        match self {
+            Simple::Literal(literal) => literal.span.span(),
+            Simple::Name(name) => name.span.span(),
+        }
+    }
+}
+
 /// An initial value or the value of a parameter. The span of a list takes in its brackets.
-#[derive(Debug, Drop)]
+#[derive(Debug)]
 pub enum Constant {
     One(Simple),
     List(Vec<Simple>, Place),
+}
+
+impl Drop for Constant {
+    fn drop(self) {
+        match self {
+            Self::One(_) | Self::List(_, _) => {}
+        }
+    }
+}
+
+impl Constant {
+    /// Where it stands in its text.
+    pub fn span(&self) -> Span
+        ensures { result ≡ constant_span (constant_tree self.now) }
+    {
+        match self {
+            Constant::One(value) => value.span(),
+            Constant::List(_, span) => span.span(),
+        }
+    }
 }

@@ -8,7 +8,6 @@ use crate::system::System;
 use fb_text::NameUse;
 
 /// The declaration of a type. Sections are joined in the order of the text; what a kind of type can't have is empty.
-#[derive(Drop)]
 pub struct TypeDeclaration {
     pub name: NameUse,
     pub interface: Interface,
@@ -16,12 +15,34 @@ pub struct TypeDeclaration {
     pub chart: Chart,
 }
 
+impl Drop for TypeDeclaration {
+    fn drop(self) {
+        let Self {
+            name: _,
+            interface: _,
+            network: _,
+            chart: _,
+        } = self;
+    }
+}
+
 /// What a unit declares.
-#[derive(Drop)]
 pub enum Decl {
     Block(TypeDeclaration),
     Adapter(TypeDeclaration),
     Subapplication(TypeDeclaration),
     System(System),
     Structure(Structure),
+}
+
+impl Drop for Decl {
+    fn drop(self) {
+        match self {
+            Self::Block(_)
+            | Self::Adapter(_)
+            | Self::Subapplication(_)
+            | Self::System(_)
+            | Self::Structure(_) => {}
+        }
+    }
 }

@@ -47,7 +47,6 @@ pub struct BinaryUse {
 }
 
 /// An expression.
-#[derive(Drop)]
 pub enum Expr {
     Literal(Literal),
     /// A variable with its subscripts.
@@ -57,4 +56,16 @@ pub enum Expr {
     Row(Box<Expr>, Vec<(BinaryUse, Expr)>),
     /// In parentheses, which the span takes in.
     Parentheses(Box<Expr>, Place),
+}
+
+impl Drop for Expr {
+    fn drop(self) {
+        match self {
+            Self::Literal(_)
+            | Self::Reference(_, _)
+            | Self::Unary(_, _)
+            | Self::Row(_, _)
+            | Self::Parentheses(_, _) => {}
+        }
+    }
 }

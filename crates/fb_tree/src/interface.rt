@@ -11,12 +11,23 @@ pub enum Side {
 }
 
 /// An event with its type, where one is written, and the names behind `WITH`.
-#[derive(Debug, Drop)]
+#[derive(Debug)]
 pub struct Event {
     pub side: Side,
     pub name: NameUse,
     pub type_name: Option<NameUse>,
     pub with: Vec<NameUse>,
+}
+
+impl Drop for Event {
+    fn drop(self) {
+        let Self {
+            side: _,
+            name: _,
+            type_name: _,
+            with: _,
+        } = self;
+    }
 }
 
 /// The section in which a variable stands.
@@ -38,18 +49,28 @@ pub enum TypeForm {
 }
 
 /// A type where it is used. The name is that of the elements where it is an array.
-#[derive(Debug, Drop)]
+#[derive(Debug)]
 pub struct TypeUse {
     pub name: NameUse,
     pub form: TypeForm,
     pub span: Place,
 }
 
+impl Drop for TypeUse {
+    fn drop(self) {
+        let Self {
+            name: _,
+            form: _,
+            span: _,
+        } = self;
+    }
+}
+
 // Each type that a declaration uses takes so many bytes.
 const _: () = prove!(size_of::<TypeUse>() == 48);
 
 /// Variables that are declared together.
-#[derive(Debug, Drop)]
+#[derive(Debug)]
 pub struct Variables {
     pub section: Section,
     pub names: Vec<NameUse>,
@@ -57,10 +78,30 @@ pub struct Variables {
     pub initial: Option<Constant>,
 }
 
+impl Drop for Variables {
+    fn drop(self) {
+        let Self {
+            section: _,
+            names: _,
+            type_use: _,
+            initial: _,
+        } = self;
+    }
+}
+
 /// The events and the variables of a type, internal variables among them. Plugs and sockets stand in its network, with the instances,
 /// whose name space they share.
-#[derive(Debug, Drop)]
+#[derive(Debug)]
 pub struct Interface {
     pub events: Vec<Event>,
     pub variables: Vec<Variables>,
+}
+
+impl Drop for Interface {
+    fn drop(self) {
+        let Self {
+            events: _,
+            variables: _,
+        } = self;
+    }
 }

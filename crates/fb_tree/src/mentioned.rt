@@ -12,13 +12,23 @@ use fb_text::{Name, is_elementary, sorted_names};
 use std::alloc::{AllocError, Global};
 
 /// What a unit mentions, each sort in the order of the names' bytes, each name once.
-#[derive(Debug, Drop)]
+#[derive(Debug)]
 pub struct Mentions {
     /// The types of its instances, plugs and sockets.
     pub parts: Vec<Name>,
     /// The types of its variables or fields, elementary ones apart.
     pub of_values: Vec<Name>,
     pub is_structure: bool,
+}
+
+impl Drop for Mentions {
+    fn drop(self) {
+        let Self {
+            parts: _,
+            of_values: _,
+            is_structure: _,
+        } = self;
+    }
 }
 
 /// What a declaration mentions.

@@ -7,14 +7,23 @@ use fb_text::{Name, NameUse, Place, ShortName, WideUse};
 use std::alloc::{AllocError, Global};
 
 /// A further name of a reference, with how many subscripts stand behind it.
-#[derive(Debug, Drop)]
+#[derive(Debug)]
 pub struct Member {
     pub name: NameUse,
     pub subscripts: usize,
 }
 
+impl Drop for Member {
+    fn drop(self) {
+        let Self {
+            name: _,
+            subscripts: _,
+        } = self;
+    }
+}
+
 /// The names of a reference. Most have one that is short.
-#[derive(Debug, Drop)]
+#[derive(Debug)]
 pub enum ReferenceNames {
     Short(ShortName),
     Long(Box<Name>),
@@ -22,9 +31,17 @@ pub enum ReferenceNames {
     Members(Box<(Name, Vec<Member>)>),
 }
 
+impl Drop for ReferenceNames {
+    fn drop(self) {
+        match self {
+            Self::Short(_) | Self::Long(_) | Self::Members(_) => {}
+        }
+    }
+}
+
 /// One or more names with points between them, and how many subscripts stand behind each. The
 /// subscripts of all names stand beside it in one list, in the order of the text.
-#[derive(Debug, Drop)]
+#[derive(Debug)]
 pub struct Reference {
     pub names: ReferenceNames,
     /// Where the first name ends. It begins where the reference does.
@@ -33,6 +50,17 @@ pub struct Reference {
     pub subscripts: usize,
     /// From the first name through the last name or bracket.
     pub span: Place,
+}
+
+impl Drop for Reference {
+    fn drop(self) {
+        let Self {
+            names: _,
+            name_end: _,
+            subscripts: _,
+            span: _,
+        } = self;
+    }
 }
 
 // Each variable that a text uses takes so many bytes.

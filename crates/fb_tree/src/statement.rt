@@ -5,7 +5,6 @@ use crate::reference::Reference;
 use fb_text::{NameUse, Place};
 
 /// How a `FOR` counts: its variable, from where, to where, and by what step.
-#[derive(Drop)]
 pub struct Counting {
     pub variable: NameUse,
     pub from: Expr,
@@ -13,8 +12,18 @@ pub struct Counting {
     pub by: Option<Expr>,
 }
 
+impl Drop for Counting {
+    fn drop(self) {
+        let Self {
+            variable: _,
+            from: _,
+            to: _,
+            by: _,
+        } = self;
+    }
+}
+
 /// A statement. The labels of `CASE` are not kept.
-#[derive(Drop)]
 pub enum Stmt {
     Empty,
     /// The variable with its subscripts, the place of `:=`, and the value.
@@ -29,4 +38,20 @@ pub enum Stmt {
     For(Box<Counting>, Vec<Stmt>),
     While(Expr, Vec<Stmt>),
     Repeat(Vec<Stmt>, Expr),
+}
+
+impl Drop for Stmt {
+    fn drop(self) {
+        match self {
+            Self::Empty
+            | Self::Assign(_, _, _, _)
+            | Self::Exit
+            | Self::Return
+            | Self::If(_, _)
+            | Self::Case(_, _, _)
+            | Self::For(_, _)
+            | Self::While(_, _)
+            | Self::Repeat(_, _) => {}
+        }
+    }
 }

@@ -4,8 +4,14 @@ use crate::interface::Variables;
 use fb_text::NameUse;
 
 /// The declaration of a structure. The fields stand in the order of the text.
-#[derive(Debug, Drop)]
+#[derive(Debug)]
 pub struct Structure {
     pub name: NameUse,
     pub fields: Vec<Variables>,
+}
+
+impl Drop for Structure {
+    fn drop(self) {
+        let Self { name: _, fields: _ } = self;
+    }
 }

@@ -11,10 +11,19 @@ use fb_tree::text::Name;
 use std::alloc::{AllocError, Global};
 
 /// An application of a system with its network, which has no ports.
-#[derive(Debug, Drop)]
+#[derive(Debug)]
 pub struct Application {
     pub name: Name,
     pub network: Network,
+}
+
+impl Drop for Application {
+    fn drop(self) {
+        let Self {
+            name: _,
+            network: _,
+        } = self;
+    }
 }
 
 /// The applications of a system, in the order of the text. A type or a structure has none.

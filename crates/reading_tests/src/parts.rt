@@ -324,7 +324,7 @@ static LITERALS: [(&str, LiteralForm); 5] = [
 fn form_of(alloc: Global, text: &str) -> Result<LiteralForm, Fail> {
     let tokens = grammar_tokens(alloc, text)?;
     let (expression, _) = expression(alloc, tokens.as_slice())?;
-    match expression {
+    match &expression {
         Expr::Literal(literal) => Ok(literal.form),
         _ => Err(Fail::from("no literal")),
     }
@@ -334,7 +334,7 @@ fn form_of(alloc: Global, text: &str) -> Result<LiteralForm, Fail> {
 /// further names in the same way.
 fn variable_told(alloc: Global, text: &str) -> Result<String, Fail> {
     let tokens = grammar_tokens(alloc, text)?;
-    match expression(alloc, tokens.as_slice())? {
+    match &expression(alloc, tokens.as_slice())? {
         (Expr::Reference(variable, _), _) => {
             let Span { start, end } = variable.span.span();
             let first = variable.name_span().span();

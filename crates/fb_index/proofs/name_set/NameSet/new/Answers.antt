@@ -1,5 +1,5 @@
 -- No names are in order.
-use Rattle.std.proofs.Common.{ℕ, List, map, sym, subst}
+use Rattle.std.proofs.Common.{map, sym, subst}
 use Rattle.std.specs.List.Sorted.{IsStrictlySortedBy}
 use Rattle.fb_text.specs.Order.{name_cmp}
 use Rattle.fb_index.proofs.name_set.NameSet.new.Goals as goal

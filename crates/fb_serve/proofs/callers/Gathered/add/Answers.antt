@@ -4,8 +4,8 @@ use Rattle.fb_serve.specs.Shown.{AreShown}
 use Rattle.fb_serve.proofs.Counts.{shown_with}
 use Rattle.fb_serve.proofs.callers.Gathered.add.Goals as goal
 
-pub invariant_of-self-in-Ok : goal.invariant_of-self-in-Ok
-invariant_of-self-in-Ok c =
+pub invariant_of-self-in-Ok-1 : goal.invariant_of-self-in-Ok-1
+invariant_of-self-in-Ok-1 c =
     let before = c.args.self.now in
     let left = c.args.left in
     let seats : c.push_reserved.new.self.items ≡ before.seats.items ++ left.seat ∷ [] = c.push_reserved.ensures.items ∙ ap (λ (l : List SeatState). l ++ left.seat ∷ []) c.reserve.ensures.items in

@@ -3,7 +3,7 @@ use Rattle.std.proofs.Common.{◌≡◌}
 use Rattle.std.specs.HashMap.{get_by_text}
 use Rattle.fb_network.specs.Fronts.{nearest}
 use Rattle.fb_network.proofs.FrontLemmas.{nearest_below}
-use Rattle.fb_network.proofs.fronts.nearest.Given as goal
+use Rattle.fb_network.proofs.path_table.nearest.Given as goal
 
 abbrev pub invariant-loop-i : goal.invariant-loop-i
 invariant-loop-i l = nearest (get_by_text l.table) l.path ≡ nearest_below (get_by_text l.table) l.path l.i

@@ -2,7 +2,7 @@
 use Rattle.std.proofs.Common.{◌≡◌, ℕ, suc, ◌-◌, List, Some, None, get_or, take, sym, ◌∙◌, ap, eq-eqb, arith, rules}
 use Rattle.std.specs.HashMap.{get_by_text}
 use Rattle.fb_network.proofs.FrontLemmas.{nearest_below, nearest_here, nearest_in_front, below_nothing, below_here}
-use Rattle.fb_network.proofs.fronts.nearest.Goals as goal
+use Rattle.fb_network.proofs.path_table.nearest.Goals as goal
 
 pub returns-in-Some : goal.returns-in-Some
 returns-in-Some c = sym (nearest_here (get_by_text c.args.table.now) c.args.path.now _ (sym c.in-Some.ensures.value))
