@@ -1,5 +1,5 @@
 -- What is found under a name, after some units were put there.
-use Rattle.std.proofs.Common.{◌≡◌, ℕ, ◌==◌, length, arith, eqb-true, Bool, true, false, ◌||◌, ◌&&◌, not, if◌then◌else◌, List, [], ◌∷◌, map, refl, sym, ap, ◌∙◌, subst, Option, Some, None, Result, Ok, Err, OnOk, OnErr, cond, unwrap_or, is_some}
+use Rattle.std.proofs.Common.{◌≡◌, ℕ, Bool, true, false, ◌||◌, ◌&&◌, not, if◌then◌else◌, List, [], ◌∷◌, map, refl, sym, ap, ◌∙◌, subst, Option, Some, None, Result, Ok, Err, OnOk, OnErr, cond, unwrap_or, is_some}
 use Rattle.std.proofs.lemmas.Map.{lookup-remove_entry}
 use Rattle.std.proofs.lemmas.Map.Keys.{IsDistinct-from_sorted}
 use Rattle.std.specs.List.Sorted.{IsStrictlySortedBy}
@@ -21,10 +21,6 @@ use Rattle.fb_index.specs.Users.{UsersByName, users_of, uses, UsesThese, NowUses
 use Rattle.fb_index.specs.Indexed.{Indexed, mark_of, is_indexed, IsIndexedAs, IsReplaced}
 use Rattle.fb_index.specs.Steps.{is_only_in, HasJoined, HasLeft}
 use Rattle.fb_index.proofs.Bits.{own_bits, other_bits}
-
-pub none_by_length : {X : Type 0} (xs : List X) → (length xs == 0) ≡ true → xs ≡ []
-none_by_length [] is = refl
-none_by_length (x ∷ xs) is = absurd (omega (arith, eqb-true (length (x ∷ xs)) 0 is))
 
 pub flips : (a b : List ℕ) → is_at (name_cmp a) b ≡ is_at (name_cmp b) a
 flips a b = (eq_by_cmp_equiv name_total).symm a b
