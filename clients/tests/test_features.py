@@ -217,7 +217,7 @@ class HoverTest(ConveyorTest):
     def test_a_type(self):
         expected = """\
 ADAPTER HANDOVER
-How one machine hands a piece to the next. Read from the side of the machine that takes it.
+How one machine hands a piece to the next. Inputs and outputs are those of the machine with the plug, which hands it over.
   EVENT_INPUT
     TAKEN
   EVENT_OUTPUT

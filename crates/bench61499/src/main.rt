@@ -3,7 +3,7 @@
 
 use fb_program::wire::{FromRead, IntoWrite};
 use fb_program::{Outcome, refuse_words};
-use fb_serve::{Numbers, serve};
+use fb_serve::{NotServed, Numbers, serve};
 use std::alloc::{AllocError, Global};
 use std::process::ExitCode;
 use std::{env, io};
@@ -61,8 +61,10 @@ fn main(rt: HostRuntime) -> ExitCode {
             };
             let mut writer = IntoWrite::new(rt.stdout());
             let mut errors = rt.stderr();
-            let status = serve(&rt, rt.alloc(), port, numbers, &mut writer, &mut errors);
-            ExitCode::from(status)
+            match serve(&rt, rt.alloc(), port, numbers, &mut writer, &mut errors) {
+                Ok(_served) => ExitCode::SUCCESS,
+                Err(NotServed) => ExitCode::FAILURE,
+            }
         }
     }
 }

@@ -268,7 +268,8 @@ impl Bench {
         self.library.revision(unit)
     }
 
-    /// What the units of the present texts mention, by which a commit finds what it reaches.
+    /// What the units of the present texts mention, by which a commit finds what it reaches. Units that are gone may be in it too, without mentions: it
+    /// names such a unit where one asks for what is near it.
     pub fn index(&self) -> &Index
         ensures { IsIndexOf (state_of self.now).units result.now }
     {
@@ -605,8 +606,8 @@ impl Bench {
     }
 
     /// Makes the present state what the history begins from, with new limits, and gives the number of all calls so far. Texts, values, pending
-    /// keys and handed-out marks stay as they are; the records go. It is no call itself, and is not recorded. The memory of the records is
-    /// kept for the next ones.
+    /// keys and handed-out marks stay as they are; the records go, and their memory is given back to the allocator. It is no call itself,
+    /// and is not recorded.
     pub fn checkpoint(&mut self, limits: Limits) -> Result<u64, CheckpointRefused>
         ensures answer { ChecksAs (checking limits self.old) result }
         ensures kept { OnOk result (self.new ≡ checkpointed limits self.old) }

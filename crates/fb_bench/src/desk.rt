@@ -15,7 +15,7 @@ use std::alloc::AllocError;
 pub enum DeskRefused {
     /// As many calls are recorded as the limits allow.
     HistoryFull,
-    /// The history is shorter than what this desk has already seen of it.
+    /// The history is not the one that this desk has seen: it is shorter, or has another number of calls of the desk's caller.
     Behind,
     /// Memory was refused, and nothing has changed.
     Memory,

@@ -69,7 +69,7 @@ impl Start {
         &self.library
     }
 
-    /// How many commits were good, which is the highest revision.
+    /// How many commits were good. No revision is higher.
     pub fn commits(&self) -> u64
         ensures { result ≡ self.now.commits }
     {

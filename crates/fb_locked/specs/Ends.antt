@@ -11,7 +11,7 @@ use Rattle.fb_locked.specs.declared.look.WorkEnd.{WorkEnd}
 use Rattle.fb_locked.specs.declared.look.WorkEnd.TheVariants.{TurnsOver, Stopped, SeatDiffers, Behind, HistoryFull, Memory}
 use Rattle.fb_locked.specs.declared.look.Look.{Look}
 use Rattle.fb_locked.specs.declared.look.Look.TheVariants.{Ended, Nothing, Taken}
-use Rattle.fb_locked.specs.Seats.{Hall, SeatState, Claim, hall_after}
+use Rattle.fb_locked.specs.Seats.{Hall, SeatState, Claim}
 use Rattle.fb_locked.specs.Refusals.{refusal_of}
 use Rattle.fb_locked.specs.Calls.{Keeps, Stays}
 
@@ -46,12 +46,13 @@ abbrev pub EndsAs : Option WorkEnd → WorkEnd → Type 0
 EndsAs None end = end ≡ Memory
 EndsAs (Some cause) end = end ≡ cause
 
--- A look for a job, under the lock. What ends the worker is asked first, whether or not there is a job. A look that takes none records nothing.
-abbrev pub Looks : Hall → SeatState → Look → Hall → Type 0
-Looks hall seat (Ended end) hall' = EndsAs (end_before_take hall seat) end × (hall' ≡ hall)
-Looks hall seat Nothing hall' = (end_before_take hall seat ≡ None) × (next (state_of hall.bench) ≡ None) × (hall' ≡ hall)
-Looks hall seat (Taken job) hall' =
-    (end_before_take hall seat ≡ None) × (job_of (reply (state_of hall.bench) ToTake) ≡ Some job) × (hall' ≡ hall_after hall seat.caller ToTake)
+-- A look for a job, under the lock. What ends the worker is asked first, whether or not there is a job. A look that takes one is a take whose receipt is
+-- kept, and one that takes none changes nothing.
+abbrev pub Looks : Hall → SeatState → Look → List Claim → Hall → SeatState → List Claim → Type 0
+Looks hall seat (Ended end) old hall' seat' new = EndsAs (end_before_take hall seat) end × Stays hall seat old hall' seat' new
+Looks hall seat Nothing old hall' seat' new = (end_before_take hall seat ≡ None) × (next (state_of hall.bench) ≡ None) × Stays hall seat old hall' seat' new
+Looks hall seat (Taken job) old hall' seat' new =
+    (end_before_take hall seat ≡ None) × (job_of (reply (state_of hall.bench) ToTake) ≡ Some job) × Keeps hall seat ToTake old hall' seat' new
 
 -- a worker that waits has to look again: it would end, or there is something to take
 abbrev pub calls_workers : Hall → Bool

@@ -4,7 +4,7 @@ use Rattle.fb_bench.specs.Calls.{Fits}
 use Rattle.fb_bench.specs.History.Machine.{Call}
 use Rattle.fb_bench.specs.History.Story.{Record, Story, all_turns, last_number, recorded, record_of}
 
--- a seat: whose it is, how many calls were recorded with it, and the greatest number of a record that it has seen
+-- a seat: whose it is, how many calls of its caller it knows of, and the greatest number of a record that it has seen
 pub record SeatState : Type 0 where
   pub caller : ℕ
   pub turns : ℕ

@@ -65,7 +65,8 @@ impl Locked {
 
     /// A look of a worker for a job. Where it takes one, there is room for the receipt by which that is settled.
     pub fn look(&mut self, seat: &mut Seat, receipts: &mut Vec<Receipt>) -> Look
-        ensures looks { Looks self.old seat.old result self.new }
+        ensures looks { Looks self.old seat.old result receipts.old.items self.new seat.new
+            receipts.new.items }
         ensures adds { AddsLook result seat.old receipts.old.items receipts.new.items seat.new }
         ensures names { LookNames seat.new result }
         ensures room { LeavesRoom result (vec_len receipts.new) (vec_capacity receipts.new) }

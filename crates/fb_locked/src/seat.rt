@@ -40,7 +40,7 @@ impl Seat {
         self.caller
     }
 
-    /// How many calls were recorded with it.
+    /// How many calls of its caller it knows of: those that were made with it, and those before, if its workbench was resumed.
     pub fn turns(&self) -> u64
         ensures { result ≡ self.now.turns }
     {

@@ -2,6 +2,7 @@
 ghost use Rattle.std.specs.Prelude.{◌≡◌, ◌≢◌, ◌<◌, ◌≤◌, ◌++◌, ℕ, List, map, false};
 ghost use Rattle.std.specs.Io.KnownBytes.{IsAtEnd};
 ghost use Rattle.std.specs.declared.io.ErrorKind.TheVariants.{InvalidData};
+ghost use Rattle.fb_streams.specs.Streams.{StaysFlushed};
 ghost use Rattle.fb_program.specs.Program.{BenchSays, HasDone, SaysUntil};
 
 use crate::arguments::settings;
@@ -48,12 +49,15 @@ fn run_new<F: Feed, S: Sink>(
     turns: u64,
 ) -> RunEnd
     requires reader { F.has_failed reader.old ≡ false }
+    requires open { F.has_ended reader.old ≡ false }
     requires writer { S.has_failed writer.old ≡ false }
     ensures said { (bytes : List ℕ) × (out : List ℕ)
         × (F.given reader.new ≡ F.given reader.old ++ bytes)
         × (S.held writer.new ≡ S.held writer.old ++ out)
         × SaysUntil result limits.units limits.history bytes out }
     ensures whole { result ≡ RunEnd.End → IsAtEnd (F.left reader.new) }
+    ensures flushed { StaysFlushed (S.is_flushed writer.old) (S.has_failed writer.new)
+        (S.is_flushed writer.new) }
 {
     let mut bench = Bench::new(alloc, limits);
     run_script(alloc, reader, writer, &mut bench, SCRIPT_CALLER, turns)
@@ -68,6 +72,7 @@ fn script<F: Feed, S: Sink, E: Write>(
     turns: u64,
 ) -> u8
     requires reader { F.has_failed reader.old ≡ false }
+    requires open { F.has_ended reader.old ≡ false }
     requires writer { S.has_failed writer.old ≡ false }
     ensures status { result ≤ 1 }
     ensures said { (bytes : List ℕ) × (out : List ℕ)
@@ -75,6 +80,8 @@ fn script<F: Feed, S: Sink, E: Write>(
         × (S.held writer.new ≡ S.held writer.old ++ out)
         × BenchSays limits.units limits.history result bytes out }
     ensures whole { result ≡ 0 → IsAtEnd (F.left reader.new) }
+    ensures flushed { StaysFlushed (S.is_flushed writer.old) (S.has_failed writer.new)
+        (S.is_flushed writer.new) }
 {
     let end = run_new(alloc, limits, reader, writer, turns);
     match fault_of(end) {
@@ -127,6 +134,7 @@ pub fn run<F: Feed, S: Sink, E: Write>(
     turns: u64,
 ) -> Outcome
     requires reader { F.has_failed reader.old ≡ false }
+    requires open { F.has_ended reader.old ≡ false }
     requires writer { S.has_failed writer.old ≡ false }
     // What was written is all, a front or nothing of what a new workbench says to the bytes that
     // were read.
@@ -136,6 +144,9 @@ pub fn run<F: Feed, S: Sink, E: Write>(
         × HasDone (map (λ word. word.now) words.now) result bytes out }
     // Where the status is 0, the input was read to its end.
     ensures whole { result ≡ Outcome.Ended 0 → IsAtEnd (F.left reader.new) }
+    // All that was written is flushed, if it was before and no write failed.
+    ensures flushed { StaysFlushed (S.is_flushed writer.old) (S.has_failed writer.new)
+        (S.is_flushed writer.new) }
 {
     match settings(alloc, words) {
         Ok(Settings::Script { units, history }) => match Limits::new(units, history) {

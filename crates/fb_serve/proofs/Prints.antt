@@ -1,5 +1,5 @@
 -- Fronts of two lines, one behind the other.
-use Rattle.std.proofs.Common.{◌≡◌, ◌<◌, ◌^◌, ℕ, zero, suc, List, [], ◌∷◌, ◌++◌, length, take, refl, sym, ap, ◌∙◌, append_assoc, arith}
+use Rattle.std.proofs.Common.{◌≡◌, ◌<◌, ◌^◌, ℕ, zero, suc, true, false, List, [], ◌∷◌, ◌++◌, length, take, refl, sym, ap, ◌∙◌, append_assoc}
 use Rattle.std.proofs.Math.Seq.{take-length}
 use Rattle.fb_serve.specs.Lines.{greeting, farewell, SaysLines}
 
@@ -17,24 +17,24 @@ front_behind n (x ∷ xs) ys =
     (suc rest.0, ap (λ (l : List ℕ). x ∷ l) rest.1)
 
 -- a front of the first line
-pub greets_in_part : (port n : ℕ) (old new : List ℕ) → port < 2 ^ 16 → new ≡ old ++ take n (greeting port) → SaysLines 1 old new
+pub greets_in_part : (port n : ℕ) (old new : List ℕ) → port < 2 ^ 16 → new ≡ old ++ take n (greeting port) → SaysLines false old new
 greets_in_part port n old new small is =
     let front = front_more n (greeting port) farewell in
-    (port, small, (λ zero. absurd (omega (arith, zero))), (front.0, is ∙ ap (λ (l : List ℕ). old ++ l) front.1))
+    (port, small, (λ is. absurd cc), (front.0, is ∙ ap (λ (l : List ℕ). old ++ l) front.1))
 
 -- the first line, and a front of the second
-pub closes_in_part : (port n : ℕ) (old between new : List ℕ) → port < 2 ^ 16 → between ≡ old ++ greeting port → new ≡ between ++ take n farewell → SaysLines 1 old new
+pub closes_in_part : (port n : ℕ) (old between new : List ℕ) → port < 2 ^ 16 → between ≡ old ++ greeting port → new ≡ between ++ take n farewell → SaysLines false old new
 closes_in_part port n old between new small first is =
     let front = front_behind n (greeting port) farewell in
     let whole : new ≡ old ++ (greeting port ++ take n farewell) = is ∙ ap (λ (l : List ℕ). l ++ take n farewell) first ∙ append_assoc old (greeting port) (take n farewell) in
-    (port, small, (λ zero. absurd (omega (arith, zero))), (front.0, whole ∙ ap (λ (l : List ℕ). old ++ l) front.1))
+    (port, small, (λ is. absurd cc), (front.0, whole ∙ ap (λ (l : List ℕ). old ++ l) front.1))
 
 -- both lines
-pub closes : (port : ℕ) (old between new : List ℕ) → port < 2 ^ 16 → between ≡ old ++ greeting port → new ≡ between ++ farewell → SaysLines 0 old new
+pub closes : (port : ℕ) (old between new : List ℕ) → port < 2 ^ 16 → between ≡ old ++ greeting port → new ≡ between ++ farewell → SaysLines true old new
 closes port old between new small first is =
     let whole : new ≡ old ++ (greeting port ++ farewell) = is ∙ ap (λ (l : List ℕ). l ++ farewell) first ∙ append_assoc old (greeting port) farewell in
-    (port, small, (λ zero. whole), (length (greeting port ++ farewell), whole ∙ ap (λ (l : List ℕ). old ++ l) (sym (take-length (greeting port ++ farewell)))))
+    (port, small, (λ is. whole), (length (greeting port ++ farewell), whole ∙ ap (λ (l : List ℕ). old ++ l) (sym (take-length (greeting port ++ farewell)))))
 
 -- the first line
-pub greets : (port : ℕ) (old new : List ℕ) → port < 2 ^ 16 → new ≡ old ++ greeting port → SaysLines 1 old new
+pub greets : (port : ℕ) (old new : List ℕ) → port < 2 ^ 16 → new ≡ old ++ greeting port → SaysLines false old new
 greets port old new small is = greets_in_part port (length (greeting port)) old new small (is ∙ ap (λ (l : List ℕ). old ++ l) (sym (take-length (greeting port))))

@@ -39,10 +39,13 @@ runs_show [] old new runs = ([], ap (λ (s : Sitter). s.receipts) runs ∙ sym (
 runs_show (p ∷ ps) old new runs = shows_more p.0 p.1 old runs.0 new (answered_in ps) runs.1 (runs_show ps runs.0 new runs.2)
 
 -- the same from a desk with no receipts, whose seat and receipts are then taken out
-pub session_shown : (pairs : List Pair) (seat : SeatState) (start : List Claim) (old new : Sitter) (left : SeatState) (receipts : List Claim) → start ≡ [] → old ≡ record { seat = seat; receipts = start } → Runs SitterStep old pairs new → left ≡ new.seat → receipts ≡ new.receipts
-    → (answered_in pairs ≡ map call_shown receipts) × IsRun seat receipts left
-session_shown pairs seat start old new left receipts none made runs left_is receipts_is =
+pub session_runs : (pairs : List Pair) (seat : SeatState) (start : List Claim) (old new : Sitter) (left : SeatState) (receipts : List Claim) → start ≡ [] → old ≡ record { seat = seat; receipts = start } → Runs SitterStep old pairs new → record { seat = left; receipts = receipts } ≡ new
+    → Runs SitterStep (record { seat = seat; receipts = [] }) pairs (record { seat = left; receipts = receipts })
+session_runs pairs seat start old new left receipts none made runs is =
     let begun : old ≡ record { seat = seat; receipts = [] } = made ∙ ap (λ (l : List Claim). record { seat = seat; receipts = l }) none in
-    let shows = runs_show pairs (record { seat = seat; receipts = [] }) new (subst (λ (s : Sitter). Runs SitterStep s pairs new) begun runs) in
-    let same : shows.0 ≡ receipts = sym (receipts_is ∙ shows.1) in
-    (shows.2 ∙ ap (map call_shown) same, subst (λ (s : SeatState). IsRun seat receipts s) (sym left_is) (subst (λ (l : List Claim). IsRun seat l new.seat) same shows.3))
+    subst (λ (s : Sitter). Runs SitterStep (record { seat = seat; receipts = [] }) pairs s) (sym is) (subst (λ (s : Sitter). Runs SitterStep s pairs new) begun runs)
+
+pub session_shown : (pairs : List Pair) (seat left : SeatState) (receipts : List Claim) → Runs SitterStep (record { seat = seat; receipts = [] }) pairs (record { seat = left; receipts = receipts }) → (answered_in pairs ≡ map call_shown receipts) × IsRun seat receipts left
+session_shown pairs seat left receipts runs =
+    let shows = runs_show pairs (record { seat = seat; receipts = [] }) (record { seat = left; receipts = receipts }) runs in
+    (shows.2 ∙ ap (map call_shown) (sym shows.1), subst (λ (l : List Claim). IsRun seat l left) (sym shows.1) shows.3)

@@ -1,5 +1,5 @@
 -- What the server prints.
-use Rattle.std.specs.Prelude.{◌≡◌, ◌<◌, ◌^◌, ℕ, List, [], ◌∷◌, ◌++◌, take, codes}
+use Rattle.std.specs.Prelude.{◌≡◌, ◌<◌, ◌^◌, ℕ, Bool, true, List, [], ◌∷◌, ◌++◌, take, codes}
 use Rattle.std.specs.Fmt.{decimal}
 
 -- where it listens
@@ -9,9 +9,9 @@ greeting port = codes "listening on 127.0.0.1:" ++ (decimal port ++ 10 ∷ [])
 abbrev pub farewell : List ℕ
 farewell = codes "closed" ++ 10 ∷ []
 
--- Status 0: both lines, for some port. Otherwise a front of them.
-abbrev pub SaysLines : ℕ → List ℕ → List ℕ → Type 0
-SaysLines status old new =
+-- Of a server that comes to its close both lines, for some port. Otherwise a front of them.
+abbrev pub SaysLines : (is_closed : Bool) → List ℕ → List ℕ → Type 0
+SaysLines is_closed old new =
     (port : ℕ) × (port < 2 ^ 16)
-    × (status ≡ 0 → new ≡ old ++ (greeting port ++ farewell))
+    × (is_closed ≡ true → new ≡ old ++ (greeting port ++ farewell))
     × ((n : ℕ) × (new ≡ old ++ take n (greeting port ++ farewell)))

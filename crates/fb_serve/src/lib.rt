@@ -6,5 +6,5 @@ mod say;
 mod server;
 mod session;
 
-pub use server::{Numbers, Served, serve, serve_on, serve_sessions};
+pub use server::{NotServed, Numbers, Served, serve, serve_on, serve_sessions};
 pub use session::{Session, run_session};

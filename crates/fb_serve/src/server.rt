@@ -1,5 +1,5 @@
 //! The server, on the listener that it is given.
-ghost use Rattle.std.specs.Prelude.{◌≡◌, ◌+◌, ◌≤◌, All, IfOk, true, false};
+ghost use Rattle.std.specs.Prelude.{◌≡◌, ◌+◌, All, IfOk, OnOk, is_ok, true, false};
 ghost use Rattle.fb_shared.specs.Locked.Book.{IsBookOf};
 ghost use Rattle.fb_serve.specs.Lines.{SaysLines};
 ghost use Rattle.fb_serve.specs.Shown.{IsNew, ShowsAll};
@@ -9,18 +9,12 @@ use crate::say::greet;
 use crossbeam_channel::{Receiver, bounded};
 use fb_shared::{Closed, Receipt, Seat, Shared};
 use fb_wire::bench::Limits;
-use fb_wire::{Sink, write_all};
+use fb_wire::{Failed, Sink, write_all};
 use std::alloc::{AllocError, Global};
 use std::io::Write;
 use std::net::{Net, TcpListener, TcpStream};
 use std::sync::Wait;
 use std::thread::Threads;
-
-/// All sessions ended, and the workbench is closed.
-const DONE: u8 = 0;
-
-/// The listener, a thread, a printed line, memory or the close failed.
-const FAILED: u8 = 1;
 
 /// How many callers of each sort a server has, and the limits of its workbench. Callers 1 to `sessions` are sessions, those behind them workers.
 #[derive(Clone, Copy)]
@@ -45,12 +39,18 @@ impl Drop for Served {
     }
 }
 
-/// A server that did not come to its close.
+/// A server that did not come to its close, since the listener, a thread, a printed line, memory or the close failed.
 #[derive(Clone, Copy, Debug, PartialEq, Eq)]
 pub struct NotServed;
 
 impl From<AllocError> for NotServed {
     fn from(_error: AllocError) -> NotServed {
+        NotServed
+    }
+}
+
+impl From<Failed> for NotServed {
+    fn from(_failed: Failed) -> NotServed {
         NotServed
     }
 }
@@ -124,8 +124,8 @@ fn tell<R: Wait, E: Write>(rt: &R, told: &Receiver<SessionFault>, errors: &mut E
     }
 }
 
-/// Prints where it listens, serves its sessions, prints that it is closed, and gives the status of the program: 0, or 1 where something
-/// failed, once the sessions that run have ended and the workers are stopped and joined.
+/// Prints where it listens, serves its sessions, and prints that it is closed. Where something fails it comes back once the sessions that run
+/// have ended and the workers are stopped and joined.
 pub fn serve_on<R: Threads + Wait + Sync, S: Sink, E: Write>(
     rt: &R,
     alloc: Global,
@@ -133,22 +133,20 @@ pub fn serve_on<R: Threads + Wait + Sync, S: Sink, E: Write>(
     numbers: Numbers,
     out: &mut S,
     errors: &mut E,
-) -> u8
+) -> Result<Served, NotServed>
     requires { S.has_failed out.old ≡ false }
-    ensures status { result ≤ 1 }
-    ensures said { SaysLines result (S.held out.old) (S.held out.new) }
-    ensures flushed { result ≡ 0 → S.is_flushed out.new ≡ true }
+    ensures all { IfOk result
+        (λ served. ShowsAll served.closed.bench served.receipts.items) }
+    ensures counts { IfOk result
+        (λ served. IsBookOf served.closed.counts (numbers.sessions + numbers.workers)
+        served.closed.bench) }
+    ensures said { SaysLines (is_ok result) (S.held out.old) (S.held out.new) }
+    ensures flushed { OnOk result (S.is_flushed out.new ≡ true) }
 {
-    let Ok(()) = greet(alloc, listener, out) else {
-        return FAILED;
-    };
-    match serve_sessions(rt, alloc, listener, numbers, errors) {
-        Ok(_served) => match write_all(out, b"closed\n") {
-            Ok(()) => DONE,
-            Err(_) => FAILED,
-        },
-        Err(_) => FAILED,
-    }
+    greet(alloc, listener, out)?;
+    let served = serve_sessions(rt, alloc, listener, numbers, errors)?;
+    write_all(out, b"closed\n")?;
+    Ok(served)
 }
 
 /// Serves as `serve_on` does, on this port of 127.0.0.1; any free one for 0.
@@ -156,14 +154,25 @@ pub fn serve<
     R: Net<Listener = TcpListener, Stream = TcpStream> + Threads + Wait + Sync,
     S: Sink,
     E: Write,
->(rt: &R, alloc: Global, port: u16, numbers: Numbers, out: &mut S, errors: &mut E) -> u8
+>(
+    rt: &R,
+    alloc: Global,
+    port: u16,
+    numbers: Numbers,
+    out: &mut S,
+    errors: &mut E,
+) -> Result<Served, NotServed>
     requires { S.has_failed out.old ≡ false }
-    ensures status { result ≤ 1 }
-    ensures said { SaysLines result (S.held out.old) (S.held out.new) }
-    ensures flushed { result ≡ 0 → S.is_flushed out.new ≡ true }
+    ensures all { IfOk result
+        (λ served. ShowsAll served.closed.bench served.receipts.items) }
+    ensures counts { IfOk result
+        (λ served. IsBookOf served.closed.counts (numbers.sessions + numbers.workers)
+        served.closed.bench) }
+    ensures said { SaysLines (is_ok result) (S.held out.old) (S.held out.new) }
+    ensures flushed { OnOk result (S.is_flushed out.new ≡ true) }
 {
     match TcpListener::bind(rt, ("127.0.0.1", port)) {
         Ok(listener) => serve_on(rt, alloc, &listener, numbers, out, errors),
-        Err(_) => FAILED,
+        Err(_) => Err(NotServed),
     }
 }

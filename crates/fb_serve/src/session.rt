@@ -1,7 +1,9 @@
 //! One session.
-ghost use Rattle.std.specs.Prelude.{◌≡◌, map, false};
+ghost use Rattle.std.specs.Prelude.{◌≡◌, [], map, false};
 ghost use Rattle.fb_wire.specs.Ends.{IsTalk, streams};
+ghost use Rattle.fb_wire.specs.Talk.{Runs};
 ghost use Rattle.fb_shared.specs.Locked.Runs.{IsRun};
+ghost use Rattle.fb_shared.specs.Sitting.{SitterStep};
 ghost use Rattle.fb_serve.specs.Sessions.{answered_in, call_shown};
 
 use fb_shared::{Receipt, Seat, Seated, Shared};
@@ -28,14 +30,17 @@ pub fn run_session<R: Wait, F: Feed, S: Sink>(
     turns: u64,
 ) -> Session
     requires reader { F.has_failed reader.old ≡ false }
+    requires open { F.has_ended reader.old ≡ false }
     requires writer { S.has_failed writer.old ≡ false }
-    // The calls that were answered, with their replies, are those of the receipts.
+    // The calls and their answers are those of the seat's desk, from no receipts on. The calls that were answered, with their replies, are those of the receipts.
     ensures talk { (talk : IsTalk result.end turns
         (streams F.given F.left F.reads F.has_failed S.held S.is_flushed S.has_failed reader.old
         writer.old)
         (streams F.given F.left F.reads F.has_failed S.held S.is_flushed S.has_failed reader.new
         writer.new))
-        × (answered_in talk.pairs ≡ map call_shown result.receipts.items) }
+        × (answered_in talk.pairs ≡ map call_shown result.receipts.items)
+        × Runs SitterStep (record { seat = seat; receipts = [] }) talk.pairs
+        (record { seat = result.seat; receipts = result.receipts.items }) }
     // The receipts are of calls with this seat, one after another.
     ensures run { IsRun seat result.receipts.items result.seat }
 {

@@ -11,6 +11,7 @@ use std::io::Read;
 pub struct FromRead<R> {
     inner: R,
     has_failed: bool,
+    has_ended: bool,
     tape: Tape,
 }
 
@@ -18,6 +19,7 @@ impl<R: Read> FromRead<R> {
     /// The feed of this reader, of which nothing was read yet.
     pub fn new(inner: R) -> FromRead<R>
         ensures failed { ⟦<FromRead<R> as Feed>⟧.has_failed result ≡ false }
+        ensures ended { ⟦<FromRead<R> as Feed>⟧.has_ended result ≡ false }
         ensures given { ⟦<FromRead<R> as Feed>⟧.given result ≡ [] }
         ensures left { ⟦<FromRead<R> as Feed>⟧.left result ≡ R.remaining inner }
         ensures reads { ⟦<FromRead<R> as Feed>⟧.reads result ≡ 0 }
@@ -25,6 +27,7 @@ impl<R: Read> FromRead<R> {
         FromRead {
             inner,
             has_failed: false,
+            has_ended: false,
             tape: Tape::new(),
         }
     }
@@ -39,12 +42,15 @@ impl<R: Read> Feed for FromRead<R> {
 
     ghost has_failed = { λ f. f.has_failed };
 
+    ghost has_ended = { λ f. f.has_ended };
+
     #[tactic(auto, using(crate::proofs::Tapes::tapes))]
     fn read(&mut self, buffer: &mut [u8]) -> Result<usize, Failed> {
         match self.inner.read(buffer) {
             Ok(count) => {
                 let bytes = &buffer[..count];
                 self.tape = self.tape.then(&Piece { bytes });
+                self.has_ended = count == 0 && !buffer.is_empty();
                 Ok(count)
             }
             Err(_) => {

@@ -49,6 +49,7 @@ fn take_turn<F: Feed, S: Sink, D: Desk>(
     buffer: &mut [u8],
 ) -> Result<(), RunEnd>
     requires reader { F.has_failed reader.old ≡ false }
+    requires open { F.has_ended reader.old ≡ false }
     requires writer { S.has_failed writer.old ≡ false }
     requires room { 0 < length buffer.old }
     ensures taken { (bytes : List ℕ)
@@ -59,6 +60,7 @@ fn take_turn<F: Feed, S: Sink, D: Desk>(
     ensures whole { result ≡ Err RunEnd.End → IsAtEnd (F.left reader.new) }
     ensures turn { F.reads reader.new ≡ F.reads reader.old + 1 }
     ensures gave { OnOk result (length (F.given reader.old) < length (F.given reader.new)) }
+    ensures open { OnOk result (F.has_ended reader.new ≡ false) }
     ensures read_failed { IsTrue (F.has_failed reader.new) ↔ (result ≡ Err RunEnd.ReadFailed) }
     ensures flushed { StaysFlushed (S.is_flushed writer.old) (S.has_failed writer.new)
         (S.is_flushed writer.new) }
@@ -87,6 +89,7 @@ pub fn run_lines<F: Feed, S: Sink, D: Desk>(
     turns: u64,
 ) -> RunEnd
     requires reader { F.has_failed reader.old ≡ false }
+    requires open { F.has_ended reader.old ≡ false }
     requires writer { S.has_failed writer.old ≡ false }
     ensures { (talk : IsTalk result turns
         (streams F.given F.left F.reads F.has_failed S.held S.is_flushed S.has_failed reader.old
@@ -114,6 +117,7 @@ fn run_solo<F: Feed, S: Sink>(
     turns: u64,
 ) -> RunEnd
     requires reader { F.has_failed reader.old ≡ false }
+    requires open { F.has_ended reader.old ≡ false }
     requires writer { S.has_failed writer.old ≡ false }
     ensures run { (talk : IsTalk result turns
         (streams F.given F.left F.reads F.has_failed S.held S.is_flushed S.has_failed reader.old
@@ -137,6 +141,7 @@ pub fn run_script<F: Feed, S: Sink>(
     turns: u64,
 ) -> RunEnd
     requires reader { F.has_failed reader.old ≡ false }
+    requires open { F.has_ended reader.old ≡ false }
     requires writer { S.has_failed writer.old ≡ false }
     // Each answer is the machine's, from the state before on: what is written is the script's output, or a front of it.
     ensures { (talk : IsTalk result turns

@@ -44,12 +44,23 @@ const KEEPING_TOLD: &str =
     "{\"commit\":1}\n{\"refused\":\"NotAlone\"}\n{\"refused\":\"BadRequest\"}\n\
     {\"refused\":\"NoSuchKey\"}\n";
 
-/// What a server printed, what it said on its errors, and its status.
+// Of a workbench of one unit and four calls. No worker makes a call, as no unit comes to be.
+const OVER: &str = r#"{"op":"commit","changes":[{"put":"A","base":0,"text":""},{"put":"B","base":0,"text":""}]}
+{"op":"ask","kind":"net","unit":"A"}
+{"op":"ask","kind":"net","unit":"A"}
+{"op":"ask","kind":"net","unit":"A"}
+{"op":"ask","kind":"net","unit":"A"}
+"#;
+
+const OVER_TOLD: &str = "{\"refused\":\"TooManyUnits\"}\n{\"refused\":\"NoSuchKey\"}\n\
+    {\"refused\":\"NoSuchKey\"}\n{\"refused\":\"NoSuchKey\"}\n{\"refused\":\"HistoryFull\"}\n";
+
+/// What a server printed, what it said on its errors, and whether it came to its close.
 #[derive(Drop)]
 struct Served {
     output: Vec<u8>,
     errors: Vec<u8>,
-    status: u8,
+    is_closed: bool,
 }
 
 /// The same, without the line that tells where it listens, and what its clients were told.
@@ -57,7 +68,7 @@ struct Served {
 struct Ended {
     printed: String,
     errors: Vec<u8>,
-    status: u8,
+    is_closed: bool,
     told: String,
 }
 
@@ -71,11 +82,11 @@ fn serve_in_memory<R: Threads + Wait + Sync>(
 ) -> Result<Served, AllocError> {
     let mut out = MemorySink::new(alloc, 8192, good_writes);
     let mut errors = Vec::new(alloc);
-    let status = serve_on(rt, alloc, listener, numbers, &mut out, &mut errors);
+    let is_closed = serve_on(rt, alloc, listener, numbers, &mut out, &mut errors).is_ok();
     Ok(Served {
         output: out.as_slice().to_vec(alloc)?,
         errors,
-        status,
+        is_closed,
     })
 }
 
@@ -121,17 +132,19 @@ fn talk_all<R: Net<Listener = TcpListener, Stream = TcpStream>>(
 struct Play<'a> {
     workers: u8,
     sessions: u8,
+    units: u64,
+    history: u64,
     good_writes: u64,
     texts: &'a [&'a str],
 }
 
-/// What the clients are told, and what the server prints behind its greeting, says on its errors and comes to.
+/// What the clients are told, what the server prints behind its greeting and says on its errors, and whether it comes to its close.
 #[derive(Drop)]
 struct Wanted<'a> {
     told: &'a str,
     printed: &'a str,
     errors: &'a str,
-    status: u8,
+    is_closed: bool,
 }
 
 // A server with a session for each of the texts.
@@ -140,12 +153,12 @@ fn serve_texts<R: Net<Listener = TcpListener, Stream = TcpStream> + Threads + Wa
     alloc: Global,
     workers: u8,
     sessions: u8,
+    limits: Limits,
     good_writes: u64,
     texts: &[&str],
 ) -> Result<Ended, Fail> {
     let listener = TcpListener::bind(rt, "127.0.0.1:0")?;
     let port = listener.local_addr()?.port();
-    let limits = Limits::new(16, 1000).ok_or("limits")?;
     let numbers = Numbers {
         workers,
         sessions,
@@ -165,14 +178,14 @@ fn serve_texts<R: Net<Listener = TcpListener, Stream = TcpStream> + Threads + Wa
     Ok(Ended {
         printed: rest.unwrap_or("no greeting").to_string(alloc)?,
         errors: served.errors,
-        status: served.status,
+        is_closed: served.is_closed,
         told: told?,
     })
 }
 
 /// Whether all is as it is wanted.
 fn is_as_wanted(ended: &Ended, wanted: &Wanted<'_>) -> bool {
-    let is_printed = ended.printed.as_str() == wanted.printed && ended.status == wanted.status;
+    let is_printed = ended.printed.as_str() == wanted.printed && ended.is_closed == wanted.is_closed;
     let is_said = ended.errors.as_slice() == wanted.errors.as_bytes();
     is_printed && is_said && ended.told.as_str() == wanted.told
 }
@@ -187,10 +200,13 @@ fn compare<R: Net<Listener = TcpListener, Stream = TcpStream> + Threads + Wait +
     let Play {
         workers,
         sessions,
+        units,
+        history,
         good_writes,
         texts,
     } = play;
-    let ended = serve_texts(rt, alloc, *workers, *sessions, *good_writes, texts)?;
+    let limits = Limits::new(*units, *history).ok_or("limits")?;
+    let ended = serve_texts(rt, alloc, *workers, *sessions, limits, *good_writes, texts)?;
     assert!(rt; is_as_wanted(&ended, wanted), "{}", ended.told);
     Ok(())
 }
@@ -200,6 +216,8 @@ fn one_session(rt: HostRuntime) -> Result<(), Fail> {
     let play = Play {
         workers: 1,
         sessions: 1,
+        units: 16,
+        history: 1000,
         good_writes: ALWAYS,
         texts: &[FIRST],
     };
@@ -207,7 +225,7 @@ fn one_session(rt: HostRuntime) -> Result<(), Fail> {
         told: FIRST_TOLD,
         printed: "closed\n",
         errors: "",
-        status: 0,
+        is_closed: true,
     };
     compare(&rt, rt.alloc(), &play, &wanted)
 }
@@ -217,6 +235,8 @@ fn two_sessions(rt: HostRuntime) -> Result<(), Fail> {
     let play = Play {
         workers: 2,
         sessions: 2,
+        units: 16,
+        history: 1000,
         good_writes: ALWAYS,
         texts: &[FIRST, SECOND],
     };
@@ -224,7 +244,7 @@ fn two_sessions(rt: HostRuntime) -> Result<(), Fail> {
         told: BOTH_TOLD,
         printed: "closed\n",
         errors: "",
-        status: 0,
+        is_closed: true,
     };
     compare(&rt, rt.alloc(), &play, &wanted)
 }
@@ -234,6 +254,8 @@ fn a_session_makes_no_checkpoint(rt: HostRuntime) -> Result<(), Fail> {
     let play = Play {
         workers: 1,
         sessions: 1,
+        units: 16,
+        history: 1000,
         good_writes: ALWAYS,
         texts: &[KEEPING],
     };
@@ -241,7 +263,26 @@ fn a_session_makes_no_checkpoint(rt: HostRuntime) -> Result<(), Fail> {
         told: KEEPING_TOLD,
         printed: "closed\n",
         errors: "",
-        status: 0,
+        is_closed: true,
+    };
+    compare(&rt, rt.alloc(), &play, &wanted)
+}
+
+#[test]
+fn a_server_keeps_its_limits(rt: HostRuntime) -> Result<(), Fail> {
+    let play = Play {
+        workers: 1,
+        sessions: 1,
+        units: 1,
+        history: 4,
+        good_writes: ALWAYS,
+        texts: &[OVER],
+    };
+    let wanted = Wanted {
+        told: OVER_TOLD,
+        printed: "closed\n",
+        errors: "",
+        is_closed: true,
     };
     compare(&rt, rt.alloc(), &play, &wanted)
 }
@@ -258,6 +299,8 @@ fn a_session_fails_alone(rt: HostRuntime) -> Result<(), Fail> {
     let play = Play {
         workers: 1,
         sessions: 3,
+        units: 16,
+        history: 1000,
         good_writes: ALWAYS,
         texts: &[FIRST, line.as_str(), SECOND],
     };
@@ -265,7 +308,7 @@ fn a_session_fails_alone(rt: HostRuntime) -> Result<(), Fail> {
         told: BOTH_TOLD,
         printed: "closed\n",
         errors: "session 2: line too long\n",
-        status: 0,
+        is_closed: true,
     };
     compare(&rt, rt.alloc(), &play, &wanted)
 }
@@ -275,6 +318,8 @@ fn a_line_is_not_printed(rt: HostRuntime) -> Result<(), Fail> {
     let play = Play {
         workers: 1,
         sessions: 1,
+        units: 16,
+        history: 1000,
         good_writes: 1,
         texts: &[FIRST],
     };
@@ -282,18 +327,18 @@ fn a_line_is_not_printed(rt: HostRuntime) -> Result<(), Fail> {
         told: FIRST_TOLD,
         printed: "",
         errors: "",
-        status: 1,
+        is_closed: false,
     };
     compare(&rt, rt.alloc(), &play, &wanted)
 }
 
-// The status of a server on this port that lets no session in, and whether it says nothing.
+// Whether a server on this port that lets no session in comes to its close, and whether it says nothing.
 fn serve_none<R: Net<Listener = TcpListener, Stream = TcpStream> + Threads + Wait + Sync>(
     rt: &R,
     alloc: Global,
     port: u16,
     limits: Limits,
-) -> (u8, bool) {
+) -> (bool, bool) {
     let numbers = Numbers {
         workers: 1,
         sessions: 0,
@@ -301,8 +346,8 @@ fn serve_none<R: Net<Listener = TcpListener, Stream = TcpStream> + Threads + Wai
     };
     let mut out = MemorySink::new(alloc, 100, ALWAYS);
     let mut errors = Vec::new(alloc);
-    let status = serve(rt, alloc, port, numbers, &mut out, &mut errors);
-    (status, out.as_slice().is_empty() && errors.is_empty())
+    let is_closed = serve(rt, alloc, port, numbers, &mut out, &mut errors).is_ok();
+    (is_closed, out.as_slice().is_empty() && errors.is_empty())
 }
 
 // The same while somebody else listens on this port of this address.
@@ -310,7 +355,7 @@ fn serve_beside<R: Net<Listener = TcpListener, Stream = TcpStream> + Threads + W
     rt: &R,
     alloc: Global,
     address: &str,
-) -> Result<(u8, bool), Fail> {
+) -> Result<(bool, bool), Fail> {
     let limits = Limits::new(16, 1000).ok_or("limits")?;
     let listener = TcpListener::bind(rt, address)?;
     let port = listener.local_addr()?.port();
@@ -320,13 +365,13 @@ fn serve_beside<R: Net<Listener = TcpListener, Stream = TcpStream> + Threads + W
 // It listens where it is told to: somebody else does so there.
 #[test]
 fn a_port_that_is_taken(rt: HostRuntime) -> Result<(), Fail> {
-    assert_eq!(rt; serve_beside(&rt, rt.alloc(), "127.0.0.1:0")?, (1, true));
+    assert_eq!(rt; serve_beside(&rt, rt.alloc(), "127.0.0.1:0")?, (false, true));
     Ok(())
 }
 
 // No other address of this machine matters to it.
 #[test]
 fn one_address(rt: HostRuntime) -> Result<(), Fail> {
-    assert_eq!(rt; serve_beside(&rt, rt.alloc(), "127.0.0.2:0")?, (0, false));
+    assert_eq!(rt; serve_beside(&rt, rt.alloc(), "127.0.0.2:0")?, (true, false));
     Ok(())
 }

@@ -8,3 +8,6 @@ returns-clause-said g c =
 
 pub returns-clause-whole : goal.returns-clause-whole
 returns-clause-whole g c = c.run_script.ensures.0.shown.whole
+
+pub returns-clause-flushed : goal.returns-clause-flushed
+returns-clause-flushed g c = c.run_script.ensures.0.shown.flushed

@@ -85,6 +85,7 @@ loop-turn-init g c = (
   rw (c.new-talk.ensures.line, c.new-talk.ensures.held) (begins g.D.Desk.step _ _),
   λ was. was,
   omega arith,
+  c.requires.open,
 )
 
 pub loop-turn-preserved : goal.loop-turn-preserved
@@ -103,5 +104,6 @@ loop-turn-preserved g c =
       left,
       both,
       λ was. c.take_turn.ensures.flushed (inv.7 was) written,
-      let more = rw c.in-Ok.is at c.take_turn.ensures.gave in omega (arith, inv.8, more),
+      (let more = rw c.in-Ok.is at c.take_turn.ensures.gave in omega (arith, inv.8, more)),
+      rw c.in-Ok.is at c.take_turn.ensures.open,
     )

@@ -9,4 +9,4 @@ invariant-loop-turn g l =
     × (bytes : List ℕ) × (g.F.Feed.given l.reader ≡ g.F.Feed.given l.fn.reader ++ bytes) × Consumes (g.F.Feed.left l.fn.reader) (g.F.Feed.left l.reader) bytes
     × PieceTaken g.D.Desk.step l.fn.desk [] [] (g.S.Sink.held l.fn.writer) bytes [] (Ok tt) l.desk l.talk.line.items l.talk.held.items (g.S.Sink.held l.writer)
     × (g.S.Sink.is_flushed l.fn.writer ≡ true → g.S.Sink.is_flushed l.writer ≡ true)
-    × (length (g.F.Feed.given l.fn.reader) + l._turn ≤ length (g.F.Feed.given l.reader))
+    × (length (g.F.Feed.given l.fn.reader) + l._turn ≤ length (g.F.Feed.given l.reader)) × (g.F.Feed.has_ended l.reader ≡ false)
