@@ -2,7 +2,7 @@
 import os
 
 TOP = os.path.dirname(os.path.dirname(os.path.abspath(__file__)))
-SLOW = f"{TOP}/docs/gate/slow-38-crates-2026-11-25.tsv"
+SLOW = f"{TOP}/docs/gate/slow-41-crates-2026-11-27.tsv"
 
 
 def rows_of(file):
