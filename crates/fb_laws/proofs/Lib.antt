@@ -64,3 +64,5 @@ pub mod PathStanding
 pub mod PathBlocks
 pub mod PathHomes
 pub mod PathRows
+pub mod ChainParts
+pub mod FlatUnits

@@ -24,3 +24,4 @@ pub mod MadeOf
 pub mod Planned
 pub mod Plans
 pub mod Paths
+pub mod Chains
