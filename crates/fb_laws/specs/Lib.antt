@@ -7,6 +7,7 @@ pub mod Spans
 pub mod Declared
 pub mod Ports
 pub mod UnitParts
+pub mod Spaces
 pub mod Declarations
 pub mod DueByPlaces
 pub mod Places
