@@ -12,6 +12,10 @@ use Rattle.fb_tree.specs.declared.interface.Side.{Side}
 use Rattle.fb_tree.specs.declared.interface.TypeForm.{TypeForm}
 use Rattle.fb_tree.specs.declared.interface.TypeForm.TheVariants as forms
 use Rattle.fb_tree.specs.declared.interface.TypeUse.{TypeUse}
+use Rattle.fb_tree.specs.declared.kinds.UnitKind.{UnitKind}
+use Rattle.fb_tree.specs.declared.kinds.UnitKind.TheVariants as kinds
+use Rattle.fb_tree.specs.declared.network.Role.{Role}
+use Rattle.fb_tree.specs.declared.network.Role.TheVariants as roles
 use Rattle.fb_deploy.specs.Library.Near.{Carries, carried_of}
 use Rattle.fb_deploy.specs.Library.View.{Sources, tree_at, type_in}
 use Rattle.fb_deploy.specs.Iface.declared.code.Code.{Code}
@@ -25,7 +29,7 @@ use Rattle.fb_deploy.specs.Iface.Literals.{constant_faults, fits_alone, initial_
 use Rattle.fb_deploy.specs.Iface.Names.{has_name, is_repeated, is_same, repeated, stands_for}
 use Rattle.fb_deploy.specs.Iface.Ports.{variables_in}
 use Rattle.fb_deploy.specs.Iface.Recursion.{carries_itself, recursion_faults}
-use Rattle.fb_laws.specs.Declarations.{DuplicatesAreReported, HasDuplicate, HasMisfit, HasMixedKind, HasOtherName, HasSelfCarrying, HasUnknownType, HasUnknownWith, HasWrongKind, IsDeclaredAt, IsMisfit, MisfitsAreReported, MixedKindsAreReported, OtherNamesAreReported, RecursiveStructuresAreReported, UnknownTypesAreReported, UnknownWithsAreReported, WrongKindsAreReported, alone, element, no_array, no_list}
+use Rattle.fb_laws.specs.Declarations.{DuplicatesAreReported, HasDuplicate, HasMisfit, HasMixedKind, HasOtherName, HasSelfCarrying, HasUnknownType, HasUnknownWith, HasWrongKind, IsDeclaredAt, IsMisfit, MisfitsAreReported, MixedKindsAreReported, OtherNamesAreReported, RecursiveStructuresAreReported, UnknownTypesAreReported, Suits, UnknownWithsAreReported, WrongKindsAreReported, alone, element, no_array, no_list}
 use Rattle.fb_laws.specs.Declared.{AreDeclaredIn, IsType, fields_of_structure, of_adapter, of_block, of_subapplication, variables_of_type}
 use Rattle.fb_deploy.specs.Iface.Sides.{goes_with}
 use Rattle.fb_deploy.specs.Iface.Spaces.{spaces_of}
@@ -38,6 +42,27 @@ use Rattle.fb_deploy.proofs.Iface.NameLemmas.{same_exact, same_itself}
 use Rattle.fb_deploy.proofs.Library.CarriedLemmas.{carried_is_all}
 use Rattle.fb_deploy.proofs.Library.SeenLemmas.{Contains-has, has-Contains}
 use Rattle.fb_laws.proofs.Joined.{of_either, in_joined, in_where, is_false, where_passes}
+use Rattle.fb_laws.proofs.RuleLemmas.{judged, not_free, not_taken, untaken}
+use Rattle.fb_laws.proofs.SpaceLemmas.{known_space, told_space}
+
+-- the kinds of types
+
+known_suit : (role : Role) (kind : UnitKind) → suits role kind ≡ true → Suits role kind
+known_suit roles.Plug kinds.Adapter e = Suits.plug
+known_suit roles.Socket kinds.Adapter e = Suits.socket
+known_suit roles.Block kinds.Block e = Suits.block
+known_suit roles.Subapplication kinds.Subapplication e = Suits.subapplication
+known_suit role kind e = absurd (true≢false (sym e))
+
+told_suit : (role : Role) (kind : UnitKind) → Suits role kind → suits role kind ≡ true
+told_suit role kind Suits.plug = refl
+told_suit role kind is = refl
+
+pub not_suited : (role : Role) (kind : UnitKind) → suits role kind ≡ false → ¬ Suits role kind
+not_suited role kind e is = true≢false (sym (told_suit role kind is) ∙ e)
+
+unsuited : (role : Role) (kind : UnitKind) → ¬ Suits role kind → suits role kind ≡ false
+unsuited role kind none = is_false (suits role kind) (λ e. none (known_suit role kind e))
 
 -- what is so where a unit has a fault of this code
 abbrev pub Has : Code → Sources → List ℕ → Span → Type 0
@@ -97,9 +122,9 @@ pub misfit_origin : (used : TypeUse) (constant : ConstantTree) (f : Fault) → C
 misfit_origin used (one_value v) f c = by used.form refl (in_unless (fits_alone used.form (class_of_type used) (class_of_simple v)) (literal_fault (value_span v)) f c)
   where
     there : (form : TypeForm) → used.form ≡ form → fits_alone form (class_of_type used) (class_of_simple v) ≡ false → IsMisfit used (one_value v) (value_span v)
-    there forms.Plain e fails = alone (no_array_form used.form (ap is_array e)) fails
-    there forms.Sized e fails = alone (no_array_form used.form (ap is_array e)) fails
-    there forms.Array e fails = no_list e fails
+    there forms.Plain e fails = alone (no_array_form used.form (ap is_array e)) (not_taken (class_of_type used) (class_of_simple v) fails)
+    there forms.Sized e fails = alone (no_array_form used.form (ap is_array e)) (not_taken (class_of_type used) (class_of_simple v) fails)
+    there forms.Array e fails = no_list e (not_free (class_of_simple v) fails)
 
     by : (form : TypeForm) → used.form ≡ form → (fits_alone used.form (class_of_type used) (class_of_simple v) ≡ false) × (literal_fault (value_span v) ≡ f) → (f.code ≡ Literal) × IsMisfit used (one_value v) f.span
     by form e fails =
@@ -108,7 +133,7 @@ misfit_origin used (value_list values span) f c = by used.form refl c
   where
     whole : (form : TypeForm) → used.form ≡ form → is_array form ≡ false → (is_free (class_of_type used) ≡ false) × (literal_fault span ≡ f) → (f.code ≡ Literal) × IsMisfit used (value_list values span) f.span
     whole form e other fails =
-        (sym (ap (λ (g : Fault). g.code) fails.1), subst (λ (s : Span). IsMisfit used (value_list values span) s) (ap (λ (g : Fault). g.span) fails.1) (no_array (no_array_form used.form (ap is_array e ∙ other)) fails.0))
+        (sym (ap (λ (g : Fault). g.code) fails.1), subst (λ (s : Span). IsMisfit used (value_list values span) s) (ap (λ (g : Fault). g.span) fails.1) (no_array (no_array_form used.form (ap is_array e ∙ other)) (not_free (class_of_type used) fails.0)))
 
     by : (form : TypeForm) → used.form ≡ form → Contains (list_faults form used values span) f → (f.code ≡ Literal) × IsMisfit used (value_list values span) f.span
     by forms.Plain e h = whole forms.Plain e refl (in_unless (is_free (class_of_type used)) (literal_fault span) f h)
@@ -117,27 +142,27 @@ misfit_origin used (value_list values span) f c = by used.form refl c
         let class = class_of_name used.name.name in
         let n = origin_in_map (λ (v : Simple). literal_fault (value_span v)) (filter (λ v. not (takes class (class_of_simple v))) values) f h in
         let p = passes_in_filter (λ (v : Simple). not (takes class (class_of_simple v))) values n.origin n.among in
-        (sym (ap (λ (g : Fault). g.code) n.gives), subst (λ (s : Span). IsMisfit used (value_list values span) s) (literal_at n.origin f n.gives) (element e p.among (not_true (takes class (class_of_simple n.origin)) p.passes)))
+        (sym (ap (λ (g : Fault). g.code) n.gives), subst (λ (s : Span). IsMisfit used (value_list values span) s) (literal_at n.origin f n.gives) (element e p.among (not_taken class (class_of_simple n.origin) (not_true (takes class (class_of_simple n.origin)) p.passes))))
 
 pub misfit_reported : (used : TypeUse) (constant : ConstantTree) (span : Span) → IsMisfit used constant span → Contains (constant_faults used constant) (literal_fault span)
 misfit_reported used (one_value v) span (alone other fails) = by used.form other refl
   where
     by : (form : TypeForm) → form ≢ forms.Array → used.form ≡ form → Contains (constant_faults used (one_value v)) (literal_fault (value_span v))
     by forms.Array not_so e = absurd (not_so refl)
-    by forms.Plain not_so e = unless (fits_alone used.form (class_of_type used) (class_of_simple v)) (literal_fault (value_span v)) (ap (λ k. fits_alone k (class_of_type used) (class_of_simple v)) e ∙ fails)
-    by forms.Sized not_so e = unless (fits_alone used.form (class_of_type used) (class_of_simple v)) (literal_fault (value_span v)) (ap (λ k. fits_alone k (class_of_type used) (class_of_simple v)) e ∙ fails)
+    by forms.Plain not_so e = unless (fits_alone used.form (class_of_type used) (class_of_simple v)) (literal_fault (value_span v)) (ap (λ k. fits_alone k (class_of_type used) (class_of_simple v)) e ∙ untaken (class_of_type used) (class_of_simple v) fails)
+    by forms.Sized not_so e = unless (fits_alone used.form (class_of_type used) (class_of_simple v)) (literal_fault (value_span v)) (ap (λ k. fits_alone k (class_of_type used) (class_of_simple v)) e ∙ untaken (class_of_type used) (class_of_simple v) fails)
 misfit_reported used (one_value v) span (no_list e fails) =
-    unless (fits_alone used.form (class_of_type used) (class_of_simple v)) (literal_fault (value_span v)) (ap (λ k. fits_alone k (class_of_type used) (class_of_simple v)) e ∙ fails)
+    unless (fits_alone used.form (class_of_type used) (class_of_simple v)) (literal_fault (value_span v)) (ap (λ k. fits_alone k (class_of_type used) (class_of_simple v)) e ∙ judged (class_of_simple v) fails)
 misfit_reported used (value_list values s) span (element {v = v} e among fails) =
     let class = class_of_name used.name.name in
-    let one = contains_map (λ (v : Simple). literal_fault (value_span v)) (filter (λ v. not (takes class (class_of_simple v))) values) v (contains_filter (λ (v : Simple). not (takes class (class_of_simple v))) values v among (ap not fails)) in
+    let one = contains_map (λ (v : Simple). literal_fault (value_span v)) (filter (λ v. not (takes class (class_of_simple v))) values) v (contains_filter (λ (v : Simple). not (takes class (class_of_simple v))) values v among (ap not (untaken class (class_of_simple v) fails))) in
     subst (λ (k : TypeForm). Contains (list_faults k used values s) (literal_fault (value_span v))) (sym e) one
 misfit_reported used (value_list values s) span (no_array other fails) = by used.form other
   where
     by : (form : TypeForm) → form ≢ forms.Array → Contains (list_faults form used values s) (literal_fault s)
     by forms.Array not_so = absurd (not_so refl)
-    by forms.Plain not_so = unless (is_free (class_of_type used)) (literal_fault s) fails
-    by forms.Sized not_so = unless (is_free (class_of_type used)) (literal_fault s) fails
+    by forms.Plain not_so = unless (is_free (class_of_type used)) (literal_fault s) (judged (class_of_type used) fails)
+    by forms.Sized not_so = unless (is_free (class_of_type used)) (literal_fault s) (judged (class_of_type used) fails)
 
 -- what carries itself
 
@@ -194,7 +219,7 @@ module _ (sources : Sources) (unit : List ℕ) where
         let again : has_name (take j.0 s.origin) p.origin.1.name ≡ true = ap (λ k. has_name (take k s.origin) p.origin.1.name) (sym number) ∙ r.passes in
         let before = earlier_name s.origin j.0 p.origin.1.name again in
         subst Finds (ap (fault_at Duplicate) p.gives ∙ n.gives)
-        (record { decl = decl; declared = declared; space = s.origin; among = s.among; earlier = before.earlier; later = j.0; before = before.before; first = before.first; again = p.origin.1; first_at = before.first_at; again_at = j.2; same = before.same; place = refl })
+        (record { decl = decl; declared = declared; space = s.origin; is_space = known_space decl s.origin j.0 p.origin.1 s.among j.2; earlier = before.earlier; later = j.0; before = before.before; first = before.first; again = p.origin.1; first_at = before.first_at; again_at = j.2; same = before.same; place = refl })
 
     type_found : (f : Fault) → Contains (type_faults sources decl) f → Finds f
     type_found f c = let i = origin_in_flat_map (instance_faults sources) (instances_of decl) f c in by i.origin i.among (tree_at sources i.origin.type_name.name) refl i.has
@@ -204,7 +229,7 @@ module _ (sources : Sources) (unit : List ℕ) where
             subst Finds (contains_single (fault_at UnknownType i.type_name) f h) (record { decl = decl; declared = declared; instance = i; among = among; unknown = e; place = refl })
         by i among (Some type) e h =
             let fails = in_unless (suits i.role (unit_kind_of type)) (fault_at WrongKind i.type_name) f h in
-            subst Finds fails.1 (record { decl = decl; declared = declared; instance = i; among = among; type = type; known = e; unsuited = fails.0; place = refl })
+            subst Finds fails.1 (record { decl = decl; declared = declared; instance = i; among = among; type = type; known = e; unsuited = not_suited i.role (unit_kind_of type) fails.0; place = refl })
 
     with_found : (f : Fault) → Contains (with_faults_of decl) f → Finds f
     with_found f c =
@@ -257,7 +282,7 @@ duplicates sources unit span = (found sources unit _, from)
     from : HasDuplicate sources unit span → Contains (iface_faults_of sources unit) (record { code = Duplicate; span = span })
     from h =
         let before : IsEarlier h.space h.later h.again.name = record { earlier = h.earlier; before = h.before; first = h.first; first_at = h.first_at; same = h.same } in
-        reported sources unit h.decl h.declared 1 (duplicate_faults h.decl) refl h.place (duplicate_reported h.decl h.space h.later h.again h.among h.again_at before)
+        reported sources unit h.decl h.declared 1 (duplicate_faults h.decl) refl h.place (duplicate_reported h.decl h.space h.later h.again (told_space h.decl h.space h.is_space) h.again_at before)
 
 pub mixed_kinds : MixedKindsAreReported
 mixed_kinds sources unit span = (found sources unit _, from)
@@ -285,7 +310,7 @@ wrong_kinds sources unit span = (found sources unit _, from)
   where
     from : HasWrongKind sources unit span → Contains (iface_faults_of sources unit) (record { code = WrongKind; span = span })
     from h =
-        reported sources unit h.decl h.declared 3 (type_faults sources h.decl) refl h.place (in_types sources h.decl h.instance (Some h.type) (fault_at WrongKind h.instance.type_name) h.among h.known (unless (suits h.instance.role (unit_kind_of h.type)) (fault_at WrongKind h.instance.type_name) h.unsuited))
+        reported sources unit h.decl h.declared 3 (type_faults sources h.decl) refl h.place (in_types sources h.decl h.instance (Some h.type) (fault_at WrongKind h.instance.type_name) h.among h.known (unless (suits h.instance.role (unit_kind_of h.type)) (fault_at WrongKind h.instance.type_name) (unsuited h.instance.role (unit_kind_of h.type) h.unsuited)))
 
 pub unknown_withs : UnknownWithsAreReported
 unknown_withs sources unit span = (found sources unit _, from)

@@ -21,6 +21,7 @@ pub mod DataRows
 pub mod PortRows
 pub mod SplitLemmas
 pub mod Joined
+pub mod SpaceLemmas
 pub mod DeclarationRows
 pub mod ChartRows
 pub mod RepeatedPaths
@@ -64,3 +65,5 @@ pub mod PathStanding
 pub mod PathBlocks
 pub mod PathHomes
 pub mod PathRows
+pub mod ChainParts
+pub mod FlatUnits

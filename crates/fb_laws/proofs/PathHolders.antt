@@ -33,7 +33,7 @@ use Rattle.fb_deploy.proofs.Flatten.SoundLemmas.{sound_below}
 use Rattle.fb_placing.specs.Firsts.{first_at}
 use Rattle.fb_laws.specs.Mappings.{IsSystemAt}
 use Rattle.fb_laws.specs.Paths.{IsAtPath, in_application, inside}
-use Rattle.fb_laws.proofs.DeclarationRows.{wrong_kinds}
+use Rattle.fb_laws.proofs.DeclarationRows.{not_suited, wrong_kinds}
 use Rattle.fb_laws.proofs.HomeLemmas.{bytes_same, same_bytes}
 
 -- ---- names that stand once
@@ -110,7 +110,7 @@ module _ (sources : Sources) (unit : List ℕ) (sound : IsSound sources unit) wh
       by : (b : Bool) → suits i.role (unit_kind_of type) ≡ b → b ≡ true
       by true e = refl
       by false e =
-          let has = (wrong_kinds sources h.name i.type_name.span).1 (record { decl = h.tree; declared = h.declared; instance = i; among = h.among; type = type; known = there; unsuited = e; place = refl }) in
+          let has = (wrong_kinds sources h.name i.type_name.span).1 (record { decl = h.tree; declared = h.declared; instance = i; among = h.among; type = type; known = there; unsuited = not_suited i.role (unit_kind_of type) e; place = refl }) in
           absurd (contains_nothing fault (subst (λ (l : List Fault). Contains l fault) (no_report h.name h.below).declarations has))
 
   subapplication_role : (role : Role) → suits role kinds.Subapplication ≡ true → role ≡ roles.Subapplication

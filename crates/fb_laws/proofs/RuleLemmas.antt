@@ -5,13 +5,15 @@ use Rattle.fb_tree.specs.declared.expression.BinaryOperator.{BinaryOperator}
 use Rattle.fb_tree.specs.declared.expression.BinaryOperator.TheVariants.{Or, Xor, And, Equal, NotEqual, Less, Greater, LessOrEqual, GreaterOrEqual, Add, Subtract, Multiply, Divide, Modulo, Power}
 use Rattle.fb_tree.specs.declared.expression.UnaryOperator.{UnaryOperator}
 use Rattle.fb_tree.specs.declared.expression.UnaryOperator.TheVariants.{Plus, Minus, Not}
+use Rattle.fb_deploy.specs.Iface.Class.{is_free, takes}
 use Rattle.fb_deploy.specs.Iface.declared.classes.Class.{Class}
 use Rattle.fb_deploy.specs.Iface.declared.classes.Class.TheVariants.{B, I, W, O, Free, Num, Any}
 use Rattle.fb_expr.specs.Classes.{arithmetical, change, class_of_broken, combined, join, logical, operation, pair_class, whole as whole_of}
 use Rattle.fb_expr.specs.Rules.{allows}
 use Rattle.fb_expr.specs.declared.rules.ClassPlace.{ClassPlace}
 use Rattle.fb_expr.specs.declared.rules.ClassPlace.TheVariants.{Condition, Count, Counter, Selector}
-use Rattle.fb_laws.specs.Classes.{Joins, IsLogical, Calculates, Divides, Changes, JoinsTruths, Compares, IsArithmetic, Makes, Combines, Spoils, Results, Fits}
+use Rattle.fb_laws.proofs.Joined.{is_false}
+use Rattle.fb_laws.specs.Classes.{Joins, Takes, IsLogical, Calculates, Divides, Changes, JoinsTruths, Compares, IsArithmetic, Makes, Combines, Spoils, Results, Fits}
 
 -- a class that comes of a rule, where the check has one
 pub data Known (P : Class → Type 0) : Option Class → Type 0 where
@@ -99,6 +101,46 @@ none_join a b e = none_of (Joins a b) (join a b) (told_join a b) e
 
 pub no_join : (a b : Class) → ((c : Class) → ¬ Joins a b c) → join a b ≡ None
 no_join a b none = missing (Joins a b) (join a b) (joins a b) none
+
+-- constants
+
+known_take : (kind constant : Class) → takes kind constant ≡ true → Takes kind constant
+known_take Free constant e = Takes.free_type constant
+known_take kind Free e = Takes.free_constant kind
+known_take B B e = Takes.truth
+known_take B Any e = Takes.truth_any
+known_take I I e = Takes.whole
+known_take I Num e = Takes.whole_number
+known_take I Any e = Takes.whole_any
+known_take W W e = Takes.bits
+known_take W Num e = Takes.bits_number
+known_take W Any e = Takes.bits_any
+known_take O O e = Takes.other
+known_take O I e = Takes.other_whole
+known_take O Num e = Takes.other_number
+known_take O Any e = Takes.other_any
+known_take kind constant e = absurd (true≢false (sym e))
+
+free_taken : (kind : Class) → takes kind Free ≡ true
+free_taken B = refl
+free_taken kind = refl
+
+told_take : (kind constant : Class) → Takes kind constant → takes kind constant ≡ true
+told_take kind constant (Takes.free_constant c) = free_taken c
+told_take kind constant is = refl
+
+pub not_taken : (kind constant : Class) → takes kind constant ≡ false → ¬ Takes kind constant
+not_taken kind constant e is = true≢false (sym (told_take kind constant is) ∙ e)
+
+pub untaken : (kind constant : Class) → ¬ Takes kind constant → takes kind constant ≡ false
+untaken kind constant none = is_false (takes kind constant) (λ e. none (known_take kind constant e))
+
+pub not_free : (c : Class) → is_free c ≡ false → c ≢ Free
+not_free c e is = true≢false (sym (ap is_free is) ∙ e)
+
+pub judged : (c : Class) → c ≢ Free → is_free c ≡ false
+judged Free other = absurd (other refl)
+judged c other = refl
 
 -- what operators work on
 

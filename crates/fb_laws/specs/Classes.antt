@@ -37,6 +37,24 @@ pub data Joins : Class → Class → Class → Type 0 where
   free_left : (c : Class) → Joins Free c Free
   free_right : (c : Class) → Joins c Free Free
 
+-- A type of the first class takes a constant of the second: B takes B and Any; I takes I, Num and Any; W takes W, Num and Any; O takes O, I, Num
+-- and Any; and where either is Free, the constant fits.
+pub data Takes : Class → Class → Type 0 where
+  truth : Takes B B
+  truth_any : Takes B Any
+  whole : Takes I I
+  whole_number : Takes I Num
+  whole_any : Takes I Any
+  bits : Takes W W
+  bits_number : Takes W Num
+  bits_any : Takes W Any
+  other : Takes O O
+  other_whole : Takes O I
+  other_number : Takes O Num
+  other_any : Takes O Any
+  free_type : (constant : Class) → Takes Free constant
+  free_constant : (kind : Class) → Takes kind Free
+
 -- the classes that NOT, OR, XOR and AND work on
 pub data IsLogical : Class → Type 0 where
   truth : IsLogical B

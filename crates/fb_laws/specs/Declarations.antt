@@ -7,18 +7,24 @@ use Rattle.fb_tree.specs.Tree.{ConstantTree, DeclTree, EventTree, InstanceTree, 
 use Rattle.fb_tree.specs.declared.constant.Simple.{Simple}
 use Rattle.fb_tree.specs.declared.interface.TypeForm.TheVariants as forms
 use Rattle.fb_tree.specs.declared.interface.TypeUse.{TypeUse}
+use Rattle.fb_tree.specs.declared.kinds.UnitKind.{UnitKind}
+use Rattle.fb_tree.specs.declared.kinds.UnitKind.TheVariants as kinds
+use Rattle.fb_tree.specs.declared.network.Role.{Role}
+use Rattle.fb_tree.specs.declared.network.Role.TheVariants as roles
 use Rattle.fb_deploy.specs.Library.Near.{Carries}
 use Rattle.fb_deploy.specs.Library.View.{Sources, tree_at, type_in}
+use Rattle.fb_deploy.specs.Iface.declared.classes.Class.TheVariants.{Free}
 use Rattle.fb_deploy.specs.Iface.declared.code.Code.TheVariants.{Duplicate, Literal, MixedKind, NameDiffers, StructRecursive, UnknownType, WithUnknown, WrongKind}
 use Rattle.fb_deploy.specs.Iface.declared.ports.DeclaredVariable.{DeclaredVariable}
-use Rattle.fb_deploy.specs.Iface.Class.{class_of_name, class_of_simple, class_of_type, is_free, takes}
+use Rattle.fb_deploy.specs.Iface.Class.{class_of_name, class_of_simple, class_of_type}
 use Rattle.fb_deploy.specs.Iface.Declarations.{declared_name}
 use Rattle.fb_deploy.specs.Iface.Names.{stands_for}
 use Rattle.fb_deploy.specs.Iface.Ports.{variables_in}
 use Rattle.fb_deploy.specs.Iface.Sides.{goes_with}
-use Rattle.fb_deploy.specs.Iface.Spaces.{spaces_of}
-use Rattle.fb_deploy.specs.Iface.Types.{instances_of, suits}
+use Rattle.fb_deploy.specs.Iface.Types.{instances_of}
+use Rattle.fb_laws.specs.Classes.{Takes}
 use Rattle.fb_laws.specs.Declared.{AreDeclaredIn}
+use Rattle.fb_laws.specs.Spaces.{IsSpace}
 use Rattle.fb_laws.specs.UnitParts.{Declarations, IsReportedWhere}
 
 -- the unit is present and not broken, and this is what it declares
@@ -37,7 +43,7 @@ pub record HasDuplicate (sources : Sources) (unit : List ℕ) (span : Span) : Ty
   pub decl : DeclTree
   pub declared : IsDeclaredAt sources unit decl
   pub space : List NameUse
-  pub among : Contains (spaces_of decl) space
+  pub is_space : IsSpace decl space
   pub earlier : ℕ
   pub later : ℕ
   pub before : earlier < later
@@ -65,6 +71,13 @@ pub record HasUnknownType (sources : Sources) (unit : List ℕ) (span : Span) : 
   pub unknown : tree_at sources instance.type_name.name ≡ None
   pub place : span ≡ instance.type_name.span
 
+-- the kind of type that a section asks for: an adapter for PLUGS and SOCKETS, a block for FBS, a subapplication for SUBAPPS
+pub data Suits : Role → UnitKind → Type 0 where
+  plug : Suits roles.Plug kinds.Adapter
+  socket : Suits roles.Socket kinds.Adapter
+  block : Suits roles.Block kinds.Block
+  subapplication : Suits roles.Subapplication kinds.Subapplication
+
 -- an instance, plug or socket of a type that is there and is of another kind than its section wants
 pub record HasWrongKind (sources : Sources) (unit : List ℕ) (span : Span) : Type 0 where
   pub decl : DeclTree
@@ -73,7 +86,7 @@ pub record HasWrongKind (sources : Sources) (unit : List ℕ) (span : Span) : Ty
   pub among : Contains (instances_of decl) instance
   pub type : DeclTree
   pub known : IsDeclaredAt sources instance.type_name.name type
-  pub unsuited : suits instance.role (unit_kind_of type) ≡ false
+  pub unsuited : ¬ Suits instance.role (unit_kind_of type)
   pub place : span ≡ instance.type_name.span
 
 -- a name behind WITH that stands for no data input (behind an event input), no data output (behind an event output)
@@ -92,10 +105,10 @@ pub record HasUnknownWith (sources : Sources) (unit : List ℕ) (span : Span) : 
 -- where a constant doesn't fit its type: a constant that stands alone, one that stands alone for an array, an element of the list for an array,
 -- a list for what is no array and not of a generic type
 pub data IsMisfit (used : TypeUse) : ConstantTree → Span → Type 0 where
-  alone : {v : Simple} → used.form ≢ forms.Array → takes (class_of_type used) (class_of_simple v) ≡ false → IsMisfit used (one_value v) (value_span v)
-  no_list : {v : Simple} → used.form ≡ forms.Array → is_free (class_of_simple v) ≡ false → IsMisfit used (one_value v) (value_span v)
-  element : {values : List Simple} {span : Span} {v : Simple} → used.form ≡ forms.Array → Contains values v → takes (class_of_name used.name.name) (class_of_simple v) ≡ false → IsMisfit used (value_list values span) (value_span v)
-  no_array : {values : List Simple} {span : Span} → used.form ≢ forms.Array → is_free (class_of_type used) ≡ false → IsMisfit used (value_list values span) span
+  alone : {v : Simple} → used.form ≢ forms.Array → ¬ Takes (class_of_type used) (class_of_simple v) → IsMisfit used (one_value v) (value_span v)
+  no_list : {v : Simple} → used.form ≡ forms.Array → class_of_simple v ≢ Free → IsMisfit used (one_value v) (value_span v)
+  element : {values : List Simple} {span : Span} {v : Simple} → used.form ≡ forms.Array → Contains values v → ¬ Takes (class_of_name used.name.name) (class_of_simple v) → IsMisfit used (value_list values span) (value_span v)
+  no_array : {values : List Simple} {span : Span} → used.form ≢ forms.Array → class_of_type used ≢ Free → IsMisfit used (value_list values span) span
 
 -- an initial value that doesn't fit the type of its variables or fields
 pub record HasMisfit (sources : Sources) (unit : List ℕ) (span : Span) : Type 0 where

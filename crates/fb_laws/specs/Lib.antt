@@ -7,6 +7,7 @@ pub mod Spans
 pub mod Declared
 pub mod Ports
 pub mod UnitParts
+pub mod Spaces
 pub mod Declarations
 pub mod DueByPlaces
 pub mod Places
@@ -24,3 +25,4 @@ pub mod MadeOf
 pub mod Planned
 pub mod Plans
 pub mod Paths
+pub mod Chains

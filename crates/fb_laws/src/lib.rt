@@ -1,7 +1,8 @@
 //! Laws in words of their own, for readers: the definitions that contracts cite, said a second time in other words. Where the parts of a
-//! tree stand; which ports a unit has; where each fault is reported; what a plan has; and when a key waits.
+//! tree stand; which ports a unit has; where each fault is reported; how chains of flat nets are composed; what a plan has; when a key waits.
 #![tactic(auto)]
 
+mod chains;
 mod charts;
 mod declarations;
 mod expressions;
@@ -13,6 +14,7 @@ mod ports;
 mod spans;
 mod units;
 
+pub use chains::{flat_chains_are_composed, flat_units_are_clean, inner_nets_are_flat};
 pub use charts::{algorithms_are_declared, events_are_known, states_are_listed};
 pub use declarations::{
     duplicates_are_reported, misfits_are_reported, mixed_kinds_are_reported,

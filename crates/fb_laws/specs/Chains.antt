@@ -1,0 +1,173 @@
+-- The chains behind the links and borders of a flat unit: which connections they pass, and how they are composed of chains of inner networks
+-- (IEC 61499-1, 5.4: subapplication types).
+use Rattle.std.specs.Prelude.{◌≡◌, ℕ, Bool, true, false, List, [], ◌∷◌, ◌++◌, Some, Contains, ◌⊎◌, filter, map}
+use mathlib.Core.Logic.{inl, inr}
+use Rattle.fb_tree.specs.declared.kinds.UnitKind.TheVariants.{Subapplication, System}
+use Rattle.fb_tree.specs.declared.network.Sort.{Sort}
+use Rattle.fb_deploy.specs.Library.View.{Sources}
+use Rattle.fb_deploy.specs.Flatten.Net.{flat_net}
+use Rattle.fb_deploy.specs.Flatten.Nets.{net_at}
+use Rattle.fb_wiring.specs.Network.declared.network.End.{End}
+use Rattle.fb_wiring.specs.Network.declared.network.End.TheVariants.{Of}
+use Rattle.fb_wiring.specs.Network.Clean.{IsCleanThroughout}
+use Rattle.fb_wiring.specs.Network.FlatNet.{IsFlat}
+use Rattle.fb_wiring.specs.Network.Network.{View, Place, place_of, IsInner, IsConnected, Step, Holds, Within, Chain, One, More, IsLink, IsBorder}
+use Rattle.fb_wiring.specs.Network.Plain.{PlainNetwork}
+use Rattle.fb_wiring.specs.Network.PlainFlat.{PlainFlat}
+use Rattle.fb_wiring.specs.Network.Printed.{printed}
+use Rattle.fb_wiring.specs.ByName.{applications_at, declared, kind_at}
+use Rattle.fb_wiring.specs.declared.systems.Application.{Application}
+
+-- A connection that a chain passes: one of the network itself, or one inside the subapplication instance of that name.
+pub data Passed : Type 0 where
+  own : End → End → Passed
+  inside : List ℕ → Passed → Passed
+
+abbrev pub is_own : Passed → Bool
+is_own (own source destination) = true
+is_own (inside name passed) = false
+
+abbrev pub passed_at : {view : View} {sort : Sort} {network : PlainNetwork} {a b : Place} → Step view sort network a b → Passed
+passed_at (Holds source destination connected from to) = own source destination
+passed_at (Within inner name a b is_inner from to step) = inside name (passed_at step)
+
+-- the connections that a chain passes, one after the other
+abbrev pub passed_by : {view : View} {sort : Sort} {network : PlainNetwork} {a b : Place} → Chain view sort network a b → List Passed
+passed_by (One step) = passed_at step ∷ []
+passed_by (More place step border rest) = passed_at step ∷ passed_by rest
+
+-- All that is passed lies inside one subapplication instance, and is behind a link of the inner network.
+pub record StaysInside (view : View) (sort : Sort) (network : PlainNetwork) (a b : Place) (passed : List Passed) : Type 0 where
+  pub name : List ℕ
+  pub inner : PlainNetwork
+  pub is_inner : IsInner view network name inner
+  pub from : Place
+  pub to : Place
+  pub from_is : a ≡ name ∷ from
+  pub to_is : b ≡ name ∷ to
+  pub link : IsLink view inner sort from to
+  pub whole : passed ≡ map (inside name) (passed_by link.chain)
+
+-- All that is passed is behind a border of an inner network, and leads to the port that the end names.
+pub record LeavesByBorder (view : View) (sort : Sort) (network : PlainNetwork) (a : Place) (end : End) (passed : List Passed) : Type 0 where
+  pub name : List ℕ
+  pub inner : PlainNetwork
+  pub is_inner : IsInner view network name inner
+  pub port : List ℕ
+  pub from : Place
+  pub end_is : end ≡ Of name port
+  pub from_is : a ≡ name ∷ from
+  pub border : IsBorder view inner sort port from
+  pub chain : Chain view sort inner from (port ∷ [])
+  pub behind : border.chain ≡ inr chain
+  pub whole : passed ≡ map (inside name) (passed_by chain)
+
+-- All that is passed is behind a border of an inner network, and leads on from the port that the end names.
+pub record EntersByBorder (view : View) (sort : Sort) (network : PlainNetwork) (end : End) (b : Place) (passed : List Passed) : Type 0 where
+  pub name : List ℕ
+  pub inner : PlainNetwork
+  pub is_inner : IsInner view network name inner
+  pub port : List ℕ
+  pub to : Place
+  pub end_is : end ≡ Of name port
+  pub to_is : b ≡ name ∷ to
+  pub border : IsBorder view inner sort port to
+  pub chain : Chain view sort inner (port ∷ []) to
+  pub behind : border.chain ≡ inl chain
+  pub whole : passed ≡ map (inside name) (passed_by chain)
+
+-- what is passed from a place to the source of a connection of the network itself: nothing, or a border
+pub data IsBefore (view : View) (sort : Sort) (network : PlainNetwork) (a : Place) (source : End) : List Passed → Type 0 where
+  nothing_before : a ≡ place_of source → IsBefore view sort network a source []
+  border_before : {passed : List Passed} → LeavesByBorder view sort network a source passed
+      → IsBefore view sort network a source passed
+
+-- what is passed from its destination to a place: nothing, or a border
+pub data IsAfter (view : View) (sort : Sort) (network : PlainNetwork) (destination : End) (b : Place) : List Passed → Type 0 where
+  nothing_after : b ≡ place_of destination → IsAfter view sort network destination b []
+  border_after : {passed : List Passed} → EntersByBorder view sort network destination b passed
+      → IsAfter view sort network destination b passed
+
+-- Exactly one connection of the network itself is passed, and before and after it nothing or a border of an inner network.
+pub record CrossesOnce (view : View) (sort : Sort) (network : PlainNetwork) (a b : Place) (passed : List Passed) : Type 0 where
+  pub source : End
+  pub destination : End
+  pub connected : IsConnected network sort source destination
+  pub once : filter is_own passed ≡ own source destination ∷ []
+  pub before : List Passed
+  pub after : List Passed
+  pub whole : passed ≡ before ++ (own source destination ∷ after)
+  pub is_before : IsBefore view sort network a source before
+  pub is_after : IsAfter view sort network destination b after
+
+-- a chain behind a link lies inside one subapplication instance, or crosses once
+abbrev pub LinksAreComposed : View → PlainNetwork → Type 0
+LinksAreComposed view network =
+    (sort : Sort) (a b : Place) (link : IsLink view network sort a b)
+    → StaysInside view sort network a b (passed_by link.chain) ⊎ CrossesOnce view sort network a b (passed_by link.chain)
+
+-- a chain behind a border, whichever way it leads, crosses once
+abbrev pub CrossesFrom : (view : View) (sort : Sort) (network : PlainNetwork) (p q : Place)
+    → Chain view sort network p q ⊎ Chain view sort network q p → Type 0
+CrossesFrom view sort network p q (inl chain) = CrossesOnce view sort network p q (passed_by chain)
+CrossesFrom view sort network p q (inr chain) = CrossesOnce view sort network q p (passed_by chain)
+
+abbrev pub BordersAreComposed : View → PlainNetwork → Type 0
+BordersAreComposed view network =
+    (sort : Sort) (port : List ℕ) (place : Place) (border : IsBorder view network sort port place)
+    → CrossesFrom view sort network (port ∷ []) place border.chain
+
+-- ---- units
+
+-- the network of a subapplication, or that of one application of a system
+pub data IsOwnNetwork (sources : Sources) (unit : List ℕ) : PlainNetwork → Type 0 where
+  of_subapplication :
+      {network : PlainNetwork} → kind_at sources unit ≡ Some Subapplication → declared sources unit ≡ Some network
+      → IsOwnNetwork sources unit network
+  of_application :
+      {applications : List Application} {application : Application}
+      → kind_at sources unit ≡ Some System → applications_at sources unit ≡ Some applications
+      → Contains applications application
+      → IsOwnNetwork sources unit application.network
+
+-- a network of a unit whose net is flat
+pub record IsOfFlat (sources : Sources) (unit : List ℕ) (network : PlainNetwork) : Type 0 where
+  pub flat : PlainFlat
+  pub net : net_at sources unit ≡ Some (flat_net flat)
+  pub holds : IsOwnNetwork sources unit network
+
+-- such a network is clean at all depths
+abbrev pub FlatUnitsAreClean : Type 0
+FlatUnitsAreClean =
+    (sources : Sources) (unit : List ℕ) (network : PlainNetwork) → IsOfFlat sources unit network
+    → IsCleanThroughout (declared sources) network
+
+abbrev pub FlatLinksAreComposed : Type 0
+FlatLinksAreComposed =
+    (sources : Sources) (unit : List ℕ) (network : PlainNetwork) → IsOfFlat sources unit network
+    → LinksAreComposed (declared sources) network
+
+abbrev pub FlatBordersAreComposed : Type 0
+FlatBordersAreComposed =
+    (sources : Sources) (unit : List ℕ) (network : PlainNetwork) → IsOfFlat sources unit network
+    → BordersAreComposed (declared sources) network
+
+-- the net of the unit is flat, and is the flat network of this network
+pub record HasFlatNet (sources : Sources) (unit : List ℕ) (network : PlainNetwork) : Type 0 where
+  pub flat : PlainFlat
+  pub net : net_at sources unit ≡ Some (flat_net flat)
+  pub is_flat : IsFlat (declared sources) network flat
+
+-- the net of the type of each of its subapplication instances is flat too, and is that of the inner network
+abbrev pub InnerNetsAreFlat : Type 0
+InnerNetsAreFlat =
+    (sources : Sources) (unit : List ℕ) (network : PlainNetwork) → IsOfFlat sources unit network
+    → (name : List ℕ) (inner : PlainNetwork) (is : IsInner (declared sources) network name inner)
+    → HasFlatNet sources is.instance.type_name inner
+
+-- and each border of the inner network is one of that net
+abbrev pub InnerBordersAreListed : Type 0
+InnerBordersAreListed =
+    (sources : Sources) (type : List ℕ) (inner : PlainNetwork) (net : HasFlatNet sources type inner)
+    (sort : Sort) (port : List ℕ) (place : Place) → IsBorder (declared sources) inner sort port place
+    → Contains net.flat.borders (record { sort = sort; port = port; place = printed place })
