@@ -9,7 +9,7 @@ use crate::say::greet;
 use crossbeam_channel::{Receiver, bounded};
 use fb_shared::{Closed, Receipt, Seat, Shared};
 use fb_wire::bench::Limits;
-use fb_wire::{Failed, Sink, write_all};
+use fb_wire::{Sink, write_all};
 use std::alloc::{AllocError, Global};
 use std::io::Write;
 use std::net::{Net, TcpListener, TcpStream};
@@ -45,12 +45,6 @@ pub struct NotServed;
 
 impl From<AllocError> for NotServed {
     fn from(_error: AllocError) -> NotServed {
-        NotServed
-    }
-}
-
-impl From<Failed> for NotServed {
-    fn from(_failed: Failed) -> NotServed {
         NotServed
     }
 }
@@ -143,10 +137,16 @@ pub fn serve_on<R: Threads + Wait + Sync, S: Sink, E: Write>(
     ensures said { SaysLines (is_ok result) (S.held out.old) (S.held out.new) }
     ensures flushed { OnOk result (S.is_flushed out.new ≡ true) }
 {
-    greet(alloc, listener, out)?;
-    let served = serve_sessions(rt, alloc, listener, numbers, errors)?;
-    write_all(out, b"closed\n")?;
-    Ok(served)
+    let Ok(()) = greet(alloc, listener, out) else {
+        return Err(NotServed);
+    };
+    let Ok(served) = serve_sessions(rt, alloc, listener, numbers, errors) else {
+        return Err(NotServed);
+    };
+    match write_all(out, b"closed\n") {
+        Ok(()) => Ok(served),
+        Err(_) => Err(NotServed),
+    }
 }
 
 /// Serves as `serve_on` does, on this port of 127.0.0.1; any free one for 0.

@@ -45,7 +45,8 @@ const KEEPING_TOLD: &str =
     {\"refused\":\"NoSuchKey\"}\n";
 
 // Of a workbench of one unit and four calls. No worker makes a call, as no unit comes to be.
-const OVER: &str = r#"{"op":"commit","changes":[{"put":"A","base":0,"text":""},{"put":"B","base":0,"text":""}]}
+const OVER: &str =
+    r#"{"op":"commit","changes":[{"put":"A","base":0,"text":""},{"put":"B","base":0,"text":""}]}
 {"op":"ask","kind":"net","unit":"A"}
 {"op":"ask","kind":"net","unit":"A"}
 {"op":"ask","kind":"net","unit":"A"}
@@ -185,7 +186,8 @@ fn serve_texts<R: Net<Listener = TcpListener, Stream = TcpStream> + Threads + Wa
 
 /// Whether all is as it is wanted.
 fn is_as_wanted(ended: &Ended, wanted: &Wanted<'_>) -> bool {
-    let is_printed = ended.printed.as_str() == wanted.printed && ended.is_closed == wanted.is_closed;
+    let is_printed = ended.printed.as_str() == wanted.printed
+        && ended.is_closed == wanted.is_closed;
     let is_said = ended.errors.as_slice() == wanted.errors.as_bytes();
     is_printed && is_said && ended.told.as_str() == wanted.told
 }
@@ -365,13 +367,19 @@ fn serve_beside<R: Net<Listener = TcpListener, Stream = TcpStream> + Threads + W
 // It listens where it is told to: somebody else does so there.
 #[test]
 fn a_port_that_is_taken(rt: HostRuntime) -> Result<(), Fail> {
-    assert_eq!(rt; serve_beside(&rt, rt.alloc(), "127.0.0.1:0")?, (false, true));
+    assert_eq!(rt;
+        serve_beside(&rt, rt.alloc(), "127.0.0.1:0")?,
+        (false, true)
+    );
     Ok(())
 }
 
 // No other address of this machine matters to it.
 #[test]
 fn one_address(rt: HostRuntime) -> Result<(), Fail> {
-    assert_eq!(rt; serve_beside(&rt, rt.alloc(), "127.0.0.2:0")?, (true, false));
+    assert_eq!(rt;
+        serve_beside(&rt, rt.alloc(), "127.0.0.2:0")?,
+        (true, false)
+    );
     Ok(())
 }

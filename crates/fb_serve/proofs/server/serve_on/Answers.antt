@@ -6,18 +6,18 @@ returns-in_default-clause-said g c =
     let greeted = c.in_default.ensures.held in
     greets_in_part greeted.0 greeted.2.0 _ _ greeted.1 greeted.2.1
 
+pub returns-in_default-serve_sessions-clause-said : goal.returns-in_default-serve_sessions-clause-said
+returns-in_default-serve_sessions-clause-said g c =
+    let greeted = c.in-Ok.ensures.held in
+    greets greeted.0 _ _ greeted.1 greeted.2
+
 pub returns-in-Ok-write_all-clause-said : goal.returns-in-Ok-write_all-clause-said
 returns-in-Ok-write_all-clause-said g c =
     let greeted = c.in-Ok.ensures.held in
     closes greeted.0 _ _ _ greeted.1 greeted.2 c.in-Ok-write_all.ensures.held
 
-pub returns-in-Ok-serve_sessions-clause-said : goal.returns-in-Ok-serve_sessions-clause-said
-returns-in-Ok-serve_sessions-clause-said g c =
+pub returns-in-Err-clause-said : goal.returns-in-Err-clause-said
+returns-in-Err-clause-said g c =
     let greeted = c.in-Ok.ensures.held in
-    let said = c.in-Err-write_all.ensures.held in
+    let said = c.in-Err.ensures.held in
     closes_in_part greeted.0 said.0 _ _ _ greeted.1 greeted.2 said.1
-
-pub returns-clause-said : goal.returns-clause-said
-returns-clause-said g c =
-    let greeted = c.in-Ok.ensures.held in
-    greets greeted.0 _ _ greeted.1 greeted.2
