@@ -46,8 +46,9 @@ class Folder:
         stamps = dict(stamps_of(self._paths))
         if self._looked and stamps == self._stamps:
             return False
+        locked: list[Misuse] = []
         try:
-            found = list(self._files) if self._are_there(stamps) else find_files(self._paths)
+            found = list(self._files) if self._are_there(stamps) else find_files(self._paths, locked.append)
         except Misuse as error:
             if not self._looked:
                 raise
@@ -56,6 +57,7 @@ class Folder:
         self._looked, self._stamps = True, stamps
         self._files = dict(self._read_all(found))
         self._name_all()
+        self.problems = (*map(str, locked), *self.problems)
         return True
 
     def _are_there(self, stamps: dict[str, Stamp | None]) -> bool:

@@ -2,12 +2,14 @@
 import json
 import os
 import pty
+import subprocess
 import unittest
 
-from support import BREAKS, CLIENTS, CONVEYOR, InFolder, free_port, run, serving, workbench
+from support import BREAKS, CLIENTS, CONVEYOR, InFolder, free_port, locked, run, serving, workbench
 
 from bench61499 import Places
 from show import excerpt
+from units import Misuse, find_files
 
 
 class ConveyorTest(InFolder):
@@ -96,6 +98,21 @@ class FilesTest(InFolder):
         self.refused("long.fb: has 65,537 bytes, and the text of a unit has at most 65,536")
         self.write("long.fb", b"FUNCTION_BLOCK A\n\xe4")
         self.refused("long.fb:2: is not UTF-8: byte 17 is 0xe4")
+
+    def test_paths_that_cant_be_looked_at(self):
+        self.refused(f"{'x' * 300}: can't be read: File name too long", "x" * 300)
+
+    def test_an_inner_folder_that_cant_be_read(self):
+        self.write("a.fb", "FUNCTION_BLOCK A END_FUNCTION_BLOCK")
+        inner = self.write("inner/b.fb", "FUNCTION_BLOCK B END_FUNCTION_BLOCK").parent
+        with locked(inner), self.assertRaisesRegex(Misuse, f"^{inner}: can't be read: Permission denied$"):
+            find_files([self.folder])
+
+    def test_one_file_by_two_names(self):
+        file = self.write("b.fb", "FUNCTION_BLOCK A END_FUNCTION_BLOCK")
+        for name in "dac":
+            (self.folder / f"{name}.fb").symlink_to(file)
+        self.assertEqual(find_files([self.folder]), [self.folder / "a.fb"])
 
     def test_the_longest_texts(self):
         for number in range(20):

@@ -4,7 +4,7 @@ from __future__ import annotations
 import os
 import unittest
 
-from support import InFolder
+from support import InFolder, locked
 
 from folder import Folder
 from units import Misuse
@@ -64,6 +64,15 @@ class FolderTest(InFolder):
         (self.folder / "away").rename(inner)
         folder.look()
         self.assertEqual((self.names(folder), folder.problems), ({"A": "a.fb"}, ()))
+
+    def test_an_inner_folder_that_cant_be_read(self) -> None:
+        self.write("a.fb", A)
+        inner = self.write("inner/b.fb", B).parent
+        folder = Folder([self.folder])
+        with locked(inner):
+            self.assertEqual((folder.look(), self.names(folder)), (True, {"A": "a.fb"}))
+            self.assertEqual(folder.problems, (f"{inner}: can't be read: Permission denied",))
+        self.assertEqual((folder.look(), self.names(folder), folder.problems), (True, {"A": "a.fb", "B": "b.fb"}, ()))
 
     def test_a_folder_that_is_not_there(self) -> None:
         with self.assertRaisesRegex(Misuse, "nowhere: there is no such file or folder"):
