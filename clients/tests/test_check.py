@@ -148,6 +148,42 @@ class FilesTest(InFolder):
         self.assertEqual(ran.stdout, "1 unit, no faults\n")
 
 
+class OutputTest(InFolder):
+    """What is printed where it can't be printed as it is."""
+
+    def setUp(self):
+        super().setUp()
+        self.name = os.fsdecode(b"\xff.fb")
+        self.write(self.name, "FUNCTION_BLOCK A EC_STATES ä")
+
+    def check(self, *words, **surroundings):
+        return run("check", ".", *words, "--program", workbench(), folder=self.folder, **surroundings)
+
+    def test_an_output_without_umlauts(self):
+        ran = self.check("--quiet", PYTHONIOENCODING="ascii")
+        self.assertEqual((ran.returncode, ran.stdout), (1, "\\udcff.fb:1:28: SYNTAX: \\xe4 can't follow EC_STATES\n"))
+
+    def test_names_of_files_that_are_no_utf_8(self):
+        words = [CLIENTS / "check", self.name, "--quiet", "--program", workbench()]
+        ran = subprocess.run(words, cwd=self.folder, env={**os.environ, "PYTHONIOENCODING": "utf-8"}, capture_output=True)
+        self.assertEqual(ran.stdout, b"\xff.fb:1:28: SYNTAX: \xc3\xa4 can't follow EC_STATES\n")
+
+    def test_json_is_sound(self):
+        ran = self.check("--json", PYTHONIOENCODING="utf-8")
+        (fault,) = json.loads(ran.stdout)["faults"]
+        self.assertEqual((fault["file"], fault["explanation"]), (self.name, "ä can't follow EC_STATES"))
+
+    @unittest.skipUnless(os.path.exists("/dev/full"), "no /dev/full here")
+    def test_a_full_disk(self):
+        with open("/dev/full", "w") as full:
+            ran = subprocess.run([CLIENTS / "check", ".", "--program", workbench()], cwd=self.folder, stdout=full, stderr=subprocess.PIPE, text=True)
+        self.assertEqual((ran.returncode, ran.stderr), (2, "check: [Errno 28] No space left on device\n"))
+
+    def test_no_output(self):
+        ran = subprocess.run(["sh", "-c", f'exec "{CLIENTS}/check" . --program "{workbench()}" >&-'], cwd=self.folder, stderr=subprocess.PIPE, text=True)
+        self.assertEqual((ran.returncode, ran.stderr), (1, ""))
+
+
 class TroubleTest(InFolder):
     def setUp(self):
         super().setUp()
