@@ -207,6 +207,30 @@ class TroubleTest(InFolder):
         program = self.program("sys.stdin.readline(); print('Welcome!', flush=True); sys.stdin.read()")
         self.refused("^check: the workbench sent a reply that makes no sense: Welcome!\n$", "--program", program)
 
+    def test_a_unit_that_somebody_changes_meanwhile(self):
+        for change in ('{"put":"A","base":1,"text":"SYSTEM A END_SYSTEM"}', '{"remove":"A","base":1}'):
+            self.refused("^check: A was changed by somebody else while it was checked; check again\n$", "--program", self.changing(change))
+
+    def changing(self, change):
+        """A workbench in which somebody makes a change behind the first question."""
+        commit = f'{{"op":"commit","changes":[{change}]}}\n'
+        return self.program(
+            f"""
+import subprocess
+workbench = subprocess.Popen([{workbench()!r}, *sys.argv[1:]], stdin=subprocess.PIPE, stdout=subprocess.PIPE)
+def told(line):
+    workbench.stdin.write(line)
+    workbench.stdin.flush()
+    return workbench.stdout.readline()
+for line in sys.stdin.buffer:
+    reply = told(line)
+    if b'"op":"ask"' in line:
+        told({commit.encode()!r})
+    sys.stdout.buffer.write(reply)
+    sys.stdout.buffer.flush()
+"""
+        )
+
     def test_too_many_units(self):
         for number in range(3):
             self.write(f"u{number}.fb", f"FUNCTION_BLOCK U{number} END_FUNCTION_BLOCK")
