@@ -199,6 +199,7 @@ class TroubleTest(InFolder):
         self.refused("^check: can't start the workbench ./nowhere: No such file or directory\n$", "--program", "./nowhere")
         self.refused("^check: no workbench at localhost:[0-9]+: ", "--connect", f"localhost:{free_port()}")
         self.refused("'here' is no HOST:PORT", "--connect", "here")
+        self.refused("^check: no workbench at a..b:9: there is no such host\n$", "--connect", "a..b:9")
 
     def test_a_workbench_that_dies(self):
         self.refused(r"^check: the workbench ended before it answered \(status 5\)\n$", "--program", self.program("sys.exit(5)"))
