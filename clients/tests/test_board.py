@@ -123,6 +123,7 @@ class FolderTest(BoardTest):
             (2, [".", "--files", "."], "--files and --unit go with --connect"),
             (2, [".", "--port", "65536"], "there is no port 65536"),
             (2, ["--connect", f":{free_port()}"], "nobody serves there"),
+            (2, ["--connect", f":{free_port()}", "--unit", "A", "A B"], "'A B' is no name: a name is a letter or _, then"),
             (2, [".", "--program", "nowhere"], "can't start the workbench nowhere"),
         ]:
             ran = run("board", *words, folder=self.folder)
