@@ -10,7 +10,8 @@ from pathlib import Path
 from tokens import declared_name
 from units import Misuse, Unit, find_files, read_text, stand_in_name
 
-Stamp = tuple[int, int]
+Stamp = tuple[int, int, int]
+"""When a file was written, when it became what it is under its name, as by a move, and its size."""
 
 
 @dataclass(frozen=True)
@@ -111,7 +112,7 @@ def stamp_of(file: Path | os.DirEntry[str]) -> Stamp | None:
         state = file.stat()
     except OSError:
         return None
-    return (state.st_mtime_ns, state.st_size) if stat.S_ISREG(state.st_mode) else None
+    return (state.st_mtime_ns, state.st_ctime_ns, state.st_size) if stat.S_ISREG(state.st_mode) else None
 
 
 def _read(file: Path, stamp: Stamp) -> _File:

@@ -2,6 +2,7 @@
 from __future__ import annotations
 
 import os
+import time
 import unittest
 
 from support import InFolder, locked
@@ -28,6 +29,17 @@ class FolderTest(InFolder):
         self.assertEqual((folder.look(), self.names(folder)), (True, {"C": "a.fb", "B": "b.fb"}))
         file.unlink()
         self.assertEqual((folder.look(), self.names(folder)), (True, {"B": "b.fb"}))
+
+    def test_a_file_of_the_same_time_and_size_is_moved_over_another(self) -> None:
+        other = self.write("other", "ADAPTER C END_ADAPTER")
+        file = self.write("b.fb", B)
+        for it in (other, file):
+            os.utime(it, ns=(1, 1))
+        folder = Folder([self.folder])
+        folder.look()
+        time.sleep(0.05)
+        other.rename(file)
+        self.assertEqual((folder.look(), self.names(folder)), (True, {"C": "b.fb"}))
 
     def test_files_by_name(self) -> None:
         folder = Folder([self.write("a.fb", A), self.write("other.txt", B)])
