@@ -32,6 +32,13 @@ def read_address(words: str) -> tuple[str, int]:
     return host.strip("[]") or "127.0.0.1", int(port)
 
 
+def read_path(words: str) -> Path:
+    """A file or a folder; an empty word, such as a shell makes of a variable that is not set, would be the present folder."""
+    if not words:
+        raise argparse.ArgumentTypeError("an empty word names no file or folder")
+    return Path(words)
+
+
 def open_session(options: argparse.Namespace) -> Session:
     """The session that the words ask for. Raises `NoWorkbench`."""
     return Session.connect(*options.connect) if options.connect else Session.script(options.program)

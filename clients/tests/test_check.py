@@ -201,6 +201,9 @@ class TroubleTest(InFolder):
         self.refused("'here' is no HOST:PORT", "--connect", "here")
         self.refused("^check: no workbench at a..b:9: there is no such host\n$", "--connect", "a..b:9")
 
+    def test_an_empty_word_is_no_folder(self):
+        self.refused("argument FOLDER.FILE: an empty word names no file or folder", "")
+
     def test_a_workbench_that_dies(self):
         self.refused(r"^check: the workbench ended before it answered \(status 5\)\n$", "--program", self.program("sys.exit(5)"))
 

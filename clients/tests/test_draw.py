@@ -112,6 +112,7 @@ class NoPictureTest(DrawTest):
 
     def test_no_units(self):
         self.assertIn("--files FOLDER, or --connect", run("draw", "PLANT").stderr)
+        self.assertIn("an empty word names no file or folder", run("draw", "PLANT", "--files", "").stderr)
 
 
 if __name__ == "__main__":

@@ -65,6 +65,7 @@ class PlanTest(InFolder):
     def test_misuse(self) -> None:
         self.assertIn("no file declares the unit NOTHING", self.told(2, "NOTHING"))
         self.assertIn("--files FOLDER, or --connect", run("plan", "PLANT").stderr)
+        self.assertIn("an empty word names no file or folder", run("plan", "PLANT", "--files", "").stderr)
 
     def test_units_that_are_in_the_workbench(self) -> None:
         with serving(sessions=2) as port:
