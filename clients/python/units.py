@@ -59,7 +59,17 @@ def _files_in(folder: Path, locked: Callable[[Misuse], object]) -> Iterator[Path
 
     for inner, _, names in os.walk(folder, onerror=tell):
         files = (Path(inner, name) for name in names if name.endswith(".fb"))
-        yield from (file for file in files if os.path.isfile(file))
+        yield from filter(_is_file, files)
+
+
+def _is_file(path: Path) -> bool:
+    """Whether it is a file, or what can't be looked at: that is told when it is read."""
+    try:
+        return stat.S_ISREG(path.stat().st_mode)
+    except PermissionError:
+        return True
+    except OSError:
+        return False  # A link to nothing or to itself, or a file that has gone.
 
 
 def _refuse(error: Misuse) -> NoReturn:

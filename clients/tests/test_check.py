@@ -4,6 +4,8 @@ import os
 import pty
 import subprocess
 import unittest
+from pathlib import Path
+from unittest.mock import patch
 
 from support import BREAKS, CLIENTS, CONVEYOR, InFolder, free_port, locked, run, serving, workbench
 
@@ -107,6 +109,18 @@ class FilesTest(InFolder):
         inner = self.write("inner/b.fb", "FUNCTION_BLOCK B END_FUNCTION_BLOCK").parent
         with locked(inner), self.assertRaisesRegex(Misuse, f"^{inner}: can't be read: Permission denied$"):
             find_files([self.folder])
+
+    def test_a_file_that_cant_be_looked_at(self):
+        file = self.write("a.fb", "FUNCTION_BLOCK A END_FUNCTION_BLOCK")
+        look = Path.stat
+
+        def refusing(path, **words):
+            if path == file:
+                raise PermissionError
+            return look(path, **words)
+
+        with patch.object(Path, "stat", refusing):
+            self.assertEqual(find_files([self.folder]), [file])
 
     def test_one_file_by_two_names(self):
         file = self.write("b.fb", "FUNCTION_BLOCK A END_FUNCTION_BLOCK")
