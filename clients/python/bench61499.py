@@ -369,7 +369,7 @@ class _Pipes:
         try:
             self._input.write(line)
             self._input.flush()
-        except OSError as error:
+        except (OSError, ValueError) as error:  # A `ValueError` where the session was ended before.
             raise self._ended() from error
 
     def receive(self) -> bytes:
@@ -407,6 +407,8 @@ class _Connection:
             raise NoWorkbench(f"no workbench at {self._address}: nobody serves there, {_FULL}") from error
         except OSError as error:
             raise NoWorkbench(f"no workbench at {self._address}: {error.strerror or error}") from error
+        except ValueError as error:
+            raise NoWorkbench(f"no workbench at {self._address}: there is no such host") from error
         self._socket.setsockopt(socket.IPPROTO_TCP, socket.TCP_NODELAY, 1)
         self._reader: BinaryIO = self._socket.makefile("rb")
 
@@ -546,12 +548,13 @@ class Session:
     def changed(self, known: Mapping[str, int]) -> dict[str, int]:
         """The present revisions of those of these units that are not as `known` says; 0 is for a unit that is not there.
 
-        As `revision`, for many units at once: one recorded call for each 16 of them, and one more for each that has changed.
+        As `revision`, for many units at once: one recorded call for each 16 of them, and one more for each that has changed. The names that
+        it gives are in upper case.
         """
         found: dict[str, int] = {}
-        units = list(known)
+        units = [(unit.upper(), revision) for unit, revision in known.items()]
         for at in range(0, len(units), CHANGES_LIMIT):
-            self._find_changed({unit: known[unit] for unit in units[at : at + CHANGES_LIMIT]}, found)
+            self._find_changed(dict(units[at : at + CHANGES_LIMIT]), found)
         return found
 
     def _find_changed(self, known: dict[str, int], found: dict[str, int]) -> None:

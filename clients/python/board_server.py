@@ -23,6 +23,7 @@ from board_views import instance_view, net_view, plan_view, row_view, unit_view
 PAGE = Path(__file__).with_name("board.html")
 BODY_LIMIT = 1_024
 PATH_LIMIT = 32_768
+NO_NAME = f"a name is a letter or _, then letters, digits and _, at most {NAME_LIMIT} of them"
 GATHER = 0.03
 """Seconds in which news are gathered into one event."""
 SIGN_OF_LIFE = 5.0
@@ -268,7 +269,11 @@ def name_in(body: bytes) -> str:
         name = json.loads(body)["unit"]
     except (ValueError, KeyError, TypeError):
         raise BadRequest('the body has to be {"unit": NAME}') from None
-    is_name = isinstance(name, str) and name.isascii() and name.replace("_", "A").isalnum() and not name[:1].isdigit()
-    if not is_name or len(name) > NAME_LIMIT:
-        raise BadRequest(f"a name is a letter or _, then letters, digits and _, at most {NAME_LIMIT} of them")
+    if not isinstance(name, str) or not is_name(name):
+        raise BadRequest(NO_NAME)
     return name.upper()
+
+
+def is_name(words: str) -> bool:
+    """Whether a workbench can have a unit of this name."""
+    return words.isascii() and words.replace("_", "A").isalnum() and not words[:1].isdigit() and len(words) <= NAME_LIMIT

@@ -2,12 +2,14 @@
 from __future__ import annotations
 
 import argparse
+import codecs
 import os
 import sys
 import time
 from collections.abc import Callable
+from io import TextIOWrapper
 from pathlib import Path
-from typing import NoReturn
+from typing import NoReturn, TextIO
 
 from bench61499 import Session
 
@@ -30,6 +32,13 @@ def read_address(words: str) -> tuple[str, int]:
     return host.strip("[]") or "127.0.0.1", int(port)
 
 
+def read_path(words: str) -> Path:
+    """A file or a folder; an empty word, such as a shell makes of a variable that is not set, would be the present folder."""
+    if not words:
+        raise argparse.ArgumentTypeError("an empty word names no file or folder")
+    return Path(words)
+
+
 def open_session(options: argparse.Namespace) -> Session:
     """The session that the words ask for. Raises `NoWorkbench`."""
     return Session.connect(*options.connect) if options.connect else Session.script(options.program)
@@ -37,15 +46,32 @@ def open_session(options: argparse.Namespace) -> Session:
 
 def run(main: Callable[[], int]) -> NoReturn:
     """Ends the program with the status of `main`; quietly where the user breaks it off, or where nobody reads what it prints."""
+    sys.stdout = sys.stdout or open(os.devnull, "w")  # It may be closed.
     try:
+        make_printable(sys.stdout)
         status = main()
         sys.stdout.flush()
     except KeyboardInterrupt:
         status = 130
     except BrokenPipeError:
-        os.dup2(os.open(os.devnull, os.O_WRONLY), sys.stdout.fileno())
+        drop_output()
         status = 141
+    except OSError as error:
+        status = fail(Path(sys.argv[0]).name, error)
+        drop_output()
     sys.exit(status)
+
+
+def make_printable(output: TextIO) -> None:
+    """Lets names of files and texts be printed that the output has no characters for: names of no UTF-8 by their bytes, other words escaped."""
+    if isinstance(output, TextIOWrapper):
+        is_utf_8 = codecs.lookup(output.encoding).name == "utf-8"
+        output.reconfigure(errors="surrogateescape" if is_utf_8 else "backslashreplace")
+
+
+def drop_output() -> None:
+    """Has what is not printed yet go nowhere."""
+    os.dup2(os.open(os.devnull, os.O_WRONLY), sys.stdout.fileno())
 
 
 def fail(program: str, error: Exception) -> int:

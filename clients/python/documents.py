@@ -1,6 +1,7 @@
 """The texts that a language server has to do with: those open in the editor, and files."""
 from __future__ import annotations
 
+import os
 from dataclasses import dataclass
 from pathlib import Path
 from typing import Any
@@ -56,5 +57,5 @@ def path_of(uri: str) -> Path:
     """The file of a `file:` URI; for a text that is no file, a path that there is not."""
     parts = urlsplit(uri)
     if parts.scheme == "file":
-        return Path(unquote(parts.path)).resolve()
+        return Path(os.path.realpath(unquote(parts.path)))
     return Path("/nowhere") / unquote(uri).replace("/", "_")

@@ -1,6 +1,7 @@
 """The faults of the language in the words of an engineer."""
 from __future__ import annotations
 
+import re
 from bisect import bisect_left
 from collections.abc import Iterable, Iterator
 from difflib import get_close_matches
@@ -32,6 +33,8 @@ _PORTS = {
     "ADAPTER_CONNECTIONS": ("plug or socket", "PLUGS", "SOCKETS"),
 }
 _COMPARISONS = frozenset(["=", "<>", "<", ">", "<=", ">="])
+_BLANKS = re.compile("[ \t\r\n]+")
+"""Those of the language: a form feed or a no-break space is none."""
 _LONGEST = 60
 _COMPARED = 100
 """Names that are compared in full with a wrong one."""
@@ -339,7 +342,7 @@ def _asked(name: str | None) -> str:
 
 def _one_line(words: str) -> str:
     """Words in a line of their own: cut where they are many, and what can't be seen by its number."""
-    joined = "".join(it if it.isprintable() else f"U+{ord(it):04X}" for it in " ".join(words.split()))
+    joined = "".join(it if it.isprintable() else f"U+{ord(it):04X}" for it in _BLANKS.sub(" ", words).strip(" "))
     return joined if len(joined) <= _LONGEST else f"{joined[:_LONGEST]}…"
 
 

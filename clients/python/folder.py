@@ -10,7 +10,8 @@ from pathlib import Path
 from tokens import declared_name
 from units import Misuse, Unit, find_files, read_text, stand_in_name
 
-Stamp = tuple[int, int]
+Stamp = tuple[int, int, int]
+"""When a file was written, when it became what it is under its name, as by a move, and its size."""
 
 
 @dataclass(frozen=True)
@@ -46,8 +47,9 @@ class Folder:
         stamps = dict(stamps_of(self._paths))
         if self._looked and stamps == self._stamps:
             return False
+        locked: list[Misuse] = []
         try:
-            found = list(self._files) if self._are_there(stamps) else find_files(self._paths)
+            found = list(self._files) if self._are_there(stamps) else find_files(self._paths, locked.append)
         except Misuse as error:
             if not self._looked:
                 raise
@@ -56,6 +58,7 @@ class Folder:
         self._looked, self._stamps = True, stamps
         self._files = dict(self._read_all(found))
         self._name_all()
+        self.problems = (*map(str, locked), *self.problems)
         return True
 
     def _are_there(self, stamps: dict[str, Stamp | None]) -> bool:
@@ -109,7 +112,7 @@ def stamp_of(file: Path | os.DirEntry[str]) -> Stamp | None:
         state = file.stat()
     except OSError:
         return None
-    return (state.st_mtime_ns, state.st_size) if stat.S_ISREG(state.st_mode) else None
+    return (state.st_mtime_ns, state.st_ctime_ns, state.st_size) if stat.S_ISREG(state.st_mode) else None
 
 
 def _read(file: Path, stamp: Stamp) -> _File:

@@ -1,6 +1,7 @@
 """The life of a language server: its messages, from the first to the last."""
 from __future__ import annotations
 
+import os
 from collections.abc import Callable
 from pathlib import Path
 from typing import Any
@@ -45,7 +46,7 @@ class Server:
 
     def handle(self, message: Message) -> None:
         method, params = message.get("method"), message.get("params") or {}
-        if method is None:
+        if not isinstance(method, str):
             return
         if "id" in message:
             self._send({"id": message["id"], **self._answer(method, params)})
@@ -93,7 +94,7 @@ class Server:
             paths = [path_of(uri) for uri in folders or [params.get("rootUri")] if uri]
         except (KeyError, TypeError, AttributeError) as error:
             return failure(INVALID_PARAMS, f"initialize lacks something: {error}")
-        self._checking.watch([path for path in paths if path.is_dir()])
+        self._checking.watch([path for path in paths if os.path.isdir(path)])
         self._initialized = True
         return {"result": {"capabilities": CAPABILITIES, "serverInfo": {"name": "bench61499"}}}
 

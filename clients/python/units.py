@@ -1,11 +1,14 @@
 """Files as units: which unit a file is, and how a whole folder is put into a workbench."""
 from __future__ import annotations
 
-from collections.abc import Callable, Iterable
+import os
+import stat
+from collections.abc import Callable, Iterable, Iterator
 from dataclasses import dataclass
 from pathlib import Path
+from typing import NoReturn
 
-from bench61499 import NAME_LIMIT, TEXT_LIMIT, Put, Session, StaleBase, batches
+from bench61499 import NAME_LIMIT, TEXT_LIMIT, NoSuchKey, Put, Session, StaleBase, batches
 from tokens import RESERVED, declared_name
 
 
@@ -22,19 +25,59 @@ class Unit:
     text: str
 
 
-def find_files(paths: Iterable[Path]) -> list[Path]:
-    """The files themselves and the `*.fb` files of the folders, inner folders included, each once and sorted. Raises `Misuse`."""
+def find_files(paths: Iterable[Path], locked: Callable[[Misuse], object] | None = None) -> list[Path]:
+    """The files themselves and the `*.fb` files of the folders, inner folders included, each once and sorted.
+
+    Raises `Misuse`; where `locked` is given it is told of the inner folders that can't be read, and the others are looked at.
+    """
     found: dict[Path, Path] = {}
     for path in paths:
-        if path.is_dir():
-            files = [file for file in path.rglob("*.fb") if file.is_file()]
-        elif path.is_file():
-            files = [path]
-        else:
-            raise Misuse(f"{path}: there is no such file or folder")
-        for file in files:
+        for file in sorted(_files_in(path, locked or _refuse)) if _is_folder(path) else [path]:
             found.setdefault(file.resolve(), file)
     return sorted(found.values())
+
+
+def _is_folder(path: Path) -> bool:
+    """Whether it is a folder, and no file. Raises `Misuse` where it is neither, or can't be looked at."""
+    try:
+        mode = path.stat().st_mode
+    except (FileNotFoundError, NotADirectoryError):
+        mode = 0
+    except OSError as error:
+        raise _unreadable(path, error) from error
+    if not stat.S_ISDIR(mode) and not stat.S_ISREG(mode):
+        raise Misuse(f"{path}: there is no such file or folder")
+    return stat.S_ISDIR(mode)
+
+
+def _files_in(folder: Path, locked: Callable[[Misuse], object]) -> Iterator[Path]:
+    """The `*.fb` files of a folder and of its inner ones. Links to folders are not followed."""
+
+    def tell(error: OSError) -> None:
+        if not isinstance(error, FileNotFoundError):  # It has gone since it was listed.
+            locked(_unreadable(error.filename, error))
+
+    for inner, _, names in os.walk(folder, onerror=tell):
+        files = (Path(inner, name) for name in names if name.endswith(".fb"))
+        yield from filter(_is_file, files)
+
+
+def _is_file(path: Path) -> bool:
+    """Whether it is a file, or what can't be looked at: that is told when it is read."""
+    try:
+        return stat.S_ISREG(path.stat().st_mode)
+    except PermissionError:
+        return True
+    except OSError:
+        return False  # A link to nothing or to itself, or a file that has gone.
+
+
+def _refuse(error: Misuse) -> NoReturn:
+    raise error
+
+
+def _unreadable(path: str | Path, error: OSError) -> Misuse:
+    return Misuse(f"{path}: can't be read: {error.strerror}")
 
 
 def read_text(file: Path) -> str:
@@ -42,7 +85,7 @@ def read_text(file: Path) -> str:
     try:
         content = file.read_bytes()
     except OSError as error:
-        raise Misuse(f"{file}: can't be read: {error.strerror}") from error
+        raise _unreadable(file, error) from error
     if len(content) > TEXT_LIMIT:
         raise Misuse(f"{file}: has {len(content):,} bytes, and the text of a unit has at most {TEXT_LIMIT:,}")
     try:
@@ -94,3 +137,11 @@ def commit_units(session: Session, units: list[Unit], progress: Callable[[int], 
         if progress:
             progress(put)
     return sum(base > 0 for base in bases.values())
+
+
+def is_broken(session: Session, unit: str) -> bool:
+    """Whether the workbench has the unit, and its text spells none."""
+    try:
+        return any(fault.code == "SYNTAX" for fault in session.wait("faults", unit))
+    except NoSuchKey:
+        return False

@@ -1,6 +1,7 @@
 """What the tests share: the programs, the workbench that they run against, and the conveyor."""
 from __future__ import annotations
 
+import errno
 import json
 import os
 import shutil
@@ -14,6 +15,7 @@ from collections.abc import Iterator
 from contextlib import contextmanager
 from functools import cache
 from pathlib import Path
+from unittest.mock import patch
 
 CLIENTS = Path(__file__).resolve().parents[1]
 CONVEYOR = CLIENTS.parent / "examples" / "conveyor"
@@ -87,6 +89,20 @@ def run(client: str, *words: object, folder: Path | None = None, **surroundings:
         text=True,
         timeout=60,
     )
+
+
+@contextmanager
+def locked(folder: Path) -> Iterator[None]:
+    """A folder that can't be read, not even by a user who may read all."""
+    scan = os.scandir
+
+    def refusing(path: str | Path) -> Iterator[os.DirEntry[str]]:
+        if Path(path) == folder:
+            raise PermissionError(errno.EACCES, os.strerror(errno.EACCES), str(path))
+        return scan(path)
+
+    with patch("os.scandir", refusing):
+        yield
 
 
 class InFolder(unittest.TestCase):

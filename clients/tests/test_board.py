@@ -121,8 +121,10 @@ class FolderTest(BoardTest):
             (2, [], "say what to show: a folder, or --connect to a workbench that serves"),
             (2, [".", "--connect", ":1"], "say what to show: a folder, or --connect to a workbench that serves"),
             (2, [".", "--files", "."], "--files and --unit go with --connect"),
+            (2, [""], "an empty word names no file or folder"),
             (2, [".", "--port", "65536"], "there is no port 65536"),
             (2, ["--connect", f":{free_port()}"], "nobody serves there"),
+            (2, ["--connect", f":{free_port()}", "--unit", "A", "A B"], "'A B' is no name: a name is a letter or _, then"),
             (2, [".", "--program", "nowhere"], "can't start the workbench nowhere"),
         ]:
             ran = run("board", *words, folder=self.folder)

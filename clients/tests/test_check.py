@@ -2,12 +2,16 @@
 import json
 import os
 import pty
+import subprocess
 import unittest
+from pathlib import Path
+from unittest.mock import patch
 
-from support import BREAKS, CLIENTS, CONVEYOR, InFolder, free_port, run, serving, workbench
+from support import BREAKS, CLIENTS, CONVEYOR, InFolder, free_port, locked, run, serving, workbench
 
 from bench61499 import Places
 from show import excerpt
+from units import Misuse, find_files
 
 
 class ConveyorTest(InFolder):
@@ -97,6 +101,33 @@ class FilesTest(InFolder):
         self.write("long.fb", b"FUNCTION_BLOCK A\n\xe4")
         self.refused("long.fb:2: is not UTF-8: byte 17 is 0xe4")
 
+    def test_paths_that_cant_be_looked_at(self):
+        self.refused(f"{'x' * 300}: can't be read: File name too long", "x" * 300)
+
+    def test_an_inner_folder_that_cant_be_read(self):
+        self.write("a.fb", "FUNCTION_BLOCK A END_FUNCTION_BLOCK")
+        inner = self.write("inner/b.fb", "FUNCTION_BLOCK B END_FUNCTION_BLOCK").parent
+        with locked(inner), self.assertRaisesRegex(Misuse, f"^{inner}: can't be read: Permission denied$"):
+            find_files([self.folder])
+
+    def test_a_file_that_cant_be_looked_at(self):
+        file = self.write("a.fb", "FUNCTION_BLOCK A END_FUNCTION_BLOCK")
+        look = Path.stat
+
+        def refusing(path, **words):
+            if path == file:
+                raise PermissionError
+            return look(path, **words)
+
+        with patch.object(Path, "stat", refusing):
+            self.assertEqual(find_files([self.folder]), [file])
+
+    def test_one_file_by_two_names(self):
+        file = self.write("b.fb", "FUNCTION_BLOCK A END_FUNCTION_BLOCK")
+        for name in "dac":
+            (self.folder / f"{name}.fb").symlink_to(file)
+        self.assertEqual(find_files([self.folder]), [self.folder / "a.fb"])
+
     def test_the_longest_texts(self):
         for number in range(20):
             self.write(f"u{number}.fb", f"FUNCTION_BLOCK U{number} END_FUNCTION_BLOCK".ljust(65_536))
@@ -131,6 +162,42 @@ class FilesTest(InFolder):
         self.assertEqual(ran.stdout, "1 unit, no faults\n")
 
 
+class OutputTest(InFolder):
+    """What is printed where it can't be printed as it is."""
+
+    def setUp(self):
+        super().setUp()
+        self.name = os.fsdecode(b"\xff.fb")
+        self.write(self.name, "FUNCTION_BLOCK A EC_STATES ä")
+
+    def check(self, *words, **surroundings):
+        return run("check", ".", *words, "--program", workbench(), folder=self.folder, **surroundings)
+
+    def test_an_output_without_umlauts(self):
+        ran = self.check("--quiet", PYTHONIOENCODING="ascii")
+        self.assertEqual((ran.returncode, ran.stdout), (1, "\\udcff.fb:1:28: SYNTAX: \\xe4 can't follow EC_STATES\n"))
+
+    def test_names_of_files_that_are_no_utf_8(self):
+        words = [CLIENTS / "check", self.name, "--quiet", "--program", workbench()]
+        ran = subprocess.run(words, cwd=self.folder, env={**os.environ, "PYTHONIOENCODING": "utf-8"}, capture_output=True)
+        self.assertEqual(ran.stdout, b"\xff.fb:1:28: SYNTAX: \xc3\xa4 can't follow EC_STATES\n")
+
+    def test_json_is_sound(self):
+        ran = self.check("--json", PYTHONIOENCODING="utf-8")
+        (fault,) = json.loads(ran.stdout)["faults"]
+        self.assertEqual((fault["file"], fault["explanation"]), (self.name, "ä can't follow EC_STATES"))
+
+    @unittest.skipUnless(os.path.exists("/dev/full"), "no /dev/full here")
+    def test_a_full_disk(self):
+        with open("/dev/full", "w") as full:
+            ran = subprocess.run([CLIENTS / "check", ".", "--program", workbench()], cwd=self.folder, stdout=full, stderr=subprocess.PIPE, text=True)
+        self.assertEqual((ran.returncode, ran.stderr), (2, "check: [Errno 28] No space left on device\n"))
+
+    def test_no_output(self):
+        ran = subprocess.run(["sh", "-c", f'exec "{CLIENTS}/check" . --program "{workbench()}" >&-'], cwd=self.folder, stderr=subprocess.PIPE, text=True)
+        self.assertEqual((ran.returncode, ran.stderr), (1, ""))
+
+
 class TroubleTest(InFolder):
     def setUp(self):
         super().setUp()
@@ -146,6 +213,10 @@ class TroubleTest(InFolder):
         self.refused("^check: can't start the workbench ./nowhere: No such file or directory\n$", "--program", "./nowhere")
         self.refused("^check: no workbench at localhost:[0-9]+: ", "--connect", f"localhost:{free_port()}")
         self.refused("'here' is no HOST:PORT", "--connect", "here")
+        self.refused("^check: no workbench at a..b:9: there is no such host\n$", "--connect", "a..b:9")
+
+    def test_an_empty_word_is_no_folder(self):
+        self.refused("argument FOLDER.FILE: an empty word names no file or folder", "")
 
     def test_a_workbench_that_dies(self):
         self.refused(r"^check: the workbench ended before it answered \(status 5\)\n$", "--program", self.program("sys.exit(5)"))
@@ -153,6 +224,30 @@ class TroubleTest(InFolder):
     def test_a_workbench_that_talks_nonsense(self):
         program = self.program("sys.stdin.readline(); print('Welcome!', flush=True); sys.stdin.read()")
         self.refused("^check: the workbench sent a reply that makes no sense: Welcome!\n$", "--program", program)
+
+    def test_a_unit_that_somebody_changes_meanwhile(self):
+        for change in ('{"put":"A","base":1,"text":"SYSTEM A END_SYSTEM"}', '{"remove":"A","base":1}'):
+            self.refused("^check: A was changed by somebody else while it was checked; check again\n$", "--program", self.changing(change))
+
+    def changing(self, change):
+        """A workbench in which somebody makes a change behind the first question."""
+        commit = f'{{"op":"commit","changes":[{change}]}}\n'
+        return self.program(
+            f"""
+import subprocess
+workbench = subprocess.Popen([{workbench()!r}, *sys.argv[1:]], stdin=subprocess.PIPE, stdout=subprocess.PIPE)
+def told(line):
+    workbench.stdin.write(line)
+    workbench.stdin.flush()
+    return workbench.stdout.readline()
+for line in sys.stdin.buffer:
+    reply = told(line)
+    if b'"op":"ask"' in line:
+        told({commit.encode()!r})
+    sys.stdout.buffer.write(reply)
+    sys.stdout.buffer.flush()
+"""
+        )
 
     def test_too_many_units(self):
         for number in range(3):

@@ -105,10 +105,14 @@ class NoPictureTest(DrawTest):
     def test_what_has_no_network(self):
         self.refused(1, "FEEDER is a function block; only subapplications and systems have networks", "FEEDER")
         self.refused(1, "HANDOVER is an adapter; only subapplications and systems have networks", "HANDOVER")
+        self.refused(1, "ITEM is a structure; only subapplications and systems have networks", "ITEM")
+        self.write("PLANT.fb", "\ufeff" + (self.folder / "PLANT.fb").read_text())
+        self.refused(1, "PLANT has no network, as its text has a SYNTAX fault; check shows it", "PLANT")
         self.refused(2, "no file declares the unit NOTHING", "NOTHING")
 
     def test_no_units(self):
         self.assertIn("--files FOLDER, or --connect", run("draw", "PLANT").stderr)
+        self.assertIn("an empty word names no file or folder", run("draw", "PLANT", "--files", "").stderr)
 
 
 if __name__ == "__main__":

@@ -43,6 +43,8 @@ class ExplainTest(unittest.TestCase):
         self.check("PORT_UNKNOWN", "EVENT_CONNECTIONS ¦A .(* x *) B¦ TO C;", "no event A.B to connect")
         self.check("PASS_THROUGH", "EVENT_CONNECTIONS ¦A(**)TO\n\tB¦;", "A TO B leads straight through the subapplication, past all its blocks")
         self.check("SYNTAX", "SYSTEM A ;¦;¦", '";" can\'t follow ";"')
+        self.check("SYNTAX", "SYSTEM A¦\f¦ END_SYSTEM", "U+000C can't follow A")
+        self.check("SYNTAX", "SYSTEM A¦\u00a0¦END_SYSTEM", "U+00A0 can't follow A")
         self.check("CLASS", "ALGORITHM A IN ST: X := 1 ¦+¦ Y;", '"+" takes numbers, times and the like, not truth values or bit strings')
 
     def test_values(self):

@@ -2,9 +2,10 @@
 from __future__ import annotations
 
 import os
+import time
 import unittest
 
-from support import InFolder
+from support import InFolder, locked
 
 from folder import Folder
 from units import Misuse
@@ -28,6 +29,17 @@ class FolderTest(InFolder):
         self.assertEqual((folder.look(), self.names(folder)), (True, {"C": "a.fb", "B": "b.fb"}))
         file.unlink()
         self.assertEqual((folder.look(), self.names(folder)), (True, {"B": "b.fb"}))
+
+    def test_a_file_of_the_same_time_and_size_is_moved_over_another(self) -> None:
+        other = self.write("other", "ADAPTER C END_ADAPTER")
+        file = self.write("b.fb", B)
+        for it in (other, file):
+            os.utime(it, ns=(1, 1))
+        folder = Folder([self.folder])
+        folder.look()
+        time.sleep(0.05)
+        other.rename(file)
+        self.assertEqual((folder.look(), self.names(folder)), (True, {"C": "b.fb"}))
 
     def test_files_by_name(self) -> None:
         folder = Folder([self.write("a.fb", A), self.write("other.txt", B)])
@@ -64,6 +76,15 @@ class FolderTest(InFolder):
         (self.folder / "away").rename(inner)
         folder.look()
         self.assertEqual((self.names(folder), folder.problems), ({"A": "a.fb"}, ()))
+
+    def test_an_inner_folder_that_cant_be_read(self) -> None:
+        self.write("a.fb", A)
+        inner = self.write("inner/b.fb", B).parent
+        folder = Folder([self.folder])
+        with locked(inner):
+            self.assertEqual((folder.look(), self.names(folder)), (True, {"A": "a.fb"}))
+            self.assertEqual(folder.problems, (f"{inner}: can't be read: Permission denied",))
+        self.assertEqual((folder.look(), self.names(folder), folder.problems), (True, {"A": "a.fb", "B": "b.fb"}, ()))
 
     def test_a_folder_that_is_not_there(self) -> None:
         with self.assertRaisesRegex(Misuse, "nowhere: there is no such file or folder"):

@@ -133,6 +133,16 @@ class SessionTest(unittest.TestCase):
             short.revision("A")
             self.assertRaisesRegex(Refused, "recorded as many calls", short.revision, "A")
 
+    def test_changed_in_other_cases(self):
+        self.session.commit([Put("a", 0, A), Put("b", 0, A)])
+        self.assertEqual(self.session.changed({"a": 1, "b": 0, "c": 4}), {"B": 1, "C": 0})
+        self.assertEqual(self.session.changed({"c": 4, "b": 0, "a": 0}), {"A": 1, "B": 1, "C": 0})
+
+    def test_a_session_that_was_ended(self):
+        self.session.close()
+        self.assertRaises(ConnectionEnded, self.session.work, 1)
+        self.assertRaises(ConnectionEnded, self.session.commit, [Put("A", 0, A)])
+
     def test_jobs(self):
         self.assertIsNone(self.session.take())
         self.session.commit([Put("A", 0, A)])
@@ -231,6 +241,11 @@ class TroubleTest(InFolder):
     def test_no_server(self):
         with self.assertRaisesRegex(NoWorkbench, "no workbench at 127.0.0.1:"):
             Session.connect("127.0.0.1", free_port())
+
+    def test_words_that_are_no_host(self):
+        for host in ("a..b", "x" * 70):
+            with self.assertRaisesRegex(NoWorkbench, f"^no workbench at {host}:9: there is no such host$"):
+                Session.connect(host, 9)
 
     def test_a_server_that_hangs_up(self):
         with answering(GREETING, b'{"accepted":1}\n') as port, Session.connect("127.0.0.1", port) as session:

@@ -44,8 +44,16 @@ class LifeTest(LspTest):
         editor.process.stdin.close()
         self.assertEqual(editor.process.wait(10), 1)
 
+    def test_paths_that_make_no_sense(self):
+        (self.folder / "round.fb").symlink_to(self.folder / "round.fb")
+        editor = self.editor()
+        editor.start(self.folder / ("x" * 300))
+        editor.open(self.folder / "round.fb", BAD)
+        editor.await_codes(round=["WITH_UNKNOWN"])
+
     def test_messages_that_make_no_sense(self):
         editor = self.started()
+        editor.send({"method": ["exit"]})
         editor.process.stdin.write(b"Content-Length: 3\r\n\r\n{]}")
         editor.process.stdin.flush()
         self.assertEqual(editor.read()["error"]["code"], -32700)

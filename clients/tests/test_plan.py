@@ -47,9 +47,25 @@ class PlanTest(InFolder):
         self.edit("FEEDER.fb", "DONE TO IDLE", "DONE TO IDEL")
         self.assertIn("absent or have faults: FEEDER", self.told(1, "PLANT"))
 
+    def test_texts_that_spell_no_unit(self) -> None:
+        self.edit("PLANT.fb", "END_MAPPINGS", "")
+        wanted = "plan: PLANT has no plan, as its text has a SYNTAX fault; check shows it\n"
+        self.assertEqual(self.told(1, "PLANT"), wanted)
+        with serving(sessions=2) as port:
+            run("check", ".", "--connect", f":{port}", folder=self.folder)
+            self.assertEqual(run("plan", "PLANT", "--connect", f":{port}").stderr, wanted)
+
+    def test_a_system_without_resources(self) -> None:
+        self.write("NONE.fb", "SYSTEM NONE END_SYSTEM")
+        ran = run("plan", "NONE", "--files", "NONE.fb", "--program", workbench(), folder=self.folder)
+        self.assertEqual((ran.returncode, ran.stdout), (0, ""))
+        self.assertEqual(ran.stderr, "plan: NONE has no resources, and so there is nothing to tell them\n")
+        self.assertEqual(self.told(2, "NONE", "--resource", "A.B"), "plan: NONE has no resource A.B; it has none\n")
+
     def test_misuse(self) -> None:
         self.assertIn("no file declares the unit NOTHING", self.told(2, "NOTHING"))
         self.assertIn("--files FOLDER, or --connect", run("plan", "PLANT").stderr)
+        self.assertIn("an empty word names no file or folder", run("plan", "PLANT", "--files", "").stderr)
 
     def test_units_that_are_in_the_workbench(self) -> None:
         with serving(sessions=2) as port:
