@@ -1,129 +1,151 @@
-"""compare.py [--level L] [--steps] LIBS.json REPLIES ..: compares each reply with the oracle; prints differences and counts.
-With --steps the files are of the kinds steps and nets of generate.py.
-compare.py --self [--level L] LIBS.json ..: counts the oracle's faults alone."""
-import argparse
-import json
-from collections import Counter
+"""Holds the program to the oracle: random conversations, or scripts, are given to both, and their replies are compared byte for byte.
 
-import generate
-import oracle
+    compare.py [--program P] [--conversations N] [--seed S] [--coverage] [SCRIPT ..]
+
+The program is P, else what BENCH61499_PROGRAM names, else the built one. A difference is printed with its conversation, without the
+lines and changes that it does not need, and the status is then 1."""
+import argparse
+import io
+import json
+import os
+import random
+import subprocess
+import sys
+from collections import Counter
+from pathlib import Path
+
+import lines
+import seen
+from conversations import Conversation
+
+BUILT = Path(__file__).resolve().parents[1] / "crates/bench61499/out/bench61499"
+LONGEST = 60
+SHOWN = 3
+LONGEST_SHOWN = 1000
+
+
+def by_program(program, words, given):
+    """Output, status and standard error; of a wrong command line no more than the status is known."""
+    try:
+        done = subprocess.run([program, "script", *words], input=given, capture_output=True, timeout=LONGEST)
+    except subprocess.TimeoutExpired:
+        return b"", None, "no end in %d seconds" % LONGEST
+    return done.stdout, done.returncode, None if done.returncode == 2 else done.stderr.decode(errors="replace")
+
+
+def by_oracle(words, given):
+    sink = io.BytesIO()
+    status, said = lines.run(io.BytesIO(given), sink, lines.session(words))
+    return sink.getvalue(), status, said
+
+
+def smallest(parts, differs):
+    """The parts without those that the difference does not need: halves, quarters and so on are left out as long as it stays."""
+    size = len(parts) // 2
+    while size:
+        at = 0
+        while at < len(parts):
+            fewer = parts[:at] + parts[at + size:]
+            if differs(fewer):
+                parts = fewer
+            else:
+                at += size
+        size //= 2
+    return parts
+
+
+def with_fewer_changes(parts, differs):
+    """The parts with those changes left out of commits that the difference does not need."""
+    for at, part in enumerate(parts):
+        try:
+            changes = json.loads(part)["changes"]
+        except (ValueError, TypeError, KeyError):
+            continue
+
+        def among(some):
+            return parts[:at] + [json.dumps({"changes": some, "op": "commit"}).encode()] + parts[at + 1:]
+
+        if isinstance(changes, list) and differs(among(changes)):
+            parts = among(smallest(changes, lambda some: differs(among(some))))
+    return parts
+
+
+def shorter(text):
+    text = text.decode(errors="backslashreplace")
+    return text if len(text) <= LONGEST_SHOWN else "%s .. (%d characters)" % (text[:LONGEST_SHOWN], len(text))
 
 
 class Comparison:
-    def __init__(self, level, steps):
-        self.level, self.steps = level, steps
-        self.codes, self.answers, self.units, self.clean, self.differences = Counter(), Counter(), 0, 0, []
+    def __init__(self, program):
+        self.program, self.differences, self.requests, self.conversations = program, 0, 0, 0
+        self.seen = Counter()
 
-    def add(self, *difference):
-        self.differences.append(difference)
+    def compare(self, name, words, given, wanted):
+        self.conversations += 1
+        self.requests += sum(1 for line in given.split(b"\n") if line.strip(b" \t\r"))
+        if by_program(self.program, words, given) != wanted:
+            self.differences += 1
+            if self.differences <= SHOWN:
+                self.show(name, words, given)
 
-    def libraries(self, libs, lines):
-        """Takes the replies to the libraries one after the other."""
-        before, at = {}, 0
-        for n, texts in enumerate(libs):
-            lib = oracle.Library(texts, self.level)
-            asked = generate.questions(texts, self.level, self.steps)
-            pending = self.pending(before, lib)
-            while "commit" in json.loads(lines[at]):
-                at += 1
-            for key in asked if self.steps else []:
-                self.answer(n, lib, key, json.loads(lines[at]), key in pending)
-                at += 1
-            got = json.loads(lines[at])
-            if got != {"accepted": len(pending)}:
-                self.add(n, texts, ("work", ""), {"accepted": len(pending)}, got)
-            at += 1
-            for key in asked:
-                self.answer(n, lib, key, json.loads(lines[at]), False)
-                at += 1
-            self.count(lib)
-            before = texts
-        assert at == len(lines), (at, len(lines))
+    def random(self, seed, number):
+        name = "%d.%d" % (seed, number)
+        try:
+            talk = Conversation(random.Random(name))
+        except Exception:
+            print("the oracle fails in conversation", name)
+            raise
+        self.seen.update(talk.seen)
+        self.compare(name, talk.words, talk.input, (talk.output, talk.status, talk.said))
 
-    def pending(self, before, lib):
-        """The keys that are to be worked on: new ones, and those that the changes reach."""
-        if not self.steps:
-            return lib.keys()
-        changed = {n for n in {*before, *lib.texts} if before.get(n) != lib.texts.get(n)}
-        return (lib.keys() - oracle.Library(before, self.level).keys()) | lib.reached_by(changed)
+    def script(self, path):
+        given = Path(path).read_bytes()
+        self.compare(path, [], given, by_oracle([], given))
 
-    def answer(self, n, lib, key, got, pending):
-        want = {"answer": "pending"} if pending else reply(lib, *key)
-        if want is not None and shown(got) != want:
-            self.add(n, lib.texts, key, want, got)
-        self.answers["%s %s" % (key[0], kind_of(got))] += 1
+    def show(self, name, words, given):
+        def differs(parts):
+            said = b"\n".join(parts)
+            return by_program(self.program, words, said) != by_oracle(words, said)
 
-    def count(self, lib):
-        for u in lib.texts:
-            self.units += 1
-            self.codes.update(oracle.CODES[c] for c, _, _ in lib.faults(u))
-            self.clean += not lib.faults(u)
+        parts = given.split(b"\n")
+        print("difference in conversation", name, *words)
+        if not differs(parts):
+            return
+        parts = with_fewer_changes(smallest(parts, differs), differs)
+        given = b"\n".join(parts)
+        program, oracle = by_program(self.program, words, given), by_oracle(words, given)
+        print("\n".join("  " + shorter(it) for it in parts))
+        for mine, its in zip(oracle[0].split(b"\n"), program[0].split(b"\n")):
+            if mine != its:
+                print("  oracle:  %s\n  program: %s" % (shorter(mine), shorter(its)))
+                break
+        print("  oracle ends:  %s\n  program ends: %s" % (oracle[1:], program[1:]), flush=True)
 
-
-def kind_of(got):
-    """What sort of a reply it is, to be counted."""
-    inner = got.get("net", got.get("deploy"))
-    if isinstance(inner, dict):
-        return ", ".join(sorted(inner))
-    return inner or ", ".join(v for v in got.values() if isinstance(v, str))
-
-
-def net_reply(lib, name):
-    """What the oracle says of a net as a reply has it; of a flat one the blocks alone."""
-    kind, what = lib.net(name)
-    return kind if what is None else {kind: [list(x) if kind == "blocks" else x for x in what]}
-
-
-def reply(lib, kind, name):
-    """The reply to a question where the entry is not pending; None for plans, of which the oracle knows nothing."""
-    if kind == "faults":
-        return {"faults": [[oracle.CODES[c], s, e] for c, s, e in lib.faults(name)]}
-    if lib.net(name) is None or kind == "deploy" and lib.tree(name).kind != "system":
-        return {"refused": "NoSuchKey"}
-    net = net_reply(lib, name)
-    if kind == "net":
-        return {"net": net}
-    return None if "blocks" in net else {"deploy": {"stopped": net}}
-
-
-def shown(got):
-    """A reply without the links and borders of a net."""
-    net = got.get("net")
-    return {"net": {"blocks": net["blocks"]}} if isinstance(net, dict) and "blocks" in net else got
-
-
-def print_difference(n, texts, key, want, got):
-    print("DIFF library", n, *key)
-    if "faults" in want and "faults" in got:
-        print("   only oracle :", [f for f in want["faults"] if f not in got["faults"]])
-        print("   only program:", [f for f in got["faults"] if f not in want["faults"]])
-        print("   text:", texts[key[1]])
-    else:
-        print("   oracle :", want, "\n   program:", got)
+    def summary(self):
+        found = "%d differences" % self.differences if self.differences else "no difference"
+        return "%d conversations, %d requests: %s" % (self.conversations, self.requests, found)
 
 
 def main():
-    p = argparse.ArgumentParser()
-    p.add_argument("--level", choices=oracle.LEVELS, default="plain")
-    p.add_argument("--steps", action="store_true")
-    p.add_argument("--self", action="store_true", dest="alone")
-    p.add_argument("files", nargs="+")
+    p = argparse.ArgumentParser(description=__doc__, formatter_class=argparse.RawDescriptionHelpFormatter)
+    p.add_argument("--program", default=os.environ.get("BENCH61499_PROGRAM", BUILT))
+    p.add_argument("--conversations", type=int, default=300)
+    p.add_argument("--seed", type=int, default=1)
+    p.add_argument("--coverage", action="store_true")
+    p.add_argument("scripts", nargs="*", metavar="SCRIPT")
     words = p.parse_args()
-    c = Comparison(words.level, words.steps)
-    if words.alone:
-        for f in words.files:
-            for lib in json.load(open(f)):
-                c.count(oracle.Library(lib, words.level))
-    else:
-        for libs, replies in zip(words.files[::2], words.files[1::2]):
-            known = len(c.differences)
-            c.libraries(json.load(open(libs)), open(replies).read().splitlines())
-            for d in c.differences[known:known + 8]:
-                print_difference(*d)
-    print("units", c.units, "without faults", c.clean, "faults", sum(c.codes.values()), "differences", len(c.differences))
-    print(dict(sorted(c.codes.items(), key=lambda x: oracle.CODES.index(x[0]))))
-    for k, v in sorted((c.answers + oracle.COUNT).items()):
-        print("   ", k, v)
+    for path in [words.program, *words.scripts]:
+        if not Path(path).is_file():
+            p.error("there is no file %s" % path)
+    comparison = Comparison(words.program)
+    for path in words.scripts:
+        comparison.script(path)
+    for number in range(0 if words.scripts else words.conversations):
+        comparison.random(words.seed, number)
+    if words.coverage:
+        print(seen.table(comparison.seen))
+    print(comparison.summary())
+    sys.exit(1 if comparison.differences else 0)
 
 
 if __name__ == "__main__":

@@ -1,8 +1,8 @@
 """Random small libraries. generate.py SEED COUNT OUT.jsonl [plain|tokens|deep|steps|nets] [plain|read|structures] writes
-request lines for COUNT libraries, and beside it OUT.json, the list of libraries (name -> text) in the same order. The last word
-is the level of the language (see oracle.py); above plain nets and plans are asked for too. Of the kinds steps and nets each
-library but every eighth is the one before it with a unit or two changed, and all is asked for before the work as well; nets have
-units with hardly a fault, that only hold and carry one another."""
+request lines for COUNT libraries one after the other, a script for compare.py, and beside it OUT.json, the list of libraries (name ->
+text) in the same order. The last word is the level of the language (see oracle.py); above plain nets and plans are asked for too. Of
+the kinds steps and nets each library but every eighth is the one before it with a unit or two changed, and all is asked for before the
+work as well; nets have units with hardly a fault, that only hold and carry one another."""
 import json
 import random
 import sys

@@ -1,7 +1,8 @@
 """An independent reading of the language and its 24 faults, written from the rules alone.
 
 faults(library, unit) gives the sorted list of (code, start, end); library maps upper-case names to texts.
-Library(texts, level) answers more: what a unit mentions, what is near and far, and of nets all but links and borders.
+Library(texts, level) answers more: what a unit mentions, what is near and far, and of nets their form and their blocks
+(networks.py has their links and borders, plans.py the plans).
 COUNT counts what was reached: operators, statements, ends, conditions, kinds of types and constants.
 
 The levels of the language are
@@ -11,7 +12,9 @@ The levels of the language are
   structures  all of it: codes 1 to 24
 """
 import re
+import sys
 from collections import Counter
+from functools import lru_cache
 
 CODES = ["", "SYNTAX", "NAME_DIFFERS", "DUPLICATE", "MIXED_KIND", "UNKNOWN_TYPE", "WRONG_KIND", "WITH_UNKNOWN",
          "STATE_UNKNOWN", "EVENT_UNKNOWN", "ALGORITHM_UNKNOWN", "VARIABLE_UNKNOWN", "CLASS", "PORT_UNKNOWN",
@@ -19,6 +22,7 @@ CODES = ["", "SYNTAX", "NAME_DIFFERS", "DUPLICATE", "MIXED_KIND", "UNKNOWN_TYPE"
          "LITERAL", "MAPPED_TWICE", "NO_SUCH_RESOURCE", "MEMBER_UNKNOWN", "STRUCT_RECURSIVE"]
 LEVELS = ["plain", "read", "structures"]
 COUNT = Counter()
+sys.setrecursionlimit(50_000)
 
 # ---------------------------------------------------------------- tokens
 
@@ -39,8 +43,8 @@ TYPED = re.compile(r"(" + W + r")#[+-]?(?:" + PLAIN + r")+")
 TYPED_DATE = re.compile(r"(" + W + r")#[+-]?(?:" + PLAIN + r"|[-:](?=[0-9]))+")
 TYPED_REAL = re.compile(r"(" + W + r")#[+-]?(?:" + PLAIN + r"|(?<=[Ee])[+-](?=[0-9]))+")
 STRING = re.compile(r"'(?:[^'$\r\n]|\$[^\r\n])*'|\"(?:[^\"$\r\n]|\$[^\r\n])*\"")
-SYMBOLS = [":=", "<=", ">=", "<>", "**", "->", "..", ";", ":", ",", ".", "(", ")", "[", "]", "=", "<", ">", "+", "-",
-           "*", "/", "&"]
+BLANKS = re.compile(r"[ \t\r\n]+")
+SYMBOL = re.compile(r":=|<=|>=|<>|\*\*|->|\.\.|[;:,.()\[\]=<>+\-*/&]")
 DATES = {"D", "DATE", "TOD", "TIME_OF_DAY", "DT", "DATE_AND_TIME"}
 
 
@@ -63,9 +67,9 @@ def tokens(text, structures=False):
             at.append(at[-1] + len(c.encode()))
     out, i, n = [], 0, len(text)
     while i < n:
-        c = text[i]
-        if c in " \t\r\n":
-            i += 1
+        blanks = BLANKS.match(text, i)
+        if blanks:
+            i = blanks.end()
             continue
         if text.startswith("(*", i):
             j = text.find("*)", i + 2)
@@ -86,13 +90,10 @@ def tokens(text, structures=False):
             t = (TYPED_DATE if word in DATES else TYPED_REAL if word in ("REAL", "LREAL") else TYPED).match(text, i)
             if t and t.group(1) == m.group():
                 tries.append(("TYPED", t.end()))
-        for kind, rx in (("NUMBER", NUMBER), ("STRING", STRING)):
+        for kind, rx in (("NUMBER", NUMBER), ("STRING", STRING), ("SYMBOL", SYMBOL)):
             m = rx.match(text, i)
             if m:
                 tries.append((kind, m.end()))
-        for s in SYMBOLS:
-            if text.startswith(s, i):
-                tries.append(("SYMBOL", i + len(s)))
         if tries:
             best = max(tries, key=lambda t: t[1])
         kind, j = best
@@ -402,14 +403,18 @@ class Parser:
         return self.take() if self.kind("NUMBER") else self.fail()
 
     def constant(self):
-        if self.sym("["):
-            start = self.take().start
-            items = [self.simple()]
-            while self.try_sym(","):
-                items.append(self.simple())
-            end = self.need_sym("]").end
-            return Bag(items=items, start=start, end=end)
-        return self.simple()
+        """A constant, with how it is written without blanks."""
+        first = self.i
+        out = self.list() if self.sym("[") else self.simple()
+        out.written = "".join(t.text for t in self.t[first:self.i])
+        return out
+
+    def list(self):
+        start = self.take().start
+        items = [self.simple()]
+        while self.try_sym(","):
+            items.append(self.simple())
+        return Bag(items=items, start=start, end=self.need_sym("]").end)
 
     def simple(self):
         p = self.peek()
@@ -739,22 +744,16 @@ class Parser:
         return Bag(form="lit", kind=p.kind, cls=cls, start=p.start, end=p.end)
 
 
-_cache = {}
-
-
+@lru_cache(maxsize=4096)
 def read(text, structures=False):
     """("tree", unit) or ("broken", start, end)"""
-    key = (text, structures)
-    if key not in _cache:
-        ts = tokens(text, structures)
-        if isinstance(ts, tuple):
-            _cache[key] = ("broken", ts[1], ts[2])
-        else:
-            try:
-                _cache[key] = ("tree", Parser(ts, len(text.encode()), structures).unit())
-            except Broken as b:
-                _cache[key] = ("broken",) + b.span
-    return _cache[key]
+    ts = tokens(text, structures)
+    if isinstance(ts, tuple):
+        return ("broken", ts[1], ts[2])
+    try:
+        return ("tree", Parser(ts, len(text.encode()), structures).unit())
+    except Broken as b:
+        return ("broken",) + b.span
 
 
 # ---------------------------------------------------------------- what units mention, near and far, nets
@@ -839,22 +838,24 @@ class Library:
             known[u.name.up] = len(inner) + sum(subs)
         return known[u.name.up]
 
-    def blocks(self, u, path=""):
-        """The blocks of a unit with their types, those of its subapplications in their places."""
-        out = []
+    def instances(self, u, path=""):
+        """The blocks and subapplication instances of a unit with their paths, what is in one behind it."""
         for prefix, net in [(path, u)] + [(a.name.up + ".", a) for a in u.apps]:
             for i in net.insts:
-                if i.role == "fb":
-                    out.append((prefix + i.name.up, i.type.up))
-                elif i.role == "sub":
-                    out += self.blocks(self.tree(i.type.up), prefix + i.name.up + ".")
-        return out
+                if i.role in ("fb", "sub"):
+                    yield prefix + i.name.up, i
+                if i.role == "sub":
+                    yield from self.instances(self.tree(i.type.up), prefix + i.name.up + ".")
+
+    def blocks(self, u):
+        """The blocks of a unit with their types, those of its subapplications in their places."""
+        return [(path, i.type.up) for path, i in self.instances(u) if i.role == "fb"]
 
     def keys(self):
         """What is kept of all units: pairs of a kind and a name."""
-        out = {("faults", n) for n in self.texts}
-        out |= {("net", n) for n in self.texts if self.tree(n) and self.tree(n).kind in ("subapp", "system")}
-        return out | {("deploy", n) for n in self.texts if self.tree(n) and self.tree(n).kind == "system"}
+        kinds = {n: self.tree(n) and self.tree(n).kind for n in self.texts}
+        wanted = {"faults": kinds.values(), "net": ["subapp", "system"], "deploy": ["system"]}
+        return {(key, n) for key, some in wanted.items() for n, kind in kinds.items() if kind in some}
 
     def reached_by(self, changed):
         """The keys that a change of these names reaches."""

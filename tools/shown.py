@@ -9,7 +9,7 @@ import code_parts as parts
 ROWS = "tools/shown.rows"
 PAGE = "docs/SHOWN.md"
 REASONS = "docs/TRUST.md"
-ORACLE = "oracle/oracle.py"
+ORACLE = [f"oracle/{it}.py" for it in ("oracle", "networks", "plans", "machine", "lines")]
 PLAIN = "benchmarks/plain/src"
 KEYS = {"laws", "oracle", "plain", "lines", "of", "through", "defined", "edits", "tests"}
 NONE = "**none**"
@@ -83,7 +83,7 @@ def rows(kind):
 
 def has_oracle(name):
     owner, _, method = name.rpartition(".")
-    text = parts.text_of(ORACLE)
+    text = "\n".join(parts.text_of(it) for it in ORACLE)
     if owner:
         text = re.split(r"^(?=class |def )", text.partition(f"class {owner}:")[2], flags=re.M)[0]
     return bool(re.search(rf"^{'    ' if owner else ''}(?:(?:def|class) {method}\b|{method} =)", text, re.M))
@@ -345,7 +345,7 @@ def code_row(cells, gaps):
     found = set(re.findall(r"\[`(\w+)`\]", tests))
     for gap, some in zip(GAPS[1:3], (edits, found)):
         gaps[gap] += [] if some else [word]
-    places = {"oracle": [ORACLE], "plain": parts.files(f"{PLAIN}/faults/*.rs")}
+    places = {"oracle": ORACLE, "plain": parts.files(f"{PLAIN}/faults/*.rs")}
     written = [name for name, paths in places.items() if any(f'"{word}"' in parts.text_of(it) for it in paths)]
     says = ", ".join(f"`{it}`" for it in re.findall(r"\[`(\w+)`\]", law))
     return [code, says, ", ".join(written) or NONE, counted(count_edits(edits), []), str(len(found))]

@@ -8,7 +8,7 @@ from typing import Any
 
 from support import CLIENTS, InFolder, workbench
 
-from rpc import read_message, write_message
+from bench61499.lsp.rpc import read_message, write_message
 
 
 class Editor:
@@ -17,9 +17,10 @@ class Editor:
     Where what a test waits for doesn't come, the server is killed after `patience` seconds, and the test fails.
     """
 
-    def __init__(self, *words: object, patience: float = 120):
-        self.process = subprocess.Popen([CLIENTS / "lsp", *map(str, words)], stdin=subprocess.PIPE, stdout=subprocess.PIPE)
+    def __init__(self, *words: object, patience: float = 120, lsp: Path = CLIENTS / "lsp"):
+        self.process = subprocess.Popen([lsp, *map(str, words)], stdin=subprocess.PIPE, stdout=subprocess.PIPE)
         self._watch = threading.Timer(patience, self.process.kill)
+        self._watch.daemon = True
         self._watch.start()
         self.shown: dict[str, list] = {}
         self.versions: dict[str, int] = {}
@@ -70,8 +71,8 @@ class Editor:
     def codes(self, file: str) -> list[str] | None:
         return [it.get("code", it["message"]) for it in self.shown[file]] if file in self.shown else None
 
-    def start(self, folder: Path | None = None) -> dict:
-        answer = self.request("initialize", processId=None, rootUri=folder.as_uri() if folder else None, capabilities={})
+    def start(self, folder: Path | None = None, capabilities: dict | None = None) -> dict:
+        answer = self.request("initialize", processId=None, rootUri=folder.as_uri() if folder else None, capabilities=capabilities or {})
         self.notify("initialized")
         return answer
 

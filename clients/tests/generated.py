@@ -10,9 +10,9 @@ from itertools import islice
 
 from support import CLIENTS, workbench
 
-from bench61499 import Fault, Flat, Net, NoSuchKey, Put, Remove, Session, batches
+from bench61499 import Change, Fault, Flat, Net, NoSuchKey, Put, Remove, Session, batches
 
-from tokens import tokens
+from bench61499.language.tokens import tokens
 
 sys.path.append(str(CLIENTS.parent / "oracle"))
 
@@ -73,8 +73,9 @@ def so_many(libraries: Iterable[dict[str, str]], units: int) -> Iterator[dict[st
 def faults_of(session: Session, texts: dict[str, str]) -> dict[str, tuple[Fault, ...]]:
     """The faults of these texts, which the workbench gets in the place of all that this session has put."""
     known = session.revisions
-    changes = [Remove(name, revision) for name, revision in known.items() if name not in texts]
-    for batch in batches([*changes, *(Put(name, known.get(name, 0), text) for name, text in texts.items())]):
+    changes: list[Change] = [Remove(name, revision) for name, revision in known.items() if name not in texts]
+    changes += [Put(name, known.get(name, 0), text) for name, text in texts.items()]
+    for batch in batches(changes):
         session.commit(batch)
     return session.settle()
 
@@ -116,7 +117,8 @@ class Sound:
         self.types: dict[str, Interface] = {}
         units = {f"A{at}": self.adapter(f"A{at}") for at in range(2)}
         units |= {f"B{at}": self.block(f"B{at}") for at in range(self.chance.randint(2, 4))}
-        blocks, inner = [name for name in units if name[0] == "B"], []
+        blocks = [name for name in units if name[0] == "B"]
+        inner: list[str] = []
         for at in range(self.chance.randint(1, 4)):
             units[f"S{at}"] = self.subapplication(f"S{at}", blocks, list(inner))
             inner.append(f"S{at}")

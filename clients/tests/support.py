@@ -12,9 +12,10 @@ import tempfile
 import threading
 import unittest
 from collections.abc import Iterator
-from contextlib import contextmanager
+from contextlib import AbstractContextManager, contextmanager
 from functools import cache
 from pathlib import Path
+from unittest import TestCase
 from unittest.mock import patch
 
 CLIENTS = Path(__file__).resolve().parents[1]
@@ -22,20 +23,34 @@ CONVEYOR = CLIENTS.parent / "examples" / "conveyor"
 BREAKS = json.loads((CONVEYOR / "breaks.json").read_text())
 sys.path.insert(0, str(CLIENTS / "python"))
 
+from bench61499 import HistoryFull, NoWorkbench, Session, find_program  # noqa: E402
+
 
 @cache
 def workbench() -> str:
-    """The program to test against: BENCH61499_PROGRAM, or the one that is built. Skips the test where there is none."""
-    program = os.environ.get("BENCH61499_PROGRAM") or CLIENTS.parent / "crates" / "bench61499" / "out" / "bench61499"
+    """The program to test against, as clients find it. Skips the test if there is none."""
+    try:
+        program = find_program()
+    except NoWorkbench as error:
+        raise unittest.SkipTest(str(error)) from None
     if not os.access(program, os.X_OK):
-        raise unittest.SkipTest(f"no workbench at {program}; build it, or set BENCH61499_PROGRAM")
-    return str(program)
+        raise unittest.SkipTest(f"no workbench at {program}")
+    return program
+
+
+def serving(sessions: int, *more: str) -> AbstractContextManager[int]:
+    """A workbench that serves, with more words if any; gives its port. Skips the test where the program can't serve."""
+    return _running("serve", "--sessions", str(sessions), *more)
+
+
+def hosting(*more: str) -> AbstractContextManager[int]:
+    """A host, with more words if any; gives its port. Skips the test where the program has none."""
+    return _running("host", *more)
 
 
 @contextmanager
-def serving(sessions: int, *more: str) -> Iterator[int]:
-    """A workbench that serves, with more words if any; gives its port. Skips the test where the program can't serve."""
-    words = [workbench(), "serve", "--port", "0", "--sessions", str(sessions), *more]
+def _running(*more: str) -> Iterator[int]:
+    words = [workbench(), more[0], *(() if "--port" in more else ("--port", "0")), *more[1:]]
     with subprocess.Popen(words, stdout=subprocess.PIPE, stderr=subprocess.DEVNULL, text=True) as server:
         line = server.stdout.readline()
         if not line.startswith("listening on "):
@@ -44,6 +59,20 @@ def serving(sessions: int, *more: str) -> Iterator[int]:
             yield int(line.rpartition(":")[2])
         finally:
             server.terminate()
+
+
+HISTORY = 3_000
+"""Recorded calls of a server whose calls are counted."""
+
+
+def used(session: Session) -> int:
+    """How many recorded calls a server with a history of `HISTORY` has had, workers' calls included. Nothing can be recorded there afterwards."""
+    for left in range(HISTORY + 1):
+        try:
+            session.revision("A")
+        except HistoryFull:
+            return HISTORY - left
+    raise AssertionError("the history does not end")
 
 
 GREETING = b'{"refused":"BadRequest"}\n'
@@ -105,7 +134,7 @@ def locked(folder: Path) -> Iterator[None]:
         yield
 
 
-class InFolder(unittest.TestCase):
+class InFolder(TestCase):
     """A test with a folder of its own."""
 
     def setUp(self) -> None:

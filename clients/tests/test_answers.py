@@ -6,12 +6,12 @@ from pathlib import Path
 
 from generated import checked
 
-from answers import Answers
 from bench61499 import Places
-from plant import Plant
-from positions import place, position, range_of
-from rename import CantRename
-from rpc import Written
+from bench61499.language.plant import Plant
+from bench61499.language.positions import place, position, range_of
+from bench61499.language.written import Written
+from bench61499.lsp.answers import Answers
+from bench61499.lsp.rename import CantRename
 
 AT_PLACES = ("definition", "references", "documentHighlight", "hover", "completion", "prepareRename", "rename")
 OF_TEXTS = ("documentSymbol", "semanticTokens/full", "foldingRange", "formatting")

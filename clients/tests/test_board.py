@@ -13,8 +13,8 @@ from boards import Address, board
 from support import CONVEYOR, InFolder, free_port, run, serving, workbench
 
 from bench61499 import Put, Remove, Session
-from board_state import Board
-from board_watch import HEARTBEAT, SharedWatch
+from bench61499.board.state import Board
+from bench61499.board.watch import HEARTBEAT, SharedWatch
 
 STATES = {"FEEDER", "HANDOVER", "ITEM", "LAMP", "LIFTER", "PLANT", "STATION"}
 WRONG = "FUNCTION_BLOCK A EVENT_INPUT E WITH X; END_EVENT END_FUNCTION_BLOCK"
@@ -30,8 +30,8 @@ UNSURE = "This is the text of the file. The workbench gives no texts back, so wh
 class BoardTest(InFolder):
     """A test with a board of its own."""
 
-    def start(self, *words: object, **options: object) -> Address:
-        running = board(*words, folder=self.folder, **options)
+    def start(self, *words: object, program: Path | None = None) -> Address:
+        running = board(*words, folder=self.folder, program=program)
         self.addCleanup(running.__exit__, None, None, None)
         return running.__enter__()
 
@@ -66,7 +66,7 @@ class FolderTest(BoardTest):
             self.edit("FEEDER.fb", "DONE TO IDLE", "DONE TO IDEL")
             viewer.until(lambda it: it.state("FEEDER") == "faulty")
             (change,) = viewer.changes
-            self.assertEqual({**change, "time": 0}, {"number": 1, "time": 0, "unit": "FEEDER", "old": 1, "new": 2, "author": "FEEDER.fb"})
+            self.assertEqual({**change, "time": 0}, {"number": 1, "time": 0, "unit": "FEEDER", "old": 1, "new": 2, "author": "FEEDER.fb", "count": 1, "replaces": 0})
             unit = at.json("/unit", name="feeder")
         self.assertEqual(
             unit["faults"],
@@ -105,7 +105,7 @@ class FolderTest(BoardTest):
     def test_names_that_are_not_utf_8(self) -> None:
         folder = os.path.join(os.fsencode(self.folder), b"plant \xff")
         os.mkdir(folder)
-        with open(os.path.join(folder, b"\xfe.fb"), "w") as file:
+        with open(os.path.join(folder, b"\xfe.fb"), "w", encoding="utf-8") as file:
             file.write(WRONG)
         at = self.start(os.fsdecode(b"plant \xff"))
         self.assertEqual(at.line, f"the board of plant ? is at {at.url}\n")
@@ -116,19 +116,20 @@ class FolderTest(BoardTest):
 
     def test_words_that_make_no_sense(self) -> None:
         self.copy_conveyor()
-        for status, words, told in [
-            (2, ["nowhere"], "nowhere: there is no such file or folder"),
-            (2, [], "say what to show: a folder, or --connect to a workbench that serves"),
-            (2, [".", "--connect", ":1"], "say what to show: a folder, or --connect to a workbench that serves"),
-            (2, [".", "--files", "."], "--files and --unit go with --connect"),
-            (2, [""], "an empty word names no file or folder"),
-            (2, [".", "--port", "65536"], "there is no port 65536"),
-            (2, ["--connect", f":{free_port()}"], "nobody serves there"),
-            (2, ["--connect", f":{free_port()}", "--unit", "A", "A B"], "'A B' is no name: a name is a letter or _, then"),
-            (2, [".", "--program", "nowhere"], "can't start the workbench nowhere"),
-        ]:
+        cases: list[tuple[list[str], str]] = [
+            (["nowhere"], "nowhere: there is no such file or folder"),
+            ([], "say what to show: a folder, or --connect to a workbench that serves"),
+            ([".", "--connect", ":1"], "say what to show: a folder, or --connect to a workbench that serves"),
+            ([".", "--files", "."], "--files and --unit go with --connect"),
+            ([""], "an empty word names no file or folder"),
+            ([".", "--port", "65536"], "there is no port 65536"),
+            (["--connect", f":{free_port()}"], "connection refused"),
+            (["--connect", f":{free_port()}", "--unit", "A", "A B"], "'A B' is no name: a name is a letter or _, then"),
+            ([".", "--program", "nowhere"], "can't start the workbench nowhere"),
+        ]
+        for words, told in cases:
             ran = run("board", *words, folder=self.folder)
-            self.assertEqual((ran.returncode, ran.stdout), (status, ""), words)
+            self.assertEqual((ran.returncode, ran.stdout), (2, ""), words)
             self.assertIn(told, ran.stderr)
 
     def test_a_port_that_is_taken(self) -> None:
@@ -264,7 +265,7 @@ class SharedTest(BoardTest):
         return self.start("--connect", f":{self.port}", *words)
 
     def check(self) -> None:
-        self.assertEqual(run("check", ".", "--connect", f":{self.port}", folder=self.folder).returncode, 0)
+        self.assertEqual(run("check", ".", "--connect", f":{self.port}", "--replace", folder=self.folder).returncode, 0)
 
     def test_a_commit_of_another_session(self) -> None:
         self.check()
@@ -352,7 +353,7 @@ class SharedTest(BoardTest):
             unit = at.json("/unit", name="FEEDER")
             self.assertEqual((unit["note"], [it["code"] for it in unit["faults"]], "line" in unit["faults"][0]), (ANOTHER, ["STATE_UNKNOWN"], False))
             self.edit("FEEDER.fb", "DONE TO IDLE", "DONE TO IDEL")
-            viewer.until(lambda it: at.json("/unit", name="FEEDER")["note"] != ANOTHER)
+            viewer.until(lambda it: (unit := at.json("/unit", name="FEEDER"))["note"] != ANOTHER and unit["faults"])
         self.assertEqual(at.json("/unit", name="FEEDER")["faults"][0]["line"], 19)
 
     def test_units_that_are_asked_for(self) -> None:
@@ -371,7 +372,8 @@ class SharedTest(BoardTest):
 
     def test_what_changes_something_needs_the_token(self) -> None:
         at = self.shared("--unit", "A")
-        for token in ({}, {"X_Board_Token": ""}, {"X_Board_Token": "0" * 32}, {"X_Board_Token": "\xe9"}):
+        wrong: list[dict[str, str]] = [{}, {"X_Board_Token": ""}, {"X_Board_Token": "0" * 32}, {"X_Board_Token": "\xe9"}]
+        for token in wrong:
             self.assertEqual(at.request("/look", "POST", b'{"unit":"B"}', **token), (403, "the token of the page is missing\n"))
         self.assertEqual(at.request("/unit?name=B")[0], 404)
 
@@ -390,23 +392,104 @@ class SharedTest(BoardTest):
             at = self.start("--connect", f":{port}", "--unit", "A")
             with at.viewer() as viewer:
                 viewer.until(lambda it: it.ended)
-        self.assertEqual(viewer.ended, "the workbench has recorded as many calls as it was started for; start it afresh, or with a higher --history")
+        self.assertRegex(viewer.ended, "^the history of the workbench is full: .*; it is asked again once a minute$")
 
     def test_calls_are_few(self) -> None:
-        """Looks at revisions cost one recorded call for 16 units, and are rarer where that is many and where nothing changes."""
-        board_of_many = Board("many", shared=True)
-        watch = SharedWatch(board_of_many, self.engineer, None, [f"U{at}" for at in range(1_600)])
-        watch.start()
-        self.assertEqual((watch.step(), board_of_many.news(0, None).calls), (HEARTBEAT, 0))
-        with board_of_many.viewer():
-            self.assertEqual((watch.step(), board_of_many.news(0, None).calls), (100 / 50, 100))
-            with mock.patch("board_watch.IDLE_AFTER", -1):
-                self.assertEqual((watch.step(), board_of_many.news(0, None).calls), (100 / 10, 200))
-            self.engineer.commit([Put("U7", 0, WRONG)])
-            self.assertLessEqual(watch.step(), 100 / 50)
-            # One more call for the unit that has changed, and one for its faults.
-            self.assertEqual(board_of_many.news(0, None).calls, 302)
+        """At most two in a second in the mean, whatever others do, and one where nothing changes."""
+        board, clock = Board("many", shared=True), [1000.0]
+        with mock.patch("bench61499.board.watch.time.monotonic", lambda: clock[0]):
+            watch = SharedWatch(board, self.engineer, None, [f"U{at}" for at in range(160)])
+            watch.start()
+            self.assertEqual((watch.step(), board.news(0, None).calls), (HEARTBEAT, 0))
+
+            def calls_in(seconds: float, edits: int) -> int:
+                before, end = board.news(0, None).calls, clock[0] + seconds
+                next_edit = clock[0]
+                while clock[0] < end:
+                    clock[0] += max(watch.step(), 0.01)
+                    if edits and clock[0] >= next_edit:
+                        self.engineer.commit([Put("U7", self.engineer.revision("U7"), WRONG)])
+                        next_edit += seconds / edits
+                return board.news(0, None).calls - before
+
+            with board.viewer():
+                self.assertLessEqual(calls_in(10, 0), 10 + 20)  # All ten batches are looked at once, at the start.
+                self.assertLessEqual(calls_in(300, 100), 2 * 300 + 4)
+                self.assertLessEqual(calls_in(60, 0), 2 * 60 + 4)
+                self.assertLessEqual(calls_in(300, 0), 300 + 16)
+                self.assertEqual(board.row("U7").revision, self.engineer.revision("U7"))
         self.assertEqual(watch.step(), HEARTBEAT)
+
+    def test_a_host_that_ends_and_comes_again(self) -> None:
+        port = free_port()
+        words = [workbench(), "host", "--port", str(port)]
+
+        def host() -> subprocess.Popen[str]:
+            running = subprocess.Popen(words, stdout=subprocess.PIPE, stderr=subprocess.DEVNULL, text=True)
+            running.stdout.readline()
+            self.addCleanup(running.__exit__, None, None, None)
+            self.addCleanup(running.kill)
+            return running
+
+        first = host()
+        with Session.connect("127.0.0.1", port) as engineer:
+            engineer.commit([Put("A", 0, WRONG)])
+        at = self.start("--connect", f":{port}", "--unit", "A")
+        with at.viewer() as viewer:
+            viewer.until(lambda it: it.state("A") == "faulty")
+            first.kill()
+            viewer.until(lambda it: it.ended)
+            self.assertRegex(viewer.ended, "; trying again$")
+            self.assertEqual(viewer.state("A"), "faulty")
+            host()
+            viewer.until(lambda it: not it.ended and it.state("A") == "absent")
+        said = [at.process.stderr.readline() for _ in range(2)]
+        self.assertRegex(said[0], "^board: the .*; trying again\n$")
+        self.assertEqual(said[1], "board: the workbench answers again\n")
+
+
+class PlansTest(BoardTest):
+    """Systems that can't be deployed are not fine."""
+
+    def test_a_folder(self) -> None:
+        self.copy_conveyor()
+        self.edit("PLANT.fb", "LINE.PANEL ON", "LINE.LAMP ON")
+        at = self.start(".")
+        with at.viewer() as viewer:
+            viewer.settled(len(STATES))
+            self.assertEqual({unit for unit, it in viewer.units.items() if it["state"] != "fine"}, {"PLANT"})
+            self.assertEqual(viewer.units["PLANT"]["state"], "noplan")
+            self.edit("PLANT.fb", "LINE.LAMP ON", "LINE.PANEL ON")
+            viewer.until(lambda it: it.state("PLANT") == "fine")
+            # A unit two levels below: the system itself has no fault.
+            self.edit("LAMP.fb", "VAR_INPUT VALUE", "VAR_INPUT VALU")
+            viewer.until(lambda it: it.state("PLANT") == "faulty")
+            self.edit("LAMP.fb", "VAR_INPUT VALU", "VAR_INPUT VALUE")
+            viewer.until(lambda it: it.state("PLANT") == "fine")
+            self.edit("STATION.fb", "LIFT : LIFTER;", "LIFT : LIFTER; SPARE : NOTHING;")
+            viewer.until(lambda it: it.state("PLANT") == "noplan")
+
+    def test_a_shared_workbench(self) -> None:
+        self.copy_conveyor()
+        with serving(3) as port:
+            run("check", ".", "--connect", f":{port}", "--replace", folder=self.folder)
+            at = self.start("--connect", f":{port}", "--files", ".")
+            with at.viewer() as viewer, Session.connect("127.0.0.1", port) as engineer:
+                viewer.settled(len(STATES))
+                self.assertEqual(viewer.state("PLANT"), "fine")
+                text = (CONVEYOR / "PLANT.fb").read_text().replace("LINE.PANEL ON", "LINE.LAMP ON")
+                engineer.commit([Put("PLANT", engineer.revision("PLANT"), text)])
+                viewer.until(lambda it: it.state("PLANT") == "noplan")
+
+
+class ChangesTest(unittest.TestCase):
+    def test_changes_of_one_unit_are_one(self) -> None:
+        board = Board("some", shared=True)
+        board.add(["A", "B"])
+        for revisions in ({"A": 1, "B": 2}, {"A": 3}, {"B": 4}, {"A": 5}, {"A": 6}, {"A": 0}, {"A": 7}):
+            board.seen(revisions)
+        told = [(it.number, it.unit, it.old, it.new, it.count, it.replaces) for it in board.news(0, 0).changes]
+        self.assertEqual(told, [(2, "B", 2, 4, 1, 0), (4, "A", 1, 6, 3, 3), (5, "A", 6, 0, 1, 0), (6, "A", 0, 7, 1, 0)])
 
 
 class RefusalsTest(BoardTest):
@@ -484,7 +567,7 @@ class RefusalsTest(BoardTest):
 
     def test_this_machine_alone(self) -> None:
         at = self.conveyor()
-        sockets = [line.split() for table in ("tcp", "tcp6") for line in Path(f"/proc/net/{table}").read_text().splitlines()]
+        sockets = [line.split() for table in ("tcp", "tcp6") for line in Path(f"/proc/net/{table}").read_text(encoding="ascii").splitlines()]
         listening = [it[1] for it in sockets if it[1].endswith(f":{at.port:04X}") and it[3] == "0A"]
         self.assertEqual(listening, [f"0100007F:{at.port:04X}"])
 

@@ -60,14 +60,38 @@ class UnitsTest(PageTest):
         self.until_words("mark", "IDEL")
         self.assertEqual(self.words(".told"), "STATE_UNKNOWN no state IDEL in this chart; did you mean IDLE?")
         self.assertEqual(self.words(".faults").split("\n"), ["19:13", "STATE_UNKNOWN", "no state IDEL in this chart; did you mean IDLE?"])
-        self.assertEqual(self.words("#counts").split(), "7 units 1 fault in 1 unit 0 pending".split())
+        self.assertEqual(self.words("#counts").split(), "7 units 1 fault in 1 unit 1 system without a plan 0 pending".split())
         self.assertEqual(self.browser.value("document.title"), "1 fault – .")
         self.until_words("#said", "FEEDER: 1 fault")
         self.edit("FEEDER.fb", "DONE TO IDEL", "DONE TO IDLE")
         self.browser.until("!document.querySelector('mark') && document.querySelector('.text')")
         self.until_words("#said", "FEEDER: no faults")
-        lines = self.browser.value("[...document.querySelectorAll('#changes li')].map((it) => it.innerText.replace(/\\s+\\S+, /, ' '))")
-        self.assertEqual(lines, ["FEEDER revision 2 → 3 FEEDER.fb", "FEEDER revision 1 → 2 FEEDER.fb"])
+        lines = self.browser.value("[...document.querySelectorAll('#changes li')].map((it) => it.innerText.replace(/\\n+\\S+, /, ' '))")
+        self.assertEqual(lines, ["FEEDER revision 1 → 3, 2 changes FEEDER.fb"])
+
+    def test_a_system_without_a_plan(self) -> None:
+        self.see_conveyor("#PLANT/text")
+        self.edit("PLANT.fb", "LINE.PANEL ON", "LINE.LAMP ON")
+        self.until_words("#counts", "1 system without a plan")
+        self.assertEqual(self.words("#unit-state"), "no plan")
+        self.browser.value("document.querySelector('[data-filter=faulty]').click()")
+        self.assertEqual(self.words("#units .row").split(), ["PLANT", ",", "no", "plan,", "no", "plan"])
+        self.browser.press("f")
+        self.until_words(".said", "no mapping gives LINE.PANEL a resource")
+
+    def test_units_that_are_removed(self) -> None:
+        """They count as none, and are listed by their own button alone, also in a page that is opened later."""
+        at = self.see_conveyor()
+        rows = "[...document.querySelectorAll('#units .row .name')].map((it) => it.textContent)"
+        (self.folder / "LAMP.fb").unlink()
+        for again in (False, True):
+            if again:
+                self.browser.open(at.url)
+            self.browser.until("board.connected && board.units.get('LAMP')?.state === 'absent' && count().pending === 0")
+            self.assertEqual(self.words("#counts").split()[:2], ["6", "units"])
+            self.assertNotIn("LAMP", self.browser.value(rows))
+            self.browser.value("document.querySelector('[data-filter=absent]').click()")
+            self.assertEqual(self.browser.value(rows), ["LAMP"])
 
     def test_search_and_filter(self) -> None:
         self.see_conveyor()
@@ -78,9 +102,9 @@ class UnitsTest(PageTest):
         self.assertEqual(self.words("#units"), "No unit is like that.")
         self.browser.press("Escape")
         self.edit("FEEDER.fb", "DONE TO IDLE", "DONE TO IDEL")
-        self.browser.until("count().faulty === 1")
+        self.browser.until("count().faulty === 2")
         self.browser.value("document.querySelector('[data-filter=faulty]').click()")
-        self.assertEqual(self.browser.value(rows), ["FEEDER"])
+        self.assertEqual(self.browser.value(rows), ["FEEDER", "PLANT"])
 
     def test_texts_are_no_markup(self) -> None:
         self.write("A.fb", MARKUP)
@@ -106,8 +130,8 @@ class UnitsTest(PageTest):
             self.see(at, len(STATES), "#LAMP/text")
             self.browser.until("document.querySelector('.text')")
         self.browser.until("!document.getElementById('ended').hidden")
-        self.assertRegex(self.words("#ended"), "^The workbench answers no more: .* This is what it last knew.$")
-        self.assertEqual((self.words("#live"), self.words("#unit")), ("ended", "LAMP"))
+        self.assertRegex(self.words("#ended"), "^Not checked now: .*; trying again. This is what was last known.$")
+        self.assertEqual((self.words("#live"), self.words("#unit")), ("waiting", "LAMP"))
         self.assertIn("FUNCTION_BLOCK LAMP", self.words(".text"))
 
     def test_the_end_of_the_board(self) -> None:
@@ -231,6 +255,23 @@ class NetworkTest(PageTest):
         })()"""
         self.assertEqual(self.browser.value(dashed), 2, "links of events and of data")
 
+    def test_a_whole_network_that_is_small(self) -> None:
+        """Its blocks have their names, and those of the resources at the edge are not cut off."""
+        self.see_network()
+        painted = """(() => {
+          const { context, view, canvas } = network, found = [];
+          network.scale = 0.3;
+          network.touched = false;
+          network.x = canvas.clientWidth - view.width * network.scale;
+          context.fillText = (words, x) => found.push([words, context.textAlign === "left" ? x + context.measureText(words).width : x]);
+          network.paint();
+          delete context.fillText;
+          return [found.map(([words]) => words), Math.max(...found.map(([, right]) => right)) <= network.window.right];
+        })()"""
+        words, is_inside = self.browser.value(painted)
+        self.assertEqual(sorted(words), ["BELT", "BELT", "LIFT", "LIFT", "NORTH.MOTION", "PANEL", "SOUTH.MOTION", "SOUTH.SCREEN"])
+        self.assertTrue(is_inside)
+
     def test_it_follows_changes(self) -> None:
         self.see_network()
         self.browser.value("network.choose(network.blocks[0], false)")
@@ -261,6 +302,14 @@ class PlanTest(PageTest):
         self.browser.value("[...document.querySelectorAll('button')].find((it) => it.textContent === 'Mark as seen').click()")
         self.browser.until("document.querySelector('#plan-words')?.textContent.startsWith('As it was')")
         self.assertEqual(self.browser.value("document.querySelectorAll('ins, del').length"), 0)
+
+
+    def test_what_changes_while_it_is_looked_at_for_the_first_time(self) -> None:
+        self.see_conveyor("#PLANT/plan")
+        self.browser.until("document.querySelector('.plan')")
+        self.edit("PLANT.fb", "LINE.SECOND ON SOUTH.MOTION;", "LINE.SECOND ON SOUTH.MOTION; LINE.SECOND.LIFT ON NORTH.MOTION;")
+        self.browser.until("document.querySelector('ins')")
+        self.assertRegex(self.words("#plan-words"), "^Since it was looked at .*: 4 lines new, 4 gone.$")
 
 
 class EverybodyTest(PageTest):

@@ -7,11 +7,11 @@ import unittest
 from pathlib import Path
 from unittest.mock import patch
 
-from support import BREAKS, CLIENTS, CONVEYOR, InFolder, free_port, locked, run, serving, workbench
+from support import BREAKS, CLIENTS, CONVEYOR, InFolder, free_port, locked, run, workbench
 
 from bench61499 import Places
-from show import excerpt
-from units import Misuse, find_files
+from bench61499.cli.show import excerpt
+from bench61499.language.units import Misuse, find_files
 
 
 class ConveyorTest(InFolder):
@@ -75,8 +75,8 @@ class ConveyorTest(InFolder):
         found = json.loads(self.check("--json").stdout)
         self.assertEqual(found["units"], 1)
         fault = {
-            "file": "a.fb", "line": 2, "column": 13, "end_line": 2, "end_column": 14, "unit": "A", "code": "SYNTAX",
-            "explanation": "ä can't follow EC_STATES", "start": 38, "end": 40,
+            "file": "a.fb", "line": 2, "column": 13, "end_line": 2, "end_column": 14, "unit": "A", "code": "SYNTAX", "level": "error",
+            "explanation": "expected a name or END_STATES after EC_STATES, not ä", "start": 38, "end": 40,
         }
         self.assertEqual(found["faults"], [fault])
 
@@ -134,6 +134,16 @@ class FilesTest(InFolder):
         ran = run("check", ".", "--program", workbench(), folder=self.folder)
         self.assertEqual(ran.stdout, "20 units, no faults\n")
 
+    def test_more_units_than_a_workbench_can_have(self):
+        folder = self.folder / "many"
+        folder.mkdir()
+        for number in range(16_385):
+            (folder / f"{number}.fb").touch()
+        clients: dict[str, list[object]] = {"check": [folder], "plan": ["A", "--files", folder], "draw": ["A", "--files", folder]}
+        for client, words in clients.items():
+            ran = run(client, *words, "--program", "/bin/false")
+            self.assertEqual((ran.returncode, ran.stdout, ran.stderr), (2, "", f"{client}: 16,385 units, and a workbench has at most 16,384\n"))
+
     def test_files_without_a_declaration(self):
         self.write("empty.fb", "")
         self.write("if.fb", "FUNCTION_BLOCK IF END_FUNCTION_BLOCK")
@@ -143,7 +153,7 @@ class FilesTest(InFolder):
         expected = [
             "9 - ü.fb:2:1: SYNTAX: there is nothing here: a unit begins with FUNCTION_BLOCK, ADAPTER, SUBAPPLICATION, SYSTEM or TYPE",
             "empty.fb:1:1: SYNTAX: there is nothing here: a unit begins with FUNCTION_BLOCK, ADAPTER, SUBAPPLICATION, SYSTEM or TYPE",
-            "if.fb:1:16: SYNTAX: the reserved word IF can't follow FUNCTION_BLOCK",
+            "if.fb:1:16: SYNTAX: expected a name after FUNCTION_BLOCK, and IF is a reserved word",
             "other.fb:1:16: SYNTAX: the text ends too early, behind EMPTY: END_FUNCTION_BLOCK is missing",
         ]
         self.assertEqual(ran.stdout.splitlines(), expected)
@@ -175,21 +185,21 @@ class OutputTest(InFolder):
 
     def test_an_output_without_umlauts(self):
         ran = self.check("--quiet", PYTHONIOENCODING="ascii")
-        self.assertEqual((ran.returncode, ran.stdout), (1, "\\udcff.fb:1:28: SYNTAX: \\xe4 can't follow EC_STATES\n"))
+        self.assertEqual((ran.returncode, ran.stdout), (1, "\\udcff.fb:1:28: SYNTAX: expected a name or END_STATES after EC_STATES, not \\xe4\n"))
 
     def test_names_of_files_that_are_no_utf_8(self):
-        words = [CLIENTS / "check", self.name, "--quiet", "--program", workbench()]
+        words: list[str | bytes | Path] = [CLIENTS / "check", self.name, "--quiet", "--program", workbench()]
         ran = subprocess.run(words, cwd=self.folder, env={**os.environ, "PYTHONIOENCODING": "utf-8"}, capture_output=True)
-        self.assertEqual(ran.stdout, b"\xff.fb:1:28: SYNTAX: \xc3\xa4 can't follow EC_STATES\n")
+        self.assertEqual(ran.stdout, b"\xff.fb:1:28: SYNTAX: expected a name or END_STATES after EC_STATES, not \xc3\xa4\n")
 
     def test_json_is_sound(self):
         ran = self.check("--json", PYTHONIOENCODING="utf-8")
         (fault,) = json.loads(ran.stdout)["faults"]
-        self.assertEqual((fault["file"], fault["explanation"]), (self.name, "ä can't follow EC_STATES"))
+        self.assertEqual((fault["file"], fault["explanation"]), (self.name, "expected a name or END_STATES after EC_STATES, not ä"))
 
     @unittest.skipUnless(os.path.exists("/dev/full"), "no /dev/full here")
     def test_a_full_disk(self):
-        with open("/dev/full", "w") as full:
+        with open("/dev/full", "w", encoding="utf-8") as full:
             ran = subprocess.run([CLIENTS / "check", ".", "--program", workbench()], cwd=self.folder, stdout=full, stderr=subprocess.PIPE, text=True)
         self.assertEqual((ran.returncode, ran.stderr), (2, "check: [Errno 28] No space left on device\n"))
 
@@ -256,12 +266,6 @@ for line in sys.stdin.buffer:
         small.chmod(0o755)
         ran = run("check", ".", "--program", small, folder=self.folder)
         self.assertIn("the workbench has no room for more units", ran.stderr)
-
-    def test_a_server(self):
-        with serving(sessions=2) as port:
-            first, second = (run("check", "a.fb", "--connect", f"127.0.0.1:{port}", folder=self.folder) for _ in range(2))
-        self.assertEqual(first.stdout, "1 unit, no faults\n")
-        self.assertEqual(second.stdout, "1 unit, no faults\nThe workbench had 1 of them before, and has these texts now.\n")
 
 
 class TerminalTest(InFolder):

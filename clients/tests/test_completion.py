@@ -7,10 +7,10 @@ from generated import faults_of, so_many, sound_libraries
 from support import workbench
 
 from bench61499 import Session
-from completion import candidates, declared
-from declarations import CONNECTION_SECTIONS, DATA_TYPE, DESTINATION, TYPE, Use, Wanted
-from plant import Plant, Text
-from reader import read
+from bench61499.language.declarations import CONNECTION_SECTIONS, DATA_TYPE, DESTINATION, TYPE, Use, Wanted
+from bench61499.language.plant import Plant, Text
+from bench61499.language.reader import read
+from bench61499.lsp.completion import candidates, declared
 
 OF_NAMES = {"UNKNOWN_TYPE", "WRONG_KIND", "WITH_UNKNOWN", "STATE_UNKNOWN", "EVENT_UNKNOWN", "ALGORITHM_UNKNOWN", "VARIABLE_UNKNOWN",
             "PORT_UNKNOWN", "PORT_SIDE", "PARAMETER_UNKNOWN", "NO_SUCH_RESOURCE"}

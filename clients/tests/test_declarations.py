@@ -3,8 +3,8 @@ import unittest
 
 from generated import Library, checked, faulty_libraries, so_many, sound_libraries
 
-from declarations import ALGORITHM, EVENT, INSTANCE, STATE, TYPE, VARIABLE, Unit
-from reader import ports, read
+from bench61499.language.declarations import ALGORITHM, EVENT, INSTANCE, STATE, TYPE, VARIABLE, Unit
+from bench61499.language.reader import ports, read
 
 KINDS = {"PLUGS": "ADAPTER", "SOCKETS": "ADAPTER", "FBS": "FUNCTION_BLOCK", "SUBAPPS": "SUBAPPLICATION"}
 SORTS = {EVENT: "event", VARIABLE: "data", INSTANCE: "adapter"}
@@ -104,10 +104,10 @@ class Network:
                 self.blocks.append((prefix + it.key.name, it.type.upper()))
             elif it.key.scope == scope and it.section == "SUBAPPS":
                 self._enter(it.type.upper(), "", f"{prefix}{it.key.name}.")
-        for it in unit.connections:
-            if it.scope == scope:
-                source, destination = (prefix + ".".join(use.key.name for use in end) for end in (it.source, it.destination))
-                self._steps.setdefault((SORTS[it.space], source), []).append(destination)
+        for link in unit.connections:
+            if link.scope == scope:
+                source, destination = (prefix + ".".join(use.key.name for use in end) for end in (link.source, link.destination))
+                self._steps.setdefault((SORTS[link.space], source), []).append(destination)
 
     def _is_block(self, place: str) -> bool:
         return place.rpartition(".")[0] in self._types

@@ -85,7 +85,7 @@ class PictureTest(DrawTest):
 
     def test_units_that_are_in_the_workbench(self):
         with serving(sessions=2) as port:
-            self.assertEqual(run("check", ".", "--connect", f":{port}", folder=self.folder).returncode, 0)
+            self.assertEqual(run("check", ".", "--connect", f":{port}", "--replace", folder=self.folder).returncode, 0)
             ran = run("draw", "STATION", "--connect", f":{port}")
         self.assertIn('"BELT":"adapter NEXT":e -> "LIFT":"adapter BEFORE":w', ran.stdout)
 

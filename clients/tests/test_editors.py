@@ -9,15 +9,14 @@ from pathlib import Path
 
 from support import CLIENTS, CONVEYOR, InFolder, serving
 
+OTHERS = "the workbench has {} from another session, at revision 1; edit or save to put this text over it"
 SCRIPT = """
-local server
+dofile(vim.g.settings)
 
 local function buffer(file) return vim.fn.bufnr(file) end
 
 function Open(file)
   vim.cmd('edit ' .. file)
-  server = server or vim.lsp.start_client({ name = 'bench61499', cmd = vim.g.server, root_dir = vim.fn.getcwd() })
-  vim.lsp.buf_attach_client(0, server)
   return 'opened'
 end
 
@@ -53,7 +52,8 @@ class Neovim:
         for file in CONVEYOR.glob("*.fb"):
             shutil.copy(file, folder)
         (folder / "script.lua").write_text(SCRIPT)
-        server = f"let g:server = ['{CLIENTS / 'lsp'}', '--connect', ':{port}']"
+        settings = CLIENTS.parent / "editors" / "neovim.lua"
+        server = f"let g:settings = '{settings}' | let g:bench61499_server = ['{CLIENTS / 'lsp'}', '--connect', ':{port}']"
         words = ["nvim", "--headless", "--clean", "-n", "--listen", "socket", "--cmd", server, "-c", "luafile script.lua"]
         self._process = subprocess.Popen(words, cwd=folder, stdin=subprocess.DEVNULL, stdout=subprocess.DEVNULL, stderr=subprocess.DEVNULL)
         while not (folder / "socket").exists():
@@ -91,15 +91,18 @@ class TwoEditorsTest(InFolder):
         with serving(2, "--history", "100000") as port:
             one = self.editor("one", port, "STATION.fb")
             one.ask("Replace", "STATION.fb", "TO BELT.START", "TO BELT.STRAT")
-            self.see(one, "STATION.fb", "12: PORT_UNKNOWN: no event BELT.STRAT to connect")
+            self.see(one, "STATION.fb", "12: PORT_UNKNOWN: FEEDER has no event STRAT; did you mean START?")
             one.ask("Undo", "STATION.fb")
             self.see(one, "STATION.fb", "")
             other = self.editor("other", port, "FEEDER.fb", "PLANT.fb")
+            for unit in ("FEEDER", "PLANT"):
+                self.see(other, f"{unit}.fb", f"1: : not checked: {OTHERS.format(unit)}")
             other.ask("Replace", "FEEDER.fb", "START WITH", "BEGIN WITH")
             self.see(one, "STATION.fb", "12: PORT_UNKNOWN: no event BELT.START to connect")
             other.ask("Undo", "FEEDER.fb")
             self.see(one, "STATION.fb", "")
             one.ask("Replace", "STATION.fb", "EVENT_OUTPUT READY", "EVENT_OUTPUT DONE")
+            other.ask("Replace", "PLANT.fb", "SYSTEM PLANT", "SYSTEM  PLANT")
             self.see(other, "PLANT.fb", "7: PORT_UNKNOWN: no event FIRST.READY to connect\n8: PORT_UNKNOWN: no event SECOND.READY to connect")
             one.ask("Undo", "STATION.fb")
             self.see(other, "PLANT.fb", "")

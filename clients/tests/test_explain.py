@@ -1,14 +1,15 @@
 """The explanations that depend on what stands round a place."""
 import unittest
 
-import support  # noqa: F401 (it finds the modules under test)
+from support import TestCase
 
 from bench61499 import Fault
-from explain import Explainer, Names
-from tokens import declared_name, tokens
+from bench61499.language.explain import Explainer, Names
+from bench61499.language.grammar import stops
+from bench61499.language.tokens import declared_name, tokens
 
 
-class ExplainTest(unittest.TestCase):
+class ExplainTest(TestCase):
     def check(self, code, text, expected):
         """The place is between two `¦` in the text."""
         before, words, after = text.split("¦")
@@ -43,8 +44,8 @@ class ExplainTest(unittest.TestCase):
         self.check("PORT_UNKNOWN", "EVENT_CONNECTIONS ¦A .(* x *) B¦ TO C;", "no event A.B to connect")
         self.check("PASS_THROUGH", "EVENT_CONNECTIONS ¦A(**)TO\n\tB¦;", "A TO B leads straight through the subapplication, past all its blocks")
         self.check("SYNTAX", "SYSTEM A ;¦;¦", '";" can\'t follow ";"')
-        self.check("SYNTAX", "SYSTEM A¦\f¦ END_SYSTEM", "U+000C can't follow A")
-        self.check("SYNTAX", "SYSTEM A¦\u00a0¦END_SYSTEM", "U+00A0 can't follow A")
+        self.check("SYNTAX", "SYSTEM A¦\f¦ END_SYSTEM", "expected a section or END_SYSTEM after A, not U+000C")
+        self.check("SYNTAX", "SYSTEM A¦\u00a0¦END_SYSTEM", "expected a section or END_SYSTEM after A, not U+00A0")
         self.check("CLASS", "ALGORITHM A IN ST: X := 1 ¦+¦ Y;", '"+" takes numbers, times and the like, not truth values or bit strings')
 
     def test_values(self):
@@ -69,14 +70,54 @@ class ExplainTest(unittest.TestCase):
         self.check("SYNTAX", "¦STRUCT¦ A", "a unit begins with FUNCTION_BLOCK, ADAPTER, SUBAPPLICATION, SYSTEM or TYPE, and not with STRUCT")
         self.check("SYNTAX", "VAR A : STRING := ¦'¦abc\n;", "the text behind this ' is not closed on its line")
         self.check("SYNTAX", "¦\ufeff¦SYSTEM", "a byte order mark is no part of the language; save the file as UTF-8 without one")
-        self.check("SYNTAX", "SYSTEM ¦\x07¦", "U+0007 can't follow SYSTEM")
+        self.check("SYNTAX", "SYSTEM ¦\x07¦", "expected a name after SYSTEM, not U+0007")
         self.check("SYNTAX", "VAR ¦BY¦ : INT", "the reserved word BY can't follow VAR")
+
+    def syntax(self, text, expected):
+        """The place is that where the text leaves the grammar."""
+        its = list(tokens(text))
+        places = [stop.at for stop in stops(its)]
+        explainer = Explainer(text)
+        told = [explainer.explain(Fault("SYNTAX", its[at].start, its[at].end) if at < len(its) else Fault("SYNTAX", len(text), len(text))) for at in places]
+        self.assertEqual(told, [expected] if isinstance(expected, str) else expected)
+
+    def test_what_was_expected(self):
+        head, end = "FUNCTION_BLOCK A ", " END_FUNCTION_BLOCK"
+        self.syntax(f"{head} VAR X INT; END_VAR {end}", 'expected ":" after X, not INT')
+        self.syntax(f"{head} VAR BY : INT; END_VAR {end}", "expected a name or END_VAR after VAR, and BY is a reserved word")
+        self.syntax(f"{head} VAR X : INT := 1\nY : INT; END_VAR {end}", 'expected ";" after 1')
+        self.syntax(f"{head} VAR X : ; END_VAR {end}", 'expected a type after ":", not ";"')
+        self.syntax(f"{head} EC_TRANSITIONS X TO Y := ; END_TRANSITIONS {end}", 'expected a condition after ":=", not ";"')
+        self.syntax(f"{head} ALGORITM X IN ST END_ALGORITHM {end}", "expected a section or END_FUNCTION_BLOCK after A, not ALGORITM; did you mean ALGORITHM?")
+        self.syntax(f"{head}\nEND_FUNCTION_BLOK", ["expected a section or END_FUNCTION_BLOCK after A; did you mean END_FUNCTION_BLOCK?"])
+        self.syntax(f"{head} ALGORITHM X IN ST A = 1; END_ALGORITHM {end}", 'expected ":=" after A, not "="')
+        self.syntax(f"{head} ALGORITHM X IN ST A := ABS(1); END_ALGORITHM {end}", "ABS can't be called: this language has no functions")
+        self.syntax(f"{head} ALGORITHM X IN ST A := 1 +; END_ALGORITHM {end}", 'expected a value after "+", not ";"')
+
+    def test_what_is_not_closed(self):
+        head, end = "FUNCTION_BLOCK A ", " END_FUNCTION_BLOCK"
+        self.syntax(f"{head} VAR X : INT; EVENT_INPUT END_EVENT {end}", "the VAR in line 1 is not closed: END_VAR is missing")
+        self.syntax(f"{head} ALGORITHM X IN ST\nWHILE 1 DO\n ; END_ALGORITHM {end}", "the WHILE in line 2 is not closed: END_WHILE is missing")
+        self.syntax(f"{head} ALGORITHM X IN ST IF 1 THEN END_FOR; END_IF END_ALGORITHM {end}", "END_FOR ends nothing here: open is the IF in line 1")
+        self.syntax(f"{head} SUBAPPS END_SUBAPPS {end}", "SUBAPPS is no part of the FUNCTION_BLOCK in line 1")
+        self.syntax("SYSTEM A APPLICATION B", "the text ends too early, behind B: END_APPLICATION is missing, for the APPLICATION in line 1")
+        self.syntax("SYSTEM A\nEND_SYSTEM X", "nothing can follow END_SYSTEM: the unit ends in line 2")
+        self.syntax("SYSTEM A ADAPTER B END_ADAPTER", "a file holds one unit, and the SYSTEM in line 1 is not closed: END_SYSTEM is missing")
+
+    def test_further_places(self):
+        text = "FUNCTION_BLOCK A VAR X INT; END_VAR EVENT_INPUT 5; END_EVENT VAR_INPUT Y : INT END_VAR END_FUNCTION_BLOCK"
+        told = ['expected ":" after X, not INT', "expected a name or END_EVENT after EVENT_INPUT, not 5", 'expected ";" after INT']
+        self.syntax(text, told)
+
+    def test_xml(self):
+        for text in ("<?xml version='1.0'?>", "\ufeff<FBType/>", "\n <FBType/>"):
+            self.assertTrue(Explainer(text).explain(Fault("SYNTAX", 0, 1)).startswith("this is XML (IEC 61499-2), which bench61499 does not read"))
 
     def test_a_code_of_later_days(self):
         self.check("NEW_RULE", "SYSTEM ¦A¦", "A breaks the rule NEW_RULE")
 
 
-class TokensTest(unittest.TestCase):
+class TokensTest(TestCase):
     def words(self, text):
         return [token.words for token in tokens(text)]
 

@@ -7,8 +7,8 @@ from pathlib import Path
 from editing import Editor, LspTest
 
 from bench61499 import Places
-from declarations import PARTS
-from positions import edited, place, position
+from bench61499.language.declarations import PARTS
+from bench61499.language.positions import edited, place, position
 
 
 GAUGES = """\
@@ -521,7 +521,7 @@ class TextsTest(ConveyorTest):
 
     def test_layout(self):
         text = "FUNCTION_BLOCK  A\nEVENT_INPUT E WITH X ;END_EVENT\n\n\n\nVAR_INPUT X:INT:=- 5; // as it is   \nEND_VAR\nEND_FUNCTION_BLOCK"
-        laid_out = "FUNCTION_BLOCK A\n  EVENT_INPUT E WITH X; END_EVENT\n\n  VAR_INPUT X: INT := -5; // as it is\n  END_VAR\nEND_FUNCTION_BLOCK\n"
+        laid_out = "FUNCTION_BLOCK A\n  EVENT_INPUT E WITH X; END_EVENT\n\n  VAR_INPUT X : INT := -5; // as it is\n  END_VAR\nEND_FUNCTION_BLOCK\n"
         file = self.write("a.fb", text)
         self.server.open(file)
         options = {"tabSize": 8, "insertSpaces": False}

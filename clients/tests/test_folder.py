@@ -7,8 +7,8 @@ import unittest
 
 from support import InFolder, locked
 
-from folder import Folder
-from units import Misuse
+from bench61499.language.folder import Folder
+from bench61499.language.units import Misuse, read_units
 
 A, B = "FUNCTION_BLOCK A END_FUNCTION_BLOCK", "ADAPTER B END_ADAPTER"
 
@@ -45,6 +45,18 @@ class FolderTest(InFolder):
         folder = Folder([self.write("a.fb", A), self.write("other.txt", B)])
         self.assertEqual((folder.look(), self.names(folder)), (True, {"A": "a.fb", "B": "other.txt"}))
         self.write("b.fb", B)
+        self.assertFalse(folder.look())
+
+    def test_hidden_folders_and_capitals(self):
+        text = self.write("a.fb", "FUNCTION_BLOCK A END_FUNCTION_BLOCK").read_text()
+        for hidden in (".history/a_20261127.fb", ".git/a.fb", "inner/.fb"):
+            self.write(hidden, text)
+        self.write("B.FB", "ADAPTER B END_ADAPTER")
+        self.assertEqual([unit.name for unit in read_units([self.folder])], ["B", "A"])
+        folder = Folder([self.folder])
+        folder.look()
+        self.assertEqual((self.names(folder), folder.problems), ({"A": "a.fb", "B": "B.FB"}, ()))
+        self.write(".history/c.fb", "ADAPTER C END_ADAPTER")
         self.assertFalse(folder.look())
 
     def test_two_files_of_one_unit(self) -> None:

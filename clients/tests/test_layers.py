@@ -4,14 +4,14 @@ from __future__ import annotations
 import random
 import unittest
 
-from support import CLIENTS  # noqa: F401
+from support import TestCase
 
-from layers import Gaps, layered
+from bench61499.language.layers import Gaps, layered
 
 GAPS = Gaps(across=50, down=10, unbroken=150)
 
 
-class LayoutTest(unittest.TestCase):
+class LayoutTest(TestCase):
     def laid_out(self, sizes, edges, aspect=1.25):
         """The rectangles as left, top, right and bottom, once they are found to be apart and inside."""
         layout = layered(sizes, edges, aspect, GAPS)

@@ -5,8 +5,8 @@ from generated import at_tokens, checked, faults_of, faulty_libraries, so_many
 from support import CONVEYOR, workbench
 
 from bench61499 import Session
-from layout import applied, formatted
-from tokens import pieces, tokens
+from bench61499.language.layout import applied, formatted
+from bench61499.language.tokens import pieces, tokens
 
 
 def laid_out(text: str) -> str:

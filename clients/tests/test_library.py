@@ -1,13 +1,14 @@
 """The library: places, batches, answers, sessions and what can go wrong with them."""
 import json
+import time
 import unittest
 
-from support import GREETING, InFolder, answering, free_port, serving, workbench
+from support import GREETING, InFolder, answering, free_port, hosting, serving, workbench
 
 from bench61499 import (
-    CHANGES_LIMIT, LINE_LIMIT, TEXT_LIMIT, BadReply, Blocked, Block, Border, ConnectionEnded, Fault, Faulty, Flat, Link, Misplaced, NoAnswer,
-    NoSuchKey, NoSuchUnit, NoWorkbench, Places, Plan, Put, Recursive, Refused, Remove, RequestTooLong, Resource, Session, StaleBase, Stopped,
-    TooLarge, batches,
+    CHANGES_LIMIT, LINE_LIMIT, TEXT_LIMIT, BadReply, Blocked, Block, Border, Change, ConnectionEnded, Fault, Faulty, Flat, HistoryFull, Link,
+    Misplaced, NoAnswer, NoSeat, NoSuchKey, NoSuchUnit, NotLetIn, NoWorkbench, Places, Plan, Put, Recursive, Refused, Remove, RequestTooLong, Resource,
+    Session, StaleBase, Stopped, TooLarge, batches, pauses,
 )
 
 A = "FUNCTION_BLOCK A EVENT_INPUT E WITH X; END_EVENT END_FUNCTION_BLOCK"
@@ -93,7 +94,7 @@ class SessionTest(unittest.TestCase):
     def test_faults(self):
         self.assertEqual(self.session.commit([Put("a", 0, A)]), 1)
         self.assertIsNone(self.session.faults("A"))
-        results = []
+        results: list[int] = []
         self.assertEqual(self.session.settle(results.append), {"A": (Fault("WITH_UNKNOWN", 36, 37),)})
         self.assertEqual(results, [1])
         self.assertEqual(self.session.revisions, {"A": 1})
@@ -131,7 +132,7 @@ class SessionTest(unittest.TestCase):
             # One call for each 16 units, and one more for each that has changed.
             self.assertEqual(short.changed(dict.fromkeys(("A", "B", "C"), 7) | {f"U{at}": 0 for at in range(14)}), {"A": 0, "B": 0, "C": 0})
             short.revision("A")
-            self.assertRaisesRegex(Refused, "recorded as many calls", short.revision, "A")
+            self.assertRaisesRegex(Refused, "history of the workbench is full", short.revision, "A")
 
     def test_changed_in_other_cases(self):
         self.session.commit([Put("a", 0, A), Put("b", 0, A)])
@@ -170,13 +171,14 @@ class SessionTest(unittest.TestCase):
                 session.checkpoint(1, 9)
 
     def test_refusals(self):
-        for changes, refusal in (
+        cases: list[tuple[list[Change], str]] = [
             ([], "NoChange"),
             ([Put("A", 0, "")] * 2, "SameUnitTwice"),
             ([Put("9A", 0, "")], "BadName"),
             ([Put("A", 0, "x" * (TEXT_LIMIT + 1))], "TextTooLong"),
             ([Remove("A", 0)], "NoSuchUnit"),
-        ):
+        ]
+        for changes, refusal in cases:
             with self.assertRaises(Refused) as caught:
                 self.session.commit(changes)
             self.assertEqual(caught.exception.refusal, refusal)
@@ -261,7 +263,7 @@ class TroubleTest(InFolder):
                 self.assertEqual(caught.exception.line, reply)
 
     def test_a_server_that_does_not_answer(self):
-        with answering(b"") as port, self.assertRaisesRegex(NoAnswer, "within 0.1 seconds: it is busy, or it has had as many sessions as"):
+        with answering(b"") as port, self.assertRaisesRegex(NoAnswer, "within 0.1 seconds: it is busy, or all sessions"):
             Session.connect("127.0.0.1", port, timeout=0.1)
         with answering(GREETING, b"") as port, Session.connect("127.0.0.1", port, timeout=0.1) as session:
             self.assertRaises(NoAnswer, session.work, 1)
@@ -271,10 +273,70 @@ class TroubleTest(InFolder):
             Session.connect("127.0.0.1", port)
 
 
+class HostTest(InFolder):
+    """Sessions of a host, which come and go."""
+
+    def test_a_secret(self):
+        secret = self.write("secret", "open sesame\nthis is not it\n")
+        with hosting("--secret", str(secret)) as port:
+            with Session.connect("127.0.0.1", port, secret="open sesame") as session:
+                self.assertEqual(session.commit([Put("A", 0, A)]), 1)
+            for wrong, why in ("sesame", "the secret may be wrong"), (None, "it may want a secret"):
+                with self.assertRaisesRegex(NotLetIn, f"the workbench at 127.0.0.1:{port} hung up before it answered: {why}"):
+                    Session.connect("127.0.0.1", port, secret=wrong)
+
+    def test_a_secret_that_nobody_asks_for(self):
+        with hosting() as port, Session.connect("127.0.0.1", port, secret="open sesame") as session:
+            self.assertEqual(session.commit([Put("A", 0, A)]), 1)
+            self.assertEqual(session.revision("A"), 1)
+
+    def test_all_sessions_are_in_use(self):
+        with hosting("--sessions", "1") as port:
+            with Session.connect("127.0.0.1", port):
+                for secret in (None, "open sesame"):
+                    with self.assertRaisesRegex(NoSeat, "^all sessions of the workbench are in use$"):
+                        Session.connect("127.0.0.1", port, secret=secret)
+            with self.once_free(port) as session:
+                self.assertEqual(session.revision("A"), 0)
+
+    def once_free(self, port: int) -> Session:
+        """The seat is free a moment after its session has ended."""
+        for _ in range(200):
+            try:
+                return Session.connect("127.0.0.1", port)
+            except NoSeat:
+                time.sleep(0.05)
+        raise AssertionError("the seat stays taken")
+
+    def test_pauses(self):
+        its = pauses()
+        self.assertEqual([next(its) for _ in range(6)], [1, 2, 4, 8, 15, 15])
+
+
+class PresentTest(unittest.TestCase):
+    """What a workbench has, of which nothing is known, in few recorded calls."""
+
+    def test_units_that_came_by_one_commit(self):
+        units = [f"U{at}" for at in range(15)]
+        with Session.script(workbench(), history=9) as session:
+            session.commit([Put(unit, 0, "") for unit in units])
+            session.commit([Put("U3", 1, "x"), Put("U9", 1, "x")])
+            session.checkpoint(99, 6)
+            self.assertEqual(session.present(["u99", *units]), {"U99": 0, **dict.fromkeys(units, 1), "U3": 2, "U9": 2})
+            with self.assertRaises(HistoryFull):
+                session.revision("U1")
+
+    def test_units_that_are_not_there(self):
+        with Session.script(workbench(), history=2) as session:
+            self.assertEqual(session.present([f"U{at}" for at in range(32)]), dict.fromkeys((f"U{at}" for at in range(32)), 0))
+            with self.assertRaises(HistoryFull):
+                session.revision("U1")
+
+
 class ServerTest(unittest.TestCase):
     def test_two_sessions(self):
         with serving(sessions=2) as port, Session.connect("127.0.0.1", port) as one, Session.connect("127.0.0.1", port) as other:
-            with self.assertRaisesRegex((NoWorkbench, NoAnswer), "or it has had as many sessions as it was started for"):
+            with self.assertRaisesRegex((NoWorkbench, NoAnswer), "sessions"):
                 Session.connect("127.0.0.1", port, timeout=0.2)
             one.commit([Put("A", 0, A)])
             self.assertEqual(other.revision("A"), 1)

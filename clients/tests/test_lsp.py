@@ -5,15 +5,20 @@ import math
 import os
 import threading
 import unittest
+from pathlib import Path
 
 from editing import LspTest
 from support import InFolder, free_port, serving, workbench
 
 from bench61499 import Session
-from checking import Checking
-from positions import edited
+from bench61499.language.positions import edited
+from bench61499.lsp.checking import Checking
+from bench61499.lsp.server import Server
 
 GOOD = "FUNCTION_BLOCK A END_FUNCTION_BLOCK"
+REASONS = [
+    ("BELT is declared here", ("STATION.fb", 7)), ("FEEDER is declared here", ("FEEDER.fb", 1)), ("the first BELT is declared here", ("STATION.fb", 7)),
+]
 BAD = "FUNCTION_BLOCK A EVENT_INPUT E WITH X; END_EVENT END_FUNCTION_BLOCK"
 
 
@@ -60,6 +65,74 @@ class LifeTest(LspTest):
         editor.notify("textDocument/didOpen")
         self.assertIn("textDocument/didOpen makes no sense", editor.await_message())
         self.assertEqual(editor.request("shutdown")["result"], None)
+
+
+    def test_a_request_that_is_cancelled(self):
+        """It counts before the messages that came before it, as far as these were not handled yet."""
+        sent: list[dict] = []
+        server = Server(lambda: Session.script(workbench()), False, sent.append, lambda: None)
+        server.handle({"id": 1, "method": "initialize", "params": {}})
+        request = {"id": 2, "method": "textDocument/hover", "params": {}}
+        self.assertTrue(server.receive(request))
+        for params in ({"id": 2}, {"id": 7}, {"id": [2]}, [], None):
+            self.assertFalse(server.receive({"method": "$/cancelRequest", "params": params}))
+        server.handle(request)
+        self.assertEqual(sent[-1]["error"]["code"], -32800)
+        self.assertTrue(server.receive(request))
+        server.handle(request)
+        self.assertEqual((sent[-1]["id"], sent[-1]["error"]["code"]), (2, -32602))
+        editor = self.started()
+        editor.notify("$/cancelRequest", id=1)
+        self.assertEqual(editor.request("shutdown")["result"], None)
+
+
+class FolderTest(LspTest):
+    """Units that are not open."""
+
+    def test_their_faults_are_shown(self):
+        self.copy_conveyor()
+        lifter = self.folder / "LIFTER.fb"
+        editor = self.started()
+        editor.open(lifter)
+        editor.await_codes(LIFTER=[])
+        editor.change(lifter, lifter.read_text().replace("EVENT_INPUT STOP", "EVENT_INPUT HALT").replace(":= STOP", ":= HALT"))
+        editor.await_codes(STATION=["PORT_UNKNOWN"], LIFTER=[])
+        editor.shut(lifter)
+        editor.await_codes(STATION=[])
+
+    def test_files_that_the_editor_watches(self):
+        self.copy_conveyor()
+        lifter, plant = self.folder / "LIFTER.fb", self.folder / "PLANT.fb"
+        editor = self.editor()
+        editor.start(self.folder, {"workspace": {"didChangeWatchedFiles": {"dynamicRegistration": True}}})
+        while (message := editor.read()).get("method") != "client/registerCapability":
+            pass
+        (registration,) = message["params"]["registrations"]
+        self.assertEqual((registration["method"], registration["registerOptions"]), ("workspace/didChangeWatchedFiles", {"watchers": [{"globPattern": "**/*.{fb,FB}"}]}))
+        editor.send({"id": message["id"], "result": None})
+        editor.open(plant)
+        editor.await_codes(PLANT=[])
+        lifter.write_text("FUNCTION_BLOCK")
+        editor.notify("workspace/didChangeWatchedFiles", changes=[{"uri": lifter.as_uri(), "type": 2}])
+        editor.await_codes(LIFTER=["SYNTAX"], STATION=["UNKNOWN_TYPE"])
+        lifter.unlink()
+        editor.notify("workspace/didChangeWatchedFiles", changes=[{"uri": lifter.as_uri(), "type": 3}])
+        editor.await_codes(LIFTER=[])
+
+    def test_where_the_reason_is(self):
+        self.copy_conveyor()
+        station = self.folder / "STATION.fb"
+        text = station.read_text().replace("TO BELT.START", "TO BELT.STRAT").replace("LIFT : LIFTER;", "LIFT : LIFTER; BELT : LAMP;")
+        cases: list[tuple[bool, list]] = [(True, REASONS), (False, [])]
+        for capability, expected in cases:
+            editor = self.editor()
+            editor.start(self.folder, {"textDocument": {"publishDiagnostics": {"relatedInformation": capability}}})
+            editor.open(station, text)
+            editor.await_codes(STATION=["DUPLICATE", "PORT_UNKNOWN"])
+            its = [more for it in editor.shown["STATION.fb"] for more in it.get("relatedInformation", [])]
+            self.assertEqual(sorted(it["message"] for it in its), [words for words, _ in expected])
+            places = [(Path(it["location"]["uri"]).name, it["location"]["range"]["start"]["line"]) for it in sorted(its, key=lambda it: it["message"])]
+            self.assertEqual(places, [place for _, place in expected])
 
 
 class DocumentsTest(LspTest):
@@ -243,7 +316,11 @@ class TroubleTest(LspTest):
         file = self.write("a.fb", GOOD)
         editor.open(file)
         self.assertEqual(editor.ask("documentSymbol", file)[0]["name"], "A")
-        self.assertRegex(editor.await_message(), "^bench61499: no workbench at .*: nobody serves there, or .* The next save tries again.$")
+        self.assertRegex(editor.await_message(), "^bench61499: no workbench at .*: connection refused, .*; trying again$")
+        while "a.fb" not in editor.shown:
+            editor.read()
+        self.assertRegex(editor.shown["a.fb"][0]["message"], "^not checked: no workbench at .*; trying again$")
+        self.assertEqual(editor.shown["a.fb"][0]["severity"], 3)
         self.assertEqual(editor.request("shutdown")["result"], None)
 
     def test_a_workbench_that_dies_and_comes_again(self):
@@ -256,29 +333,12 @@ sys.stdin.readline()"""
         editor.start(self.folder)
         file = self.write("a.fb", BAD)
         editor.open(file)
-        self.assertRegex(editor.await_message(), r"the workbench ended before it answered \(status 0\). The next save starts afresh.")
+        self.assertRegex(editor.await_message(), r"the workbench ended before it answered \(status 0\). save to try again")
         editor.save(file)
         editor.await_codes(a=["WITH_UNKNOWN"])
 
 
 class SharedTest(LspTest):
-    def test_two_editors(self):
-        file = self.write("a.fb", GOOD)
-        with serving(sessions=2) as port:
-            one, other = self.editor("--connect", f":{port}"), self.editor("--connect", f":{port}")
-            one.start(self.folder)
-            one.open(file)
-            one.await_codes(a=[])
-            other.start(self.folder)
-            other.open(file, BAD)
-            other.await_codes(a=["WITH_UNKNOWN"])
-            self.assertRegex(other.await_message(), "The workbench has A already, at revision 1. The text in this editor replaces it.")
-            one.change(file, GOOD + " ")
-            one.await_codes(a=[])
-            self.assertRegex(one.await_message(), "A was changed by somebody else, at revision 2. The text in this editor replaces that")
-            one.close()
-            other.close()
-
     def test_a_rename_is_one_commit(self):
         """Though the editor sends the change of one unit some time before that of the other."""
         self.copy_conveyor()
@@ -299,22 +359,6 @@ class SharedTest(LspTest):
             self.assertEqual(other.revision("FEEDER"), other.revision("STATION"))
             self.assertGreater(other.revision("FEEDER"), other.revision("LIFTER"))
             editor.close()
-
-    def test_what_others_put_is_not_shown_here(self):
-        file = self.write("a.fb", GOOD)
-        with serving(sessions=2) as port:
-            one, other = self.editor("--connect", f":{port}"), self.editor("--connect", f":{port}")
-            one.start(self.folder)
-            one.open(file)
-            one.await_codes(a=[])
-            other.start(self.folder)
-            other.open(file, BAD)
-            other.await_codes(a=["WITH_UNKNOWN"])
-            # Some seconds later the other's faults are there; their places mean nothing in this text.
-            self.assertRegex(one.await_message(), "A was changed by somebody else, at revision 2. Its faults are not shown until you change it")
-            self.assertEqual(one.codes("a.fb"), [])
-            one.close()
-            other.close()
 
 
 if __name__ == "__main__":

@@ -40,7 +40,7 @@ class PlanTest(InFolder):
         self.assertIn("PLANT has no resource NORTH.SCREEN; it has NORTH.MOTION", self.told(2, "PLANT", "--resource", "NORTH.SCREEN"))
 
     def test_no_plan(self) -> None:
-        self.assertEqual(self.told(1, "STATION"), "plan: STATION is no system of the workbench\n")
+        self.assertEqual(self.told(1, "STATION"), "plan: STATION is a subapplication; only systems have plans\n")
         self.edit("PLANT.fb", "LINE.PANEL ON SOUTH.SCREEN;", "LINE.LAMP ON SOUTH.SCREEN;")
         wanted = "plan: PLANT has no plan:\n  no mapping gives LINE.PANEL a resource\n  a mapping is of LINE.LAMP, which is not there\n"
         self.assertEqual(self.told(1, "PLANT"), wanted)
@@ -52,7 +52,7 @@ class PlanTest(InFolder):
         wanted = "plan: PLANT has no plan, as its text has a SYNTAX fault; check shows it\n"
         self.assertEqual(self.told(1, "PLANT"), wanted)
         with serving(sessions=2) as port:
-            run("check", ".", "--connect", f":{port}", folder=self.folder)
+            run("check", ".", "--connect", f":{port}", "--replace", folder=self.folder)
             self.assertEqual(run("plan", "PLANT", "--connect", f":{port}").stderr, wanted)
 
     def test_a_system_without_resources(self) -> None:
@@ -69,7 +69,7 @@ class PlanTest(InFolder):
 
     def test_units_that_are_in_the_workbench(self) -> None:
         with serving(sessions=2) as port:
-            self.assertEqual(run("check", ".", "--connect", f":{port}", folder=self.folder).returncode, 0)
+            self.assertEqual(run("check", ".", "--connect", f":{port}", "--replace", folder=self.folder).returncode, 0)
             ran = run("plan", "PLANT", "--resource", "SOUTH.SCREEN", "--connect", f":{port}")
         self.assertEqual(ran.stdout, SCREEN)
 

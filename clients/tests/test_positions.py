@@ -2,15 +2,15 @@
 import random
 import unittest
 
-from support import CLIENTS  # noqa: F401 (it finds the modules under test)
+from support import TestCase
 
 from bench61499 import Places
-from positions import changed, place, position, sound
+from bench61499.language.positions import changed, place, position, sound
 
 CHARACTERS = ["a", ";", "ä", "€", "𝄞", "\n", "\r\n", "\r", " "]
 
 
-class PositionsTest(unittest.TestCase):
+class PositionsTest(TestCase):
     def test_there_and_back(self):
         text = "a€\r\n𝄞b\rc\n"
         expected = [(0, 0), (0, 1), (0, 2), (1, 0), (1, 2), (1, 3), (2, 0), (2, 1), (3, 0)]

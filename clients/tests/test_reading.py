@@ -15,10 +15,10 @@ from structures import structured_libraries
 from support import InFolder
 
 from bench61499 import NoWorkbench
-from declarations import TYPE, Key, Use
-from plant import Plant, Text
-from reader import read
-from server import Server
+from bench61499.language.declarations import TYPE, Key, Use
+from bench61499.language.plant import Plant, Text
+from bench61499.language.reader import read
+from bench61499.lsp.server import Server
 
 LIBRARIES = 6
 PAST = -math.inf
@@ -71,7 +71,7 @@ class PlantTest(unittest.TestCase):
         plant = plant_of({name: block % name for name in ("B", "C", "D")})
         plant.until = PAST
         key = Key("A", TYPE, "", "A")
-        with patch("plant.LEAST_READ", -1):
+        with patch("bench61499.language.plant.LEAST_READ", -1):
             self.assertEqual((uses(plant, key), plant.missed), ([], True))
             plant.refresh(PAST)
             self.assertEqual(len(uses(plant, key)), 1)
@@ -80,6 +80,15 @@ class PlantTest(unittest.TestCase):
         plant.refresh()
         self.assertEqual(len(uses(plant, key)), 3)
         self.assertFalse(plant.missed)
+
+    def test_tables_for_words_last_until_a_text_changes(self):
+        plant = plant_of({"A": "FUNCTION_BLOCK A VAR LEVEL : INT; END_VAR END_FUNCTION_BLOCK"})
+        known = plant.known
+        self.assertEqual((known.names(plant.unit("A"), "VAR").near("LEVLE"), known.units("FUNCTION_BLOCK").near("B")), ("LEVEL", None))
+        plant.put(Path("/plant/A.fb"), "FUNCTION_BLOCK A VAR LEVEL : INT; END_VAR END_FUNCTION_BLOCK")
+        self.assertIs(plant.known, known)
+        plant.put(Path("/plant/A.fb"), "FUNCTION_BLOCK A VAR LEAVE : INT; END_VAR END_FUNCTION_BLOCK")
+        self.assertEqual(plant.known.names(plant.unit("A"), "VAR").near("LEVLE"), "LEAVE")
 
     def test_a_text_that_stays(self):
         """A text that is put again as it is isn't read again; one that goes is not found any more."""
@@ -101,8 +110,8 @@ class AnswersTest(InFolder):
         self.sent: list[dict] = []
         self.server = Server(self.no_workbench, False, self.sent.append, lambda: None)
         self.addCleanup(self.server.close)
-        for what, value in (("answers.PATIENCE", PAST), ("plant.LEAST_READ", -1), ("checking.LEAST_FILES", 1)):
-            hurry = patch(what, value)
+        for what, value in (("lsp.answers.PATIENCE", PAST), ("language.plant.LEAST_READ", -1), ("lsp.sources.LEAST_FILES", 1)):
+            hurry = patch(f"bench61499.{what}", value)
             hurry.start()
             self.addCleanup(hurry.stop)
         self.ask("initialize", rootUri=self.folder.as_uri())
@@ -145,7 +154,7 @@ class AnswersTest(InFolder):
         self.assertEqual(self.told(), [])
 
     def test_all_names_are_there_before_the_texts_are_read(self):
-        with patch("plant.Plant.refresh"):
+        with patch("bench61499.language.plant.Plant.refresh"):
             for _ in range(9):
                 self.server.step()
         self.assertEqual(self.server._checking.plant.counts(), (0, 8))

@@ -8,11 +8,11 @@ from generated import Library, at_tokens, checked, faults_of
 from support import workbench
 
 from bench61499 import Session
-from declarations import NAMELESS, TYPE
-from navigation import Found
-from plant import Plant
-from positions import edited
-from rename import CantRename, renamed
+from bench61499.language.declarations import NAMELESS, TYPE
+from bench61499.language.plant import Plant
+from bench61499.language.positions import edited
+from bench61499.lsp.navigation import Found
+from bench61499.lsp.rename import CantRename, renamed
 
 NEW = "Renamed_1"
 RENAMES = 250
@@ -21,7 +21,7 @@ RENAMES = 250
 class FaultsTest(unittest.TestCase):
     def test_the_same_faults(self):
         """A name that is new everywhere: the same codes at the same tokens of all units, whatever faults they have."""
-        chance, spaces = random.Random(1), Counter()
+        chance, spaces = random.Random(1), Counter[str]()
         libraries = [it for it in checked() if not any("NAME_DIFFERS" in it.codes(name) for name in it.texts)]
         with Session.script(workbench()) as session:
             while spaces.total() < RENAMES:

@@ -5,33 +5,34 @@ import random
 import unittest
 from collections import Counter
 from collections.abc import Iterator
-from itertools import islice
+from itertools import chain, islice
 from pathlib import Path
 
 from editing import Editor, LspTest
-from generated import at_tokens, faults_of
+from generated import at_tokens, faults_of, faulty_libraries
 from structures import judges_fields, reads_structures, structured_libraries
 from support import workbench
 from test_rename import file_of, some_name
 
 from bench61499 import Fault, Places, Session
-from board_state import Row, Source
-from board_views import row_view
-from board_watch import Mentions
-from completion import candidates
-from declarations import FIELD, INSTANCE, TYPE, VARIABLE, Key, is_elementary, type_of_data, type_with_fields
-from explain import Explainer, Names
-from fixes import fixes
-from highlight import TOKEN_TYPES, semantic_tokens
-from hover import described
-from layout import applied, formatted
-from navigation import name_at
-from plant import Plant, Text
-from positions import edited, place, position
-from reader import ports, read
-from rename import CantRename, renamed
-from tokens import tokens
-from units import read_units
+from bench61499.board.state import Row, Source
+from bench61499.board.views import row_view
+from bench61499.language.mentions import Mentions
+from bench61499.language.declarations import FIELD, INSTANCE, TYPE, VARIABLE, Key, is_elementary, type_of_data, type_with_fields
+from bench61499.language.explain import Explainer, Names
+from bench61499.language.layout import applied, formatted
+from bench61499.language.plant import Plant, Text
+from bench61499.language.positions import edited, place, position
+from bench61499.language.reader import ports, read
+from bench61499.language.texts import Texts
+from bench61499.language.tokens import tokens
+from bench61499.language.units import read_units
+from bench61499.lsp.completion import candidates
+from bench61499.lsp.fixes import fixes
+from bench61499.lsp.highlight import TOKEN_TYPES, semantic_tokens
+from bench61499.lsp.hover import described
+from bench61499.lsp.navigation import name_at
+from bench61499.lsp.rename import CantRename, renamed
 
 TEXTS = {
     "TANK": """\
@@ -299,12 +300,12 @@ class LayoutTest(unittest.TestCase):
         for text in (TEXTS["TANK"], "TYPE S : STRUCT\n  F : INT;\nEND_STRUCT\nEND_TYPE\n"):
             self.assertEqual(formatted(text), [])
         text = "TYPE S:\n   STRUCT\nF:INT;\n  G :ARRAY[0..1]OF T:= [ 1,2 ];\n  (* x *)\n  END_STRUCT ;\n  END_TYPE"
-        expected = "TYPE S:\nSTRUCT\n  F: INT;\n  G : ARRAY[0..1] OF T := [1, 2];\n  (* x *)\nEND_STRUCT;\nEND_TYPE\n"
+        expected = "TYPE S :\nSTRUCT\n  F : INT;\n  G : ARRAY [0..1] OF T := [1, 2];\n  (* x *)\nEND_STRUCT;\nEND_TYPE\n"
         self.assertEqual(applied(text, formatted(text)), expected)
 
     def test_references(self):
         text = "FUNCTION_BLOCK V ALGORITHM A IN ST: X [ 0 ] . F.G[ 1 ]:=1; END_ALGORITHM END_FUNCTION_BLOCK\n"
-        expected = "FUNCTION_BLOCK V ALGORITHM A IN ST: X [0].F.G[1] := 1; END_ALGORITHM END_FUNCTION_BLOCK\n"
+        expected = "FUNCTION_BLOCK V ALGORITHM A IN ST: X[0].F.G[1] := 1; END_ALGORITHM END_FUNCTION_BLOCK\n"
         self.assertEqual(applied(text, formatted(text)), expected)
 
 
@@ -358,8 +359,8 @@ class ExplainTest(unittest.TestCase):
         self.check("STRUCT_RECURSIVE", "TYPE ¦S¦ : STRUCT F : S; END_STRUCT END_TYPE", "S contains itself, by the types of its fields")
         self.check("DUPLICATE", "TYPE S : STRUCT F : INT; ¦F¦ : INT; END_STRUCT END_TYPE", "F is declared already among the fields")
         self.check("LITERAL", "TYPE S : STRUCT F : INT := ¦TRUE¦; END_STRUCT END_TYPE", "TRUE is no initial value for the type INT")
-        self.check("SYNTAX", "TYPE S : STRUCT F : INT;¦¦", 'the text ends too early, behind ";": END_TYPE is missing')
-        self.check("SYNTAX", "TYPE S : ¦INT¦; END_TYPE", 'INT can\'t follow ":"')
+        self.check("SYNTAX", "TYPE S : STRUCT F : INT;¦¦", 'the text ends too early, behind ";": END_STRUCT is missing, for the STRUCT in line 1')
+        self.check("SYNTAX", "TYPE S : ¦INT¦; END_TYPE", 'expected STRUCT after ":", not INT')
         self.check("CLASS", "ALGORITHM A IN ST: X[Y[1]].F.G[2] ¦:=¦ 1;", 'the value behind ":=" does not fit the type of X[Y[1]].F.G[2]')
         head = "FUNCTION_BLOCK V VAR LEVEL : S; END_VAR PLUGS FEED : AD; END_PLUGS ALGORITHM R IN ST: "
         for words, meant in (("LEVLE", "; did you mean LEVEL?"), ("FEDE", "; did you mean FEED?"), ("FEED", "")):
@@ -495,7 +496,7 @@ class FaultsTest(OfWorkbenchTest):
                 self.assertEqual(any(it.code == "SYNTAX" for it in faults), is_broken(texts[name]), texts[name])
 
     def test_a_rename_changes_no_fault(self):
-        chance, spaces = random.Random(5), Counter()
+        chance, spaces = random.Random(5), Counter[str]()
         for texts in islice(structured_libraries(5), 150):
             plant, faults = plant_of(texts), faults_of(self.session, texts)
             found = some_name(chance, plant)
@@ -517,10 +518,11 @@ class FaultsTest(OfWorkbenchTest):
                 self.assertEqual(at_tokens(new[name], after[name]), at_tokens(text, before[name]), text)
 
     def test_each_fault_has_an_explanation(self):
-        for texts in islice(structured_libraries(7), 30):
+        for texts in chain(islice(structured_libraries(7), 30), islice(faulty_libraries(7), 30)):
             for name, faults in faults_of(self.session, texts).items():
-                explainer = Explainer(texts[name], Names(texts))
-                self.assertFalse([it for it in faults if "breaks the rule" in explainer.explain(it)])
+                for explainer in (Explainer(texts[name], Names(texts)), Explainer(texts[name], Names(texts), Texts.of(texts))):
+                    told = [explainer.explain(it) for it in faults]
+                    self.assertFalse([words for words in told if "breaks the rule" in words or "\n" in words])
 
 
 def unknown_members(plant: Plant, text: Text) -> Iterator[tuple[int, int]]:
@@ -557,7 +559,8 @@ def is_broken(text: str) -> bool:
 
 def holds(plant: Plant, name: str, inner: str) -> bool:
     """Whether a structure has a field of another one, or a field of a structure that has."""
-    seen, ahead = set(), [name]
+    seen: set[str] = set()
+    ahead = [name]
     while ahead:
         unit = plant.unit(ahead.pop())
         if unit and unit.kind == "TYPE" and not is_broken(text_of(plant, unit.name).text):
@@ -622,9 +625,14 @@ class BoardTest(unittest.TestCase):
         self.assertEqual(row_view(self.row("TANK"))[:2], ["TANK", "TYPE"])
 
     def test_what_a_change_reaches(self):
-        rows = [self.row(name) for name in TEXTS]
-        self.assertEqual(Mentions().reached(["BOUNDS"], rows), {"BOUNDS", "TANK", "METER", "PUMP"})
-        self.assertEqual(Mentions().reached(["METER"], rows), {"METER", "PUMP"})
+        self.assertEqual(Mentions().reached(["BOUNDS"], TEXTS), {"BOUNDS", "TANK", "METER", "PUMP"})
+        self.assertEqual(Mentions().reached(["METER"], TEXTS), {"METER", "PUMP"})
+
+    def test_what_can_reach_a_unit(self):
+        for unit in TEXTS:
+            near = Mentions().near([unit], TEXTS)
+            self.assertEqual({it for it in TEXTS if unit in Mentions().reached([it], TEXTS)} - near, set(), unit)
+        self.assertIn("BOUNDS", Mentions().near(["PUMP"], TEXTS))
 
 
 if __name__ == "__main__":

@@ -1,12 +1,12 @@
 """The tokens of texts."""
 import unittest
 
-import support  # noqa: F401  It puts the modules on the path.
+from support import TestCase
 
-from tokens import pieces
+from bench61499.language.tokens import pieces
 
 
-class TokensTest(unittest.TestCase):
+class TokensTest(TestCase):
     def check(self, text, wanted):
         self.assertEqual([(it.kind, it.words) for it in pieces(text)], wanted)
 

@@ -1,12 +1,14 @@
 //! The program `bench61499`: a workbench for IEC 61499 units that answers requests, one on each line.
 #![tactic(auto)]
 
+use fb_host::{PATIENCE, Terms, host};
 use fb_program::wire::{FromRead, IntoWrite};
-use fb_program::{Outcome, refuse_words};
+use fb_program::{Outcome, refuse_secret, refuse_words, secret_in};
 use fb_serve::{NotServed, Numbers, serve};
 use std::alloc::{AllocError, Global};
 use std::process::ExitCode;
-use std::{env, io};
+use std::sync::Mutex;
+use std::{env, fs, io};
 
 /// How many reads a run may make.
 const TURNS: u64 = 1_000_000_000;
@@ -19,16 +21,16 @@ fn texts<'a>(alloc: Global, words: &'a [String]) -> Result<Vec<&'a str>, AllocEr
     Ok(texts)
 }
 
-fn run(rt: &HostRuntime, words: &[String]) -> Outcome {
+/// How many milliseconds a minute has.
+const MINUTE: u64 = 60_000;
+
+fn run<'a>(rt: &HostRuntime, texts: &'a [&'a str]) -> Outcome<'a> {
     let mut errors = rt.stderr();
-    let Ok(texts) = texts(rt.alloc(), words) else {
-        return Outcome::Ended(refuse_words(io::ErrorKind::OutOfMemory, &mut errors));
-    };
     let mut reader = FromRead::new(rt.stdin());
     let mut writer = IntoWrite::new(rt.stdout());
     fb_program::run(
         rt.alloc(),
-        &texts,
+        texts,
         &mut reader,
         &mut writer,
         &mut errors,
@@ -41,12 +43,27 @@ fn words(rt: &HostRuntime) -> io::Result<Vec<String>> {
     Ok(words?)
 }
 
+/// The bytes of the file of the secret: none where no file is named, or none can be read.
+fn secret_bytes(rt: &HostRuntime, path: Option<&str>) -> Vec<u8> {
+    let bytes = match path {
+        Some(path) => fs::read(rt, path),
+        None => return Vec::new(rt.alloc()),
+    };
+    match bytes {
+        Ok(bytes) => bytes,
+        Err(_) => Vec::new(rt.alloc()),
+    }
+}
+
 fn main(rt: HostRuntime) -> ExitCode {
     let words = match words(&rt) {
         Ok(words) => words,
         Err(error) => return ExitCode::from(refuse_words(error.kind(), &mut rt.stderr())),
     };
-    match run(&rt, &words) {
+    let Ok(texts) = texts(rt.alloc(), &words) else {
+        return ExitCode::from(refuse_words(io::ErrorKind::OutOfMemory, &mut rt.stderr()));
+    };
+    match run(&rt, &texts) {
         Outcome::Ended(status) => ExitCode::from(status),
         Outcome::Serves {
             port,
@@ -62,6 +79,37 @@ fn main(rt: HostRuntime) -> ExitCode {
             let mut writer = IntoWrite::new(rt.stdout());
             let mut errors = rt.stderr();
             match serve(&rt, rt.alloc(), port, numbers, &mut writer, &mut errors) {
+                Ok(_served) => ExitCode::SUCCESS,
+                Err(NotServed) => ExitCode::FAILURE,
+            }
+        }
+        Outcome::Hosts {
+            port,
+            workers,
+            sessions,
+            limits,
+            secret,
+            idle,
+            connections,
+        } => {
+            let terms = Terms {
+                workers,
+                sessions,
+                limits,
+                patience: PATIENCE,
+                idle: idle.saturating_mul(MINUTE),
+                connections,
+            };
+            let bytes = secret_bytes(&rt, secret);
+            let line = secret_in(&bytes).unwrap_or(&[]);
+            if let Some(path) = secret {
+                if line.is_empty() {
+                    return ExitCode::from(refuse_secret(path, &mut rt.stderr()));
+                }
+            }
+            let mut writer = IntoWrite::new(rt.stdout());
+            let errors = Mutex::new(rt.stderr());
+            match host(&rt, rt.alloc(), port, terms, line, &mut writer, &errors) {
                 Ok(_served) => ExitCode::SUCCESS,
                 Err(NotServed) => ExitCode::FAILURE,
             }

@@ -3,6 +3,7 @@ pub mod Empty
 pub mod Showing
 pub mod Marks
 pub mod Founds
+pub mod Headline
 pub mod Renewing
 pub mod Renewals
 pub mod KeysKept

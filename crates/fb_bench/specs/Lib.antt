@@ -1,6 +1,7 @@
 pub mod Records
 pub mod Kept
 pub mod Founds
+pub mod Headline
 pub mod Outcomes
 pub mod Peeks
 pub mod Requests

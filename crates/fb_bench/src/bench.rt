@@ -74,6 +74,7 @@ impl Bench {
     ghost use Rattle.fb_bench.specs.Refusals.{IsFullRefusal};
     ghost use Rattle.fb_bench.specs.Requests.{call_for, reply_in};
     ghost use Rattle.fb_bench.specs.Calls.{Fits};
+    ghost use Rattle.fb_bench.specs.Headline.{LeavesState, ShowsEntry};
     ghost use Rattle.fb_bench.specs.Peeks.{shown_by, is_pending};
     ghost use Rattle.fb_history.specs.Checkpoints.{checking, checkpointed, ChecksAs};
     ghost use Rattle.fb_history.specs.Due.{is_due};
@@ -95,9 +96,10 @@ impl Bench {
         }
     }
 
-    /// What the history begins from.
+    /// What the history begins from. The law of entries (`entries_follow_the_texts`) holds of it.
     pub fn start(&self) -> &Start
-        ensures { result.now ≡ self.now.origin }
+        ensures same { result.now ≡ self.now.origin }
+        ensures begins { IsOrigin result.now }
     {
         self.history.start()
     }
@@ -205,14 +207,22 @@ impl Bench {
         }
     }
 
-    /// What is known of a key.
+    /// What is known of a key: its value, which is what the present texts give from scratch, or that it is pending, if and only if no current result has come
+    /// since the last commit that made or reached it.
+    #[tactic(auto, using(crate::proofs::Headline::leaves_state))]
     pub fn ask(&mut self, caller: u32, key: Key) -> Result<Asked, Refused>
         ensures step { OnOk result (self.new ≡ recorded self.old caller (ToAsk key)) }
         ensures answer { IfOk result
             (λ asked. OfAsk (shown_in asked) ≡ reply_at self.old (ToAsk key)) }
+        ensures shows { IfOk result
+            (λ asked. ShowsEntry self.old (ToAsk key) (OfAsk (shown_in asked))) }
+        ensures refused { IfOk result
+            (λ asked. LeavesState self.old (OfAsk (shown_in asked)) self.new) }
         ensures full { IsFullRefusal self.old.log result }
         ensures err { OnErr result (self.new ≡ self.old) }
     {
+        // That the law of entries holds of what the history begins from.
+        self.begins();
         let (answer, _share) = self.ask_recorded(caller, key)?;
         Ok(answer)
     }
@@ -346,10 +356,13 @@ impl Bench {
 
     /// Changes the texts, or says what is first against it. More than sixteen changes are too many,
     /// and only the first seventeen are recorded then.
+    #[tactic(auto, using(crate::proofs::Headline::leaves_state))]
     pub fn commit(&mut self, caller: u32, changes: &[Change]) -> Result<Committed, Refused>
         ensures step { OnOk result (self.new ≡ recorded self.old caller (commit_of changes.now)) }
         ensures answer { IfOk result
             (λ answer. OfCommit answer ≡ reply_at self.old (commit_of changes.now)) }
+        ensures refused { IfOk result
+            (λ answer. LeavesState self.old (OfCommit answer) self.new) }
         ensures full { IsFullRefusal self.old.log result }
         ensures err { OnErr result (self.new ≡ self.old) }
     {
@@ -414,10 +427,13 @@ impl Bench {
     }
 
     /// Takes a result in, if its key waits for one and all that it has read is as it was.
+    #[tactic(auto, using(crate::proofs::Headline::leaves_state))]
     pub fn deliver(&mut self, caller: u32, finished: &Finished) -> Result<Delivered, Refused>
         ensures step { OnOk result (self.new ≡ recorded self.old caller (ToDeliver finished.now)) }
         ensures answer { IfOk result
             (λ answer. OfDeliver answer ≡ reply_at self.old (ToDeliver finished.now)) }
+        ensures refused { IfOk result
+            (λ answer. LeavesState self.old (OfDeliver answer) self.new) }
         ensures full { IsFullRefusal self.old.log result }
         ensures err { OnErr result (self.new ≡ self.old) }
     {
@@ -521,10 +537,13 @@ impl Bench {
     }
 
     /// Clears the mark that a key is handed out.
+    #[tactic(auto, using(crate::proofs::Headline::leaves_state))]
     pub fn give_back(&mut self, caller: u32, key: Key) -> Result<GivenBack, Refused>
         ensures step { OnOk result (self.new ≡ recorded self.old caller (ToGiveBack key)) }
         ensures answer { IfOk result
             (λ answer. OfGiveBack answer ≡ reply_at self.old (ToGiveBack key)) }
+        ensures refused { IfOk result
+            (λ answer. LeavesState self.old (OfGiveBack answer) self.new) }
         ensures full { IsFullRefusal self.old.log result }
         ensures err { OnErr result (self.new ≡ self.old) }
     {
@@ -629,6 +648,7 @@ impl Bench {
     }
 
     /// Makes any call. It gives a share of the record, and the answer, which is of the call's kind.
+    #[tactic(auto, using(crate::proofs::Headline::leaves_state, crate::proofs::Headline::shows_entry))]
     pub fn perform(
         &mut self,
         caller: u32,
@@ -640,9 +660,14 @@ impl Bench {
         ensures answer { IfOk result
             (λ made. reply_in made.1 ≡ reply_at self.old (call_for request.now)) }
         ensures fits { IfOk result (λ made. Fits (call_for request.now) (reply_in made.1)) }
+        ensures shows { IfOk result
+            (λ made. ShowsEntry self.old (call_for request.now) (reply_in made.1)) }
+        ensures refused { IfOk result (λ made. LeavesState self.old (reply_in made.1) self.new) }
         ensures full { IsFullRefusal self.old.log result }
         ensures err { OnErr result (self.new ≡ self.old) }
     {
+        // That the law of entries holds of what the history begins from.
+        self.begins();
         match request {
             Request::Commit(changes) => {
                 let (answer, share) = self.commit_recorded(caller, *changes)?;
@@ -665,6 +690,12 @@ impl Bench {
                 Ok((share, Answered::Ask(answer)))
             }
         }
+    }
+
+    fn begins(&self)
+        ensures { IsOrigin self.now.origin }
+    {
+        let _history = &self.history;
     }
 
     /// Whether a result is taken in, by what the library has now.

@@ -1,11 +1,14 @@
 -- The index of a workbench, and what changed units reach by it.
-use Rattle.std.specs.Prelude.{◌≡◌, ℕ, Bool, true, false, List, is_some}
+use Rattle.std.specs.Prelude.{◌≡◌, ◌↔◌, ℕ, Bool, true, false, List, is_some}
 use Rattle.fb_index.specs.Indexed.{Indexed, is_indexed, IsIndexedAs}
 use Rattle.fb_index.specs.Near.{NearSome, ReachesSome}
 use Rattle.fb_index.specs.Library.Texts.{Texts, text_at, sources_of}
 use Rattle.fb_index.specs.Library.View.{mentioned_at}
+use Rattle.fb_jobs.specs.declared.key.Key.{Key}
 use Rattle.fb_jobs.specs.declared.key.Kind.{Kind}
+use Rattle.fb_jobs.specs.Keys.{has_key}
 use Rattle.fb_jobs.specs.Kinds.{needs_all}
+use Rattle.fb_jobs.specs.Reach.{reaches}
 
 -- what is indexed of a unit is what it mentions in these texts, and each of their units is indexed
 pub record IsIndexOf (texts : Texts) (index : Indexed) : Type 0 where
@@ -20,3 +23,7 @@ IsReachedFrom index changed true unit = ReachesSome index unit changed
 -- the unit rests on one where keys of the kind need all that their units rest on, otherwise one is near it
 abbrev pub IsReached : Indexed → List (List ℕ) → Kind → List ℕ → Type 0
 IsReached index changed kind unit = IsReachedFrom index changed (needs_all kind) unit
+
+-- of each key of the texts: the changed names reach it if and only if they do by the index
+abbrev pub FindsReached : Texts → Indexed → List (List ℕ) → Type 0
+FindsReached texts index changed = (key : Key) → has_key texts key ≡ true → (reaches changed texts key ≡ true) ↔ IsReached index changed key.kind key.unit

@@ -4,11 +4,13 @@
 mod entries;
 mod entry;
 mod keys;
+mod laws;
 mod reach;
 mod renewal;
 
 pub use entries::{Entries, Found, Marks};
 pub use entry::Entry;
+pub use laws::an_index_finds_what_is_reached;
 pub use renewal::Renewal;
 
 /// Of `fb_parse`, for the crates above.

@@ -11,8 +11,8 @@ use fb_wiring::text::Name;
 use fb_wiring::{Hints, Net, NetsAlone, NoHints};
 use std::alloc::{AllocError, Global};
 
-/// The flat network of a subapplication or a system, or the first reason why it has none: that it rests on units that are absent or have
-/// faults, that it rests on types that reach themselves, that it holds more than 4,096 instances.
+/// The flat network of a subapplication or a system, or the first reason why it has none: units that it rests on have faults, or an absent one is a
+/// part (the absent type of a value blocks nothing); types that it rests on contain themselves; it holds more than 4,096 instances.
 pub fn net<V: View>(alloc: Global, view: &V, unit: Name) -> Result<Net, AllocError>
     requires { HasNet (V.sources view.now) unit }
     ensures is { IfOk result (λ net. IsNet (V.sources view.now) unit (plain_net net)) }

@@ -6,9 +6,9 @@ ghost use Rattle.fb_history.specs.Limits.{Bounds};
 ghost use Rattle.fb_history.specs.Checkpoints.{checkpointed, IsUnseen, AreOne, NumbersGoOn};
 ghost use Rattle.fb_history.specs.Laws.{EntriesFollow, RefusalsStay, ReachAnywhere};
 
-/// After any list of calls, stale and foreign results among them, each entry that is not pending is what the
-/// present texts give from scratch, and it is pending exactly while no current result has come since the last
-/// commit that made or reached its key. A refused call changes no text, no entry and no handed-out mark.
+/// The headline: after any list of commits, questions, takings, returns and worker results from any sessions and workers, stale, repeated and foreign results
+/// included, every entry not pending equals what reading, checking, flattening and mapping the present texts from scratch gives; an entry is pending exactly
+/// while no current result has come since the last commit that reaches it or made its key; and a refused call changes no text or entry, and no handed-out mark.
 pub fn entries_follow_the_texts()
     ensures entries { (origin : Origin) → IsOrigin origin → EntriesFollow origin }
     ensures begins { (most_units : ℕ) → IsOrigin (empty_origin most_units) }

@@ -1,19 +1,23 @@
 -- A search among reads that stand by rising name, and what is found at its end.
-use Rattle.std.proofs.Common.{◌≡◌, ℕ, zero, suc, ◌<◌, false, cond, List, [], ◌∷◌, length, map, get_or, refl, sym, ap, subst, ◌∙◌, arith, Option, Some, None, Result}
+use Rattle.std.proofs.Common.{◌≡◌, ℕ, zero, suc, ◌<◌, false, cond, List, [], ◌∷◌, length, map, get_or, refl, sym, ap, subst, ◌∙◌, arith, Option, Some, None, Result, All}
 use Rattle.std.specs.List.{AllByRecursion}
 use Rattle.std.specs.List.Sorted.{IsStrictlySortedBy, IsSearchInRange, IsBinarySearchResult}
 use Rattle.std.specs.Ordering.{is_eq}
 use Rattle.std.specs.declared.cmp.Ordering.TheVariants.{Less}
 use Rattle.std.proofs.lemmas.Map.Keys.{Less-from_sorted}
 use Rattle.fb_text.specs.Order.{name_cmp}
-use Rattle.std.specs.Option.{option_map}
+use Rattle.std.specs.Option.{MatchOption, option_map}
 use Rattle.std.proofs.lemmas.List.{get_or-map}
+use Rattle.std.proofs.lemmas.List.Elements.{All-get_or}
+use Rattle.std.specs.declared.sync.Arc.{Arc}
+use Rattle.std.specs.declared.alloc.Global.{Global}
 use Rattle.fb_deploy.specs.Library.Texts.{Held, held, text_in, text_at}
+use Rattle.fb_deploy.specs.Parse.Source.{Written}
 use Rattle.fb_deploy.specs.Library.Place.{IsAt, IsGapFor}
 use Rattle.fb_deploy.proofs.Library.Places.{greater}
 use Rattle.fb_deploy.proofs.Library.Searches.{Searched, searched as search_of}
 use Rattle.fb_jobs.specs.Reads.{Seen, read_names, read_texts, put_found}
-use Rattle.fb_jobs.specs.Values.{all_seen, seen_of, found_in}
+use Rattle.fb_jobs.specs.Values.{all_seen, seen_of, found_in, IsOwn}
 use Rattle.fb_jobs.specs.declared.read.Read.{Read}
 use Rattle.fb_jobs.proofs.SameNeeds.{at_itself}
 
@@ -89,3 +93,19 @@ pub text_there : (reads : List Read) (n : List ℕ) (i : ℕ) (r : Read) → IsS
 text_there reads n i r sorted is e =
     let lt : i < length reads = omega (arith, is.in_range, count reads) in
     ap (option_map text_in) (found_at (all_seen reads) n i (seen_of r) sorted is ∙ ap (λ (s : Seen). s.found) (get_or-map seen_of reads i r (seen_of r) lt ∙ ap seen_of (sym e)))
+
+-- the read at the place of a name is of that name
+pub name_there : (reads : List Read) (n : List ℕ) (i : ℕ) (r : Read) → IsAt (names reads) n i → r ≡ get_or reads i r → r.name ≡ n
+name_there reads n i r is e =
+    let lt : i < length reads = omega (arith, is.in_range, count reads) in
+    ap (λ (it : Read). it.name) e
+    ∙ sym (get_or-map (λ (it : Read). it.name) reads i r [] lt)
+    ∙ ap (λ l. get_or l i []) (sym (names_are reads))
+    ∙ is.named
+
+-- and so is its source
+pub own_there : (reads : List Read) (n : List ℕ) (i : ℕ) (r : Read) (source : Arc Written Global) → All IsOwn reads → IsAt (names reads) n i → r ≡ get_or reads i r → r.source ≡ Some source → source.value.unit ≡ n
+own_there reads n i r source own is e some =
+    let lt : i < length reads = omega (arith, is.in_range, count reads) in
+    let owned : IsOwn r = subst IsOwn (sym e) (All-get_or IsOwn reads i r lt own) in
+    subst (λ (o : Option (Arc Written Global)). MatchOption o (r.revision ≡ 0) (λ it. it.value.unit ≡ r.name)) some owned ∙ name_there reads n i r is e

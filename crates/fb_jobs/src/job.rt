@@ -233,8 +233,9 @@ impl Job {
 
     /// The source that was read under a name.
     fn find(&self, name: &Name) -> Option<&Source>
-        ensures { option_map (λ it. it.now.text) result
+        ensures text { option_map (λ it. it.now.text) result
             ≡ text_at (read_texts self.now.reads) name.now }
+        ensures own { IfSome result (λ it. it.now.unit ≡ name.now) }
     {
         match self.place(name) {
             Ok(at) => match &self.reads[at].source {

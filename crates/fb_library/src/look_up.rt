@@ -1,5 +1,5 @@
 //! What can be looked up by name.
-ghost use Rattle.std.specs.Prelude.{◌≡◌};
+ghost use Rattle.std.specs.Prelude.{◌≡◌, IfSome};
 ghost use Rattle.std.specs.Option.{option_map};
 ghost use Rattle.std.specs.FinMap as map;
 ghost use Rattle.fb_parse.specs.Tree.Tree.{decl_tree, type_tree};
@@ -15,7 +15,8 @@ pub trait View {
 
     /// The source of a unit.
     fn get(&self, unit: &Name) -> Option<&Source>
-        ensures { option_map (λ it. it.now.text) result ≡ map.get (sources self.now) unit.now };
+        ensures text { option_map (λ it. it.now.text) result ≡ map.get (sources self.now) unit.now }
+        ensures own { IfSome result (λ it. it.now.unit ≡ unit.now) };
 }
 
 /// The text of a unit, empty where it is absent.

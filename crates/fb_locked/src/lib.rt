@@ -7,12 +7,14 @@ mod locked;
 mod look;
 mod receipts;
 mod resume;
+mod roll;
 mod seat;
 
 pub use close::{CloseFault, Closed, NotClosed};
 pub use locked::{Locked, SharedRefused};
 pub use look::{Look, WorkEnd};
 pub use resume::{NotResumed, ResumeFault};
+pub use roll::rolls_are_unseen;
 pub use seat::{Receipt, Seat};
 
 /// Of `fb_parse`, for the crates above.

@@ -5,9 +5,9 @@ use Rattle.fb_wire.specs.Script.{IsFrontOf, script}
 use Rattle.fb_wire.specs.declared.end.RunEnd.{RunEnd}
 use Rattle.fb_wire.specs.declared.end.RunEnd.TheVariants.{End}
 use Rattle.fb_program.specs.Words.{Asks}
-use Rattle.fb_program.specs.declared.asked.Settings.TheVariants.{Script, Serve}
+use Rattle.fb_program.specs.declared.asked.Settings.TheVariants.{Script, Serve, Host}
 use Rattle.fb_program.specs.declared.program.Outcome.{Outcome}
-use Rattle.fb_program.specs.declared.program.Outcome.TheVariants.{Ended, Serves}
+use Rattle.fb_program.specs.declared.program.Outcome.TheVariants.{Ended, Serves, Hosts}
 
 -- what a new workbench of these limits says to the bytes, to caller 1
 abbrev pub said_to : ℕ → ℕ → List ℕ → List ℕ
@@ -39,4 +39,5 @@ HasSaid words status bytes out =
 -- a script was run, or the words were refused; or they ask for this server, and nothing was done
 abbrev pub HasDone : List (List ℕ) → Outcome → List ℕ → List ℕ → Type 0
 HasDone words (Ended status) bytes out = (status ≤ 2) × HasSaid words status bytes out
+HasDone words (Hosts port workers sessions limits secret idle connections) bytes out = Asks words (Host port workers sessions limits.units limits.history secret idle connections) × DoesNothing bytes out
 HasDone words (Serves port workers sessions limits) bytes out = Asks words (Serve port workers sessions limits.units limits.history) × DoesNothing bytes out

@@ -4,7 +4,7 @@ use Rattle.std.specs.Str.Parse.{digits_value, without_leading_plus}
 use Rattle.clap.specs.Words.{App, Row, Rule, Text, new_app, new_rule, one_of, subcommand_of, with_rule, with_subcommand}
 use Rattle.clap.specs.declared.builder.value_parser.ValueParser.TheVariants as reads
 use Rattle.fb_program.specs.declared.asked.Settings.{Settings}
-use Rattle.fb_program.specs.declared.asked.Settings.TheVariants.{Script, Serve}
+use Rattle.fb_program.specs.declared.asked.Settings.TheVariants.{Script, Serve, Host}
 
 -- an option `--name N` with N from 1 to a most, and its default
 abbrev pub number_option : Text → ℕ → Text → Rule
@@ -30,12 +30,29 @@ serve_app =
     (number_option (codes "sessions") 64 (codes "1"))
     ) units_option) history_option
 
+-- how many minutes, or 0
+abbrev pub idle_option : Rule
+idle_option = record (new_rule (codes "idle")) { long = Some (codes "idle"); parser = Some (reads.Unsigned 0 10080); defaults = codes "0" ∷ [] }
+
+-- `--secret FILE`, which has no default
+abbrev pub secret_option : Rule
+secret_option = record (new_rule (codes "secret")) { long = Some (codes "secret") }
+
+abbrev pub host_app : App
+host_app =
+    with_rule (with_rule (
+    with_rule (with_rule (with_rule (
+    with_rule (with_rule (with_rule (new_app (codes "host")) port_option) (number_option (codes "workers") 16 (codes "2")))
+    (number_option (codes "sessions") 64 (codes "16"))
+    ) units_option) history_option) secret_option) idle_option)
+    (number_option (codes "connections") 1000000000 (codes "1000000000"))
+
 -- the program, of which a subcommand is asked
 abbrev pub named_app : App
 named_app = let a = new_app (codes "bench61499") in record a { top = record a.top { subcommand_required = true } }
 
 abbrev pub bench_app : App
-bench_app = with_subcommand (with_subcommand named_app script_app.top) serve_app.top
+bench_app = with_subcommand (with_subcommand (with_subcommand named_app script_app.top) serve_app.top) host_app.top
 
 -- the number that the matches give an option, which may be its default
 abbrev pub number_of : Text → List Row → Option ℕ
@@ -48,6 +65,7 @@ IsNumberIn least most name rows number = (number_of name rows ≡ Some number) �
 abbrev pub IsScript : List Row → Settings → Type 0
 IsScript rows (Script units history) = IsNumberIn 1 16384 (codes "units") rows units × IsNumberIn 1 10000000 (codes "history") rows history
 IsScript rows (Serve port workers sessions units history) = ⊥
+IsScript rows (Host port workers sessions units history secret idle connections) = ⊥
 
 -- the settings of a server are those of these matches
 abbrev pub IsServe : List Row → Settings → Type 0
@@ -55,12 +73,24 @@ IsServe rows (Script units history) = ⊥
 IsServe rows (Serve port workers sessions units history) =
     IsNumberIn 0 65535 (codes "port") rows port × IsNumberIn 1 16 (codes "workers") rows workers × IsNumberIn 1 64 (codes "sessions") rows sessions
     × IsNumberIn 1 16384 (codes "units") rows units × IsNumberIn 1 10000000 (codes "history") rows history
+IsServe rows (Host port workers sessions units history secret idle connections) = ⊥
+
+-- the settings of a server that stays are those of these matches, but for the name of the file, of which nothing is said
+abbrev pub IsHost : List Row → Settings → Type 0
+IsHost rows (Script units history) = ⊥
+IsHost rows (Serve port workers sessions units history) = ⊥
+IsHost rows (Host port workers sessions units history secret idle connections) =
+    IsNumberIn 0 65535 (codes "port") rows port × IsNumberIn 1 16 (codes "workers") rows workers × IsNumberIn 1 64 (codes "sessions") rows sessions
+    × IsNumberIn 1 16384 (codes "units") rows units × IsNumberIn 1 10000000 (codes "history") rows history
+    × IsNumberIn 0 10080 (codes "idle") rows idle × IsNumberIn 1 1000000000 (codes "connections") rows connections
 
 -- the settings are those of this subcommand and its matches
 abbrev pub IsAsked : Option (Text × List Row) → Settings → Type 0
 IsAsked found (Script units history) = (rows : List Row) × (found ≡ Some (codes "script", rows)) × IsScript rows (Script units history)
 IsAsked found (Serve port workers sessions units history) =
     (rows : List Row) × (found ≡ Some (codes "serve", rows)) × IsServe rows (Serve port workers sessions units history)
+IsAsked found (Host port workers sessions units history secret idle connections) =
+    (rows : List Row) × (found ≡ Some (codes "host", rows)) × IsHost rows (Host port workers sessions units history secret idle connections)
 
 -- The words, of which the first is the program's name, ask for these settings: by the subcommand that they name
 -- and by clap's matches of its options.

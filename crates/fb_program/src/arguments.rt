@@ -1,7 +1,7 @@
 //! The program's words.
 ghost use Rattle.std.specs.Prelude.{◌≡◌, ◌≤◌, List, map, IfOk, IfSome, false, true, codes};
 ghost use Rattle.clap.specs.Words.{app_of, found_of, rows_of, rule_of, subcommand_rows_of};
-ghost use Rattle.fb_program.specs.Words.{IsNumberIn, IsAsked, Asks, IsScript, IsServe, bench_app, number_option, units_option, history_option, port_option};
+ghost use Rattle.fb_program.specs.Words.{IsNumberIn, IsAsked, Asks, IsHost, IsScript, IsServe, bench_app, number_option, units_option, history_option, port_option, idle_option, secret_option};
 
 use crate::asked;
 use clap::builder::ValueParser;
@@ -18,6 +18,11 @@ const MOST_SESSIONS: u64 = 64;
 const MOST_UNITS: u64 = 16_384;
 
 const MOST_HISTORY: u64 = 10_000_000;
+
+/// A week.
+const MOST_IDLE: u64 = 10_080;
+
+const MOST_CONNECTIONS: u64 = 1_000_000_000;
 
 /// An option `--NAME N`, with N from 1 to `most`, and its default.
 fn number_option<'a>(alloc: Global, name: &'a str, most: u64, default: &'a str) -> Arg<'a>
@@ -54,6 +59,23 @@ fn port_option<'a>(alloc: Global) -> Arg<'a>
         .required(true)
 }
 
+fn idle_option<'a>(alloc: Global) -> Arg<'a>
+    ensures rule { rule_of result ≡ idle_option }
+    ensures local { result.global ≡ false }
+{
+    Arg::new(alloc, "idle")
+        .long("idle")
+        .value_parser(ValueParser::unsigned(0, MOST_IDLE))
+        .default_value("0")
+}
+
+fn secret_option<'a>(alloc: Global) -> Arg<'a>
+    ensures rule { rule_of result ≡ secret_option }
+    ensures local { result.global ≡ false }
+{
+    Arg::new(alloc, "secret").long("secret")
+}
+
 fn command<'a>(alloc: Global) -> Result<Command<'a>, AllocError>
     ensures { IfOk result (λ c. app_of c ≡ bench_app) }
 {
@@ -66,10 +88,20 @@ fn command<'a>(alloc: Global) -> Result<Command<'a>, AllocError>
         .arg(number_option(alloc, "sessions", MOST_SESSIONS, "1"))?
         .arg(units_option(alloc))?
         .arg(history_option(alloc))?;
+    let host = Command::new(alloc, "host")
+        .arg(port_option(alloc))?
+        .arg(number_option(alloc, "workers", MOST_WORKERS, "2"))?
+        .arg(number_option(alloc, "sessions", MOST_SESSIONS, "16"))?
+        .arg(units_option(alloc))?
+        .arg(history_option(alloc))?
+        .arg(secret_option(alloc))?
+        .arg(idle_option(alloc))?
+        .arg(number_option(alloc, "connections", MOST_CONNECTIONS, "1000000000"))?;
     let command = Command::new(alloc, "bench61499")
         .subcommand_required(true)
         .subcommand(script)?
-        .subcommand(serve)?;
+        .subcommand(serve)?
+        .subcommand(host)?;
     Ok(command)
 }
 
@@ -85,7 +117,7 @@ fn number_at(matches: &ArgMatches<'_>, name: &str, least: u64, most: u64) -> Opt
     }
 }
 
-fn script_in(matches: &ArgMatches<'_>) -> Option<asked::Settings>
+fn script_in<'a>(matches: &ArgMatches<'a>) -> Option<asked::Settings<'a>>
     ensures { IfSome result (IsScript (rows_of (found_of matches.now))) }
 {
     let units = number_at(matches, "units", 1, MOST_UNITS)?;
@@ -93,7 +125,7 @@ fn script_in(matches: &ArgMatches<'_>) -> Option<asked::Settings>
     Some(asked::Settings::Script { units, history })
 }
 
-fn serve_in(matches: &ArgMatches<'_>) -> Option<asked::Settings>
+fn serve_in<'a>(matches: &ArgMatches<'a>) -> Option<asked::Settings<'a>>
     ensures { IfSome result (IsServe (rows_of (found_of matches.now))) }
 {
     let port = number_at(matches, "port", 0, MOST_PORT)?;
@@ -110,11 +142,36 @@ fn serve_in(matches: &ArgMatches<'_>) -> Option<asked::Settings>
     })
 }
 
-fn asked_in(matches: &ArgMatches<'_>) -> Option<asked::Settings>
+fn host_in<'a>(matches: &ArgMatches<'a>) -> Option<asked::Settings<'a>>
+    ensures { IfSome result (IsHost (rows_of (found_of matches.now))) }
+{
+    let port = number_at(matches, "port", 0, MOST_PORT)?;
+    let workers = number_at(matches, "workers", 1, MOST_WORKERS)?;
+    let seats = number_at(matches, "sessions", 1, MOST_SESSIONS)?;
+    let units = number_at(matches, "units", 1, MOST_UNITS)?;
+    let history = number_at(matches, "history", 1, MOST_HISTORY)?;
+    let idle = number_at(matches, "idle", 0, MOST_IDLE)?;
+    let connections = number_at(matches, "connections", 1, MOST_CONNECTIONS)?;
+    Some(asked::Settings::Host {
+        port: port as u16,
+        workers: workers as u8,
+        sessions: seats as u8,
+        units,
+        history,
+        secret: matches.get_str("secret"),
+        idle,
+        connections,
+    })
+}
+
+fn asked_in<'a>(matches: &ArgMatches<'a>) -> Option<asked::Settings<'a>>
     ensures { IfSome result (λ s. IsAsked (subcommand_rows_of matches.now) s) }
 {
     if let Some(script) = matches.subcommand_matches("script") {
         return script_in(script);
+    }
+    if let Some(host) = matches.subcommand_matches("host") {
+        return host_in(host);
     }
     let serve = matches.subcommand_matches("serve")?;
     serve_in(serve)
@@ -122,7 +179,7 @@ fn asked_in(matches: &ArgMatches<'_>) -> Option<asked::Settings>
 
 /// Reads the program's words, of which the first is its name. A request for help is an error, as in
 /// `clap`.
-pub fn settings<'a>(alloc: Global, words: &'a [&'a str]) -> Result<asked::Settings, Error>
+pub fn settings<'a>(alloc: Global, words: &'a [&'a str]) -> Result<asked::Settings<'a>, Error>
     ensures { IfOk result (λ settings. Asks (map (λ word. word.now) words.now) settings) }
 {
     let mut command = command(alloc)?;

@@ -4,10 +4,12 @@
 mod arguments;
 mod asked;
 mod program;
+mod secret;
 
 pub use arguments::settings;
 pub use asked::Settings;
 pub use program::{Outcome, refuse_words, run};
+pub use secret::{refuse_secret, secret_in};
 
 /// Of `fb_bench`, for the crates above.
 pub mod bench {

@@ -28,7 +28,7 @@ const MISUSED: u8 = 2;
 
 /// What a run comes to.
 #[derive(Clone, Copy)]
-pub enum Outcome {
+pub enum Outcome<'a> {
     /// It is over, with this status of the program.
     Ended(u8),
     /// The words ask for a server, which is still to be run.
@@ -37,6 +37,16 @@ pub enum Outcome {
         workers: u8,
         sessions: u8,
         limits: Limits,
+    },
+    /// The words ask for a server that stays, which is still to be run.
+    Hosts {
+        port: u16,
+        workers: u8,
+        sessions: u8,
+        limits: Limits,
+        secret: Option<&'a str>,
+        idle: u64,
+        connections: u64,
     },
 }
 
@@ -125,14 +135,14 @@ pub fn refuse_words<E: Write>(kind: io::ErrorKind, errors: &mut E) -> u8
 /// Does what the words ask for, if it is a script, says on `errors` what went wrong, and gives the
 /// status of the program. Words that ask for a server are given back as what they ask for, and
 /// nothing is done.
-pub fn run<F: Feed, S: Sink, E: Write>(
+pub fn run<'a, F: Feed, S: Sink, E: Write>(
     alloc: Global,
-    words: &[&str],
+    words: &'a [&'a str],
     reader: &mut F,
     writer: &mut S,
     errors: &mut E,
     turns: u64,
-) -> Outcome
+) -> Outcome<'a>
     requires reader { F.has_failed reader.old ≡ false }
     requires open { F.has_ended reader.old ≡ false }
     requires writer { S.has_failed writer.old ≡ false }
@@ -167,6 +177,29 @@ pub fn run<F: Feed, S: Sink, E: Write>(
                 workers,
                 sessions,
                 limits,
+            },
+            None => unreachable!(),
+        },
+        Ok(
+            Settings::Host {
+                port,
+                workers,
+                sessions,
+                units,
+                history,
+                secret,
+                idle,
+                connections,
+            },
+        ) => match Limits::new(units, history) {
+            Some(limits) => Outcome::Hosts {
+                port,
+                workers,
+                sessions,
+                limits,
+                secret,
+                idle,
+                connections,
             },
             None => unreachable!(),
         },

@@ -6,5 +6,6 @@ mod say;
 mod server;
 mod session;
 
+pub use say::greet;
 pub use server::{NotServed, Numbers, Served, serve, serve_on, serve_sessions};
 pub use session::{Session, run_session};

@@ -8,11 +8,7 @@ use std::alloc::Global;
 use std::net::TcpListener;
 
 /// Tells where the server listens. It fails where this is not known or not written.
-pub(crate) fn greet<S: Sink>(
-    alloc: Global,
-    listener: &TcpListener,
-    out: &mut S,
-) -> Result<(), Failed>
+pub fn greet<S: Sink>(alloc: Global, listener: &TcpListener, out: &mut S) -> Result<(), Failed>
     requires { S.has_failed out.old ≡ false }
     ensures held { (port : ℕ) × (port < 2 ^ 16)
         × WritesAll (S.held out.old) (greeting port) result (S.held out.new) }

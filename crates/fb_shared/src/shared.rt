@@ -6,6 +6,7 @@ ghost use Rattle.fb_locked.specs.Bench.Requests.{call_for, job_of};
 ghost use Rattle.fb_locked.specs.Calls.{Answers, AnswersKept};
 ghost use Rattle.fb_locked.specs.Closing.{IsCloseOf, IsFaultOf, IsLeast};
 ghost use Rattle.fb_locked.specs.Resuming.{is_left_out, IsResumeFault};
+ghost use Rattle.fb_locked.specs.Rolling.{MayReturn};
 ghost use Rattle.fb_locked.specs.Seats.{AreFirstSeats, AreSeatsAt};
 
 use fb_locked::bench::{Answered, Bench, Limits, Request};
@@ -16,11 +17,13 @@ use std::alloc::{AllocError, Global};
 use std::marker::Model;
 use std::sync::{Condvar, Mutex, Wait};
 
-/// A workbench that threads share. Each call holds the lock once. For how many callers seats were made stands beside the lock.
+/// A workbench that threads share. Each call holds the lock once. For how many callers seats were made stands beside the lock, and with which limits
+/// a full history begins anew, if it ever does.
 pub struct Shared {
     pub(crate) state: Mutex<Locked>,
     pub(crate) callers: u32,
     pub(crate) changed: Condvar,
+    pub(crate) rolls: Option<Limits>,
 }
 
 impl Drop for Shared {
@@ -29,6 +32,7 @@ impl Drop for Shared {
             state: _,
             callers: _,
             changed: _,
+            rolls: _,
         } = self;
     }
 }
@@ -56,7 +60,22 @@ impl Shared {
             state: Mutex::new(locked),
             callers,
             changed: Condvar::new(),
+            rolls: None,
         };
+        Ok((shared, seats))
+    }
+
+    /// As `new`, with a history that begins anew where it is full: before each call a full one is made what has led to it, with the same limits.
+    pub fn rolling(
+        alloc: Global,
+        limits: Limits,
+        callers: u32,
+    ) -> Result<(Shared, Vec<Seat>), AllocError>
+        ensures callers { IfOk result (λ made. made.0 ≡ record { callers = callers }) }
+        ensures seats { IfOk result (λ made. AreFirstSeats callers made.1.items) }
+    {
+        let (mut shared, seats) = Shared::new(alloc, limits, callers)?;
+        shared.rolls = Some(limits);
         Ok((shared, seats))
     }
 
@@ -80,11 +99,24 @@ impl Shared {
                     state: Mutex::new(locked),
                     callers,
                     changed: Condvar::new(),
+                    rolls: None,
                 };
                 Ok((shared, seats))
             }
             Err(refused) => Err(refused),
         }
+    }
+
+    /// Makes room in a full history, where it ever begins anew. Where memory is wanting for that it stays full.
+    pub(crate) fn make_room(&self, locked: &mut Locked) {
+        if let Some(limits) = self.rolls {
+            let _made = locked.make_room(limits);
+        }
+    }
+
+    /// How many calls came before the start of the history.
+    pub fn before<R: Wait>(&self, rt: &R) -> u64 {
+        self.state.lock(rt).bench().before()
     }
 
     /// Wakes the workers that wait, where there is something for them.
@@ -105,6 +137,7 @@ impl Shared {
             (λ claim. claim) result seat.new }
     {
         let mut state = self.state.lock(rt);
+        self.make_room(&mut *state);
         let answer = state.commit(seat, changes);
         self.wake(&state);
         answer
@@ -120,6 +153,7 @@ impl Shared {
         ensures job { IfOk result (λ made. made.1 ≡ job_of made.0.entry.reply) }
     {
         let mut state = self.state.lock(rt);
+        self.make_room(&mut *state);
         let answer = state.take(seat);
         self.wake(&state);
         answer
@@ -135,6 +169,7 @@ impl Shared {
         ensures { Answers seat.old (ToDeliver finished.now) (λ claim. claim) result seat.new }
     {
         let mut state = self.state.lock(rt);
+        self.make_room(&mut *state);
         let answer = state.deliver(seat, finished);
         self.wake(&state);
         answer
@@ -150,6 +185,7 @@ impl Shared {
         ensures { Answers seat.old (ToGiveBack key) (λ claim. claim) result seat.new }
     {
         let mut state = self.state.lock(rt);
+        self.make_room(&mut *state);
         let answer = state.give_back(seat, key);
         self.wake(&state);
         answer
@@ -160,6 +196,7 @@ impl Shared {
         ensures { Answers seat.old (ToAsk key) (λ claim. claim) result seat.new }
     {
         let mut state = self.state.lock(rt);
+        self.make_room(&mut *state);
         let answer = state.ask(seat, key);
         self.wake(&state);
         answer
@@ -177,7 +214,26 @@ impl Shared {
             receipts.old.items seat.new receipts.new.items }
     {
         let mut state = self.state.lock(rt);
+        self.make_room(&mut *state);
         let answer = state.perform_kept(seat, receipts, request);
+        self.wake(&state);
+        answer
+    }
+
+    /// Gives a key back, if it is out since the take of this number, and keeps the receipt behind the others.
+    pub fn give_back_held<R: Wait>(
+        &self,
+        rt: &R,
+        seat: &mut Seat,
+        receipts: &mut Vec<Receipt>,
+        key: Key,
+        since: u64,
+    ) -> Result<(), SharedRefused>
+        ensures { MayReturn seat.old key result receipts.old.items seat.new receipts.new.items }
+    {
+        let mut state = self.state.lock(rt);
+        self.make_room(&mut *state);
+        let answer = state.return_held(seat, receipts, key, since);
         self.wake(&state);
         answer
     }
@@ -207,6 +263,7 @@ impl Shared {
             state,
             callers,
             changed,
+            rolls,
         } = self;
         match state
             .into_inner()
@@ -225,6 +282,7 @@ impl Shared {
                     state: Mutex::new(owner),
                     callers,
                     changed,
+                    rolls,
                 },
                 seats,
             }),

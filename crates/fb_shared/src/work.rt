@@ -78,6 +78,7 @@ fn take_job<R: Wait>(rt: &R, shared: &Shared, seat: &mut Seat, receipts: &mut Ve
     ensures names { LookNames seat.new result }
 {
     let mut state = shared.state.lock(rt);
+    shared.make_room(&mut *state);
     let look = state.look(seat, receipts);
     if matches!(&look, Look::Nothing) {
         drop(shared.changed.wait(rt, state));
@@ -120,6 +121,7 @@ fn settle<R: Wait>(
     ensures names { IfSome result (NamesSeat seat.new) }
 {
     let mut state = shared.state.lock(rt);
+    shared.make_room(&mut *state);
     let end = state.settle(seat, receipts, job, finished);
     shared.wake(&state);
     end

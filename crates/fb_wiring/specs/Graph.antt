@@ -29,7 +29,7 @@ pub data Follows (next : List ℕ → List (List ℕ)) : List ℕ → List ℕ �
 abbrev pub IsReverse : Edges → Edges → Type 0
 IsReverse forth back = (u v : List ℕ) → has_name (edges_at back v) u ≡ has_name (edges_at forth u) v
 
--- the graph of all that some names rest on: these are among its names, and so is what those mention; its edges are the mentions, forth and back
+-- the graph of some names, their parts, the parts of these, and so on: its edges lead from each name to its parts, and back
 pub record IsGraph (sources : Sources) (begun names : List (List ℕ)) (forth back : Edges) : Type 0 where
   pub begins : (u : List ℕ) → has_name begun u ≡ true → has_name names u ≡ true
   pub closed : (u v : List ℕ) → has_name names u ≡ true → has_name (parts_at sources u) v ≡ true → has_name names v ≡ true

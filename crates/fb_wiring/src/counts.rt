@@ -82,7 +82,7 @@ fn count_applications(counts: &Counts, applications: &[Application]) -> u32
     count
 }
 
-/// How many instances a unit holds at all depths, up to one past the limit, by the counts of the types that it mentions.
+/// How many instances a unit holds at all depths, up to one past the limit, by the counts of the types of its parts.
 pub fn count_of_unit(counts: &Counts, decl: &Decl) -> u32
     ensures { CountsAll (get name_cmp counts.now) (own_instances (decl_tree decl.now)) result }
 {

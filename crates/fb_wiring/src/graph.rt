@@ -1,4 +1,4 @@
-//! What names mention, as a graph.
+//! The parts of names, as a graph.
 ghost use Rattle.std.specs.Prelude.{◌≡◌, ℕ, List, [], ◌∷◌, ◌++◌, ◌||◌, ◌&&◌, if◌then◌else◌, IfOk, OnOk};
 ghost use Rattle.std.specs.Ordering.{eq_by_cmp};
 ghost use Rattle.fb_tree.specs.Text.Order.{name_cmp};
@@ -14,19 +14,19 @@ use std::collections::{BTreeMap, BTreeSet};
 /// Where the edges from each name lead.
 pub(crate) type Edges = BTreeMap<Name, Vec<Name>>;
 
-/// All that some names rest on, and what of it mentions what.
+/// Some names with their parts at all depths, and what is a part of what.
 #[derive(Drop)]
 pub(crate) struct Graph {
     pub(crate) names: BTreeSet<Name>,
-    /// From each name to what it mentions.
+    /// From each name to its parts.
     pub(crate) forth: Edges,
-    /// From each name to what mentions it.
+    /// From each name to what it is a part of.
     pub(crate) back: Edges,
     /// The names in the order in which a search in depth leaves them.
     pub(crate) left: Vec<Name>,
 }
 
-/// The graph of all that the names rest on, by a search in depth.
+/// The graph of the names and their parts at all depths, by a depth-first search.
 pub(crate) fn explore<V: View>(alloc: Global, view: &V, begun: &[Name]) -> Result<Graph, AllocError>
     ensures { IfOk result
         (λ graph. IsGraph (V.sources view.now) begun.now graph.names.keys graph.forth graph.back) }

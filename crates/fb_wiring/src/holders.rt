@@ -1,5 +1,5 @@
 //! Units with instances that count.
-ghost use Rattle.std.specs.Prelude.{◌≡◌};
+ghost use Rattle.std.specs.Prelude.{◌≡◌, IfSome};
 ghost use Rattle.std.specs.Option.{option_map};
 ghost use Rattle.std.specs.FinMap as map;
 ghost use Rattle.fb_wiring.specs.Holders.{holders_of};
@@ -17,8 +17,9 @@ pub struct Holders<'a, V> {
 
 /// The source of a subapplication or a system.
 fn source_of_holder<'a, V: View>(view: &'a V, name: &Name) -> Option<&'a Source>
-    ensures { option_map (λ it. it.now.text) result
+    ensures text { option_map (λ it. it.now.text) result
         ≡ map.get (holders_of (V.sources view.now)) name.now }
+    ensures own { IfSome result (λ it. it.now.unit ≡ name.now) }
 {
     if has_net(view, name) {
         view.get(name)

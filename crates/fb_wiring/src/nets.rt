@@ -5,9 +5,9 @@ use fb_tree::text::Name;
 /// The flat network of a unit, or why it has none.
 #[derive(Drop)]
 pub enum Net {
-    /// The names that the unit rests on that are of no unit, or of one with faults.
+    /// Of the names that the unit rests on those of a unit with faults, and those that are absent and a part. An absent type of a value blocks nothing.
     Blocked(Vec<Name>),
-    /// The types that the unit rests on that reach themselves.
+    /// Of the types that the unit rests on those that contain themselves.
     Recursive(Vec<Name>),
     /// More instances than the limit.
     TooLarge,

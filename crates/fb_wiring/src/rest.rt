@@ -1,5 +1,5 @@
 //! What is left to look at where nets are kept.
-ghost use Rattle.std.specs.Prelude.{◌≡◌};
+ghost use Rattle.std.specs.Prelude.{◌≡◌, IfSome};
 ghost use Rattle.std.specs.Option.{option_map};
 ghost use Rattle.std.specs.FinMap as map;
 ghost use Rattle.fb_wiring.specs.Hints.{is_left, left_of};
@@ -31,8 +31,9 @@ fn source_left<'a, V: View, H: Hints>(
     unit: &Name,
     name: &Name,
 ) -> Option<&'a Source>
-    ensures { option_map (λ it. it.now.text) result
+    ensures text { option_map (λ it. it.now.text) result
         ≡ map.get (left_of (H.hints hints.now) (V.sources view.now) unit.now) name.now }
+    ensures own { IfSome result (λ it. it.now.unit ≡ name.now) }
 {
     if is_left(hints, unit, name) {
         view.get(name)

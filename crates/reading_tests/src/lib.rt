@@ -7,6 +7,8 @@
 #[cfg(test)]
 mod broken;
 #[cfg(test)]
+mod copies;
+#[cfg(test)]
 mod index;
 #[cfg(test)]
 mod near;

@@ -103,14 +103,14 @@ fn texts_of_units(rt: HostRuntime) -> Result<(), Fail> {
 
 // Texts with the types that they mention, each with a blank behind it: those of instances, plugs and sockets, and those of variables and
 // fields that are not elementary.
-static MENTIONS: [(&str, &str, &str); 7] = [
+static MENTIONS: [(&str, &str, &str); 9] = [
     (
         "SUBAPPLICATION SA FBS F:TN; G:TN(DT:=T#250ms); H:TN; END_FBS EVENT_CONNECTIONS F.O TO G.I; G.O TO H.I; END_CONNECTIONS END_SUBAPPLICATION",
         "TN ",
         "",
     ),
     (
-        "SYSTEM Y APPLICATION APP SUBAPPS SUB:SA; END_SUBAPPS END_APPLICATION DEVICE D:DT RESOURCE R1:RT END_RESOURCE END_DEVICE END_SYSTEM",
+        "SYSTEM Y APPLICATION APP SUBAPPS SUB:SA; END_SUBAPPS END_APPLICATION DEVICE D:DT RESOURCE R1:RT END_RESOURCE RESOURCE R2:RT END_RESOURCE END_DEVICE MAPPINGS APP.SUB ON D.R1; APP.SUB.F ON D.R2; END_MAPPINGS END_SYSTEM",
         "SA ",
         "",
     ),
@@ -135,6 +135,13 @@ static MENTIONS: [(&str, &str, &str); 7] = [
         "ANYTHING ",
     ),
     ("type s : struct end_struct end_type", "", ""),
+    // a structure with a field of another one, and a block whose algorithm goes through it
+    ("TYPE S : STRUCT F:INT; G:U; END_STRUCT; END_TYPE", "", "U "),
+    (
+        "FUNCTION_BLOCK V VAR X:S; END_VAR EC_STATES A: P; END_STATES ALGORITHM P IN ST: X.F := 1; X.G.H := 2; X.K := 1; END_ALGORITHM END_FUNCTION_BLOCK",
+        "",
+        "S ",
+    ),
 ];
 
 /// What a text mentions.

@@ -114,12 +114,17 @@ pub fn each_refused<T: Trial>(alloc: Global, setting: T::Setting) -> Result<Refu
     Err(Fail::from("a call that makes ever more allocations"))
 }
 
-/// Prints what was found of a call, which is made so.
+/// Prints what was found of a call, which is made so. Without `tools/refuse` no allocation is refused, and nothing is shown of the call.
 pub fn report(rt: &impl Print, call: &str, way: &str, found: Refusals) -> io::Result<()> {
     let Refusals {
         allocations,
         memory,
     } = found;
+    if allocations == 0 {
+        return println!(rt;
+            "not tried: {call}{way}: no allocation was refused, as this run is not made by tools/refuse"
+        );
+    }
     println!(rt; "refused: {call}{way}: {allocations} allocations, {memory} times no memory")
 }
 

@@ -4,13 +4,13 @@ use Rattle.std.specs.FinMap.{get}
 use Rattle.fb_wiring.proofs.LeftLemmas.{get_holder}
 use Rattle.fb_wiring.proofs.holders.source_of_holder.Goals as goal
 
-pub returns-then-has_net : goal.returns-then-has_net
-returns-then-has_net g c =
+pub returns-then-has_net-clause-text : goal.returns-then-has_net-clause-text
+returns-then-has_net-clause-text g c =
     let sources = g.V.View.sources c.args.view.now in
-    c.get.ensures
+    c.get.ensures.text
     ∙ sym (get_holder sources c.args.name.now ∙ ap (λ b. cond b (get sources c.args.name.now) None) (sym c.has_net.ensures.told ∙ c.if-has_net.true))
 
-pub returns-else-has_net : goal.returns-else-has_net
-returns-else-has_net g c =
+pub returns-else-has_net-clause-text : goal.returns-else-has_net-clause-text
+returns-else-has_net-clause-text g c =
     let sources = g.V.View.sources c.args.view.now in
     sym (get_holder sources c.args.name.now ∙ ap (λ b. cond b (get sources c.args.name.now) None) (sym c.has_net.ensures.told ∙ c.if-has_net.false))

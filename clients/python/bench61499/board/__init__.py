@@ -1,0 +1,1 @@
+"""The board: a page in a browser that shows a plant live."""

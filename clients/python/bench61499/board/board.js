@@ -1,0 +1,1087 @@
+"use strict";
+// All texts of users are shown through textContent alone; the page's policy forbids every other way.
+
+const $ = (id) => document.getElementById(id);
+const SHOWN_CHANGES = 300, NOTES = 4;
+const KINDS = { FUNCTION_BLOCK: "block", ADAPTER: "adapter", SUBAPPLICATION: "subapplication", SYSTEM: "system", TYPE: "structure" };
+const STATES = { fine: "fine", faulty: "faults", noplan: "no plan", pending: "pending", absent: "not there", unknown: "not known yet" };
+/** What is to be mended. */
+const isWrong = (unit) => unit.state === "faulty" || unit.state === "noplan";
+
+/** An element with attributes, and with children that are elements or words. */
+function make(name, attributes = {}, ...children) {
+  const element = document.createElement(name);
+  for (const [key, value] of Object.entries(attributes)) {
+    if (key === "onclick") element.addEventListener("click", value);
+    else if (value !== false && value != null) element.setAttribute(key, value);
+  }
+  element.append(...children);
+  return element;
+}
+const counted = (number, what) => `${number.toLocaleString("en")} ${what}${number === 1 ? "" : "s"}`;
+const inOrder = new Intl.Collator("en", { numeric: true }).compare;
+const clock = (seconds) => new Date(seconds * 1000).toLocaleTimeString("en-GB");
+const link = (words, act) => make("button", { class: "link", onclick: act }, words);
+
+/** What is kept for the next visit, in the browser where it can be, else until the page is closed. */
+const memory = {
+  kept: new Map(),
+  get(key) {
+    try { return JSON.parse(localStorage.getItem(key)) ?? this.kept.get(key); } catch { return this.kept.get(key); }
+  },
+  set(key, value) {
+    this.kept.set(key, value);
+    try { localStorage.setItem(key, JSON.stringify(value)); } catch { /* There is no room, or it is forbidden. */ }
+  },
+};
+
+/** Says what has changed to those who can't see it, gathered for a moment. */
+const speaker = {
+  words: [],
+  say(words) {
+    if (!this.words.length) setTimeout(() => { $("said").textContent = this.words.splice(0).slice(-4).join(". "); }, 600);
+    this.words.push(words);
+  },
+};
+
+/** A list of which only the rows that can be seen are in the page. One row is chosen, by the arrow keys or a click. */
+class LongList {
+  static height = 30;
+  constructor(box, fill, choose, empty) {
+    Object.assign(this, { box, fill, choose, empty, items: [], at: -1 });
+    this.room = make("div", { role: "presentation" });
+    box.append(this.room);
+    box.addEventListener("scroll", () => this.draw());
+    box.addEventListener("keydown", (event) => this.key(event));
+    new ResizeObserver(() => this.draw()).observe(box);
+  }
+  show(items, chosen) {
+    this.items = items;
+    this.at = items.indexOf(chosen);
+    this.room.style.height = `${items.length * LongList.height}px`;
+    this.draw();
+  }
+  draw() {
+    const first = Math.max(0, Math.floor(this.box.scrollTop / LongList.height) - 4);
+    const last = Math.min(this.items.length, first + Math.ceil(this.box.clientHeight / LongList.height) + 9);
+    const rows = [];
+    for (let at = first; at < last; at++) rows.push(this.row(at));
+    this.room.replaceChildren(...(this.items.length ? rows : [make("p", { class: "empty" }, this.empty())]));
+    const active = this.at >= first && this.at < last;
+    if (active) this.box.setAttribute("aria-activedescendant", `${this.box.id}-${this.at}`);
+    else this.box.removeAttribute("aria-activedescendant");
+  }
+  row(at) {
+    const row = make("div", {
+      class: "row", role: "option", id: `${this.box.id}-${at}`, "aria-posinset": at + 1, "aria-setsize": this.items.length,
+      "aria-selected": String(at === this.at), onclick: () => this.move(at),
+    });
+    row.style.top = `${at * LongList.height}px`;
+    this.fill(row, this.items[at]);
+    return row;
+  }
+  move(at) {
+    if (!this.items.length) return;
+    this.at = Math.max(0, Math.min(this.items.length - 1, at));
+    this.reveal();
+    this.draw();
+    this.choose(this.items[this.at]);
+  }
+  reveal() {
+    const top = this.at * LongList.height, { scrollTop, clientHeight } = this.box;
+    if (top < scrollTop) this.box.scrollTop = top;
+    else if (top + LongList.height > scrollTop + clientHeight) this.box.scrollTop = top + LongList.height - clientHeight;
+  }
+  key(event) {
+    const page = Math.max(1, Math.floor(this.box.clientHeight / LongList.height) - 1);
+    const steps = { ArrowDown: this.at + 1, ArrowUp: this.at - 1, PageDown: this.at + page, PageUp: this.at - page, Home: 0, End: this.items.length - 1 };
+    if (event.key in steps && !event.altKey && !event.ctrlKey && !event.metaKey) {
+      event.preventDefault();
+      this.move(steps[event.key]);
+    }
+  }
+}
+
+/** What is known of the workbench: told by the server's events. */
+const board = {
+  units: new Map(), names: [], changes: [], answers: new Map(), about: null, last: -1, problems: [], ended: "", connected: false,
+  token: document.querySelector("meta[name=token]").content,
+
+  /** Listens for as long as the page is seen. A page that is not seen would cost a shared workbench recorded calls. */
+  connect() {
+    if (document.hidden || this.events) return;
+    this.events = new EventSource(`/events?change=${this.last}`);
+    this.events.onmessage = (message) => this.take(JSON.parse(message.data));
+    this.events.onerror = () => {
+      this.leave();
+      showState();
+      setTimeout(() => this.connect(), 1000);
+    };
+  },
+  leave() {
+    this.events?.close();
+    this.events = null;
+    this.connected = false;
+  },
+  take(news) {
+    if (news.about) {
+      if (news.about.token !== this.token) return location.reload();
+      this.about = news.about;
+      if (this.last < 0) this.last = news.about.last;
+      this.connected = true;
+      this.units.clear();
+      this.answers.clear();
+    }
+    for (const [unit, kind, revision, state, faults, file] of news.units) this.units.set(unit, { unit, kind, revision, state, faults, file });
+    if (this.names.length !== this.units.size || news.about) this.names = [...this.units.keys()].sort(inOrder);
+    for (const [kind, unit, serial, current] of news.answers) this.answers.set(`${kind} ${unit}`, { serial, current });
+    const replaced = new Set(news.changes.map((it) => it.replaces));
+    this.changes = [...this.changes.filter((it) => !replaced.has(it.number)), ...news.changes];
+    if (news.changes.length) this.last = news.changes.at(-1).number;
+    Object.assign(this, { problems: news.problems, ended: news.ended, calls: news.calls });
+    showNews(news);
+  },
+};
+
+async function ask(path, query) {
+  const reply = await fetch(`${path}?${new URLSearchParams(query)}`);
+  if (!reply.ok) throw new Error((await reply.text()).trim());
+  return reply.json();
+}
+
+// The bar and the list of units
+
+const filters = {
+  all: ["All", (unit) => unit.state !== "absent" || board.about?.shared],
+  faulty: ["Faults", isWrong],
+  pending: ["Pending", (unit) => unit.state === "pending"],
+  fine: ["Fine", (unit) => unit.state === "fine"],
+  absent: ["Not there", (unit) => unit.state === "absent"],
+};
+let filter = "all";
+
+const unitList = new LongList($("units"), fillUnit, (unit) => go(unit.unit, shown.tab), () =>
+  board.units.size ? "No unit is like that." : "No units are known here yet.");
+
+function fillUnit(row, unit) {
+  const gone = unit.state === "absent" || unit.state === "unknown";
+  row.classList.toggle("gone", unit.state === "absent");
+  const words = unit.state === "faulty" ? counted(unit.faults, "fault") : STATES[unit.state];
+  row.append(
+    make("span", { class: `dot ${unit.state}`, "aria-hidden": "true" }), make("span", { class: "name" }, unit.unit),
+    make("span", { class: "unseen" }, `, ${words}, `),
+    unit.faults ? make("span", { class: "badge number", "aria-hidden": "true" }, unit.faults.toLocaleString("en")) : "",
+    make("span", { class: `kind ${unit.state}` }, gone || unit.state === "noplan" ? STATES[unit.state] : KINDS[unit.kind] ?? ""),
+  );
+}
+
+function listUnits() {
+  const wanted = $("search").value.trim().toUpperCase();
+  const items = board.names.map((name) => board.units.get(name))
+    .filter((it) => it.unit.includes(wanted) && filters[filter][1](it));
+  unitList.show(items, board.units.get(shown.unit));
+}
+
+function count() {
+  const counts = { units: 0, noplan: 0, faults: 0, withFaults: 0, ...Object.fromEntries(Object.keys(filters).map((it) => [it, 0])) };
+  for (const it of board.units.values()) {
+    for (const [name, [, isMeant]] of Object.entries(filters)) counts[name] += isMeant(it) ? 1 : 0;
+    counts.units += it.state === "absent" ? 0 : 1;
+    counts.noplan += it.state === "noplan" ? 1 : 0;
+    counts.withFaults += it.state === "faulty" ? 1 : 0;
+    counts.faults += it.faults;
+  }
+  return counts;
+}
+
+function showCounts() {
+  const counts = count();
+  const part = (kind, number, words) => make("span", { class: number ? kind : "" }, make("b", {}, number.toLocaleString("en")), ` ${words}`);
+  $("counts").replaceChildren(
+    part("all", counts.units, counts.units === 1 ? "unit" : "units"),
+    part("faulty", counts.faults, `${counts.faults === 1 ? "fault" : "faults"}${counts.faults ? ` in ${counted(counts.withFaults, "unit")}` : ""}`),
+    ...(counts.noplan ? [part("faulty", counts.noplan, `${counts.noplan === 1 ? "system" : "systems"} without a plan`)] : []),
+    part("pending", counts.pending, "pending"),
+  );
+  for (const button of $("filters").children) {
+    const name = button.dataset.filter;
+    if (name !== "all") button.lastChild.textContent = ` ${counts[name].toLocaleString("en")}`;
+    button.hidden = name === "absent" && !counts.absent && filter !== name;
+  }
+  document.title = `${counts.faults ? `${counted(counts.faults, "fault")} – ` : ""}${board.about?.title ?? "bench61499"}`;
+}
+
+function setFilter(name) {
+  filter = name;
+  for (const button of $("filters").children) button.setAttribute("aria-pressed", String(button.dataset.filter === name));
+  listUnits();
+}
+
+function showState() {
+  const { connected, ended, about } = board;
+  $("live").textContent = !connected ? "not connected" : ended ? (about?.shared ? "waiting" : "ended") : "live";
+  $("live").classList.toggle("off", !connected || Boolean(ended));
+  $("title").textContent = about?.title ?? "";
+  const words = !connected ? (about ? "The board does not answer. This is what it last knew; it is asked again each second." : "")
+    : ended ? `Not checked now: ${ended}. This is what was last known.` : "";
+  if ($("ended").textContent !== words) $("ended").textContent = words;
+  $("ended").hidden = !words;
+  $("problems").textContent = board.problems.slice(0, 3).join(" · ") + (board.problems.length > 3 ? ` · and ${board.problems.length - 3} more` : "");
+  $("problems").hidden = !board.problems.length;
+  $("look").hidden = !about?.shared;
+  const who = about?.shared ? `The workbench tells no session who made a commit, only the revisions. This board has made ${counted(board.calls, "recorded call")}.`
+    : "Each is a change of a file on disk.";
+  $("changes-note").textContent = `Since this page was opened. ${who}`;
+}
+
+function showNews(news) {
+  showState();
+  showCounts();
+  listUnits();
+  if (news.about) unitList.reveal();
+  if (news.changes.length) showChanges(news.changes);
+  const touched = news.about || news.units.some(([unit]) => unit === shown.unit) || news.answers.some(([, unit]) => unit === shown.unit);
+  if (touched) refresh();
+  if (!news.about) tellFaults(news.units);
+}
+
+function tellFaults(units) {
+  const settled = units.filter(([, , , state]) => state === "faulty" || state === "noplan" || state === "fine");
+  if (settled.length > 3) speaker.say(`${counted(settled.length, "unit")} checked, ${counted(count().faults, "fault")} in all`);
+  else for (const [unit, , , state, faults] of settled) speaker.say(`${unit}: ${faults ? counted(faults, "fault") : state === "noplan" ? "no plan" : "no faults"}`);
+}
+
+// Changes
+
+function showChanges(changes) {
+  for (const { replaces } of changes) $("changes").querySelector(`li[data-number="${replaces}"]`)?.remove();
+  const items = changes.slice(-SHOWN_CHANGES).reverse().map(changeItem);
+  $("changes").prepend(...items);
+  while ($("changes").children.length > SHOWN_CHANGES) $("changes").lastChild.remove();
+  $("changes-title").textContent = `Changes (${board.changes.length.toLocaleString("en")})`;
+  if (changes.length > 3) speaker.say(`${counted(changes.length, "unit")} changed`);
+  else for (const it of changes) speaker.say(`${it.unit} ${revisions(it)}`);
+}
+
+const revisions = ({ old, new: now }) => !now ? `removed, was at revision ${old}` : !old ? `new, revision ${now}` : `revision ${old} → ${now}`;
+
+function changeItem(change) {
+  const who = change.author || "another session";
+  const count = change.count > 1 ? `, ${change.count.toLocaleString("en")} changes` : "";
+  return make("li", { "data-number": change.number }, link(change.unit, () => go(change.unit, "text")), ` ${revisions(change)}${count}`,
+    make("p", { class: "number" }, `${clock(change.time)}, ${who}`));
+}
+
+// What is shown of a unit: its place is in the address, so that the browser's own keys go back and forth
+
+const shown = { unit: "", tab: "text", line: 0, serial: 0, asked: 0 };
+const TABS = { text: "Text", network: "Network", plan: "Plan" };
+
+function go(unit, tab = "text", line = 0) {
+  const place = `#${encodeURIComponent(unit)}/${tab}${line ? `/${line}` : ""}`;
+  if (location.hash === place) refresh();
+  else location.hash = place;
+}
+
+function decoded(part) {
+  try { return decodeURIComponent(part); } catch { return part; }
+}
+
+function follow() {
+  const [unit = "", tab = "text", line = "0"] = location.hash.slice(1).split("/");
+  leavePlan();
+  const name = decoded(unit);
+  const other = shown.unit !== name || shown.tab !== tab;
+  Object.assign(shown, { unit: name, tab: Object.hasOwn(TABS, tab) ? tab : "text", line: Number(line) || 0, serial: 0 });
+  if (other) $("panel").replaceChildren();
+  listUnits();
+  unitList.reveal();
+  unitList.draw();
+  refresh();
+}
+
+function showHead() {
+  const row = board.units.get(shown.unit);
+  $("unit").textContent = shown.unit || "No unit is chosen";
+  $("facts").textContent = row ? [KINDS[row.kind], row.revision ? `revision ${row.revision}` : "", row.file].filter(Boolean).join(" · ") : "";
+  $("unit-state").hidden = !row;
+  if (row) {
+    $("unit-state").className = `state ${row.state}`;
+    $("unit-state").textContent = row.state === "faulty" ? counted(row.faults, "fault") : STATES[row.state];
+  }
+  const may = { text: true, network: !row?.kind || row.kind in { SUBAPPLICATION: 1, SYSTEM: 1 }, plan: !row?.kind || row.kind === "SYSTEM" };
+  $("tabs").hidden = !row || !may.network;
+  for (const tab of $("tabs").children) {
+    tab.hidden = !may[tab.dataset.tab];
+    tab.setAttribute("aria-selected", String(tab.dataset.tab === shown.tab));
+    tab.tabIndex = tab.dataset.tab === shown.tab ? 0 : -1;
+  }
+}
+
+async function refresh() {
+  showHead();
+  const row = board.units.get(shown.unit);
+  if (!row) return say(shown.unit ? `The board has no unit ${shown.unit}.` : "Choose a unit on the left.");
+  const asked = ++shown.asked;
+  const still = () => asked === shown.asked;
+  try {
+    if (shown.tab === "text") await refreshText(still);
+    else if (shown.tab === "network") await refreshNetwork(still);
+    else await refreshPlan(still);
+  } catch (error) {
+    if (still() && board.connected) say(`It can't be shown: ${error.message}`);
+  }
+}
+
+/** Whether there is a newer answer than the one that is shown. */
+function isNewer(...kinds) {
+  const known = kinds.map((kind) => board.answers.get(`${kind} ${shown.unit}`)).filter(Boolean);
+  return !shown.serial || !known.length || known.some((it) => it.serial > shown.serial);
+}
+
+function say(...content) {
+  note("");
+  $("panel").className = "panel";
+  $("panel").replaceChildren(make("div", { class: "said" }, ...content));
+}
+
+function note(words) {
+  $("note").textContent = words;
+  $("note").hidden = !words;
+}
+
+// The text of a unit
+
+async function refreshText(still) {
+  const unit = await ask("/unit", { name: shown.unit });
+  if (!still()) return;
+  note(unit.note);
+  const panel = $("panel"), { scrollTop, scrollLeft } = panel;
+  panel.className = "panel";
+  const parts = unit.faults.length ? [faultList(unit)] : [];
+  if (unit.lines) parts.push(make("div", { class: "text", id: "text" }, ...unit.lines.map((line, at) => textLine(line, at + 1, unit.faults)).flat()));
+  else if (!unit.faults.length) parts.push(make("p", { class: "said" }, unit.state === "absent" ? "There is no such unit in the workbench." : "No faults."));
+  const focused = [...document.querySelectorAll("button.fault")].indexOf(document.activeElement);
+  panel.replaceChildren(...parts);
+  if (focused >= 0) (panel.querySelectorAll("button.fault")[focused] ?? panel).focus({ preventScroll: true });
+  panel.scrollTo(scrollLeft, scrollTop);
+  if (shown.line) showLine(shown.line);
+  shown.line = 0;
+}
+
+function faultList(unit) {
+  const items = unit.faults.map((it) => {
+    const place = it.line ? `${it.line}:${it.column}` : `${it.start}–${it.end}`;
+    const words = it.explanation ?? "bytes of a text that is not here";
+    const parts = [make("span", { class: "dim number" }, place), make("span", { class: "code mono" }, it.code), make("span", {}, words)];
+    return make("li", {}, make("button", { class: "link fault", onclick: () => it.line && showLine(it.line) }, ...parts));
+  });
+  const rest = unit.count - unit.faults.length;
+  if (rest) items.push(make("li", { class: "dim" }, `and ${counted(rest, "fault")} more`));
+  return make("ol", { class: "faults", "aria-label": "Faults" }, ...items);
+}
+
+/** A line, and below it what is wrong there. */
+function textLine(pieces, number, faults) {
+  const line = make("div", { class: "l", "data-line": number });
+  const code = make("code", { class: "mono" });
+  const told = new Set();
+  for (const it of pieces) code.append(typeof it === "string" ? it : piece(it, faults, told));
+  line.append(code);
+  const begun = [...told].filter((at) => faults[at].line === number);
+  const notes = begun.slice(0, NOTES).map((at) => make("span", { class: "told", role: "note" }, make("b", { class: "mono" }, faults[at].code), ` ${faults[at].explanation}`));
+  if (begun.length > NOTES) notes.push(make("span", { class: "told" }, `and ${counted(begun.length - NOTES, "fault")} more in this line`));
+  return [line, ...notes];
+}
+
+function piece(it, faults, told) {
+  if (!it.faults.length) return make("span", { class: it.kind }, it.words);
+  it.faults.forEach((at) => told.add(at));
+  const title = it.faults.map((at) => `${faults[at].code}: ${faults[at].explanation}`).join("\n");
+  return make("mark", { class: it.kind, title }, it.words);
+}
+
+function showLine(number) {
+  document.querySelector(".l.at")?.classList.remove("at");
+  const line = document.querySelector(`.l[data-line="${number}"]`);
+  if (!line) return;
+  line.classList.add("at");
+  line.scrollIntoView({ block: "center" });
+}
+
+// Why there is no network or plan
+
+function whyNot(view) {
+  const names = (units) => units.flatMap((it, at) => [at ? ", " : "", link(it, () => go(it, "text"))]);
+  switch (view.state) {
+    case "pending": return ["It is being computed…"];
+    case "none": return [`${shown.unit} is no unit that has one, or its text has a SYNTAX fault.`];
+    case "too_large": return [`No ${shown.tab}: it would have more than 4,096 instances.`];
+    case "recursive": return [`No ${shown.tab}: these units contain themselves:`, make("p", {}, ...names(view.units))];
+    case "blocked": return [
+      `No ${shown.tab} yet: units that it depends on are missing or have faults.`,
+      ...(view.missing.length ? [make("p", {}, "Missing: ", ...names(view.missing))] : []),
+      ...(view.faulty.length ? [make("p", {}, "With faults: ", ...names(view.faulty))] : []),
+    ];
+  }
+  return ["It is not known."];
+}
+
+const misplacedWords = ([reason, path]) => reason === "UNMAPPED" ? `no mapping gives ${path} a resource` : `a mapping is of ${path}, which is not there`;
+const renewing = () => ["net", "deploy"].some((kind) => board.answers.get(`${kind} ${shown.unit}`)?.current === false);
+
+// The network of a unit
+
+let network = null;
+
+async function refreshNetwork(still) {
+  if (!isNewer("net", "deploy")) return note(renewing() ? "A change may reach it; it is being computed again." : network?.note ?? "");
+  const { clientWidth, clientHeight } = $("panel");
+  const view = await ask("/net", { name: shown.unit, aspect: (Math.max(1, clientWidth - 240) / Math.max(1, clientHeight - 60)).toFixed(2) });
+  if (!still()) return;
+  shown.serial = view.serial;
+  if (view.state !== "flat") return say(...whyNot(view));
+  if (!network?.canvas.isConnected || network.unit !== view.unit) {
+    network = new NetworkView(view.unit);
+    $("panel").className = "panel flush";
+    $("panel").replaceChildren(...network.parts());
+  }
+  network.take(view);
+  network.note = view.misplaced.length ? `Not deployed: ${view.misplaced.slice(0, 3).map(misplacedWords).join("; ")}${view.misplaced.length > 3 ? " and more" : ""}.` : "";
+  note(network.note);
+}
+
+const HEAD = 42, ROW = 16, CURVE = 160;
+
+/** A block in the list: the path before its name is cut where there is no room. */
+function fillBlock(row, block) {
+  const cut = block.path.lastIndexOf(".") + 1;
+  row.title = `${block.path} : ${block.type}`;
+  row.append(make("span", { class: "before" }, make("bdi", {}, block.path.slice(0, cut))), make("span", { class: "name" }, block.path.slice(cut)));
+}
+
+/** The picture of a network: it can be moved, zoomed and searched, and a block of it chosen. */
+class NetworkView {
+  constructor(unit) {
+    this.unit = unit;
+    this.canvas = make("canvas", { tabindex: 0, role: "application", "aria-label": `Network of ${unit}. Arrow keys choose a block, Enter shows its type.` });
+    this.context = this.canvas.getContext("2d");
+    this.scale = 0;
+    this.chosen = null;
+    this.found = new Set();
+    this.list = new LongList(
+      make("div", { class: "list", id: "blocks", role: "listbox", tabindex: 0, "aria-label": "Blocks" }),
+      fillBlock, (block) => this.choose(block, true),
+      () => "No block is like that.");
+    this.about = make("div", { class: "block", hidden: "" });
+    this.listen();
+  }
+
+  parts() {
+    this.field = make("input", { type: "search", id: "block-search", placeholder: "Search blocks", "aria-label": "Search blocks and types", autocomplete: "off", spellcheck: "false" });
+    this.field.addEventListener("input", () => this.search());
+    this.field.addEventListener("keydown", (event) => { if (event.key === "Enter") this.next(event.shiftKey ? -1 : 1); });
+    this.matches = make("span", { class: "dim number", role: "status" });
+    const button = (words, label, act) => make("button", { "aria-label": label, title: label, onclick: act }, words);
+    const legend = make("span", { class: "legend", "aria-hidden": "true" }, ...["event", "data", "adapter", "cut"].map((it) => make("span", { class: it }, it)));
+    return [
+      make("div", { class: "row-tools" }, this.field, this.matches, button("−", "Smaller", () => this.zoom(1 / 1.3)), button("+", "Larger", () => this.zoom(1.3)),
+        button("Whole", "The whole network", () => this.fit()), legend),
+      make("div", { class: "network" }, make("div", { class: "picture" }, this.canvas), make("div", { class: "aside" }, this.list.box, this.about)),
+    ];
+  }
+
+  take(view) {
+    this.view = view;
+    this.boxes = view.boxes.map(([path, type, home, tag, x, y, w, h, rows], at) => ({ at, path, type, home, tag, x, y, w, h, rows: view.rows[rows], ends: [] }));
+    this.blocks = this.boxes.filter((it) => it.tag === null);
+    this.wires = view.wires.map(([sort, a, aLeft, aRow, b, bLeft, bRow, label, cut, way]) => {
+      const from = this.end(this.boxes[a], aLeft, aRow), to = this.end(this.boxes[b], bLeft, bRow);
+      const reach = Math.max(40, Math.min(CURVE, Math.abs(to.x - from.x) / 2));
+      const wire = { sort, from, to, label, cut, way, reach: [from.x + (aLeft ? -reach : reach), to.x + (bLeft ? -reach : reach)], above: 0 };
+      this.boxes[a].ends.push(wire);
+      if (a !== b) this.boxes[b].ends.push(wire);
+      return wire;
+    });
+    this.spread();
+    this.chosen = this.chosen && this.blocks.find((it) => it.path === this.chosen.path) || null;
+    if (!this.scale) requestAnimationFrame(() => this.fit());
+    this.search();
+    this.tell();
+  }
+
+  end(box, left, row) {
+    const y = row < 0 ? box.y + box.h / 2 : box.y + HEAD + ROW * row + ROW / 2;
+    return { box, x: left ? box.x : box.x + box.w, y, port: row < 0 ? box.path : box.rows[row][left ? 1 : 2] };
+  }
+
+  /** Draws wires between the same two ports, as those of adapters are, beside each other, and their labels one above the other. */
+  spread() {
+    const between = new Map();
+    for (const wire of this.wires.filter((it) => it.label)) {
+      const key = [wire.from.box.at, wire.from.port, wire.to.box.at, wire.to.port].join();
+      if (!between.has(key)) between.set(key, []);
+      between.get(key).push(wire);
+    }
+    for (const wires of between.values()) wires.forEach((wire, at) => {
+      const aside = 5 * (at - (wires.length - 1) / 2);
+      wire.from.y += aside;
+      wire.to.y += aside;
+      wire.above = 11 * (wires.length - 1 - at) + aside;
+    });
+  }
+
+  // Moving
+
+  listen() {
+    const { canvas } = this;
+    let grip = null;
+    canvas.addEventListener("pointerdown", (event) => { canvas.setPointerCapture(event.pointerId); grip = { x: event.offsetX, y: event.offsetY, moved: false }; });
+    canvas.addEventListener("pointermove", (event) => {
+      if (!grip) return;
+      const [dx, dy] = [event.offsetX - grip.x, event.offsetY - grip.y];
+      if (!grip.moved && Math.hypot(dx, dy) < 4) return;
+      grip = { x: event.offsetX, y: event.offsetY, moved: true };
+      this.move(dx, dy);
+    });
+    canvas.addEventListener("pointerup", (event) => {
+      if (grip && !grip.moved) this.choose(this.at(event.offsetX, event.offsetY), false);
+      grip = null;
+    });
+    canvas.addEventListener("dblclick", () => this.chosen && go(this.chosen.type, "text"));
+    canvas.addEventListener("wheel", (event) => {
+      event.preventDefault();
+      this.zoom(Math.exp(-event.deltaY / 500), event.offsetX, event.offsetY);
+    }, { passive: false });
+    canvas.addEventListener("keydown", (event) => this.key(event));
+    new ResizeObserver(() => this.touched || !this.scale ? this.draw() : this.fit()).observe(canvas);
+    matchMedia("(prefers-color-scheme: dark)").addEventListener("change", () => this.draw());
+  }
+
+  move(dx, dy) {
+    this.touched = true;
+    this.x += dx;
+    this.y += dy;
+    this.draw();
+  }
+
+  zoom(factor, x = this.canvas.clientWidth / 2, y = this.canvas.clientHeight / 2) {
+    const scale = Math.max(this.least, Math.min(3, this.scale * factor));
+    this.touched = true;
+    this.x = x - (x - this.x) * scale / this.scale;
+    this.y = y - (y - this.y) * scale / this.scale;
+    this.scale = scale;
+    this.draw();
+  }
+
+  fit() {
+    const { clientWidth: width, clientHeight: height } = this.canvas;
+    if (!width || !height) return;
+    const scale = Math.min((width - 40) / this.view.width, (height - 40) / this.view.height);
+    this.touched = false;
+    this.least = Math.min(scale, 1) / 2;
+    this.scale = Math.min(scale, 1.25);
+    this.x = (width - this.view.width * this.scale) / 2;
+    this.y = (height - this.view.height * this.scale) / 2;
+    this.draw();
+  }
+
+  /** Brings a block into the middle, large enough to be read. */
+  reveal(block) {
+    this.touched = true;
+    this.scale = Math.max(this.scale, 0.8);
+    this.x = this.canvas.clientWidth / 2 - (block.x + block.w / 2) * this.scale;
+    this.y = this.canvas.clientHeight / 2 - (block.y + block.h / 2) * this.scale;
+  }
+
+  isSeen(block) {
+    const left = block.x * this.scale + this.x, top = block.y * this.scale + this.y;
+    return left >= 0 && top >= 0 && left + block.w * this.scale <= this.canvas.clientWidth && top + block.h * this.scale <= this.canvas.clientHeight;
+  }
+
+  at(x, y) {
+    const [left, top] = [(x - this.x) / this.scale, (y - this.y) / this.scale];
+    return this.blocks.findLast((it) => left >= it.x && left <= it.x + it.w && top >= it.y && top <= it.y + it.h) ?? null;
+  }
+
+  key(event) {
+    if (event.altKey || event.ctrlKey || event.metaKey) return;
+    const ways = { ArrowRight: [1, 0], ArrowLeft: [-1, 0], ArrowDown: [0, 1], ArrowUp: [0, -1] };
+    const way = ways[event.key];
+    if (way && event.shiftKey) this.move(-60 * way[0], -60 * way[1]);
+    else if (way) this.choose(this.beside(way), true);
+    else if (event.key === "+" || event.key === "=") this.zoom(1.3);
+    else if (event.key === "-") this.zoom(1 / 1.3);
+    else if (event.key === "0") this.fit();
+    else if (event.key === "Escape") this.choose(null, false);
+    else if (event.key === "Enter" && this.chosen) go(this.chosen.type, "text");
+    else if (event.key === "i" && this.chosen) this.declared();
+    else return;
+    event.preventDefault();
+    event.stopPropagation();
+  }
+
+  /** The nearest block in a direction; the first one where none is chosen. */
+  beside([across, down]) {
+    const from = this.chosen;
+    if (!from) return this.blocks[0] ?? null;
+    const middle = (it) => [it.x + it.w / 2, it.y + it.h / 2];
+    const [x, y] = middle(from);
+    let best = from, least = Infinity;
+    for (const it of this.blocks) {
+      const [dx, dy] = [middle(it)[0] - x, middle(it)[1] - y];
+      const ahead = dx * across + dy * down, aside = Math.abs(dx * down) + Math.abs(dy * across);
+      if (it !== from && ahead > 1 && ahead + 2 * aside < least) [best, least] = [it, ahead + 2 * aside];
+    }
+    return best;
+  }
+
+  // Searching and choosing
+
+  search() {
+    const wanted = this.field.value.trim().toUpperCase();
+    const items = wanted ? this.blocks.filter((it) => it.path.includes(wanted) || it.type.includes(wanted)) : this.blocks;
+    this.found = wanted ? new Set(items) : new Set();
+    this.list.show(items, this.chosen);
+    this.matches.textContent = wanted ? `${items.length.toLocaleString("en")} of ${counted(this.blocks.length, "block")}` : counted(this.blocks.length, "block");
+    this.draw();
+  }
+
+  next(step) {
+    const { items } = this.list;
+    if (items.length) this.list.move((items.indexOf(this.chosen) + step + items.length) % items.length);
+  }
+
+  choose(block, reveal) {
+    this.chosen = block;
+    if (block && reveal && (!this.isSeen(block) || this.scale < 0.4)) this.reveal(block);
+    this.list.show(this.list.items, block);
+    if (this.list.at >= 0) this.list.reveal();
+    this.list.draw();
+    this.tell();
+    this.draw();
+    if (block) speaker.say(`${block.path}, ${block.type}${block.home ? `, on ${block.home}` : ""}, ${counted(block.ends.length, "link")}`);
+  }
+
+  /** What is to be known of the chosen block. */
+  tell() {
+    const block = this.chosen;
+    this.about.hidden = !block;
+    if (!block) return;
+    const links = block.ends.slice(0, 60).map((wire) => this.linkItem(block, wire));
+    if (block.ends.length > 60) links.push(make("li", { class: "dim" }, `and ${block.ends.length - 60} more`));
+    this.about.replaceChildren(
+      make("h3", { class: "mono" }, block.path), make("p", {}, "Type ", link(block.type, () => go(block.type, "text"))),
+      ...(block.home ? [make("p", {}, `On ${block.home}`)] : []), make("p", {}, link("Where it is declared", () => this.declared())),
+      make("ul", { "aria-label": "Links" }, ...links));
+  }
+
+  linkItem(block, wire) {
+    const here = wire.from.box === block ? wire.from : wire.to, there = here === wire.from ? wire.to : wire.from;
+    const [source] = wire.way === "back" ? [wire.to] : [wire.from];
+    const arrow = wire.way === "none" ? "–" : source === here ? "→" : "←";
+    const words = `${there.box.path}${there.box.tag === null ? `.${there.port}` : ""}`;
+    const other = there.box.tag === null ? link(words, () => this.choose(there.box, true)) : words;
+    return make("li", {}, make("span", { class: `sort ${wire.sort}`, "aria-hidden": "true" }), make("span", { class: "unseen" }, `${wire.sort} `),
+      `${here.port}${wire.label ? `.${wire.label}` : ""} ${arrow} `, other, wire.cut ? " (cut)" : "");
+  }
+
+  async declared() {
+    const place = await ask("/instance", { name: this.unit, path: this.chosen.path });
+    if (place) go(place.unit, "text", place.line);
+    else note(`Where ${this.chosen.path} is declared is not known, as a text on the way is not here.`);
+  }
+
+  // Drawing
+
+  draw() {
+    if (this.planned || !this.scale) return;
+    this.planned = true;
+    requestAnimationFrame(() => { this.planned = false; this.paint(); });
+  }
+
+  paint() {
+    const { canvas, context } = this, ratio = devicePixelRatio || 1;
+    const [width, height] = [canvas.clientWidth, canvas.clientHeight];
+    if (!width || !height) return;
+    if (canvas.width !== Math.round(width * ratio) || canvas.height !== Math.round(height * ratio)) [canvas.width, canvas.height] = [Math.round(width * ratio), Math.round(height * ratio)];
+    const style = getComputedStyle(document.documentElement);
+    this.colour = (name) => style.getPropertyValue(`--${name}`);
+    context.setTransform(ratio, 0, 0, ratio, 0, 0);
+    context.clearRect(0, 0, width, height);
+    context.setTransform(this.scale * ratio, 0, 0, this.scale * ratio, this.x * ratio, this.y * ratio);
+    this.window = { left: -this.x / this.scale, top: -this.y / this.scale, right: (width - this.x) / this.scale, bottom: (height - this.y) / this.scale };
+    // Where boxes are too small for words, cut links are on top of them, to be seen.
+    const small = this.isSmall();
+    this.paintFrames();
+    this.paintWires((wire) => !small || !wire.cut);
+    this.paintBoxes();
+    this.paintWires((wire) => small && wire.cut);
+    this.paintNames();
+  }
+
+  isOut(left, top, right, bottom) {
+    const { window } = this;
+    return right < window.left || left > window.right || bottom < window.top || top > window.bottom;
+  }
+
+  paintFrames() {
+    const { context } = this;
+    context.fillStyle = this.colour("raised");
+    context.strokeStyle = this.colour("line");
+    context.lineWidth = 1 / this.scale;
+    for (const [, x, y, w, h] of this.view.frames) {
+      context.beginPath();
+      context.roundRect(x, y, w, h, 10);
+      context.fill();
+      context.stroke();
+    }
+  }
+
+  /** The names of the frames, on top of all, never smaller than they can be read. */
+  paintNames() {
+    const { context } = this, size = Math.max(13, 12 / this.scale);
+    context.font = `600 ${size}px ${this.colour("sans")}`;
+    context.textBaseline = "middle";
+    context.textAlign = "left";
+    for (const [name, x, y] of this.view.frames) {
+      const width = context.measureText(name).width + 12, left = this.nameLeft(x, width);
+      context.fillStyle = this.colour("raised");
+      context.globalAlpha = 0.85;
+      context.fillRect(left, y + 24 - size * 0.8, width, size * 1.6);
+      context.globalAlpha = 1;
+      context.fillStyle = this.colour("dim");
+      context.fillText(name, left + 6, y + 24);
+    }
+  }
+
+  /** Where the name of a frame begins: in its corner, or left of it where it would else be cut off at the edge of a picture that is seen whole. */
+  nameLeft(x, width) {
+    const { left, right } = this.window, begin = x + 18;
+    return begin < right && begin + width > right && !this.touched ? Math.max(left, right - width) : begin;
+  }
+
+  isSmall() {
+    return this.scale * 12 < 4.5;
+  }
+
+  /** Whether the names in boxes are too small to be read, but there is room for larger ones. */
+  isCramped() {
+    return this.scale * 12 < 9 && this.scale * 100 >= 20;
+  }
+
+  paintWires(isMeant) {
+    const { context } = this, chosen = this.chosen;
+    const groups = new Map();
+    for (const wire of this.wires.filter(isMeant)) {
+      const { from, to, reach } = wire;
+      if (this.isOut(Math.min(from.x, to.x, ...reach), Math.min(from.y, to.y), Math.max(from.x, to.x, ...reach), Math.max(from.y, to.y))) continue;
+      const key = `${wire.sort} ${wire.cut ? "cut" : ""} ${chosen && (from.box === chosen || to.box === chosen) ? "chosen" : ""}`;
+      if (!groups.has(key)) groups.set(key, []);
+      groups.get(key).push(wire);
+    }
+    for (const [key, wires] of [...groups].sort(([one], [other]) => one.endsWith("chosen") - other.endsWith("chosen"))) {
+      const [sort, cut, bold] = key.split(" ");
+      context.globalAlpha = chosen && !bold ? 0.3 : 1;
+      context.strokeStyle = context.fillStyle = this.colour(sort);
+      context.lineWidth = Math.max(bold ? 2.2 : 1.3, (bold ? 1.6 : 0.7) / this.scale);
+      context.setLineDash(cut ? [7, 5].map((it) => it * Math.max(1, 0.6 / this.scale)) : []);
+      this.paintPaths(wires);
+      context.setLineDash([]);
+      if (this.scale > 0.35) for (const wire of wires) this.paintArrow(wire);
+    }
+    context.globalAlpha = 1;
+  }
+
+  paintPaths(wires) {
+    const { context } = this, plain = this.scale < 0.12;
+    context.beginPath();
+    for (const { from, to, reach } of wires) {
+      context.moveTo(from.x, from.y);
+      if (plain) context.lineTo(to.x, to.y);
+      else context.bezierCurveTo(reach[0], from.y, reach[1], to.y, to.x, to.y);
+    }
+    context.stroke();
+  }
+
+  paintArrow({ from, to, reach, label, way, above }) {
+    const { context } = this;
+    if (way !== "none") {
+      const end = way === "back" ? from : to, back = way === "back" ? reach[0] : reach[1];
+      const side = Math.sign(back - end.x) || 1;
+      context.beginPath();
+      context.moveTo(end.x, end.y);
+      context.lineTo(end.x + 8 * side, end.y - 3.5);
+      context.lineTo(end.x + 8 * side, end.y + 3.5);
+      context.fill();
+    }
+    if (label && this.scale > 0.6) {
+      context.font = `10px ${this.colour("sans")}`;
+      context.textAlign = "center";
+      context.textBaseline = "bottom";
+      context.fillText(label, (from.x + to.x + 3 * (reach[0] + reach[1])) / 8, (from.y + to.y) / 2 - 9 - above);
+    }
+  }
+
+  paintBoxes() {
+    const seen = this.boxes.filter((box) => !this.isOut(box.x - 4, box.y - 4, box.x + box.w + 4, box.y + box.h + 4));
+    const isPlain = (box) => this.isSmall() && box !== this.chosen && !this.found.has(box);
+    this.paintPlain(seen.filter(isPlain));
+    for (const box of seen) {
+      if (box.tag !== null) this.paintTag(box);
+      else if (!isPlain(box)) this.paintBlock(box);
+    }
+  }
+
+  /** Boxes that are too small for words, all at once. */
+  paintPlain(boxes) {
+    const { context } = this;
+    context.globalAlpha = this.found.size ? 0.45 : 1;
+    context.fillStyle = this.colour("panel");
+    context.strokeStyle = this.colour("dim");
+    context.lineWidth = Math.max(0.8, 0.5 / this.scale);
+    context.beginPath();
+    for (const { x, y, w, h } of boxes) context.rect(x, y, w, h);
+    context.fill();
+    context.stroke();
+    if (this.isCramped()) for (const box of boxes) this.paintShortName(box);
+    context.globalAlpha = 1;
+  }
+
+  /** The last part of a block's path over its whole box, as large as it can be read and squeezed as far as it has to be. */
+  paintShortName(box) {
+    const { context } = this, size = Math.min(11 / this.scale, box.h * 0.6);
+    context.textAlign = "center";
+    context.textBaseline = "middle";
+    context.fillStyle = this.colour("ink");
+    context.font = `600 ${size}px ${this.colour("sans")}`;
+    context.fillText(box.path.slice(box.path.lastIndexOf(".") + 1), box.x + box.w / 2, box.y + box.h / 2, box.w - 4);
+  }
+
+  paintBlock(box) {
+    const { context, scale } = this, chosen = box === this.chosen, found = this.found.has(box);
+    context.globalAlpha = this.found.size && !found && !chosen ? 0.45 : 1;
+    context.fillStyle = this.colour(chosen ? "tint" : "panel");
+    context.strokeStyle = this.colour(chosen ? "accent" : found ? "found" : "dim");
+    context.lineWidth = chosen || found ? Math.max(2, 2 / scale) : Math.max(0.8, 0.5 / scale);
+    context.beginPath();
+    context.roundRect(box.x, box.y, box.w, box.h, 5);
+    context.fill();
+    context.stroke();
+    if (this.isCramped() && box !== this.chosen) this.paintShortName(box);
+    else if (!this.isSmall()) this.paintWords(box);
+    context.globalAlpha = 1;
+  }
+
+  paintWords(box) {
+    const { context } = this, middle = box.x + box.w / 2, sans = this.colour("sans");
+    context.textAlign = "center";
+    context.textBaseline = "middle";
+    context.fillStyle = this.colour("ink");
+    context.font = `600 12px ${sans}`;
+    context.fillText(box.path, middle, box.y + 13, box.w - 12);
+    context.fillStyle = this.colour("dim");
+    context.font = `11px ${sans}`;
+    context.fillText(box.type, middle, box.y + 28, box.w - 12);
+    if (this.scale < 0.45) return;
+    box.rows.forEach(([sort, left, right], at) => {
+      const y = box.y + HEAD + ROW * at + ROW / 2, room = left && right ? box.w / 2 - 8 : box.w - 12;
+      context.fillStyle = this.colour(sort);
+      context.textAlign = "left";
+      if (left) context.fillText(sort === "adapter" ? `» ${left}` : left, box.x + 7, y, room);
+      context.textAlign = "right";
+      if (right) context.fillText(sort === "adapter" ? `${right} »` : right, box.x + box.w - 7, y, room);
+    });
+  }
+
+  paintTag(box) {
+    const { context } = this, { x, y, w, h } = box;
+    context.fillStyle = this.colour("panel");
+    context.strokeStyle = context.shadowColor = this.colour(box.type);
+    context.shadowColor = "transparent";
+    context.lineWidth = Math.max(1, 0.6 / this.scale);
+    context.beginPath();
+    context.moveTo(x, y);
+    context.lineTo(x + w - 10, y);
+    context.lineTo(x + w, y + h / 2);
+    context.lineTo(x + w - 10, y + h);
+    context.lineTo(x, y + h);
+    context.closePath();
+    context.fill();
+    context.stroke();
+    if (this.isSmall()) return;
+    context.fillStyle = this.colour(box.type);
+    context.font = `600 11px ${this.colour("sans")}`;
+    context.textAlign = "center";
+    context.textBaseline = "middle";
+    context.fillText(box.path, x + w / 2 - 3, y + h / 2, w - 16);
+  }
+}
+
+// The plan of a system, with what has changed since it was last looked at
+
+let plan = null;
+
+const planKey = (unit) => `plan ${board.about.title} ${unit}`;
+
+/** Remembers the plan that was shown as the one that was last looked at. */
+function leavePlan() {
+  if (plan) memory.set(planKey(plan.unit), { time: Date.now() / 1000, cuts: plan.cuts, resources: plan.resources });
+  plan = null;
+}
+
+async function refreshPlan(still) {
+  if (!isNewer("deploy")) return note(renewing() ? "A change may reach it; it is being computed again." : "");
+  const view = await ask("/plan", { name: shown.unit });
+  if (!still()) return;
+  shown.serial = view.serial;
+  if (view.state === "faulty") return say("No plan:", make("ul", {}, ...view.misplaced.map((it) => make("li", {}, misplacedWords(it)))));
+  if (view.state !== "plan") return say(...whyNot(view));
+  const { cuts, resources } = view;
+  if (plan?.unit !== view.unit) {
+    const known = memory.get(planKey(view.unit));
+    plan = { unit: view.unit, isFirst: !known, before: known ?? { time: Date.now() / 1000, cuts, resources } };
+  }
+  Object.assign(plan, { cuts, resources });
+  showPlan();
+}
+
+function showPlan() {
+  const { before, isFirst } = plan;
+  const old = new Map(before.resources.map((it) => [it.name, it.commands]));
+  const parts = [["Links between resources", compared(before.cuts, plan.cuts)]];
+  for (const { name, commands } of plan.resources) {
+    parts.push([name, compared(old.get(name) ?? [], commands)]);
+    old.delete(name);
+  }
+  for (const [name, commands] of old) parts.push([`${name}, which is not there any more`, compared(commands, [])]);
+  const came = sum(parts, "new"), went = sum(parts, "gone");
+  const words = came || went ? `Since it was looked at ${when(before.time)}: ${counted(came, "line")} new, ${went.toLocaleString("en")} gone.`
+    : isFirst ? "This plan was not looked at before on this page." : `As it was when it was looked at ${when(before.time)}.`;
+  const seen = make("button", { onclick: () => { const { unit } = plan; leavePlan(); plan = null; shown.serial = 0; refresh(); $("panel").focus(); } }, "Mark as seen");
+  const tools = make("div", { class: "row-tools" }, make("span", { role: "status", id: "plan-words" }, words), ...(came || went ? [seen] : []));
+  note("");
+  const { scrollTop } = $("panel");
+  $("panel").className = "panel";
+  $("panel").replaceChildren(tools, make("div", { class: "plan" }, ...parts.map(([name, lines]) => planPart(name, lines))));
+  $("panel").scrollTop = scrollTop;
+}
+
+const sum = (parts, sort) => parts.reduce((whole, [, lines]) => whole + lines.filter((it) => it.sort === sort).length, 0);
+const when = (time) => new Date(time * 1000).toLocaleString("en-GB", { dateStyle: "medium", timeStyle: "medium" });
+
+/** The new lines in order, each with whether it is new, and those that are gone behind what stood before them. */
+function compared(old, now) {
+  const present = new Set(now), former = new Set(old);
+  const gone = new Map();
+  let before = "";
+  for (const line of old) {
+    if (present.has(line)) before = line;
+    else gone.set(before, [...(gone.get(before) ?? []), { sort: "gone", line }]);
+  }
+  return [...(gone.get("") ?? []), ...now.flatMap((line) => [{ sort: former.has(line) ? "same" : "new", line }, ...(gone.get(line) ?? [])])];
+}
+
+function planPart(name, lines) {
+  const text = make("pre");
+  let run = "";
+  for (const { sort, line } of lines) {
+    if (sort === "same") { run += `${line}\n`; continue; }
+    text.append(run, make(sort === "new" ? "ins" : "del", {}, line), "\n");
+    run = "";
+  }
+  text.append(run);
+  const changed = lines.filter((it) => it.sort !== "same").length;
+  const title = make("h3", {}, name, make("span", { class: "dim number" }, `  ${counted(lines.length, "line")}${changed ? `, ${changed} changed` : ""}`));
+  return make("section", {}, title, lines.length ? text : make("p", { class: "dim" }, "none"));
+}
+
+// Keys
+
+const KEYS = {
+  "/": ["search units", () => $("search").focus()],
+  u: ["to the list of units", () => $("units").focus()],
+  t: ["the text of the unit", () => go(shown.unit, "text")],
+  n: ["the network of the unit", () => showTab("network")],
+  p: ["the plan of the unit", () => showTab("plan")],
+  v: ["to what is shown of the unit", () => (network?.canvas.isConnected ? network.canvas : $("panel")).focus()],
+  b: ["search blocks of the network", () => $("block-search")?.focus()],
+  f: ["the next unit with faults", () => nextFaulty()],
+  e: ["the next fault of the text", () => nextFault()],
+  c: ["to the changes", () => $("changes").focus()],
+  "?": ["these keys", () => $("help").showModal()],
+};
+const LIST_KEYS = [["↑ ↓ Page Home End", "move in a list"], ["arrows", "in the picture: the next block that way; with Shift, move the picture"], ["+ − 0", "in the picture: larger, smaller, the whole"],
+  ["Enter", "in the picture: the text of the chosen block's type; in its search: the next match"], ["i", "in the picture: where the chosen block is declared"], ["Esc", "in the picture: choose none; in a search: empty it"]];
+
+function showTab(tab) {
+  const button = [...$("tabs").children].find((it) => it.dataset.tab === tab);
+  if (shown.unit && !button.hidden) go(shown.unit, tab);
+}
+
+function nextFaulty() {
+  const faulty = board.names.filter((name) => isWrong(board.units.get(name)));
+  const next = faulty.find((name) => inOrder(name, shown.unit) > 0) ?? faulty[0];
+  if (next) go(next, board.units.get(next).state === "noplan" ? "plan" : "text");
+  else speaker.say("no unit has faults");
+}
+
+function nextFault() {
+  const buttons = [...document.querySelectorAll("button.fault")];
+  if (!buttons.length) return;
+  const next = buttons[(buttons.indexOf(document.activeElement) + 1) % buttons.length];
+  next.focus();
+  next.click();
+}
+
+function onKey(event) {
+  const inField = event.target.matches("input:not([type=checkbox])") || $("help").open;
+  if (inField) {
+    if (event.key === "ArrowDown" && event.target === $("search")) { event.preventDefault(); $("units").focus(); unitList.move(Math.max(0, unitList.at)); }
+    return;
+  }
+  if (!$("single").checked || event.ctrlKey || event.altKey || event.metaKey || !Object.hasOwn(KEYS, event.key)) return;
+  event.preventDefault();
+  KEYS[event.key][1]();
+}
+
+function tabKey(event) {
+  const tabs = [...$("tabs").children].filter((it) => !it.hidden);
+  const step = { ArrowRight: 1, ArrowLeft: -1 }[event.key];
+  if (!step) return;
+  const next = tabs[(tabs.findIndex((it) => it.dataset.tab === shown.tab) + step + tabs.length) % tabs.length];
+  go(shown.unit, next.dataset.tab);
+  next.focus();
+}
+
+async function look(event) {
+  event.preventDefault();
+  const name = $("look-name").value.trim();
+  const reply = await fetch("/look", { method: "POST", headers: { "X-Board-Token": board.token }, body: JSON.stringify({ unit: name }) });
+  if (!reply.ok) return note((await reply.text()).trim());
+  $("look-name").value = "";
+  go((await reply.json()).unit, "text");
+}
+
+function begin() {
+  for (const [name, [words]] of Object.entries(filters))
+    $("filters").append(make("button", { "data-filter": name, "aria-pressed": String(name === filter), onclick: () => setFilter(name) }, words, make("span", { class: "number" })));
+  for (const [name, words] of Object.entries(TABS))
+    $("tabs").append(make("button", { role: "tab", "data-tab": name, "aria-controls": "panel", onclick: () => go(shown.unit, name) }, words));
+  const rows = [...Object.entries(KEYS).map(([key, [words]]) => [key, words]), ...LIST_KEYS];
+  $("keys").append(...rows.map(([key, words]) => make("tr", {}, make("th", { scope: "row" }, make("kbd", {}, key)), make("td", {}, words))));
+  $("single").checked = memory.get("single keys") ?? true;
+  $("single").addEventListener("change", () => memory.set("single keys", $("single").checked));
+  $("help-button").addEventListener("click", () => $("help").showModal());
+  $("search").addEventListener("input", listUnits);
+  $("tabs").addEventListener("keydown", tabKey);
+  $("look").addEventListener("submit", look);
+  document.addEventListener("keydown", onKey);
+  addEventListener("hashchange", follow);
+  addEventListener("pagehide", leavePlan);
+  document.addEventListener("visibilitychange", () => document.hidden ? board.leave() : board.connect());
+  follow();
+  board.connect();
+}
+
+begin();

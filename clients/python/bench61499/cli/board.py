@@ -1,0 +1,105 @@
+"""Shows a plant live, as a page in a browser on this machine: its units with their faults, its networks, its plans, and what changes."""
+from __future__ import annotations
+
+import argparse
+import sys
+import threading
+from pathlib import Path
+
+from bench61499 import WorkbenchError
+from bench61499.board.server import NO_NAME, BoardServer, is_name
+from bench61499.board.state import Board
+from bench61499.board.watch import CALLS_A_SECOND, FolderWatch, SharedWatch, keep, keep_connected
+from bench61499.cli.command import add_workbench, fail, open_once, open_session, program, read_path
+from bench61499.cli.version import add_version
+from bench61499.language.folder import Folder
+from bench61499.language.units import Misuse
+
+
+@program
+def main() -> int:
+    options = read_options()
+    try:
+        folder = open_folder(options.files if options.connect else options.path)
+        with open_session(options) as session:
+            board = Board(title(options), bool(options.connect))
+            serve(board, options.port)
+            if options.connect:
+                watch = SharedWatch(board, session, folder, options.unit, options.calls)
+                keep_connected(board, watch, lambda: open_once(options), say)
+            elif folder:
+                keep(board, FolderWatch(board, session, folder))
+    except (Misuse, WorkbenchError) as error:
+        return fail("board", error)
+    say(f"{board.why_ended()}; the page shows what was there before, until Ctrl-C")
+    threading.Event().wait()
+    return 0
+
+
+def say(words: str) -> None:
+    print(f"board: {words}", file=sys.stderr, flush=True)
+
+
+def read_options() -> argparse.Namespace:
+    reader = argparse.ArgumentParser(
+        prog="board",
+        description="Shows a plant live, as a page in a browser on this machine.",
+        epilog="Give a folder, whose files are watched, or --connect for a workbench that many use, which the board only asks.",
+    )
+    add_version(reader)
+    reader.add_argument("path", nargs="*", type=read_path, metavar="FOLDER|FILE", help="*.fb files, or folders of them")
+    reader.add_argument("--files", nargs="+", type=read_path, metavar="FOLDER|FILE", help="with --connect: where the texts of its units are")
+    reader.add_argument("--unit", nargs="+", type=read_name, default=[], metavar="NAME", help="with --connect: units to look at, beside those of the files")
+    reader.add_argument("--calls", type=read_rate, default=CALLS_A_SECOND, metavar="N",
+                        help=f"with --connect: recorded calls of the workbench in a second, at most, in the mean (default {CALLS_A_SECOND:g}); more show changes sooner")
+    reader.add_argument("--port", type=int, default=0, help="where the page is served (default: any free port)")
+    add_workbench(reader)
+    options = reader.parse_args()
+    if bool(options.path) == bool(options.connect):
+        reader.error("say what to show: a folder, or --connect to a workbench that serves")
+    if not options.connect and (options.files or options.unit):
+        reader.error("--files and --unit go with --connect")
+    if not 0 <= options.port < 65_536:
+        reader.error(f"there is no port {options.port}")
+    return options
+
+
+def read_name(words: str) -> str:
+    if not is_name(words):
+        raise argparse.ArgumentTypeError(f"{words!r} is no name: {NO_NAME}")
+    return words.upper()
+
+
+def read_rate(words: str) -> float:
+    try:
+        rate = float(words)
+    except ValueError:
+        rate = 0
+    if not 0 < rate <= 1000:
+        raise argparse.ArgumentTypeError(f"{words!r} is no number of calls, more than 0 and at most 1000")
+    return rate
+
+
+def open_folder(paths: list[Path] | None) -> Folder | None:
+    """The folder that is watched, once it was read. Raises `Misuse` where it is not there."""
+    if not paths:
+        return None
+    folder = Folder(paths)
+    folder.look()
+    return folder
+
+
+def title(options: argparse.Namespace) -> str:
+    words = "{}:{}".format(*options.connect) if options.connect else " ".join(map(str, options.path))
+    return words.encode(errors="replace").decode()
+
+
+def serve(board: Board, port: int) -> BoardServer:
+    """Serves the page from now on, and tells the user where. Raises `Misuse` where the port is taken."""
+    try:
+        server = BoardServer(board, port)
+    except OSError as error:
+        raise Misuse(f"the page can't be served at port {port}: {error.strerror}") from error
+    threading.Thread(target=server.serve_forever, daemon=True).start()
+    print(f"the board of {board.title} is at {server.address}", flush=True)
+    return server

@@ -1,0 +1,174 @@
+"""What the command line programs share: the workbench that they talk to, progress, errors."""
+from __future__ import annotations
+
+import argparse
+import codecs
+import os
+import sys
+import time
+from collections.abc import Callable
+from functools import wraps
+from io import TextIOWrapper
+from itertools import islice
+from pathlib import Path
+from typing import TextIO, TypeVar
+
+from bench61499 import ConnectionEnded, NoAnswer, NoSeat, NotLetIn, NoWorkbench, Session, find_program, pauses
+
+SEAT_PATIENCE = 60.0
+"""Seconds in which a program that runs once waits for a session that ends."""
+NOT_LET_IN = 2
+"""Times that it tries again after it was not let in."""
+AGAIN = 3
+"""Times that it connects again after a connection has ended."""
+Result = TypeVar("Result")
+
+
+def add_workbench(reader: argparse.ArgumentParser) -> None:
+    """Adds the words that say which workbench is meant."""
+    which = reader.add_mutually_exclusive_group()
+    which.add_argument("--program", help="the workbench to start (default: BENCH61499_PROGRAM, else the built one, else bench61499 on the path)")
+    which.add_argument("--connect", type=read_address, metavar="HOST:PORT", help="a workbench that serves")
+    secret = os.environ.get("BENCH61499_SECRET_FILE")
+    reader.add_argument("--secret", default=secret, metavar="FILE", help="with --connect: a file whose first line a host asks for (default: BENCH61499_SECRET_FILE)")
+
+
+def read_with_units(reader: argparse.ArgumentParser) -> argparse.Namespace:
+    """Adds the words that say which units there are, and reads all words."""
+    reader.add_argument("--files", nargs="+", type=read_path, metavar="FOLDER|FILE", help="put these units into the workbench first")
+    add_workbench(reader)
+    options = reader.parse_args()
+    if not options.files and not options.connect:
+        reader.error("say which units there are: --files FOLDER, or --connect to a workbench that has them")
+    return options
+
+
+def read_address(words: str) -> tuple[str, int]:
+    """`HOST:PORT` or `:PORT`; an IPv6 host in brackets."""
+    host, colon, port = words.rpartition(":")
+    if not colon or not port.isdecimal() or not 0 < int(port) < 65_536:
+        raise argparse.ArgumentTypeError(f"{words!r} is no HOST:PORT")
+    return host.strip("[]") or "127.0.0.1", int(port)
+
+
+def read_path(words: str) -> Path:
+    """A file or a folder; an empty word, such as a shell makes of a variable that is not set, would be the present folder."""
+    if not words:
+        raise argparse.ArgumentTypeError("an empty word names no file or folder")
+    return Path(words)
+
+
+def open_once(options: argparse.Namespace) -> Session:
+    """The session that the words ask for. Raises `NoWorkbench` and the like."""
+    if not options.connect:
+        return Session.script(options.program or find_program())
+    host, port = options.connect
+    return Session.connect(host, port, secret=read_secret(options.secret))
+
+
+def open_session(options: argparse.Namespace) -> Session:
+    """As `open_once`, for a program that runs once: if all sessions are in use it waits for one, and if it is not let in it tries again."""
+    end, refused = time.monotonic() + SEAT_PATIENCE, 0
+    for pause in pauses():
+        try:
+            return open_once(options)
+        except NoSeat as error:
+            if time.monotonic() + pause > end:
+                raise
+            if not refused:
+                print(f"{error}; trying again", file=sys.stderr)
+        except NotLetIn:
+            if refused >= NOT_LET_IN:
+                raise
+        refused += 1
+        time.sleep(pause)
+    raise AssertionError("the pauses ended")
+
+
+def persistently(options: argparse.Namespace, act: Callable[[], Result]) -> Result:
+    """Does what can be done again and again, and does it again if the connection to a workbench that serves ends meanwhile, some times."""
+    for pause in islice(pauses(), AGAIN if options.connect else 0):
+        try:
+            return act()
+        except NotLetIn:
+            raise
+        except (ConnectionEnded, NoAnswer) as error:
+            print(f"{error}; connecting again", file=sys.stderr)
+            time.sleep(pause)
+    return act()
+
+
+def read_secret(file: str | None) -> str | None:
+    """The first line of a file. Raises `NoWorkbench` if it has none."""
+    if not file:
+        return None
+    try:
+        with open(file, encoding="utf-8", newline="") as lines:
+            secret = lines.readline().rstrip("\n")
+    except (OSError, UnicodeDecodeError) as error:
+        raise NoWorkbench(f"the secret can't be read from {file}: {getattr(error, 'strerror', None) or 'it is not UTF-8'}") from error
+    if not secret:
+        raise NoWorkbench(f"the first line of {file} is empty, so it has no secret")
+    return secret
+
+
+def program(main: Callable[[], int]) -> Callable[[], int]:
+    """Lets `main` end quietly where the user breaks it off, or where nobody reads what it prints. Each gives the status of the program."""
+
+    @wraps(main)
+    def guarded() -> int:
+        sys.stdout = sys.stdout or open(os.devnull, "w", encoding="utf-8")  # It may be closed.
+        try:
+            make_printable(sys.stdout)
+            status = main()
+            sys.stdout.flush()
+        except KeyboardInterrupt:
+            return 130
+        except BrokenPipeError:
+            drop_output()
+            return 141
+        except OSError as error:
+            drop_output()
+            return fail(Path(sys.argv[0]).name, error)
+        return status
+
+    return guarded
+
+
+def make_printable(output: TextIO) -> None:
+    """Lets names of files and texts be printed that the output has no characters for: names of no UTF-8 by their bytes, other words escaped."""
+    if isinstance(output, TextIOWrapper):
+        is_utf_8 = codecs.lookup(output.encoding).name == "utf-8"
+        output.reconfigure(errors="surrogateescape" if is_utf_8 else "backslashreplace")
+
+
+def drop_output() -> None:
+    """Has what is not printed yet go nowhere."""
+    os.dup2(os.open(os.devnull, os.O_WRONLY), sys.stdout.fileno())
+
+
+def fail(program: str, error: Exception) -> int:
+    """Tells the user and gives the status for it."""
+    print(f"{program}: {error}", file=sys.stderr)
+    return 2
+
+
+class Progress:
+    """One line on standard error that tells how far the work is: on a terminal, and from its second second on."""
+
+    def __init__(self) -> None:
+        self._shown = False
+        self._next = time.monotonic() + 1
+
+    def __enter__(self) -> Progress:
+        return self
+
+    def __exit__(self, *_: object) -> None:
+        if self._shown:
+            print("\r\033[K", end="", file=sys.stderr, flush=True)
+
+    def show(self, words: str) -> None:
+        if sys.stderr.isatty() and time.monotonic() >= self._next:
+            print(f"\r\033[K{words}", end="", file=sys.stderr, flush=True)
+            self._shown = True
+            self._next = time.monotonic() + 0.1

@@ -1,0 +1,220 @@
+"""Draws the flat network of a subapplication or a system as Graphviz text or as an SVG picture."""
+from __future__ import annotations
+
+import argparse
+import subprocess
+import sys
+from collections.abc import Iterator
+from itertools import zip_longest
+from pathlib import Path
+
+from bench61499 import (
+    Blocked, Border, Deploy, Faulty, Flat, Net, NoSuchKey, Plan, Recursive, Session, TooLarge, WorkbenchError,
+)
+from bench61499.cli.asking import Texts, asking
+from bench61499.cli.command import fail, program, read_with_units
+from bench61499.cli.version import add_version
+from bench61499.language.explain import KIND_NAMES
+from bench61499.language.network import Box, End, Network, Port, Tag, Wire, homes
+from bench61499.language.tokens import declared_kind
+from bench61499.language.units import Misuse, is_broken
+
+RED, BLUE, GREY = "#c62828", "#1565c0", "#616161"
+COLOURS = {"event": RED, "data": BLUE, "adapter": GREY}
+WITHOUT_NETWORK = ("FUNCTION_BLOCK", "ADAPTER", "TYPE")
+
+
+class NoPicture(Exception):
+    """The unit has no network; the text tells why."""
+
+
+@program
+def main() -> int:
+    options = read_options()
+    try:
+        texts, net, deploy = ask(options)
+        picture = "\n".join(Picture(options.unit, texts, net, deploy).lines()) + "\n"
+        if options.svg:
+            write_svg(picture, options.svg)
+        else:
+            print(picture, end="")
+    except NoPicture as error:
+        print(f"draw: {error}", file=sys.stderr)
+        return 1
+    except (Misuse, WorkbenchError) as error:
+        return fail("draw", error)
+    return 0
+
+
+def read_options() -> argparse.Namespace:
+    reader = argparse.ArgumentParser(
+        prog="draw",
+        description="Draws the flat network of a subapplication or a system: event links red, data links blue; the blocks of a system "
+        "by their resources, and links from one resource to another dashed.",
+        epilog="Ends with status 0 where it has drawn, 1 where the unit has no network, 2 where it could not ask for it.",
+    )
+    add_version(reader)
+    reader.add_argument("unit", type=str.upper, metavar="UNIT", help="a subapplication or a system")
+    reader.add_argument("--svg", type=Path, metavar="FILE", help="write an SVG picture, with Graphviz, and print nothing")
+    return read_with_units(reader)
+
+
+def ask(options: argparse.Namespace) -> tuple[Texts, Flat, Deploy | None]:
+    """The texts that are known, the network, and of a system the plan. Raises `NoPicture`."""
+    with asking(options) as (session, texts, show):
+        try:
+            net = session.wait("net", options.unit, show)
+        except NoSuchKey:
+            raise NoPicture(why_no_key(session, options.unit, texts)) from None
+        if not isinstance(net, Flat):
+            raise NoPicture(why_no_net(session, options.unit, net))
+        return texts, net, ask_deploy(session, options.unit)
+
+
+def ask_deploy(session: Session, unit: str) -> Deploy | None:
+    try:
+        return session.wait("deploy", unit)
+    except NoSuchKey:
+        return None
+
+
+def why_no_key(session: Session, unit: str, texts: Texts) -> str:
+    kind = declared_kind(texts[unit]) if unit in texts else None
+    if kind in WITHOUT_NETWORK:
+        return f"{unit} is {KIND_NAMES[kind]}; only subapplications and systems have networks"
+    if is_broken(session, unit):
+        return f"{unit} has no network, as its text has a SYNTAX fault; check shows it"
+    return f"the workbench has no subapplication or system {unit}"
+
+
+def why_no_net(session: Session, unit: str, net: Net) -> str:
+    match net:
+        case Blocked(units):
+            missing = [it for it in units if not session.revision(it)]
+            faulty = [it for it in units if it not in missing]
+            reasons = [f"{title}: {', '.join(its)}" for title, its in (("missing", missing), ("with faults", faulty)) if its]
+            return f"{unit} has no network, as it rests on units that are not there or not sound ({'; '.join(reasons)})"
+        case Recursive(units):
+            return f"{unit} has no network, as units hold themselves: {', '.join(units)}"
+        case TooLarge():
+            return f"{unit} has no network, as it would have more than 4,096 instances"
+    raise AssertionError(net)
+
+
+def write_svg(picture: str, file: Path) -> None:
+    try:
+        subprocess.run(["dot", "-Tsvg", "-o", str(file)], input=picture, text=True, check=True)
+    except FileNotFoundError:
+        raise Misuse("there is no program dot here; install Graphviz, or leave --svg away") from None
+    except subprocess.CalledProcessError:
+        raise Misuse(f"dot could not write {file}") from None
+
+
+class Picture:
+    """A network as Graphviz text."""
+
+    def __init__(self, unit: str, texts: Texts, net: Flat, deploy: Deploy | None):
+        self._unit = unit
+        self._network = Network(unit, texts, net)
+        self._plan = deploy if isinstance(deploy, Plan) else None
+        self._faulty = deploy if isinstance(deploy, Faulty) else None
+        self._cuts = frozenset(self._plan.cuts) if self._plan else frozenset()
+
+    def lines(self) -> Iterator[str]:
+        yield f'digraph "{self._unit}" {{'
+        yield f"  graph [rankdir=LR, nodesep=0.35, ranksep=1.1, fontname=Helvetica, fontsize=12, label={self._title()}, labelloc=t];"
+        yield "  node [shape=plain, fontname=Helvetica, fontsize=11];"
+        yield "  edge [fontname=Helvetica, fontsize=9, arrowsize=0.7];"
+        yield from self._places()
+        yield from self._borders()
+        yield from map(self._wire, self._network.wires)
+        yield "}"
+
+    def _title(self) -> str:
+        if not self._faulty:
+            return f"<<B>{self._unit}</B>>"
+        unmapped = sum(it.reason == "UNMAPPED" for it in self._faulty.misplaced)
+        wrong = len(self._faulty.misplaced) - unmapped
+        blocks = counted(unmapped, "block is not mapped", "blocks are not mapped")
+        mappings = counted(wrong, "mapping names no block", "mappings name no block")
+        return f"<<B>{self._unit}</B><BR/>not deployed: {blocks}, {mappings}>"
+
+    def _wire(self, wire: Wire) -> str:
+        source, destination = wire.source, wire.destination
+        style = {"color": f'"{COLOURS[wire.link.sort]}"'}
+        if wire.inner:
+            style |= {"label": f'"{wire.inner}"', "fontcolor": style["color"]}
+        if wire.link in self._cuts:
+            style["style"] = "dashed"
+        if wire.is_backward:
+            source, destination = destination, source
+            style["dir"] = "back"
+        return edge(graphviz(source), graphviz(destination), style)
+
+    def _places(self) -> Iterator[str]:
+        """The blocks, those of a system by their resources."""
+        boxes, placed = self._network.boxes, homes(self._plan)
+        for resource in self._plan.resources if self._plan else ():
+            yield f'  subgraph "cluster {resource.name}" {{'
+            yield f'    label="{resource.name}"; style="rounded,filled"; color="#b0bec5"; fillcolor="#f5f7f8";'
+            yield from (f"    {node(boxes[path])}" for path, home in placed.items() if home == resource.name)
+            yield "  }"
+        yield from (f"  {node(box)}" for path, box in boxes.items() if path not in placed)
+
+    def _borders(self) -> Iterator[str]:
+        """The own ports of a subapplication: on the left what comes in, on the right what goes out."""
+        for left, rank in ((True, "source"), (False, "sink")):
+            side = [border_node(tag.border) for tag in self._network.tags if tag.left == left]
+            if side:
+                yield f"  {{ rank={rank}; {' '.join(dict.fromkeys(side))} }}"
+        yield from map(self._border_edge, self._network.tags)
+
+    def _border_edge(self, tag: Tag) -> str:
+        inside, outside = graphviz(tag.inside), f'"{tag.border.sort} {tag.border.port}"'
+        style = {"color": f'"{COLOURS[tag.border.sort]}"'}
+        if tag.border.sort == "adapter" or not self._network.own:
+            style["dir"] = "none"
+        return edge(outside, inside, style) if tag.left else edge(inside, outside, style)
+
+
+def graphviz(end: End) -> str:
+    """The end of an edge at a port."""
+    return f'"{end.box.block.path}":"{end.port.sort} {end.port.name}":{"w" if end.is_left else "e"}'
+
+
+def counted(number: int, one: str, many: str) -> str:
+    return f"{number} {one if number == 1 else many}"
+
+
+def edge(source: str, destination: str, style: dict[str, str]) -> str:
+    return f"  {source} -> {destination} [{', '.join(f'{name}={value}' for name, value in style.items())}];"
+
+
+def node(box: Box) -> str:
+    """A block as a table: its path and type, then its ports."""
+    head = f'<TR><TD COLSPAN="2" BGCOLOR="#eceff1"><B>{box.block.path}</B><BR/><I>{box.block.type}</I></TD></TR>'
+    rows = "".join(port_row(left, right) for sort in COLOURS for left, right in zip_longest(of(box.left, sort), of(box.right, sort)))
+    table = f'<TABLE BORDER="1" CELLBORDER="0" CELLSPACING="0" CELLPADDING="4" BGCOLOR="white">{head}{rows}</TABLE>'
+    return f'"{box.block.path}" [label=<{table}>];'
+
+
+def of(side: list[Port], sort: str) -> list[Port]:
+    return [port for port in side if port.sort == sort]
+
+
+def port_row(left: Port | None, right: Port | None) -> str:
+    return f"<TR>{cell('LEFT', left)}{cell('RIGHT', right)}</TR>"
+
+
+def cell(side: str, port: Port | None) -> str:
+    if not port:
+        return "<TD></TD>"
+    shown = port.name
+    if port.sort == "adapter":
+        shown = f"<B>&raquo; {shown}</B>" if side == "LEFT" else f"<B>{shown} &raquo;</B>"
+    return f'<TD PORT="{port.sort} {port.name}" ALIGN="{side}"><FONT COLOR="{COLOURS[port.sort]}">{shown}</FONT></TD>'
+
+
+def border_node(border: Border) -> str:
+    colour = COLOURS[border.sort]
+    return f'"{border.sort} {border.port}" [shape=cds, label="{border.port}", color="{colour}", fontcolor="{colour}"];'

@@ -1,0 +1,155 @@
+"""Exchanges units with other tools: XML of IEC 61499-2 becomes texts, texts become XML, and plans become boot files of FORTE."""
+from __future__ import annotations
+
+import argparse
+import sys
+from collections.abc import Callable
+from functools import partial
+
+from bench61499 import Net, Session, WorkbenchError
+from bench61499.cli.command import add_workbench, program, read_path
+from bench61499.cli.plan import NoPlan, ask, plan_in
+from bench61499.cli.version import add_version
+from bench61499.exchange.boot import KINDS_OF_START, Boot, Refused, Start, find_start
+from bench61499.exchange.exports import Export
+from bench61499.exchange.folders import Target, Unwritable
+from bench61499.exchange.from_text import read_or_none
+from bench61499.exchange.imports import Import
+from bench61499.exchange.outgoing import TOOLS
+from bench61499.exchange.report import Run, counted
+from bench61499.exchange.spellings import Spellings
+from bench61499.language.units import Misuse, read_units
+
+
+@program
+def main() -> int:
+    options = read_options()
+    work: Callable[[argparse.Namespace], int] = options.work
+    return work(options)
+
+
+def read_options() -> argparse.Namespace:
+    reader = argparse.ArgumentParser(prog="exchange", description="Exchanges units with other tools for IEC 61499.")
+    add_version(reader)
+    works = reader.add_subparsers(metavar="WORK", required=True)
+    _add_import(works)
+    _add_export(works)
+    _add_boot(works)
+    return reader.parse_args()
+
+
+def _add_import(works: argparse._SubParsersAction[argparse.ArgumentParser]) -> None:
+    reader = works.add_parser(
+        "import",
+        help="make texts of units of XML files",
+        description="Makes texts of units of XML files of IEC 61499-2, one for each type and system.",
+        epilog="Ends with status 0 if all is whole, 1 if something is left out, replaced, not checked or has one name with another thing, "
+        "2 if a file could not be read or a unit not be written.",
+    )
+    _add_paths(reader, "XML files, or folders with such files")
+    reader.set_defaults(work=import_)
+
+
+def _add_export(works: argparse._SubParsersAction[argparse.ArgumentParser]) -> None:
+    reader = works.add_parser(
+        "export",
+        help="make XML files of texts",
+        description="Makes an XML file of IEC 61499-2 of each unit.",
+        epilog="Ends with status 0 if all is whole, 1 if something is left out or replaced, 2 if a file could not be read or a unit not be written.",
+    )
+    _add_paths(reader, "texts of units, or folders with *.fb files")
+    tool = "the tool that is to read it: 4diac 2 or 3, 4diac 1, or FBDK (default: %(default)s)"
+    reader.add_argument("--for", dest="tool", choices=TOOLS, default=TOOLS[0], help=tool)
+    reader.set_defaults(work=export)
+
+
+def _add_boot(works: argparse._SubParsersAction[argparse.ArgumentParser]) -> None:
+    reader = works.add_parser(
+        "boot",
+        help="make boot files of FORTE of a system",
+        description="Makes a boot file of FORTE for each device of a system, from its plan.",
+        epilog="Ends with status 0 if all is written and no link is cut, 1 if the system has no plan or cut links are left to be joined, 2 if it could not ask "
+        "or write, or two blocks would have one name.",
+    )
+    reader.add_argument("unit", type=str.upper, metavar="SYSTEM", help="a system")
+    reader.add_argument("--files", required=True, nargs="+", type=read_path, metavar="FOLDER|FILE", help="the units, which are put into the workbench first")
+    _add_target(reader)
+    for kind in KINDS_OF_START:
+        words = f"an event input that START.{kind} leads to, such as LINE.FIRST.START; may be given more than once"
+        reader.add_argument(f"--{kind.lower()}", dest="starts", action="append", default=[], type=partial(_start, kind), metavar="END", help=words)
+    reader.add_argument("--applications", action="store_true", help="keep the name of the application before that of a block")
+    reader.add_argument("--plain-types", action="store_true", help="write types without packages, for a FORTE before 3.0")
+    add_workbench(reader)
+    reader.set_defaults(work=boot)
+
+
+def _start(kind: str, end: str) -> tuple[str, str]:
+    return kind, end
+
+
+def _add_paths(reader: argparse.ArgumentParser, what: str) -> None:
+    reader.add_argument("paths", nargs="+", type=read_path, metavar="FILE|FOLDER", help=what)
+    _add_target(reader)
+
+
+def _add_target(reader: argparse.ArgumentParser) -> None:
+    reader.add_argument("--to", required=True, type=read_path, metavar="FOLDER", help="the folder that is written to")
+    reader.add_argument("--replace", action="store_true", help="write over files of the folder that have another content")
+    reader.add_argument("--quiet", action="store_true", help="print neither notes nor the last line")
+
+
+def import_(options: argparse.Namespace) -> int:
+    return told(Import(options.paths, Target(options.to, options.replace), complain), options.quiet)
+
+
+def export(options: argparse.Namespace) -> int:
+    return told(Export(options.paths, Target(options.to, options.replace), options.tool, complain), options.quiet)
+
+
+def told(work: Run, quiet: bool) -> int:
+    for line in work.lines(quiet):
+        print(line)
+    return work.status
+
+
+def boot(options: argparse.Namespace) -> int:
+    try:
+        made = boot_of(options)
+        target = Target(options.to, options.replace)
+        for name, text in made.files.items():
+            target.write(name, text)
+    except NoPlan as error:
+        complain(str(error))
+        return 1
+    except (Misuse, Refused, Unwritable, WorkbenchError) as error:
+        complain(str(error))
+        return 2
+    for line in made.lines():
+        print(line)
+    if not options.quiet:
+        print(f"{counted(len(made.files), 'boot file')} in {options.to}: {made.outcome}")
+    return 0 if made.is_complete else 1
+
+
+def boot_of(options: argparse.Namespace) -> Boot:
+    """The boot files of the plan. Raises `NoPlan`, `Misuse` and `Refused`."""
+    types = {it.name.upper(): it for unit in read_units(options.files) if (it := read_or_none(unit.text))}
+    system = types.get(options.unit)
+    spellings = Spellings(system, types, options.plain_types) if system and system.kind == "SYSTEM" else None
+    starts, nets = list[Start](), dict[str, Net]()
+
+    def ask_nets(session: Session) -> None:
+        """Asks where the starts lead that are event inputs of subapplications."""
+        starts.extend(find_start(kind, end, spellings) for kind, end in dict.fromkeys(options.starts) if spellings)
+        for name in {it.type for it in starts if types[it.type].kind == "SUBAPPLICATION"}:
+            nets[name] = session.wait("net", name)
+
+    plan = plan_in(options.unit, ask(options, ask_nets))
+    assert spellings
+    return Boot(plan, spellings, starts, nets, options.applications)
+
+
+def complain(words: str) -> None:
+    print(f"exchange: {words}", file=sys.stderr)
+
+

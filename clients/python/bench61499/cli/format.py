@@ -1,0 +1,127 @@
+"""Lays out the texts of units: files, folders, or standard input."""
+from __future__ import annotations
+
+import argparse
+import os
+import shutil
+import sys
+import tempfile
+from collections.abc import Iterable, Iterator
+from pathlib import Path
+
+from bench61499 import TEXT_LIMIT, Places
+from bench61499.cli.command import program, read_path
+from bench61499.cli.version import add_version
+from bench61499.language.grammar import first_stop
+from bench61499.language.layout import applied, formatted
+from bench61499.language.syntax import explained
+from bench61499.language.tokens import tokens
+from bench61499.language.units import Misuse, find_files, read_text
+
+INPUT = Path("-")
+
+
+@program
+def main() -> int:
+    options = read_options()
+    status = 0
+    for file in files(options.path):
+        try:
+            changes = format_input(options.check) if file == INPUT else format_file(file, options.check)
+        except Misuse as error:
+            print(error, file=sys.stderr)
+            status = 2
+            continue
+        if changes and options.check:
+            status = status or 1
+    return status
+
+
+def read_options() -> argparse.Namespace:
+    reader = argparse.ArgumentParser(
+        prog="format",
+        description="Lays out units: lines indented by nesting, one blank or none between tokens, at most one empty line. Tokens, comments and line breaks "
+        "stay. Prints the names of the files that it changes.",
+        epilog="Ends with status 0 where all is laid out, 1 with --check where something is not, 2 where a text is broken or a file can't be read or written: "
+        "these are left as they are.",
+    )
+    add_version(reader)
+    reader.add_argument("path", nargs="+", type=read_path, metavar="FOLDER|FILE|-", help="*.fb files, or folders of them; - is standard input, laid out to standard output")
+    reader.add_argument("--check", action="store_true", help="change nothing, and print the names of the files that would change")
+    return reader.parse_args()
+
+
+def files(paths: Iterable[Path]) -> Iterator[Path]:
+    """The files of the paths. One path after the other, so that what can't be looked at is no hindrance to the others."""
+    for path in dict.fromkeys(paths):
+        if path == INPUT:
+            yield path
+            continue
+        try:
+            yield from find_files([path])
+        except Misuse:
+            yield path  # It is told when it is read.
+
+
+def format_input(is_check: bool) -> bool:
+    """Lays out standard input; a text that can't be laid out goes out as it is. Tells whether that changes something."""
+    content = sys.stdin.buffer.read()
+    out = content
+    try:
+        out = laid_out("standard input", _decoded(content)).encode()
+    finally:
+        if not is_check:
+            sys.stdout.buffer.write(out)
+    if is_check and out != content:
+        print(INPUT)
+    return out != content
+
+
+def _decoded(content: bytes) -> str:
+    try:
+        return content.decode()
+    except UnicodeDecodeError as error:
+        raise Misuse(f"standard input: is not UTF-8: byte {error.start} is 0x{content[error.start]:02x}") from error
+
+
+def format_file(file: Path, is_check: bool) -> bool:
+    """Lays out a file and prints its name where that changes it."""
+    text = read_text(file)
+    new = laid_out(str(file), text)
+    if new == text:
+        return False
+    if not is_check:
+        write(file, new)
+    print(file)
+    return True
+
+
+def laid_out(name: str, text: str) -> str:
+    """The text in its one form. Raises `Misuse` for one that is broken, or would be too long then."""
+    its = list(tokens(text))
+    if stop := first_stop(its):
+        places = Places(text)
+        place = its[stop.at].start if stop.at < len(its) else len(places.encoded)
+        line, column = places.line_column(place)
+        raise Misuse(f"{name}:{line}:{column}: left as it is: {explained(text, its, stop.at)}")
+    new = applied(text, formatted(text))
+    if (size := len(new.encode())) > TEXT_LIMIT:
+        raise Misuse(f"{name}: left as it is: laid out it would have {size:,} bytes, and the text of a unit has at most {TEXT_LIMIT:,}")
+    return new
+
+
+def write(file: Path, text: str) -> None:
+    """Gives a file another text, wholly or not at all. Raises `Misuse`."""
+    target = file.resolve()
+    try:
+        number, name = tempfile.mkstemp(dir=target.parent, prefix=f".{target.name}.")
+        try:
+            with open(number, "wb") as new:
+                new.write(text.encode())
+            shutil.copymode(target, name)
+            os.replace(name, target)
+        except OSError:
+            os.unlink(name)
+            raise
+    except OSError as error:
+        raise Misuse(f"{file}: can't be written: {error.strerror}") from error

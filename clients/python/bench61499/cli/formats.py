@@ -1,0 +1,191 @@
+"""The forms in which check tells what it has found: lines for people, JSON, commands of GitHub's workflows, SARIF 2.1.0 and JUnit's XML."""
+from __future__ import annotations
+
+import json
+import os
+import re
+import sys
+from collections.abc import Callable, Iterator
+from pathlib import Path
+from urllib.parse import quote
+from xml.etree import ElementTree
+
+from bench61499 import Flat, Plan
+from bench61499.cli.findings import Answers, Finding, Found
+from bench61499.cli.show import excerpt
+from bench61499.cli.version import VERSION
+from bench61499.language import codes, plans
+from bench61499.language.units import Unit
+from bench61499.language.wording import counted
+
+NOT_CHECKED = "(not checked by the workbench: mend the SYNTAX first)"
+_NOT_IN_XML = re.compile("[^\t\n\r\x20-\ud7ff\ue000-\ufffd\U00010000-\U0010ffff]")
+_SCHEMA = "https://docs.oasis-open.org/sarif/sarif/v2.1.0/errata01/os/schemas/sarif-schema-2.1.0.json"
+_GITHUB_LEVELS = {"error": "error", "note": "notice"}
+Json = dict[str, object]
+
+
+def told(it: Finding) -> str:
+    """The words for a finding; a note says that it is one."""
+    return it.explanation if it.level == "error" else f"{it.explanation} {NOT_CHECKED}"
+
+
+# Lines
+
+
+class Style:
+    """Colours on a terminal, nothing elsewhere."""
+
+    def __init__(self) -> None:
+        coloured = sys.stdout.isatty() and not os.environ.get("NO_COLOR") and os.environ.get("TERM") != "dumb"
+        self.bold, self.red, self.green, self.end = ("\033[1m", "\033[1;31m", "\033[32m", "\033[0m") if coloured else ("",) * 4
+
+
+def lines(found: Found, quiet: bool) -> Iterator[str]:
+    style = Style()
+    for it in found.all():
+        line, column = it.begin
+        yield f"{style.bold}{it.unit.file}:{line}:{column}:{style.end} {style.red}{it.code}{style.end}: {told(it)}"
+        if not quiet:
+            source, carets = excerpt(it.places, *it.shown)
+            yield f"  {source}".rstrip()
+            yield f"  {style.green}{carets}{style.end}"
+
+
+def summary(found: Found) -> Iterator[str]:
+    units = counted(len(found.units), "unit")
+    faulty = len({it.unit.name for it in found.faults})
+    yield f"{counted(len(found.faults), 'fault')} in {faulty:,} of {units}" if found.faults else f"{units}, no faults"
+    if found.notes:
+        yield f"{counted(len(found.notes), 'note')} on texts with a SYNTAX fault, not checked by the workbench"
+    if found.answers:
+        yield f"networks: {_there(found.answers, 'networks')}, plans: {_there(found.answers, 'plans')}"
+
+
+def _there(answers: Answers, what: str) -> str:
+    return "{there:,} of {wanted:,}".format_map(_counts(answers)[what])
+
+
+def _counts(answers: Answers) -> dict[str, dict[str, int]]:
+    """How many networks and plans there are, and how many there should be."""
+    nets, deploys = answers.nets.values(), answers.deploys.values()
+    return {
+        "networks": {"there": sum(isinstance(it, Flat) for it in nets), "wanted": len(nets)},
+        "plans": {"there": sum(isinstance(it, Plan) for it in deploys), "wanted": len(deploys)},
+    }
+
+
+# JSON
+
+
+def as_json(found: Found) -> str:
+    """In ASCII: a name of a file that is no UTF-8 can be told in no other way."""
+    value: Json = {"units": len(found.units), "faults": [_entry(it) for it in found.faults], "notes": [_entry(it) for it in found.notes]}
+    if found.answers:
+        value["reasons"] = [_entry(it) for it in found.reasons]
+        value.update(_counts(found.answers))
+    return json.dumps(value, indent=2)
+
+
+def _entry(it: Finding) -> Json:
+    (line, column), (end_line, end_column) = it.begin, it.behind
+    return {
+        "file": str(it.unit.file),
+        "line": line,
+        "column": column,
+        "end_line": end_line,
+        "end_column": end_column,
+        "unit": it.unit.name,
+        "code": it.code,
+        "level": it.level,
+        "explanation": it.explanation,
+        "start": it.start,
+        "end": it.end,
+    }
+
+
+# GitHub
+
+
+def as_github(found: Found) -> str:
+    """One command a line, which GitHub shows beside the line of the file."""
+    return "\n".join(map(_command, found.all()))
+
+
+def _command(it: Finding) -> str:
+    (line, column), (end_line, end_column) = it.begin, it.behind
+    if end_line == line:
+        end_column = max(column, end_column - 1)  # The last column, which belongs to the span here.
+    places = {"file": str(it.unit.file), "line": line, "endLine": end_line, "col": column, "endColumn": end_column, "title": it.code}
+    properties = ",".join(f"{name}={_escaped(str(value), ':,')}" for name, value in places.items())
+    return f"::{_GITHUB_LEVELS[it.level]} {properties}::{_escaped(told(it))}"
+
+
+def _escaped(words: str, more: str = "") -> str:
+    return "".join(f"%{ord(it):02X}" if it in "%\r\n" + more else it for it in words)
+
+
+# SARIF
+
+
+def as_sarif(found: Found) -> str:
+    rules = {**codes.CODES, **plans.CODES}
+    places = {code: at for at, code in enumerate(rules)}
+    driver = {
+        "name": "bench61499",
+        "semanticVersion": VERSION,
+        "rules": [{"id": code, "shortDescription": {"text": words}, "defaultConfiguration": {"level": "error"}} for code, words in rules.items()],
+    }
+    run = {
+        "tool": {"driver": driver},
+        "columnKind": "unicodeCodePoints",
+        "results": [_result(it, places) for it in found.all()],
+    }
+    return json.dumps({"$schema": _SCHEMA, "version": "2.1.0", "runs": [run]}, indent=2)
+
+
+def _result(it: Finding, rules: dict[str, int]) -> Json:
+    (line, column), (end_line, end_column) = it.begin, it.behind
+    region = {"startLine": line, "startColumn": column, "endLine": end_line, "endColumn": end_column}
+    where = {"artifactLocation": {"uri": _uri(it.unit.file)}, "region": region}
+    rule = {"ruleIndex": rules[it.code]} if it.code in rules else {}
+    return {"ruleId": it.code, **rule, "level": it.level, "message": {"text": told(it)}, "locations": [{"physicalLocation": where}]}
+
+
+def _uri(file: Path) -> str:
+    return file.as_uri() if file.is_absolute() else quote(os.fsencode(file.as_posix()))
+
+
+# JUnit
+
+
+def as_junit(found: Found) -> str:
+    """One test case a unit, which fails with all that was found in it."""
+    findings: dict[str, list[Finding]] = {unit.name: [] for unit in found.units}
+    for it in found.all():
+        findings[it.unit.name].append(it)
+    counts = {"tests": str(len(findings)), "failures": str(sum(map(bool, findings.values()))), "errors": "0", "skipped": "0"}
+    top = ElementTree.Element("testsuites", {"name": "bench61499", **counts})
+    suite = ElementTree.SubElement(top, "testsuite", {"name": "units", **counts})
+    for unit in found.units:
+        _test_case(suite, unit, findings[unit.name])
+    ElementTree.indent(top)
+    return f'<?xml version="1.0" encoding="UTF-8"?>\n{ElementTree.tostring(top, encoding="unicode")}'
+
+
+def _test_case(suite: ElementTree.Element, unit: Unit, findings: list[Finding]) -> None:
+    file = _in_xml(str(unit.file))
+    case = ElementTree.SubElement(suite, "testcase", classname=file, name=unit.name, file=file)
+    if findings:
+        errors = [it for it in findings if it.level == "error"]
+        message = _in_xml(f"{errors[0].code}: {errors[0].explanation}" if len(errors) == 1 else f"{len(errors):,} faults")
+        failure = ElementTree.SubElement(case, "failure", message=message, type=errors[0].code)
+        failure.text = _in_xml("\n".join(f"{unit.file}:{it.begin[0]}:{it.begin[1]}: {it.code}: {told(it)}" for it in findings))
+
+
+def _in_xml(words: str) -> str:
+    """Words without what no XML can have."""
+    return _NOT_IN_XML.sub("\ufffd", words)
+
+
+MACHINE_FORMATS: dict[str, Callable[[Found], str]] = {"json": as_json, "github": as_github, "sarif": as_sarif, "junit": as_junit}

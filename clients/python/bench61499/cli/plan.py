@@ -1,0 +1,134 @@
+"""Prints what each resource of a system is told to run it there, and the links between resources."""
+from __future__ import annotations
+
+import argparse
+import json
+import sys
+from collections.abc import Callable, Iterator, Sequence
+from dataclasses import asdict
+
+from bench61499 import Blocked, Deploy, Faulty, NoSuchKey, Plan, Recursive, Session, Stopped, TooLarge, WorkbenchError
+from bench61499.cli.asking import asking
+from bench61499.cli.command import fail, program, read_with_units
+from bench61499.cli.version import add_version
+from bench61499.language.explain import KIND_NAMES
+from bench61499.language.plans import why_misplaced
+from bench61499.language.tokens import declared_kind
+from bench61499.language.units import Misuse, is_broken
+
+
+class NoPlan(Exception):
+    """The unit has no plan; the text tells why, and so do the reasons, each of its own form."""
+
+    def __init__(self, text: str, reasons: Sequence[dict[str, object]] = ()):
+        super().__init__(text)
+        self.reasons = list(reasons) or [{"explanation": text}]
+
+
+@program
+def main() -> int:
+    options = read_options()
+    try:
+        plan = of_resource(options.resource, options.unit, plan_in(options.unit, ask(options)))
+        if not plan.resources and not options.json:
+            print(f"plan: {options.unit} has no resources, and so there is nothing to tell them", file=sys.stderr)
+        for line in [as_json(options.unit, plan)] if options.json else lines(plan):
+            print(line)
+    except NoPlan as error:
+        if options.json:
+            print(json.dumps({"unit": options.unit, "reasons": error.reasons}, indent=2))
+        else:
+            print(f"plan: {error}", file=sys.stderr)
+        return 1
+    except (Misuse, WorkbenchError) as error:
+        return fail("plan", error)
+    return 0
+
+
+def read_options() -> argparse.Namespace:
+    reader = argparse.ArgumentParser(
+        prog="plan",
+        description="Prints what each resource of a system is told to run it there (CREATE, WRITE and START), and the links that lead from one resource to another.",
+        epilog="Ends with status 0 where it has printed the plan, 1 where the system has none, 2 where it could not ask for it.",
+    )
+    add_version(reader)
+    reader.add_argument("unit", type=str.upper, metavar="SYSTEM", help="a system")
+    reader.add_argument("--resource", type=str.upper, metavar="DEVICE.RESOURCE", help="print the commands of this resource alone")
+    reader.add_argument("--json", action="store_true", help="print one JSON object: the cuts and the commands, or the reasons why there are none")
+    return read_with_units(reader)
+
+
+def ask(options: argparse.Namespace, ask_more: Callable[[Session], object] = lambda _: None) -> Deploy:
+    """What is known of the system's plan; `ask_more` is called before with the session. Raises `NoPlan` where the unit is no system."""
+    with asking(options) as (session, texts, show):
+        ask_more(session)
+        try:
+            return session.wait("deploy", options.unit, show)
+        except NoSuchKey:
+            raise NoPlan(why_no_key(session, options.unit, declared_kind(texts.get(options.unit, "")))) from None
+
+
+def why_no_key(session: Session, unit: str, kind: str | None) -> str:
+    if is_broken(session, unit):
+        return f"{unit} has no plan, as its text has a SYNTAX fault; check shows it"
+    what = KIND_NAMES.get(kind or "") or what_is(session, unit)
+    return f"{unit} is {what}; only systems have plans" if what else f"the workbench has no system {unit}"
+
+
+def what_is(session: Session, unit: str) -> str:
+    """What a unit is whose text is not known; empty where there is none."""
+    if not session.revision(unit):
+        return ""
+    try:
+        session.net(unit)
+    except NoSuchKey:
+        return "a block, an adapter or a structure"
+    return KIND_NAMES["SUBAPPLICATION"]
+
+
+def plan_in(unit: str, deploy: Deploy) -> Plan:
+    match deploy:
+        case Plan():
+            return deploy
+        case Stopped(net):
+            why, *reasons = why_stopped(net)
+            raise NoPlan(f"{unit} has no plan: {why}", reasons)
+        case Faulty(misplaced):
+            reasons = [{"code": it.reason, "path": it.path, "explanation": why_misplaced(it)} for it in misplaced]
+            raise NoPlan("\n".join([f"{unit} has no plan:", *[f"  {it['explanation']}" for it in reasons]]), reasons)
+
+
+def why_stopped(net: Blocked | Recursive | TooLarge) -> tuple[str, dict[str, object]]:
+    """The reason in words, and in its JSON."""
+    match net:
+        case Blocked(units):
+            code, why = "BLOCKED", f"these units are absent or have faults: {', '.join(units)}"
+        case Recursive(units):
+            code, why = "RECURSIVE", f"these types contain themselves: {', '.join(units)}"
+        case TooLarge():
+            code, why, units = "TOO_LARGE", "it has more than 4,096 instances", ()
+    return why, {"code": code, **({"units": list(units)} if units else {}), "explanation": why}
+
+
+def of_resource(name: str | None, unit: str, plan: Plan) -> Plan:
+    """The plan, or what one of its resources is told alone."""
+    if name is None:
+        return plan
+    its = tuple(it for it in plan.resources if it.name == name)
+    if not its:
+        raise Misuse(f"{unit} has no resource {name}; it has {', '.join(it.name for it in plan.resources) or 'none'}")
+    return Plan((), its)
+
+
+def as_json(unit: str, plan: Plan) -> str:
+    resources = [{"resource": it.name, "commands": it.commands} for it in plan.resources]
+    return json.dumps({"unit": unit, "cuts": [asdict(it) for it in plan.cuts], "resources": resources}, indent=2)
+
+
+def lines(plan: Plan) -> Iterator[str]:
+    if plan.cuts:
+        yield "between resources:"
+        yield from (f"  {it.sort} {it.source} -> {it.destination}" for it in plan.cuts)
+    for it in plan.resources:
+        yield f"{it.name}:"
+        yield from (f"  {command}" for command in it.commands)

@@ -1,0 +1,132 @@
+"""What the parts of the import of one file share: names, comments, and that nothing is lost without a word."""
+from __future__ import annotations
+
+import re
+from collections.abc import Container, Iterable
+from dataclasses import dataclass, field
+
+from bench61499.exchange import names
+from bench61499.exchange.report import CLASH, LEFT_OUT, NOTE, RENAMED, REPLACED, Report, cut
+from bench61499.exchange.xmlfile import Element
+
+POSITIONS = frozenset("x y dx dx1 dx2 dy width height locked".split())
+_LINE_END = re.compile(r"\r\n|\r|\n")
+
+
+@dataclass
+class Library:
+    """The types among the files of a run: their roots by their names in texts, in upper case, and their packages."""
+
+    roots: dict[str, Element] = field(default_factory=dict)
+    packages: dict[str, str] = field(default_factory=dict)
+
+    def add(self, root: Element) -> None:
+        name = names.spelled(root.get("Name")).upper()
+        if name not in self.roots:
+            self.roots[name] = root
+            self.packages[name] = next((it.get("packageName") for it in root.named("CompilerInfo")), "")
+
+
+class Context:
+    """A file that is imported. `records` are the names of the present unit that can't be told from their names in its text."""
+
+    def __init__(self, report: Report, library: Library):
+        self.report, self.library = report, library
+        self.records: dict[str, str] = {}
+
+    def left_out(self, at: Element, words: str) -> None:
+        self.report.tell(LEFT_OUT, at.line, words)
+
+    def replaced(self, at: Element, words: str) -> None:
+        self.report.tell(REPLACED, at.line, words)
+
+    # names
+
+    def name(self, at: Element, name: str, absent: str = names.NO_NAME) -> str:
+        """A name of the file as a name of the text."""
+        if not name:
+            self.replaced(at, f"a name that is not there, by {absent}")
+            return absent
+        new = names.spelled(name)
+        if new != name:
+            self.report.tell_once(RENAMED, at.line, f"{cut(name, 200)} to {new}: {names.why_renamed(name)}")
+            if names.needs_record(name):
+                self.records[new] = name
+        return new
+
+    def own_name(self, at: Element) -> str:
+        return self.name(at, at.get("Name"))
+
+    def last_name(self, at: Element, name: str) -> str:
+        """The name of a type or a constant, without its package. A package that export could not write again is told."""
+        package, last = names.without_package(name)
+        new = self.name(at, last)
+        if package and self.library.packages.get(new.upper()) != package:
+            self.left_out(at, f"the package {cut(package)} of {cut(last)}")
+        return new
+
+    def instance_type(self, at: Element) -> str:
+        """The type of an instance, a plug, a socket, a device or a resource."""
+        if at.get("Type"):
+            return self.last_name(at, at.get("Type"))
+        self.replaced(at, f"the type of {cut(at.get('Name'))} that is not there, by {names.NO_TYPE}")
+        return names.NO_TYPE
+
+    def end(self, at: Element, words: str, *known: Container[str]) -> str:
+        """An end of a connection: one name or two. `known` are names that it may begin with, as a text has them; in a file some may be no words."""
+        if not words:
+            self.replaced(at, f"an end that is not there, by {names.NO_END}")
+            return names.NO_END
+        parts = [it.strip() for it in words.split(".")]
+        is_path = all(map(names.is_word_of_any_alphabet, parts)) or any(names.spelled(parts[0]) in its for its in known) and all(parts)
+        if is_path and len(parts) < 3:
+            return ".".join(self.name(at, it) for it in parts)
+        new = f"{self.name(at, parts[0])}.{self.name(at, '__'.join(parts[1:]))}" if is_path else names.spelled(words)
+        self.replaced(at, f"the end {cut(words)} by {new}: an end has one name or two")
+        return new
+
+    # comments
+
+    def comment(self, at: Element, *more: str) -> str:
+        """The comment of an element, perhaps with more words behind it."""
+        return self.comment_of(at.line, "\n".join(filter(None, [at.get("Comment"), *more])))
+
+    def comment_of(self, line: int, words: str) -> str:
+        words = _LINE_END.sub("\n", words).strip()
+        if "*)" in words:
+            self.report.tell(NOTE, line, 'a comment\'s "*)" is written "* )"')
+        return words.replace("*)", "* )").strip()
+
+    # what is left
+
+    def known(self, at: Element, attributes: str, children: str = "", text: bool = False) -> None:
+        """Tells what an element has beside these attributes and inner elements."""
+        for name, value in at.attributes.items():
+            if name in POSITIONS:
+                self.report.has_positions = True
+            elif name not in attributes.split() and value.strip() and not name.startswith(("xmlns", "xsi:")):
+                self.left_out(at, f"attribute {name} of {at.name}")
+        for child in at.children:
+            if child.name not in children.split():
+                self.left_out(child, _described(child, at))
+        for line, kind, words in at.asides:
+            self.report.tell(LEFT_OUT, line, f"the {kind} {cut(words)}".rstrip())
+        if not text and at.text.strip():
+            self.left_out(at, f"the words {cut(at.text)} in {at.name}")
+
+    def clashes(self, kind: str, of: Iterable[tuple[str, Element]]) -> None:
+        """Tells names of one name space that differ in case alone."""
+        found: dict[str, tuple[str, int]] = {}
+        for name, at in of:
+            first, line = found.setdefault(name.upper(), (name, at.line))
+            if name != first:
+                self.report.tell(CLASH, at.line, f"the {kind} {cut(first)} (line {line}) and {cut(name)} have one name here")
+
+
+def _described(it: Element, parent: Element) -> str:
+    if it.name == "Attribute":
+        owner = parent.get("Name") or " -> ".join(filter(None, [parent.get("Source"), parent.get("Destination")]))
+        return f"attribute {cut(it.get('Name'))} = {cut(it.get('Value') or it.text)} of {parent.name} {cut(owner)}".rstrip()
+    inner = ", ".join(filter(None, (each.get("Name") for each in it.children)))
+    words = it.get("Name") or it.text.strip() or inner
+    return f"element {it.name} of {parent.name}" + (f": {cut(words)}" if words else "")

@@ -1,0 +1,57 @@
+"""Files that are written: all in one folder, and none over another one unless that is wanted."""
+from __future__ import annotations
+
+import os
+from collections.abc import Callable
+from pathlib import Path
+
+
+class Unwritable(Exception):
+    """A file is not written; the text, which begins with the file, tells why."""
+
+
+class Target:
+    """The folder that is written to; it is made with the first file."""
+
+    def __init__(self, folder: Path, replace: bool):
+        self.folder, self._replace = folder, replace
+
+    def write(self, name: str, text: str, is_same: Callable[[str], bool] = lambda _: False) -> None:
+        """Writes a file. One that is there is left as it is if it has this text, or one that is the same. Raises `Unwritable`."""
+        assert name == os.path.basename(name) and name not in ("", ".", "..")
+        file = self.folder / name
+        try:
+            self.folder.mkdir(parents=True, exist_ok=True)
+            if not os.path.lexists(file):
+                _create(file, text)
+            elif not self._is_there(file, text, is_same):
+                self._write_over(file, text)
+        except OSError as error:
+            raise Unwritable(f"{file}: can't be written: {error.strerror}") from None
+
+    def _is_there(self, file: Path, text: str, is_same: Callable[[str], bool]) -> bool:
+        """Whether a file has a text already, or one that is the same if it is not to be replaced."""
+        try:
+            old = file.read_bytes().decode()
+        except UnicodeDecodeError:
+            return False
+        return old == text or not self._replace and is_same(old)
+
+    def _write_over(self, file: Path, text: str) -> None:
+        """Puts a new file in the place of one that is there, a link too: what that leads to is not written to."""
+        if not self._replace:
+            raise Unwritable(f"{file}: is there already, with another text; give --replace to write over it")
+        new = file.with_name(f".{file.name}.{os.getpid()}")
+        _create(new, text)
+        os.replace(new, file)
+
+
+def _create(file: Path, text: str) -> None:
+    """Writes a file that is not there yet; where that fails, there is none."""
+    with open(file, "xb") as stream:
+        try:
+            stream.write(text.encode())
+            stream.flush()
+        except OSError:
+            os.unlink(file)
+            raise

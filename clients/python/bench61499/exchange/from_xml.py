@@ -1,0 +1,127 @@
+"""Units from XML files of IEC 61499-2."""
+from __future__ import annotations
+
+from collections.abc import Iterator
+
+from bench61499.exchange import names
+from bench61499.exchange.context import Context
+from bench61499.exchange.exchanged import Network, Unit, record
+from bench61499.exchange.interfaces import RECORD_ELEMENTS, basic, interface, interface_clashes, records, service, variables
+from bench61499.exchange.networks import INTERFACES, NETWORKS, Networks, Systems
+from bench61499.exchange.report import NOTE, cut
+from bench61499.exchange.xmlfile import Document, Element, Unreadable
+
+_KINDS = {"FBType": "FUNCTION_BLOCK", "AdapterType": "ADAPTER", "SubAppType": "SUBAPPLICATION", "System": "SYSTEM", "DataType": "TYPE"}
+_WITHOUT_UNIT = {
+    "DeviceType": "device type",
+    "ResourceType": "resource type",
+    "SegmentType": "segment type",
+    "FunctionType": "function",
+    "Function": "function",
+    "FCType": "function",
+    "GlobalConstants": "list of global constants",
+    "AttributeDeclaration": "attribute type",
+    "AttributeType": "attribute type",
+}
+"""The roots of files that have no unit: the workbench looks none of these up."""
+_DATA = "InterfaceList SubAppInterfaceList Service"
+_CHILDREN = {
+    "FUNCTION_BLOCK": f"{_DATA} BasicFB SimpleFB FBNetwork SubAppNetwork",
+    "ADAPTER": _DATA,
+    "SUBAPPLICATION": f"{_DATA} FBNetwork SubAppNetwork",
+    "SYSTEM": "Application Device Mapping Segment Link",
+    "TYPE": "StructuredType",
+}
+
+
+def check_root(document: Document) -> None:
+    """Raises `Unreadable` for a file that is no type or system."""
+    root = document.root
+    if root.name not in _KINDS and root.name not in _WITHOUT_UNIT:
+        raise Unreadable(f"{document.file}:{root.line}: is no type or system of IEC 61499: its root is {cut(root.name)}")
+
+
+def units(document: Document, context: Context) -> list[Unit]:
+    """The unit of a file, and those of its subapplications without types."""
+    return _Making(context).made(document)
+
+
+class _Making:
+    """Makes the units of a file: its own, and then one for each subapplication without a type, which are known by their elements and names."""
+
+    def __init__(self, context: Context):
+        self._context = context
+        self._untyped: list[tuple[Element, str, dict[str, str]]] = []
+
+    def made(self, document: Document) -> list[Unit]:
+        root, context = document.root, self._context
+        kind = _KINDS.get(root.name)
+        if not kind:
+            context.left_out(root, f"the {_WITHOUT_UNIT[root.name]} {cut(root.get('Name'))}: the workbench looks none up")
+            return []
+        if kind == "TYPE" and not root.named("StructuredType"):
+            context.left_out(root, f"the data type {cut(root.get('Name'))}: it is no structure, and no other has a unit")
+            return []
+        return [self._own_unit(kind, document), *self._other_units()]
+
+    def _own_unit(self, kind: str, document: Document) -> Unit:
+        root, context = document.root, self._context
+        lines = [(line, "\n".join(it.strip() for it in words.splitlines())) for line, words in document.comments]
+        structures = [context.comment(it) for it in root.named("StructuredType")]
+        own = "\n".join(filter(None, [context.comment(root), *structures]))
+        unit = Unit(kind, context.own_name(root), root.line, [it for it in (*(context.comment_of(*each) for each in lines), own) if it])
+        self._read(unit, root)
+        context.known(root, "Name Comment", f"{RECORD_ELEMENTS} {_CHILDREN[kind]}")
+        unit.services = [service(context, it) for it in root.named("Service")] if kind not in ("SYSTEM", "TYPE") else []
+        unit.records = [*records(context, root), *unit.records]
+        return unit
+
+    def _other_units(self) -> Iterator[Unit]:
+        """Those of subapplications without types; what is made may have further ones in it."""
+        context = self._context
+        for at, name, recorded in self._untyped:
+            own, context.records = at.get("Name"), recorded
+            context.report.tell(NOTE, at.line, f"the subapplication {cut(own)} has no type and became the unit {name}")
+            unit = Unit("SUBAPPLICATION", name, at.line, [context.comment_of(at.line, f"The subapplication {own} without a type.")])
+            self._read(unit, at)
+            yield unit
+
+    def _read(self, unit: Unit, root: Element) -> None:
+        self._read_parts(unit, root)
+        unit.records += [record("Name", {"text": text, "file": file}) for text, file in self._context.records.items()]
+
+    def _read_parts(self, unit: Unit, root: Element) -> None:
+        context = self._context
+        for it in root.named("StructuredType") if unit.kind == "TYPE" else ():
+            unit.variables["STRUCT"] += variables(context, it)
+            context.clashes("fields", [(each.get("Name"), each) for each in it.children])
+        if unit.kind == "SYSTEM":
+            Systems(context, root, self._make).read(unit)
+        if unit.kind in ("SYSTEM", "TYPE"):
+            return
+        for it in root.named(*INTERFACES):
+            interface(context, unit, it)
+        for it in root.named("BasicFB", "SimpleFB") if unit.kind == "FUNCTION_BLOCK" else ():
+            basic(context, unit, it)
+        networks = root.named(*NETWORKS) if unit.kind != "ADAPTER" else []
+        self._networks(unit, root, networks)
+        interface_clashes(context, root, root.named(*INTERFACES), networks)
+
+    def _networks(self, unit: Unit, root: Element, networks: list[Element]) -> None:
+        section = "FBS" if unit.kind == "FUNCTION_BLOCK" else "SUBAPPS"
+        reading = Networks(self._context, unit.name, section, self._make)
+        ports = {names.spelled(it) for it in _ports(root) if it}
+        for it in networks:
+            unit.network = unit.network or Network()
+            reading.read(unit.network, it, ports)
+
+    def _make(self, at: Element, name: str) -> None:
+        """Has a unit made of a subapplication without a type."""
+        recorded = self._context.records
+        self._untyped.append((at, name, {name: recorded[name]} if name in recorded else {}))
+
+
+def _ports(root: Element) -> Iterator[str]:
+    """The names of events, variables, plugs and sockets of a type, as the file has them."""
+    groups = (group for it in root.named(*INTERFACES) for group in it.children)
+    return (it.get("Name") for group in groups for it in group.children)

@@ -1,0 +1,172 @@
+"""Types and values of files as those of a text, and what is written in their place if the language has no words for them."""
+from __future__ import annotations
+
+import re
+from collections.abc import Callable, Iterator
+from itertools import islice
+from typing import NamedTuple
+
+from bench61499 import TEXT_LIMIT
+from bench61499.exchange import names
+from bench61499.exchange.context import Context
+from bench61499.exchange.forms import is_array, is_constant, is_type
+from bench61499.exchange.report import cut
+from bench61499.exchange.xmlfile import Element
+
+_RANGE = re.compile(r"([+-]?\d{1,18})\s*\.\.\s*([+-]?\d{1,18})", re.ASCII)
+_COUNT = re.compile(r"\d{1,18}", re.ASCII)
+_WORDS = re.compile(r"\w+", re.ASCII)
+_TYPE_WORDS = names.OPERATOR_WORDS | {"ARRAY", "OF"}
+_QUOTED = re.compile(r"'((?:[^'$\r\n]|\$[$'N])*)'")
+_OF, _IS = re.compile(r"\] OF "), re.compile(" := ")
+_TRIES = 20
+NOT_A_TYPE = "no type"
+
+
+class Typed(NamedTuple):
+    """A type and a value as a file has them. `ranges` is what is between the brackets of an array; None if it is none."""
+
+    type: str
+    ranges: str | None
+    value: str
+
+    @property
+    def words(self) -> str:
+        """All in one, as the value of a type that can't be spelled."""
+        type_ = self.type or NOT_A_TYPE
+        whole = type_ if self.ranges is None else f"ARRAY [{self.ranges}] OF {type_}"
+        return f"{whole} := {self.value}" if self.value else whole
+
+
+class Spelled(NamedTuple):
+    """A type and a value as a text has them, and whether each is in the place of one that the language has no words for."""
+
+    type: str
+    value: str
+    is_type_replaced: bool = False
+    is_value_replaced: bool = False
+
+
+Change = Callable[[str], str]
+"""What makes a name of a text of one of a file."""
+
+
+def quoted(words: str) -> str:
+    """Words as a string."""
+    lines = words.replace("\r\n", "\n").replace("\r", "\n")
+    return "'" + lines.replace("$", "$$").replace("'", "$'").replace("\n", "$N") + "'"
+
+
+def unquoted(value: str) -> str | None:
+    """The words of such a string; None if it is none."""
+    found = _QUOTED.fullmatch(value)
+    return re.sub(r"\$([$'N])", lambda it: "\n" if it[1] == "N" else it[1], found[1]) if found else None
+
+
+def spelled(it: Typed, change: Change = names.spelled) -> Spelled:
+    """The type and the value of a variable as a text has them."""
+    ranges, type_ = spelled_ranges(it.ranges), _spelled_type(it.type, change) if len(it.type) <= TEXT_LIMIT else ""
+    if ranges is None or not type_ or ranges and not names.is_word(type_):
+        return Spelled(_stand_in(it), f"[{quoted(it.words)}]", is_type_replaced=True)
+    whole = f"ARRAY [{ranges}] OF {type_}" if ranges else type_
+    value, is_replaced = spelled_value(it.value, is_array(whole), change)
+    return Spelled(whole, value, is_value_replaced=is_replaced)
+
+
+def spelled_value(value: str, in_array: bool = False, change: Change = names.spelled) -> tuple[str, bool]:
+    """A value as a constant; as a string, or a list of one, if it is none, and whether it is so."""
+    if len(value) > TEXT_LIMIT:
+        return f"[{quoted(value)}]", True
+    package, last = names.without_package(value)
+    new = names.replace_words(last if package and names.is_word(last) else value, names.OPERATOR_WORDS, change)
+    if not value or is_constant(new):
+        return new, False
+    return quoted(value) if in_array else f"[{quoted(value)}]", True
+
+
+def _spelled_type(type_: str, change: Change) -> str:
+    """A type without a size of its own; empty if it can't be spelled."""
+    _, last = names.without_package(type_)
+    if names.is_word_of_any_alphabet(last):
+        return change(last)
+    new = names.replace_words(type_, _TYPE_WORDS, change)
+    return new if is_type(new) else ""
+
+
+def spelled_ranges(ranges: str | None) -> str | None:
+    """What is between the brackets of an array; empty if there is none, None if it can't be spelled."""
+    if ranges is None:
+        return ""
+    parts = [_spelled_range(it.strip()) for it in ranges.split(",")]
+    return ", ".join(parts) if all(parts) else None
+
+
+def _spelled_range(words: str) -> str:
+    if _COUNT.fullmatch(words) and int(words):
+        return f"0..{int(words) - 1}"
+    found = _RANGE.fullmatch(words)
+    return f"{found[1]}..{found[2]}" if found else ""
+
+
+def _stand_in(it: Typed) -> str:
+    """The name of a type that can't be spelled."""
+    if not it.type:
+        return names.NO_TYPE
+    words = "_".join(_WORDS.findall(it.type)) or "ANY"
+    if it.ranges is None:
+        return names.spelled(f"TYPE_{words}")
+    return names.spelled(f"ARRAY_{'_'.join(_WORDS.findall(it.ranges)) or 'ANY'}_OF_{words}")
+
+
+def original(type_: str, value: str) -> Typed | None:
+    """What a file had, if a text has words in the place of a type that can't be spelled."""
+    words = unquoted(value[1:-1]) if value.startswith("[") and value.endswith("]") else None
+    if words is None:
+        return None
+    tries = (it._replace(type="") if it.type == NOT_A_TYPE else it for it in _typed_in(words))
+    return next((it for it in tries if spelled(it) == Spelled(type_, value, is_type_replaced=True)), None)
+
+
+def _typed_in(words: str) -> Iterator[Typed]:
+    """All that words can be of: a type, perhaps an array, and perhaps a value."""
+    arrays: list[tuple[str | None, str]] = [(None, words)]
+    if words.startswith("ARRAY ["):
+        arrays += [(words[7 : it.start()], words[it.end() :]) for it in islice(_OF.finditer(words), _TRIES)]
+    for ranges, rest in reversed(arrays):
+        yield Typed(rest, ranges, "")
+        yield from (Typed(rest[: it.start()], ranges, rest[it.end() :]) for it in islice(_IS.finditer(rest), _TRIES))
+
+
+def variable(context: Context, at: Element, it: Typed) -> tuple[str, str]:
+    """The type and the value of a variable of a file; tells what is replaced or left out."""
+    if it.ranges is not None and _COUNT.fullmatch(it.ranges) and not int(it.ranges):
+        context.left_out(at, f"ArraySize {it.ranges} of {cut(at.get('Name'))}")
+        it = it._replace(ranges=None)
+    found, name = spelled(it), cut(at.get("Name"))
+    if found.is_type_replaced:
+        words = f"the type {cut(it._replace(value='').words)} of {name} by {found.type}: it can't be spelled here"
+        context.replaced(at, words if it.type else f"the type of {name} that is not there, by {found.type}")
+        return found.type, found.value
+    if not found.is_value_replaced:
+        constant(context, at, it.value, name)
+    else:
+        _tell_value(context, at, it.value, found.value, name)
+    if names.without_package(it.type)[0]:
+        context.last_name(at, it.type)
+    return spelled(it, lambda word: context.name(at, word))[:2]
+
+
+def constant(context: Context, at: Element, value: str, name: str) -> str:
+    """The value of a parameter, or a value that is known to be a constant."""
+    new, is_replaced = spelled_value(value)
+    if is_replaced:
+        _tell_value(context, at, value, new, name)
+        return new
+    package, last = names.without_package(value)
+    if package and names.is_word(last):
+        return context.last_name(at, value)
+    return spelled_value(value, change=lambda word: context.name(at, word))[0]
+
+
+def _tell_value(context: Context, at: Element, value: str, new: str, name: str) -> None:
+    context.replaced(at, f"the value {cut(value)} of {name} by {cut(new)}: it is no constant of this language")

@@ -1,0 +1,1 @@
+"""The texts of units: tokens, declarations, layout, networks and the words for their faults."""

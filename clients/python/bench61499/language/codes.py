@@ -1,0 +1,28 @@
+"""The faults of the language by their codes, each in one sentence, in the order of docs/LANGUAGE.md."""
+
+CODES = {
+    "SYNTAX": "The text spells no unit: here it leaves the grammar.",
+    "NAME_DIFFERS": "The declared name is not that of the unit.",
+    "DUPLICATE": "A name is declared a second time in one name space.",
+    "MIXED_KIND": "A block has both a chart and a network.",
+    "UNKNOWN_TYPE": "The type of an instance, a plug or a socket is absent or broken.",
+    "WRONG_KIND": "The type of an instance, a plug or a socket is of another kind than the section takes.",
+    "WITH_UNKNOWN": "A name after WITH is no data input or output that goes with the event.",
+    "STATE_UNKNOWN": "A state of a transition is not listed.",
+    "EVENT_UNKNOWN": "A transition waits for no event that comes in, or an action sends none that goes out.",
+    "ALGORITHM_UNKNOWN": "The algorithm of an action is not declared.",
+    "VARIABLE_UNKNOWN": "A reference begins with no variable of the block.",
+    "CLASS": "A value is of a kind that can't stand where it stands.",
+    "PORT_UNKNOWN": "An end of a connection names no port of the connection's sort.",
+    "PORT_SIDE": "An end of a connection names a port of the wrong side.",
+    "DATA_TYPE": "The two ends of a connection are of different types.",
+    "SECOND_SOURCE": "The destination of a data connection has a source already.",
+    "SECOND_ADAPTER": "An end of an adapter connection is connected already.",
+    "PASS_THROUGH": "A connection leads straight through a subapplication.",
+    "PARAMETER_UNKNOWN": "A parameter is no data input of the instance's type.",
+    "LITERAL": "An initial value or the value of a parameter does not fit its type.",
+    "MAPPED_TWICE": "A path is mapped a second time.",
+    "NO_SUCH_RESOURCE": "A mapping names a device or a resource that the system does not have.",
+    "MEMBER_UNKNOWN": "A name behind a point is no field of what stands before it.",
+    "STRUCT_RECURSIVE": "A structure contains itself.",
+}

@@ -1,0 +1,123 @@
+"""A folder of units that is looked at again and again: what its files are as units, and which of them have changed."""
+from __future__ import annotations
+
+import os
+import stat
+from collections.abc import Iterable, Iterator
+from dataclasses import dataclass
+from pathlib import Path
+
+from bench61499.language.tokens import declared_name
+from bench61499.language.units import Misuse, Unit, can_be_unit, find_files, is_hidden, read_text, stand_in_name
+
+Stamp = tuple[int, int, int]
+"""When a file was written, when it became what it is under its name, as by a move, and its size."""
+
+
+@dataclass(frozen=True)
+class _File:
+    stamp: Stamp
+    text: str | None
+    declares: str | None
+    problem: str = ""
+
+
+class Folder:
+    """The `*.fb` files of folders as units, by their declarations.
+
+    Files that can be no unit are `problems`, and so are files that declare the unit of another one. A text that declares nothing is the unit
+    that it was, or one that is named by its file.
+    """
+
+    def __init__(self, paths: list[Path]):
+        self._paths = paths
+        self._files: dict[Path, _File] = {}
+        self._names: dict[Path, str] = {}
+        self._stamps: dict[str, Stamp | None] = {}
+        self._looked = False
+        self.units: dict[str, Unit] = {}
+        self.problems: tuple[str, ...] = ()
+
+    def look(self) -> bool:
+        """Reads the files that have changed, and tells whether there is anything new.
+
+        Raises `Misuse` where a folder is not there at the first look; later that is a problem, and the units stay. A look that finds nothing
+        new is cheap.
+        """
+        stamps = dict(stamps_of(self._paths))
+        if self._looked and stamps == self._stamps:
+            return False
+        locked: list[Misuse] = []
+        try:
+            found = list(self._files) if self._are_there(stamps) else find_files(self._paths, locked.append)
+        except Misuse as error:
+            if not self._looked:
+                raise
+            self._stamps, self.problems = stamps, (f"{error}; what was read before is shown",)
+            return True
+        self._looked, self._stamps = True, stamps
+        self._files = dict(self._read_all(found))
+        self._name_all()
+        self.problems = (*map(str, locked), *self.problems)
+        return True
+
+    def _are_there(self, stamps: dict[str, Stamp | None]) -> bool:
+        """Whether the files are those that were there before: to list them takes longer."""
+        return stamps.keys() == self._stamps.keys() and None not in (*stamps.values(), *self._stamps.values())
+
+    def _read_all(self, found: list[Path]) -> Iterator[tuple[Path, _File]]:
+        """The files, each read again only where it has changed."""
+        for file in found:
+            if stamp := stamp_of(file):
+                known = self._files.get(file)
+                yield file, known if known and known.stamp == stamp else _read(file, stamp)
+
+    def _name_all(self) -> None:
+        owners: dict[str, Path] = {}
+        problems = [it.problem for it in self._files.values() if it.problem]
+        for file, it in self._files.items():
+            if it.declares in owners:
+                problems.append(f"{owners[it.declares]} and {file} both declare the unit {it.declares}; the first one counts")
+            elif it.declares:
+                owners[it.declares] = file
+        for file, it in self._files.items():
+            if it.text is not None and not it.declares:
+                former = self._names.get(file)
+                name = former if former and former not in owners else stand_in_name(file, owners)
+                owners[name] = file
+        self._names = {file: name for name, file in owners.items()}
+        self.units = {name: Unit(name, file, self._files[file].text or "") for name, file in owners.items()}
+        self.problems = tuple(problems)
+
+
+def stamps_of(paths: Iterable[str | Path], with_inner: bool = True) -> Iterator[tuple[str, Stamp | None]]:
+    """The state of each file that can be a unit, as the folders, and perhaps inner ones, tell it; of a folder that can't be read, that it can't."""
+    for path in paths:
+        try:
+            with os.scandir(path) as entries:
+                for entry in entries:
+                    if entry.is_dir(follow_symlinks=False):
+                        yield from stamps_of([entry.path] if with_inner and not is_hidden(entry.name) else ())
+                    elif can_be_unit(entry.name):
+                        yield os.path.realpath(entry.path) if entry.is_symlink() else entry.path, stamp_of(entry)
+        except NotADirectoryError:
+            yield str(path), stamp_of(Path(path))
+        except OSError:
+            yield str(path), None
+
+
+def stamp_of(file: Path | os.DirEntry[str]) -> Stamp | None:
+    """The state of a file; None of what is no file, or can't be looked at."""
+    try:
+        state = file.stat()
+    except OSError:
+        return None
+    return (state.st_mtime_ns, state.st_ctime_ns, state.st_size) if stat.S_ISREG(state.st_mode) else None
+
+
+def _read(file: Path, stamp: Stamp) -> _File:
+    try:
+        text = read_text(file)
+    except Misuse as error:
+        return _File(stamp, None, None, str(error))
+    return _File(stamp, text, declared_name(text))

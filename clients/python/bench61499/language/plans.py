@@ -1,0 +1,169 @@
+"""Why units have no network and systems no plan, each reason with the place where it is mended: a mapping, an instance, a declared name."""
+from __future__ import annotations
+
+from collections import deque
+from collections.abc import Iterator, Sequence
+from dataclasses import dataclass
+
+from bench61499 import Blocked, Deploy, Faulty, Flat, Misplaced, Net, Plan, Recursive, Stopped, TooLarge
+from bench61499.language.declarations import INSTANCE, TYPE, Declaration, Key, Unit, type_of_data
+from bench61499.language.surroundings import Surroundings
+from bench61499.language.texts import Texts
+from bench61499.language.wording import listed
+
+CODES = {
+    "BLOCKED": "A unit has no network, as units that it rests on are absent or have faults.",
+    "RECURSIVE": "A type contains itself, or a unit has no network, as types that it rests on contain themselves.",
+    "TOO_LARGE": "A unit has no network, as it would have more than 4,096 instances.",
+    "UNMAPPED": "No mapping gives a block of a system a resource.",
+    "NO_SUCH_BLOCK": "The path of a mapping is that of no application, block or subapplication instance.",
+}
+"""The reasons, by their codes."""
+_MOST_NAMED = 5
+"""Units in the way that are named."""
+Place = tuple[int, int]
+
+
+@dataclass(frozen=True)
+class Reason:
+    """What keeps a unit from having a network or a plan, with its place in the text of `unit`, in bytes."""
+
+    unit: str
+    code: str
+    start: int
+    end: int
+    explanation: str
+
+
+class Reasons:
+    """Finds the reasons in the texts. That a type contains itself is told once, in its own text."""
+
+    def __init__(self, texts: Texts):
+        self._texts = texts
+        self._below: dict[str, frozenset[str]] = {}
+        self._told: set[str] = set()
+
+    def of(self, unit: str, text: str, answer: Net | Deploy) -> Iterator[Reason]:
+        """Why a unit has no network or no plan. Where its own faults are the only reason there is none to tell but these."""
+        match answer:
+            case Flat() | Plan():
+                return
+            case Faulty(misplaced):
+                places = _mappings(text)
+                yield from (Reason(unit, it.reason, *self._place(unit, it, places), why_misplaced(it)) for it in misplaced)
+            case Stopped(net):
+                yield from self._of_net(unit, "plan", net)
+            case net:
+                yield from self._of_net(unit, "network", net)
+
+    def _of_net(self, unit: str, what: str, net: Blocked | Recursive | TooLarge) -> Iterator[Reason]:
+        match net:
+            case Blocked(units) if units != (unit,):
+                yield Reason(unit, "BLOCKED", *self._way(unit, units), f"{unit} has no {what}: {self._why_blocked(units)}")
+            case Recursive(units):
+                yield from (self._loop(it) for it in units if it not in self._told and self._texts.unit(it))
+                self._told.update(units)
+                if unit not in units:
+                    yield Reason(unit, "RECURSIVE", *self._way(unit, units), f"{unit} has no {what}: {_contain(units)}")
+            case TooLarge():
+                yield Reason(unit, "TOO_LARGE", *self._name(unit), f"{unit} has no {what}: it has more than 4,096 instances")
+
+    def _why_blocked(self, units: Sequence[str]) -> str:
+        absent = [it for it in units if not self._texts.unit(it)]
+        faulty = [it for it in units if it not in absent]
+        parts = [(absent, "is absent", "are absent"), (faulty, "has faults", "have faults")]
+        return ", ".join(f"{_some(its)} {one if len(its) == 1 else many}" for its, one, many in parts if its)
+
+    def _loop(self, unit: str) -> Reason:
+        """A type that contains itself, at the instance that leads back to it."""
+        steps = ", ".join(self._steps(unit))
+        return Reason(unit, "RECURSIVE", *self._way(unit, (unit,)), f"{unit} contains itself{steps and f': {steps}'}")
+
+    def _steps(self, unit: str) -> list[str]:
+        """The instances that lead from a type back to it by the shortest way; none where the texts have no such way."""
+        ways: dict[str, list[str]] = {}
+        waiting = deque([(unit, list[str]())])
+        while waiting and unit not in ways:
+            at, way = waiting.popleft()
+            for it in self._typed(at):
+                of = type_of_data(it.type)
+                if of not in ways:
+                    ways[of] = [*way, f"{at}.{it.words} is {of}"]
+                    waiting.append((of, ways[of]))
+        return ways.get(unit, [])
+
+    # Places
+
+    def _place(self, unit: str, it: Misplaced, mappings: dict[str, Place]) -> Place:
+        """The mapping; or the instance in the system, as deep as its own text goes, that has no mapping."""
+        application, *path = it.path.split(".")
+        known = self._texts.unit(unit)
+        its = known.first.get(Key(unit, INSTANCE, application, path[0])) if known and path else None
+        if it.reason == "UNMAPPED" and its:
+            return its.start, its.end
+        return mappings.get(it.path) or self._name(unit)
+
+    def _name(self, unit: str) -> Place:
+        """The declared name of a unit."""
+        its = self._texts.unit(unit)
+        return (its.declared[0].start, its.declared[0].end) if its and its.declared else (0, 0)
+
+    def _way(self, unit: str, goals: Sequence[str]) -> Place:
+        its = self._leading(unit, goals)
+        return (its.start, its.end) if its else self._name(unit)
+
+    def _leading(self, unit: str, goals: Sequence[str]) -> Declaration | None:
+        """The first instance or variable of a unit whose type is one of the goals; else the first that leads to one."""
+        its = self._typed(unit)
+        direct = (it for it in its if type_of_data(it.type) in goals)
+        return next(direct, None) or next((it for it in its if not self._reached(type_of_data(it.type)).isdisjoint(goals)), None)
+
+    def _typed(self, unit: str) -> list[Declaration]:
+        """The instances and variables of a unit."""
+        known = self._texts.unit(unit)
+        return [it for it in known.declared[1:] if it.type] if known else []
+
+    def _reached(self, unit: str) -> frozenset[str]:
+        """What a unit rests on, and itself."""
+        if unit not in self._below:
+            found, waiting = {unit}, [unit]
+            while waiting:
+                new = _types(self._texts.unit(waiting.pop())) - found
+                found |= new
+                waiting += new
+            self._below[unit] = frozenset(found)
+        return self._below[unit]
+
+
+def why_misplaced(it: Misplaced) -> str:
+    return f"no mapping gives {it.path} a resource" if it.reason == "UNMAPPED" else f"a mapping is of {it.path}, which is not there"
+
+
+def _types(unit: Unit | None) -> set[str]:
+    """The units that a unit mentions."""
+    return {use.key.name for use in unit.uses if use.key.space == TYPE} if unit else set()
+
+
+def _contain(units: Sequence[str]) -> str:
+    return f"{_some(units)} contain{'s itself' if len(units) == 1 else ' themselves'}"
+
+
+def _some(units: Sequence[str]) -> str:
+    """Their names; of many the first ones and the number of the others."""
+    if len(units) <= _MOST_NAMED:
+        return listed(units, "and")
+    return listed([*units[: _MOST_NAMED - 1], f"{len(units) - _MOST_NAMED + 1:,} more"], "and")
+
+
+def _mappings(text: str) -> dict[str, Place]:
+    """Where the paths of mappings stand, by the paths in upper case."""
+    its = Surroundings(text)
+    begins = [at for at in range(1, len(its.tokens)) if its.section(at) == "MAPPINGS" and its.before(at) in ("MAPPINGS", ";")]
+    found: dict[str, Place] = {}
+    for begin in begins:
+        end = begin
+        while its.words(end + 1) == ".":
+            end += 2
+        if end < len(its.tokens):
+            found.setdefault(its.spelled(begin, end + 1).upper(), (its.tokens[begin].start, its.tokens[end].end))
+    return found

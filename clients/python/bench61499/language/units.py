@@ -1,0 +1,167 @@
+"""Files as units: which unit a file is, and how a whole folder is put into a workbench."""
+from __future__ import annotations
+
+import os
+import stat
+from collections.abc import Callable, Iterable, Iterator
+from dataclasses import dataclass, replace
+from pathlib import Path
+from typing import NoReturn
+
+from bench61499 import NAME_LIMIT, TEXT_LIMIT, UNITS_LIMIT, NoSuchKey, Put, Session, StaleBase, batches
+from bench61499.language.tokens import RESERVED, declared_name
+
+
+class Misuse(Exception):
+    """What was asked for can't be done; the text tells the user why."""
+
+
+@dataclass(frozen=True)
+class Unit:
+    """A file and the unit that it is. `file` is as the user named it."""
+
+    name: str
+    file: Path
+    text: str
+
+
+def find_files(paths: Iterable[Path], locked: Callable[[Misuse], object] | None = None) -> list[Path]:
+    """The files themselves and the `*.fb` files of the folders, inner folders included, each once and sorted.
+
+    Raises `Misuse`; where `locked` is given it is told of the inner folders that can't be read, and the others are looked at.
+    """
+    found: dict[Path, Path] = {}
+    for path in paths:
+        for file in sorted(_files_in(path, locked or _refuse)) if _is_folder(path) else [path]:
+            found.setdefault(file.resolve(), file)
+    return sorted(found.values())
+
+
+def _is_folder(path: Path) -> bool:
+    """Whether it is a folder, and no file. Raises `Misuse` where it is neither, or can't be looked at."""
+    try:
+        mode = path.stat().st_mode
+    except (FileNotFoundError, NotADirectoryError):
+        mode = 0
+    except OSError as error:
+        raise _unreadable(path, error) from error
+    if not stat.S_ISDIR(mode) and not stat.S_ISREG(mode):
+        raise Misuse(f"{path}: there is no such file or folder")
+    return stat.S_ISDIR(mode)
+
+
+def _files_in(folder: Path, locked: Callable[[Misuse], object]) -> Iterator[Path]:
+    """The `*.fb` files of a folder and of its inner ones, but for hidden ones. Links to folders are not followed."""
+
+    def tell(error: OSError) -> None:
+        if not isinstance(error, FileNotFoundError):  # It has gone since it was listed.
+            locked(_unreadable(error.filename, error))
+
+    for inner, folders, names in os.walk(folder, onerror=tell):
+        folders[:] = [it for it in folders if not is_hidden(it)]
+        yield from filter(_is_file, (Path(inner, name) for name in names if can_be_unit(name)))
+
+
+def is_hidden(name: str) -> bool:
+    """Whether the units in a folder of this name are none of the plant: version control and editors keep older texts in such folders."""
+    return name.startswith(".")
+
+
+def can_be_unit(name: str) -> bool:
+    """Whether a file of this name is a unit: by its ending, in small letters or capitals."""
+    return name.lower().endswith(".fb") and not is_hidden(name)
+
+
+def _is_file(path: Path) -> bool:
+    """Whether it is a file, or what can't be looked at: that is told when it is read."""
+    try:
+        return stat.S_ISREG(path.stat().st_mode)
+    except PermissionError:
+        return True
+    except OSError:
+        return False  # A link to nothing or to itself, or a file that has gone.
+
+
+def _refuse(error: Misuse) -> NoReturn:
+    raise error
+
+
+def _unreadable(path: str | Path, error: OSError) -> Misuse:
+    return Misuse(f"{path}: can't be read: {error.strerror}")
+
+
+def read_text(file: Path) -> str:
+    """The text of a file, with its line ends as they are. Raises `Misuse` for one that no unit can have."""
+    try:
+        content = file.read_bytes()
+    except OSError as error:
+        raise _unreadable(file, error) from error
+    if len(content) > TEXT_LIMIT:
+        raise Misuse(f"{file}: has {len(content):,} bytes, and the text of a unit has at most {TEXT_LIMIT:,}")
+    try:
+        return content.decode()
+    except UnicodeDecodeError as error:
+        line = content.count(b"\n", 0, error.start) + 1
+        raise Misuse(f"{file}:{line}: is not UTF-8: byte {error.start} is 0x{content[error.start]:02x}") from error
+
+
+def read_units(paths: Iterable[Path]) -> list[Unit]:
+    """The files as units, by their declarations. Raises `Misuse`, also where two files are one unit, and where no workbench has room for them."""
+    files = find_files(paths)
+    if len(files) > UNITS_LIMIT:
+        raise Misuse(f"{len(files):,} units, and a workbench has at most {UNITS_LIMIT:,}")
+    texts = {file: read_text(file) for file in files}
+    names = {file: name for file, text in texts.items() if (name := declared_name(text))}
+    owners: dict[str, Path] = {}
+    for file, name in names.items():
+        if name in owners:
+            raise Misuse(f"{owners[name]} and {file} both declare the unit {name}; a unit has one text")
+        owners[name] = file
+    for file in texts.keys() - names.keys():
+        names[file] = stand_in_name(file, owners)
+        owners[names[file]] = file
+    return [Unit(names[file], file, text) for file, text in texts.items()]
+
+
+def stand_in_name(file: Path, taken: Iterable[str]) -> str:
+    """A name, not taken yet, for a text that declares none: that of the file where it can be a name."""
+    stem = "".join(it if it.isascii() and it.isalnum() else "_" for it in file.stem.upper())[: NAME_LIMIT - 5]
+    stem = stem if stem[:1].isalpha() and stem not in RESERVED else f"_{stem}"
+    tries = (f"{stem}{number or ''}" for number in range(10_000))
+    taken = set(taken)
+    return next(name for name in tries if name not in taken)
+
+
+def commit_units(session: Session, units: list[Unit], progress: Callable[[int], object] | None = None) -> int:
+    """Puts the units into the workbench, over what it may have of them, and gives how many it had.
+
+    Calls `progress` with the number of units that are put.
+    """
+    replaced = put = 0
+    for batch in batches(Put(unit.name, 0, unit.text) for unit in units):
+        replaced += _put_over(session, batch)
+        put += len(batch)
+        if progress:
+            progress(put)
+    return replaced
+
+
+def _put_over(session: Session, batch: list[Put]) -> int:
+    """Puts units over what there is, and gives how many there were. Units mostly came by one commit, so the revision of one is tried for those behind it."""
+    bases = dict.fromkeys((it.unit for it in batch), 0)
+    while True:
+        try:
+            session.commit([replace(it, base=bases[it.unit]) for it in batch])
+            return sum(base > 0 for base in bases.values())
+        except StaleBase as refusal:
+            units = list(bases)
+            behind = units[units.index(refusal.unit) :]
+            bases |= {refusal.unit: refusal.current, **dict.fromkeys(behind, refusal.current)}
+
+
+def is_broken(session: Session, unit: str) -> bool:
+    """Whether the workbench has the unit, and its text spells none."""
+    try:
+        return any(fault.code == "SYNTAX" for fault in session.wait("faults", unit))
+    except NoSuchKey:
+        return False

@@ -1,0 +1,1 @@
+"""The language server (LSP 3.17)."""

@@ -1,0 +1,204 @@
+"""The answers to what an editor asks about the texts of a plant, in the forms of LSP 3.17."""
+from __future__ import annotations
+
+import time
+from collections.abc import Callable, Iterable
+from pathlib import Path
+from typing import Any
+
+from bench61499 import TEXT_LIMIT
+from bench61499.language.layout import Edit, applied, formatted
+from bench61499.language.plant import Plant, Text
+from bench61499.language.positions import Position, place
+from bench61499.lsp.completion import candidates
+from bench61499.lsp.documents import Diagnostic, path_of
+from bench61499.lsp.fixes import Fix, fixes
+from bench61499.lsp.folding import folding_ranges
+from bench61499.lsp.highlight import TOKEN_MODIFIERS, TOKEN_TYPES, semantic_tokens
+from bench61499.lsp.hover import described
+from bench61499.lsp.navigation import Found, definitions, highlights, name_at, outline, references, units_named
+from bench61499.lsp.rename import CantRename, check_target, renamed
+
+PATIENCE = 0.01
+"""Seconds that an answer may wait for files and texts to be read."""
+CAPABILITIES = {
+    "positionEncoding": "utf-16",
+    "textDocumentSync": {"openClose": True, "change": 2, "save": {"includeText": False}},
+    "documentSymbolProvider": True,
+    "workspaceSymbolProvider": True,
+    "definitionProvider": True,
+    "referencesProvider": True,
+    "documentHighlightProvider": True,
+    "hoverProvider": True,
+    "completionProvider": {"triggerCharacters": ["."]},
+    "renameProvider": {"prepareProvider": True},
+    "codeActionProvider": {"codeActionKinds": ["quickfix"]},
+    "semanticTokensProvider": {
+        "legend": {"tokenTypes": list(TOKEN_TYPES), "tokenModifiers": list(TOKEN_MODIFIERS)},
+        "full": True,
+        "range": True,
+    },
+    "foldingRangeProvider": True,
+    "documentFormattingProvider": True,
+    "documentRangeFormattingProvider": True,
+}
+
+
+class CantAnswer(Exception):
+    """Why a request is not done, in the words for the user."""
+
+
+class Answers:
+    """Answers by the texts as they are now.
+
+    `catch_up` takes in the files that have changed until a time, and tells whether that is all; `shown` gives what the editor shows of a file;
+    `lacks` is told what was answered though not all was read.
+    """
+
+    def __init__(
+        self,
+        plant: Plant,
+        catch_up: Callable[[float], bool],
+        shown: Callable[[Path], list[Diagnostic]],
+        lacks: Callable[[str], None],
+    ):
+        self._plant, self._catch_up, self._shown, self._lacks = plant, catch_up, shown, lacks
+
+    def answer(self, method: str, params: Any) -> Any:
+        """Raises `CantAnswer`, `CantRename`, and `KeyError`, `TypeError` and the like where the parameters make no sense.
+
+        While files and texts are still to be read, a question is answered by those that are read in time. Where it would take more of them a
+        rename is refused, and the user is told later of a search that may lack something.
+        """
+        plant = self._plant
+        plant.until = time.monotonic() + PATIENCE
+        plant.missed = method not in self._OF_ONE_TEXT and not self._catch_up(plant.until)
+        try:
+            answer = self._answer(method, params)
+        except CantRename:
+            if not plant.missed:
+                raise
+        if plant.missed and method in self._ALL_OR_NOTHING:
+            read, there = plant.counts()
+            raise CantAnswer(f"the units of this folder are still being read, {read:,} of {there:,} so far: try again in a moment")
+        if plant.missed and method in self._SEARCHES:
+            self._lacks(self._SEARCHES[method])
+        return answer
+
+    def _answer(self, method: str, params: Any) -> Any:
+        if method == "workspace/symbol":
+            return units_named(self._plant, params["query"])
+        path = path_of(params["textDocument"]["uri"])
+        text = self._plant.text(path)
+        return self.METHODS[method](self, text, params) if text else None
+
+    def _place(self, text: Text, at: Position) -> int:
+        return place(text.places, at)
+
+    def _found(self, text: Text, params: Any) -> Found | None:
+        return name_at(self._plant, text, self._place(text, params["position"]))
+
+    def _span(self, text: Text, params: Any) -> tuple[int, int]:
+        return self._place(text, params["range"]["start"]), self._place(text, params["range"]["end"])
+
+    def _outline(self, text: Text, params: Any) -> Any:
+        return outline(text)
+
+    def _definition(self, text: Text, params: Any) -> Any:
+        found = self._found(text, params)
+        return definitions(self._plant, found.key) if found else []
+
+    def _references(self, text: Text, params: Any) -> Any:
+        found = self._found(text, params)
+        with_declaration = bool(params.get("context", {}).get("includeDeclaration"))
+        return references(self._plant, found.key, with_declaration) if found else []
+
+    def _highlights(self, text: Text, params: Any) -> Any:
+        found = self._found(text, params)
+        return highlights(self._plant, text, found.key) if found else []
+
+    def _hover(self, text: Text, params: Any) -> Any:
+        """The faults at the place, and then what the name stands for. It is plain text: what users write is no markup."""
+        at, found = self._place(text, params["position"]), self._found(text, params)
+        told = [f"{it['code']}: {it['message']}" if "code" in it else it["message"] for it in self._shown(text.file) if self._is_at(text, it, at)]
+        if found and (words := described(self._plant, found.key)):
+            told.append(words)
+        if not told:
+            return None
+        hover = {"contents": {"kind": "plaintext", "value": "\n\n".join(told)}}
+        return {**hover, "range": text.range(found.start, found.end)} if found else hover
+
+    def _is_at(self, text: Text, shown: Diagnostic, at: int) -> bool:
+        start, end = self._span(text, shown)
+        return start <= at <= end
+
+    def _completion(self, text: Text, params: Any) -> Any:
+        found = candidates(self._plant, text, self._place(text, params["position"]))
+        return [{"label": it.words, "kind": it.kind, **({"detail": it.detail} if it.detail else {})} for it in found]
+
+    def _prepare_rename(self, text: Text, params: Any) -> Any:
+        found = check_target(self._plant, self._found(text, params))
+        return {"range": text.range(found.start, found.end), "placeholder": text.places.words(found.start, found.end)}
+
+    def _rename(self, text: Text, params: Any) -> Any:
+        return renamed(self._plant, self._found(text, params), params["newName"])
+
+    def _code_actions(self, text: Text, params: Any) -> Any:
+        only = params["context"].get("only")
+        if only and "quickfix" not in only:
+            return []
+        return [self._action(fix, it) for it in params["context"]["diagnostics"] for fix in self._fixes(text, it)]
+
+    def _fixes(self, text: Text, shown: Diagnostic) -> Iterable[Fix]:
+        return fixes(self._plant, text, str(shown.get("code")), *self._span(text, shown))
+
+    def _action(self, fix: Fix, shown: Diagnostic) -> Any:
+        changes = {fix.text.uri: [{"range": fix.text.range(fix.start, fix.end), "newText": fix.new}]}
+        return {"title": fix.title, "kind": "quickfix", "diagnostics": [shown], "edit": {"changes": changes}}
+
+    def _tokens(self, text: Text, params: Any) -> Any:
+        start, end = self._span(text, params) if "range" in params else (0, len(text.places.encoded))
+        return {"data": semantic_tokens(text, start, end)}
+
+    def _folding(self, text: Text, params: Any) -> Any:
+        return folding_ranges(text)
+
+    def _format(self, text: Text, params: Any) -> Any:
+        edits = formatted(text.text)
+        if len(applied(text.text, edits).encode()) > TEXT_LIMIT:
+            raise CantAnswer(f"laid out, the text would have more than {TEXT_LIMIT:,} bytes")
+        start, end = self._span(text, params) if "range" in params else (0, len(text.places.encoded))
+        return [self._edit(text, it) for it in edits if start <= it[0] and it[1] <= end]
+
+    def _edit(self, text: Text, edit: Edit) -> Any:
+        start, end, new = edit
+        return {"range": text.range(start, end), "newText": new}
+
+    METHODS = {
+        "textDocument/documentSymbol": _outline,
+        "textDocument/definition": _definition,
+        "textDocument/references": _references,
+        "textDocument/documentHighlight": _highlights,
+        "textDocument/hover": _hover,
+        "textDocument/completion": _completion,
+        "textDocument/prepareRename": _prepare_rename,
+        "textDocument/rename": _rename,
+        "textDocument/codeAction": _code_actions,
+        "textDocument/semanticTokens/full": _tokens,
+        "textDocument/semanticTokens/range": _tokens,
+        "textDocument/foldingRange": _folding,
+        "textDocument/formatting": _format,
+        "textDocument/rangeFormatting": _format,
+    }
+    _OF_ONE_TEXT = frozenset(
+        f"textDocument/{it}"
+        for it in ("documentSymbol", "semanticTokens/full", "semanticTokens/range", "foldingRange", "formatting", "rangeFormatting")
+    )
+    """What is answered by the text alone, so that it needs no wait for the texts of a whole folder."""
+    _ALL_OR_NOTHING = frozenset(["textDocument/prepareRename", "textDocument/rename"])
+    _SEARCHES = {
+        "workspace/symbol": "A search of units",
+        "textDocument/definition": "A search of a definition",
+        "textDocument/references": "A search of uses",
+    }
+    """What users ask for, so that they are told where an answer may lack something."""

@@ -1,0 +1,58 @@
+"""What an editor shows of a unit: its faults, or why they are not known."""
+from __future__ import annotations
+
+from bench61499 import Fault, Places
+from bench61499.language.explain import Explainer, Names
+from bench61499.language.fitting import fits
+from bench61499.language.positions import range_of
+from bench61499.language.texts import Texts
+from bench61499.lsp.documents import Diagnostic
+from bench61499.lsp.rpc import ERROR, INFO, WARNING
+from bench61499.lsp.shared import Unit
+
+
+def diagnostic(places: Places, start: int, end: int, message: str, code: str | None = None, severity: int = ERROR) -> Diagnostic:
+    shown = {"range": range_of(places, start, end), "severity": severity, "source": "bench61499"}
+    return {**shown, **({"code": code} if code else {}), "message": message}
+
+
+def remark(text: str, words: str) -> Diagnostic:
+    """Words at the first line that are no fault."""
+    places = Places(text)
+    return diagnostic(places, 0, len(text.split("\n", 1)[0].rstrip("\r").encode()), words, severity=INFO)
+
+
+def not_checked(text: str, why: str) -> Diagnostic:
+    return remark(text, f"not checked: {why}")
+
+
+def explained(text: str, faults: tuple[Fault, ...], names: Names, texts: Texts) -> list[Diagnostic]:
+    """The faults of a text in the words of an engineer."""
+    if not faults:
+        return []
+    explainer, places = Explainer(text, names, texts), Places(text)
+    return [diagnostic(places, *explainer.span(it), explainer.explain(it), it.code) for it in faults]
+
+
+def marked(shown: list[Diagnostic], words: str) -> list[Diagnostic]:
+    """Faults that may be none any more, with words that say so."""
+    return [{**it, "severity": WARNING, "message": f"{it['message']} ({words})"} for it in shown]
+
+
+def of_another(unit: str, text: str, faults: tuple[Fault, ...], names: Names, texts: Texts) -> list[Diagnostic]:
+    """The faults of the text that somebody else has put under a unit's name, as far as they can be those of this text."""
+    if not faults:
+        return []
+    if not fits(text, faults):
+        number = f"{len(faults):,} fault{'' if len(faults) == 1 else 's'}"
+        return [remark(text, f"the workbench has another text of {unit}, with {number}")]
+    return marked(explained(text, faults, names, texts), "in the workbench's text")
+
+
+def whose(unit: str, it: Unit) -> str:
+    """Why the workbench does not have this text of a unit."""
+    if it.revision:
+        return f"the workbench has {unit} from another session, at revision {it.revision}; edit or save to put this text over it"
+    if it.is_changed:
+        return f"another session has removed {unit} from the workbench; edit or save to put it back"
+    return f"{unit} is not in the workbench"

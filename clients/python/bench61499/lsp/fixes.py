@@ -1,0 +1,193 @@
+"""Changes that mend a fault: a name that is near to a wrong one, or the declaration that is missing."""
+from __future__ import annotations
+
+from collections.abc import Iterator
+from dataclasses import dataclass
+
+from bench61499.language.declarations import CONNECTION_SECTIONS, ENDS, EVENT, INSTANCE, TYPE, TYPE_KINDS, VARIABLE, Key, Use, Wanted
+from bench61499.language.explain import Names
+from bench61499.language.nesting import Nesting
+from bench61499.language.plant import Plant, Text
+from bench61499.language.reader import read
+from bench61499.language.tokens import pieces
+from bench61499.lsp.completion import ACROSS, declared, port_sections
+from bench61499.lsp.hover import WHAT
+
+_MOST_TYPES = 5
+"""Types that are offered for a missing instance."""
+_NAMES = frozenset(
+    """UNKNOWN_TYPE WITH_UNKNOWN STATE_UNKNOWN EVENT_UNKNOWN ALGORITHM_UNKNOWN VARIABLE_UNKNOWN PORT_UNKNOWN PARAMETER_UNKNOWN
+    NO_SUCH_RESOURCE MEMBER_UNKNOWN""".split()
+)
+"""The faults of names that nothing declares."""
+
+
+@dataclass(frozen=True)
+class Fix:
+    """What is offered: its title, and new words for a span of a text, in bytes."""
+
+    title: str
+    text: Text
+    start: int
+    end: int
+    new: str
+
+
+@dataclass(frozen=True)
+class Wrong:
+    """A used name that is none of those that may stand at its place. `at` is its number among the uses of its text."""
+
+    text: Text
+    at: int
+    wanted: Wanted
+
+    @property
+    def use(self) -> Use:
+        return self.text.unit.uses[self.at]
+
+    @property
+    def name(self) -> str:
+        """The name as it is written."""
+        return self.text.places.words(self.use.start, self.use.end)
+
+    @property
+    def leads_on(self) -> bool:
+        """Whether the name of a port stands behind it."""
+        return self.use.key.space == INSTANCE and _point_follows(self.text, self.use)
+
+
+def fixes(plant: Plant, text: Text, code: str, start: int, end: int) -> list[Fix]:
+    """What would mend a fault at a span, the most probable first."""
+    wrong = _wrong(plant, text, start, end) if code in _NAMES else None
+    if not wrong:
+        return []
+    return [*_nearest(plant, wrong), *(_missing(plant, wrong) if code in ("PORT_UNKNOWN", "EVENT_UNKNOWN") else ())]
+
+
+def _wrong(plant: Plant, text: Text, start: int, end: int) -> Wrong | None:
+    """The first wrong name at a span."""
+    for at, use in enumerate(text.unit.uses):
+        if start <= use.start and use.end <= end:
+            wanted = read(text.places.words(0, use.start)).wanted
+            wrong = Wrong(text, at, wanted[0]) if wanted else None
+            if wrong and (use.key.space == TYPE or use.key.name not in map(str.upper, _names(plant, wrong))):
+                return wrong
+    return None
+
+
+def _names(plant: Plant, wrong: Wrong) -> list[str]:
+    """The declared names that may stand where the wrong one stands."""
+    spaces = {wrong.use.key.space} | ({INSTANCE} if wrong.use.key.space == VARIABLE and _point_follows(wrong.text, wrong.use) else set())
+    return [it.words for it in declared(plant, wrong.text.unit, wrong.wanted) if it.key.space in spaces]
+
+
+def _nearest(plant: Plant, wrong: Wrong) -> Iterator[Fix]:
+    if wrong.wanted.space == TYPE:
+        near = plant.near(TYPE_KINDS[wrong.wanted.section], wrong.name)
+    else:
+        near = Names(_names(plant, wrong), nearness=0.6).near(wrong.name)
+    if near:
+        yield Fix(f"Change {wrong.name} to {near}", wrong.text, wrong.use.start, wrong.use.end, near)
+
+
+def _missing(plant: Plant, wrong: Wrong) -> Iterator[Fix]:
+    """Declarations of the wrong name: as an instance, or as a port of the unit or of the type of the instance before it."""
+    if wrong.leads_on:
+        if wrong.wanted.section in CONNECTION_SECTIONS:
+            yield from _missing_instance(plant, wrong)
+        return
+    sections = port_sections(wrong.text.unit, wrong.wanted)
+    owners = plant.declaring(wrong.use.key.unit)
+    known = plant.declaration(wrong.use.key)
+    if not sections or not owners or known:
+        return
+    item = _port(plant, wrong)
+    if item and owners[0].unit.declared:
+        what = f"Declare the {WHAT[sections[0]]} {wrong.name} in {owners[0].unit.declared[0].words}"
+        yield Fix(what, owners[0], *added(owners[0], sections[0], item))
+
+
+def _port(plant: Plant, wrong: Wrong) -> str | None:
+    """The declaration of a port, with the type of the other end of its connection; None where that is not known."""
+    if wrong.wanted.space == EVENT:
+        return f"{wrong.name};"
+    other = _other_end(wrong)
+    its = plant.declaration(plant.key(other)) if other else None
+    return f"{wrong.name} : {its.type};" if its and its.type else None
+
+
+def _other_end(wrong: Wrong) -> Use | None:
+    """The name of the port at the other end of the connection that a wrong one is an end of."""
+    for it in wrong.text.unit.connections:
+        if wrong.use in it.source:
+            return it.destination[-1] if it.destination else None
+        if wrong.use in it.destination:
+            return it.source[-1]
+    return None
+
+
+def _missing_instance(plant: Plant, wrong: Wrong) -> Iterator[Fix]:
+    """Instances of types that have the port that is asked for: first types of this unit, then those with the name in theirs."""
+    unit, wanted = wrong.text.unit, wrong.wanted
+    port = unit.uses[wrong.at + 1].key.name
+    kinds = {"FUNCTION_BLOCK": "FBS"} if unit.kind == "FUNCTION_BLOCK" else {"FUNCTION_BLOCK": "FBS", "SUBAPPLICATION": "SUBAPPS"}
+    sections = ACROSS[wanted.side][wanted.space]
+    here = {it.type.upper() for it in unit.declared}
+    found = [
+        (it.name, kinds[it.kind])
+        for it in {*plant.texts_with(port), *(it for name in here for it in plant.declaring(name))}
+        if it.kind in kinds and (its := it.unit.first.get(Key(it.name, wanted.space, "", port))) and its.section in sections
+    ]
+    found.sort(key=lambda it: (it[0] not in here, wrong.name.upper() not in it[0], it[0]))
+    for of, section in found[:_MOST_TYPES]:
+        if of != unit.name:
+            place = added(wrong.text, section, f"{wrong.name} : {of};", wanted.scope)
+            yield Fix(f"Declare {wrong.name} : {of} in {section}", wrong.text, *place)
+
+
+def _point_follows(text: Text, use: Use) -> bool:
+    follower = next(pieces(text.places.words(use.end, len(text.places.encoded))), None)
+    return follower is not None and follower.words == "."
+
+
+def added(text: Text, section: str, item: str, application: str = "") -> tuple[int, int, str]:
+    """Where an item is to be put in, and the words for it: at the end of a section, or in a new one at the begin of its unit or application."""
+    its = [it for it in pieces(text.text) if it.kind != "comment"]
+    head = text.unit.declared[0]
+    if application:
+        name, _, number = application.partition("#")
+        head = [it for it in text.unit.declared if it.section == "APPLICATION" and it.key.name == name][int(number or 1) - 1]
+    for begin, end in Nesting(its).pairs:
+        if its[begin].upper == section and head.begin <= its[begin].start < head.last:
+            return _at_end(text, its[end].start, item)
+    return _behind_head(text, head.begin, head.end, f"{section} {item} {ENDS[section]}")
+
+
+def _at_end(text: Text, place: int, item: str) -> tuple[int, int, str]:
+    """Before the word that ends a section: in a line of its own where that word has one."""
+    indent = _indent(text, place)
+    if indent is None:
+        return place, place, f"{item} "
+    return place, place, f"  {item}{_line_end(text)}{indent}"
+
+
+def _behind_head(text: Text, begin: int, end: int, words: str) -> tuple[int, int, str]:
+    """In a line of its own, behind a head and the comments in its line."""
+    encoded = text.places.encoded
+    for piece in pieces(text.text):
+        if piece.start >= end:
+            if piece.kind != "comment" or b"\n" in encoded[end : piece.start]:
+                break
+            end = piece.end
+    return end, end, f"{_line_end(text)}{_indent(text, begin) or ''}  {words}"
+
+
+def _indent(text: Text, place: int) -> str | None:
+    """The blanks between the begin of a line and a place; None where something stands there."""
+    line, column = text.places.line_column(place)
+    before = text.places.line(line)[: column - 1]
+    return before if not before.strip() else None
+
+
+def _line_end(text: Text) -> str:
+    return "\r\n" if "\r\n" in text.text else "\n"

@@ -1,0 +1,702 @@
+"""Sessions of a workbench over TCP or over a child process, what is sent and answered, and what can go wrong."""
+from __future__ import annotations
+
+import json
+import socket
+import subprocess
+import time
+from collections.abc import Callable, Container, Iterable, Iterator, Mapping
+from dataclasses import dataclass
+from os import PathLike, fspath
+from typing import Any, BinaryIO, Literal, Self, TypeVar, cast
+
+CHANGES_LIMIT = 16
+"""Changes in one commit."""
+LINE_LIMIT = 1_048_576
+"""Bytes of one request line, without its line feed."""
+NAME_LIMIT = 64
+"""Bytes of a name."""
+TEXT_LIMIT = 65_536
+"""Bytes of the text of a unit."""
+UNITS_LIMIT = 16_384
+"""Units that a workbench can be started for."""
+HISTORY_LIMIT = 10_000_000
+"""Recorded calls that a workbench can be started for, or that a checkpoint makes room for."""
+
+Kind = Literal["faults", "net", "deploy"]
+Sort = Literal["event", "data", "adapter"]
+Value = TypeVar("Value")
+
+# No revision is as high: a change written against it is always refused.
+_NO_REVISION = 2**64 - 1
+_TURNS = 100
+_GREETING_REQUEST = {"op": "deliver", "job": 1}
+_FIRST_PAUSE, _LONGEST_PAUSE = 0.01, 0.25
+_GREETING = 5.0
+_FIRST_TRY, _LAST_TRY = 1.0, 15.0
+_USED_UP = "a `serve` ends once its sessions are used up"
+
+
+# What can go wrong
+
+
+class WorkbenchError(Exception):
+    """Anything that goes wrong between a client and a workbench. Its text can be shown to a user as it is."""
+
+
+class NoWorkbench(WorkbenchError):
+    """The program can't be started, or nobody listens at the address."""
+
+
+class ConnectionEnded(WorkbenchError):
+    """The workbench ended, or hung up, before its reply was there. The session can't be used any more."""
+
+
+class NotLetIn(ConnectionEnded):
+    """The connection was closed before the first reply. A `host` does that if the secret is wrong or missing, or if too many others are connecting."""
+
+
+class NoAnswer(WorkbenchError):
+    """No reply came in time. The session can't be used any more."""
+
+
+class BadReply(WorkbenchError):
+    """A reply that is no JSON object, or not of the form that the request asks for. `line` is the reply."""
+
+    def __init__(self, line: bytes):
+        super().__init__(f"the workbench sent a reply that makes no sense: {_shortened(line)}")
+        self.line = line
+
+
+class RequestTooLong(WorkbenchError):
+    """A request of more than `LINE_LIMIT` bytes, which was not sent. `size` is in bytes."""
+
+    def __init__(self, size: int):
+        super().__init__(f"a request of {size:,} bytes is too long: the workbench takes lines of {LINE_LIMIT:,} bytes")
+        self.size = size
+
+
+class Refused(WorkbenchError):
+    """The workbench refused a request, which changed nothing. `refusal` is the refusal's name, `reply` the whole reply."""
+
+    def __init__(self, reply: dict[str, Any], explanation: str = ""):
+        self.refusal = str(reply.get("refused"))
+        self.reply = reply
+        super().__init__(explanation or _REFUSALS.get(self.refusal) or f"the workbench refused the request: {self.refusal}")
+
+
+class NoSeat(Refused):
+    """All sessions of a `host` are in use. The session can't be used; one that is opened later may find a place."""
+
+
+class HistoryFull(Refused):
+    """The history of a `serve` or of a script is full, so each further recorded call is refused too. That of a `host` is never full."""
+
+
+class StaleBase(Refused):
+    """A change was written against another revision than the present one.
+
+    `unit` is the first such unit, `current` its present revision: 0 where there is no such unit.
+    """
+
+    def __init__(self, reply: dict[str, Any]):
+        self.unit = str(reply["unit"])
+        self.current = int(reply["current"])
+        there = f"is at revision {self.current} now" if self.current else "is not there"
+        super().__init__(reply, f"{self.unit} {there}: the change was written against another revision")
+
+
+class NoSuchKey(Refused):
+    """There is no such unit, or it has no answers of this kind."""
+
+
+class NoSuchUnit(Refused):
+    """A unit that is not there was to be removed. `unit` is its name."""
+
+    def __init__(self, reply: dict[str, Any]):
+        self.unit = str(reply["unit"])
+        super().__init__(reply, f"there is no unit {self.unit} to remove")
+
+
+_REFUSALS = {
+    "NoChange": "a commit needs at least one change",
+    "TooManyChanges": f"a commit takes at most {CHANGES_LIMIT} changes",
+    "SameUnitTwice": "a commit can't change one unit twice",
+    "TooManyUnits": "the workbench has no room for more units; start it with a higher --units",
+    "HistoryFull": "the history of the workbench is full: start it again with a higher --history, or run a host, whose history never fills",
+    "NoSeat": "all sessions of the workbench are in use",
+    "BadName": f"a name is a letter or _, then letters, digits and _, at most {NAME_LIMIT} of them",
+    "TextTooLong": f"the text of a unit has at most {TEXT_LIMIT:,} bytes",
+    "NoSuchKey": "there is no such unit, or it has no answers of this kind",
+    "NoSuchJob": "no job of that number was taken in this session",
+    "TooManyJobs": "this session holds as many jobs as it can",
+}
+_REFUSAL_TYPES: dict[str, type[Refused]] = {it.__name__: it for it in (StaleBase, NoSuchKey, NoSuchUnit, NoSeat, HistoryFull)}
+
+
+def _refusal(reply: dict[str, Any]) -> Refused:
+    return _REFUSAL_TYPES.get(str(reply["refused"]), Refused)(reply)
+
+
+def _shortened(line: bytes) -> str:
+    shown = line.decode(errors="replace").strip()
+    return shown if len(shown) <= 120 else f"{shown[:120]}…"
+
+
+# What is sent and answered
+
+
+@dataclass(frozen=True)
+class Put:
+    """Gives `unit` a text. `base` is the revision that it was written against, 0 for a new unit."""
+
+    unit: str
+    base: int
+    text: str
+
+    def request(self) -> dict[str, Any]:
+        return {"put": self.unit, "base": self.base, "text": self.text}
+
+
+@dataclass(frozen=True)
+class Remove:
+    """Takes `unit` away. `base` is the revision that is to be removed."""
+
+    unit: str
+    base: int
+
+    def request(self) -> dict[str, Any]:
+        return {"remove": self.unit, "base": self.base}
+
+
+Change = Put | Remove
+SomeChange = TypeVar("SomeChange", bound=Change)
+
+
+@dataclass(frozen=True)
+class Fault:
+    """One fault of a unit: its code and its place in the text, in bytes of UTF-8, `end` exclusive."""
+
+    code: str
+    start: int
+    end: int
+
+
+@dataclass(frozen=True)
+class Block:
+    path: str
+    type: str
+
+
+@dataclass(frozen=True)
+class Link:
+    """From a port of a block to a port of a block, each as the block's path, `.` and the port."""
+
+    sort: Sort
+    source: str
+    destination: str
+
+
+@dataclass(frozen=True)
+class Border:
+    """An own port of a subapplication, and the port of a block inside that it leads to."""
+
+    sort: Sort
+    port: str
+    place: str
+
+
+@dataclass(frozen=True)
+class Flat:
+    """A network in which each subapplication instance is replaced by what it holds."""
+
+    blocks: tuple[Block, ...]
+    links: tuple[Link, ...]
+    borders: tuple[Border, ...]
+
+
+@dataclass(frozen=True)
+class Blocked:
+    """No network: these units, which it rests on, are absent or have faults."""
+
+    units: tuple[str, ...]
+
+
+@dataclass(frozen=True)
+class Recursive:
+    """No network: these units hold themselves."""
+
+    units: tuple[str, ...]
+
+
+@dataclass(frozen=True)
+class TooLarge:
+    """No network: it would have too many instances."""
+
+
+Net = Flat | Blocked | Recursive | TooLarge
+
+
+@dataclass(frozen=True)
+class Resource:
+    """`DEVICE.RESOURCE` and the commands for it, in order."""
+
+    name: str
+    commands: tuple[str, ...]
+
+
+@dataclass(frozen=True)
+class Plan:
+    """What each resource of a system is told, and the links that lead from one resource to another."""
+
+    cuts: tuple[Link, ...]
+    resources: tuple[Resource, ...]
+
+
+@dataclass(frozen=True)
+class Stopped:
+    """No plan, as there is no flat network."""
+
+    net: Blocked | Recursive | TooLarge
+
+
+@dataclass(frozen=True)
+class Misplaced:
+    """`UNMAPPED`: the block at `path` has no resource; `NO_SUCH_BLOCK`: a mapping names a `path` that is not there."""
+
+    reason: Literal["UNMAPPED", "NO_SUCH_BLOCK"]
+    path: str
+
+
+@dataclass(frozen=True)
+class Faulty:
+    """No plan, as mappings are missing or wrong."""
+
+    misplaced: tuple[Misplaced, ...]
+
+
+Deploy = Plan | Stopped | Faulty
+
+
+@dataclass(frozen=True)
+class Job:
+    """A job that was taken: its number in this session, and the key that it is for."""
+
+    number: int
+    kind: Kind
+    unit: str
+
+
+def _read_faults(reply: dict[str, Any]) -> tuple[Fault, ...]:
+    return tuple(Fault(str(code), int(start), int(end)) for code, start, end in reply["faults"])
+
+
+def _read_links(links: list[Any]) -> tuple[Link, ...]:
+    return tuple(Link(sort, source, destination) for sort, source, destination in links)
+
+
+def _read_net(reply: dict[str, Any]) -> Net:
+    match reply["net"]:
+        case "too_large":
+            return TooLarge()
+        case {"blocked": units}:
+            return Blocked(tuple(units))
+        case {"recursive": units}:
+            return Recursive(tuple(units))
+        case {"blocks": blocks, "links": links, "borders": borders}:
+            return Flat(tuple(Block(*it) for it in blocks), _read_links(links), tuple(Border(*it) for it in borders))
+    raise ValueError(reply)
+
+
+def _read_deploy(reply: dict[str, Any]) -> Deploy:
+    match reply["deploy"]:
+        case {"stopped": stopped} if not isinstance(net := _read_net({"net": stopped}), Flat):
+            return Stopped(net)
+        case {"faulty": misplaced}:
+            return Faulty(tuple(Misplaced(*it) for it in misplaced))
+        case {"cuts": cuts, "resources": resources}:
+            return Plan(_read_links(cuts), tuple(Resource(name, tuple(commands)) for name, commands in resources))
+    raise ValueError(reply)
+
+
+def _read_job(reply: dict[str, Any]) -> Job | None:
+    return Job(reply["job"], reply["kind"], reply["unit"]) if reply["job"] else None
+
+
+_READERS: dict[str, Callable[[dict[str, Any]], Any]] = {"faults": _read_faults, "net": _read_net, "deploy": _read_deploy}
+
+
+def batches(changes: Iterable[SomeChange]) -> Iterator[list[SomeChange]]:
+    """Splits changes, in their order, into lists that each fit one commit: its number of changes and its line.
+
+    Raises `RequestTooLong` where one change alone is too long; with texts of at most `TEXT_LIMIT` bytes none is.
+    """
+    around = len(_line({"op": "commit", "changes": []}))
+    batch: list[SomeChange] = []
+    size = around
+    for change in changes:
+        added = len(_line(change.request())) + 1
+        if around + added > LINE_LIMIT:
+            raise RequestTooLong(around + added)
+        if batch and (len(batch) == CHANGES_LIMIT or size + added > LINE_LIMIT):
+            yield batch
+            batch, size = [], around
+        batch.append(change)
+        size += added
+    if batch:
+        yield batch
+
+
+def pauses() -> Iterator[float]:
+    """Seconds before each further try to connect: one at first, and then twice as long each time, up to 15."""
+    pause = _FIRST_TRY
+    while True:
+        yield pause
+        pause = min(2 * pause, _LAST_TRY)
+
+
+def _line(request: dict[str, Any]) -> bytes:
+    return json.dumps(request, ensure_ascii=False, separators=(",", ":")).encode()
+
+
+# Sessions
+
+
+class _Pipes:
+    """A child process that reads requests from its standard input. What it says on standard error is shown as it comes."""
+
+    def __init__(self, words: list[str]):
+        try:
+            self._process = subprocess.Popen(words, stdin=subprocess.PIPE, stdout=subprocess.PIPE)
+        except OSError as error:
+            raise NoWorkbench(f"can't start the workbench {words[0]}: {error.strerror}") from error
+        self._input, self._output = cast(BinaryIO, self._process.stdin), cast(BinaryIO, self._process.stdout)
+
+    def send(self, line: bytes) -> None:
+        try:
+            self._input.write(line)
+            self._input.flush()
+        except (OSError, ValueError) as error:  # A `ValueError` where the session was ended before.
+            raise self._ended() from error
+
+    def receive(self) -> bytes:
+        line = self._output.readline()
+        if not line.endswith(b"\n"):
+            raise self._ended()
+        return line
+
+    def _ended(self) -> ConnectionEnded:
+        self.close()
+        return ConnectionEnded(f"the workbench ended before it answered (status {self._process.returncode})")
+
+    def close(self) -> None:
+        try:
+            self._input.close()
+        except OSError:
+            pass  # What could not be sent is lost: nobody reads it any more.
+        try:
+            self._process.wait(timeout=5)
+        except subprocess.TimeoutExpired:
+            self._process.kill()
+            self._process.wait()
+        self._output.close()
+
+
+class _Connection:
+    """A connection to a server."""
+
+    def __init__(self, host: str, port: int, timeout: float):
+        self._address = f"{host}:{port}"
+        self._timeout = timeout
+        try:
+            self._socket = socket.create_connection((host, port), timeout)
+        except ConnectionRefusedError as error:
+            raise NoWorkbench(f"no workbench at {self._address}: connection refused, no server runs there ({_USED_UP})") from error
+        except OSError as error:
+            raise NoWorkbench(f"no workbench at {self._address}: {error.strerror or error}") from error
+        except ValueError as error:
+            raise NoWorkbench(f"no workbench at {self._address}: there is no such host") from error
+        self._socket.setsockopt(socket.IPPROTO_TCP, socket.TCP_NODELAY, 1)
+        self._reader: BinaryIO = self._socket.makefile("rb")
+
+    def wait_at_most(self, timeout: float) -> None:
+        self._timeout = timeout
+        self._socket.settimeout(timeout)
+
+    def send(self, line: bytes) -> None:
+        self._try(lambda: self._socket.sendall(line))
+
+    def receive(self) -> bytes:
+        line = self._try(self._reader.readline)
+        if not line.endswith(b"\n"):
+            raise ConnectionEnded(f"the workbench at {self._address} hung up before it answered")
+        return line
+
+    def _try(self, act: Callable[[], Value]) -> Value:
+        try:
+            return act()
+        except TimeoutError as error:
+            raise NoAnswer(f"no answer from {self._address} within {self._timeout:g} seconds: it is busy, or all sessions of a `serve` are used up") from error
+        except OSError as error:
+            raise ConnectionEnded(f"the connection to {self._address} ended: {error.strerror or error}") from error
+
+    def close(self) -> None:
+        try:
+            self._socket.shutdown(socket.SHUT_RDWR)  # It wakes a thread that waits for a reply.
+        except OSError:
+            pass  # The other side has hung up.
+        self._reader.close()
+        self._socket.close()
+
+
+class Session:
+    """One talk with a workbench, ended by `close` or by the end of its `with` block.
+
+    All calls may raise `ConnectionEnded`, `NoAnswer` and `BadReply`, after which the session is of no more use, and `Refused`, after which
+    it goes on; `HistoryFull` is a refusal that each later call meets too.
+
+    `revisions` has the revisions of the units that this session has put, by their names in upper case. Of what others put
+    it knows nothing: see `revision`.
+    """
+
+    def __init__(self, channel: _Pipes | _Connection):
+        self._channel = channel
+        self.revisions: dict[str, int] = {}
+
+    @classmethod
+    def script(cls, program: str | PathLike[str], units: int = UNITS_LIMIT, history: int = HISTORY_LIMIT) -> Session:
+        """Starts a workbench as a child process, for at most so many units and recorded calls. It ends with the session.
+
+        Raises `NoWorkbench` where the program can't be started.
+        """
+        return cls(_Pipes([fspath(program), "script", "--units", str(units), "--history", str(history)]))
+
+    @classmethod
+    def connect(cls, host: str, port: int, timeout: float = 60, secret: str | None = None) -> Self:
+        """Connects to a workbench that serves. No reply may take longer than `timeout` seconds. `secret` is the first line of the file that a `host` was given.
+
+        Raises `NoWorkbench` if nobody listens, `NoAnswer` if nobody answers within five seconds, `NoSeat` if all sessions are in use, `NotLetIn` if
+        the connection is closed before the first reply, and `BadReply` if it is no workbench that answers. A `serve` that has had all its
+        sessions does one of the first two.
+        """
+        connection = _Connection(host, port, min(timeout, _GREETING))
+        session = cls(connection)
+        try:
+            session._greet(secret)
+        except WorkbenchError:
+            session.close()
+            raise
+        connection.wait_at_most(timeout)
+        return session
+
+    def _greet(self, secret: str | None) -> None:
+        """Makes sure that a workbench is there, by the delivery of a job that was not taken: it is refused, and is no recorded call."""
+        first = "" if secret is None else f"{secret}\n"
+        try:
+            self._channel.send(first.encode() + _line(_GREETING_REQUEST) + b"\n")
+        except ConnectionEnded:
+            pass  # There may be a reply that says why.
+        try:
+            if self._greeted() == "BadRequest" and secret is not None:
+                self._greeted()  # The line of a secret that this server does not ask for was refused.
+        except ConnectionEnded as error:
+            raise NotLetIn(f"{error}: {'it may want a secret' if secret is None else 'the secret may be wrong'}") from error
+
+    def _greeted(self) -> str:
+        """How the next reply refuses."""
+        try:
+            self._reply(lambda reply: reply)
+        except NoSeat:
+            raise
+        except Refused as refusal:
+            return refusal.refusal
+        return ""
+
+    def close(self) -> None:
+        """Ends the session; it can be ended again."""
+        self._channel.close()
+
+    def __enter__(self) -> Session:
+        return self
+
+    def __exit__(self, *_: object) -> None:
+        self.close()
+
+    def request(self, request: dict[str, Any]) -> dict[str, Any]:
+        """Sends one request as it is, and gives its reply. Raises `Refused`, and `RequestTooLong` before anything is sent."""
+        return self._exchange(request, lambda reply: reply)
+
+    def _exchange(self, request: dict[str, Any], read: Callable[[dict[str, Any]], Value]) -> Value:
+        line = _line(request)
+        if len(line) > LINE_LIMIT:
+            raise RequestTooLong(len(line))
+        self._channel.send(line + b"\n")
+        return self._reply(read)
+
+    def _reply(self, read: Callable[[dict[str, Any]], Value]) -> Value:
+        answer = self._channel.receive()
+        try:
+            reply = json.loads(answer)
+            if "refused" not in reply:
+                return read(reply)
+            refusal = _refusal(reply)
+        except (ValueError, TypeError, KeyError, AttributeError) as error:
+            raise BadReply(answer) from error
+        raise refusal
+
+    def commit(self, changes: Iterable[Change]) -> int:
+        """Makes all the changes in one commit, or none, and gives the commit's number: the revision of each unit that was put.
+
+        Raises `StaleBase`, `NoSuchUnit` and other refusals, and `RequestTooLong`. See `batches` for longer lists.
+        """
+        changes = list(changes)
+        request = {"op": "commit", "changes": [change.request() for change in changes]}
+        number = self._exchange(request, lambda reply: int(reply["commit"]))
+        for change in changes:
+            self.revisions.pop(change.unit.upper(), None)
+            if isinstance(change, Put):
+                self.revisions[change.unit.upper()] = number
+        return number
+
+    def revision(self, unit: str) -> int:
+        """The present revision of a unit, whoever put it; 0 where there is none.
+
+        The protocol has no such question. This is a removal written against a revision that no unit has, which is always refused and
+        whose refusal has the answer. It changes nothing, and it is a recorded call as all are.
+        """
+        try:
+            self.commit([Remove(unit, _NO_REVISION)])
+        except StaleBase as refusal:
+            return refusal.current
+        except NoSuchUnit:
+            return 0
+        raise AssertionError("a removal of a revision that no unit has was not refused")
+
+    def changed(self, known: Mapping[str, int]) -> dict[str, int]:
+        """The present revisions of those of these units that are not as `known` says; 0 is for a unit that is not there.
+
+        As `revision`, for many units at once: one recorded call for each 16 of them, and one more for each that has changed. The names that
+        it gives are in upper case.
+        """
+        asked = {unit.upper(): revision for unit, revision in known.items()}
+        found = self._present(asked, ())
+        return {unit: revision for unit, revision in found.items() if revision != asked[unit]}
+
+    def present(self, units: Iterable[str]) -> dict[str, int]:
+        """The present revisions of units of which nothing is known; 0 is for a unit that is not there. The names that it gives are in upper case.
+
+        One recorded call for each 16 of them, and one more for each that is there with another revision than the one before it: units that came
+        by one commit cost one.
+        """
+        asked = dict.fromkeys((unit.upper() for unit in units), 0)
+        return self._present(asked, asked)
+
+    def _present(self, asked: dict[str, int], guessed: Container[str]) -> dict[str, int]:
+        """The present revisions. That of a unit that is `guessed` may be the one of the unit before it."""
+        units = list(asked.items())
+        found: dict[str, int] = {}
+        for at in range(0, len(units), CHANGES_LIMIT):
+            found |= self._correct(dict(units[at : at + CHANGES_LIMIT]), guessed)
+        return found
+
+    def _correct(self, known: dict[str, int], guessed: Container[str]) -> dict[str, int]:
+        """Of at most 16 units. The last change of the commit is refused whatever is there, so that none is ever made."""
+        *front, last = known
+        while True:
+            changes: list[Change] = [Remove(unit, known[unit]) if known[unit] else Put(unit, 0, "") for unit in front]
+            try:
+                self.commit([*changes, Remove(last, _NO_REVISION)])
+            except (StaleBase, NoSuchUnit) as refusal:
+                unit, current = refusal.unit, refusal.current if isinstance(refusal, StaleBase) else 0
+                behind = front[front.index(unit) + 1 :] if unit in front else []
+                known |= {unit: current, **{it: current for it in behind if it in guessed}}
+                if unit == last:
+                    return known
+
+    def ask(self, kind: Kind, unit: str) -> Any:
+        """What `faults`, `net` or `deploy` give. Raises `NoSuchKey`."""
+        read = _READERS[kind]
+        return self._exchange(
+            {"op": "ask", "kind": kind, "unit": unit}, lambda reply: None if reply.get("answer") == "pending" else read(reply)
+        )
+
+    def faults(self, unit: str) -> tuple[Fault, ...] | None:
+        """The faults of a unit, in the order of their places; None while they are pending. Raises `NoSuchKey`."""
+        return self.ask("faults", unit)
+
+    def net(self, unit: str) -> Net | None:
+        """The flat network of a subapplication or a system; None while it is pending. Raises `NoSuchKey`."""
+        return self.ask("net", unit)
+
+    def deploy(self, unit: str) -> Deploy | None:
+        """The commands for the resources of a system; None while they are pending. Raises `NoSuchKey`."""
+        return self.ask("deploy", unit)
+
+    def work(self, turns: int) -> int:
+        """Does up to `turns` jobs, 1 to 1,000, and gives how many results were accepted: fewer where there are no more to take."""
+        return self._exchange({"op": "work", "turns": turns}, lambda reply: int(reply["accepted"]))
+
+    def take(self) -> Job | None:
+        """Takes a job, to be delivered later; None where there is none to take."""
+        return self._exchange({"op": "take"}, _read_job)
+
+    def deliver(self, job: Job) -> None:
+        """Has a job run on the texts that were there when it was taken, and delivers its result.
+
+        Raises `Refused` where the result is not wanted any more: `Stale`, `NotPending` or `NoSuchKey`.
+        """
+        self.request({"op": "deliver", "job": job.number})
+
+    def give_back(self, kind: Kind, unit: str) -> bool:
+        """Makes a job that was taken one to take again; False where nobody had taken it."""
+        return self._exchange({"op": "give_back", "kind": kind, "unit": unit}, lambda reply: bool(reply["returned"]))
+
+    def checkpoint(self, units: int, history: int) -> int:
+        """Makes the present state what the history begins from, with room for so many units and recorded calls, and gives the number of all calls so far.
+
+        Nothing else changes. Raises `Refused`: `UnitsOver` where more units are there, `NotAlone` for a session of a workbench that serves.
+        """
+        return self._exchange({"op": "checkpoint", "units": units, "history": history}, lambda reply: int(reply["checkpoint"]))
+
+    def wait(self, kind: Kind, unit: str, progress: Callable[[int], object] | None = None) -> Any:
+        """Works until one answer is there, and gives it. Raises `NoSuchKey`. `progress` as in `settle`."""
+        return self._work_until(lambda: self.ask(kind, unit), progress)
+
+    def settle(self, progress: Callable[[int], object] | None = None) -> dict[str, tuple[Fault, ...]]:
+        """Works until nothing is pending, and gives the faults of each unit that this session has put, by its name in upper case.
+
+        Calls `progress` now and then with the number of results so far. Units that others have removed since are left out. Where others
+        work too, it waits for the results that are in their hands.
+        """
+        settled: dict[str, tuple[Fault, ...]] = {}
+        waiting = set(self.revisions)
+
+        def ask_all() -> bool | None:
+            for unit in sorted(waiting):
+                try:
+                    faults = self.faults(unit)
+                except NoSuchKey:
+                    waiting.discard(unit)
+                    continue
+                if faults is not None:
+                    settled[unit] = faults
+                    waiting.discard(unit)
+            return None if waiting else True
+
+        self._work_until(ask_all, progress)
+        return settled
+
+    def _work_until(self, answer: Callable[[], Value | None], progress: Callable[[int], object] | None) -> Value:
+        accepted, pause = 0, _FIRST_PAUSE
+        while True:
+            while done := self.work(_TURNS):
+                accepted += done
+                if progress:
+                    progress(accepted)
+                if done < _TURNS:
+                    break
+            value = answer()
+            if value is not None:
+                return value
+            time.sleep(pause)
+            pause = min(2 * pause, _LONGEST_PAUSE)

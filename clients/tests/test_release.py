@@ -1,0 +1,227 @@
+"""The release, unpacked where there is no kit, and its man page, completions, unit and Dockerfile against what the program takes."""
+from __future__ import annotations
+
+import hashlib
+import os
+import re
+import shlex
+import shutil
+import subprocess
+import tarfile
+import textwrap
+import tomllib
+import unittest
+from functools import cache
+from pathlib import Path
+
+from support import CLIENTS, CONVEYOR, InFolder, workbench
+
+TOP = CLIENTS.parent
+PACKAGING = TOP / "packaging"
+PLAIN = {"PATH": "/usr/bin:/bin", "LANG": "C.UTF-8"}
+"""The surroundings of a machine that has no kit."""
+
+
+def made(folder: Path, **surroundings: str) -> Path:
+    """The release, made in a folder."""
+    words = [str(TOP / "tools" / "release"), "--program", workbench(), "--out", str(folder)]
+    ran = subprocess.run(words, env={**os.environ, **surroundings}, capture_output=True, text=True)
+    if ran.returncode:
+        raise AssertionError(ran.stderr)
+    return Path(ran.stdout.strip())
+
+
+@cache
+def commands() -> dict[str, dict[str, str]]:
+    """The options of each command of the program, with their defaults, as its help prints them."""
+    names = re.findall(r"^  (\w+) ", help_of(), re.M)
+    return {name: dict(re.findall(r"^ {2,}(?:-\w, )?(--\w+)(?:.*\[default: (\d+)\])?", help_of(name), re.M)) for name in names if name != "help"}
+
+
+def help_of(*words: str) -> str:
+    ran = subprocess.run([workbench(), *words, "--help"], capture_output=True, text=True)
+    return ran.stdout + ran.stderr
+
+
+class ReleaseTest(InFolder):
+    def unpacked(self) -> Path:
+        with tarfile.open(made(self.folder / "out")) as tar:
+            tar.extractall(self.folder / "unpacked")
+        (root,) = (self.folder / "unpacked").iterdir()
+        return root
+
+    def run_there(self, *words: object, given: str = "") -> subprocess.CompletedProcess[str]:
+        return subprocess.run([*map(str, words)], cwd=self.folder, env=PLAIN, input=given, capture_output=True, text=True, timeout=60)
+
+    def test_two_runs_give_the_same_bytes(self) -> None:
+        one = made(self.folder / "one")
+        other = made(self.folder / "other", TZ="Asia/Tokyo", LC_ALL="C", PYTHONHASHSEED="1")
+        version = tomllib.loads((CLIENTS / "pyproject.toml").read_text())["project"]["version"]
+        self.assertEqual({one.name, other.name}, {f"bench61499-{version}-x86_64-linux.tar.gz"})
+        self.assertEqual(one.read_bytes(), other.read_bytes())
+
+    def test_the_program_and_the_clients_run_without_a_kit(self) -> None:
+        root = self.unpacked()
+        ran = self.run_there(root / "bin" / "bench61499", "script", given='{"op":"work","turns":1}\n')
+        self.assertEqual((ran.stdout, ran.returncode), ('{"accepted":0}\n', 0), ran.stderr)
+        if self.run_there("python3", "-c", "import sys; sys.exit(sys.version_info < (3, 11))").returncode:
+            self.skipTest("the Python of /usr/bin is older than 3.11")
+        ran = self.run_there(root / "clients" / "check", CONVEYOR)
+        self.assertEqual((ran.stdout, ran.returncode), ("7 units, no faults\n", 0), ran.stderr)
+
+    def test_what_is_in_it(self) -> None:
+        root = self.unpacked()
+        names = {str(it.relative_to(root)) for it in root.rglob("*") if it.is_file()}
+        expected = {"README.md", "INSTALL.md", "Dockerfile", "docs/WORKBENCH.md", "clients/python/bench61499/board/board.js", "bin/bench61499",
+                    "share/man/man1/bench61499.1", "lib/systemd/system/bench61499.service"}
+        self.assertLessEqual(expected, names)
+        self.assertFalse([it for it in names if it.startswith("clients/tests") or it.endswith(".pyc")])
+        copied = re.search(r"^COPY (\S+) ", (root / "Dockerfile").read_text(), re.M)
+        self.assertIn(copied[1], names)
+
+    def test_what_it_says_of_its_sources_and_proofs(self) -> None:
+        root = self.unpacked()
+        checked = subprocess.run(["sha256sum", "--check", "--quiet", root / "SOURCES.sha256"], cwd=TOP, capture_output=True, text=True)
+        self.assertEqual((checked.stdout, checked.returncode), ("", 0), checked.stderr)
+        report = (root / "PROVED.txt").read_text()
+        self.assertIn(f"program   sha256 {hashlib.sha256(Path(workbench()).read_bytes()).hexdigest()}\n", report)
+        self.assertIn("proved    not known: the program was named by --program\n", report)
+        self.assertTrue(report.endswith("  bench61499\n"))
+        self.assertLess(report.index("  fb_text\n"), report.index("  fb_parse\n"))
+
+
+class BuiltTest(InFolder):
+    """The built program of a repository, with and without what rt leaves beside a proved one."""
+
+    def setUp(self) -> None:
+        super().setUp()
+        for name in ("tools/release", "tools/crate_graph.py", "tools/kit_rt.py", "clients/pyproject.toml"):
+            self.copy(TOP / name, name)
+        for file in PACKAGING.rglob("*"):
+            if file.is_file():
+                self.copy(file, str(file.relative_to(TOP)))
+        self.copy(TOP / "crates.txt", "crates.txt")
+        self.copy(TOP / "crates" / "fb_text" / "src" / "lib.rt", "crates/fb_text/src/lib.rt")
+        self.copy(Path(workbench()), "crates/bench61499/out/bench61499")
+        self.built = self.folder / "crates" / "bench61499" / "out" / "bench61499"
+        git = ["git", "-c", "user.name=A", "-c", "user.email=a@b"]
+        for words in (["init", "-q"], ["add", "clients", "crates.txt", "tools"], ["commit", "-qm", "All"]):
+            subprocess.run([*git, *words], cwd=self.folder, check=True)
+
+    def copy(self, file: Path, name: str) -> None:
+        to = self.folder / name
+        to.parent.mkdir(parents=True, exist_ok=True)
+        shutil.copy(file, to)
+
+    def release(self) -> subprocess.CompletedProcess[str]:
+        return subprocess.run([self.folder / "tools" / "release"], capture_output=True, text=True)
+
+    def stamp(self, content: bytes) -> None:
+        Path(f"{self.built}.stamp").write_bytes(b"0" * 64 + hashlib.sha256(content).hexdigest().encode())
+
+    def test_a_proved_program_is_released_as_one(self) -> None:
+        self.stamp(self.built.read_bytes())
+        ran = self.release()
+        self.assertEqual(ran.returncode, 0, ran.stderr)
+        with tarfile.open(ran.stdout.strip()) as tar:
+            report = tar.extractfile("bench61499-1.0.0-x86_64-linux/PROVED.txt").read().decode()
+        self.assertIn("proved    yes: rt proved these crates, and built this program of them, with ", report)
+
+    def test_another_one_is_refused(self) -> None:
+        self.refused()
+        self.stamp(b"another program")
+        self.refused()
+        self.stamp(self.built.read_bytes())
+        later = self.built.stat().st_mtime + 10
+        os.utime(self.folder / "crates" / "fb_text" / "src" / "lib.rt", (later, later))
+        self.refused()
+
+    def refused(self) -> None:
+        ran = self.release()
+        self.assertEqual((ran.stdout, ran.returncode), ("", 1))
+        self.assertIn(f"{self.built} is not proved of the present sources", ran.stderr)
+
+
+def faults_of_unit(printed: str) -> list[str]:
+    """What systemd finds, but for the program that is not installed here."""
+    return [it for it in printed.splitlines() if "Command /usr/local/bin/bench61499 is not executable" not in it]
+
+
+class WordsTest(InFolder):
+    """Man page, completions, unit and Dockerfile against the help of the program."""
+
+    def test_the_man_page_has_all_options_and_their_defaults(self) -> None:
+        page = (PACKAGING / "bench61499.1").read_text().replace("\\-", "-")
+        parts = re.findall(r"^\.SS (\w+)\n(.*?)(?=^\.S[SH] )", page, re.M | re.S)
+        described = {name: re.findall(r"^\.BI (--\w+) .*\n(?:(?!\.TP).*\n)*?.*?(?:default is (\d+)|(?=\.TP|\.S|\Z))", part, re.M) for name, part in parts}
+        expected = {name: {option: default for option, default in its.items() if option != "--help"} for name, its in commands().items()}
+        self.assertEqual({name: dict(its) for name, its in described.items()}, expected)
+        synopsis = page[page.index(".SH SYNOPSIS") : page.index(".SH DESCRIPTION")]
+        shown = {part.split()[0]: set(re.findall(r"--\w+", part)) for part in synopsis.split(".B bench61499 ")[1:]}
+        self.assertEqual(shown, {name: set(its) for name, its in expected.items()})
+
+    @unittest.skipUnless(shutil.which("groff"), "groff is not installed")
+    def test_the_man_page_can_be_set(self) -> None:
+        ran = subprocess.run(["groff", "-ww", "-man", "-Tutf8", PACKAGING / "bench61499.1"], capture_output=True, text=True)
+        self.assertEqual((ran.stderr, ran.returncode), ("", 0))
+
+    def completed(self, shell: str, script: str) -> None:
+        """Holds what a shell completes to the program: `script` prints it for the words `$1`."""
+        if not shutil.which(shell):
+            self.skipTest(f"{shell} is not installed")
+        asked = {"": {*commands(), "help"}} | {name: set(its) for name, its in commands().items()}
+        for name, expected in asked.items():
+            found = subprocess.run([shell, "-c", script, shell, name], cwd=PACKAGING / "completions", capture_output=True, text=True)
+            self.assertEqual((set(found.stdout.split()) - ({"--help"} - expected), found.stderr), (expected, ""), f"{shell}: {name}")
+
+    def test_bash(self) -> None:
+        script = 'source ./bench61499.bash; COMP_WORDS=(bench61499 $1 ${1:+--}); COMP_CWORD=$((${#1} ? 2 : 1)); _bench61499; echo "${COMPREPLY[@]}"'
+        self.completed("bash", script)
+
+    def test_zsh(self) -> None:
+        takes = '_arguments() { print -l -- ${@%%\\[*} }; _values() { shift; print -l -- ${@%%\\[*} }; words=(bench61499 $1 --); CURRENT=$(( $#1 ? 3 : 2 )); '
+        self.completed("zsh", takes + "source ./_bench61499")
+
+    def test_fish(self) -> None:
+        script = 'source bench61499.fish; set -l dashes (test -n "$argv[2]"; and echo " --"); complete -C "bench61499 $argv[2]$dashes" | string replace -r "\\t.*" ""'
+        self.completed("fish", script)
+
+    def listens(self, words: list[str]) -> None:
+        """Starts the program with these words, at any free port: it has to listen."""
+        words = ["0" if before == "--port" else word for before, word in zip(["", *words], words)]
+        with subprocess.Popen([workbench(), *words], stdout=subprocess.PIPE, text=True) as server:
+            line = server.stdout.readline()
+            server.terminate()
+        self.assertTrue(line.startswith("listening on 127.0.0.1:"), line)
+
+    def test_the_unit_starts_a_server(self) -> None:
+        unit = (PACKAGING / "bench61499.service").read_text()
+        program, *words = shlex.split(re.search(r"^ExecStart=(.*)", unit, re.M)[1])
+        self.assertEqual((program, words.pop()), ("/usr/local/bin/bench61499", "$OPTIONS"))
+        self.listens(words)
+        example = re.search(r"such as: OPTIONS=(.*)", unit)[1]
+        self.listens(words + example.split())
+
+    def test_the_container_starts_a_server(self) -> None:
+        words = re.search(r"^CMD (.*)", (PACKAGING / "Dockerfile").read_text(), re.M)[1]
+        self.listens([it.strip('"') for it in words.strip("[]").split(", ")])
+
+    @unittest.skipUnless(shutil.which("systemd-analyze"), "systemd is not installed")
+    def test_systemd_takes_the_unit(self) -> None:
+        ran = subprocess.run(["systemd-analyze", "verify", PACKAGING / "bench61499.service"], capture_output=True, text=True)
+        self.assertEqual(faults_of_unit(ran.stderr), [])
+
+    @unittest.skipUnless(shutil.which("systemd-analyze"), "systemd is not installed")
+    def test_systemd_takes_the_lines_for_a_secret(self) -> None:
+        unit = self.write("bench61499.service", (PACKAGING / "bench61499.service").read_bytes())
+        lines = re.search(r"^(?:    .*\n)+(?=\nThe same in a container)", (PACKAGING / "INSTALL.md").read_text(), re.M)[0]
+        self.write("bench61499.service.d/override.conf", textwrap.dedent(lines))
+        ran = subprocess.run(["systemd-analyze", "verify", unit], env={**os.environ, "SYSTEMD_UNIT_PATH": f"{self.folder}:"}, capture_output=True, text=True)
+        self.assertEqual(faults_of_unit(ran.stderr), [])
+        started = [it for it in textwrap.dedent(lines).splitlines() if it.startswith("ExecStart=/")]
+        secret = self.write("secret", "a word\n")
+        self.listens(shlex.split(started[0].replace("${CREDENTIALS_DIRECTORY}/secret", str(secret)))[1:-1])
+
+
+if __name__ == "__main__":
+    unittest.main()

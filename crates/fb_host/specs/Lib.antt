@@ -1,0 +1,3 @@
+pub mod Lodging
+pub mod Heads
+pub mod Short

@@ -1,0 +1,9 @@
+-- Receipts that are not all there.
+use Rattle.std.specs.Prelude.{ℕ, List, Bool, nat_lt}
+use Rattle.fb_locked.specs.History.Story.{Story, turns_of}
+use Rattle.fb_locked.specs.Closing.{receipts_of}
+use Rattle.fb_locked.specs.Seats.{Claim}
+
+-- a caller with fewer receipts than records since the start
+abbrev pub is_short : Story → List Claim → ℕ → Bool
+is_short story receipts caller = nat_lt (receipts_of caller receipts) (turns_of caller story.log.records)

@@ -1,0 +1,59 @@
+//! A connection, with what was read of it.
+use std::alloc::Global;
+use std::io;
+use std::io::{ErrorKind, Read};
+use std::net::TcpStream;
+
+/// A connection, and the bytes of it that were read and not yet given on.
+#[derive(Drop)]
+pub(crate) struct Guest {
+    pub(crate) stream: TcpStream,
+    pub(crate) head: Vec<u8>,
+}
+
+impl Guest {
+    pub(crate) fn new(alloc: Global, stream: TcpStream) -> Guest {
+        Guest {
+            stream,
+            head: Vec::new(alloc),
+        }
+    }
+}
+
+/// First these bytes, and then those of the stream. It tells whether a read waited too long.
+#[derive(Drop)]
+pub(crate) struct Rest<'a> {
+    head: &'a [u8],
+    stream: &'a TcpStream,
+    pub(crate) is_idle: bool,
+}
+
+impl<'a> Rest<'a> {
+    pub(crate) fn of(guest: &'a Guest) -> Rest<'a> {
+        Rest {
+            head: guest.head.as_slice(),
+            stream: &guest.stream,
+            is_idle: false,
+        }
+    }
+}
+
+impl Read for Rest<'_> {
+    fn read(&mut self, buf: &mut [u8]) -> io::Result<usize> {
+        if !self.head.is_empty() {
+            let count = self.head.len().min(buf.len());
+            let (front, behind) = self.head.split_at(count);
+            buf[..count].copy_from_slice(front);
+            self.head = behind;
+            return Ok(count);
+        }
+        let mut stream = self.stream;
+        match stream.read(buf) {
+            Ok(count) => Ok(count),
+            Err(error) => {
+                self.is_idle = error.kind() == ErrorKind::WouldBlock;
+                Err(error)
+            }
+        }
+    }
+}

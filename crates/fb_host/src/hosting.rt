@@ -1,0 +1,139 @@
+//! The host, on the listener that it is given.
+ghost use Rattle.std.specs.Prelude.{◌≡◌, ◌+◌, IfOk, OnOk, is_ok, true, false};
+ghost use Rattle.fb_locked.specs.Book.{IsBookOf};
+ghost use Rattle.fb_serve.specs.Lines.{SaysLines};
+ghost use Rattle.fb_serve.specs.Shown.{ShowsAll};
+
+use crate::close::close;
+use crate::counter::Counter;
+use crate::drawer::Drawer;
+use crate::threads::{DOORS, House, run_house};
+use fb_serve::{NotServed, Served, greet};
+use fb_shared::Shared;
+use fb_wire::bench::Limits;
+use fb_wire::{Sink, write_all};
+use std::alloc::Global;
+use std::io::Write;
+use std::net::{Net, TcpListener, TcpStream};
+use std::sync::{Mutex, Wait};
+use std::thread::Threads;
+use std::time::Clock;
+
+/// How many milliseconds a connection may take to send its first line.
+pub const PATIENCE: u64 = 10_000;
+
+/// How many callers of each sort a host has, the limits of its workbench, of which `history` is how many calls an epoch has, and whom it lets in.
+#[derive(Clone, Copy)]
+pub struct Terms {
+    pub workers: u8,
+    pub sessions: u8,
+    pub limits: Limits,
+    /// How many milliseconds a connection may take to send its first line.
+    pub patience: u64,
+    /// How many milliseconds a session may be silent, or 0 where it may be so for ever.
+    pub idle: u64,
+    /// After how many connections it closes.
+    pub connections: u64,
+}
+
+/// Lets connections in, each to a free seat, if its first line is the secret or there is none, with workers beside them, and closes after so many connections, when all sessions have ended. A fault of a
+/// session is told on `errors` at once.
+fn host_sessions<R: Threads + Wait + Clock + Sync, E: Write + Send>(
+    rt: &R,
+    alloc: Global,
+    listener: &TcpListener,
+    terms: Terms,
+    secret: &[u8],
+    errors: &Mutex<E>,
+) -> Result<Served, NotServed>
+    // The receipts are those of all records of the workbench since its start, each once; each caller is counted with its calls of all time.
+    ensures all { IfOk result
+        (λ served. ShowsAll served.closed.bench served.receipts.items) }
+    ensures counts { IfOk result
+        (λ served. IsBookOf served.closed.counts (terms.sessions + terms.workers)
+        served.closed.bench) }
+{
+    let callers = u32::from(terms.sessions) + u32::from(terms.workers);
+    let (shared, mut seats) = Shared::rolling(alloc, terms.limits, callers)?;
+    let workers = seats.split_off(usize::from(terms.sessions))?;
+    let house = House {
+        shared,
+        drawer: Drawer::new(alloc, terms.limits.history()),
+        doors: Counter::new(alloc, DOORS),
+        seats: Counter::new(alloc, u64::from(terms.sessions)),
+        patience: terms.patience,
+        idle: terms.idle,
+        connections: terms.connections,
+    };
+    let gathered = run_house(rt, alloc, listener, &house, secret, errors, seats, workers);
+    let House {
+        shared,
+        drawer,
+        doors: _,
+        seats: _,
+        patience: _,
+        idle: _,
+        connections: _,
+    } = house;
+    close(rt, alloc, shared, drawer, gathered)
+}
+
+/// Prints where it listens, hosts its sessions, and prints that it is closed.
+pub fn host_on<R: Threads + Wait + Clock + Sync, S: Sink, E: Write + Send>(
+    rt: &R,
+    alloc: Global,
+    listener: &TcpListener,
+    terms: Terms,
+    secret: &[u8],
+    out: &mut S,
+    errors: &Mutex<E>,
+) -> Result<Served, NotServed>
+    requires { S.has_failed out.old ≡ false }
+    ensures all { IfOk result
+        (λ served. ShowsAll served.closed.bench served.receipts.items) }
+    ensures counts { IfOk result
+        (λ served. IsBookOf served.closed.counts (terms.sessions + terms.workers)
+        served.closed.bench) }
+    ensures said { SaysLines (is_ok result) (S.held out.old) (S.held out.new) }
+    ensures flushed { OnOk result (S.is_flushed out.new ≡ true) }
+{
+    let Ok(()) = greet(alloc, listener, out) else {
+        return Err(NotServed);
+    };
+    let Ok(served) = host_sessions(rt, alloc, listener, terms, secret, errors) else {
+        return Err(NotServed);
+    };
+    match write_all(out, b"closed\n") {
+        Ok(()) => Ok(served),
+        Err(_) => Err(NotServed),
+    }
+}
+
+/// Hosts as `host_on` does, on this port of 127.0.0.1; any free one for 0.
+pub fn host<
+    R: Net<Listener = TcpListener, Stream = TcpStream> + Threads + Wait + Clock + Sync,
+    S: Sink,
+    E: Write + Send,
+>(
+    rt: &R,
+    alloc: Global,
+    port: u16,
+    terms: Terms,
+    secret: &[u8],
+    out: &mut S,
+    errors: &Mutex<E>,
+) -> Result<Served, NotServed>
+    requires { S.has_failed out.old ≡ false }
+    ensures all { IfOk result
+        (λ served. ShowsAll served.closed.bench served.receipts.items) }
+    ensures counts { IfOk result
+        (λ served. IsBookOf served.closed.counts (terms.sessions + terms.workers)
+        served.closed.bench) }
+    ensures said { SaysLines (is_ok result) (S.held out.old) (S.held out.new) }
+    ensures flushed { OnOk result (S.is_flushed out.new ≡ true) }
+{
+    match TcpListener::bind(rt, ("127.0.0.1", port)) {
+        Ok(listener) => host_on(rt, alloc, &listener, terms, secret, out, errors),
+        Err(_) => Err(NotServed),
+    }
+}

@@ -1,0 +1,5 @@
+use Rattle.fb_locked.proofs.Rolls.{roll_unseen}
+use Rattle.fb_locked.proofs.roll.rolls_are_unseen.Goals as goal
+
+pub returns : goal.returns
+returns c = λ limits hall begins same some. roll_unseen limits hall begins same some

@@ -1,0 +1,110 @@
+//! A workbench under a lock whose history begins anew where it is full, and keys that are out since a take.
+ghost use Rattle.std.specs.Prelude.{◌≡◌, ◌↔◌, ◌≤◌, IsTrue, OnOk, OnErr};
+ghost use Rattle.fb_bench.specs.History.Checkpoints.{checking, ChecksAs};
+ghost use Rattle.fb_bench.specs.History.Limits.{Bounds};
+ghost use Rattle.fb_bench.specs.History.Story.{IsOrigin};
+ghost use Rattle.fb_locked.specs.Rolling.{hall_rolled, takes, takes_at, IsOutSince, IsRollUnseen, IsTakenAfter, MakesRoom, MayReturn, Returns};
+ghost use Rattle.fb_locked.specs.Seats.{Hall};
+
+use crate::locked::{Locked, SharedRefused};
+use crate::seat::{Receipt, Seat};
+use fb_bench::jobs::{Finished, Key};
+use fb_bench::library::Change;
+use fb_bench::{CheckpointRefused, Limits, Record, Reply, Request};
+
+impl Locked {
+    /// Makes the present state what the history begins from, with these limits, and gives the number of all calls so far. It is no call
+    /// itself, and each seat fits as it did.
+    pub fn roll(&mut self, limits: Limits) -> Result<u64, CheckpointRefused>
+        ensures answer { ChecksAs (checking limits self.old.bench) result }
+        ensures kept { OnOk result (self.new ≡ hall_rolled limits self.old) }
+        ensures err { OnErr result (self.new ≡ self.old) }
+    {
+        self.bench.checkpoint(limits)
+    }
+
+    /// Rolls where the history is full, and only there.
+    pub fn make_room(&mut self, limits: Limits) -> Result<(), CheckpointRefused>
+        ensures { MakesRoom limits self.old result self.new }
+    {
+        if !self.bench.is_full() {
+            return Ok(());
+        }
+        match self.roll(limits) {
+            Ok(_before) => Ok(()),
+            Err(refused) => Err(refused),
+        }
+    }
+
+    /// Whether the key is handed out, and nobody has taken it after the record of this number.
+    pub fn is_out_since(&self, key: &Key, since: u64) -> bool
+        ensures { IsTrue result ↔ IsOutSince self.now.bench key.now since }
+    {
+        self.bench.is_out(key) && !self.is_taken_after(key, since)
+    }
+
+    /// Whether a record after that of this number hands the key out.
+    fn is_taken_after(&self, key: &Key, since: u64) -> bool
+        ensures { IsTrue result ↔ IsTakenAfter self.now.bench key.now since }
+    {
+        let first = since.max(self.bench.before());
+        let last = self.bench.last_number();
+        for place in first..last {
+            if self.takes_at(key, place + 1) {
+                return true;
+            }
+        }
+        false
+    }
+
+    /// Whether the record of this number hands the key out.
+    fn takes_at(&self, key: &Key, number: u64) -> bool
+        ensures { result ≡ takes_at self.now.bench key.now number }
+    {
+        match self.bench.record(number) {
+            Some(it) => takes(it, key),
+            None => false,
+        }
+    }
+
+    /// Gives a key back, where it is out since the take of this number, and keeps the receipt. Otherwise nothing changes.
+    pub fn return_held(
+        &mut self,
+        seat: &mut Seat,
+        receipts: &mut Vec<Receipt>,
+        key: Key,
+        since: u64,
+    ) -> Result<(), SharedRefused>
+        ensures returns { Returns since self.old seat.old key result
+            receipts.old.items self.new seat.new receipts.new.items }
+        ensures may { MayReturn seat.old key result receipts.old.items seat.new receipts.new.items }
+    {
+        let _changes: &[Change] = &[];
+        let _finished: Option<&Finished> = None;
+        if !self.is_out_since(&key, since) {
+            return Ok(());
+        }
+        match self.perform_kept(seat, receipts, &Request::GiveBack(key)) {
+            Ok(_answer) => Ok(()),
+            Err(refused) => Err(refused),
+        }
+    }
+}
+
+/// Whether the record hands the key out.
+fn takes(it: &Record, key: &Key) -> bool
+    ensures { result ≡ takes key.now it.now }
+{
+    match it.reply() {
+        Reply::Taking(Some(wanted)) => wanted.key == *key,
+        _ => false,
+    }
+}
+
+/// Behind a roll with its own limits a workbench under a lock is as it was, but for its records, and a seat against which nothing but a full history was
+/// is one against which nothing is.
+pub fn rolls_are_unseen()
+    ensures { (limits : Bounds) (hall : Hall) → IsOrigin hall.bench.origin
+        → limits.units ≡ hall.bench.origin.most_units → 1 ≤ limits.history
+        → IsRollUnseen limits hall }
+{}

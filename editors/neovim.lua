@@ -1,0 +1,22 @@
+-- bench61499 in Neovim 0.7.2 and newer. In init.lua: dofile('/path/to/editors/neovim.lua')
+-- Another command for the language server, before that: vim.g.bench61499_server = { '/path/to/clients/lsp', '--connect', ':6149' }
+local top = vim.fn.fnamemodify(debug.getinfo(1, 'S').source:sub(2), ':p:h:h')
+local server = { name = 'bench61499', cmd = vim.g.bench61499_server or { top .. '/clients/lsp' }, root_dir = vim.fn.getcwd() }
+
+if vim.lsp.config then -- Neovim 0.11
+  vim.filetype.add({ extension = { fb = 'fb61499' } })
+  vim.lsp.config('bench61499', { cmd = server.cmd, root_dir = server.root_dir, filetypes = { 'fb61499' } })
+  vim.lsp.enable('bench61499')
+  return
+end
+
+local client
+server.on_exit = function() client = nil end
+vim.api.nvim_create_autocmd({ 'BufReadPost', 'BufNewFile' }, {
+  pattern = '*.fb',
+  callback = function(it)
+    vim.bo[it.buf].filetype = 'fb61499'
+    client = client or vim.lsp.start_client(server)
+    vim.lsp.buf_attach_client(it.buf, client)
+  end,
+})

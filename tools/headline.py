@@ -1,0 +1,221 @@
+"""Makes docs/HEADLINE.md: all definitions on which a promise rests, each after those that it uses.
+
+A definition is an item of a file of specs/, with the comment above it; a type of the program that definitions name is listed with its Rust text. What the
+kit defines (numbers, lists, options) is not listed. `tools/check-docs` compares the page with what would be made now, and `tools/check-docs --mend` makes it."""
+import functools
+import os
+import re
+from dataclasses import dataclass, field
+
+import code_parts as parts
+
+PAGE = "docs/HEADLINE.md"
+TITLE = """# What the promises rest on
+
+This page is made by `tools/headline.py` and not written: `tools/check-docs --mend` makes it anew. A contract says no more than the definitions that it cites. Here is
+each of them, after those that it uses, with the comment above it; a type of the program that definitions name stands with its Rust text. What the kit
+defines (numbers, lists, options, maps) is not listed. To believe a promise, read these, and trust what [TRUST.md](TRUST.md) says is trusted. [PROVED.md](PROVED.md) walks through one of them.
+"""
+SECTIONS = (
+    ("The headline", "After any list of calls every entry that is shown is the one from scratch.", (
+        ("fb_history", "entries_follow_the_texts"), ("fb_bench", "Bench::perform"), ("fb_bench", "Bench::start"), ("fb_bench", "Bench::len"), ("fb_bench", "Bench::peek"),
+    )),
+    ("Reading alone", "A text has one list of tokens, and spells one tree or is broken at a place.", (("fb_text", "tokens"), ("fb_parse", "Source::read"), ("fb_parse", "Source::body"))),
+    ("Networks and plans", "The flat network of a unit, and the placement and the plan of a system.", (("fb_flatten", "net"), ("fb_mapping", "place"), ("fb_deploy", "plan"))),
+    ("The lines", "What a conversation writes is what its lines ask and the answers give.", (("fb_wire", "run_lines"), ("fb_wire", "run_script"))),
+    ("The lock", "Calls with seats, workers, and the close.", (
+        ("fb_shared", "Shared::commit"), ("fb_shared", "Shared::take"), ("fb_shared", "Shared::deliver"), ("fb_shared", "Shared::give_back"), ("fb_shared", "Shared::ask"),
+        ("fb_shared", "Shared::close"), ("fb_shared", "Shared::resume"), ("fb_shared", "work_on"),
+    )),
+)
+ITEM = re.compile(r"(?:abbrev |unfoldable )?(?:pub )?(record |data )?([^\s:(){}]+)(?= ?[:({]| :)")
+WORD = re.compile(r"(?<![\w'.])((?:[A-Za-z_][\w'-]*\.)*[A-Za-z_][\w'-]*|◌[^\s◌]+◌)")
+USE = re.compile(r"(?:pub )?use ([\w.]+?)(?:\.\{(.*)\}| as (\w+))?$")
+WORDS = {"abbrev", "pub", "record", "data", "where", "let", "in", "if", "then", "else", "Type", "use", "unfoldable", "module", "λ"}
+
+
+@dataclass
+class Definition:
+    path: str
+    line: int
+    name: str
+    text: str
+    members: set = field(default_factory=set)
+
+    @property
+    def title(self):
+        return f"{self.path.split('/')[1]}: {os.path.basename(self.path).split('.')[0]}.{self.name}"
+
+
+@dataclass
+class File:
+    items: dict
+    names: dict
+    modules: dict
+
+
+def imports(lines):
+    """The names that a file of specs takes from others, and the modules under other names."""
+    names, modules = {}, {}
+    for line in lines:
+        if not (use := USE.match(line.strip())):
+            continue
+        if use[2] is None:
+            modules[use[3] or use[1].split(".")[-1]] = use[1]
+            continue
+        for it in use[2].split(","):
+            name, _, other = it.strip().partition(" as ")
+            names[other or name] = (use[1], name)
+    return names, modules
+
+
+def members_of(head, lines):
+    """The constructors and fields of a type."""
+    if not head:
+        return set()
+    return {found[1] for line in lines if (found := re.match(r"  (?:pub )?([\w'-]+) :", line))}
+
+
+def begins(lines, at, indent, current):
+    """The head of the definition that begins in a line, if one does: no equation of the one above it, no import."""
+    line = lines[at]
+    if not line.startswith(indent) or line[len(indent) :][:1] in ("", " ", "-", "}"):
+        return None
+    head = ITEM.match(line[len(indent) :])
+    if not head or head[2] in WORDS or head[2] == current or line.strip().startswith(("use ", "pub use ", "pub mod ", "mod ", "infix")):
+        return None
+    return head if re.search(r" : |\) :| :$| where$", line) or head[1] else None
+
+
+@functools.cache
+def read(path):
+    """The definitions of a file, and what it imports."""
+    lines = parts.text_of(path).split("\n")
+    names, modules = imports(lines)
+    found, heads, current = {}, [], None
+    indent = "  " if any(it.startswith("module _") for it in lines) else ""
+    for at in range(len(lines)):
+        for ahead in {indent, ""}:
+            if head := begins(lines, at, ahead, current):
+                current = head[2]
+                heads.append((at, head))
+                break
+    for (at, head), (end, _) in zip(heads, [*heads[1:], (len(lines), None)]):
+        above, behind = at, end
+        while above > 0 and lines[above - 1].strip().startswith("-- ") and "----" not in lines[above - 1]:
+            above -= 1
+        while behind > at + 1 and (not lines[behind - 1].strip() or lines[behind - 1].strip().startswith("--")):
+            behind -= 1
+        members = members_of(head[1], lines[at + 1 : behind])
+        found[head[2]] = Definition(path, at + 1, head[2], "\n".join(lines[above:behind]), members)
+    return File(found, names, modules)
+
+
+def rust_type(crate, name):
+    """A type of the program, as a definition."""
+    for path in parts.files(f"crates/{crate}/src/**/*.rt"):
+        text = parts.text_of(path)
+        if found := re.search(rf"(?:^///[^\n]*\n|^#\[[^\n]*\n)*^pub(?:\(crate\))? (?:enum|struct) {name}\b[^\n;]*(?:;|\{{\n.*?^\}})", text, re.M | re.S):
+            line = text[: found.end() - len(found[0])].count("\n") + 1
+            return Definition(path, line, name, found[0])
+    return None
+
+
+@functools.cache
+def module(path):
+    """Where a module of specs is: the path of its file, or the crate and the name of a type of the program; None if it is the kit's."""
+    words = path.split(".")
+    if words[0] != "Rattle" or not os.path.isdir(f"{parts.TOP}/crates/{words[1]}") or words[2] != "specs":
+        return None
+    crate, rest = words[1], words[3:]
+    if rest[:1] == ["declared"]:
+        return (crate, next(it for it in reversed(rest) if it not in ("TheVariants",)))
+    if rest and os.path.exists(f"{parts.TOP}/crates/{crate}/specs/{rest[0]}.antt"):
+        return f"crates/{crate}/specs/{rest[0]}.antt"
+    if rest:
+        modules = read(f"crates/{crate}/specs/Lib.antt").modules
+        if rest[0] in modules:
+            return module(".".join([modules[rest[0]], *rest[1:]]))
+    return None
+
+
+@functools.cache
+def defined(path, name):
+    """The definition of a name in a module, or None if it is the kit's."""
+    place = module(path)
+    if isinstance(place, tuple):
+        return rust_type(*place)
+    return in_file(place, name) if place else None
+
+
+def in_file(path, name):
+    """The definition that a name stands for in a file."""
+    file = read(path)
+    if name in file.items:
+        return file.items[name]
+    for it in file.items.values():
+        if name in it.members:
+            return it
+    if name in file.names:
+        return defined(*file.names[name])
+    first, _, last = name.rpartition(".")
+    return defined(file.modules[first], last) if first in file.modules else None
+
+
+def uses_of(it):
+    """The definitions that one uses."""
+    if it.path.endswith(".rt"):
+        return []
+    code = "\n".join(line for line in it.text.split("\n") if not line.strip().startswith("--"))
+    found = [in_file(it.path, word) or in_file(it.path, word.split(".")[0]) for word in WORD.findall(code)]
+    return [its for its in found if its and its is not it]
+
+
+def cited(crate, name):
+    """The definitions that the contract of a call cites."""
+    call = parts.function(crate, name)
+    if call is None:
+        raise SystemExit(f"headline: {crate} has no {name}")
+    clauses = "\n".join(line for line in call.contract.split("\n"))
+    found = [(call.uses.get(word), word) for word in WORD.findall(clauses)]
+    return [its for path, word in found if path and (its := defined(path, word))]
+
+
+def ordered(roots):
+    """All that these definitions rest on, each after those that it uses."""
+    done, order = set(), []
+    stack = [(it, False) for it in reversed(roots)]
+    while stack:
+        it, is_behind = stack.pop()
+        key = (it.path, it.name)
+        if is_behind:
+            order.append(it)
+        elif key not in done:
+            done.add(key)
+            stack.append((it, True))
+            stack.extend((its, False) for its in reversed(uses_of(it)) if (its.path, its.name) not in done)
+    return order
+
+
+def lines_of(definitions):
+    return sum(it.text.count("\n") + 1 for it in definitions)
+
+
+def shown(it):
+    kind = "rust" if it.path.endswith(".rt") else ""
+    return f"[`{it.title}`](../{it.path}#L{it.line})\n\n```{kind}\n{it.text}\n```\n"
+
+
+def made():
+    """The text of the page."""
+    above, rows, texts = set(), [], []
+    for title, sentence, calls in SECTIONS:
+        whole = ordered([it for call in calls for it in cited(*call)])
+        new = [it for it in whole if (it.path, it.name) not in above]
+        above |= {(it.path, it.name) for it in new}
+        named = ", ".join(f"`{crate}`: `{name}`" for crate, name in calls)
+        anchor = title.lower().replace(" ", "-")
+        rows.append(f"| [{title}](#{anchor}) | {named} | {len(whole):,} | {lines_of(whole):,} | {len(new):,} | {lines_of(new):,} |")
+        texts.append("\n".join([f"## {title}\n", f"{sentence} Cited by the contracts of {named}.\n", *map(shown, new)]))
+    head = "| Promise | Calls | Definitions | Lines | Not above | Lines |\n|---|---|---|---|---|---|"
+    return "\n".join([TITLE, head, *rows, "", *texts]).rstrip("\n") + "\n"
