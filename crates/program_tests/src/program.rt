@@ -44,7 +44,7 @@ fn is_ended(ended: &Ended, status: u8, output: &str, said: &str) -> bool {
 fn status_of(outcome: Outcome) -> Option<u8> {
     match outcome {
         Outcome::Ended(status) => Some(status),
-        Outcome::Serves { .. } => None,
+        Outcome::Serves { .. } | Outcome::Hosts { .. } => None,
     }
 }
 
