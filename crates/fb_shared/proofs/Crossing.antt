@@ -433,7 +433,7 @@ pub bench_field_send : IsSend (Bench.the_field).row
 bench_field_send = search (start_field_send, index_field_send, library_field_send, record_field_send, record_field_sync, value_send, value_sync, made_field_send, crosses, maps.crosses, sendable) depth 60 fits 20000
 
 pub locked_field_send : IsSend (Locked.the_field).row
-locked_field_send = search (bench_field_send, crosses, maps.crosses, sendable) depth 60 fits 20000
+locked_field_send = search (bench_field_send, record_field_send, record_field_sync, crosses, maps.crosses, sendable) depth 60 fits 20000
 
 pub shared_field_sync : IsSync (Shared.the_field).row
 shared_field_sync = search (locked_field_send, crosses, maps.crosses, sendable) depth 60 fits 20000
