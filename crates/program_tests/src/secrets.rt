@@ -14,7 +14,7 @@ const FILES: &[(usize, &str, Option<usize>)] = &[
     (6, "\nanother\n", Some(6)),
     (6, "\r\n", Some(7)),
     (0, "\r\n", Some(1)),
-    (6, "\ranother\r", Some(14)),
+    (6, "\ranother\r", Some(15)),
     (4_095, "\n", Some(4_095)),
     (4_096, "", Some(4_096)),
     (4_096, "\n", Some(4_096)),
