@@ -215,7 +215,8 @@ fn keys_are_given_back(rt: HostRuntime) -> Result<(), Fail> {
     compare(&rt, rt.alloc(), &play)
 }
 
-// The first takes a key, which a commit makes anew, and which the second takes then. It stays out when the first goes, and is given back when the second does.
+// The first takes a key, which a commit makes anew, and which the second takes then. It stays out when the first goes, and is given back when the
+// second does.
 const STAYS_OUT: &[Step<'static>] = &[
     Step::Connect(1),
     Step::Ask(0, COMMIT, FIRST),

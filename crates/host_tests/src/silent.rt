@@ -1,4 +1,4 @@
-//! Peers that are silent.
+//! Peers that are silent. A wait that ends may have been some milliseconds shorter than was asked for.
 use crate::lines::{NO_JOB, TAKE};
 use crate::play::{LONG, Play, compare};
 use crate::steps::Step;
@@ -9,7 +9,7 @@ const FALLS_SILENT: &[Step<'static>] = &[
     Step::Connect(1),
     Step::Ask(0, TAKE, NO_JOB),
     Step::Rest(0, ""),
-    Step::Passed(100),
+    Step::Passed(90),
     Step::Errors("session 1: idle\n"),
     Step::Connect(1),
     Step::Ask(1, TAKE, NO_JOB),
@@ -38,10 +38,10 @@ fn a_silent_session_is_ended(rt: HostRuntime) -> Result<(), Fail> {
 const SAYS_NOTHING: &[Step<'static>] = &[
     Step::Connect(1),
     Step::Rest(0, ""),
-    Step::Passed(200),
+    Step::Passed(190),
     Step::Connect(1),
     Step::Drip(1),
-    Step::Passed(400),
+    Step::Passed(380),
 ];
 
 #[test]
@@ -61,7 +61,8 @@ fn a_first_line_is_not_waited_for_long(rt: HostRuntime) -> Result<(), Fail> {
     compare(&rt, rt.alloc(), &play)
 }
 
-// There are 32 doors. While all of them wait the next connection is closed at once, and one of those that wait can talk. When the others have gone there is entrance.
+// There are 32 doors. While all of them wait the next connection is closed at once, and one of those that wait can talk. When the others have
+// gone there is entrance.
 const CROWD: &[Step<'static>] = &[
     Step::Connect(33),
     Step::Rest(32, ""),

@@ -24,7 +24,7 @@ pub(crate) enum Step<'a> {
     Drip(usize),
     /// It says that it has no more to say, and is told this to the end.
     Leave(usize, &'a str),
-    /// The peers from one number on, and below another, say that they have no more to say, and are told nothing to the end.
+    /// The same of all peers from one number on and below another, who are told nothing.
     LeaveAll(usize, usize),
     /// It is told this to the end.
     Rest(usize, &'a str),
