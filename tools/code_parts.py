@@ -37,6 +37,7 @@ class Edit:
     cell: str
     calls: list
     text: str
+    promise: str
 
 
 @dataclass
@@ -308,11 +309,11 @@ def edits():
             continue
         for line in text_of(readme).split("\n"):
             folder = FOLDERS[1] if "`../more-edits`" in line else folder
-            row = re.match(r"\| `([\w.-]+)` \| (.+) \| .+ \|$", line)
+            row = re.match(r"\| `([\w.-]+)` \| (.+) \| (.+) \|$", line)
             if row:
                 path = f"crates/{crate}/{folder}/{row[1]}.edit"
                 text = text_of(path) if os.path.isfile(f"{TOP}/{path}") else ""
-                found.append(Edit(crate, folder, row[1], row[2], calls_in(row[2]), text))
+                found.append(Edit(crate, folder, row[1], row[2], calls_in(row[2]), text, row[3]))
     return found
 
 

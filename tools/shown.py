@@ -8,10 +8,9 @@ import code_parts as parts
 
 ROWS = "tools/shown.rows"
 PAGE = "docs/SHOWN.md"
-REASONS = "docs/TRUST.md"
 ORACLE = [f"oracle/{it}.py" for it in ("oracle", "networks", "plans", "machine", "lines")]
 PLAIN = "benchmarks/plain/src"
-KEYS = {"laws", "oracle", "plain", "lines", "of", "through", "defined", "edits", "tests"}
+KEYS = {"by", "without", "why", "laws", "oracle", "plain", "lines", "of", "through", "defined", "edits", "tests"}
 NONE = "**none**"
 HEAD = """# What is shown, and how
 
@@ -29,15 +28,14 @@ where the page is not what it would make now.
 | Tests | how many tests make the call, by itself or through the calls above it, or send its request |
 | No memory | the test that refuses each allocation of the call in turn, or the call above through which one does; "conversations" if only `tools/refuse --program` does; – if it needs none ([TRUST.md](TRUST.md)) |
 
-Why a cell says **none** is said in [TRUST.md](TRUST.md#what-has-no-second-form-wrong-body-or-test). The tests of what no contract sees are named
-[there](TRUST.md#tested-only) too.
+Why a cell says **none** is said [at the end](#why-a-cell-says-none). The tests of what no contract sees are named in [TRUST.md](TRUST.md#tested-only).
 """
 GAPS = ("No second form", "No wrong body", "No test", "No refused allocation", "No definition")
 
 
 @dataclass
 class Row:
-    """A line of the file of rows: its kind (call, refused or limit), its crate, its names, and what stands behind each word."""
+    """A line of the file of rows: its kind (promise, call, refused or limit), its crate, its names, and what stands behind each word."""
 
     kind: str
     crate: str
@@ -47,6 +45,15 @@ class Row:
     def has(self, key):
         return self.given.get(key, [])
 
+    def calls(self):
+        """Of a row of promises its calls, each with its crate: one that is not named again is that of the call before."""
+        crate, found = "", []
+        for it in self.has("by"):
+            first, _, name = it.rpartition(": ")
+            crate = first or crate
+            found.append((crate, name))
+        return found
+
 
 def listed(names):
     return [it.strip() for it in names.split(",")]
@@ -55,11 +62,11 @@ def listed(names):
 def row_of(line):
     head, *behind = (it.strip() for it in line.split(" | "))
     kind, _, rest = head.partition(" ")
-    if kind not in ("refused", "besides", "limit", "code"):
+    if kind not in ("promise", "refused", "besides", "limit", "code", "gap"):
         kind, rest = "call", head
     crate, _, names = rest.partition(": ") if ": " in rest else ("", "", rest)
     given = {key: listed(value) for key, _, value in (it.partition(": ") for it in behind)}
-    return Row(kind, crate, [names] if kind == "limit" else listed(names), given)
+    return Row(kind, crate, [names] if kind in ("limit", "gap") else listed(names), given)
 
 
 @functools.cache
@@ -135,8 +142,8 @@ def faults_of_rows():
             yield from (f"{ROWS}: no row has a part {it}" for it in row.given if it not in KEYS)
             for key, is_there in CHECKS.items():
                 yield from (f"{ROWS}: {row.names[0]}: there is no {it}, named as one of {key}" for it in row.has(key) if not is_there(it))
-            if row.kind == "call":
-                yield from (f"{ROWS}: {row.crate} has no function {it}" for it in row.names if not parts.function(row.crate, it))
+            calls = [(row.crate, it) for it in row.names] if row.kind == "call" else row.calls()
+            yield from (f"{ROWS}: {crate} has no function {it}" for crate, it in calls if not parts.function(crate, it))
     yield from left_out()
 
 
@@ -251,38 +258,34 @@ def again(row):
     return ", ".join([*(f"oracle `{it}`" for it in row.has("oracle")), *(f"plain `{it}`" for it in row.has("plain"))])
 
 
+def laws_of(row):
+    """The laws that a row names, and those that its promises name for its calls."""
+    found = [it for by in points() if set(by.calls()) & {(row.crate, it) for it in row.names} for it in by.has("laws")]
+    return list(dict.fromkeys([*row.has("laws"), *found]))
+
+
 def laws(row):
-    return ", ".join(f"`{it}`" for it in row.has("laws"))
+    return ", ".join(f"`{it}`" for it in laws_of(row))
 
 
 # ---- calls
 
 
 @functools.cache
-def carried():
-    """Each promise with the calls that its points name behind "carried by"."""
-    found = {}
-    for section in re.split(r"^## ", parts.text_of("docs/PROMISES.md"), flags=re.M)[1:]:
-        points = " ".join(re.findall(r"carried by(.*?)(?=\n- |\n\n|\Z)", section, re.S))
-        if re.match(r"P\d+\.", section):
-            found[section.partition(".")[0]] = set(re.findall(r"`([\w:]+)`", points))
-    return found
+def points():
+    """The rows of promises."""
+    return rows("promise")
 
 
-def promises_of(call):
-    """The promises that name the call, by its full name or, where its owner is named there, by its own."""
-    return [
-        number
-        for number, names in carried().items()
-        if call.full_name in names or call.name in names and (not call.owner or call.owner in {it.partition("::")[0] for it in names})
-    ]
+def promises_of(crate, names):
+    return list(dict.fromkeys(number for name in names for it in points() if (crate, name) in it.calls() for number in it.names))
 
 
 def call_row(row, gaps):
     calls = [parts.function(row.crate, it) for it in row.names]
     edits, tests, memory = ([find(it, row) for it in calls] for find in (lambda call, _: edits_of(call), tests_of, memory_of))
-    promises = list(dict.fromkeys(it for call in calls for it in promises_of(call)))
-    has_form = row.has("laws") or again(row)
+    promises = promises_of(row.crate, row.names)
+    has_form = laws_of(row) or again(row)
     without = {
         GAPS[0]: [] if has_form else row.names,
         **{gap: [it for it, found in zip(row.names, cells) if not found] for gap, cells in zip(GAPS[1:4], (edits, tests, memory))},
@@ -377,13 +380,20 @@ COLUMNS = {
     "refused": ["Refusal", "Of", "Defined by", "Written again", "Wrong bodies", "Tests"],
     "limit": ["Limit", "Of", "Defined by", "Written again", "Wrong bodies", "Tests"],
     "code": ["Code", "Laws", "Written again", "Wrong bodies", "Tests"],
+    "gap": ["What is missing", "Of", "Why"],
 }
 CODES = "The definition, the law, the check and the tests of each code stand in [LANGUAGE.md](LANGUAGE.md#faults-fb_iface-fb_faults-fb_expr-fb_ecc-fb_netcheck)."
-MAKERS = {"call": call_row, "refused": refused_row, "limit": limit_row}
 
 
 def table(kind, lines):
     return [f"| {' | '.join(COLUMNS[kind])} |", f"|{'---|' * len(COLUMNS[kind])}", *(f"| {' | '.join(it)} |" for it in lines)]
+
+
+def gap_row(row, _):
+    return [row.names[0], ", ".join(f"`{it}`" for it in row.has("without")), ", ".join(row.has("why"))]
+
+
+MAKERS = {"call": call_row, "refused": refused_row, "limit": limit_row, "gap": gap_row}
 
 
 def lines_of(kind, some, gaps):
@@ -399,6 +409,8 @@ def made():
     text = [HEAD.rstrip()]
     for heading, some in sections():
         kind = some[0].kind
+        if kind == "promise":
+            continue
         text += ["", f"## {heading}", "", *([CODES, ""] if kind == "code" else []), *table(kind, lines_of(kind, some, gaps))]
     text += ["", "## In all", "", total()]
     return "\n".join(text) + "\n", gaps
@@ -416,19 +428,14 @@ def total():
 
 def excused(gap):
     """What the reasons for gaps name under one of these."""
-    found = set()
-    for cell in re.findall(rf"^\| {gap} \| (.*?) \| ", parts.text_of(REASONS), re.M):
-        for owner in re.findall(r"the five calls of `(\w+)`", cell):
-            found |= {f"{owner}::{it}" for it in parts.FIVE}
-        found |= set(re.findall(r"`([^`]+)`", re.sub(r"the five calls of `\w+`", "", cell)))
-    return found
+    return {it for row in rows("gap") if row.names == [gap] for it in row.has("without")}
 
 
 def faults_of_gaps():
     """What has a gap of which no reason is told, and what is told to have one and has none."""
     for gap, names in made()[1].items():
-        yield from (f"{REASONS}: {it} is told to have {gap.lower()}, and it has one" for it in sorted(excused(gap) - set(names)))
-        yield from (f"{REASONS}: it is not told why {it} has {gap.lower()}" for it in sorted(set(names) - excused(gap)))
+        yield from (f"{ROWS}: {it} is told to have {gap.lower()}, and it has one" for it in sorted(excused(gap) - set(names)))
+        yield from (f"{ROWS}: it is not told why {it} has {gap.lower()}" for it in sorted(set(names) - excused(gap)))
 
 
 def faults():
