@@ -38,8 +38,9 @@ def has(text, word):
 
 
 def spelled(variant):
-    """How a variant is written in code and in replies."""
-    return variant, re.sub(r"(?<=[a-z])(?=[A-Z])", "_", variant).upper()
+    """How a variant is written in code, in replies, and as a function of the clients that explains it."""
+    parted = re.sub(r"(?<=[a-z])(?=[A-Z])", "_", variant)
+    return variant, parted.upper(), f"_explain_{parted.lower()}"
 
 
 def recipes():
