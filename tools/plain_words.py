@@ -2,8 +2,8 @@
 
 tools/plain_words.py FILE..     prints what it finds in these files; the status is 1 if it finds anything
 
-tools/check-docs asks for the pages of PAGES. Code, quoted output and the targets of links are not read, nor are the `///` lines of crates: a change there
-has them proved again. A page is added to PAGES once it has none of these words."""
+tools/check-docs asks for the pages of PAGES. Code, quoted output, the targets of links and what tools make are not read, nor are the `///` lines of crates: a
+change there has them proved again. A page is added to PAGES once it has none of these words."""
 import re
 import sys
 
@@ -18,7 +18,6 @@ PAGES = {
     "editors/README.md",
     "editors/vscode/README.md",
     "examples/README.md",
-    "oracle/README.md",
     "packaging/INSTALL.md",
 }
 WORDS = {
@@ -48,10 +47,10 @@ WORDS = {
     r"(?:is|are|was|were) to be": "must be",
     r"the other way about": "the other way round",
     r"shall|hitherto|thereof|therein|thereby|whereby|whilst|lest|thus far": "a word of today",
-    r"parts of (?:a |100|the hundred)": "percent",
+    r"parts of (?:100|a hundred)": "percent",
     r"[Ww]here (?:it|there|this|that|one|none|no|nothing|somebody|both|either|neither|memory|all|any|two) \w+": "if",
 }
-CODE = re.compile(r"^```(?s:.*?)^```$|^(?: {4}|\t).*$|`(?:[^`\n]|\n(?!\n))+`|\]\([^)\s]*\)|<[^>\n]*>", re.M)
+CODE = re.compile(r"^<!-- (?:made|measured): (?s:.*?)^<!-- end -->$|^```(?s:.*?)^```$|^(?: {4}|\t).*$|`(?:[^`\n]|\n(?!\n))+`|\]\([^)\s]*\)|<[^>\n]*>", re.M)
 FORMS = [(re.compile(rf"\b(?:{form})\b", re.I), better) for form, better in WORDS.items()]
 
 
