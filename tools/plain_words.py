@@ -1,0 +1,93 @@
+"""Words and phrases that hand-written documents do without, each with a plainer one.
+
+tools/plain_words.py FILE..     prints what it finds in these files; the status is 1 if it finds anything
+
+tools/check-docs asks for the pages of PAGES. Code, quoted output, the targets of links and what tools make are not read, nor are the `///` lines of crates: a
+change there has them proved again. A page is added to PAGES once it has none of these words."""
+import re
+import sys
+
+PAGES = {
+    "README.md",
+    "benchmarks/plain/README.md",
+    "clients/README.md",
+    "docs/ARCHITECTURE.md",
+    "docs/BENCHMARKS.md",
+    "docs/DECISIONS.md",
+    "docs/GATE.md",
+    "docs/LANGUAGE.md",
+    "docs/PROMISES.md",
+    "docs/PROVED.md",
+    "docs/RECIPES.md",
+    "docs/TRUST.md",
+    "docs/WORKBENCH.md",
+    "editors/README.md",
+    "editors/vscode/README.md",
+    "examples/README.md",
+    "oracle/README.md",
+    "packaging/INSTALL.md",
+}
+WORDS = {
+    r"tells?|told|telling": "reports, prints, names, shows; for `is told`: gets, learns",
+    r"stands?|stood|standing": "is, is in, occurs; for a name: means",
+    r"(?:is|are|was|were|be|been|as|what) said|said (?:of|by|to|above|below)": "is stated, is defined, is proved",
+    r"what there (?:is|was)": "name it",
+    r"as many as|so many|as much as|so much": "up to, the number of, or a number with its unit",
+    r"com(?:e|es|ing) to|came to": "reaches, becomes, ends in",
+    r"lies?|lying": "is",
+    r"fronts?(?! of\b)": "prefix",
+    r"in front of": "before",
+    r"behind": "after, or under",
+    r"anew": "again",
+    r"(?:broken|breaks?|broke|breaking) off": "interrupted",
+    r"go(?:es|ing)? on|went on|gone on": "continues",
+    r"(?:given|taken|handed|takes?|hands?|brings?) (?:\w+ )?along": "passed",
+    r"in hand": "held",
+    r"(?<!no )no more(?! than\b)": "no longer, or nothing else",
+    r"(?<!there )(?:is|are|was|were) none(?! of)": "is not one, or there is none",
+    r"judge[sd]?|judging": "check",
+    r"mend(?:s|ed|ing)?": "correct",
+    r"some \d[\d,.]*": "about, with the number",
+    r"wants? (?:its|the|a|an)": "needs",
+    r"want of": "lack of",
+    r"as it were|of then|of now": "a date, or leave it out",
+    r"(?:is|are|was|were) to be": "must be",
+    r"the other way about": "the other way round",
+    r"shall|hitherto|thereof|therein|thereby|whereby|whilst|lest|thus far": "a word of today",
+    r"parts of (?:100|a hundred)": "percent",
+    r"[Ww]here (?:it|there|this|that|one|none|no|nothing|somebody|both|either|neither|memory|all|any|two) \w+": "if",
+}
+CODE = re.compile(r"^<!-- (?:made|measured): (?s:.*?)^<!-- end -->$|^```(?s:.*?)^```$|^(?: {4}|\t).*$|`(?:[^`\n]|\n(?!\n))+`|\]\([^)\s]*\)|<[^>\n]*>", re.M)
+FORMS = [(re.compile(rf"\b(?:{form})\b", re.I), better) for form, better in WORDS.items()]
+
+
+def blanked(found):
+    """Blanks in its place, with its line ends: so lines keep their numbers."""
+    return re.sub(r"[^\n]", " ", found[0])
+
+
+def found_in(page, text):
+    text = CODE.sub(blanked, text)
+    for form, better in FORMS:
+        for found in form.finditer(text):
+            line = 1 + text.count("\n", 0, found.start())
+            yield line, f"{page}:{line}: '{found[0]}': better: {better}"
+
+
+def faults(page, text):
+    """What check-docs prints of a page."""
+    return [words for _, words in sorted(found_in(page, text))] if page in PAGES else []
+
+
+def main(paths):
+    count = 0
+    for path in paths:
+        with open(path, encoding="utf-8") as it:
+            found = sorted(found_in(path, it.read()))
+        print(*(words for _, words in found), sep="\n", end="\n" if found else "")
+        count += len(found)
+    return 1 if count else 0
+
+
+if __name__ == "__main__":
+    sys.exit(main(sys.argv[1:]))
