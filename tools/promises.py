@@ -110,7 +110,7 @@ def points_of(number):
     all_below = below(number)
     said, readers = ([it for it in laws_of(number) if (law(it).crate == READERS) is is_for_readers] for is_for_readers in (False, True))
     yield "Contracts", ", ".join(map(linked, calls))
-    yield "Definitions", f"{shown.definitions(places) or 'none of the project'}; with all that they and the laws use {len(all_below)}, of {headline.lines_of(all_below):,} lines"
+    yield "Definitions", f"{shown.definitions(places) or 'none of the project'}; with all that they and the laws use {len(all_below):,}, of {headline.lines_of(all_below):,} lines"
     yield "Laws", in_words(said, places)
     yield "In other words", in_words(readers, places)
     yield "Wrong bodies", wrong_bodies(number)

@@ -15,7 +15,7 @@ KEYS = {"by", "without", "why", "laws", "oracle", "plain", "lines", "of", "throu
 NONE = "**none**"
 HEAD = """# What is shown, and how
 
-For each public call, each refusal and each limit: what is said of it, by whom it is said again, and what was tried against it.
+For each public call, each refusal and each limit: what is stated of it, what states it again, and what was tried against it.
 `tools/check-docs --mend` makes this page from the crates, their edits and tests and the rows of `tools/shown.rows`, and `tools/check-docs` fails
 where the page is not what it would make now.
 
@@ -23,13 +23,13 @@ where the page is not what it would make now.
 |---|---|
 | Contract | the functions whose contracts carry it, and the promises that name them ([PROMISES.md](PROMISES.md)) |
 | Defined by | the definitions that these contracts cite, or what their types are seen as: `crate: File.name` is `crates/crate/specs/File.antt` |
-| In other words | laws that say it a second time; those of `fb_laws` speak of texts and trees alone |
+| In other words | laws that state it a second time, those that [PROMISES.md](PROMISES.md) has for the call; those of `fb_laws` speak of texts and trees alone |
 | Written again | parts of the second implementation ([`oracle`](../oracle/README.md)), and of the ordinary program with the same replies ([`plain`](../benchmarks/plain/README.md)) |
-| Wrong bodies | how many edits of this call the gate tries and how many stand beside it. `must-fail/README.md` of each crate names them |
+| Wrong bodies | how many edits of this call the gate tries and how many are beside it. `must-fail/README.md` of each crate names them |
 | Tests | how many tests make the call, by itself or through the calls above it, or send its request |
 | No memory | the test that refuses each allocation of the call in turn, or the call above through which one does; "conversations" if only `tools/refuse --program` does; – if it needs none ([TRUST.md](TRUST.md)) |
 
-Why a cell says **none** is said [at the end](#why-a-cell-says-none). The tests of what no contract sees are named in [TRUST.md](TRUST.md#tested-only).
+Why a cell says **none** is stated [at the end](#why-a-cell-says-none). The tests of what no contract sees are named in [TRUST.md](TRUST.md#tested-only).
 """
 GAPS = ("No second form", "No wrong body", "No test", "No refused allocation", "No definition")
 
