@@ -354,6 +354,38 @@ fn refused_words(rt: HostRuntime) -> Result<(), Fail> {
     compare_refused(&rt, rt.alloc(), REFUSED)
 }
 
+// Words that are refused, with all that is said of them.
+const TEXTS: &[(&str, &str)] = &[
+    (
+        "bench61499 script --history 0",
+        "error: invalid value '0' for '--history <history>': 0 is not in 1..=10000000\n\nFor more information, try '--help'.\n",
+    ),
+    (
+        "bench61499 serve --workers 1",
+        "error: the following required arguments were not provided:\n  --port <port>\n\nUsage: bench61499 serve --port <port> --workers <workers>\n\nFor more information, try '--help'.\n",
+    ),
+    (
+        "bench61499 host --port 0 --port 0",
+        "error: the argument '--port <port>' cannot be used multiple times\n\nUsage: bench61499 host [OPTIONS] --port <port>\n\nFor more information, try '--help'.\n",
+    ),
+    (
+        "bench61499 scripts",
+        "error: unrecognized subcommand 'scripts'\n\n  tip: a similar subcommand exists: 'script'\n\nUsage: bench61499 <COMMAND>\n\nFor more information, try '--help'.\n",
+    ),
+];
+
+fn compare_texts(rt: &impl Abort, alloc: Global, rows: &[(&str, &str)]) -> Result<(), Fail> {
+    for (line, said) in rows {
+        is_right(rt, is_ended(&ended_by(alloc, line)?, 2, "", said), line);
+    }
+    Ok(())
+}
+
+#[test]
+fn what_is_said_of_refused_words(rt: HostRuntime) -> Result<(), Fail> {
+    compare_texts(&rt, rt.alloc(), TEXTS)
+}
+
 /// How a run of a script ends.
 struct ScriptRow {
     request: &'static [u8],

@@ -56,7 +56,7 @@ const OVER: &str =
 const OVER_TOLD: &str = "{\"refused\":\"TooManyUnits\"}\n{\"refused\":\"NoSuchKey\"}\n\
     {\"refused\":\"NoSuchKey\"}\n{\"refused\":\"NoSuchKey\"}\n{\"refused\":\"HistoryFull\"}\n";
 
-/// What a server printed, what it said on its errors, and whether it came to its close.
+/// What a server printed, what it said on its errors, and whether its status says that it came to its close.
 #[derive(Drop)]
 struct Served {
     output: Vec<u8>,
@@ -83,7 +83,8 @@ fn serve_in_memory<R: Threads + Wait + Sync>(
 ) -> Result<Served, AllocError> {
     let mut out = MemorySink::new(alloc, 8192, good_writes);
     let mut errors = Vec::new(alloc);
-    let is_closed = serve_on(rt, alloc, listener, numbers, &mut out, &mut errors).is_ok();
+    let ended = serve_on(rt, alloc, listener, numbers, &mut out, &mut errors);
+    let is_closed = ended.status == 0;
     Ok(Served {
         output: out.as_slice().to_vec(alloc)?,
         errors,
@@ -92,7 +93,7 @@ fn serve_in_memory<R: Threads + Wait + Sync>(
 }
 
 // Sends all that a client says, and reads all that it is told.
-fn talk(alloc: Global, stream: &TcpStream, text: &str) -> io::Result<String> {
+pub(crate) fn talk(alloc: Global, stream: &TcpStream, text: &str) -> io::Result<String> {
     let mut stream = stream;
     stream.write_all(text.as_bytes())?;
     stream.shutdown(Shutdown::Write)?;
@@ -290,7 +291,7 @@ fn a_server_keeps_its_limits(rt: HostRuntime) -> Result<(), Fail> {
 }
 
 /// A line that is too long.
-fn long_line(alloc: Global) -> Result<String, Fail> {
+pub(crate) fn long_line(alloc: Global) -> Result<String, Fail> {
     let line = vec![in alloc; b' '; 1_048_577]?;
     Ok(String::from_utf8(line).ok().ok_or("no text")?)
 }
@@ -348,8 +349,11 @@ fn serve_none<R: Net<Listener = TcpListener, Stream = TcpStream> + Threads + Wai
     };
     let mut out = MemorySink::new(alloc, 100, ALWAYS);
     let mut errors = Vec::new(alloc);
-    let is_closed = serve(rt, alloc, port, numbers, &mut out, &mut errors).is_ok();
-    (is_closed, out.as_slice().is_empty() && errors.is_empty())
+    let ended = serve(rt, alloc, port, numbers, &mut out, &mut errors);
+    (
+        ended.status == 0,
+        out.as_slice().is_empty() && errors.is_empty(),
+    )
 }
 
 // The same while somebody else listens on this port of this address.

@@ -1,8 +1,8 @@
 //! Workers whose jobs come to nothing, each by itself.
 use crate::play::{is_accepted, is_taken};
-use crate::setup::{new_shared, puts};
+use crate::setup::{both_of, new_shared, put_again, puts};
 use fb_jobs::{Finished, Job};
-use fb_shared::bench::{Delivered, GivenBack, Reply};
+use fb_shared::bench::{Delivered, GivenBack, Limits, Reply};
 use fb_shared::{Gate, Plain, Receipt, Seat, Shared, WorkEnd, work_on};
 use std::alloc::{AllocError, Global};
 use std::sync::atomic::{AtomicU64, Ordering};
@@ -126,5 +126,48 @@ fn results_that_are_not_accepted(rt: HostRuntime) -> Result<(), Fail> {
     let mut receipts = Vec::new(alloc);
     let end = work_on(&rt, alloc, &shared, &mut second, &mut receipts, &gate, 2);
     assert_eq!(rt; (end, are_late(&receipts)), (WorkEnd::TurnsOver, true));
+    Ok(())
+}
+
+// Puts A again before each job is run, with a seat of its own. So each result is stale, and there is always another job.
+#[derive(Drop)]
+struct Again<'a, R: Wait> {
+    rt: &'a R,
+    shared: &'a Shared,
+    seat: Mutex<Seat>,
+}
+
+impl<R: Wait> Gate for Again<'_, R> {
+    fn run(&self, alloc: Global, worker: u32, job: &Job) -> Result<Finished, AllocError> {
+        let mut seat = self.seat.lock(self.rt);
+        if let Some(changes) = put_again(alloc, seat.turns()) {
+            let _ = self.shared.commit(self.rt, &mut *seat, &changes);
+        }
+        Plain.run(alloc, worker, job)
+    }
+}
+
+// a workbench with A and room for many calls, and the seats of its two callers
+fn with_room<R: Wait>(rt: &R, alloc: Global) -> Option<(Shared, Seat, Seat)> {
+    let (shared, seats) = Shared::new(alloc, Limits::new(4, 10_000)?, 2).ok()?;
+    let (mut first, second) = both_of(seats)?;
+    let changes = puts(alloc, &["A"])?;
+    shared.commit(rt, &mut first, &changes).ok()?;
+    Some((shared, first, second))
+}
+
+// A worker goes on for as many jobs as there are, if nobody stops it.
+#[test]
+fn a_thousand_jobs(rt: HostRuntime) -> Result<(), Fail> {
+    let alloc: Global = rt.alloc();
+    let (shared, first, mut second) = with_room(&rt, alloc).ok_or("a workbench")?;
+    let gate = Again {
+        rt: &rt,
+        shared: &shared,
+        seat: Mutex::new(first),
+    };
+    let mut receipts = Vec::new(alloc);
+    let end = work_on(&rt, alloc, &shared, &mut second, &mut receipts, &gate, 1001);
+    assert_eq!(rt; (end, receipts.len()), (WorkEnd::TurnsOver, 2002));
     Ok(())
 }

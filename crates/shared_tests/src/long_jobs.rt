@@ -36,7 +36,7 @@ struct Answered {
     ended: AtomicU64,
 }
 
-const MOST_LOOKS: u64 = 100_000_000;
+const MOST_LOOKS: u64 = 20_000_000;
 
 impl Gate for Answered {
     fn run(&self, alloc: Global, worker: u32, job: &Job) -> Result<Finished, AllocError> {

@@ -32,13 +32,22 @@ pub(crate) fn puts(alloc: Global, units: &[&str]) -> Option<Vec<Change>> {
     Some(changes)
 }
 
+/// Changes that put A again, which has this revision.
+pub(crate) fn put_again(alloc: Global, base: u64) -> Option<Vec<Change>> {
+    let unit = Name::read("A").ok()?;
+    let source = Source::read(alloc, unit, PLAIN).ok()?;
+    let mut changes = Vec::new(alloc);
+    changes.push(Change::Put { base, source }).ok()?;
+    Some(changes)
+}
+
 /// Lets a while pass, in which a worker comes to wait.
 pub(crate) fn pause<R: Clock>(rt: &R) {
     thread::sleep(rt, Duration::from_millis(20));
 }
 
 /// How often a count is looked at, each time after a millisecond.
-const MOST_LOOKS: u32 = 20_000;
+const MOST_LOOKS: u32 = 10_000;
 
 /// Looks until a count has come to this number; false where it is out of looks.
 pub(crate) fn comes_to<R: Clock>(rt: &R, count: &AtomicU64, number: u64) -> bool {

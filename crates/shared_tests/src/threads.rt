@@ -67,7 +67,7 @@ struct Meeting {
     late: AtomicU64,
 }
 
-const MOST_LOOKS: u64 = 2_000_000_000;
+const MOST_LOOKS: u64 = 20_000_000;
 
 impl Gate for Meeting {
     fn run(&self, alloc: Global, worker: u32, job: &Job) -> Result<Finished, AllocError> {

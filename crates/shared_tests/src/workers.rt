@@ -1,8 +1,6 @@
 //! How workers end, each by itself.
 use crate::play::{Played, is_without_faults, played_shared};
-use crate::setup::{both_of, faults_of, new_shared, puts};
-use fb_shared::bench::Limits;
-use fb_shared::library::Change;
+use crate::setup::{faults_of, new_shared, puts};
 use fb_shared::{Plain, Seat, Shared, WorkEnd, work_on};
 use std::alloc::Global;
 use std::sync::Wait;
@@ -106,37 +104,5 @@ fn workers_that_take_nothing(rt: HostRuntime) -> Result<(), Fail> {
     let differs = WorkEnd::SeatDiffers { turns: 5, book: 0 };
     let behind = WorkEnd::Behind { seen: 5, len: 0 };
     assert_eq!(rt; elsewhere, Some(((differs, 0), (behind, 0))));
-    Ok(())
-}
-
-// changes that put sixteen new units, with this number in their names
-fn sixteen_puts(alloc: Global, number: u32) -> Option<Vec<Change>> {
-    let mut changes = Vec::new(alloc);
-    for index in 0..16u32 {
-        let name = format!(in alloc; "U{number}X{index}").ok()?;
-        let mut put = puts(alloc, &[name.as_str()])?;
-        changes.append(&mut put).ok()?;
-    }
-    Some(changes)
-}
-
-// a workbench with 1,056 units, and the seat of its second caller
-fn with_many_units<R: Wait>(rt: &R, alloc: Global) -> Option<(Shared, Seat)> {
-    let (shared, seats) = Shared::new(alloc, Limits::new(2000, 10_000)?, 2).ok()?;
-    let (mut first, second) = both_of(seats)?;
-    for number in 0..66u32 {
-        let changes = sixteen_puts(alloc, number)?;
-        shared.commit(rt, &mut first, &changes).ok()?;
-    }
-    Some((shared, second))
-}
-
-// A worker goes on for as many jobs as there are, if nobody stops it.
-#[test]
-fn a_thousand_jobs(rt: HostRuntime) -> Result<(), Fail> {
-    let alloc: Global = rt.alloc();
-    let (shared, mut seat) = with_many_units(&rt, alloc).ok_or("a workbench")?;
-    let worked = work(&rt, alloc, &shared, &mut seat, 1056);
-    assert_eq!(rt; worked, (WorkEnd::TurnsOver, 2112));
     Ok(())
 }
