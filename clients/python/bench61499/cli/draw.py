@@ -61,7 +61,7 @@ def read_options() -> argparse.Namespace:
 
 def ask(options: argparse.Namespace) -> tuple[Texts, Flat, Deploy | None]:
     """The texts that are known, the network, and of a system the plan. Raises `NoPicture`."""
-    with asking(options) as (session, texts, show):
+    with asking(options, options.replace) as (session, texts, show):
         try:
             net = session.wait("net", options.unit, show)
         except NoSuchKey:
