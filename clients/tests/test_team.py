@@ -347,7 +347,7 @@ class QuietTest(InFolder):
         self.assertEqual(shown[0]["params"]["version"], 2)
 
     def until(self, checking: Checking, condition) -> None:
-        end = time.monotonic() + 30
+        end = time.monotonic() + 120
         while not condition() and time.monotonic() < end:
             checking.step()
             time.sleep(0.01)
