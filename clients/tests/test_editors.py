@@ -9,7 +9,7 @@ from pathlib import Path
 
 from support import CLIENTS, CONVEYOR, InFolder, serving
 
-OTHERS = "the workbench has {} from another session, at revision 1; edit or save to put this text over it"
+OTHERS = "perhaps not checked: the workbench has {} from another session, at revision 1; edit or save to put this text over it"
 PATIENCE = 120
 """Seconds after which something does not come any more."""
 SCRIPT = """
@@ -98,7 +98,7 @@ class TwoEditorsTest(InFolder):
             self.see(one, "STATION.fb", "")
             other = self.editor("other", port, "FEEDER.fb", "PLANT.fb")
             for unit in ("FEEDER", "PLANT"):
-                self.see(other, f"{unit}.fb", f"1: : not checked: {OTHERS.format(unit)}")
+                self.see(other, f"{unit}.fb", f"1: : {OTHERS.format(unit)}")
             other.ask("Replace", "FEEDER.fb", "START WITH", "BEGIN WITH")
             self.see(one, "STATION.fb", "12: PORT_UNKNOWN: no event BELT.START to connect")
             other.ask("Undo", "FEEDER.fb")

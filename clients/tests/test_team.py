@@ -17,7 +17,8 @@ from bench61499.lsp.shared import SharedTexts, Unit, Wanted
 
 GOOD = "FUNCTION_BLOCK A END_FUNCTION_BLOCK"
 BAD = "FUNCTION_BLOCK A EVENT_INPUT E WITH X; END_EVENT END_FUNCTION_BLOCK"
-OTHERS = "not checked: the workbench has A from another session, at revision {}; edit or save to put this text over it"
+PERHAPS = "perhaps not checked: the workbench has A from another session, at revision {}; edit or save to put this text over it"
+ANOTHER = "not checked: the workbench has another text of A, from another session, at revision 1, with 1 fault; edit or save to put this text over it"
 
 
 class TeamTest(LspTest):
@@ -50,7 +51,7 @@ class OthersTest(TeamTest):
             other.commit([Put("A", 0, BAD)])
             editor = self.connected(port)
             editor.open(file)
-            self.await_told(editor, "a.fb", [(3, OTHERS.format(1)), (3, "the workbench has another text of A, with 1 fault")])
+            self.await_told(editor, "a.fb", [(3, ANOTHER)])
             self.assertEqual(other.revision("A"), 1)
             editor.change(file, f"{GOOD} ")
             editor.await_codes(a=[])
@@ -64,9 +65,25 @@ class OthersTest(TeamTest):
             editor = self.connected(port)
             editor.open(file)
             words = "no data input X to go with this event"
-            self.await_told(editor, "a.fb", [(3, OTHERS.format(1)), (2, f"{words} (in the workbench's text)")])
+            self.await_told(editor, "a.fb", [(3, PERHAPS.format(1)), (2, f"{words} (in the workbench's text)")])
             editor.save(file)
             self.await_told(editor, "a.fb", [(1, words)])
+
+    def test_the_same_text_from_somebody_else(self) -> None:
+        """Nobody can tell that it is the same, so nothing says that the text is not checked, and nothing that it is."""
+        file = self.write("a.fb", GOOD)
+        with hosting() as port:
+            other = self.session(port)
+            other.commit([Put("A", 0, GOOD)])
+            editor = self.connected(port)
+            editor.open(file)
+            self.await_told(editor, "a.fb", [(3, PERHAPS.format(1))])
+            editor.save(file)
+            self.await_told(editor, "a.fb", [])
+            self.assertEqual((editor.messages, other.revision("A")), ([], 2))
+            other.commit([Put("A", 2, GOOD)])
+            self.await_told(editor, "a.fb", [(3, PERHAPS.format(3))])
+            self.assertEqual(editor.await_message(), f"bench61499: A is {PERHAPS.format(3)}.")
 
     def test_a_text_is_changed_by_somebody_else(self) -> None:
         file = self.write("a.fb", BAD)
@@ -77,8 +94,8 @@ class OthersTest(TeamTest):
             other.commit([Put("A", 1, GOOD)])
             editor.change(file, f"{BAD} ")
             old = (2, "no data input X to go with this event (as last known)")
-            self.await_told(editor, "a.fb", [(3, OTHERS.format(2)), old])
-            self.assertEqual(editor.await_message(), f"bench61499: A is {OTHERS.format(2)}.")
+            self.await_told(editor, "a.fb", [(3, PERHAPS.format(2)), old])
+            self.assertEqual(editor.await_message(), f"bench61499: A is {PERHAPS.format(2)}.")
             self.assertEqual(other.revision("A"), 2)
             editor.change(file, GOOD, 3)
             editor.await_codes(a=[])
