@@ -116,7 +116,7 @@ class PictureTest(DrawTest):
 
     def test_no_network(self):
         self.write("LAMP.fb", "FUNCTION_BLOCK LAMP")
-        self.refused(1, "PLANT has no network, as it rests on units that are not there or not sound (with faults: LAMP, PLANT)", "PLANT")
+        self.refused(1, "PLANT has no network: LAMP and PLANT have faults", "PLANT")
         self.write("PLANT.fb", "SYSTEM PLANT")
         self.refused(1, "PLANT has no network, as its text has a SYNTAX fault; check shows it", "PLANT")
 
