@@ -5,6 +5,7 @@ import subprocess
 import time
 import unittest
 from contextlib import contextmanager
+from pathlib import Path
 from unittest.mock import patch
 
 from editing import Editor, LspTest
@@ -346,14 +347,33 @@ class TextsTest(unittest.TestCase):
 class QuietTest(InFolder):
     """Changes wait for the last key."""
 
-    def test_a_change_waits(self) -> None:
-        file = self.write("a.fb", GOOD)
+    def opened(self) -> tuple[Checking, Session, Path, list[dict]]:
+        """An open file, its workbench, and what is sent to the editor from now on."""
+        file, session = self.write("a.fb", GOOD), Session.script(workbench())
         shown: list[dict] = []
-        checking = Checking(lambda: Session.script(workbench()), False, shown.append, lambda: None)
+        checking = Checking(lambda: session, False, shown.append, lambda: None)
         self.addCleanup(checking.close)
         checking.open(file.as_uri(), 1, GOOD)
         self.until(checking, lambda: shown)
         shown.clear()
+        return checking, session, file, shown
+
+    def test_thirty_keys_in_six_seconds_are_one_commit(self) -> None:
+        checking, session, file, shown = self.opened()
+        clock = [time.monotonic()]
+        with patch("bench61499.lsp.checking.time.monotonic", lambda: clock[0]):
+            for at in range(30):
+                checking.change(file.as_uri(), 2 + at, [{"text": f"{GOOD}(* {'x' * at} *)"}])
+                checking.step()
+                clock[0] += 0.2
+                checking.step()
+            self.assertEqual((session.revisions, shown), ({"A": 1}, []))
+            clock[0] += QUIET
+            self.until(checking, lambda: shown)
+        self.assertEqual((session.revisions, shown[0]["params"]["version"]), ({"A": 2}, 31))
+
+    def test_a_change_waits(self) -> None:
+        checking, _, file, shown = self.opened()
         checking.change(file.as_uri(), 2, [{"text": BAD}])
         checking.step()
         self.assertLess(0, checking.patience())
@@ -364,8 +384,8 @@ class QuietTest(InFolder):
         self.assertEqual(shown[0]["params"]["version"], 2)
 
     def until(self, checking: Checking, condition) -> None:
-        end = time.monotonic() + 120
-        while not condition() and time.monotonic() < end:
+        end = time.perf_counter() + 120
+        while not condition() and time.perf_counter() < end:
             checking.step()
             time.sleep(0.01)
 
