@@ -37,6 +37,7 @@ class Edit:
     cell: str
     calls: list
     text: str
+    promise: str
 
 
 @dataclass
@@ -61,6 +62,18 @@ def text_of(path):
 
 def files(pattern):
     return sorted(os.path.relpath(it, TOP) for it in glob.glob(f"{TOP}/{pattern}", recursive=True))
+
+
+def line_of(path, name):
+    """The line at which a file of code or of definitions defines the name, or else the first that has it. None where none has."""
+    lines = text_of(path).split("\n")
+    defines = re.compile(rf"\b(?:fn|struct|enum|trait|const|static|abbrev|unfoldable|record|data|def)\s+(?:pub\s+)?{re.escape(name)}\b")
+    has = re.compile(rf"\b{re.escape(name)}\b")
+    for form in (defines, has):
+        for number, line in enumerate(lines, 1):
+            if form.search(line):
+                return number
+    return None
 
 
 @functools.cache
@@ -308,11 +321,11 @@ def edits():
             continue
         for line in text_of(readme).split("\n"):
             folder = FOLDERS[1] if "`../more-edits`" in line else folder
-            row = re.match(r"\| `([\w.-]+)` \| (.+) \| .+ \|$", line)
+            row = re.match(r"\| `([\w.-]+)` \| (.+) \| (.+) \|$", line)
             if row:
                 path = f"crates/{crate}/{folder}/{row[1]}.edit"
                 text = text_of(path) if os.path.isfile(f"{TOP}/{path}") else ""
-                found.append(Edit(crate, folder, row[1], row[2], calls_in(row[2]), text))
+                found.append(Edit(crate, folder, row[1], row[2], calls_in(row[2]), text, row[3]))
     return found
 
 

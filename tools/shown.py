@@ -1,5 +1,6 @@
 """Makes docs/SHOWN.md: of each public call, each refusal and each limit how it is shown. Its rows are those of tools/shown.rows."""
 import functools
+import os
 import re
 from collections import Counter
 from dataclasses import dataclass
@@ -8,10 +9,9 @@ import code_parts as parts
 
 ROWS = "tools/shown.rows"
 PAGE = "docs/SHOWN.md"
-REASONS = "docs/TRUST.md"
 ORACLE = [f"oracle/{it}.py" for it in ("oracle", "networks", "plans", "machine", "lines")]
 PLAIN = "benchmarks/plain/src"
-KEYS = {"laws", "oracle", "plain", "lines", "of", "through", "defined", "edits", "tests"}
+KEYS = {"by", "without", "why", "laws", "oracle", "plain", "lines", "of", "through", "defined", "edits", "tests"}
 NONE = "**none**"
 HEAD = """# What is shown, and how
 
@@ -29,15 +29,14 @@ where the page is not what it would make now.
 | Tests | how many tests make the call, by itself or through the calls above it, or send its request |
 | No memory | the test that refuses each allocation of the call in turn, or the call above through which one does; "conversations" if only `tools/refuse --program` does; – if it needs none ([TRUST.md](TRUST.md)) |
 
-Why a cell says **none** is said in [TRUST.md](TRUST.md#what-has-no-second-form-wrong-body-or-test). The tests of what no contract sees are named
-[there](TRUST.md#tested-only) too.
+Why a cell says **none** is said [at the end](#why-a-cell-says-none). The tests of what no contract sees are named in [TRUST.md](TRUST.md#tested-only).
 """
 GAPS = ("No second form", "No wrong body", "No test", "No refused allocation", "No definition")
 
 
 @dataclass
 class Row:
-    """A line of the file of rows: its kind (call, refused or limit), its crate, its names, and what stands behind each word."""
+    """A line of the file of rows: its kind (promise, call, refused, limit or code), its crate, its names, and what stands behind each word."""
 
     kind: str
     crate: str
@@ -47,6 +46,15 @@ class Row:
     def has(self, key):
         return self.given.get(key, [])
 
+    def calls(self):
+        """Of a row of promises or of a code its calls, each with its crate: one that is not named again is that of the call before."""
+        crate, found = "", []
+        for it in self.has("by"):
+            first, _, name = it.rpartition(": ")
+            crate = first or crate
+            found.append((crate, name))
+        return found
+
 
 def listed(names):
     return [it.strip() for it in names.split(",")]
@@ -55,11 +63,11 @@ def listed(names):
 def row_of(line):
     head, *behind = (it.strip() for it in line.split(" | "))
     kind, _, rest = head.partition(" ")
-    if kind not in ("refused", "besides", "limit", "code"):
+    if kind not in ("promise", "refused", "besides", "limit", "code", "gap"):
         kind, rest = "call", head
     crate, _, names = rest.partition(": ") if ": " in rest else ("", "", rest)
     given = {key: listed(value) for key, _, value in (it.partition(": ") for it in behind)}
-    return Row(kind, crate, [names] if kind == "limit" else listed(names), given)
+    return Row(kind, crate, [names] if kind in ("limit", "gap") else listed(names), given)
 
 
 @functools.cache
@@ -96,9 +104,9 @@ def has_plain(name):
 
 
 def has_definition(name):
-    crate, _, rest = name.partition(": ")
-    file, _, item = rest.partition(".")
-    return crate in parts.crates() and (file, item) in parts.definitions(crate)
+    crate, file, item = place_of(name)
+    defines = re.compile(rf"^ *(?:unfoldable |abbrev )?pub (?:data |record )?{item}\s", re.M)
+    return any(defines.search(parts.text_of(it)) for it in parts.files(f"crates/{crate}/specs/**/{file}.antt"))
 
 
 def names_of(test):
@@ -135,8 +143,8 @@ def faults_of_rows():
             yield from (f"{ROWS}: no row has a part {it}" for it in row.given if it not in KEYS)
             for key, is_there in CHECKS.items():
                 yield from (f"{ROWS}: {row.names[0]}: there is no {it}, named as one of {key}" for it in row.has(key) if not is_there(it))
-            if row.kind == "call":
-                yield from (f"{ROWS}: {row.crate} has no function {it}" for it in row.names if not parts.function(row.crate, it))
+            calls = [(row.crate, it) for it in row.names] if row.kind == "call" else row.calls()
+            yield from (f"{ROWS}: {crate} has no function {it}" for crate, it in calls if not parts.function(crate, it))
     yield from left_out()
 
 
@@ -251,38 +259,34 @@ def again(row):
     return ", ".join([*(f"oracle `{it}`" for it in row.has("oracle")), *(f"plain `{it}`" for it in row.has("plain"))])
 
 
+def laws_of(row):
+    """The laws that a row names, and those that its promises name for its calls."""
+    found = [it for by in points() if set(by.calls()) & {(row.crate, it) for it in row.names} for it in by.has("laws")]
+    return list(dict.fromkeys([*row.has("laws"), *found]))
+
+
 def laws(row):
-    return ", ".join(f"`{it}`" for it in row.has("laws"))
+    return ", ".join(f"`{it}`" for it in laws_of(row))
 
 
 # ---- calls
 
 
 @functools.cache
-def carried():
-    """Each promise with the calls that its points name behind "carried by"."""
-    found = {}
-    for section in re.split(r"^## ", parts.text_of("docs/PROMISES.md"), flags=re.M)[1:]:
-        points = " ".join(re.findall(r"carried by(.*?)(?=\n- |\n\n|\Z)", section, re.S))
-        if re.match(r"P\d+\.", section):
-            found[section.partition(".")[0]] = set(re.findall(r"`([\w:]+)`", points))
-    return found
+def points():
+    """The rows of promises."""
+    return rows("promise")
 
 
-def promises_of(call):
-    """The promises that name the call, by its full name or, where its owner is named there, by its own."""
-    return [
-        number
-        for number, names in carried().items()
-        if call.full_name in names or call.name in names and (not call.owner or call.owner in {it.partition("::")[0] for it in names})
-    ]
+def promises_of(crate, names):
+    return list(dict.fromkeys(number for name in names for it in points() if (crate, name) in it.calls() for number in it.names))
 
 
 def call_row(row, gaps):
     calls = [parts.function(row.crate, it) for it in row.names]
     edits, tests, memory = ([find(it, row) for it in calls] for find in (lambda call, _: edits_of(call), tests_of, memory_of))
-    promises = list(dict.fromkeys(it for call in calls for it in promises_of(call)))
-    has_form = row.has("laws") or again(row)
+    promises = promises_of(row.crate, row.names)
+    has_form = laws_of(row) or again(row)
     without = {
         GAPS[0]: [] if has_form else row.names,
         **{gap: [it for it, found in zip(row.names, cells) if not found] for gap, cells in zip(GAPS[1:4], (edits, tests, memory))},
@@ -330,25 +334,30 @@ def refused_row(row, gaps):
 # ---- faults of texts
 
 
-@functools.cache
-def codes():
-    """The table of LANGUAGE.md that leads from each code to its definition, its law, its check and its tests."""
-    found = re.findall(r"^\| \d+ \| (`[A-Z_]+`) \| (.*) \| (.*) \| (.*) \| (.*) \|$", parts.text_of("docs/LANGUAGE.md"), re.M)
-    return [it for it in found if "[`" in it[1]]
+def linked(name, path):
+    return f"[`{name}`](../{path}#L{parts.line_of(path, name.rpartition('::')[2])})"
 
 
-def code_row(cells, gaps):
-    (code, _, law, check, tests), word = cells, cells[0].strip("`")
-    said = [it for row in rows("code") if row.names == [word] for it in row.has("edits")]
-    checks = re.findall(r"\[`(\w+)`\]", check)
-    edits = [it for it in parts.edits() if f"{it.crate}: {it.name}" in said or any(f"`{name}`" in it.cell for name in checks)]
-    found = set(re.findall(r"\[`(\w+)`\]", tests))
-    for gap, some in zip(GAPS[1:3], (edits, found)):
+def file_of(crate, folder, stem):
+    """The file of that name in the folder of a crate, however deep."""
+    return next(it for it in parts.files(f"crates/{crate}/{folder}/**/*") if os.path.splitext(os.path.basename(it))[0] == stem)
+
+
+def code_row(row, gaps):
+    (word,), calls = row.names, [parts.function(*it) for it in row.calls()]
+    edits = [it for it in parts.edits() if f"{it.crate}: {it.name}" in row.has("edits") or any(f"`{call.name}`" in it.cell for call in calls)]
+    tests = list({(it.crate, it.file, it.name): it for it, _ in parts.tests() if names_of(it) & set(row.has("tests"))}.values())
+    for gap, some in zip(GAPS[1:3], (edits, tests)):
         gaps[gap] += [] if some else [word]
     places = {"oracle": ORACLE, "plain": parts.files(f"{PLAIN}/faults/*.rs")}
     written = [name for name, paths in places.items() if any(f'"{word}"' in parts.text_of(it) for it in paths)]
-    says = ", ".join(f"`{it}`" for it in re.findall(r"\[`(\w+)`\]", law))
-    return [code, says, ", ".join(written) or NONE, counted(count_edits(edits), []), str(len(found))]
+    cells = [
+        (linked(name, file_of(crate, "specs", file)) for crate, file, name in map(place_of, row.has("defined"))),
+        (linked(it, parts.function(parts.laws()[it], it).file) for it in row.has("laws")),
+        (linked(it.full_name, it.file) for it in calls),
+    ]
+    names = [linked(it.name, file_of(it.crate, "src", it.file)) for it in tests]
+    return [f"`{word}`", *map(", ".join, cells), ", ".join(written) or NONE, counted(count_edits(edits), []), ", ".join(names) or NONE]
 
 
 # ---- limits
@@ -376,19 +385,24 @@ COLUMNS = {
     "call": ["Contract", "Defined by", "In other words", "Written again", "Wrong bodies", "Tests", "No memory"],
     "refused": ["Refusal", "Of", "Defined by", "Written again", "Wrong bodies", "Tests"],
     "limit": ["Limit", "Of", "Defined by", "Written again", "Wrong bodies", "Tests"],
-    "code": ["Code", "Laws", "Written again", "Wrong bodies", "Tests"],
+    "code": ["Code", "Definition", "In other words", "Check", "Written again", "Wrong bodies", "Tests"],
+    "gap": ["What is missing", "Of", "Why"],
 }
-CODES = "The definition, the law, the check and the tests of each code stand in [LANGUAGE.md](LANGUAGE.md#faults-fb_iface-fb_faults-fb_expr-fb_ecc-fb_netcheck)."
-MAKERS = {"call": call_row, "refused": refused_row, "limit": limit_row}
+CODES = "The rule of each code is in [LANGUAGE.md](LANGUAGE.md#faults-fb_iface-fb_faults-fb_expr-fb_ecc-fb_netcheck)."
 
 
 def table(kind, lines):
     return [f"| {' | '.join(COLUMNS[kind])} |", f"|{'---|' * len(COLUMNS[kind])}", *(f"| {' | '.join(it)} |" for it in lines)]
 
 
+def gap_row(row, _):
+    return [row.names[0], ", ".join(f"`{it}`" for it in row.has("without")), ", ".join(row.has("why"))]
+
+
+MAKERS = {"call": call_row, "refused": refused_row, "limit": limit_row, "code": code_row, "gap": gap_row}
+
+
 def lines_of(kind, some, gaps):
-    if kind == "code":
-        return [code_row(it, gaps) for it in codes()]
     return [MAKERS[kind](it, gaps) for it in some if it.kind == kind]
 
 
@@ -399,6 +413,8 @@ def made():
     text = [HEAD.rstrip()]
     for heading, some in sections():
         kind = some[0].kind
+        if kind == "promise":
+            continue
         text += ["", f"## {heading}", "", *([CODES, ""] if kind == "code" else []), *table(kind, lines_of(kind, some, gaps))]
     text += ["", "## In all", "", total()]
     return "\n".join(text) + "\n", gaps
@@ -409,26 +425,21 @@ def total():
     by_folder = Counter(it.folder for it in parts.edits())
     gate, beside = (by_folder[it] for it in parts.FOLDERS)
     return (
-        f"{calls} public calls, {len(rows('refused'))} refusals, {len(rows('limit'))} limits, {len(codes())} codes of faults; {len(parts.laws())} laws; "
+        f"{calls} public calls, {len(rows('refused'))} refusals, {len(rows('limit'))} limits, {len(rows('code'))} codes of faults; {len(parts.laws())} laws; "
         f"{gate} wrong bodies in the gate and {beside} beside it, those of calls beneath these too; {len(parts.tests())} tests."
     )
 
 
 def excused(gap):
     """What the reasons for gaps name under one of these."""
-    found = set()
-    for cell in re.findall(rf"^\| {gap} \| (.*?) \| ", parts.text_of(REASONS), re.M):
-        for owner in re.findall(r"the five calls of `(\w+)`", cell):
-            found |= {f"{owner}::{it}" for it in parts.FIVE}
-        found |= set(re.findall(r"`([^`]+)`", re.sub(r"the five calls of `\w+`", "", cell)))
-    return found
+    return {it for row in rows("gap") if row.names == [gap] for it in row.has("without")}
 
 
 def faults_of_gaps():
     """What has a gap of which no reason is told, and what is told to have one and has none."""
     for gap, names in made()[1].items():
-        yield from (f"{REASONS}: {it} is told to have {gap.lower()}, and it has one" for it in sorted(excused(gap) - set(names)))
-        yield from (f"{REASONS}: it is not told why {it} has {gap.lower()}" for it in sorted(set(names) - excused(gap)))
+        yield from (f"{ROWS}: {it} is told to have {gap.lower()}, and it has one" for it in sorted(excused(gap) - set(names)))
+        yield from (f"{ROWS}: it is not told why {it} has {gap.lower()}" for it in sorted(set(names) - excused(gap)))
 
 
 def faults():

@@ -4,7 +4,7 @@
 use fb_host::{PATIENCE, Terms, host};
 use fb_program::wire::{FromRead, IntoWrite};
 use fb_program::{Outcome, refuse_secret, refuse_words, secret_in};
-use fb_serve::{NotServed, Numbers, serve};
+use fb_serve::{Numbers, serve};
 use std::alloc::{AllocError, Global};
 use std::process::ExitCode;
 use std::sync::Mutex;
@@ -78,10 +78,8 @@ fn main(rt: HostRuntime) -> ExitCode {
             };
             let mut writer = IntoWrite::new(rt.stdout());
             let mut errors = rt.stderr();
-            match serve(&rt, rt.alloc(), port, numbers, &mut writer, &mut errors) {
-                Ok(_served) => ExitCode::SUCCESS,
-                Err(NotServed) => ExitCode::FAILURE,
-            }
+            let ended = serve(&rt, rt.alloc(), port, numbers, &mut writer, &mut errors);
+            ExitCode::from(ended.status)
         }
         Outcome::Hosts {
             port,
@@ -109,10 +107,8 @@ fn main(rt: HostRuntime) -> ExitCode {
             }
             let mut writer = IntoWrite::new(rt.stdout());
             let errors = Mutex::new(rt.stderr());
-            match host(&rt, rt.alloc(), port, terms, line, &mut writer, &errors) {
-                Ok(_served) => ExitCode::SUCCESS,
-                Err(NotServed) => ExitCode::FAILURE,
-            }
+            let ended = host(&rt, rt.alloc(), port, terms, line, &mut writer, &errors);
+            ExitCode::from(ended.status)
         }
     }
 }

@@ -8,8 +8,8 @@ use std::io::{ErrorKind, Read, Write};
 use std::process::Abort;
 use std::test::Fail;
 
-// A result that comes late, with a question that is refused and a line that is no request.
-const LATE: &str = r#"
+/// A result that comes late, with a question that is refused and a line that is no request.
+pub(crate) const LATE: &str = r#"
 > {"op":"commit","changes":[{"put":"C","base":0,"text":"FUNCTION_BLOCK C FBS S:E_SPLIT; END_FBS END_FUNCTION_BLOCK"},{"put":"E_SPLIT","base":0,"text":"FUNCTION_BLOCK E_SPLIT EVENT_INPUT EI; END_EVENT EVENT_OUTPUT EO1; EO2; END_EVENT END_FUNCTION_BLOCK"}]}
 < {"commit":1}
 > {"op":"take"}
@@ -22,6 +22,8 @@ const LATE: &str = r#"
 < {"commit":2}
 > {"op":"deliver","job":1}
 < {"refused":"Stale","unit":"E_SPLIT"}
+> {"op":"deliver","job":1}
+< {"refused":"Stale","unit":"E_SPLIT"}
 > {"op":"ask","kind":"faults","unit":"C"}
 < {"answer":"pending"}
 > {"op":"work","turns":9}
@@ -30,8 +32,8 @@ const LATE: &str = r#"
 < {"refused":"NotPending"}
 "#;
 
-// How many calls are recorded once so many of its lines are answered. The work takes three times, and delivers twice.
-const CALLS: &[usize] = &[0, 1, 2, 3, 3, 4, 5, 6, 11, 12];
+/// How many calls are recorded once so many of its lines are answered. The work takes three times, and delivers twice.
+pub(crate) const LATE_CALLS: &[usize] = &[0, 1, 2, 3, 3, 4, 5, 6, 7, 12, 13];
 
 /// What fails once so many of its kind were good.
 #[derive(Clone, Copy)]
@@ -228,7 +230,7 @@ fn end_wanted(fault: Fault) -> (RunEnd, bool) {
 fn is_cut(cut: &Cut, output: &[u8], end: RunEnd, is_one_more: bool) -> bool {
     let lines = lines_in(output).saturating_add(usize::from(is_one_more));
     let is_said = cut.end == end && cut.output.as_slice() == output;
-    is_said && cut.is_front && CALLS.get(lines) == Some(&cut.calls)
+    is_said && cut.is_front && LATE_CALLS.get(lines) == Some(&cut.calls)
 }
 
 // Whether a run is right of which so many are good, or all.

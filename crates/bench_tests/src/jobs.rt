@@ -25,6 +25,12 @@ const OTHER: &str = r#"
 < {"commit":1}
 "#;
 
+// Has another name in it.
+const RENAMED: &str = r#"
+> {"op":"commit","changes":[{"put":"A","base":0,"text":"FUNCTION_BLOCK B END_FUNCTION_BLOCK"}]}
+< {"commit":1}
+"#;
+
 // Rests on B.
 const USER: &str = r#"
 > {"op":"commit","changes":[{"put":"A","base":0,"text":"FUNCTION_BLOCK A FBS X:B; END_FBS END_FUNCTION_BLOCK"}]}
@@ -296,9 +302,19 @@ const TAKEN_IN: &str = r#"
 < {"faults":[]}
 "#;
 
+// Whether the results of other texts are stale.
+fn are_stale(alloc: Global, bench: &mut Bench, texts: &[&str]) -> Result<bool, Fail> {
+    for text in texts {
+        if !is_stale(alloc, bench, text)? {
+            return Ok(false);
+        }
+    }
+    Ok(true)
+}
+
 // Whether the results of other texts are stale, and that of A's own is taken in.
 fn is_own_taken(alloc: Global, bench: &mut Bench) -> Result<bool, Fail> {
-    let are_stale = is_stale(alloc, bench, USER)? && is_stale(alloc, bench, OTHER)?;
+    let are_stale = are_stale(alloc, bench, &[RENAMED, OTHER, USER])?;
     Ok(are_stale && is_known_after(alloc, bench, 1, TAKEN_IN)?)
 }
 

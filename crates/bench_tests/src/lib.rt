@@ -1,5 +1,5 @@
 //! Tests of the machine's and the lines' public calls: conversations of request lines and replies, with checkpoints too, streams that
-//! fail, allocations that are refused, what a workbench shows after its calls, and jobs with what they read.
+//! fail, allocations that are refused, what a workbench shows after its calls, jobs with what they read, and who shares texts and values.
 #![tactic(auto)]
 
 #[cfg(test)]
@@ -16,6 +16,8 @@ mod kept;
 mod left;
 #[cfg(test)]
 mod nets;
+#[cfg(test)]
+mod owners;
 #[cfg(test)]
 mod plans;
 #[cfg(test)]

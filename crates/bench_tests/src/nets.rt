@@ -154,6 +154,26 @@ const STRUCTURES: &str = r#"
 < {"net":{"blocks":[["F","W"]],"borders":[],"links":[]}}
 "#;
 
+// A subapplication becomes a block while both its jobs are out: there is no key of its net any more, and the result for its faults is late.
+const GONE: &str = r#"
+> {"op":"commit","changes":[{"put":"S","base":0,"text":"SUBAPPLICATION S END_SUBAPPLICATION"}]}
+< {"commit":1}
+> {"op":"take"}
+< {"job":1,"kind":"faults","unit":"S"}
+> {"op":"take"}
+< {"job":2,"kind":"net","unit":"S"}
+> {"op":"commit","changes":[{"put":"S","base":1,"text":"FUNCTION_BLOCK S END_FUNCTION_BLOCK"}]}
+< {"commit":2}
+> {"op":"deliver","job":2}
+< {"refused":"NoSuchKey"}
+> {"op":"deliver","job":1}
+< {"refused":"Stale","unit":"S"}
+> {"op":"ask","kind":"net","unit":"S"}
+< {"refused":"NoSuchKey"}
+> {"op":"ask","kind":"faults","unit":"S"}
+< {"answer":"pending"}
+"#;
+
 const TALKS: &[(&str, &str)] = &[
     ("recursive types", RECURSIVE),
     ("recursive types below", RECURSIVE_BELOW),
@@ -161,6 +181,7 @@ const TALKS: &[(&str, &str)] = &[
     ("adapters through a subapplication", ADAPTERS),
     ("a system", SYSTEM),
     ("a late net", LATE),
+    ("a net that is gone", GONE),
     ("structures", STRUCTURES),
 ];
 

@@ -1,5 +1,6 @@
-//! A conversation of which each allocation is refused in turn. Where it ends for want of memory, it goes on with the lines that were not answered.
-use crate::cuts::{Talk, behind, is_front, lines_in};
+//! Conversations of which each allocation is refused in turn. One that ends for want of memory has made the calls of the lines that it answered, and none,
+//! some or all of one more. Where no line names a job of another line, it goes on with the lines that were not answered.
+use crate::cuts::{LATE, LATE_CALLS, Talk, behind, is_front, lines_in};
 use crate::talk::{ALWAYS, GOOD, new_bench, replies_in, requests_in, run_over, said};
 use fb_wire::bench::Bench;
 use fb_wire::{IntoWrite, MemoryFeed, RunEnd, run_script};
@@ -93,11 +94,44 @@ fn is_front_of(bench: &Bench, talk: &Talk<'_>, output: &[u8]) -> bool {
     is_whole && is_said && is_front(bench, talk.whole)
 }
 
-// Whether a run that ended so is the whole one, or has ended for want of memory behind whole replies and goes on.
+/// Which conversation it is.
+#[derive(Clone, Copy)]
+enum Which {
+    /// That of the lines here, which can be said again in another run.
+    Lines,
+    /// A late result, of a job that another run does not hold.
+    Late,
+}
+
+// Whether so many calls are recorded where so many lines of the late result are answered: theirs, and none, some or all of one more.
+fn are_late_calls(answered: usize, calls: usize) -> bool {
+    let next = answered.saturating_add(1);
+    match (LATE_CALLS.get(answered), LATE_CALLS.get(next)) {
+        (Some(least), Some(most)) => *least <= calls && calls <= *most,
+        _ => false,
+    }
+}
+
+// Whether a run that was cut has made the calls that it should, and goes on if it can.
+fn is_cut_right(
+    alloc: Global,
+    bench: &mut Bench,
+    talk: &Talk<'_>,
+    which: Which,
+    answered: usize,
+) -> Result<bool, Fail> {
+    match which {
+        Which::Lines => goes_on(alloc, bench, talk, answered),
+        Which::Late => Ok(are_late_calls(answered, bench.len())),
+    }
+}
+
+// Whether a run that ended so is the whole one, or has ended for want of memory behind whole replies.
 fn is_right(
     alloc: Global,
     bench: &mut Bench,
     talk: &Talk<'_>,
+    which: Which,
     output: &[u8],
     end: RunEnd,
 ) -> Result<bool, Fail> {
@@ -106,7 +140,7 @@ fn is_right(
     }
     match end {
         RunEnd::End => Ok(output.len() == talk.replies.len() && bench.len() == talk.whole.len()),
-        RunEnd::Memory => goes_on(alloc, bench, talk, lines_in(output)),
+        RunEnd::Memory => is_cut_right(alloc, bench, talk, which, lines_in(output)),
         _ => Ok(false),
     }
 }
@@ -123,6 +157,7 @@ fn ended_on(
     alloc: Global,
     bench: &mut Bench,
     talk: &Talk<'_>,
+    which: Which,
     output: &mut Vec<u8>,
     number: u32,
 ) -> Result<Ended, Fail> {
@@ -130,20 +165,20 @@ fn ended_on(
     Ok(Ended {
         is_refused,
         is_short: end == RunEnd::Memory,
-        is_right: is_right(alloc, bench, talk, output, end)?,
+        is_right: is_right(alloc, bench, talk, which, output, end)?,
     })
 }
 
-fn ended_anew(alloc: Global, talk: &Talk<'_>, number: u32) -> Result<Ended, Fail> {
+fn ended_anew(alloc: Global, talk: &Talk<'_>, which: Which, number: u32) -> Result<Ended, Fail> {
     let mut output = Vec::with_capacity(alloc, 1000)?;
     let mut bench = new_bench(alloc, 10, 1000)?;
-    ended_on(alloc, &mut bench, talk, &mut output, number)
+    ended_on(alloc, &mut bench, talk, which, &mut output, number)
 }
 
-fn each_refused(alloc: Global, talk: &Talk<'_>) -> Result<Refusals, Fail> {
+fn each_refused(alloc: Global, talk: &Talk<'_>, which: Which) -> Result<Refusals, Fail> {
     let mut memory = 0u32;
     for number in 1..100_000u32 {
-        let ended = ended_anew(alloc, talk, number)?;
+        let ended = ended_anew(alloc, talk, which, number)?;
         if !ended.is_right || (ended.is_short && !ended.is_refused) {
             return Err(Fail::from("another end"));
         }
@@ -163,6 +198,7 @@ fn refused_beside(
     whole: &mut Bench,
     requests: &str,
     replies: &str,
+    which: Which,
 ) -> Result<Refusals, Fail> {
     run_over(alloc, whole, 1, requests.as_bytes(), GOOD)?;
     let talk = Talk {
@@ -170,19 +206,21 @@ fn refused_beside(
         replies,
         whole,
     };
-    each_refused(alloc, &talk)
+    each_refused(alloc, &talk, which)
 }
 
-fn refused_anew(alloc: Global) -> Result<Refusals, Fail> {
-    let requests = requests_in(alloc, LINES)?;
-    let replies = replies_in(alloc, LINES)?;
+fn refused_anew(alloc: Global, text: &str, which: Which) -> Result<Refusals, Fail> {
+    let requests = requests_in(alloc, text)?;
+    let replies = replies_in(alloc, text)?;
     let mut whole = new_bench(alloc, 10, 1000)?;
-    refused_beside(alloc, &mut whole, &requests, &replies)
+    refused_beside(alloc, &mut whole, &requests, &replies, which)
 }
 
 #[test]
 fn each_allocation_of_a_run(rt: HostRuntime) -> Result<(), Fail> {
-    let found = refused_anew(rt.alloc())?;
+    let found = refused_anew(rt.alloc(), LINES, Which::Lines)?;
     report(&rt, "run_script", " of nine lines", found)?;
+    let found = refused_anew(rt.alloc(), LATE, Which::Late)?;
+    report(&rt, "run_script", " of a late result", found)?;
     Ok(())
 }

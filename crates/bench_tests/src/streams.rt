@@ -52,6 +52,9 @@ const RUNS: &[Row] = &[
         RunEnd::WriteFailed,
         b"{\"job\"",
     ),
+    // All in one read, and the end in the next, behind which a read would fail.
+    (TAKE, (8192, 2), WIDE, 1000, RunEnd::End, NO_JOB),
+    (b"", (8192, 1), WIDE, 1000, RunEnd::End, b""),
     // All in one read, and then the next read, the first write or the turns are at fault.
     (TAKE, (8192, 1), WIDE, 1000, RunEnd::ReadFailed, NO_JOB),
     (
@@ -139,11 +142,16 @@ fn compare_long(rt: &impl Abort, alloc: Global, spaces: &[u8]) -> Result<(), Fai
     compare(rt, alloc, &long, GOOD, RunEnd::LineTooLong, NO_JOB)
 }
 
-// Spaces as long as a line may be are passed over, and a byte more is too long.
+// The reply to a line that is no JSON.
+const NO_REQUEST: &[u8] = b"{\"refused\":\"BadRequest\"}\n";
+
+// Spaces as long as a line may be are passed over, a line of them that is no JSON is refused, and a byte more is too long.
 #[test]
 fn long_lines(rt: HostRuntime) -> Result<(), Fail> {
     let spaces = vec![in rt.alloc(); b' '; 1_048_576]?;
     compare(&rt, rt.alloc(), &spaces, GOOD, RunEnd::End, b"")?;
+    let letters = vec![in rt.alloc(); b'x'; 1_048_576]?;
+    compare(&rt, rt.alloc(), &letters, GOOD, RunEnd::End, NO_REQUEST)?;
     compare_long(&rt, rt.alloc(), &spaces)
 }
 

@@ -1,6 +1,6 @@
 -- A workbench as one caller's desk.
 use Rattle.std.specs.Prelude.{◌≡◌, ℕ, ◌≤◌, ◌<◌, length}
-use Rattle.fb_history.specs.Checkpoints.{checking, story_checked}
+use Rattle.fb_history.specs.Checkpoints.{KeptUpTo, checking, story_checked}
 use Rattle.fb_history.specs.Limits.{Bounds}
 use Rattle.fb_history.specs.Machine.{Call, reply}
 use Rattle.fb_history.specs.Story.{Story, state_of, recorded}
@@ -27,6 +27,11 @@ IsCheckpointStep old limits SharedHistory new = ⊥
 abbrev pub IsStep : ℕ → Story → Deed → Answer → Story → Type 0
 IsStep caller old (Makes call) answer new = IsCallStep caller old call answer new
 IsStep caller old (Keeps limits) answer new = IsCheckpointStep old limits answer new
+
+-- nothing but want of memory can be against it: the history has room for the call, or the checkpoint would be made
+abbrev pub IsOpen : Story → Deed → Type 0
+IsOpen story (Makes call) = length story.log.records < story.log.limit
+IsOpen story (Keeps limits) = (before : ℕ) × (checking limits story ≡ KeptUpTo before)
 
 -- a step of the workbench that is lent, by the same caller
 abbrev pub SoloStep : Solo → Deed → Answer → Solo → Type 0

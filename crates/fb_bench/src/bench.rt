@@ -59,7 +59,7 @@ impl Model for Bench {
 }
 
 impl Bench {
-    ghost use Rattle.std.specs.Prelude.{◌≡◌, ◌+◌, ◌<◌, ◌^◌, ◌↔◌, true, false, Some, IfOk, OnOk, OnErr, IsTrue, is_some, length, slice_get, count_by};
+    ghost use Rattle.std.specs.Prelude.{◌≡◌, ◌+◌, ◌<◌, ◌^◌, ◌↔◌, true, false, Some, Ok, Err, IfOk, IfErr, OnOk, OnErr, IsTrue, is_some, length, slice_get, count_by};
     ghost use Rattle.std.specs.Option.{option_map};
     ghost use Rattle.std.specs.List.Sorted.{IsStrictlySortedBy};
     ghost use Rattle.fb_entries.specs.Jobs.KeyOrder.{key_cmp};
@@ -70,6 +70,7 @@ impl Bench {
     ghost use Rattle.fb_history.specs.declared.answers.Delivered.TheVariants.{Accepted};
     ghost use Rattle.fb_history.specs.Story.{IsOrigin, IsFull, new_story, state_of, reply_at, recorded, record_of, record_numbered, all_turns, last_number, pages_after, calls_of, IsReplay, AreTurns};
     ghost use Rattle.fb_bench.specs.Records.{call_of, reply_of, shown_in, job_in, commit_of};
+    ghost use Rattle.fb_history.specs.Records.{records_in};
     ghost use Rattle.fb_bench.specs.Founds.{HasNetsOf};
     ghost use Rattle.fb_bench.specs.Refusals.{IsFullRefusal};
     ghost use Rattle.fb_bench.specs.Requests.{call_for, reply_in};
@@ -632,6 +633,28 @@ impl Bench {
         ensures kept { OnOk result (self.new ≡ checkpointed limits self.old) }
         ensures err { OnErr result (self.new ≡ self.old) }
     {
+        match self.begin_anew(limits) {
+            Ok((before, records)) => {
+                drop(records);
+                Ok(before)
+            }
+            Err(refused) => Err(refused),
+        }
+    }
+
+    /// As `checkpoint`, with the records that were made since the last start, so that who holds a lock can drop them later.
+    pub fn begin_anew(
+        &mut self,
+        limits: Limits,
+    ) -> Result<(u64, Vec<Arc<Record>>), CheckpointRefused>
+        ensures before { IfOk result (λ made. ChecksAs (checking limits self.old) (Ok made.0)) }
+        ensures refused { IfErr result
+            (λ refused. ChecksAs (checking limits self.old) (Err refused)) }
+        ensures records { IfOk result
+            (λ made. records_in made.1.items ≡ self.old.log.records) }
+        ensures kept { OnOk result (self.new ≡ checkpointed limits self.old) }
+        ensures err { OnErr result (self.new ≡ self.old) }
+    {
         let count = self.library.len() as u64;
         if limits.units() < count {
             return Err(CheckpointRefused::UnitsOver(count));
@@ -641,10 +664,10 @@ impl Bench {
         }
         let library = self.library.copy()?;
         let Marks { pending, out } = self.entries.marks(self.alloc)?;
-        let before = self
+        let restarted = self
             .history
             .restart(limits, library, self.commits, pending, out)?;
-        Ok(before)
+        Ok(restarted)
     }
 
     /// Makes any call. It gives a share of the record, and the answer, which is of the call's kind.

@@ -190,11 +190,15 @@ impl<'a> Solo<'a> {
 }
 
 impl Desk for Solo<'_> {
-    ghost use Rattle.fb_bench.specs.Solo.{SoloStep};
+    ghost use Rattle.std.specs.Prelude.{IfErr};
+    ghost use Rattle.fb_bench.specs.Calls.{deed_for};
+    ghost use Rattle.fb_bench.specs.Solo.{IsOpen, SoloStep};
 
     ghost step = { SoloStep };
 
-    fn serve(&mut self, demand: &Demand<'_>) -> Result<Said, AllocError> {
+    fn serve(&mut self, demand: &Demand<'_>) -> Result<Said, AllocError>
+        ensures open { IfErr result (λ _. IsOpen self.old.bench.now (deed_for demand.now)) }
+    {
         match demand {
             Demand::Call(request) => match self.bench.perform(self.caller, request) {
                 Ok((_record, answer)) => Ok(Said::Answered(answer)),

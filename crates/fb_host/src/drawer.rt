@@ -3,23 +3,28 @@ ghost use Rattle.std.specs.Prelude.{◌≤◌};
 
 use fb_shared::Receipt;
 use std::alloc::Global;
+use std::mem;
 use std::sync::{Mutex, Wait};
 
 /// The receipts of all calls of one epoch. A history begins anew where it is full and only there, so an epoch has `span` calls, and which one a receipt is
-/// of follows from its number.
+/// of follows from its number. Those of the epoch before stay in `past` until they are dropped, some with each that is added.
 pub struct Epoch {
+    alloc: Global,
     span: u64,
     start: u64,
     receipts: Vec<Receipt>,
+    past: Vec<Receipt>,
     ghost some: { 1 ≤ span },
 }
 
 impl Drop for Epoch {
     fn drop(self) {
         let Self {
+            alloc: _,
             span: _,
             start: _,
             receipts: _,
+            past: _,
         } = self;
     }
 }
@@ -30,13 +35,16 @@ impl Epoch {
         requires { 1 ≤ span }
     {
         Epoch {
+            alloc,
             span,
             start: 0,
             receipts: Vec::new(alloc),
+            past: Vec::new(alloc),
         }
     }
 
-    /// Takes the receipts in. Those that it has from an earlier epoch go first. What comes too late goes too, and where there is no room nothing is taken.
+    /// Takes the receipts in. Those that it has from an earlier epoch go, two for each that comes. What comes too late goes too, and where there is no room
+    /// nothing is taken.
     pub(crate) fn add(&mut self, receipts: &mut Vec<Receipt>) {
         let Some(last) = receipts.last() else {
             return;
@@ -47,20 +55,35 @@ impl Epoch {
         }
         let start = self.start;
         receipts.retain(|receipt| start < receipt.number());
+        self.drop_past(receipts.len());
         let _kept = self.receipts.append(receipts);
     }
 
     fn begin(&mut self, start: u64) {
-        self.receipts.clear();
+        let none = Vec::new(self.alloc);
+        self.past = mem::replace(&mut self.receipts, none);
         self.start = start;
+    }
+
+    /// Drops twice so many receipts of the epoch before, if there are any.
+    fn drop_past(&mut self, count: usize) {
+        for _ in 0..count {
+            drop(self.past.pop());
+            drop(self.past.pop());
+        }
+        if self.past.is_empty() {
+            self.past = Vec::new(self.alloc);
+        }
     }
 
     /// Those with a number behind this one.
     pub(crate) fn into_receipts(self, before: u64) -> Vec<Receipt> {
         let Epoch {
+            alloc: _,
             span: _,
             start: _,
             receipts,
+            past: _,
         } = self;
         let mut receipts = receipts;
         receipts.retain(|receipt| before < receipt.number());

@@ -1,5 +1,5 @@
 //! The host, on the listener that it is given.
-ghost use Rattle.std.specs.Prelude.{◌≡◌, ◌+◌, IfOk, OnOk, is_ok, true, false};
+ghost use Rattle.std.specs.Prelude.{◌≡◌, ◌+◌, IfOk, OnOk, is_ok, if◌then◌else◌, true, false};
 ghost use Rattle.fb_locked.specs.Book.{IsBookOf};
 ghost use Rattle.fb_serve.specs.Lines.{SaysLines};
 ghost use Rattle.fb_serve.specs.Shown.{ShowsAll};
@@ -8,7 +8,7 @@ use crate::close::close;
 use crate::counter::Counter;
 use crate::drawer::Drawer;
 use crate::threads::{DOORS, House, run_house};
-use fb_serve::{NotServed, Served, greet};
+use fb_serve::{Ended, NotServed, Served, greet};
 use fb_shared::Shared;
 use fb_wire::bench::Limits;
 use fb_wire::{Sink, write_all};
@@ -79,7 +79,7 @@ fn host_sessions<R: Threads + Wait + Clock + Sync, E: Write + Send>(
 }
 
 /// Prints where it listens, hosts its sessions, and prints that it is closed.
-pub fn host_on<R: Threads + Wait + Clock + Sync, S: Sink, E: Write + Send>(
+fn host_and_close<R: Threads + Wait + Clock + Sync, S: Sink, E: Write + Send>(
     rt: &R,
     alloc: Global,
     listener: &TcpListener,
@@ -109,6 +109,29 @@ pub fn host_on<R: Threads + Wait + Clock + Sync, S: Sink, E: Write + Send>(
     }
 }
 
+/// Prints where it listens, hosts its sessions, and prints that it is closed.
+pub fn host_on<R: Threads + Wait + Clock + Sync, S: Sink, E: Write + Send>(
+    rt: &R,
+    alloc: Global,
+    listener: &TcpListener,
+    terms: Terms,
+    secret: &[u8],
+    out: &mut S,
+    errors: &Mutex<E>,
+) -> Ended
+    requires { S.has_failed out.old ≡ false }
+    ensures all { IfOk result.served
+        (λ served. ShowsAll served.closed.bench served.receipts.items) }
+    ensures counts { IfOk result.served
+        (λ served. IsBookOf served.closed.counts (terms.sessions + terms.workers)
+        served.closed.bench) }
+    ensures said { SaysLines (is_ok result.served) (S.held out.old) (S.held out.new) }
+    ensures flushed { OnOk result.served (S.is_flushed out.new ≡ true) }
+    ensures status { result.status ≡ (if is_ok result.served then 0 else 1) }
+{
+    Ended::of(host_and_close(rt, alloc, listener, terms, secret, out, errors))
+}
+
 /// Hosts as `host_on` does, on this port of 127.0.0.1; any free one for 0.
 pub fn host<
     R: Net<Listener = TcpListener, Stream = TcpStream> + Threads + Wait + Clock + Sync,
@@ -122,18 +145,19 @@ pub fn host<
     secret: &[u8],
     out: &mut S,
     errors: &Mutex<E>,
-) -> Result<Served, NotServed>
+) -> Ended
     requires { S.has_failed out.old ≡ false }
-    ensures all { IfOk result
+    ensures all { IfOk result.served
         (λ served. ShowsAll served.closed.bench served.receipts.items) }
-    ensures counts { IfOk result
+    ensures counts { IfOk result.served
         (λ served. IsBookOf served.closed.counts (terms.sessions + terms.workers)
         served.closed.bench) }
-    ensures said { SaysLines (is_ok result) (S.held out.old) (S.held out.new) }
-    ensures flushed { OnOk result (S.is_flushed out.new ≡ true) }
+    ensures said { SaysLines (is_ok result.served) (S.held out.old) (S.held out.new) }
+    ensures flushed { OnOk result.served (S.is_flushed out.new ≡ true) }
+    ensures status { result.status ≡ (if is_ok result.served then 0 else 1) }
 {
     match TcpListener::bind(rt, ("127.0.0.1", port)) {
         Ok(listener) => host_on(rt, alloc, &listener, terms, secret, out, errors),
-        Err(_) => Err(NotServed),
+        Err(_) => Ended::of(Err(NotServed)),
     }
 }

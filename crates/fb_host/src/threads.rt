@@ -215,7 +215,9 @@ fn accept<R: Clock>(rt: &R, listener: &TcpListener) -> Option<TcpStream> {
 }
 
 /// A worker's thread. Where memory is wanting it pauses, gives back what it holds, and begins again.
-fn keep_working<R: Wait + Clock>(rt: &R, alloc: Global, house: &House, place: Place) -> Place {
+fn keep_working<R: Wait + Clock>(rt: &R, alloc: Global, house: &House, place: Place) -> Place
+    ensures { LeadsTo place.seat result.seat }
+{
     let mut place = place;
     for _ in rt.forever() {
         let end = work_on(

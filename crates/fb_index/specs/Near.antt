@@ -20,6 +20,10 @@ pub data IsNear (it : Indexed) : List ℕ → List ℕ → Type 0 where
 abbrev pub mentions : Indexed → List ℕ → List ℕ → Bool
 mentions it u v = uses it.parts u v || uses it.of_values u v
 
+-- whoever mentions a name is an indexed unit
+abbrev pub AreUnits : Indexed → Type 0
+AreUnits it = (unit name : List ℕ) → mentions it unit name ≡ true → is_indexed it unit ≡ true
+
 -- u rests on v: v is u, where that is indexed, or a mention of u, or some mention of u rests on it
 pub data Reaches (it : Indexed) : List ℕ → List ℕ → Type 0 where
   itself : {u : List ℕ} → is_indexed it u ≡ true → Reaches it u u

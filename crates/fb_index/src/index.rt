@@ -1,40 +1,27 @@
 //! The index of the units by what they mention.
-ghost use Rattle.std.specs.Prelude.{◌≡◌, ◌↔◌, ℕ, true, List, [], ◌++◌, filter, Contains, IfOk, OnOk, OnErr};
-ghost use Rattle.std.specs.List.{flat_map};
+ghost use Rattle.std.specs.Prelude.{◌≡◌, ◌↔◌, true, List, ℕ, IfOk, OnOk, OnErr};
 ghost use Rattle.std.specs.List.Sorted.{IsStrictlySortedBy};
 ghost use Rattle.fb_text.specs.Order.{name_cmp};
 ghost use Rattle.fb_tree.specs.Mentions.{mentioned};
-ghost use Rattle.fb_library.specs.Seen.{has_name, Opens};
-ghost use Rattle.fb_index.specs.Users.{users_of};
-ghost use Rattle.fb_index.specs.Indexed.{is_indexed, is_structure_in, nothing_indexed, IsIndexedAs, IsReplaced};
-ghost use Rattle.fb_index.specs.Near.{carrying_on, mentioning, CarriesSome, NearSome, ReachesSome};
+ghost use Rattle.fb_library.specs.Seen.{has_name};
+ghost use Rattle.fb_index.specs.Indexed.{is_indexed, nothing_indexed, IsIndexedAs, IsReplaced};
+ghost use Rattle.fb_index.specs.Near.{AreUnits, NearSome, ReachesSome};
 
-use crate::users::Users;
-use fb_library::{Table, names_of, open_new};
-use fb_text::{Name, sorted_names};
+use crate::tables::Tables;
+use fb_text::Name;
 use fb_tree::Mentions;
 use std::alloc::{AllocError, Global};
-use std::collections::BTreeSet;
 use std::marker::Model;
-use std::sync::Arc;
 
-/// Which units mention a name, directly or through others. A unit stays indexed from its first `replace` on.
+/// Which units mention a name, directly or through others. A unit stays indexed from its first `replace` on, and whoever mentions a name is such a
+/// unit.
 pub struct Index {
-    /// Under each name the units that have it as a part.
-    parts: Users,
-    /// Under each name the units that have it as the type of a value.
-    of_values: Users,
-    /// The indexed units, and whether each is a structure.
-    units: Table<bool>,
+    tables: Tables,
 }
 
 impl Drop for Index {
     fn drop(self) {
-        let Self {
-            parts: _,
-            of_values: _,
-            units: _,
-        } = self;
+        let Self { tables: _ } = self;
     }
 }
 
@@ -43,18 +30,21 @@ impl Model for Index {
 
     ghost Value = { Indexed };
 
-    ghost view = { λ it. record { parts = it.parts; of_values = it.of_values; units = it.units } };
+    ghost view = { λ it. it.tables };
+
+    ghost use Rattle.fb_index.specs.Near.{AreUnits};
+
+    ghost invariant = { λ it. AreUnits it.tables };
 }
 
 impl Index {
     /// No units.
+    #[tactic(auto, using(crate::proofs::Units::no_units))]
     pub fn new(alloc: Global) -> Index
         ensures { result ≡ nothing_indexed }
     {
         Index {
-            parts: Users::new(alloc),
-            of_values: Users::new(alloc),
-            units: Table::new(alloc),
+            tables: Tables::new(alloc),
         }
     }
 
@@ -62,17 +52,11 @@ impl Index {
     pub fn copy(&self) -> Result<Index, AllocError>
         ensures { IfOk result (λ copy. copy ≡ self.now) }
     {
-        let parts = self.parts.copy()?;
-        let of_values = self.of_values.copy()?;
-        let units = self.units.copy()?;
-        Ok(Index {
-            parts,
-            of_values,
-            units,
-        })
+        let tables = self.tables.copy()?;
+        Ok(Index { tables })
     }
 
-    /// Indexes the unit with its new mentions in the place of the old ones. Where there was no memory the index stays as it was.
+    /// Indexes the unit with its new mentions in the place of the old ones. If there is no memory, the index stays as it was.
     pub fn replace(
         &mut self,
         alloc: Global,
@@ -84,22 +68,7 @@ impl Index {
         ensures ok { OnOk result (IsReplaced self.old unit (mentioned new.now) self.new) }
         ensures err { OnErr result (self.new ≡ self.old) }
     {
-        if self.is_indexed(&unit) && are_same(old, new) {
-            return Ok(());
-        }
-        let mut index = self.copy()?;
-        index
-            .parts
-            .replace(alloc, &unit, old.parts.as_slice(), new.parts.as_slice())?;
-        index.of_values.replace(
-            alloc,
-            &unit,
-            old.of_values.as_slice(),
-            new.of_values.as_slice(),
-        )?;
-        index.units.put(unit, Arc::new(alloc, new.is_structure)?)?;
-        *self = index;
-        Ok(())
+        self.tables.replace(alloc, unit, old, new)
     }
 
     /// The indexed units near which one of the names is, in order.
@@ -108,13 +77,11 @@ impl Index {
         ensures exact { IfOk result
             (λ units. (unit : List ℕ) → (has_name units.items unit ≡ true)
             ↔ NearSome self.now unit names.now) }
+        ensures indexed { IfOk result
+            (λ units. (unit : List ℕ) → has_name units.items unit ≡ true
+            → is_indexed self.now unit ≡ true) }
     {
-        let mut units = self.indexed(alloc, names)?;
-        let carriers = self.carriers(alloc, names)?;
-        self.add_holders(names, &mut units)?;
-        self.add_holders(carriers.as_slice(), &mut units)?;
-        units.extend_from_slice(carriers.as_slice())?;
-        sorted_names(alloc, units.as_slice())
+        self.tables.near_of(alloc, names)
     }
 
     /// The indexed units that are one of the names or rest on one, in order.
@@ -123,126 +90,17 @@ impl Index {
         ensures exact { IfOk result
             (λ units. (unit : List ℕ) → (has_name units.items unit ≡ true)
             ↔ ReachesSome self.now unit names.now) }
+        ensures indexed { IfOk result
+            (λ units. (unit : List ℕ) → has_name units.items unit ≡ true
+            → is_indexed self.now unit ≡ true) }
     {
-        let mut units = self.indexed(alloc, names)?;
-        let mut seen = BTreeSet::new(alloc);
-        let mut pending = Vec::new(alloc);
-        for name in names {
-            self.open_users(alloc, name, &mut seen, &mut pending)?;
-        }
-        while let Some(name) = pending.pop() {
-            self.open_users(alloc, &name, &mut seen, &mut pending)?;
-        }
-        let users = names_of(alloc, &seen)?;
-        units.extend_from_slice(users.as_slice())?;
-        sorted_names(alloc, units.as_slice())
+        self.tables.far_of(alloc, names)
     }
 
-    /// Whether the unit is indexed.
-    fn is_indexed(&self, unit: &Name) -> bool
-        ensures { result ≡ is_indexed self.now unit.now }
+    /// Whoever mentions a name is an indexed unit.
+    pub fn users_are_indexed(&self)
+        ensures { AreUnits self.now }
     {
-        self.units.get(unit).is_some()
+        let _tables = &self.tables;
     }
-
-    /// Whether the unit is a structure.
-    fn is_structure(&self, unit: &Name) -> bool
-        ensures { result ≡ is_structure_in self.now unit.now }
-    {
-        match self.units.get(unit) {
-            Some(mark) => **mark,
-            None => false,
-        }
-    }
-
-    /// Those of the names that are indexed.
-    fn indexed(&self, alloc: Global, names: &[Name]) -> Result<Vec<Name>, AllocError>
-        ensures { IfOk result (λ units. units.items ≡ filter (is_indexed self.now) names.now) }
-    {
-        let mut units = Vec::new(alloc);
-        for name in names {
-            if self.is_indexed(name) {
-                units.push(*name)?;
-            }
-        }
-        Ok(units)
-    }
-
-    /// Adds the units that have one of the names as a part.
-    fn add_holders(&self, names: &[Name], units: &mut Vec<Name>) -> Result<(), AllocError>
-        ensures { OnOk result
-            (units.new.items
-            ≡ units.old.items ++ flat_map (users_of self.now.parts) names.now) }
-    {
-        let alloc = *units.allocator();
-        for name in names {
-            let holders = self.parts.under(alloc, name)?;
-            units.extend_from_slice(holders.as_slice())?;
-        }
-        Ok(())
-    }
-
-    /// The units that carry one of the names.
-    fn carriers(&self, alloc: Global, names: &[Name]) -> Result<Vec<Name>, AllocError>
-        ensures { IfOk result
-            (λ units. (unit : List ℕ) → Contains units.items unit
-            ↔ CarriesSome self.now unit names.now) }
-    {
-        let mut seen = BTreeSet::new(alloc);
-        let mut pending = Vec::new(alloc);
-        for name in names {
-            let users = self.of_values.under(alloc, name)?;
-            open_new(users.as_slice(), &mut seen, &mut pending)?;
-        }
-        while let Some(name) = pending.pop() {
-            let users = self.carrying_on(alloc, &name)?;
-            open_new(users.as_slice(), &mut seen, &mut pending)?;
-        }
-        names_of(alloc, &seen)
-    }
-
-    /// The units that carry on what this one carries: where it is a structure, its users.
-    fn carrying_on(&self, alloc: Global, unit: &Name) -> Result<Vec<Name>, AllocError>
-        ensures { IfOk result (λ units. units.items ≡ carrying_on self.now unit.now) }
-    {
-        if self.is_structure(unit) {
-            self.of_values.under(alloc, unit)
-        } else {
-            Ok(Vec::new(alloc))
-        }
-    }
-
-    /// Sees the units that mention the name, and opens those that are new.
-    fn open_users(
-        &self,
-        alloc: Global,
-        name: &Name,
-        seen: &mut BTreeSet<Name>,
-        pending: &mut Vec<Name>,
-    ) -> Result<(), AllocError>
-        ensures { OnOk result
-            (Opens (mentioning self.now name.now) seen.old.keys pending.old.items seen.new.keys
-            pending.new.items) }
-    {
-        let holders = self.parts.under(alloc, name)?;
-        open_new(holders.as_slice(), seen, pending)?;
-        let users = self.of_values.under(alloc, name)?;
-        open_new(users.as_slice(), seen, pending)
-    }
-}
-
-/// Whether both mention the same.
-#[tactic(auto, using(crate::proofs::Lookups::same_mentioned))]
-fn are_same(a: &Mentions, b: &Mentions) -> bool
-    ensures { (result ≡ true) → mentioned a.now ≡ mentioned b.now }
-{
-    a.is_structure == b.is_structure
-        && are_same_names(a.parts.as_slice(), b.parts.as_slice())
-        && are_same_names(a.of_values.as_slice(), b.of_values.as_slice())
-}
-
-fn are_same_names(a: &[Name], b: &[Name]) -> bool
-    ensures { (result ≡ true) → a.now ≡ b.now }
-{
-    a == b
 }

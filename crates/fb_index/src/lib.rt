@@ -3,6 +3,7 @@
 
 mod index;
 mod name_set;
+mod tables;
 mod users;
 
 pub use index::Index;

@@ -46,10 +46,11 @@ abbrev pub EndsAs : Option WorkEnd → WorkEnd → Type 0
 EndsAs None end = end ≡ Memory
 EndsAs (Some cause) end = end ≡ cause
 
--- A look for a job, under the lock. What ends the worker is asked first, whether or not there is a job. A look that takes one is a take whose receipt is
--- kept, and one that takes none changes nothing.
+-- A look for a job, under the lock. What ends the worker is asked first, whether or not there is a job. Want of memory ends it only where there is one. A
+-- look that takes one is a take whose receipt is kept, and one that takes none changes nothing.
 abbrev pub Looks : Hall → SeatState → Look → List Claim → Hall → SeatState → List Claim → Type 0
-Looks hall seat (Ended end) old hall' seat' new = EndsAs (end_before_take hall seat) end × Stays hall seat old hall' seat' new
+Looks hall seat (Ended end) old hall' seat' new =
+    EndsAs (end_before_take hall seat) end × (end_before_take hall seat ≡ None → is_some (next (state_of hall.bench)) ≡ true) × Stays hall seat old hall' seat' new
 Looks hall seat Nothing old hall' seat' new = (end_before_take hall seat ≡ None) × (next (state_of hall.bench) ≡ None) × Stays hall seat old hall' seat' new
 Looks hall seat (Taken job) old hall' seat' new =
     (end_before_take hall seat ≡ None) × (job_of (reply (state_of hall.bench) ToTake) ≡ Some job) × Keeps hall seat ToTake old hall' seat' new

@@ -84,9 +84,11 @@ impl Locked {
         match check(alloc, &self.bench, callers, &seats, receipts) {
             Ok(counts) => {
                 let Locked {
+                    alloc: _,
                     bench,
                     callers: _,
                     stopped: _,
+                    past: _,
                 } = self;
                 Ok(Closed { bench, counts })
             }

@@ -12,9 +12,10 @@ ghost use Rattle.fb_locked.specs.Seats.{hall_after, next_claim, AreFirstSeats, A
 use crate::seat::{Receipt, Seat};
 use fb_bench::jobs::{Finished, Job, Key};
 use fb_bench::library::Change;
-use fb_bench::{Answered, Bench, Limits, Request, Taken};
+use fb_bench::{Answered, Bench, Limits, Record, Request, Taken};
 use std::alloc::{AllocError, Global};
 use std::marker::Model;
+use std::sync::Arc;
 
 /// Why a call is not recorded. It then changes nothing.
 #[derive(Clone, Copy, PartialEq, Eq, Debug)]
@@ -29,12 +30,15 @@ pub enum SharedRefused {
 }
 
 /// What lies under the lock: a workbench, for how many callers seats were made, and the stop mark. The book of a caller is the
-/// number of its calls, those before the start of the history included.
+/// number of its calls, those before the start of the history included. Records from before a roll stay in `past` until they are dropped, some at
+/// each later call.
 #[derive(Drop)]
 pub struct Locked {
+    pub(crate) alloc: Global,
     pub(crate) bench: Bench,
     pub(crate) callers: u32,
     pub(crate) stopped: bool,
+    pub(crate) past: Vec<Arc<Record>>,
 }
 
 impl Model for Locked {
@@ -64,12 +68,21 @@ impl Locked {
     {
         let bench = Bench::new(alloc, limits);
         let seats = first_seats(alloc, &bench, callers)?;
-        let locked = Locked {
+        let locked = Locked::of(alloc, bench, callers);
+        Ok((locked, seats))
+    }
+
+    /// The workbench, with seats for so many callers, and no stop mark.
+    pub(crate) fn of(alloc: Global, bench: Bench, callers: u32) -> Locked
+        ensures { result ≡ record { bench = bench; callers = callers; stopped = false } }
+    {
+        Locked {
+            alloc,
             bench,
             callers,
             stopped: false,
-        };
-        Ok((locked, seats))
+            past: Vec::new(alloc),
+        }
     }
 
     /// The workbench. Each of its stored answers is the machine's at its place.

@@ -50,11 +50,7 @@ impl Locked {
         }
         match first_seats(alloc, &bench, callers) {
             Ok(seats) => {
-                let locked = Locked {
-                    bench,
-                    callers,
-                    stopped: false,
-                };
+                let locked = Locked::of(alloc, bench, callers);
                 Ok((locked, seats))
             }
             Err(_) => Err(NotResumed {

@@ -14,19 +14,34 @@ use fb_bench::{CheckpointRefused, Limits, Record, Reply, Request};
 
 impl Locked {
     /// Makes the present state what the history begins from, with these limits, and gives the number of all calls so far. It is no call
-    /// itself, and each seat fits as it did.
+    /// itself, and each seat fits as it did. The records so far are kept aside, so that no caller waits until all of them are dropped.
     pub fn roll(&mut self, limits: Limits) -> Result<u64, CheckpointRefused>
         ensures answer { ChecksAs (checking limits self.old.bench) result }
         ensures kept { OnOk result (self.new ≡ hall_rolled limits self.old) }
         ensures err { OnErr result (self.new ≡ self.old) }
     {
-        self.bench.checkpoint(limits)
+        let (before, records) = self.bench.begin_anew(limits)?;
+        self.past = records;
+        Ok(before)
+    }
+
+    /// Drops two of the records from before the last roll, if there are any. A hold of the lock records one call, so all of them are gone before the
+    /// history is full again.
+    fn drop_past(&mut self)
+        ensures { self.new ≡ self.old }
+    {
+        drop(self.past.pop());
+        drop(self.past.pop());
+        if self.past.is_empty() {
+            self.past = Vec::new(self.alloc);
+        }
     }
 
     /// Rolls where the history is full, and only there.
     pub fn make_room(&mut self, limits: Limits) -> Result<(), CheckpointRefused>
         ensures { MakesRoom limits self.old result self.new }
     {
+        self.drop_past();
         if !self.bench.is_full() {
             return Ok(());
         }

@@ -58,7 +58,7 @@ pub fn moved(place: &Place, by: u32) -> Result<Place, AllocError>
 
 /// A number of 32 bits. There are never so many items that it refuses.
 pub fn number(count: usize) -> Result<u32, AllocError>
-    ensures { IfOk result (λ n. n ≡ count) }
+    ensures same { IfOk result (λ n. n ≡ count) }
     ensures refused { OnErr result (2 ^ 32 ≤ count) }
 {
     u32::try_from(count).map_err(|_| AllocError)

@@ -5,7 +5,7 @@ use std::alloc::AllocError;
 
 /// A number of 32 bits. There are never so many items that it refuses.
 pub(crate) fn number(count: usize) -> Result<u32, AllocError>
-    ensures { IfOk result (λ n. n ≡ count) }
+    ensures same { IfOk result (λ n. n ≡ count) }
     ensures refused { OnErr result (2 ^ 32 ≤ count) }
 {
     u32::try_from(count).map_err(|_| AllocError)

@@ -7,5 +7,5 @@ mod server;
 mod session;
 
 pub use say::greet;
-pub use server::{NotServed, Numbers, Served, serve, serve_on, serve_sessions};
+pub use server::{Ended, NotServed, Numbers, Served, serve, serve_on, serve_sessions};
 pub use session::{Session, run_session};

@@ -1,5 +1,5 @@
 //! The server, on the listener that it is given.
-ghost use Rattle.std.specs.Prelude.{◌≡◌, ◌+◌, All, IfOk, OnOk, is_ok, true, false};
+ghost use Rattle.std.specs.Prelude.{◌≡◌, ◌+◌, All, IfOk, OnOk, is_ok, if◌then◌else◌, true, false};
 ghost use Rattle.fb_shared.specs.Locked.Book.{IsBookOf};
 ghost use Rattle.fb_serve.specs.Lines.{SaysLines};
 ghost use Rattle.fb_serve.specs.Shown.{IsNew, ShowsAll};
@@ -46,6 +46,32 @@ pub struct NotServed;
 impl From<AllocError> for NotServed {
     fn from(_error: AllocError) -> NotServed {
         NotServed
+    }
+}
+
+/// How a server ended: the status of the program, 0 if it came to its close and 1 if not, and the close.
+pub struct Ended {
+    pub status: u8,
+    pub served: Result<Served, NotServed>,
+}
+
+impl Drop for Ended {
+    fn drop(self) {
+        let Self {
+            status: _,
+            served: _,
+        } = self;
+    }
+}
+
+impl Ended {
+    /// The end of a server that came to this.
+    pub fn of(served: Result<Served, NotServed>) -> Ended
+        ensures served { result.served ≡ served }
+        ensures status { result.status ≡ (if is_ok served then 0 else 1) }
+    {
+        let status = u8::from(served.is_err());
+        Ended { status, served }
     }
 }
 
@@ -118,9 +144,8 @@ fn tell<R: Wait, E: Write>(rt: &R, told: &Receiver<SessionFault>, errors: &mut E
     }
 }
 
-/// Prints where it listens, serves its sessions, and prints that it is closed. Where something fails it comes back once the sessions that run
-/// have ended and the workers are stopped and joined.
-pub fn serve_on<R: Threads + Wait + Sync, S: Sink, E: Write>(
+/// Prints where it listens, serves its sessions, and prints that it is closed.
+fn serve_and_close<R: Threads + Wait + Sync, S: Sink, E: Write>(
     rt: &R,
     alloc: Global,
     listener: &TcpListener,
@@ -149,30 +174,47 @@ pub fn serve_on<R: Threads + Wait + Sync, S: Sink, E: Write>(
     }
 }
 
+/// Prints where it listens, serves its sessions, and prints that it is closed. Where something fails it comes back once the sessions that run
+/// have ended and the workers are stopped and joined.
+pub fn serve_on<R: Threads + Wait + Sync, S: Sink, E: Write>(
+    rt: &R,
+    alloc: Global,
+    listener: &TcpListener,
+    numbers: Numbers,
+    out: &mut S,
+    errors: &mut E,
+) -> Ended
+    requires { S.has_failed out.old ≡ false }
+    ensures all { IfOk result.served
+        (λ served. ShowsAll served.closed.bench served.receipts.items) }
+    ensures counts { IfOk result.served
+        (λ served. IsBookOf served.closed.counts (numbers.sessions + numbers.workers)
+        served.closed.bench) }
+    ensures said { SaysLines (is_ok result.served) (S.held out.old) (S.held out.new) }
+    ensures flushed { OnOk result.served (S.is_flushed out.new ≡ true) }
+    ensures status { result.status ≡ (if is_ok result.served then 0 else 1) }
+{
+    Ended::of(serve_and_close(rt, alloc, listener, numbers, out, errors))
+}
+
 /// Serves as `serve_on` does, on this port of 127.0.0.1; any free one for 0.
 pub fn serve<
     R: Net<Listener = TcpListener, Stream = TcpStream> + Threads + Wait + Sync,
     S: Sink,
     E: Write,
->(
-    rt: &R,
-    alloc: Global,
-    port: u16,
-    numbers: Numbers,
-    out: &mut S,
-    errors: &mut E,
-) -> Result<Served, NotServed>
+>(rt: &R, alloc: Global, port: u16, numbers: Numbers, out: &mut S, errors: &mut E) -> Ended
     requires { S.has_failed out.old ≡ false }
-    ensures all { IfOk result
+    ensures all { IfOk result.served
         (λ served. ShowsAll served.closed.bench served.receipts.items) }
-    ensures counts { IfOk result
+    ensures counts { IfOk result.served
         (λ served. IsBookOf served.closed.counts (numbers.sessions + numbers.workers)
         served.closed.bench) }
-    ensures said { SaysLines (is_ok result) (S.held out.old) (S.held out.new) }
-    ensures flushed { OnOk result (S.is_flushed out.new ≡ true) }
+    ensures said { SaysLines (is_ok result.served) (S.held out.old) (S.held out.new) }
+    ensures flushed { OnOk result.served (S.is_flushed out.new ≡ true) }
+    ensures status { result.status ≡ (if is_ok result.served then 0 else 1) }
 {
     match TcpListener::bind(rt, ("127.0.0.1", port)) {
         Ok(listener) => serve_on(rt, alloc, &listener, numbers, out, errors),
-        Err(_) => Err(NotServed),
+        Err(_) => Ended::of(Err(NotServed)),
     }
 }

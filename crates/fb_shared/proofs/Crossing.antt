@@ -48,6 +48,7 @@ use Rattle.fb_locked.specs.contracts.seat.Seat as Seat
 use Rattle.fb_locked.specs.Library.contracts.library.Library as Library
 use Rattle.fb_locked.specs.Index.contracts.name_set.NameSet as NameSet
 use Rattle.fb_locked.specs.Index.contracts.users.Users as Users
+use Rattle.fb_locked.specs.Index.contracts.tables.Tables as Tables
 use Rattle.fb_locked.specs.Index.contracts.index.Index as Index
 use Rattle.fb_locked.specs.History.contracts.start.Start as Start
 use Rattle.fb_locked.specs.Bench.contracts.bench.Bench as Bench
@@ -423,8 +424,11 @@ name_set_field_sync = search (crosses, maps.crosses, sendable) depth 60 fits 200
 pub users_field_send : IsSend (Users.the_field).row
 users_field_send = search (name_set_field_send, name_set_field_sync, crosses, maps.crosses, sendable) depth 60 fits 20000
 
+pub tables_field_send : IsSend (Tables.the_field).row
+tables_field_send = search (users_field_send, crosses, maps.crosses, sendable) depth 60 fits 20000
+
 pub index_field_send : IsSend (Index.the_field).row
-index_field_send = search (users_field_send, crosses, maps.crosses, sendable) depth 60 fits 20000
+index_field_send = search (tables_field_send, crosses, maps.crosses, sendable) depth 60 fits 20000
 
 pub start_field_send : IsSend (Start.the_field).row
 start_field_send = search (library_field_send, crosses, maps.crosses, sendable) depth 60 fits 20000
@@ -433,7 +437,7 @@ pub bench_field_send : IsSend (Bench.the_field).row
 bench_field_send = search (start_field_send, index_field_send, library_field_send, record_field_send, record_field_sync, value_send, value_sync, made_field_send, crosses, maps.crosses, sendable) depth 60 fits 20000
 
 pub locked_field_send : IsSend (Locked.the_field).row
-locked_field_send = search (bench_field_send, crosses, maps.crosses, sendable) depth 60 fits 20000
+locked_field_send = search (bench_field_send, record_field_send, record_field_sync, crosses, maps.crosses, sendable) depth 60 fits 20000
 
 pub shared_field_sync : IsSync (Shared.the_field).row
 shared_field_sync = search (locked_field_send, crosses, maps.crosses, sendable) depth 60 fits 20000

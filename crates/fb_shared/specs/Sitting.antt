@@ -30,6 +30,11 @@ IsCheckpointSitting old FullHistory new = ⊥
 IsCheckpointSitting old BehindHistory new = ⊥
 IsCheckpointSitting old (Checked checking) new = ⊥
 
+-- what a desk is asked is a call
+abbrev pub IsCall : Deed → Type 0
+IsCall (Makes call) = Unit {0}
+IsCall (Keeps limits) = ⊥
+
 abbrev pub SitterStep : Sitter → Deed → Answer → Sitter → Type 0
 SitterStep old (Makes call) answer new = IsCallSitting old call answer new
 SitterStep old (Keeps limits) answer new = IsCheckpointSitting old answer new

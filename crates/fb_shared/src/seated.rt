@@ -24,12 +24,16 @@ impl<'a, R: Wait> Model for Seated<'a, R> {
 }
 
 impl<R: Wait> Desk for Seated<'_, R> {
-    ghost use Rattle.fb_shared.specs.Sitting.{SitterStep};
+    ghost use Rattle.std.specs.Prelude.{IfErr};
+    ghost use Rattle.fb_locked.specs.Bench.Calls.{deed_for};
+    ghost use Rattle.fb_shared.specs.Sitting.{IsCall, SitterStep};
 
     ghost step = { SitterStep };
 
     /// A seat is not alone at its workbench: others may hold receipts of the records that would go at a checkpoint.
-    fn serve(&mut self, demand: &Demand<'_>) -> Result<Said, AllocError> {
+    fn serve(&mut self, demand: &Demand<'_>) -> Result<Said, AllocError>
+        ensures calls { IfErr result (λ _. IsCall (deed_for demand.now)) }
+    {
         let Demand::Call(request) = demand else {
             return Ok(Said::NotAlone);
         };

@@ -1,5 +1,5 @@
 //! The nets of units where the net of one unit is kept.
-ghost use Rattle.std.specs.Prelude.{◌≡◌, true, false, Some, IfOk};
+ghost use Rattle.std.specs.Prelude.{◌≡◌, true, Some, IfOk};
 ghost use Rattle.fb_library.specs.Texts.{sources_of};
 ghost use Rattle.fb_library.specs.View.{tree_at};
 ghost use Rattle.fb_flatten.specs.Net.{plain_net};
@@ -8,7 +8,7 @@ ghost use Rattle.network_tests.specs.Kept.{hint_of};
 
 use crate::nets::{ADAPTERS, B, CYCLE, FAULTY, TWO_APPLICATIONS, TWO_TARGETS, VALUES, chain};
 use crate::told::{library_of, net_told, unit_net_told};
-use fb_flatten::{Hints, Known, Net, compute, has_net, net};
+use fb_flatten::{Hints, Net, has_net, net, net_with};
 use fb_library::Library;
 use fb_tree::text::{Name, same_name};
 use std::alloc::{AllocError, Global};
@@ -17,9 +17,9 @@ use std::test::Fail;
 
 /// The net of one unit.
 #[derive(Drop)]
-struct Kept {
-    unit: Name,
-    net: Net,
+pub struct Kept {
+    pub unit: Name,
+    pub net: Net,
 }
 
 impl Hints for Kept {
@@ -34,14 +34,6 @@ impl Hints for Kept {
     }
 }
 
-impl Known for Kept {
-    ghost faultless = { λ it name. false };
-
-    fn is_faultless(&self, _name: &Name) -> bool {
-        false
-    }
-}
-
 /// The net of a unit that has one, to be kept.
 fn keep(alloc: Global, library: &Library, unit: Name) -> Result<Kept, AllocError>
     requires { has_net_in (tree_at (sources_of library.now) unit) ≡ true }
@@ -52,7 +44,7 @@ fn keep(alloc: Global, library: &Library, unit: Name) -> Result<Kept, AllocError
 }
 
 /// The same for a unit of this name.
-fn kept_of(alloc: Global, library: &Library, unit: &str) -> Result<Kept, Fail>
+pub fn kept_of(alloc: Global, library: &Library, unit: &str) -> Result<Kept, Fail>
     ensures { IfOk result (λ kept. net_at (sources_of library.now) kept.unit ≡ Some (plain_net kept.net)) }
 {
     let name = Name::read(unit)?;
@@ -63,11 +55,16 @@ fn kept_of(alloc: Global, library: &Library, unit: &str) -> Result<Kept, Fail>
 }
 
 /// The net of a unit that has one, beside the kept net.
-fn net_beside(alloc: Global, library: &Library, unit: Name, kept: &Kept) -> Result<Net, AllocError>
+pub fn net_beside(
+    alloc: Global,
+    library: &Library,
+    unit: Name,
+    kept: &Kept,
+) -> Result<Net, AllocError>
     requires net { has_net_in (tree_at (sources_of library.now) unit) ≡ true }
     requires kept { net_at (sources_of library.now) kept.now.unit ≡ Some (plain_net kept.now.net) }
 {
-    Ok(compute(alloc, library, unit, kept)?.net)
+    net_with(alloc, library, unit, kept)
 }
 
 fn net_beside_told(
@@ -163,6 +160,23 @@ const THROUGH: &[&str] = &[
     "SUBAPPLICATION S SUBAPPS C:L; D:L; END_SUBAPPS ADAPTER_CONNECTIONS C.Z TO D.W; END_CONNECTIONS END_SUBAPPLICATION",
 ];
 
+/// An event through two borders to two blocks.
+pub const BORDERS: &[&str] = &[
+    "FUNCTION_BLOCK T EVENT_INPUT I; END_EVENT EVENT_OUTPUT O; END_EVENT END_FUNCTION_BLOCK",
+    "SUBAPPLICATION INNER EVENT_INPUT E; END_EVENT FBS F1:T; F2:T; END_FBS EVENT_CONNECTIONS E TO F1.I; E TO F2.I; END_CONNECTIONS END_SUBAPPLICATION",
+    "SUBAPPLICATION MID EVENT_INPUT E; END_EVENT SUBAPPS K:INNER; END_SUBAPPS EVENT_CONNECTIONS E TO K.E; END_CONNECTIONS END_SUBAPPLICATION",
+    "SUBAPPLICATION OUTER FBS G:T; END_FBS SUBAPPS N:MID; END_SUBAPPS EVENT_CONNECTIONS G.O TO N.E; END_CONNECTIONS END_SUBAPPLICATION",
+];
+
+/// A plug of a block to a socket inside a subapplication, with an event each way and data.
+pub const PLUGGED: &[&str] = &[
+    "ADAPTER AD EVENT_INPUT CF; END_EVENT EVENT_OUTPUT RQ; END_EVENT VAR_OUTPUT V:INT; END_VAR END_ADAPTER",
+    "FUNCTION_BLOCK PP PLUGS P:AD; END_PLUGS END_FUNCTION_BLOCK",
+    "FUNCTION_BLOCK QQ SOCKETS Q:AD; END_SOCKETS END_FUNCTION_BLOCK",
+    "SUBAPPLICATION SB SOCKETS K:AD; END_SOCKETS FBS R:QQ; END_FBS ADAPTER_CONNECTIONS K TO R.Q; END_CONNECTIONS END_SUBAPPLICATION",
+    "SUBAPPLICATION TP FBS L:PP; END_FBS SUBAPPS M:SB; END_SUBAPPS ADAPTER_CONNECTIONS L.P TO M.K; END_CONNECTIONS END_SUBAPPLICATION",
+];
+
 // P and Q hold each other, and R and V stand above them. V also rests on a type that is absent.
 const CYCLE_BELOW: &[&str] = &[
     "SUBAPPLICATION P SUBAPPS X:Q; END_SUBAPPS END_SUBAPPLICATION",
@@ -212,6 +226,47 @@ const KEPT: &[(&[&str], &[Row])] = &[
             // one that the unit does not rest on
             ("T", "flat", "S", "F:B; Event I AT F.I"),
             ("S", "flat", "B", "no net"),
+        ],
+    ),
+    (
+        BORDERS,
+        &[
+            (
+                "INNER",
+                "flat",
+                "OUTER",
+                "G:T; N.K.F1:T; N.K.F2:T; Event G.O TO N.K.F1.I; Event G.O TO N.K.F2.I",
+            ),
+            (
+                "MID",
+                "flat",
+                "OUTER",
+                "G:T; N.K.F1:T; N.K.F2:T; Event G.O TO N.K.F1.I; Event G.O TO N.K.F2.I",
+            ),
+            (
+                "INNER",
+                "flat",
+                "MID",
+                "K.F1:T; K.F2:T; Event E AT K.F1.I; Event E AT K.F2.I",
+            ),
+            (
+                "OUTER",
+                "flat",
+                "INNER",
+                "F1:T; F2:T; Event E AT F1.I; Event E AT F2.I",
+            ),
+        ],
+    ),
+    (
+        PLUGGED,
+        &[
+            (
+                "SB",
+                "flat",
+                "TP",
+                "L:PP; M.R:QQ; Event L.P.RQ TO M.R.Q.RQ; Event M.R.Q.CF TO L.P.CF; Data L.P.V TO M.R.Q.V",
+            ),
+            ("TP", "flat", "SB", "R:QQ; Adapter K AT R.Q"),
         ],
     ),
     (

@@ -1,4 +1,4 @@
-//! Tests of the words of the program, of its runs, of sessions, and of servers.
+//! Tests of the words of the program, of its secret, of its runs, of sessions, and of servers.
 #![tactic(auto)]
 
 #[cfg(test)]
@@ -7,6 +7,8 @@ mod peers;
 mod program;
 #[cfg(test)]
 mod refused;
+#[cfg(test)]
+mod secrets;
 #[cfg(test)]
 mod servers;
 #[cfg(test)]

@@ -77,10 +77,10 @@ fn words_of<'a>(alloc: Global, line: &'a str) -> Result<Vec<&'a str>, AllocError
     line.split_whitespace().collect(alloc)
 }
 
-/// What the words of a line ask for, if it is anything.
-fn asked(alloc: Global, line: &str) -> Result<Option<Settings>, AllocError> {
+/// Whether the words of a line ask for this, or for nothing.
+fn is_asked(alloc: Global, line: &str, expected: Option<Settings<'_>>) -> Result<bool, AllocError> {
     let words = words_of(alloc, line)?;
-    Ok(settings(alloc, words.as_slice()).ok())
+    Ok(settings(alloc, words.as_slice()).ok() == expected)
 }
 
 /// How a run of the words of a line ends, over one request.
@@ -92,16 +92,16 @@ fn ended_by(alloc: Global, line: &str) -> Result<Ended, AllocError> {
 fn compare_asked(
     rt: &impl Abort,
     alloc: Global,
-    rows: &[(&str, Option<Settings>)],
+    rows: &[(&str, Option<Settings<'_>>)],
 ) -> Result<(), Fail> {
     for (line, expected) in rows {
-        is_right(rt, asked(alloc, line)? == *expected, line);
+        is_right(rt, is_asked(alloc, line, *expected)?, line);
     }
     Ok(())
 }
 
 // Words, and what they ask for.
-const SCRIPTS: &[(&str, Option<Settings>)] = &[
+const SCRIPTS: &[(&str, Option<Settings<'_>>)] = &[
     (
         "bench61499 script",
         Some(Settings::Script {
@@ -159,7 +159,7 @@ fn words_give_settings(rt: HostRuntime) -> Result<(), Fail> {
 }
 
 // Words that ask for a server.
-const SERVED: &[(&str, Option<Settings>)] = &[
+const SERVED: &[(&str, Option<Settings<'_>>)] = &[
     (
         "bench61499 serve --port 0",
         Some(Settings::Serve {
@@ -202,6 +202,62 @@ const SERVED: &[(&str, Option<Settings>)] = &[
     ),
 ];
 
+// Words that ask for a server that stays.
+const HOSTED: &[(&str, Option<Settings<'_>>)] = &[
+    (
+        "bench61499 host --port 7",
+        Some(Settings::Host {
+            port: 7,
+            workers: 2,
+            sessions: 16,
+            units: 1024,
+            history: 100_000,
+            secret: None,
+            idle: 0,
+            connections: 1_000_000_000,
+        }),
+    ),
+    (
+        "bench61499 host --port 0 --sessions 1 --workers 1 --units 1 --history 1 --secret s --idle 0 --connections 1",
+        Some(Settings::Host {
+            port: 0,
+            workers: 1,
+            sessions: 1,
+            units: 1,
+            history: 1,
+            secret: Some("s"),
+            idle: 0,
+            connections: 1,
+        }),
+    ),
+    (
+        "bench61499 host --connections=1000000000 --idle=10080 --secret=a/b --history=10000000 --units=16384 --workers=16 --sessions=64 --port=65535",
+        Some(Settings::Host {
+            port: 65_535,
+            workers: 16,
+            sessions: 64,
+            units: 16_384,
+            history: 10_000_000,
+            secret: Some("a/b"),
+            idle: 10_080,
+            connections: 1_000_000_000,
+        }),
+    ),
+    (
+        "bench61499 host --port 6149 --sessions 3 --workers 5 --units 17 --history 19 --idle 23 --connections 29",
+        Some(Settings::Host {
+            port: 6149,
+            workers: 5,
+            sessions: 3,
+            units: 17,
+            history: 19,
+            secret: None,
+            idle: 23,
+            connections: 29,
+        }),
+    ),
+];
+
 /// Whether a run gives words that ask for a server back, and does nothing.
 fn is_given_back(alloc: Global, line: &str) -> Result<bool, AllocError> {
     let ended = ended_by(alloc, line)?;
@@ -211,7 +267,7 @@ fn is_given_back(alloc: Global, line: &str) -> Result<bool, AllocError> {
 fn compare_served(
     rt: &impl Abort,
     alloc: Global,
-    rows: &[(&str, Option<Settings>)],
+    rows: &[(&str, Option<Settings<'_>>)],
 ) -> Result<(), Fail> {
     for (line, _) in rows {
         is_right(rt, is_given_back(alloc, line)?, line);
@@ -223,6 +279,12 @@ fn compare_served(
 fn words_give_servers(rt: HostRuntime) -> Result<(), Fail> {
     compare_asked(&rt, rt.alloc(), SERVED)?;
     compare_served(&rt, rt.alloc(), SERVED)
+}
+
+#[test]
+fn words_give_hosts(rt: HostRuntime) -> Result<(), Fail> {
+    compare_asked(&rt, rt.alloc(), HOSTED)?;
+    compare_served(&rt, rt.alloc(), HOSTED)
 }
 
 // Words that ask for nothing that the program does, or for help.
@@ -249,13 +311,35 @@ const REFUSED: &[&str] = &[
     "bench61499 serve --port 0 --units 16385",
     "bench61499 serve --port 0 --history 10000001",
     "bench61499 serve --port 0 --help",
+    "bench61499 serve --port 0 --secret s",
+    "bench61499 serve --port 0 --idle 1",
+    "bench61499 script --connections 1",
+    "bench61499 host",
+    "bench61499 host --secret s",
+    "bench61499 host --port 65536",
+    "bench61499 host --port 0 --workers 0",
+    "bench61499 host --port 0 --workers 17",
+    "bench61499 host --port 0 --sessions 0",
+    "bench61499 host --port 0 --sessions 65",
+    "bench61499 host --port 0 --units 0",
+    "bench61499 host --port 0 --units 16385",
+    "bench61499 host --port 0 --history 0",
+    "bench61499 host --port 0 --history 10000001",
+    "bench61499 host --port 0 --secret",
+    "bench61499 host --port 0 --idle",
+    "bench61499 host --port 0 --idle 10081",
+    "bench61499 host --port 0 --idle -1",
+    "bench61499 host --port 0 --connections 0",
+    "bench61499 host --port 0 --connections 1000000001",
+    "bench61499 host --port 0 --port 0",
+    "bench61499 host --port 0 --help",
 ];
 
 /// Whether words ask for nothing, and a run refuses them with a text.
 fn is_refused(alloc: Global, line: &str) -> Result<bool, AllocError> {
     let ended = ended_by(alloc, line)?;
     let is_silent = ended.errors.is_empty() || !ended.output.is_empty();
-    Ok(ended.status == Some(2) && !is_silent && asked(alloc, line)?.is_none())
+    Ok(ended.status == Some(2) && !is_silent && is_asked(alloc, line, None)?)
 }
 
 fn compare_refused(rt: &impl Abort, alloc: Global, lines: &[&str]) -> Result<(), Fail> {

@@ -9,7 +9,7 @@ use std::test::Fail;
 #[derive(Drop)]
 struct Words {
     words: &'static [&'static str],
-    found: Option<Settings>,
+    found: Option<Settings<'static>>,
 }
 
 impl Trial for Words {
@@ -37,6 +37,9 @@ impl Trial for Words {
             Some(Settings::Serve { port, workers, .. }) => {
                 format!(in alloc; "serve {port} {workers}")?
             }
+            Some(Settings::Host { port, secret, .. }) => {
+                format!(in alloc; "host {port} {}", secret.unwrap_or("none"))?
+            }
             None => String::new(alloc),
         })
     }
@@ -46,10 +49,13 @@ const SCRIPT: &[&str] = &["bench61499", "script", "--history", "5"];
 
 const SERVE: &[&str] = &["bench61499", "serve", "--port", "7", "--workers=3"];
 
+const HOST: &[&str] = &["bench61499", "host", "--port", "7", "--secret", "a/b"];
+
 #[test]
 fn words_are_read(rt: HostRuntime) -> Result<(), Fail> {
     try_call::<Words>(&rt, rt.alloc(), "settings", " of a script", SCRIPT)?;
-    try_call::<Words>(&rt, rt.alloc(), "settings", " of a server", SERVE)
+    try_call::<Words>(&rt, rt.alloc(), "settings", " of a server", SERVE)?;
+    try_call::<Words>(&rt, rt.alloc(), "settings", " of a host", HOST)
 }
 
 const INPUT: &str =

@@ -12,7 +12,7 @@ loop-place-preserved c =
     let x = c.index-ports-place.result in
     let k = c.loop-place.place in
     let old = c.args.joins.now.items in
-    let joined = c.join_at.ensures ∙ ap (λ (n : ℕ). member_join plug socket n x) c.in_ok-end.ensures in
+    let joined = c.join_at.ensures ∙ ap (λ (n : ℕ). member_join plug socket n x) c.in_ok-end.ensures.same in
     c.in_ok-push.ensures.items
     ∙ (λ i. c.loop-place.invariant i ++ joined i ∷ [])
     ∙ append_assoc old (member_joins plug socket 0 (take k c.args.ports.now)) (member_join plug socket k x ∷ [])

@@ -16,7 +16,7 @@ loop-block-preserved c =
     let line = create_line (spot_at c.args.homes.now) in
     let n = c.loop-block.block in
     let x = block_numbered flat n in
-    let lt : n < length flat.blocks = omega (arith, c.loop-block-test.true, c.in_ok-count.ensures, c.block_count.ensures) in
+    let lt : n < length flat.blocks = omega (arith, c.loop-block-test.true, c.in_ok-count.ensures.same, c.block_count.ensures) in
     filter_map_step line flat.blocks n x (line x) (map (created_line flat) c.loop-block.created.items) (map (created_line flat) c.push_created.new.created.items)
     lt (block_there flat.blocks n x lt) c.loop-block.invariant refl c.in_ok-push_created.ensures
 
@@ -24,4 +24,4 @@ pub returns : goal.returns
 returns c =
     let flat = c.args.flat.now in
     c.loop-block.invariant
-    ∙ ap (filter_map (create_line (spot_at c.args.homes.now))) (take_all c.loop-block.block flat.blocks (omega (arith, c.loop-block-test.false, c.in_ok-count.ensures, c.block_count.ensures)))
+    ∙ ap (filter_map (create_line (spot_at c.args.homes.now))) (take_all c.loop-block.block flat.blocks (omega (arith, c.loop-block-test.false, c.in_ok-count.ensures.same, c.block_count.ensures)))

@@ -16,7 +16,7 @@ loop-block-preserved c =
     let flat = c.args.flat.now in
     let n = c.loop-block.block in
     let x = block_numbered flat n in
-    let lt : n < length flat.blocks = omega (arith, c.loop-block-test.true, c.in_ok-count.ensures, c.block_count.ensures) in
+    let lt : n < length flat.blocks = omega (arith, c.loop-block-test.true, c.in_ok-count.ensures.same, c.block_count.ensures) in
     let step = filter_map_step (block_home (get_by_text c.args.table.now)) flat.blocks n x c.in_ok-home.field-0 c.loop-block.homes.items c.match-branch-4.homes.items lt (block_there flat.blocks n x lt) c.loop-block.invariant c.in_ok-home.ensures in
     elim c.match-branch-4.branch [
       | in-Some+in_ok-push w ↦ step (ap (λ h. h.items) w.homes-is ∙ w.in_ok-push.ensures.items ∙ ap (λ (o : Option Home). c.loop-block.homes.items ++ cons_option o []) (sym w.in-Some.is))
@@ -27,4 +27,4 @@ pub returns : goal.returns
 returns c =
     let flat = c.args.flat.now in
     c.loop-block.invariant
-    ∙ ap (block_homes (get_by_text c.args.table.now)) (take_all c.loop-block.block flat.blocks (omega (arith, c.loop-block-test.false, c.in_ok-count.ensures, c.block_count.ensures)))
+    ∙ ap (block_homes (get_by_text c.args.table.now)) (take_all c.loop-block.block flat.blocks (omega (arith, c.loop-block-test.false, c.in_ok-count.ensures.same, c.block_count.ensures)))

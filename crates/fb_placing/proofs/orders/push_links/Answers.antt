@@ -16,7 +16,7 @@ loop-link-preserved c =
     let homes = spot_at c.args.homes.now in
     let n = c.loop-link.link in
     let x = link_numbered flat n in
-    let lt : n < length flat.links = omega (arith, c.loop-link-test.true, c.in_ok-count.ensures, c.link_count.ensures) in
+    let lt : n < length flat.links = omega (arith, c.loop-link-test.true, c.in_ok-count.ensures.same, c.link_count.ensures) in
     let there = link_there flat.links n x lt in
     record {
       from = c.in_ok-push_link.ensures.from;

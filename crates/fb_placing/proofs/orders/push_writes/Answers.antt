@@ -20,7 +20,7 @@ loop-i-preserved c = λ flat.
     let lt = c.loop-i-test.true in
     let base = map (plain_order flat writes) c.args.orders.now.items in
     let command : text_or_nothing (slice_get writes c.in_ok-number.field-0) ≡ x.command =
-    ap (λ (n : ℕ). text_or_nothing (slice_get writes n)) c.in_ok-number.ensures ∙ write_there lines i x lt c.index-lines-i.is in
+    ap (λ (n : ℕ). text_or_nothing (slice_get writes n)) c.in_ok-number.ensures.same ∙ write_there lines i x lt c.index-lines-i.is in
     ap (map (plain_order flat writes)) c.in_ok-push.ensures.items
     ∙ map-push (plain_order flat writes) c.loop-i.orders.items _
     ∙ (λ k. c.loop-i.invariant flat k ++ (let o : Order = record { resource = (sym c.index-lines-i.is k).resource; command = command k } in o) ∷ [])

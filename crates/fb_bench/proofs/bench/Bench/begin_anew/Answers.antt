@@ -5,7 +5,7 @@ use Rattle.fb_history.specs.Story.{Story}
 use Rattle.fb_bench.specs.Kept.{IsKept}
 use Rattle.fb_bench.proofs.Checkpointing.{kept_checkpointed, restarted_is}
 use Rattle.fb_bench.proofs.KeysKept.{out_listed, pending_listed}
-use Rattle.fb_bench.proofs.bench.Bench.checkpoint.Goals as goal
+use Rattle.fb_bench.proofs.bench.Bench.begin_anew.Goals as goal
 
 pub invariant_of-self-2 : goal.invariant_of-self-2
 invariant_of-self-2 c =
@@ -17,7 +17,7 @@ invariant_of-self-2 c =
     let pending = c.in_ok-pending.ensures.pending ∙ pending_listed story begins kept.library kept.commits kept.entries agrees ordered in
     let out = c.in_ok-pending.ensures.out ∙ out_listed story begins kept.library kept.commits kept.entries agrees ordered in
     let is : c.restart.new.self ≡ checkpointed c.args.limits story =
-    c.in_ok-before.ensures.ok ∙ restarted_is c.args.limits story _ _ _ _ (c.in_ok-library.ensures ∙ agrees.units_are) agrees.commits_are pending out in
+    c.in_ok-restarted.ensures.ok ∙ restarted_is c.args.limits story _ _ _ _ (c.in_ok-library.ensures ∙ agrees.units_are) agrees.commits_are pending out in
     subst (λ st. IsKept kept.library kept.commits kept.entries kept.index st) (sym is)
     (kept_checkpointed kept.library kept.commits kept.entries kept.index c.args.limits story c.self.invariant)
 
@@ -30,5 +30,8 @@ returns-clause-kept c =
     let ordered = c.in_ok-pending.ensures.ordered in
     let pending = c.in_ok-pending.ensures.pending ∙ pending_listed story begins kept.library kept.commits kept.entries agrees ordered in
     let out = c.in_ok-pending.ensures.out ∙ out_listed story begins kept.library kept.commits kept.entries agrees ordered in
-    c.in_ok-before.ensures.ok ∙ restarted_is c.args.limits story _ _ _ _ (c.in_ok-library.ensures ∙ agrees.units_are) agrees.commits_are pending out
+    c.in_ok-restarted.ensures.ok ∙ restarted_is c.args.limits story _ _ _ _ (c.in_ok-library.ensures ∙ agrees.units_are) agrees.commits_are pending out
     ∙ ap (checkpointed c.args.limits) c.self.view_is
+
+pub returns-clause-records : goal.returns-clause-records
+returns-clause-records c = c.in_ok-restarted.ensures.records ∙ ap (λ (st : Story). st.log.records) c.self.view_is

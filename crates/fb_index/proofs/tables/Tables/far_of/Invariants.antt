@@ -4,7 +4,7 @@ use Rattle.fb_library.specs.Seen.{Opens, unseen}
 use Rattle.fb_library.proofs.WalkLemmas.{IsWalk}
 use Rattle.fb_index.specs.Near.{mentioning}
 use Rattle.fb_index.proofs.Walks.{all_users}
-use Rattle.fb_index.proofs.index.Index.far_of.Given as goal
+use Rattle.fb_index.proofs.tables.Tables.far_of.Given as goal
 
 abbrev pub invariant-loop-name : goal.invariant-loop-name
 invariant-loop-name l = Opens (flat_map (mentioning l.self) (take l.name-index l.names)) [] [] l.seen.keys l.pending.items

@@ -9,7 +9,7 @@ use Rattle.fb_index.specs.Indexed.{Indexed}
 use Rattle.fb_index.specs.Near.{carrying_on}
 use Rattle.fb_index.specs.Users.{users_of}
 use Rattle.fb_index.proofs.Walks.{all_users, carriers_within, carriers_at_end}
-use Rattle.fb_index.proofs.index.Index.carriers.Goals as goal
+use Rattle.fb_index.proofs.tables.Tables.carriers.Goals as goal
 
 pub loop-name-preserved : goal.loop-name-preserved
 loop-name-preserved c =

@@ -2,7 +2,7 @@
 use Rattle.std.proofs.Common.{refl}
 use Rattle.std.proofs.lemmas.Slice.Eq.{slice_eq-Decides}
 use Rattle.std.proofs.lemmas.Bool.Decides.{Decides-eqb}
-use Rattle.fb_index.proofs.index.are_same_names.Goals as goal
+use Rattle.fb_index.proofs.tables.are_same_names.Goals as goal
 
 pub returns : goal.returns
 returns c = λ t. (slice_eq-Decides (λ a b. slice_eq-Decides Decides-eqb a b _ refl) _ _ _ c.eq.ensures).0 t

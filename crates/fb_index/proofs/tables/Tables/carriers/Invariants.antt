@@ -5,7 +5,7 @@ use Rattle.fb_library.proofs.WalkLemmas.{IsWalk}
 use Rattle.fb_index.specs.Near.{carrying_on}
 use Rattle.fb_index.specs.Users.{users_of}
 use Rattle.fb_index.proofs.Walks.{all_users}
-use Rattle.fb_index.proofs.index.Index.carriers.Given as goal
+use Rattle.fb_index.proofs.tables.Tables.carriers.Given as goal
 
 abbrev pub invariant-loop-name : goal.invariant-loop-name
 invariant-loop-name l = Opens (flat_map (users_of l.self.of_values) (take l.name-index l.names)) [] [] l.seen.keys l.pending.items

@@ -1,0 +1,187 @@
+//! How many owners a text and a value have before and after each call: what is kept of both, and what is handed out, is shared and never copied.
+use crate::jobs::key_of;
+use crate::talk::new_bench;
+use fb_library::Change;
+use fb_library::parse::Source;
+use fb_text::Name;
+use fb_wire::bench::{Asked, Bench, Taken};
+use fb_wire::jobs::{Finished, Job, Kind};
+use std::alloc::Global;
+use std::process::Abort;
+use std::sync::Arc;
+use std::test::Fail;
+
+/// A call of the workbench, or a job that is run.
+#[derive(Clone, Copy, Debug)]
+enum Step {
+    /// Two units are put, of which the second holds the first.
+    Commit,
+    /// The second is put again.
+    CommitAgain,
+    Take,
+    Run,
+    Deliver,
+    /// The net of the first.
+    Ask,
+    GiveBack,
+}
+
+/// How many owners there are of the first unit's source, of its text, and of the last value that was found.
+type Owners = (usize, usize, usize);
+
+// Each step, and the owners after it.
+const STEPS: &[(Step, Owners)] = &[
+    // the library has the source, and it and the record have the text
+    (Step::Commit, (2, 3, 0)),
+    // for its faults: the job has the source, and then the entry and what it is made of have the value
+    (Step::Take, (3, 3, 0)),
+    (Step::Run, (3, 3, 1)),
+    (Step::Deliver, (3, 3, 3)),
+    // for the faults of the second, which reads the first too
+    (Step::Take, (4, 3, 3)),
+    (Step::Run, (4, 3, 1)),
+    (Step::Deliver, (4, 3, 3)),
+    // for its net
+    (Step::Take, (5, 3, 3)),
+    (Step::Run, (5, 3, 1)),
+    (Step::Deliver, (5, 3, 3)),
+    // the answer and the record have the value
+    (Step::Ask, (5, 3, 5)),
+    // for the net of the second: the job has both
+    (Step::Take, (6, 3, 6)),
+    (Step::GiveBack, (6, 3, 6)),
+    (Step::CommitAgain, (6, 3, 6)),
+];
+
+/// A workbench, two changes with the sources of their units, and all that it has handed out.
+#[derive(Drop)]
+struct Scene {
+    bench: Bench,
+    changes: Vec<Change>,
+    again: Vec<Change>,
+    jobs: Vec<Job>,
+    results: Vec<Finished>,
+    answers: Vec<Asked>,
+}
+
+// Adds a change that puts a unit, which stands at this revision.
+fn put(
+    alloc: Global,
+    changes: &mut Vec<Change>,
+    unit: &str,
+    base: u64,
+    text: &str,
+) -> Result<(), Fail> {
+    let source = Source::read(alloc, Name::read(unit)?, text)?;
+    changes.push(Change::Put { base, source })?;
+    Ok(())
+}
+
+const INNER: &str = "SUBAPPLICATION A END_SUBAPPLICATION";
+
+const OUTER: &str = "SUBAPPLICATION B SUBAPPS X:A; END_SUBAPPS END_SUBAPPLICATION";
+
+fn new_scene(alloc: Global) -> Result<Scene, Fail> {
+    let (mut changes, mut again) = (Vec::new(alloc), Vec::new(alloc));
+    put(alloc, &mut changes, "A", 0, INNER)?;
+    put(alloc, &mut changes, "B", 0, OUTER)?;
+    put(alloc, &mut again, "B", 1, OUTER)?;
+    Ok(Scene {
+        bench: new_bench(alloc, 2, 100)?,
+        changes,
+        again,
+        jobs: Vec::new(alloc),
+        results: Vec::new(alloc),
+        answers: Vec::new(alloc),
+    })
+}
+
+impl Scene {
+    fn take(&mut self) -> Result<(), Fail> {
+        match self.bench.take(1)? {
+            Taken::Job(job) => Ok(self.jobs.push(job)?),
+            Taken::Nothing => Err(Fail::from("no job")),
+        }
+    }
+
+    fn run(&mut self, alloc: Global) -> Result<(), Fail> {
+        let job = self.jobs.last().ok_or("no job")?;
+        self.results.push(job.run(alloc)?)?;
+        Ok(())
+    }
+
+    fn deliver(&mut self) -> Result<(), Fail> {
+        let finished = self.results.last().ok_or("no result")?;
+        self.bench.deliver(1, finished)?;
+        Ok(())
+    }
+
+    fn ask(&mut self) -> Result<(), Fail> {
+        let answer = self.bench.ask(1, key_of(Kind::Net, "A")?)?;
+        self.answers.push(answer)?;
+        Ok(())
+    }
+
+    fn give_back(&mut self) -> Result<(), Fail> {
+        let key = self.jobs.last().ok_or("no job")?.key();
+        self.bench.give_back(1, key)?;
+        Ok(())
+    }
+
+    fn go(&mut self, alloc: Global, step: Step) -> Result<(), Fail> {
+        match step {
+            Step::Commit => {
+                self.bench.commit(1, &self.changes)?;
+                Ok(())
+            }
+            Step::CommitAgain => {
+                self.bench.commit(1, &self.again)?;
+                Ok(())
+            }
+            Step::Take => self.take(),
+            Step::Run => self.run(alloc),
+            Step::Deliver => self.deliver(),
+            Step::Ask => self.ask(),
+            Step::GiveBack => self.give_back(),
+        }
+    }
+
+    fn value_owners(&self) -> usize {
+        match self.results.last() {
+            Some(finished) => Arc::strong_count(finished.value()),
+            None => 0,
+        }
+    }
+
+    fn owners(&self) -> Owners {
+        match self.changes.first() {
+            Some(Change::Put { source, base: _ }) => {
+                let text = source.shared_text();
+                let values = self.value_owners();
+                (Arc::strong_count(source), Arc::strong_count(text), values)
+            }
+            _ => (0, 0, 0),
+        }
+    }
+}
+
+fn compare(
+    rt: &impl Abort,
+    alloc: Global,
+    scene: &mut Scene,
+    steps: &[(Step, Owners)],
+) -> Result<(), Fail> {
+    for place in 0..steps.len() {
+        let (step, owners) = steps[place];
+        scene.go(alloc, step)?;
+        assert_eq!(rt; scene.owners(), owners, "{step:?}, step {place}");
+    }
+    Ok(())
+}
+
+#[test]
+fn texts_and_values_are_shared(rt: HostRuntime) -> Result<(), Fail> {
+    let mut scene = new_scene(rt.alloc())?;
+    assert_eq!(rt; scene.owners(), (1, 1, 0), "before any call");
+    compare(&rt, rt.alloc(), &mut scene, STEPS)
+}

@@ -1,0 +1,50 @@
+"""The parts of pages that tools make: what stands between `<!-- made: NAME -->` and `<!-- end -->`. Between `<!-- measured: NAME -->` and `<!-- end -->`
+stand figures that a program measured (benchmarks/tables --into PAGE): these are not made again here. All else in a page is written by hand."""
+import re
+
+import gate_seconds
+import promises
+
+BLOCK = re.compile(r"^(<!-- (made|measured): (.+?) -->\n)(.*?)^(<!-- end -->)$", re.M | re.S)
+TABLES = {
+    "promises": promises.all_promises,
+    "crates": promises.all_crates,
+    "runs of the gate": gate_seconds.runs,
+    "parts of the last run": gate_seconds.parts_of_last,
+    "crates of the last run": gate_seconds.crates_of_last,
+    "refused allocations": gate_seconds.refused,
+}
+
+
+def content(name):
+    """What a block has, or None if no tool makes one of this name."""
+    if name in promises.titles():
+        return promises.block(name)
+    return TABLES[name]() if name in TABLES else None
+
+
+def filled(text):
+    """A page with all its blocks made anew."""
+
+    def one(block):
+        new = content(block[3]) if block[2] == "made" else None
+        return block[0] if new is None else block[1] + new + block[5]
+
+    return BLOCK.sub(one, text)
+
+
+def faults(page, text):
+    for start, kind, name, there, _ in BLOCK.findall(text):
+        new = content(name) if kind == "made" else there
+        if new is None:
+            yield f"{page}: no tool makes a block {name}"
+        elif new != there:
+            yield f"{page}: the block {name} would be made otherwise now (--mend)"
+    lines = re.findall(r"^<!-- (?:made|measured): .*$", text, re.M)
+    if len(lines) != len(BLOCK.findall(text)) or len(lines) != text.count("<!-- end -->"):
+        yield f"{page}: a block has no end, or an end no block"
+
+
+def by_hand(text):
+    """What is written by hand in a page."""
+    return BLOCK.sub("", text)

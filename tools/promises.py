@@ -1,0 +1,173 @@
+"""Makes the blocks of docs/PROMISES.md: of each promise its contracts, definitions, laws, wrong bodies and tests; a table of all promises; and a table of the crates.
+
+Which calls carry a promise, and which laws say it again, is said in tools/shown.rows; the wrong bodies are those whose line in a must-fail/README.md names it."""
+import functools
+import os
+import re
+import textwrap
+from collections import Counter
+
+import code_parts as parts
+import crate_graph
+import headline
+import shown
+
+PAGE = "docs/PROMISES.md"
+READERS = "fb_laws"
+WIDTH = 200
+
+
+@functools.cache
+def titles():
+    """Each promise with its title."""
+    return dict(re.findall(r"^## (P\d+)\. (.*)$", parts.text_of(PAGE), re.M))
+
+
+def rows_of(number):
+    return [it for it in shown.points() if number in it.names]
+
+
+def calls_of(number):
+    return list(dict.fromkeys(call for row in rows_of(number) for call in row.calls()))
+
+
+def laws_of(number):
+    return list(dict.fromkeys(law for row in rows_of(number) for law in row.has("laws")))
+
+
+@functools.cache
+def law(name):
+    return parts.function(parts.laws()[name], name)
+
+
+def cited(functions):
+    """The definitions that these contracts cite: a crate, a file and a name for each."""
+    return list(dict.fromkeys(place for it in functions for place in parts.cited(it)))
+
+
+@functools.cache
+def edits_of(number):
+    named = [name for row in rows_of(number) for name in row.has("edits")]
+    return [it for it in parts.edits() if number in re.findall(r"\bP\d+\b", it.promise) or f"{it.crate}: {it.name}" in named]
+
+
+@functools.cache
+def below(number):
+    """All definitions on which a promise rests by the contracts of its calls and by its laws, but for those in words of their own."""
+    said = [it for it in map(law, laws_of(number)) if it.crate != READERS]
+    places = cited([*(parts.function(*it) for it in calls_of(number)), *said])
+    found = (headline.in_file(f"crates/{crate}/specs/{file}.antt", name) for crate, file, name in places)
+    return headline.ordered([it for it in found if it])
+
+
+@functools.cache
+def row_of_call(call):
+    """The row of the page of what is shown that names a call, which says how tests make it."""
+    named = [it for it in shown.rows("call") if it.crate == call[0] and call[1] in it.names]
+    return named[0] if named else shown.Row("call", call[0], [call[1]], {})
+
+
+@functools.cache
+def tests_of_call(call):
+    return shown.tests_of(parts.function(*call), row_of_call(call))
+
+
+def tests_of(number):
+    return {(it.crate, it.file, it.name): it for call in calls_of(number) for it in tests_of_call(call)}.values()
+
+
+# ---- the block of a promise
+
+
+def linked(it):
+    return f"[`{it.full_name}`](../{it.file})"
+
+
+def wrong_bodies(number):
+    gate, beside = ([it for it in edits_of(number) if it.folder == folder] for folder in parts.FOLDERS)
+    named = {}
+    for it in gate:
+        named.setdefault(it.crate, []).append(f"`{it.name}`")
+    counts = Counter(it.crate for it in beside)
+    in_gate = "; ".join(f"`{crate}`: {', '.join(names)}" for crate, names in named.items())
+    standing = ", ".join(f"[{count} of `{crate}`](../crates/{crate}/must-fail/README.md)" for crate, count in counts.items())
+    said = [f"{place} {names}" for place, names in (("in the gate", in_gate), ("beside it", standing)) if names]
+    return "; ".join(said)
+
+
+def in_words(names, above):
+    """Laws, with the definitions that they cite and that are not named above; of those for readers, which are called like their laws, the files."""
+    places = [it for it in cited(map(law, names)) if it not in above]
+    files = dict.fromkeys(file for crate, file, _ in places if crate == READERS)
+    told = f"`{READERS}: {'`, `'.join(files)}`" if files else shown.definitions(places)
+    said = ", ".join(f"`{it}`" for it in names)
+    return f"{said} ({told})" if places else said
+
+
+def points_of(number):
+    calls = [parts.function(*it) for it in calls_of(number)]
+    places = cited(calls)
+    all_below = below(number)
+    said, readers = ([it for it in laws_of(number) if (law(it).crate == READERS) is is_for_readers] for is_for_readers in (False, True))
+    yield "Contracts", ", ".join(map(linked, calls))
+    yield "Definitions", f"{shown.definitions(places) or 'none of the project'}; with all that they and the laws use {len(all_below)}, of {headline.lines_of(all_below):,} lines"
+    yield "Laws", in_words(said, places)
+    yield "In other words", in_words(readers, places)
+    yield "Wrong bodies", wrong_bodies(number)
+    yield "Tests", shown.counted(shown.count_tests(tests_of(number)), [])
+
+
+def wrapped(text):
+    """A point of a list in lines that are not too long. (What stands between backquotes is one word.)"""
+    kept = re.sub(r"`[^`]*`", lambda it: it[0].replace(" ", "\0"), text)
+    return textwrap.fill(kept, WIDTH, subsequent_indent="  ", break_long_words=False, break_on_hyphens=False).replace("\0", " ")
+
+
+def block(number):
+    return "\n".join(wrapped(f"- {name}: {text}") for name, text in points_of(number) if text) + "\n"
+
+
+# ---- the tables
+
+
+def table(heads, rows):
+    return "\n".join(f"| {' | '.join(it)} |" for it in [heads, ["---"] * len(heads), *rows]) + "\n"
+
+
+def all_promises():
+    rows, above = [], set()
+    for number, title in titles().items():
+        anchor = f"{number}-{title}".lower().replace(" ", "-")
+        folders = Counter(it.folder for it in edits_of(number))
+        new = [it for it in below(number) if (it.path, it.name) not in above]
+        above |= {(it.path, it.name) for it in new}
+        read = (len(below(number)), headline.lines_of(below(number)), headline.lines_of(new))
+        rows.append([f"[{number} {title}](#{anchor})", *(f"{it:,}" for it in (*read, len(laws_of(number)), *(folders[it] for it in parts.FOLDERS), len(tests_of(number))))])
+    return table(["Promise", "Definitions", "Lines", "Lines not above", "Laws", "Wrong bodies in the gate", "beside it", "Tests"], rows)
+
+
+def sentence(crate):
+    """What a crate is, by the first paragraph at the head of its code."""
+    path = next(it for it in (f"crates/{crate}/src/lib.rt", f"crates/{crate}/src/main.rt") if os.path.isfile(f"{parts.TOP}/{it}"))
+    head = re.match(r"(?://![^\n]*\n)+", parts.text_of(path))[0]
+    return " ".join(re.sub(r"^//! ?", "", head, flags=re.M).split("\n\n")[0].split())
+
+
+def all_crates():
+    rows, graph = [], crate_graph.read(f"{parts.TOP}/crates.txt")
+    for crate in graph:
+        numbers = [it for it in titles() if any(crate == call[0] for call in calls_of(it)) or any(law(name).crate == crate for name in laws_of(it))]
+        rows.append([f"[`{crate}`](../crates/{crate})", sentence(crate), ", ".join(numbers)])
+    return table(["Crate", "What it is for", "Promises"], rows)
+
+
+def faults():
+    """Promises without a row or a heading, and wrong bodies whose line names a promise that is not there by that title."""
+    said = {number for it in shown.points() for number in it.names}
+    yield from (f"{shown.ROWS}: there is no promise {it}" for it in sorted(said - set(titles())))
+    yield from (f"{shown.ROWS}: no row is for the promise {it}" for it in sorted(set(titles()) - said))
+    there = {f"{number} {title}" for number, title in titles().items()}
+    named = {name for row in shown.points() for name in row.has("edits")}
+    for it in parts.edits():
+        if f"{it.crate}: {it.name}" not in named:
+            yield from (f"crates/{it.crate}/must-fail/README.md: there is no promise {name}" for name in re.split(r", (?=P\d)", it.promise) if name not in there)
