@@ -79,7 +79,7 @@ class SharedTest(InFolder):
         self.write("a.fb", GOOD)
         with hosting("--sessions", "1") as port, Session.connect("127.0.0.1", port) as other:
             other.commit([Put("A", 0, GOOD)])
-            words = [CLIENTS / "check", ".", "--connect", f":{port}"]
+            words = [str(CLIENTS / "check"), ".", "--connect", f":{port}"]
             with subprocess.Popen(words, cwd=self.folder, stdout=subprocess.DEVNULL, stderr=subprocess.PIPE, text=True) as check:
                 assert check.stderr
                 self.assertEqual(check.stderr.readline(), "all sessions of the workbench are in use; trying again\n")
