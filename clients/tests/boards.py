@@ -13,7 +13,7 @@ from urllib.parse import urlencode, urlsplit
 
 from support import CLIENTS, workbench
 
-PATIENCE = 60
+PATIENCE = 150
 """Seconds after which something does not come any more."""
 
 
@@ -42,7 +42,7 @@ class Address:
 
     def request(self, path: str, method: str = "GET", body: bytes | None = None, **headers: str) -> tuple[int, str]:
         """The status and the content of an answer. Underscores in names of headers stand for hyphens."""
-        connection = HTTPConnection("127.0.0.1", self.port, timeout=60)
+        connection = HTTPConnection("127.0.0.1", self.port, timeout=PATIENCE)
         connection.request(method, path, body, {name.replace("_", "-"): value for name, value in headers.items()})
         answer = connection.getresponse()
         status, content = answer.status, answer.read().decode()
@@ -57,7 +57,7 @@ class Address:
 
     def raw(self, content: bytes) -> bytes:
         """What is answered to these bytes, up to the end of the connection."""
-        connection = HTTPConnection("127.0.0.1", self.port, timeout=60)
+        connection = HTTPConnection("127.0.0.1", self.port, timeout=PATIENCE)
         connection.connect()
         with connection.sock as peer, peer.makefile("rb") as reader:
             peer.sendall(content)
@@ -65,7 +65,7 @@ class Address:
 
     @contextmanager
     def viewer(self, query: str = "") -> Iterator[Viewer]:
-        connection = HTTPConnection("127.0.0.1", self.port, timeout=60)
+        connection = HTTPConnection("127.0.0.1", self.port, timeout=PATIENCE)
         connection.request("GET", f"/events{query}")
         with connection.getresponse() as answer:
             yield Viewer(answer)

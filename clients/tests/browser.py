@@ -33,14 +33,14 @@ class Browser:
             raise unittest.SkipTest("there is no Chromium with its driver here")
         self._driver = subprocess.Popen([driver, "--port=0"], stdout=subprocess.PIPE, stderr=subprocess.DEVNULL, text=True)
         line = next(it for it in self._driver.stdout if _READY in it)
-        self._connection = HTTPConnection("127.0.0.1", int(line.partition(_READY)[2].rstrip(".\n")), timeout=90)
+        self._connection = HTTPConnection("127.0.0.1", int(line.partition(_READY)[2].rstrip(".\n")), timeout=180)
         words = ["--headless=new", f"--window-size={width},{height}", "--disable-gpu", "--hide-scrollbars"]
         words += ["--no-sandbox"] if os.geteuid() == 0 else []
         options = {"args": words, "binary": chromium}
         wanted = {"capabilities": {"alwaysMatch": {"goog:chromeOptions": options, "goog:loggingPrefs": {"browser": "ALL"}}}}
         self._session = ""
         self._session = f"/session/{self._do('POST', '/session', wanted)['sessionId']}"
-        self.patience(60)
+        self.patience(150)
         self.devtools("Emulation.setDeviceMetricsOverride", width=width, height=height, deviceScaleFactor=1, mobile=False)
 
     def close(self) -> None:

@@ -17,7 +17,7 @@ class Editor:
     Where what a test waits for doesn't come, the server is killed after `patience` seconds, and the test fails.
     """
 
-    def __init__(self, *words: object, patience: float = 120, lsp: Path = CLIENTS / "lsp"):
+    def __init__(self, *words: object, patience: float = 300, lsp: Path = CLIENTS / "lsp"):
         self.process = subprocess.Popen([lsp, *map(str, words)], stdin=subprocess.PIPE, stdout=subprocess.PIPE)
         self._watch = threading.Timer(patience, self.process.kill)
         self._watch.daemon = True
@@ -30,7 +30,7 @@ class Editor:
     def close(self) -> None:
         self._watch.cancel()
         self.process.stdin.close()
-        self.process.wait(10)
+        self.process.wait(60)
         self.process.stdout.close()
 
     def send(self, message: dict) -> None:

@@ -116,7 +116,7 @@ def run(client: str, *words: object, folder: Path | None = None, **surroundings:
         env={**os.environ, **surroundings},
         capture_output=True,
         text=True,
-        timeout=60,
+        timeout=300,
     )
 
 

@@ -409,6 +409,7 @@ class SharedTest(BoardTest):
                     clock[0] += max(watch.step(), 0.01)
                     if edits and clock[0] >= next_edit:
                         self.engineer.commit([Put("U7", self.engineer.revision("U7"), WRONG)])
+                        self.engineer.wait("faults", "U7")  # The clock of the workers is another one.
                         next_edit += seconds / edits
                 return board.news(0, None).calls - before
 

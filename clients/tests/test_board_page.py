@@ -16,6 +16,12 @@ from bench61499 import Put, Session
 SETTLED = "board.connected && count().pending === 0 && board.units.size === "
 PICTURE = os.environ.get("BENCH61499_BOARD_PICTURE")
 """Where the picture for the document is written, if anywhere; beside it the dark one."""
+# Keeps all that is said: what comes later takes its place in the page.
+HEAR = """(() => {
+  const said = document.getElementById("said");
+  window.heard = [said.textContent];
+  new MutationObserver(() => heard.push(said.textContent)).observe(said, { childList: true, characterData: true, subtree: true });
+})()"""
 # Each control that has no name, and each list, tab or field without its role.
 UNNAMED = """(() => {
   const named = (it) => (it.getAttribute("aria-label") ?? it.labels?.[0]?.textContent ?? "").trim() || it.textContent.trim() || it.getAttribute("aria-labelledby");
@@ -37,6 +43,7 @@ class PageTest(BoardTest):
     def see(self, at: Address, units: int, place: str = "") -> None:
         self.browser.open(at.url + place)
         self.browser.until(f"{SETTLED}{units}")
+        self.browser.value(HEAR)
 
     def see_conveyor(self, place: str = "") -> Address:
         at = self.conveyor()
@@ -51,6 +58,14 @@ class PageTest(BoardTest):
     def until_words(self, selector: str, words: str) -> None:
         self.browser.until(f"document.querySelector('{selector}')?.textContent.includes({words!r})")
 
+    def until_seen(self, selector: str, words: str) -> None:
+        """Waits until exactly these words are seen, whatever is between them."""
+        self.browser.until(f"document.querySelector('{selector}')?.innerText.split(/\\s+/).filter(Boolean).join(' ') === {words!r}")
+
+    def until_said(self, words: str) -> None:
+        """Waits until something is said to those who can't see the page, or was said since it was opened."""
+        self.browser.until(f"heard.some((it) => it.includes({words!r}))")
+
 
 class UnitsTest(PageTest):
     def test_a_fault_comes_and_goes(self) -> None:
@@ -60,12 +75,12 @@ class UnitsTest(PageTest):
         self.until_words("mark", "IDEL")
         self.assertEqual(self.words(".told"), "STATE_UNKNOWN no state IDEL in this chart; did you mean IDLE?")
         self.assertEqual(self.words(".faults").split("\n"), ["19:13", "STATE_UNKNOWN", "no state IDEL in this chart; did you mean IDLE?"])
-        self.assertEqual(self.words("#counts").split(), "7 units 1 fault in 1 unit 1 system without a plan 0 pending".split())
+        self.until_seen("#counts", "7 units 1 fault in 1 unit 1 system without a plan 0 pending")
         self.assertEqual(self.browser.value("document.title"), "1 fault – .")
-        self.until_words("#said", "FEEDER: 1 fault")
+        self.until_said("FEEDER: 1 fault")
         self.edit("FEEDER.fb", "DONE TO IDEL", "DONE TO IDLE")
         self.browser.until("!document.querySelector('mark') && document.querySelector('.text')")
-        self.until_words("#said", "FEEDER: no faults")
+        self.until_said("FEEDER: no faults")
         lines = self.browser.value("[...document.querySelectorAll('#changes li')].map((it) => it.innerText.replace(/\\n+\\S+, /, ' '))")
         self.assertEqual(lines, ["FEEDER revision 1 → 3, 2 changes FEEDER.fb"])
 
@@ -321,7 +336,7 @@ class EverybodyTest(PageTest):
         self.browser.until("network?.scale > 0")
         self.browser.press("v", "Right", "Right")
         self.assertEqual(self.browser.value("network.chosen.path"), "LINE.FIRST.LIFT")
-        self.until_words("#said", "LINE.FIRST.LIFT, LIFTER, on NORTH.MOTION, 5 links")
+        self.until_said("LINE.FIRST.LIFT, LIFTER, on NORTH.MOTION, 5 links")
         self.browser.press("i")
         self.browser.until("document.querySelector('.l.at')")
         self.assertEqual(self.words("#unit"), "STATION")

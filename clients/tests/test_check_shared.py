@@ -4,17 +4,18 @@ from __future__ import annotations
 import argparse
 import contextlib
 import io
-import threading
+import subprocess
 import unittest
 from subprocess import CompletedProcess
 from unittest.mock import patch
 
-from support import HISTORY, InFolder, hosting, run, serving, used
+from support import CLIENTS, HISTORY, InFolder, hosting, run, serving, used
 
 from bench61499 import ConnectionEnded, NotLetIn, Put, Session, batches
 from bench61499.cli.command import AGAIN, persistently
+from bench61499.cli.looking import ONLY_ASKED
 
-ASKED = "The workbench was only asked. It gives no text back, so its texts may be others than these files.\n"
+ASKED = f"{ONLY_ASKED}\n"
 GOOD, BAD = "FUNCTION_BLOCK A END_FUNCTION_BLOCK", "FUNCTION_BLOCK A EVENT_INPUT E WITH X; END_EVENT END_FUNCTION_BLOCK"
 
 
@@ -78,9 +79,12 @@ class SharedTest(InFolder):
         self.write("a.fb", GOOD)
         with hosting("--sessions", "1") as port, Session.connect("127.0.0.1", port) as other:
             other.commit([Put("A", 0, GOOD)])
-            threading.Timer(1.5, other.close).start()
-            ran = self.check(port)
-            self.assertEqual((ran.returncode, ran.stderr), (0, "all sessions of the workbench are in use; trying again\n"))
+            words = [str(CLIENTS / "check"), ".", "--connect", f":{port}"]
+            with subprocess.Popen(words, cwd=self.folder, stdout=subprocess.DEVNULL, stderr=subprocess.PIPE, text=True) as check:
+                assert check.stderr
+                self.assertEqual(check.stderr.readline(), "all sessions of the workbench are in use; trying again\n")
+                other.close()
+                self.assertEqual((check.stderr.read(), check.wait()), ("", 0))
 
     def test_few_calls(self):
         """One for each unit; and to put what came by one commit, two for 16 units."""

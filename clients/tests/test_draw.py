@@ -3,9 +3,10 @@ import re
 import shutil
 import unittest
 
-from support import InFolder, run, serving, workbench
+from support import InFolder, hosting, run, serving, workbench
 
 from bench61499 import NoSuchKey, Put, Session
+from bench61499.cli.looking import ONLY_ASKED
 
 
 def computes_nets() -> bool:
@@ -89,6 +90,25 @@ class PictureTest(DrawTest):
             ran = run("draw", "STATION", "--connect", f":{port}")
         self.assertIn('"BELT":"adapter NEXT":e -> "LIFT":"adapter BEFORE":w', ran.stdout)
 
+    def test_a_workbench_that_others_use_is_only_asked(self):
+        """The picture has the workbench's network, and the ports of the files."""
+        with hosting() as port, Session.connect("127.0.0.1", port) as other:
+
+            def draw(*words):
+                return run("draw", "STATION", "--files", ".", "--connect", f":{port}", *words, folder=self.folder)
+
+            ran = draw()
+            self.assertEqual((ran.returncode, ran.stdout), (1, ""))
+            self.assertEqual(ran.stderr, f"{ONLY_ASKED}\ndraw: the workbench has no subapplication or system STATION\n")
+            self.assertEqual(other.revision("STATION"), 0)
+            before = draw("--replace").stdout
+            self.assertEqual(before, self.draw("STATION").stdout)
+            text = (self.folder / "STATION.fb").read_text()
+            self.write("STATION.fb", text.replace("LIFT", "HOIST").replace("HOISTER", "LIFTER").replace("HOISTED", "LIFTED"))
+            ran = draw()
+            self.assertEqual((ran.returncode, ran.stdout, ran.stderr), (0, before, f"{ONLY_ASKED}\n"))
+            self.assertIn('"HOIST"', draw("--replace").stdout)
+
     @unittest.skipUnless(shutil.which("dot"), "there is no Graphviz here")
     def test_svg(self):
         self.assertEqual(self.draw("PLANT", "--svg", "plant.svg").stdout, "")
@@ -96,7 +116,7 @@ class PictureTest(DrawTest):
 
     def test_no_network(self):
         self.write("LAMP.fb", "FUNCTION_BLOCK LAMP")
-        self.refused(1, "PLANT has no network, as it rests on units that are not there or not sound (with faults: LAMP, PLANT)", "PLANT")
+        self.refused(1, "PLANT has no network: LAMP and PLANT have faults", "PLANT")
         self.write("PLANT.fb", "SYSTEM PLANT")
         self.refused(1, "PLANT has no network, as its text has a SYNTAX fault; check shows it", "PLANT")
 

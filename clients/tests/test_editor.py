@@ -9,7 +9,7 @@ from support import CLIENTS, workbench
 
 class EditorTest(unittest.TestCase):
     def test_neovim(self):
-        ran = subprocess.run([CLIENTS / "tests" / "editor", "--program", workbench()], capture_output=True, text=True, timeout=120)
+        ran = subprocess.run([CLIENTS / "tests" / "editor", "--program", workbench()], capture_output=True, text=True, timeout=700)
         if ran.returncode == 77:
             self.skipTest(ran.stdout.strip())
         self.assertEqual(ran.returncode, 0, ran.stdout + ran.stderr)

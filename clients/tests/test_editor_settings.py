@@ -15,9 +15,11 @@ from typing import NamedTuple
 from support import CLIENTS, InFolder, workbench
 
 EDITORS = CLIENTS.parent / "editors"
+PATIENCE = 120
+"""Seconds after which an editor is ended."""
 FAULT = "no state MOVE in this chart; did you mean MOVING?"
 NEOVIM_SCRIPT = """
-vim.wait(20000, function() return #vim.diagnostic.get(0) > 0 end, 20)
+vim.wait(100000, function() return #vim.diagnostic.get(0) > 0 end, 20)
 for _, it in ipairs(vim.diagnostic.get(0)) do vim.fn.writefile({ it.lnum + 1 .. ': ' .. it.message }, 'shown', 'a') end
 vim.cmd('qall!')
 """
@@ -50,11 +52,11 @@ call timer_start(50, 'Look', {'repeat': -1})
 
 
 def in_terminal(words: list[str], folder: Path, surroundings: dict[str, str]) -> str:
-    """Runs a program in a terminal that nobody looks at, for half a minute at most; gives what it wrote there."""
+    """Runs a program in a terminal that nobody looks at, for some time at most; gives what it wrote there."""
     ours, theirs = pty.openpty()
     with subprocess.Popen(["setsid", "--ctty", "--wait", *words], cwd=folder, env=surroundings, stdin=theirs, stdout=theirs, stderr=theirs) as process:
         os.close(theirs)
-        limit = threading.Timer(30, process.kill)
+        limit = threading.Timer(PATIENCE, process.kill)
         limit.start()
         written = b"".join(iter(lambda: read_from(ours), b""))
         limit.cancel()
@@ -144,7 +146,7 @@ class SettingsTest(InFolder):
     def test_a_newer_neovim(self) -> None:
         init = self.settings(NEOVIM, STAND_INS)
         init.write_text(f"{init.read_text()}vim.fn.writefile({{ vim.json.encode(calls) }}, 'shown')\n")
-        subprocess.run(["nvim", "--headless", "-n", "-c", "qall!"], cwd=self.folder, env=self.surroundings, check=True, capture_output=True, timeout=30)
+        subprocess.run(["nvim", "--headless", "-n", "-c", "qall!"], cwd=self.folder, env=self.surroundings, check=True, capture_output=True, timeout=PATIENCE)
         config = {"cmd": [str(CLIENTS / "lsp")], "root_dir": str(self.folder), "filetypes": ["fb61499"]}
         self.assertEqual(json.loads((self.folder / "shown").read_text()), {"config": ["bench61499", config], "enable": "bench61499"})
 

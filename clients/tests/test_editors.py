@@ -9,7 +9,9 @@ from pathlib import Path
 
 from support import CLIENTS, CONVEYOR, InFolder, serving
 
-OTHERS = "the workbench has {} from another session, at revision 1; edit or save to put this text over it"
+OTHERS = "perhaps not checked: the workbench has {} from another session, at revision 1; edit or save to put this text over it"
+PATIENCE = 120
+"""Seconds after which something does not come any more."""
 SCRIPT = """
 dofile(vim.g.settings)
 
@@ -39,7 +41,7 @@ function Undo(file)
   return 'undone'
 end
 
-function Messages() return vim.fn.execute('messages') end
+function Ready() return 'ready' end
 """
 
 
@@ -56,19 +58,19 @@ class Neovim:
         server = f"let g:settings = '{settings}' | let g:bench61499_server = ['{CLIENTS / 'lsp'}', '--connect', ':{port}']"
         words = ["nvim", "--headless", "--clean", "-n", "--listen", "socket", "--cmd", server, "-c", "luafile script.lua"]
         self._process = subprocess.Popen(words, cwd=folder, stdin=subprocess.DEVNULL, stdout=subprocess.DEVNULL, stderr=subprocess.DEVNULL)
-        while not (folder / "socket").exists():
+        while not (folder / "socket").exists() or self.ask("Ready") != "ready":
             time.sleep(0.02)
 
     def ask(self, function: str, *arguments: str) -> str:
         """What a function of the script gives."""
         call = f"{function}({', '.join(f'[[{it}]]' for it in arguments)})"
         words = ["nvim", "--server", "socket", "--remote-expr", f"luaeval('{call}')"]
-        ran = subprocess.run(words, cwd=self._folder, capture_output=True, text=True, timeout=30)
+        ran = subprocess.run(words, cwd=self._folder, capture_output=True, text=True, timeout=PATIENCE)
         return (ran.stdout + ran.stderr).strip()
 
     def await_shown(self, file: str, expected: str) -> str:
         """Waits until something, or nothing, is shown of a file; gives what is."""
-        end = time.monotonic() + 30
+        end = time.monotonic() + PATIENCE
         while (shown := self.ask("Shown", file)) != expected and time.monotonic() < end:
             time.sleep(0.1)
         return shown
@@ -96,7 +98,7 @@ class TwoEditorsTest(InFolder):
             self.see(one, "STATION.fb", "")
             other = self.editor("other", port, "FEEDER.fb", "PLANT.fb")
             for unit in ("FEEDER", "PLANT"):
-                self.see(other, f"{unit}.fb", f"1: : not checked: {OTHERS.format(unit)}")
+                self.see(other, f"{unit}.fb", f"1: : {OTHERS.format(unit)}")
             other.ask("Replace", "FEEDER.fb", "START WITH", "BEGIN WITH")
             self.see(one, "STATION.fb", "12: PORT_UNKNOWN: no event BELT.START to connect")
             other.ask("Undo", "FEEDER.fb")

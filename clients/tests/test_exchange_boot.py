@@ -5,7 +5,10 @@ import subprocess
 import unittest
 
 from exchanging import ExchangeTest
-from support import run, workbench
+from support import hosting, run, workbench
+
+from bench61499 import Session
+from bench61499.cli.looking import ONLY_ASKED
 
 MAKER = """\
 FUNCTION_BLOCK Maker
@@ -176,6 +179,25 @@ class BootTest(ExchangeTest):
         ran = run("exchange", "boot", "cell", "--files", "lib", "--to", "boot", "--program", workbench(), folder=self.folder)
         self.assertEqual(ran.returncode, 2)
         self.assertEqual(ran.stderr, "exchange: boot/Cell_D1.fboot: is there already, with another text; give --replace to write over it\n")
+
+    def test_a_workbench_that_others_use_is_only_asked(self) -> None:
+        given = system("APPLICATION App FBS X : Maker; END_FBS END_APPLICATION", "App ON D1.R1;")
+        self.write("lib/Cell.fb", given)
+        with hosting() as port, Session.connect("127.0.0.1", port) as other:
+
+            def boot() -> tuple[int, str]:
+                ran = run("exchange", "boot", "cell", "--files", "lib", "--to", "boot", "--connect", f":{port}", folder=self.folder)
+                return ran.returncode, ran.stderr
+
+            self.assertEqual(boot(), (1, f"{ONLY_ASKED}\nexchange: the workbench has no system CELL\n"))
+            self.assertEqual(other.revision("CELL"), 0)
+            self.assertEqual(run("check", "lib", "--connect", f":{port}", "--replace", folder=self.folder).returncode, 0)
+            self.assertEqual(boot(), (0, f"{ONLY_ASKED}\n"))
+            for text in given.replace("X :", "Y :"), given.replace("Maker", "Taker"), given.replace("D2 : PC", "D2 : PC RESOURCE R : E END_RESOURCE"), "SYSTEM Cell":
+                self.write("lib/Cell.fb", text)
+                status, told = boot()
+                self.assertEqual(status, 2)
+                self.assertRegex(told, f"\\A{ONLY_ASKED}\nexchange: the workbench has another text of (Cell|CELL) than these files, or of a subapplication there\n\\Z")
 
     def test_names_of_files(self) -> None:
         text = MAKER.replace("Maker", "Gr__e_A8ACB5EB").replace("Go;", "Go_1_312D9A67;")

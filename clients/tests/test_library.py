@@ -265,7 +265,7 @@ class TroubleTest(InFolder):
     def test_a_server_that_does_not_answer(self):
         with answering(b"") as port, self.assertRaisesRegex(NoAnswer, "within 0.1 seconds: it is busy, or all sessions"):
             Session.connect("127.0.0.1", port, timeout=0.1)
-        with answering(GREETING, b"") as port, Session.connect("127.0.0.1", port, timeout=0.1) as session:
+        with answering(GREETING, b"") as port, Session.connect("127.0.0.1", port, timeout=2) as session:
             self.assertRaises(NoAnswer, session.work, 1)
 
     def test_a_server_that_is_no_workbench(self):

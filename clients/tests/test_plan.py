@@ -3,7 +3,10 @@ from __future__ import annotations
 
 import unittest
 
-from support import InFolder, run, serving, workbench
+from support import InFolder, hosting, run, serving, workbench
+
+from bench61499 import Session
+from bench61499.cli.looking import ONLY_ASKED
 
 SCREEN = """SOUTH.SCREEN:
   CREATE FB LINE.PANEL LAMP
@@ -71,7 +74,27 @@ class PlanTest(InFolder):
         with serving(sessions=2) as port:
             self.assertEqual(run("check", ".", "--connect", f":{port}", "--replace", folder=self.folder).returncode, 0)
             ran = run("plan", "PLANT", "--resource", "SOUTH.SCREEN", "--connect", f":{port}")
-        self.assertEqual(ran.stdout, SCREEN)
+        self.assertEqual((ran.returncode, ran.stdout, ran.stderr), (0, SCREEN, ""))
+
+    def test_a_workbench_that_others_use_is_only_asked(self) -> None:
+        def screen(*words: str) -> tuple[int, str, str]:
+            ran = run("plan", "PLANT", "--resource", "SOUTH.SCREEN", "--files", ".", "--connect", f":{port}", *words, folder=self.folder)
+            return ran.returncode, ran.stdout, ran.stderr
+
+        with hosting() as port, Session.connect("127.0.0.1", port) as other:
+            self.assertEqual(screen(), (1, "", f"{ONLY_ASKED}\nplan: the workbench has no system PLANT\n"))
+            self.assertEqual(other.revision("PLANT"), 0)
+            self.assertEqual(screen("--replace"), (0, SCREEN, ""))
+            there = other.revision("PLANT")
+            self.edit("PLANT.fb", "T#250ms", "T#1s")
+            self.assertEqual(screen(), (0, SCREEN, f"{ONLY_ASKED}\n"))
+            self.assertEqual(other.revision("PLANT"), there)
+            self.assertEqual(screen("--replace"), (0, SCREEN.replace("T#250ms", "T#1s"), ""))
+
+    def test_what_replace_goes_with(self) -> None:
+        for words in (["--files", "."], ["--connect", ":9"]):
+            ran = run("plan", "PLANT", *words, "--replace", folder=self.folder)
+            self.assertEqual((ran.returncode, ran.stderr.splitlines()[-1]), (2, "plan: error: --replace goes with --connect and --files"))
 
 
 if __name__ == "__main__":

@@ -87,6 +87,9 @@ class ReleaseTest(InFolder):
         self.assertIn(f"program   sha256 {hashlib.sha256(Path(workbench()).read_bytes()).hexdigest()}\n", report)
         self.assertIn("proved    not known: the program was named by --program\n", report)
         self.assertTrue(report.endswith("  bench61499\n"))
+        kit = re.search(r"^kit +(rattle\S+)", report, re.M)
+        told = subprocess.run([root / "clients" / "check", "--version"], capture_output=True, text=True).stdout
+        self.assertRegex(told, rf"^check of bench61499 \S+{f', {kit[1]}' if kit else ''}\n$")
         self.assertLess(report.index("  fb_text\n"), report.index("  fb_parse\n"))
 
 

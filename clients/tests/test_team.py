@@ -5,6 +5,7 @@ import subprocess
 import time
 import unittest
 from contextlib import contextmanager
+from pathlib import Path
 from unittest.mock import patch
 
 from editing import Editor, LspTest
@@ -17,7 +18,8 @@ from bench61499.lsp.shared import SharedTexts, Unit, Wanted
 
 GOOD = "FUNCTION_BLOCK A END_FUNCTION_BLOCK"
 BAD = "FUNCTION_BLOCK A EVENT_INPUT E WITH X; END_EVENT END_FUNCTION_BLOCK"
-OTHERS = "not checked: the workbench has A from another session, at revision {}; edit or save to put this text over it"
+PERHAPS = "perhaps not checked: the workbench has A from another session, at revision {}; edit or save to put this text over it"
+ANOTHER = "not checked: the workbench has another text of A, from another session, at revision 1, with 1 fault; edit or save to put this text over it"
 
 
 class TeamTest(LspTest):
@@ -50,7 +52,7 @@ class OthersTest(TeamTest):
             other.commit([Put("A", 0, BAD)])
             editor = self.connected(port)
             editor.open(file)
-            self.await_told(editor, "a.fb", [(3, OTHERS.format(1)), (3, "the workbench has another text of A, with 1 fault")])
+            self.await_told(editor, "a.fb", [(3, ANOTHER)])
             self.assertEqual(other.revision("A"), 1)
             editor.change(file, f"{GOOD} ")
             editor.await_codes(a=[])
@@ -64,9 +66,25 @@ class OthersTest(TeamTest):
             editor = self.connected(port)
             editor.open(file)
             words = "no data input X to go with this event"
-            self.await_told(editor, "a.fb", [(3, OTHERS.format(1)), (2, f"{words} (in the workbench's text)")])
+            self.await_told(editor, "a.fb", [(3, PERHAPS.format(1)), (2, f"{words} (in the workbench's text)")])
             editor.save(file)
             self.await_told(editor, "a.fb", [(1, words)])
+
+    def test_the_same_text_from_somebody_else(self) -> None:
+        """Nobody can tell that it is the same, so nothing says that the text is not checked, and nothing that it is."""
+        file = self.write("a.fb", GOOD)
+        with hosting() as port:
+            other = self.session(port)
+            other.commit([Put("A", 0, GOOD)])
+            editor = self.connected(port)
+            editor.open(file)
+            self.await_told(editor, "a.fb", [(3, PERHAPS.format(1))])
+            editor.save(file)
+            self.await_told(editor, "a.fb", [])
+            self.assertEqual((editor.messages, other.revision("A")), ([], 2))
+            other.commit([Put("A", 2, GOOD)])
+            self.await_told(editor, "a.fb", [(3, PERHAPS.format(3))])
+            self.assertEqual(editor.await_message(), f"bench61499: A is {PERHAPS.format(3)}.")
 
     def test_a_text_is_changed_by_somebody_else(self) -> None:
         file = self.write("a.fb", BAD)
@@ -77,8 +95,8 @@ class OthersTest(TeamTest):
             other.commit([Put("A", 1, GOOD)])
             editor.change(file, f"{BAD} ")
             old = (2, "no data input X to go with this event (as last known)")
-            self.await_told(editor, "a.fb", [(3, OTHERS.format(2)), old])
-            self.assertEqual(editor.await_message(), f"bench61499: A is {OTHERS.format(2)}.")
+            self.await_told(editor, "a.fb", [(3, PERHAPS.format(2)), old])
+            self.assertEqual(editor.await_message(), f"bench61499: A is {PERHAPS.format(2)}.")
             self.assertEqual(other.revision("A"), 2)
             editor.change(file, GOOD, 3)
             editor.await_codes(a=[])
@@ -329,14 +347,33 @@ class TextsTest(unittest.TestCase):
 class QuietTest(InFolder):
     """Changes wait for the last key."""
 
-    def test_a_change_waits(self) -> None:
-        file = self.write("a.fb", GOOD)
+    def opened(self) -> tuple[Checking, Session, Path, list[dict]]:
+        """An open file, its workbench, and what is sent to the editor from now on."""
+        file, session = self.write("a.fb", GOOD), Session.script(workbench())
         shown: list[dict] = []
-        checking = Checking(lambda: Session.script(workbench()), False, shown.append, lambda: None)
+        checking = Checking(lambda: session, False, shown.append, lambda: None)
         self.addCleanup(checking.close)
         checking.open(file.as_uri(), 1, GOOD)
         self.until(checking, lambda: shown)
         shown.clear()
+        return checking, session, file, shown
+
+    def test_thirty_keys_in_six_seconds_are_one_commit(self) -> None:
+        checking, session, file, shown = self.opened()
+        clock = [time.monotonic()]
+        with patch("bench61499.lsp.checking.time.monotonic", lambda: clock[0]):
+            for at in range(30):
+                checking.change(file.as_uri(), 2 + at, [{"text": f"{GOOD}(* {'x' * at} *)"}])
+                checking.step()
+                clock[0] += 0.2
+                checking.step()
+            self.assertEqual((session.revisions, shown), ({"A": 1}, []))
+            clock[0] += QUIET
+            self.until(checking, lambda: shown)
+        self.assertEqual((session.revisions, shown[0]["params"]["version"]), ({"A": 2}, 31))
+
+    def test_a_change_waits(self) -> None:
+        checking, _, file, shown = self.opened()
         checking.change(file.as_uri(), 2, [{"text": BAD}])
         checking.step()
         self.assertLess(0, checking.patience())
@@ -347,8 +384,8 @@ class QuietTest(InFolder):
         self.assertEqual(shown[0]["params"]["version"], 2)
 
     def until(self, checking: Checking, condition) -> None:
-        end = time.monotonic() + 30
-        while not condition() and time.monotonic() < end:
+        end = time.perf_counter() + 120
+        while not condition() and time.perf_counter() < end:
             checking.step()
             time.sleep(0.01)
 

@@ -9,7 +9,7 @@ from bench61499 import Fault, Session, WorkbenchError
 from bench61499.cli.command import Progress, add_workbench, fail, open_session, persistently, program, read_path
 from bench61499.cli.findings import Answers, Found, ask_plans, find
 from bench61499.cli.formats import MACHINE_FORMATS, lines, summary
-from bench61499.cli.looking import Looked, look
+from bench61499.cli.looking import ONLY_ASKED, Looked, look
 from bench61499.cli.version import add_version
 from bench61499.language.units import Misuse, Unit, commit_units, read_units
 
@@ -92,4 +92,4 @@ def output(found: Found, options: argparse.Namespace, replaced: int) -> Iterator
     if replaced:
         yield f"The workbench had {replaced:,} of them before, and has these texts now."
     if options.connect and not options.replace:
-        yield "The workbench was only asked. It gives no text back, so its texts may be others than these files."
+        yield ONLY_ASKED

@@ -35,11 +35,14 @@ def add_workbench(reader: argparse.ArgumentParser) -> None:
 
 def read_with_units(reader: argparse.ArgumentParser) -> argparse.Namespace:
     """Adds the words that say which units there are, and reads all words."""
-    reader.add_argument("--files", nargs="+", type=read_path, metavar="FOLDER|FILE", help="put these units into the workbench first")
+    reader.add_argument("--files", nargs="+", type=read_path, metavar="FOLDER|FILE", help="the units; a workbench of its own is given them")
     add_workbench(reader)
+    reader.add_argument("--replace", action="store_true", help="with --connect and --files: put these files into the workbench first, over what it has of these units")
     options = reader.parse_args()
     if not options.files and not options.connect:
         reader.error("say which units there are: --files FOLDER, or --connect to a workbench that has them")
+    if options.replace and not (options.files and options.connect):
+        reader.error("--replace goes with --connect and --files")
     return options
 
 

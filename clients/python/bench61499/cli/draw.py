@@ -16,6 +16,7 @@ from bench61499.cli.command import fail, program, read_with_units
 from bench61499.cli.version import add_version
 from bench61499.language.explain import KIND_NAMES
 from bench61499.language.network import Box, End, Network, Port, Tag, Wire, homes
+from bench61499.language.plans import why_blocked
 from bench61499.language.tokens import declared_kind
 from bench61499.language.units import Misuse, is_broken
 
@@ -61,7 +62,7 @@ def read_options() -> argparse.Namespace:
 
 def ask(options: argparse.Namespace) -> tuple[Texts, Flat, Deploy | None]:
     """The texts that are known, the network, and of a system the plan. Raises `NoPicture`."""
-    with asking(options) as (session, texts, show):
+    with asking(options, options.replace) as (session, texts, show):
         try:
             net = session.wait("net", options.unit, show)
         except NoSuchKey:
@@ -90,14 +91,12 @@ def why_no_key(session: Session, unit: str, texts: Texts) -> str:
 def why_no_net(session: Session, unit: str, net: Net) -> str:
     match net:
         case Blocked(units):
-            missing = [it for it in units if not session.revision(it)]
-            faulty = [it for it in units if it not in missing]
-            reasons = [f"{title}: {', '.join(its)}" for title, its in (("missing", missing), ("with faults", faulty)) if its]
-            return f"{unit} has no network, as it rests on units that are not there or not sound ({'; '.join(reasons)})"
+            absent = [it for it in units if not session.revision(it)]
+            return f"{unit} has no network: {why_blocked(absent, [it for it in units if it not in absent])}"
         case Recursive(units):
-            return f"{unit} has no network, as units hold themselves: {', '.join(units)}"
+            return f"{unit} has no network: these types contain themselves: {', '.join(units)}"
         case TooLarge():
-            return f"{unit} has no network, as it would have more than 4,096 instances"
+            return f"{unit} has no network: it has more than 4,096 instances"
     raise AssertionError(net)
 
 

@@ -10,7 +10,7 @@ from bench61499 import Net, Session, WorkbenchError
 from bench61499.cli.command import add_workbench, program, read_path
 from bench61499.cli.plan import NoPlan, ask, plan_in
 from bench61499.cli.version import add_version
-from bench61499.exchange.boot import KINDS_OF_START, Boot, Refused, Start, find_start
+from bench61499.exchange.boot import KINDS_OF_START, Boot, Refused, Start, another_text, find_start
 from bench61499.exchange.exports import Export
 from bench61499.exchange.folders import Target, Unwritable
 from bench61499.exchange.from_text import read_or_none
@@ -72,7 +72,7 @@ def _add_boot(works: argparse._SubParsersAction[argparse.ArgumentParser]) -> Non
         "or write, or two blocks would have one name.",
     )
     reader.add_argument("unit", type=str.upper, metavar="SYSTEM", help="a system")
-    reader.add_argument("--files", required=True, nargs="+", type=read_path, metavar="FOLDER|FILE", help="the units, which are put into the workbench first")
+    reader.add_argument("--files", required=True, nargs="+", type=read_path, metavar="FOLDER|FILE", help="the units; a workbench of its own is given them, and one that others use is only asked")
     _add_target(reader)
     for kind in KINDS_OF_START:
         words = f"an event input that START.{kind} leads to, such as LINE.FIRST.START; may be given more than once"
@@ -144,8 +144,9 @@ def boot_of(options: argparse.Namespace) -> Boot:
         for name in {it.type for it in starts if types[it.type].kind == "SUBAPPLICATION"}:
             nets[name] = session.wait("net", name)
 
-    plan = plan_in(options.unit, ask(options, ask_nets))
-    assert spellings
+    plan = plan_in(options.unit, ask(options, False, ask_nets))
+    if not spellings:  # The file's text has a SYNTAX fault.
+        raise another_text(options.unit)
     return Boot(plan, spellings, starts, nets, options.applications)
 
 

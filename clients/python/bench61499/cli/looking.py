@@ -10,6 +10,7 @@ from bench61499 import Fault, NoSuchKey, Session
 from bench61499.language.fitting import fits
 from bench61499.language.units import Unit
 
+ONLY_ASKED = "The workbench was only asked. It gives no text back, so its texts may be others than these files."
 FIRST_PAUSE, LONGEST_PAUSE = 0.02, 1.0
 """Seconds between two questions for faults that are being computed; each further pause is twice as long."""
 

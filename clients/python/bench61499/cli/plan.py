@@ -29,7 +29,7 @@ class NoPlan(Exception):
 def main() -> int:
     options = read_options()
     try:
-        plan = of_resource(options.resource, options.unit, plan_in(options.unit, ask(options)))
+        plan = of_resource(options.resource, options.unit, plan_in(options.unit, ask(options, options.replace)))
         if not plan.resources and not options.json:
             print(f"plan: {options.unit} has no resources, and so there is nothing to tell them", file=sys.stderr)
         for line in [as_json(options.unit, plan)] if options.json else lines(plan):
@@ -58,9 +58,9 @@ def read_options() -> argparse.Namespace:
     return read_with_units(reader)
 
 
-def ask(options: argparse.Namespace, ask_more: Callable[[Session], object] = lambda _: None) -> Deploy:
-    """What is known of the system's plan; `ask_more` is called before with the session. Raises `NoPlan` where the unit is no system."""
-    with asking(options) as (session, texts, show):
+def ask(options: argparse.Namespace, puts: bool, ask_more: Callable[[Session], object] = lambda _: None) -> Deploy:
+    """What is known of the system's plan; `puts` as for `asking`, and `ask_more` is called before with the session. Raises `NoPlan` where the unit is no system."""
+    with asking(options, puts) as (session, texts, show):
         ask_more(session)
         try:
             return session.wait("deploy", options.unit, show)
@@ -71,7 +71,7 @@ def ask(options: argparse.Namespace, ask_more: Callable[[Session], object] = lam
 def why_no_key(session: Session, unit: str, kind: str | None) -> str:
     if is_broken(session, unit):
         return f"{unit} has no plan, as its text has a SYNTAX fault; check shows it"
-    what = KIND_NAMES.get(kind or "") or what_is(session, unit)
+    what = KIND_NAMES[kind] if kind and kind != "SYSTEM" else what_is(session, unit)
     return f"{unit} is {what}; only systems have plans" if what else f"the workbench has no system {unit}"
 
 

@@ -20,6 +20,10 @@ class Refused(Exception):
     """No boot files are made; the text tells why."""
 
 
+def another_text(system: str) -> Refused:
+    return Refused(f"the workbench has another text of {system} than these files, or of a subapplication there")
+
+
 @dataclass(frozen=True)
 class Start:
     """An event input that a resource begins with, COLD or WARM: `end` as the user names it, its instance in upper case, that one's type, and its port."""
@@ -56,12 +60,21 @@ class Boot:
 
     def __init__(self, plan: Plan, spellings: Spellings, starts: list[Start], nets: dict[str, Net], applications: bool):
         self._plan, self._spellings, self._starts, self._nets, self._applications = plan, spellings, starts, nets, applications
-        self._homes = {words[2]: it.name for it in plan.resources for words in map(_words, it.commands) if words[:2] == ["CREATE", "FB"]}
+        self._homes = {path: it.name for it in plan.resources for path, _ in _blocks(it)}
+        self._check_texts()
         self._led = {it: self._places_of(it) for it in starts}
         self.files: dict[str, str] = {}
         for device in spellings.system.devices:
             if device.resources:
                 self.files[self._file_name(device)] = "".join(f"{line}\n" for line in self._device(device).lines)
+
+    def _check_texts(self) -> None:
+        """Raises `Refused` if the plan is of another text of the system, which a workbench that others use may have."""
+        devices = self._spellings.system.devices
+        resources = {f"{device.itself.name}.{its.name}".upper() for device in devices for its in device.resources}
+        types = {path: found.unit.name.upper() for path in self._homes if (found := self._spellings.instance(path)) and found.unit}
+        if resources != {it.name for it in self._plan.resources} or types != dict(block for it in self._plan.resources for block in _blocks(it)):
+            raise another_text(self._spellings.system.name)
 
     def _file_name(self, device: Device) -> str:
         system = self._spellings.system
@@ -130,11 +143,10 @@ class Boot:
 
     def _check_names(self, plan: Resource) -> None:
         """Raises `Refused` if two blocks of a resource would have one name, or one that of what holds another one."""
-        paths = [words[2] for words in map(_words, plan.commands) if words[:2] == ["CREATE", "FB"]]
         owners: dict[str, str] = {}
         is_started = any(self._homes.get(place.block) == plan.name for its in self._led.values() for place in its)
         containers = {_START: "the block START of the resource"} if is_started else {}
-        for path in paths:
+        for path, _ in _blocks(plan):
             name = self._block(path)
             if name in owners:
                 raise Refused(f"{plan.name} would have two blocks {name}: {owners[name]} and {path}{self._advice()}")
@@ -199,6 +211,11 @@ class Boot:
 
     def _link(self, it: Link) -> str:
         return f"{it.sort} {self._place(self.place(it.source))} -> {self._place(self.place(it.destination))}"
+
+
+def _blocks(plan: Resource) -> Iterator[tuple[str, str]]:
+    """The paths and the types of the blocks of a resource."""
+    yield from ((words[2], words[3]) for words in map(_words, plan.commands) if words[:2] == ["CREATE", "FB"])
 
 
 def _words(command: str) -> list[str]:

@@ -59,7 +59,9 @@ class Reasons:
     def _of_net(self, unit: str, what: str, net: Blocked | Recursive | TooLarge) -> Iterator[Reason]:
         match net:
             case Blocked(units) if units != (unit,):
-                yield Reason(unit, "BLOCKED", *self._way(unit, units), f"{unit} has no {what}: {self._why_blocked(units)}")
+                absent = [it for it in units if not self._texts.unit(it)]
+                why = why_blocked(absent, [it for it in units if it not in absent])
+                yield Reason(unit, "BLOCKED", *self._way(unit, units), f"{unit} has no {what}: {why}")
             case Recursive(units):
                 yield from (self._loop(it) for it in units if it not in self._told and self._texts.unit(it))
                 self._told.update(units)
@@ -67,12 +69,6 @@ class Reasons:
                     yield Reason(unit, "RECURSIVE", *self._way(unit, units), f"{unit} has no {what}: {_contain(units)}")
             case TooLarge():
                 yield Reason(unit, "TOO_LARGE", *self._name(unit), f"{unit} has no {what}: it has more than 4,096 instances")
-
-    def _why_blocked(self, units: Sequence[str]) -> str:
-        absent = [it for it in units if not self._texts.unit(it)]
-        faulty = [it for it in units if it not in absent]
-        parts = [(absent, "is absent", "are absent"), (faulty, "has faults", "have faults")]
-        return ", ".join(f"{_some(its)} {one if len(its) == 1 else many}" for its, one, many in parts if its)
 
     def _loop(self, unit: str) -> Reason:
         """A type that contains itself, at the instance that leads back to it."""
@@ -133,6 +129,12 @@ class Reasons:
                 waiting += new
             self._below[unit] = frozenset(found)
         return self._below[unit]
+
+
+def why_blocked(absent: Sequence[str], faulty: Sequence[str]) -> str:
+    """Which units are in the way of a network."""
+    parts = [(absent, "is absent", "are absent"), (faulty, "has faults", "have faults")]
+    return ", ".join(f"{_some(its)} {one if len(its) == 1 else many}" for its, one, many in parts if its)
 
 
 def why_misplaced(it: Misplaced) -> str:

@@ -11,7 +11,7 @@ from bench61499 import TEXT_LIMIT, Fault, Places, Session
 from bench61499.language.explain import Names
 from bench61499.language.plant import Plant
 from bench61499.language.tokens import declaration
-from bench61499.lsp.diagnoses import diagnostic, explained, marked, not_checked, of_another, whose
+from bench61499.lsp.diagnoses import diagnostic, explained, marked, of_others, remark, whose
 from bench61499.lsp.documents import Diagnostic, Document, Source
 from bench61499.lsp.related import related
 from bench61499.lsp.rpc import INFO, WARNING, Message, tell
@@ -186,9 +186,10 @@ class Checking:
 
     def _tell_taken(self, unit: str) -> None:
         """Tells the user of an open text that somebody else has put another one, or has removed it."""
-        it = self._units[unit]
-        if self._sources.owners.get(unit) in self._sources.documents and it.text is None:
-            self._tell(WARNING, f"{unit} is not checked: {whose(unit, it)}.")
+        it, path = self._units[unit], self._sources.owners.get(unit)
+        document = self._sources.documents.get(path) if path else None
+        if document and it.text is None:
+            self._tell(WARNING, f"{unit} is {whose(unit, it, document.text, self._faults.get(unit, ()))}.")
 
     # What is shown
 
@@ -232,7 +233,7 @@ class Checking:
         if source.unit is None:
             return [self._double(document.text)] if document else []
         if self._talk.trouble:
-            return self._unknown(path, source.text, self._talk.trouble, bool(document))
+            return self._unknown(path, source.text, f"not checked: {self._talk.trouble}", bool(document))
         it = self._units.get(source.unit)
         return self._known(path, source.text, source.unit, it, bool(document)) if it else None
 
@@ -246,17 +247,15 @@ class Checking:
             self._others.pop(path, None)
             self._found[path] = self._related(path, text, faults, explained(text, faults, names, texts))
             return self._found[path]
-        if not it.revision:
-            return self._unknown(path, text, whose(unit, it), True)
-        if path in self._found and is_open:
-            return self._unknown(path, text, whose(unit, it), True)
-        told = [not_checked(text, whose(unit, it))] if is_open else []
-        self._others[path] = of_another(unit, text, faults or (), names, texts)
-        return [*told, *self._others[path]]
+        why = whose(unit, it, text, faults or ())
+        if not it.revision or path in self._found and is_open:
+            return self._unknown(path, text, why, True)
+        self._others[path] = of_others(text, faults or (), names, texts)
+        return [*([remark(text, why)] if is_open else []), *self._others[path]]
 
     def _unknown(self, path: Path, text: str, why: str, is_told: bool) -> list[Diagnostic]:
         """The last faults that were found of a text, marked as such, and why there are no newer ones."""
-        return [*([not_checked(text, why)] if is_told else []), *marked(self._found.get(path) or self._others.get(path) or [], OLD)]
+        return [*([remark(text, why)] if is_told else []), *marked(self._found.get(path) or self._others.get(path) or [], OLD)]
 
     def _related(self, path: Path, text: str, faults: tuple[Fault, ...], shown: list[Diagnostic]) -> list[Diagnostic]:
         """Faults with the places where what they name is declared."""

@@ -22,10 +22,6 @@ def remark(text: str, words: str) -> Diagnostic:
     return diagnostic(places, 0, len(text.split("\n", 1)[0].rstrip("\r").encode()), words, severity=INFO)
 
 
-def not_checked(text: str, why: str) -> Diagnostic:
-    return remark(text, f"not checked: {why}")
-
-
 def explained(text: str, faults: tuple[Fault, ...], names: Names, texts: Texts) -> list[Diagnostic]:
     """The faults of a text in the words of an engineer."""
     if not faults:
@@ -39,20 +35,21 @@ def marked(shown: list[Diagnostic], words: str) -> list[Diagnostic]:
     return [{**it, "severity": WARNING, "message": f"{it['message']} ({words})"} for it in shown]
 
 
-def of_another(unit: str, text: str, faults: tuple[Fault, ...], names: Names, texts: Texts) -> list[Diagnostic]:
-    """The faults of the text that somebody else has put under a unit's name, as far as they can be those of this text."""
-    if not faults:
-        return []
-    if not fits(text, faults):
-        number = f"{len(faults):,} fault{'' if len(faults) == 1 else 's'}"
-        return [remark(text, f"the workbench has another text of {unit}, with {number}")]
-    return marked(explained(text, faults, names, texts), "in the workbench's text")
+def of_others(text: str, faults: tuple[Fault, ...], names: Names, texts: Texts) -> list[Diagnostic]:
+    """The faults of what somebody else has put, if they can be those of this text."""
+    return marked(explained(text, faults, names, texts), "in the workbench's text") if fits(text, faults) else []
 
 
-def whose(unit: str, it: Unit) -> str:
-    """Why the workbench does not have this text of a unit."""
+def whose(unit: str, it: Unit, text: str, faults: tuple[Fault, ...]) -> str:
+    """Why this text of a unit is not checked, or perhaps not: the workbench gives no text back, so what somebody else has put may be the same.
+
+    `faults` are those that the workbench has found, as far as they are known.
+    """
+    put, over = f"from another session, at revision {it.revision}", "edit or save to put this text over it"
+    if it.revision and fits(text, faults):
+        return f"perhaps not checked: the workbench has {unit} {put}; {over}"
     if it.revision:
-        return f"the workbench has {unit} from another session, at revision {it.revision}; edit or save to put this text over it"
+        return f"not checked: the workbench has another text of {unit}, {put}, with {len(faults):,} fault{'' if len(faults) == 1 else 's'}; {over}"
     if it.is_changed:
-        return f"another session has removed {unit} from the workbench; edit or save to put it back"
-    return f"{unit} is not in the workbench"
+        return f"not checked: another session has removed {unit} from the workbench; edit or save to put it back"
+    return f"not checked: {unit} is not in the workbench"
