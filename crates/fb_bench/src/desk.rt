@@ -190,13 +190,17 @@ impl<'a> Solo<'a> {
 }
 
 impl Desk for Solo<'_> {
-    ghost use Rattle.std.specs.Prelude.{IfErr};
-    ghost use Rattle.fb_bench.specs.Calls.{deed_for};
+    ghost use Rattle.std.specs.Prelude.{IfErr, IfOk, OnErr};
+    ghost use Rattle.fb_bench.specs.Calls.{deed_for, said_in, Suits};
     ghost use Rattle.fb_bench.specs.Solo.{IsOpen, SoloStep};
 
     ghost step = { SoloStep };
 
     fn serve(&mut self, demand: &Demand<'_>) -> Result<Said, AllocError>
+        ensures suits { IfOk result (λ said. Suits (deed_for demand.now) (said_in said)) }
+        ensures step { IfOk result
+            (λ said. SoloStep self.old (deed_for demand.now) (said_in said) self.new) }
+        ensures err { OnErr result (self.new ≡ self.old) }
         ensures open { IfErr result (λ _. IsOpen self.old.bench.now (deed_for demand.now)) }
     {
         match demand {

@@ -24,14 +24,18 @@ impl<'a, R: Wait> Model for Seated<'a, R> {
 }
 
 impl<R: Wait> Desk for Seated<'_, R> {
-    ghost use Rattle.std.specs.Prelude.{IfErr};
-    ghost use Rattle.fb_locked.specs.Bench.Calls.{deed_for};
+    ghost use Rattle.std.specs.Prelude.{◌≡◌, IfErr, IfOk, OnErr};
+    ghost use Rattle.fb_locked.specs.Bench.Calls.{deed_for, said_in, Suits};
     ghost use Rattle.fb_shared.specs.Sitting.{IsCall, SitterStep};
 
     ghost step = { SitterStep };
 
     /// A seat is not alone at its workbench: others may hold receipts of the records that would go at a checkpoint.
     fn serve(&mut self, demand: &Demand<'_>) -> Result<Said, AllocError>
+        ensures suits { IfOk result (λ said. Suits (deed_for demand.now) (said_in said)) }
+        ensures step { IfOk result
+            (λ said. SitterStep self.old (deed_for demand.now) (said_in said) self.new) }
+        ensures err { OnErr result (self.new ≡ self.old) }
         ensures calls { IfErr result (λ _. IsCall (deed_for demand.now)) }
     {
         let Demand::Call(request) = demand else {

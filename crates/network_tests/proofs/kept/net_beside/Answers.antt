@@ -18,5 +18,5 @@ by_name sources unit name kept net false is own e = absurd (let no : ⊥ = cc in
 one_is_right : (sources : Sources) (unit : List ℕ) (kept : PlainNet) → net_at sources unit ≡ Some kept → AreRightHints sources (hint_of unit kept)
 one_is_right sources unit kept own name net e = by_name sources unit name kept net (is_at (name_cmp unit) name) refl own e
 
-pub compute-requires-clause-right : goal.compute-requires-clause-right
-compute-requires-clause-right c = one_is_right (sources_of c.args.library.now) c.args.kept.now.unit (plain_net c.args.kept.now.net) c.requires.kept
+pub net_with-requires-clause-right : goal.net_with-requires-clause-right
+net_with-requires-clause-right c = one_is_right (sources_of c.args.library.now) c.args.kept.now.unit (plain_net c.args.kept.now.net) c.requires.kept

@@ -1,0 +1,17 @@
+//! Tests of hosts: peers come and go over loopback by tables of steps, and each step is compared.
+#![tactic(auto)]
+
+#[cfg(test)]
+mod doors;
+#[cfg(test)]
+mod lines;
+#[cfg(test)]
+mod peers;
+#[cfg(test)]
+mod play;
+#[cfg(test)]
+mod seats;
+#[cfg(test)]
+mod silent;
+#[cfg(test)]
+mod steps;

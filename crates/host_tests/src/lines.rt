@@ -1,0 +1,29 @@
+//! What peers say, and what they are told.
+
+pub(crate) const ASK: &str = "{\"op\":\"ask\",\"kind\":\"net\",\"unit\":\"A\"}\n";
+
+pub(crate) const NO_KEY: &str = "{\"refused\":\"NoSuchKey\"}\n";
+
+pub(crate) const NO_SEAT: &str = "{\"refused\":\"NoSeat\"}\n";
+
+pub(crate) const TAKE: &str = "{\"op\":\"take\"}\n";
+
+pub(crate) const NO_JOB: &str = "{\"job\":0}\n";
+
+pub(crate) const JOB_A: &str = "{\"job\":1,\"kind\":\"faults\",\"unit\":\"A\"}\n";
+
+pub(crate) const COMMIT: &str =
+    "{\"op\":\"commit\",\"changes\":[{\"put\":\"A\",\"base\":0,\"text\":\"FUNCTION_BLOCK A END_FUNCTION_BLOCK\"}]}\n";
+
+pub(crate) const COMMIT_AGAIN: &str =
+    "{\"op\":\"commit\",\"changes\":[{\"put\":\"A\",\"base\":1,\"text\":\"FUNCTION_BLOCK A END_FUNCTION_BLOCK\"}]}\n";
+
+pub(crate) const FIRST: &str = "{\"commit\":1}\n";
+
+pub(crate) const SECOND: &str = "{\"commit\":2}\n";
+
+pub(crate) const ASK_FAULTS: &str = "{\"op\":\"ask\",\"kind\":\"faults\",\"unit\":\"A\"}\n";
+
+pub(crate) const PENDING: &str = "{\"answer\":\"pending\"}\n";
+
+pub(crate) const KNOWN: &str = "{\"faults\":[]}\n";

@@ -1,0 +1,151 @@
+//! What a peer does, and what it is told then.
+use crate::lines::{ASK_FAULTS, KNOWN, PENDING};
+use std::alloc::Global;
+use std::io;
+use std::io::{ErrorKind, Read, Write};
+use std::net::{Net, OpenStream, Shutdown, TcpListener, TcpStream};
+use std::time::Duration;
+
+/// How many milliseconds a peer waits for what it is to be told.
+const BOUND: u64 = 20_000;
+
+/// How many milliseconds pass from one byte to the next where a peer sends one now and then, and how many bytes it sends.
+const NOW_AND_THEN: u64 = 20;
+
+const BYTES: u32 = 500;
+
+/// How often a peer asks until a worker has judged the unit.
+const LOOKS: u32 = 200_000;
+
+/// A peer that has connected.
+pub(crate) fn connect<R: Net<Listener = TcpListener, Stream = TcpStream>>(
+    rt: &R,
+    alloc: Global,
+    port: u16,
+) -> io::Result<TcpStream> {
+    let address = format!(in alloc; "127.0.0.1:{port}")?;
+    let stream = TcpStream::connect(rt, address.as_str())?;
+    stream.set_read_timeout(Some(Duration::from_millis(BOUND)))?;
+    Ok(stream)
+}
+
+/// Sends the text.
+pub(crate) fn say(stream: &TcpStream, text: &str) -> io::Result<()> {
+    let mut stream = stream;
+    stream.write_all(text.as_bytes())
+}
+
+// Sends a line, and reads one.
+fn ask(alloc: Global, stream: &TcpStream, line: &str) -> io::Result<String> {
+    say(stream, line)?;
+    let mut stream = stream;
+    let mut told = String::new(alloc);
+    let mut byte = [0u8; 1];
+    for _ in 0..1_000u32 {
+        if stream.read(&mut byte)? == 0 {
+            break;
+        }
+        told.push(char::from(byte[0]))?;
+        if byte[0] == b'\n' {
+            break;
+        }
+    }
+    Ok(told)
+}
+
+/// Sends the line so often. It gives the last reply, or the first that is not the wanted one.
+pub(crate) fn repeat(
+    alloc: Global,
+    stream: &TcpStream,
+    times: u32,
+    line: &str,
+    wanted: &str,
+) -> io::Result<String> {
+    let mut told = String::new(alloc);
+    for _ in 0..times {
+        told = ask(alloc, stream, line)?;
+        if told.as_str() != wanted {
+            break;
+        }
+    }
+    Ok(told)
+}
+
+// What is said of the unit once a worker has judged it, or after so many looks.
+fn until_known(alloc: Global, stream: &TcpStream) -> io::Result<String> {
+    let mut known = ask(alloc, stream, ASK_FAULTS)?;
+    for _ in 0..LOOKS {
+        if known.as_str() != PENDING {
+            break;
+        }
+        known = ask(alloc, stream, ASK_FAULTS)?;
+    }
+    Ok(known)
+}
+
+fn commit_after(alloc: Global, base: u64) -> io::Result<String> {
+    let line = format!(in alloc;
+        "{{\"op\":\"commit\",\"changes\":[{{\"put\":\"A\",\"base\":{base},\"text\":\"FUNCTION_BLOCK A END_FUNCTION_BLOCK\"}}]}}\n"
+    )?;
+    Ok(line)
+}
+
+/// Commits the unit so often, each time once a worker has judged it. It gives what is said of it last.
+pub(crate) fn rounds(alloc: Global, stream: &TcpStream, times: u64) -> io::Result<String> {
+    let mut known = String::new(alloc);
+    for base in 0..times {
+        ask(alloc, stream, commit_after(alloc, base)?.as_str())?;
+        known = until_known(alloc, stream)?;
+        if known.as_str() != KNOWN {
+            break;
+        }
+    }
+    Ok(known)
+}
+
+/// Sends a blank now and then, until its stream ends. It gives what it was told, or that the stream is still open.
+pub(crate) fn drip(alloc: Global, stream: &TcpStream) -> io::Result<String> {
+    stream.set_read_timeout(Some(Duration::from_millis(NOW_AND_THEN)))?;
+    for _ in 0..BYTES {
+        if say(stream, " ").is_err() || !is_open(stream) {
+            return rest(alloc, stream);
+        }
+    }
+    let open = String::from_str(alloc, "open")?;
+    Ok(open)
+}
+
+// Whether nothing comes, and no end, for some time.
+fn is_open(stream: &TcpStream) -> bool {
+    let mut byte = [0u8; 1];
+    match stream.peek(&mut byte) {
+        Ok(_) => false,
+        Err(error) => error.kind() == ErrorKind::WouldBlock,
+    }
+}
+
+/// Says that it has no more to say, and reads all that it is told.
+pub(crate) fn leave(alloc: Global, stream: &TcpStream) -> io::Result<String> {
+    let _ = stream.shutdown(Shutdown::Write);
+    rest(alloc, stream)
+}
+
+/// Reads all that it is told. Where the other side closes before it has read all, that is the end too.
+pub(crate) fn rest(alloc: Global, stream: &TcpStream) -> io::Result<String> {
+    let mut stream = stream;
+    let mut told = String::new(alloc);
+    let mut byte = [0u8; 1];
+    for _ in 0..1_000u32 {
+        match stream.read(&mut byte) {
+            Ok(0) => break,
+            Ok(_) => told.push(char::from(byte[0]))?,
+            Err(error) => {
+                if error.kind() == ErrorKind::ConnectionReset {
+                    break;
+                }
+                return Err(error);
+            }
+        }
+    }
+    Ok(told)
+}

@@ -1,0 +1,159 @@
+//! A host in this process, and its peers.
+ghost use Rattle.std.specs.Thread.{IsSync};
+
+use crate::steps::{Step, Wrong, first_wrong};
+use fb_host::{Terms, host_on};
+use fb_serve::Ended;
+use fb_wire::MemorySink;
+use fb_wire::bench::Limits;
+use std::alloc::{AllocError, Global};
+use std::net::{Net, OpenListener, TcpListener, TcpStream};
+use std::process::Abort;
+use std::sync::atomic::{AtomicBool, Ordering};
+use std::sync::{Mutex, Wait};
+use std::test::Fail;
+use std::thread;
+use std::thread::{Threads, join};
+use std::time::{Clock, Duration};
+
+/// More milliseconds than a test has.
+pub(crate) const LONG: u64 = 600_000;
+
+/// How often it is looked whether the host has ended, and how many milliseconds pass from one look to the next.
+const LOOKS: u32 = 10_000;
+
+const PAUSE: u64 = 2;
+
+/// A host, the steps of its peers, and what it comes to: what it has said on its errors, how many calls were made, and how many of them since the
+/// start. Where workers make calls these numbers are not told.
+#[derive(Drop)]
+pub(crate) struct Play<'a> {
+    pub(crate) sessions: u8,
+    pub(crate) workers: u8,
+    pub(crate) history: u64,
+    pub(crate) patience: u64,
+    pub(crate) idle: u64,
+    pub(crate) connections: u64,
+    pub(crate) secret: &'a str,
+    pub(crate) steps: &'a [Step<'a>],
+    pub(crate) errors: &'a str,
+    pub(crate) counts: Option<(u64, usize)>,
+}
+
+/// What a host printed, and its close: how many calls were made, how many of them since the start, and how many receipts there are.
+#[derive(Drop)]
+struct Hosted {
+    printed: Vec<u8>,
+    close: Option<(u64, usize, usize)>,
+}
+
+fn terms_of(play: &Play<'_>) -> Option<Terms> {
+    let limits = Limits::new(16, play.history)?;
+    Some(Terms {
+        workers: play.workers,
+        sessions: play.sessions,
+        limits,
+        patience: play.patience,
+        idle: play.idle,
+        connections: play.connections,
+    })
+}
+
+fn close_of(ended: &Ended) -> Option<(u64, usize, usize)> {
+    match &ended.served {
+        Ok(served) => {
+            let bench = &served.closed.bench;
+            let calls = bench.before().saturating_add(bench.len() as u64);
+            Some((calls, bench.len(), served.receipts.len()))
+        }
+        Err(_) => None,
+    }
+}
+
+fn host_in_memory<R: Threads + Wait + Clock + Sync>(
+    rt: &R,
+    alloc: Global,
+    listener: &TcpListener,
+    terms: Terms,
+    secret: &[u8],
+    errors: &Mutex<Vec<u8>>,
+    ended: &AtomicBool,
+) -> Result<Hosted, AllocError> {
+    let mut out = MemorySink::new(alloc, 8192, u64::MAX);
+    let end = host_on(rt, alloc, listener, terms, secret, &mut out, errors);
+    ended.store(true, Ordering::SeqCst);
+    Ok(Hosted {
+        printed: out.as_slice().to_vec(alloc)?,
+        close: close_of(&end),
+    })
+}
+
+// Whether the host ends.
+fn ends<R: Clock>(rt: &R, ended: &AtomicBool) -> bool {
+    for _ in 0..LOOKS {
+        if ended.load(Ordering::SeqCst) {
+            return true;
+        }
+        thread::sleep(rt, Duration::from_millis(PAUSE));
+    }
+    false
+}
+
+// Makes the steps. At the first that goes wrong the test ends, and does not wait for the host; nor does it where the host does not end.
+fn act<R: Net<Listener = TcpListener, Stream = TcpStream> + Wait + Clock + Abort>(
+    rt: &R,
+    alloc: Global,
+    port: u16,
+    errors: &Mutex<Vec<u8>>,
+    ended: &AtomicBool,
+    steps: &[Step<'_>],
+) {
+    match first_wrong(rt, alloc, port, errors, steps) {
+        Ok(None) => assert!(rt; ends(rt, ended), "the host does not end"),
+        Ok(Some(Wrong { place, told })) => panic!(rt; "step {place}: {told}"),
+        Err(error) => panic!(rt; "{error:?}"),
+    }
+}
+
+// Compares what the host has come to.
+fn compare_end<R: Wait + Abort>(
+    rt: &R,
+    alloc: Global,
+    play: &Play<'_>,
+    port: u16,
+    hosted: Hosted,
+    errors: Vec<u8>,
+) -> Result<(), Fail> {
+    let printed = String::from_utf8(hosted.printed).ok().ok_or("no text")?;
+    let wanted = format!(in alloc; "listening on 127.0.0.1:{port}\nclosed\n")?;
+    assert_eq!(rt; printed.as_str(), wanted.as_str());
+    let errors = String::from_utf8(errors).ok().ok_or("no text")?;
+    assert_eq!(rt; errors.as_str(), play.errors);
+    let (calls, len, receipts) = hosted.close.ok_or("not closed")?;
+    assert_eq!(rt; receipts, len);
+    if let Some(counts) = play.counts {
+        assert_eq!(rt; (calls, receipts), counts);
+    }
+    Ok(())
+}
+
+/// Plays, and compares what comes of it with what is wanted.
+pub(crate) fn compare<
+    R: Net<Listener = TcpListener, Stream = TcpStream> + Threads + Wait + Clock + Sync + Abort,
+>(rt: &R, alloc: Global, play: &Play<'_>) -> Result<(), Fail> {
+    let listener = TcpListener::bind(rt, "127.0.0.1:0")?;
+    let port = listener.local_addr()?.port();
+    let terms = terms_of(play).ok_or("limits")?;
+    let secret = play.secret.as_bytes();
+    let steps = play.steps;
+    let errors = Mutex::new(Vec::new(alloc));
+    let ended = AtomicBool::new(false);
+    let (hosted, ()) = join(
+        rt,
+        || -> Result<Hosted, AllocError>
+            requires { IsSync R.row }
+        { host_in_memory(rt, alloc, &listener, terms, secret, &errors, &ended) },
+        || act(rt, alloc, port, &errors, &ended, steps),
+    );
+    compare_end(rt, alloc, play, port, hosted?, errors.into_inner())
+}

@@ -1,0 +1,250 @@
+//! Sessions that follow one another at a seat, over a history that begins anew.
+use crate::lines::{
+    ASK, ASK_FAULTS, COMMIT, COMMIT_AGAIN, FIRST, JOB_A, KNOWN, NO_JOB, NO_KEY, NO_SEAT, SECOND,
+    TAKE,
+};
+use crate::play::{LONG, Play, compare};
+use crate::steps::Step;
+use std::test::Fail;
+
+// A history of 20 calls is filled three times, over two connections.
+const GOES_ON: &[Step<'static>] = &[
+    Step::Connect(1),
+    Step::Repeat(0, 30, ASK, NO_KEY),
+    Step::Leave(0, ""),
+    Step::Connect(1),
+    Step::Repeat(1, 30, ASK, NO_KEY),
+    Step::Leave(1, ""),
+];
+
+#[test]
+fn a_seat_goes_on(rt: HostRuntime) -> Result<(), Fail> {
+    let play = Play {
+        sessions: 1,
+        workers: 0,
+        history: 20,
+        patience: LONG,
+        idle: 0,
+        connections: 2,
+        secret: "",
+        steps: GOES_ON,
+        errors: "",
+        counts: Some((60, 20)),
+    };
+    compare(&rt, rt.alloc(), &play)
+}
+
+const COMMIT_B: &str =
+    "{\"op\":\"commit\",\"changes\":[{\"put\":\"B\",\"base\":0,\"text\":\"FUNCTION_BLOCK B END_FUNCTION_BLOCK\"}]}\n";
+
+const REMOVE: &str = "{\"op\":\"commit\",\"changes\":[{\"remove\":\"A\",\"base\":1}]}\n";
+
+const STALE: &str = "{\"current\":1,\"refused\":\"StaleBase\",\"unit\":\"A\"}\n";
+
+// Each call rolls. Texts, revisions and commit numbers go on.
+const ROLLS_ALWAYS: &[Step<'static>] = &[
+    Step::Connect(1),
+    Step::Ask(0, COMMIT, FIRST),
+    Step::Leave(0, ""),
+    Step::Connect(1),
+    Step::Ask(1, COMMIT, STALE),
+    Step::Ask(1, COMMIT_B, SECOND),
+    Step::Leave(1, ""),
+    Step::Connect(1),
+    Step::Ask(2, REMOVE, "{\"commit\":3}\n"),
+    Step::Leave(2, ""),
+];
+
+#[test]
+fn a_history_of_one_call(rt: HostRuntime) -> Result<(), Fail> {
+    let play = Play {
+        sessions: 1,
+        workers: 0,
+        history: 1,
+        patience: LONG,
+        idle: 0,
+        connections: 3,
+        secret: "",
+        steps: ROLLS_ALWAYS,
+        errors: "",
+        counts: Some((4, 1)),
+    };
+    compare(&rt, rt.alloc(), &play)
+}
+
+// It rolls between a take and its delivery, and twice between a stale base and the commit by it.
+const ROLLS_BETWEEN: &[Step<'static>] = &[
+    Step::Connect(1),
+    Step::Ask(0, COMMIT, FIRST),
+    Step::Ask(0, TAKE, JOB_A),
+    Step::Repeat(0, 3, ASK, NO_KEY),
+    Step::Ask(
+        0,
+        "{\"op\":\"deliver\",\"job\":1}\n",
+        "{\"delivered\":\"accepted\"}\n",
+    ),
+    Step::Ask(0, COMMIT, STALE),
+    Step::Repeat(0, 3, ASK_FAULTS, KNOWN),
+    Step::Ask(0, COMMIT, STALE),
+    Step::Ask(0, COMMIT_AGAIN, SECOND),
+    Step::Leave(0, ""),
+];
+
+#[test]
+fn rolls_are_not_seen(rt: HostRuntime) -> Result<(), Fail> {
+    let play = Play {
+        sessions: 1,
+        workers: 0,
+        history: 2,
+        patience: LONG,
+        idle: 0,
+        connections: 1,
+        secret: "",
+        steps: ROLLS_BETWEEN,
+        errors: "",
+        counts: Some((12, 2)),
+    };
+    compare(&rt, rt.alloc(), &play)
+}
+
+// Workers make more looks than they make before their receipts go to the drawer. What they have done is there for the next connection.
+const WORKERS_GO_ON: &[Step<'static>] = &[
+    Step::Connect(1),
+    Step::Rounds(0, 80),
+    Step::Leave(0, ""),
+    Step::Connect(1),
+    Step::Ask(1, ASK_FAULTS, KNOWN),
+    Step::Ask(
+        1,
+        "{\"op\":\"commit\",\"changes\":[{\"remove\":\"A\",\"base\":80}]}\n",
+        "{\"commit\":81}\n",
+    ),
+    Step::Leave(1, ""),
+];
+
+#[test]
+fn workers_go_on(rt: HostRuntime) -> Result<(), Fail> {
+    let play = Play {
+        sessions: 1,
+        workers: 1,
+        history: 3,
+        patience: LONG,
+        idle: 0,
+        connections: 2,
+        secret: "",
+        steps: WORKERS_GO_ON,
+        errors: "",
+        counts: None,
+    };
+    compare(&rt, rt.alloc(), &play)
+}
+
+// The second comes while the first sits, and is told so before it says anything. Once the first has gone the third gets the seat.
+const TAKEN: &[Step<'static>] = &[
+    Step::Connect(1),
+    Step::Ask(0, ASK, NO_KEY),
+    Step::Connect(1),
+    Step::Rest(1, NO_SEAT),
+    Step::Ask(0, ASK, NO_KEY),
+    Step::Leave(0, ""),
+    Step::Connect(1),
+    Step::Ask(2, COMMIT, FIRST),
+    Step::Leave(2, ""),
+];
+
+#[test]
+fn a_seat_is_taken(rt: HostRuntime) -> Result<(), Fail> {
+    let play = Play {
+        sessions: 1,
+        workers: 0,
+        history: 20,
+        patience: LONG,
+        idle: 0,
+        connections: 3,
+        secret: "",
+        steps: TAKEN,
+        errors: "",
+        counts: Some((3, 3)),
+    };
+    compare(&rt, rt.alloc(), &play)
+}
+
+const COMMIT_ALL: &str =
+    "{\"op\":\"commit\",\"changes\":[{\"put\":\"A\",\"base\":0,\"text\":\"FUNCTION_BLOCK A END_FUNCTION_BLOCK\"},\
+    {\"put\":\"B\",\"base\":0,\"text\":\"FUNCTION_BLOCK B END_FUNCTION_BLOCK\"},\
+    {\"put\":\"C\",\"base\":0,\"text\":\"FUNCTION_BLOCK C END_FUNCTION_BLOCK\"}]}\n";
+
+const JOB_B: &str = "{\"job\":2,\"kind\":\"faults\",\"unit\":\"B\"}\n";
+
+const JOB_C: &str = "{\"job\":3,\"kind\":\"faults\",\"unit\":\"C\"}\n";
+
+// It takes three keys and goes. The next session is given them again, goes half way, and all of them are worked for in the third.
+const GIVEN_BACK: &[Step<'static>] = &[
+    Step::Connect(1),
+    Step::Ask(0, COMMIT_ALL, FIRST),
+    Step::Ask(0, TAKE, JOB_A),
+    Step::Ask(0, TAKE, JOB_B),
+    Step::Ask(0, TAKE, JOB_C),
+    Step::Ask(0, TAKE, NO_JOB),
+    Step::Leave(0, ""),
+    Step::Connect(1),
+    Step::Ask(1, TAKE, JOB_A),
+    Step::Ask(1, TAKE, JOB_B),
+    Step::Ask(1, TAKE, JOB_C),
+    Step::Say(1, "{\"op\":\"take\""),
+    Step::Leave(1, "{\"refused\":\"BadRequest\"}\n"),
+    Step::Connect(1),
+    Step::Ask(2, "{\"op\":\"work\",\"turns\":9}\n", "{\"accepted\":3}\n"),
+    Step::Leave(2, ""),
+];
+
+#[test]
+fn keys_are_given_back(rt: HostRuntime) -> Result<(), Fail> {
+    let play = Play {
+        sessions: 1,
+        workers: 0,
+        history: 100,
+        patience: LONG,
+        idle: 0,
+        connections: 3,
+        secret: "",
+        steps: GIVEN_BACK,
+        errors: "",
+        counts: Some((21, 21)),
+    };
+    compare(&rt, rt.alloc(), &play)
+}
+
+// The first takes a key, which a commit makes anew, and which the second takes then. It stays out when the first goes, and is given back when the
+// second does.
+const STAYS_OUT: &[Step<'static>] = &[
+    Step::Connect(1),
+    Step::Ask(0, COMMIT, FIRST),
+    Step::Ask(0, TAKE, JOB_A),
+    Step::Connect(1),
+    Step::Ask(1, COMMIT_AGAIN, SECOND),
+    Step::Ask(1, TAKE, JOB_A),
+    Step::Leave(0, ""),
+    Step::Connect(1),
+    Step::Ask(2, TAKE, NO_JOB),
+    Step::Leave(1, ""),
+    Step::Ask(2, TAKE, JOB_A),
+    Step::Leave(2, ""),
+];
+
+#[test]
+fn a_key_that_somebody_else_took_stays_out(rt: HostRuntime) -> Result<(), Fail> {
+    let play = Play {
+        sessions: 2,
+        workers: 0,
+        history: 100,
+        patience: LONG,
+        idle: 0,
+        connections: 3,
+        secret: "",
+        steps: STAYS_OUT,
+        errors: "",
+        counts: Some((8, 8)),
+    };
+    compare(&rt, rt.alloc(), &play)
+}

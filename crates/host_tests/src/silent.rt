@@ -1,0 +1,94 @@
+//! Peers that are silent. A wait that ends may have been some milliseconds shorter than was asked for.
+use crate::lines::{NO_JOB, TAKE};
+use crate::play::{LONG, Play, compare};
+use crate::steps::Step;
+use std::test::Fail;
+
+// Each of two sessions falls silent. That is told before its stream ends, and then the seat is free.
+const FALLS_SILENT: &[Step<'static>] = &[
+    Step::Connect(1),
+    Step::Ask(0, TAKE, NO_JOB),
+    Step::Rest(0, ""),
+    Step::Passed(90),
+    Step::Errors("session 1: idle\n"),
+    Step::Connect(1),
+    Step::Ask(1, TAKE, NO_JOB),
+    Step::Rest(1, ""),
+    Step::Errors("session 1: idle\nsession 1: idle\n"),
+];
+
+#[test]
+fn a_silent_session_is_ended(rt: HostRuntime) -> Result<(), Fail> {
+    let play = Play {
+        sessions: 1,
+        workers: 0,
+        history: 20,
+        patience: LONG,
+        idle: 100,
+        connections: 2,
+        secret: "",
+        steps: FALLS_SILENT,
+        errors: "session 1: idle\nsession 1: idle\n",
+        counts: Some((2, 2)),
+    };
+    compare(&rt, rt.alloc(), &play)
+}
+
+// One says nothing, and one sends a byte now and then.
+const SAYS_NOTHING: &[Step<'static>] = &[
+    Step::Connect(1),
+    Step::Rest(0, ""),
+    Step::Passed(190),
+    Step::Connect(1),
+    Step::Drip(1),
+    Step::Passed(380),
+];
+
+#[test]
+fn a_first_line_is_not_waited_for_long(rt: HostRuntime) -> Result<(), Fail> {
+    let play = Play {
+        sessions: 1,
+        workers: 0,
+        history: 20,
+        patience: 200,
+        idle: 0,
+        connections: 2,
+        secret: "",
+        steps: SAYS_NOTHING,
+        errors: "",
+        counts: Some((0, 0)),
+    };
+    compare(&rt, rt.alloc(), &play)
+}
+
+// There are 32 doors. While all of them wait the next connection is closed at once, and one of those that wait can talk. When the others have
+// gone there is entrance.
+const CROWD: &[Step<'static>] = &[
+    Step::Connect(33),
+    Step::Rest(32, ""),
+    Step::Ask(0, TAKE, NO_JOB),
+    Step::Ask(0, TAKE, NO_JOB),
+    Step::LeaveAll(1, 32),
+    Step::Ask(0, TAKE, NO_JOB),
+    Step::Leave(0, ""),
+    Step::Connect(1),
+    Step::Ask(33, TAKE, NO_JOB),
+    Step::Leave(33, ""),
+];
+
+#[test]
+fn doors_are_few(rt: HostRuntime) -> Result<(), Fail> {
+    let play = Play {
+        sessions: 2,
+        workers: 0,
+        history: 20,
+        patience: LONG,
+        idle: 0,
+        connections: 34,
+        secret: "",
+        steps: CROWD,
+        errors: "",
+        counts: Some((4, 4)),
+    };
+    compare(&rt, rt.alloc(), &play)
+}
