@@ -64,6 +64,18 @@ def files(pattern):
     return sorted(os.path.relpath(it, TOP) for it in glob.glob(f"{TOP}/{pattern}", recursive=True))
 
 
+def line_of(path, name):
+    """The line at which a file of code or of definitions defines the name, or else the first that has it. None where none has."""
+    lines = text_of(path).split("\n")
+    defines = re.compile(rf"\b(?:fn|struct|enum|trait|const|static|abbrev|unfoldable|record|data|def)\s+(?:pub\s+)?{re.escape(name)}\b")
+    has = re.compile(rf"\b{re.escape(name)}\b")
+    for form in (defines, has):
+        for number, line in enumerate(lines, 1):
+            if form.search(line):
+                return number
+    return None
+
+
 @functools.cache
 def crates():
     return sorted(os.listdir(f"{TOP}/crates"))

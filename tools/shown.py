@@ -1,5 +1,6 @@
 """Makes docs/SHOWN.md: of each public call, each refusal and each limit how it is shown. Its rows are those of tools/shown.rows."""
 import functools
+import os
 import re
 from collections import Counter
 from dataclasses import dataclass
@@ -35,7 +36,7 @@ GAPS = ("No second form", "No wrong body", "No test", "No refused allocation", "
 
 @dataclass
 class Row:
-    """A line of the file of rows: its kind (promise, call, refused or limit), its crate, its names, and what stands behind each word."""
+    """A line of the file of rows: its kind (promise, call, refused, limit or code), its crate, its names, and what stands behind each word."""
 
     kind: str
     crate: str
@@ -46,7 +47,7 @@ class Row:
         return self.given.get(key, [])
 
     def calls(self):
-        """Of a row of promises its calls, each with its crate: one that is not named again is that of the call before."""
+        """Of a row of promises or of a code its calls, each with its crate: one that is not named again is that of the call before."""
         crate, found = "", []
         for it in self.has("by"):
             first, _, name = it.rpartition(": ")
@@ -103,9 +104,9 @@ def has_plain(name):
 
 
 def has_definition(name):
-    crate, _, rest = name.partition(": ")
-    file, _, item = rest.partition(".")
-    return crate in parts.crates() and (file, item) in parts.definitions(crate)
+    crate, file, item = place_of(name)
+    defines = re.compile(rf"^ *(?:unfoldable |abbrev )?pub (?:data |record )?{item}\s", re.M)
+    return any(defines.search(parts.text_of(it)) for it in parts.files(f"crates/{crate}/specs/**/{file}.antt"))
 
 
 def names_of(test):
@@ -333,25 +334,30 @@ def refused_row(row, gaps):
 # ---- faults of texts
 
 
-@functools.cache
-def codes():
-    """The table of LANGUAGE.md that leads from each code to its definition, its law, its check and its tests."""
-    found = re.findall(r"^\| \d+ \| (`[A-Z_]+`) \| (.*) \| (.*) \| (.*) \| (.*) \|$", parts.text_of("docs/LANGUAGE.md"), re.M)
-    return [it for it in found if "[`" in it[1]]
+def linked(name, path):
+    return f"[`{name}`](../{path}#L{parts.line_of(path, name.rpartition('::')[2])})"
 
 
-def code_row(cells, gaps):
-    (code, _, law, check, tests), word = cells, cells[0].strip("`")
-    said = [it for row in rows("code") if row.names == [word] for it in row.has("edits")]
-    checks = re.findall(r"\[`(\w+)`\]", check)
-    edits = [it for it in parts.edits() if f"{it.crate}: {it.name}" in said or any(f"`{name}`" in it.cell for name in checks)]
-    found = set(re.findall(r"\[`(\w+)`\]", tests))
-    for gap, some in zip(GAPS[1:3], (edits, found)):
+def file_of(crate, folder, stem):
+    """The file of that name in the folder of a crate, however deep."""
+    return next(it for it in parts.files(f"crates/{crate}/{folder}/**/*") if os.path.splitext(os.path.basename(it))[0] == stem)
+
+
+def code_row(row, gaps):
+    (word,), calls = row.names, [parts.function(*it) for it in row.calls()]
+    edits = [it for it in parts.edits() if f"{it.crate}: {it.name}" in row.has("edits") or any(f"`{call.name}`" in it.cell for call in calls)]
+    tests = list({(it.crate, it.file, it.name): it for it, _ in parts.tests() if names_of(it) & set(row.has("tests"))}.values())
+    for gap, some in zip(GAPS[1:3], (edits, tests)):
         gaps[gap] += [] if some else [word]
     places = {"oracle": ORACLE, "plain": parts.files(f"{PLAIN}/faults/*.rs")}
     written = [name for name, paths in places.items() if any(f'"{word}"' in parts.text_of(it) for it in paths)]
-    says = ", ".join(f"`{it}`" for it in re.findall(r"\[`(\w+)`\]", law))
-    return [code, says, ", ".join(written) or NONE, counted(count_edits(edits), []), str(len(found))]
+    cells = [
+        (linked(name, file_of(crate, "specs", file)) for crate, file, name in map(place_of, row.has("defined"))),
+        (linked(it, parts.function(parts.laws()[it], it).file) for it in row.has("laws")),
+        (linked(it.full_name, it.file) for it in calls),
+    ]
+    names = [linked(it.name, file_of(it.crate, "src", it.file)) for it in tests]
+    return [f"`{word}`", *map(", ".join, cells), ", ".join(written) or NONE, counted(count_edits(edits), []), ", ".join(names) or NONE]
 
 
 # ---- limits
@@ -379,10 +385,10 @@ COLUMNS = {
     "call": ["Contract", "Defined by", "In other words", "Written again", "Wrong bodies", "Tests", "No memory"],
     "refused": ["Refusal", "Of", "Defined by", "Written again", "Wrong bodies", "Tests"],
     "limit": ["Limit", "Of", "Defined by", "Written again", "Wrong bodies", "Tests"],
-    "code": ["Code", "Laws", "Written again", "Wrong bodies", "Tests"],
+    "code": ["Code", "Definition", "In other words", "Check", "Written again", "Wrong bodies", "Tests"],
     "gap": ["What is missing", "Of", "Why"],
 }
-CODES = "The definition, the law, the check and the tests of each code stand in [LANGUAGE.md](LANGUAGE.md#faults-fb_iface-fb_faults-fb_expr-fb_ecc-fb_netcheck)."
+CODES = "The rule of each code is in [LANGUAGE.md](LANGUAGE.md#faults-fb_iface-fb_faults-fb_expr-fb_ecc-fb_netcheck)."
 
 
 def table(kind, lines):
@@ -393,12 +399,10 @@ def gap_row(row, _):
     return [row.names[0], ", ".join(f"`{it}`" for it in row.has("without")), ", ".join(row.has("why"))]
 
 
-MAKERS = {"call": call_row, "refused": refused_row, "limit": limit_row, "gap": gap_row}
+MAKERS = {"call": call_row, "refused": refused_row, "limit": limit_row, "code": code_row, "gap": gap_row}
 
 
 def lines_of(kind, some, gaps):
-    if kind == "code":
-        return [code_row(it, gaps) for it in codes()]
     return [MAKERS[kind](it, gaps) for it in some if it.kind == kind]
 
 
@@ -421,7 +425,7 @@ def total():
     by_folder = Counter(it.folder for it in parts.edits())
     gate, beside = (by_folder[it] for it in parts.FOLDERS)
     return (
-        f"{calls} public calls, {len(rows('refused'))} refusals, {len(rows('limit'))} limits, {len(codes())} codes of faults; {len(parts.laws())} laws; "
+        f"{calls} public calls, {len(rows('refused'))} refusals, {len(rows('limit'))} limits, {len(rows('code'))} codes of faults; {len(parts.laws())} laws; "
         f"{gate} wrong bodies in the gate and {beside} beside it, those of calls beneath these too; {len(parts.tests())} tests."
     )
 

@@ -5,7 +5,7 @@ use fb_jobs::Finished;
 use fb_shared::bench::{
     Asked, Committed, Delivered, Desk, DeskCheckpointRefused, DeskRefused, GivenBack, Limits, Taken,
 };
-use fb_shared::{Receipt, Seat, Seated, Shared};
+use fb_shared::{Plain, Receipt, Seat, Seated, Shared, WorkEnd, work_on};
 use std::alloc::Global;
 use std::sync::Wait;
 use std::test::Fail;
@@ -102,8 +102,8 @@ fn refusal_of<R: Wait>(
     Some((refused, desk.receipts.is_empty()))
 }
 
-// a result of a workbench of its own
-fn some_result<R: Wait>(rt: &R, alloc: Global) -> Option<Finished> {
+/// A result of a workbench of its own.
+pub(crate) fn some_result<R: Wait>(rt: &R, alloc: Global) -> Option<Finished> {
     let (shared, mut first, _second) = new_shared(alloc, 5)?;
     let changes = puts(alloc, &["A"])?;
     shared.commit(rt, &mut first, &changes).ok()?;
@@ -169,5 +169,43 @@ fn a_desk_over_a_lock_makes_no_checkpoint(rt: HostRuntime) -> Result<(), Fail> {
     let has_no_receipt = desk.receipts.is_empty() && desk.seat.turns() == 0;
     assert_eq!(rt; refused, Some(DeskCheckpointRefused::NotAlone));
     assert!(rt; has_no_receipt);
+    Ok(())
+}
+
+// why a desk with this seat makes no checkpoint
+fn refused_checkpoint<R: Wait>(
+    rt: &R,
+    alloc: Global,
+    shared: &Shared,
+    seat: Seat,
+) -> Option<DeskCheckpointRefused> {
+    let mut desk = Seated {
+        rt,
+        shared,
+        seat,
+        receipts: Vec::new(alloc),
+    };
+    desk.checkpoint(Limits::new(4, 5)?).err()
+}
+
+// why a desk makes no checkpoint, and how a worker then ends that has a job, with how many receipts
+fn work_after_checkpoint<R: Wait>(
+    rt: &R,
+    alloc: Global,
+) -> Option<(DeskCheckpointRefused, WorkEnd, usize)> {
+    let changes = puts(alloc, &["A"])?;
+    let (shared, mut first, mut second) = new_shared(alloc, 5)?;
+    shared.commit(rt, &mut first, &changes).ok()?;
+    let refused = refused_checkpoint(rt, alloc, &shared, first)?;
+    let mut receipts = Vec::new(alloc);
+    let end = work_on(rt, alloc, &shared, &mut second, &mut receipts, &Plain, 1);
+    Some((refused, end, receipts.len()))
+}
+
+#[test]
+fn workers_go_on_after_a_refused_checkpoint(rt: HostRuntime) -> Result<(), Fail> {
+    let worked = work_after_checkpoint(&rt, rt.alloc());
+    let refused = DeskCheckpointRefused::NotAlone;
+    assert_eq!(rt; worked, Some((refused, WorkEnd::TurnsOver, 2)));
     Ok(())
 }

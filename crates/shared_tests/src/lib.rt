@@ -10,6 +10,8 @@ mod desks;
 #[cfg(test)]
 mod gates;
 #[cfg(test)]
+mod long_jobs;
+#[cfg(test)]
 mod play;
 #[cfg(test)]
 mod resumed;
@@ -19,5 +21,7 @@ mod setup;
 mod threads;
 #[cfg(test)]
 mod waiting;
+#[cfg(test)]
+mod waking;
 #[cfg(test)]
 mod workers;

@@ -1,8 +1,10 @@
 //! A workbench that comes under a lock with the calls that it has: after a checkpoint and without one.
 use crate::play::{Counts, Played, closed, closed_locked, is_without_faults, played_shared};
-use crate::setup::{both_of, faults_of, new_shared, pair};
+use crate::setup::{both_of, faults_of, new_shared, pair, puts};
 use fb_shared::bench::{Bench, Limits, Start};
-use fb_shared::{CloseFault, Locked, Receipt, ResumeFault, Seat, Shared, SharedRefused};
+use fb_shared::{
+    CloseFault, Locked, Plain, Receipt, ResumeFault, Seat, Shared, SharedRefused, WorkEnd, work_on,
+};
 use std::alloc::Global;
 use std::sync::Wait;
 use std::test::Fail;
@@ -264,5 +266,29 @@ fn seats_that_do_not_fit_a_resumed_workbench(rt: HostRuntime) -> Result<(), Fail
     let behind = SharedRefused::Behind { seen: 7, len: 6 };
     let differs = SharedRefused::SeatDiffers { turns: 0, book: 1 };
     assert_eq!(rt; refused_seats(&rt, rt.alloc()), Some((behind, differs)));
+    Ok(())
+}
+
+// a workbench with a job for A
+fn pending_bench(alloc: Global) -> Option<Bench> {
+    let changes = puts(alloc, &["A"])?;
+    let mut bench = Bench::new(alloc, Limits::new(4, 1000)?);
+    bench.commit(1, &changes).ok()?;
+    Some(bench)
+}
+
+// how a worker of one turn ends there, and how many receipts it then has
+fn works_there<R: Wait>(rt: &R, alloc: Global, bench: Bench) -> Option<(WorkEnd, usize)> {
+    let (shared, _first, mut second) = resumed_shared(alloc, bench)?;
+    let mut receipts = Vec::new(alloc);
+    let end = work_on(rt, alloc, &shared, &mut second, &mut receipts, &Plain, 1);
+    Some((end, receipts.len()))
+}
+
+#[test]
+fn a_worker_works_where_it_is_resumed(rt: HostRuntime) -> Result<(), Fail> {
+    let bench = pending_bench(rt.alloc()).ok_or("a workbench")?;
+    let worked = works_there(&rt, rt.alloc(), bench);
+    assert_eq!(rt; worked, Some((WorkEnd::TurnsOver, 2)));
     Ok(())
 }

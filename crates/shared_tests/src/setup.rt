@@ -6,6 +6,9 @@ use fb_shared::parse::Source;
 use fb_shared::{Locked, Seat, Shared};
 use fb_text::Name;
 use std::alloc::Global;
+use std::sync::atomic::{AtomicU64, Ordering};
+use std::thread;
+use std::time::{Clock, Duration};
 
 const PLAIN: &str = "FUNCTION_BLOCK A END_FUNCTION_BLOCK";
 
@@ -27,6 +30,25 @@ pub(crate) fn puts(alloc: Global, units: &[&str]) -> Option<Vec<Change>> {
         changes.push(Change::Put { base: 0, source }).ok()?;
     }
     Some(changes)
+}
+
+/// Lets a while pass, in which a worker comes to wait.
+pub(crate) fn pause<R: Clock>(rt: &R) {
+    thread::sleep(rt, Duration::from_millis(20));
+}
+
+/// How often a count is looked at, each time after a millisecond.
+const MOST_LOOKS: u32 = 20_000;
+
+/// Looks until a count has come to this number; false where it is out of looks.
+pub(crate) fn comes_to<R: Clock>(rt: &R, count: &AtomicU64, number: u64) -> bool {
+    for _ in 0..MOST_LOOKS {
+        if number <= count.load(Ordering::SeqCst) {
+            return true;
+        }
+        thread::sleep(rt, Duration::from_millis(1));
+    }
+    false
 }
 
 /// The seats of two callers, which are the last ones.

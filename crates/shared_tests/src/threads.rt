@@ -49,14 +49,14 @@ fn closed_after(alloc: Global, shared: Shared, a: Asked, b: Asked) -> Option<(us
 #[test]
 fn two_threads_ask(rt: HostRuntime) -> Result<(), Fail> {
     let alloc: Global = rt.alloc();
-    let (shared, first, second) = new_shared(alloc, 1000).ok_or("a workbench")?;
+    let (shared, first, second) = new_shared(alloc, 3000).ok_or("a workbench")?;
     let (a, b) = join(
         &rt,
-        || ask_often(&rt, alloc, &shared, first, 200),
-        || ask_often(&rt, alloc, &shared, second, 200),
+        || ask_often(&rt, alloc, &shared, first, 1500),
+        || ask_often(&rt, alloc, &shared, second, 1500),
     );
     let closed = closed_after(alloc, shared, a, b);
-    assert_eq!(rt; closed, Some((400, (400, 200, 200))));
+    assert_eq!(rt; closed, Some((3000, (3000, 1500, 1500))));
     Ok(())
 }
 

@@ -1,6 +1,8 @@
 //! How workers end, each by itself.
 use crate::play::{Played, is_without_faults, played_shared};
-use crate::setup::{faults_of, new_shared, puts};
+use crate::setup::{both_of, faults_of, new_shared, puts};
+use fb_shared::bench::Limits;
+use fb_shared::library::Change;
 use fb_shared::{Plain, Seat, Shared, WorkEnd, work_on};
 use std::alloc::Global;
 use std::sync::Wait;
@@ -36,7 +38,7 @@ fn is_known<R: Wait>(rt: &R, shared: &Shared, seat: &mut Seat) -> Option<bool> {
 // How a worker ends, and how many receipts it then has.
 type Ended = (WorkEnd, usize);
 
-// how a worker ends after two jobs in as many turns, whether A is known then, and how it ends after the stop
+// how a worker ends after two jobs in as many turns, whether A is known then, and how it ends after the stop, though there is a job
 fn ends_in_turns<R: Wait>(
     rt: &R,
     alloc: Global,
@@ -47,13 +49,13 @@ fn ends_in_turns<R: Wait>(
     let worked = work(rt, alloc, shared, second, 2);
     let is_known = is_known(rt, shared, first);
     shared.stop(rt);
-    (worked, is_known, work(rt, alloc, shared, second, 2))
+    (worked, is_known, work(rt, alloc, shared, second, 1))
 }
 
 #[test]
 fn jobs_in_turns(rt: HostRuntime) -> Result<(), Fail> {
     let alloc: Global = rt.alloc();
-    let committed = committed(&rt, alloc, &["A", "B"]);
+    let committed = committed(&rt, alloc, &["A", "B", "C"]);
     let (shared, mut first, mut second) = committed.ok_or("a workbench")?;
     let (worked, is_known, stopped) = ends_in_turns(&rt, alloc, &shared, &mut first, &mut second);
     assert_eq!(rt; worked, (WorkEnd::TurnsOver, 4));
@@ -104,5 +106,37 @@ fn workers_that_take_nothing(rt: HostRuntime) -> Result<(), Fail> {
     let differs = WorkEnd::SeatDiffers { turns: 5, book: 0 };
     let behind = WorkEnd::Behind { seen: 5, len: 0 };
     assert_eq!(rt; elsewhere, Some(((differs, 0), (behind, 0))));
+    Ok(())
+}
+
+// changes that put sixteen new units, with this number in their names
+fn sixteen_puts(alloc: Global, number: u32) -> Option<Vec<Change>> {
+    let mut changes = Vec::new(alloc);
+    for index in 0..16u32 {
+        let name = format!(in alloc; "U{number}X{index}").ok()?;
+        let mut put = puts(alloc, &[name.as_str()])?;
+        changes.append(&mut put).ok()?;
+    }
+    Some(changes)
+}
+
+// a workbench with 1,056 units, and the seat of its second caller
+fn with_many_units<R: Wait>(rt: &R, alloc: Global) -> Option<(Shared, Seat)> {
+    let (shared, seats) = Shared::new(alloc, Limits::new(2000, 10_000)?, 2).ok()?;
+    let (mut first, second) = both_of(seats)?;
+    for number in 0..66u32 {
+        let changes = sixteen_puts(alloc, number)?;
+        shared.commit(rt, &mut first, &changes).ok()?;
+    }
+    Some((shared, second))
+}
+
+// A worker goes on for as many jobs as there are, if nobody stops it.
+#[test]
+fn a_thousand_jobs(rt: HostRuntime) -> Result<(), Fail> {
+    let alloc: Global = rt.alloc();
+    let (shared, mut seat) = with_many_units(&rt, alloc).ok_or("a workbench")?;
+    let worked = work(&rt, alloc, &shared, &mut seat, 1056);
+    assert_eq!(rt; worked, (WorkEnd::TurnsOver, 2112));
     Ok(())
 }
