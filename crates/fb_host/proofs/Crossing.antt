@@ -2,7 +2,6 @@
 use denote.Param.Send.{IsSend, IsSync, sendable}
 use Rattle.std.proofs.Crossing.{crosses}
 use Rattle.fb_shared.proofs.Crossing.{seat_send, receipt_send, shared_field_sync}
-use Rattle.fb_serve.proofs.Crossing.{stream_send}
 use Rattle.fb_host.specs.contracts.drawer.Epoch as Epoch
 use Rattle.fb_host.specs.contracts.drawer.Drawer as Drawer
 use Rattle.fb_host.specs.contracts.guest.Guest as Guest
@@ -25,7 +24,7 @@ pub drawer_sync : IsSync Drawer.the_row
 drawer_sync = search (drawer_field_sync, crosses, sendable) depth 60 fits 20000
 
 guest_field_send : IsSend (Guest.the_field).row
-guest_field_send = search (stream_send, crosses, sendable) depth 60 fits 20000
+guest_field_send = search (crosses, sendable) depth 60 fits 20000
 
 guest_send : IsSend Guest.the_row
 guest_send = search (guest_field_send, crosses, sendable) depth 60 fits 20000

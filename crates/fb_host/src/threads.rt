@@ -1,4 +1,5 @@
 //! The threads of a host: doors, seats, and workers.
+ghost use Rattle.std.specs.Prelude.{◌≡◌};
 ghost use Rattle.fb_host.specs.Lodging.{LeadsTo};
 
 use crate::counter::Counter;
@@ -214,32 +215,46 @@ fn accept<R: Clock>(rt: &R, listener: &TcpListener) -> Option<TcpStream> {
     None
 }
 
-/// A worker's thread. Where memory is wanting it pauses, gives back what it holds, and begins again.
+/// A worker's thread. If memory is wanting, it pauses and begins again.
 fn keep_working<R: Wait + Clock>(rt: &R, alloc: Global, house: &House, place: Place) -> Place
     ensures { LeadsTo place.seat result.seat }
 {
     let mut place = place;
     for _ in rt.forever() {
-        let end = work_on(
-            rt,
-            alloc,
-            &house.shared,
-            &mut place.seat,
-            &mut place.receipts,
-            &Plain,
-            BATCH,
-        );
-        if let Some(it) = unsettled(&place.receipts) {
-            let _ = place.held.push(it);
-        }
-        give_back_all(rt, &house.shared, &house.drawer, &mut place);
-        match end {
+        match work_batch(rt, alloc, house, &mut place) {
             WorkEnd::TurnsOver => {}
             WorkEnd::Memory | WorkEnd::HistoryFull => pause(rt),
             WorkEnd::Stopped | WorkEnd::SeatDiffers { .. } | WorkEnd::Behind { .. } => return place,
         }
     }
     unreachable!()
+}
+
+/// Some looks of a worker. It then gives back the key that it still has, and its receipts go to the drawer.
+fn work_batch<R: Wait>(rt: &R, alloc: Global, house: &House, place: &mut Place) -> WorkEnd
+    ensures { LeadsTo place.old.seat place.new.seat }
+{
+    let end = work_on(
+        rt,
+        alloc,
+        &house.shared,
+        &mut place.seat,
+        &mut place.receipts,
+        &Plain,
+        BATCH,
+    );
+    hold_unsettled(place);
+    give_back_all(rt, &house.shared, &house.drawer, place);
+    end
+}
+
+/// Keeps in hand the key of a job that was taken and not settled.
+fn hold_unsettled(place: &mut Place)
+    ensures { place.new.seat ≡ place.old.seat }
+{
+    if let Some(it) = unsettled(&place.receipts) {
+        let _ = place.held.push(it);
+    }
 }
 
 /// The key of the last receipt, where it is of a take: of that no result was delivered, and it was not given back.
