@@ -132,7 +132,7 @@ pub fn host_on<R: Threads + Wait + Clock + Sync, S: Sink, E: Write + Send>(
     Ended::of(host_and_close(rt, alloc, listener, terms, secret, out, errors))
 }
 
-/// Hosts as `host_on` does, on this port of 127.0.0.1; any free one for 0.
+/// Hosts as `host_on` does, on this port of 127.0.0.1; any free one for 0. If it cannot listen there, it says so on `errors`.
 pub fn host<
     R: Net<Listener = TcpListener, Stream = TcpStream> + Threads + Wait + Clock + Sync,
     S: Sink,
@@ -158,6 +158,12 @@ pub fn host<
 {
     match TcpListener::bind(rt, ("127.0.0.1", port)) {
         Ok(listener) => host_on(rt, alloc, &listener, terms, secret, out, errors),
-        Err(_) => Ended::of(Err(NotServed)),
+        Err(_) => {
+            let _ = writeln!(
+                &mut *errors.lock(rt),
+                "bench61499: cannot listen on 127.0.0.1:{port}"
+            );
+            Ended::of(Err(NotServed))
+        }
     }
 }

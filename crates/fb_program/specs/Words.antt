@@ -20,13 +20,16 @@ units_option = number_option (codes "units") 16384 (codes "1024")
 abbrev pub history_option : Rule
 history_option = number_option (codes "history") 10000000 (codes "100000")
 
+abbrev pub workers_option : Rule
+workers_option = number_option (codes "workers") 16 (codes "2")
+
 abbrev pub script_app : App
 script_app = with_rule (with_rule (new_app (codes "script")) units_option) history_option
 
 abbrev pub serve_app : App
 serve_app =
     with_rule (with_rule (
-    with_rule (with_rule (with_rule (new_app (codes "serve")) port_option) (number_option (codes "workers") 16 (codes "2")))
+    with_rule (with_rule (with_rule (new_app (codes "serve")) port_option) workers_option)
     (number_option (codes "sessions") 64 (codes "1"))
     ) units_option) history_option
 
@@ -42,14 +45,14 @@ abbrev pub host_app : App
 host_app =
     with_rule (with_rule (
     with_rule (with_rule (with_rule (
-    with_rule (with_rule (with_rule (new_app (codes "host")) port_option) (number_option (codes "workers") 16 (codes "2")))
+    with_rule (with_rule (with_rule (new_app (codes "host")) port_option) workers_option)
     (number_option (codes "sessions") 64 (codes "16"))
     ) units_option) history_option) secret_option) idle_option)
     (number_option (codes "connections") 1000000000 (codes "1000000000"))
 
--- the program, of which a subcommand is asked
+-- the program, which has a version, and of which a subcommand is asked
 abbrev pub named_app : App
-named_app = let a = new_app (codes "bench61499") in record a { top = record a.top { subcommand_required = true } }
+named_app = let a = new_app (codes "bench61499") in record a { top = record a.top { has_version = true; subcommand_required = true } }
 
 abbrev pub bench_app : App
 bench_app = with_subcommand (with_subcommand (with_subcommand named_app script_app.top) serve_app.top) host_app.top

@@ -1,7 +1,7 @@
 //! The program's words.
 ghost use Rattle.std.specs.Prelude.{◌≡◌, ◌≤◌, List, map, IfOk, IfSome, false, true, codes};
-ghost use Rattle.clap.specs.Words.{app_of, found_of, rows_of, rule_of, subcommand_rows_of};
-ghost use Rattle.fb_program.specs.Words.{IsNumberIn, IsAsked, Asks, IsHost, IsScript, IsServe, bench_app, number_option, units_option, history_option, port_option, idle_option, secret_option};
+ghost use Rattle.clap.specs.Words.{app_of, fields_of, found_of, new_app, rows_of, rule_of, subcommand_rows_of};
+ghost use Rattle.fb_program.specs.Words.{IsNumberIn, IsAsked, Asks, IsHost, IsScript, IsServe, bench_app, number_option, units_option, history_option, port_option, workers_option, idle_option, secret_option};
 
 use crate::asked;
 use clap::builder::ValueParser;
@@ -24,8 +24,39 @@ const MOST_IDLE: u64 = 10_080;
 
 const MOST_CONNECTIONS: u64 = 1_000_000_000;
 
-/// An option `--NAME N`, with N from 1 to `most`, and its default.
-fn number_option<'a>(alloc: Global, name: &'a str, most: u64, default: &'a str) -> Arg<'a>
+/// The version of the program, and the kit by which it is proved and built.
+const VERSION: &str = "1.0.0 (rattle-kit-13f)";
+
+const ABOUT: &str =
+    "A workbench for IEC 61499 units, which answers requests, one JSON text on each line";
+
+const SCRIPT: &str = "Answers the requests of standard input on standard output";
+
+const SERVE: &str =
+    "Answers the requests of so many connections, and ends when all of them have ended";
+
+const HOST: &str =
+    "Answers the requests of connections that come and go; its history begins anew where it is full";
+
+const LAST_CALL: &str =
+    "How many calls are recorded before all further ones are refused, 1 to 10000000";
+
+const NEW_START: &str = "After how many calls the history begins anew, 1 to 10000000";
+
+const CONNECTIONS: &str = "How many connections it lets in over its life, 1 to 64";
+
+const SEATS: &str = "How many sessions there are at once, 1 to 64";
+
+const LAST_CONNECTION: &str = "After how many connections it closes, 1 to 1000000000";
+
+/// An option `--NAME N`, with N from 1 to `most`, its default, and a sentence on it.
+fn number_option<'a>(
+    alloc: Global,
+    name: &'a str,
+    most: u64,
+    default: &'a str,
+    help: &'a str,
+) -> Arg<'a>
     ensures rule { rule_of result ≡ number_option name.now most default.now }
     ensures local { result.global ≡ false }
 {
@@ -33,20 +64,30 @@ fn number_option<'a>(alloc: Global, name: &'a str, most: u64, default: &'a str) 
         .long(name)
         .value_parser(ValueParser::unsigned(1, most))
         .default_value(default)
+        .help(help)
 }
 
 fn units_option<'a>(alloc: Global) -> Arg<'a>
     ensures rule { rule_of result ≡ units_option }
     ensures local { result.global ≡ false }
 {
-    number_option(alloc, "units", MOST_UNITS, "1024")
+    let help = "How many units there may be at once, 1 to 16384";
+    number_option(alloc, "units", MOST_UNITS, "1024", help)
 }
 
-fn history_option<'a>(alloc: Global) -> Arg<'a>
+fn history_option<'a>(alloc: Global, help: &'a str) -> Arg<'a>
     ensures rule { rule_of result ≡ history_option }
     ensures local { result.global ≡ false }
 {
-    number_option(alloc, "history", MOST_HISTORY, "100000")
+    number_option(alloc, "history", MOST_HISTORY, "100000", help)
+}
+
+fn workers_option<'a>(alloc: Global) -> Arg<'a>
+    ensures rule { rule_of result ≡ workers_option }
+    ensures local { result.global ≡ false }
+{
+    let help = "How many threads compute faults, networks and plans, 1 to 16";
+    number_option(alloc, "workers", MOST_WORKERS, "2", help)
 }
 
 fn port_option<'a>(alloc: Global) -> Arg<'a>
@@ -57,6 +98,7 @@ fn port_option<'a>(alloc: Global) -> Arg<'a>
         .long("port")
         .value_parser(ValueParser::unsigned(0, MOST_PORT))
         .required(true)
+        .help("The port on 127.0.0.1, or 0 for any free one")
 }
 
 fn idle_option<'a>(alloc: Global) -> Arg<'a>
@@ -67,37 +109,54 @@ fn idle_option<'a>(alloc: Global) -> Arg<'a>
         .long("idle")
         .value_parser(ValueParser::unsigned(0, MOST_IDLE))
         .default_value("0")
+        .help("After how many minutes of silence a session ends, at most 10080, or 0 for never")
 }
 
 fn secret_option<'a>(alloc: Global) -> Arg<'a>
     ensures rule { rule_of result ≡ secret_option }
     ensures local { result.global ≡ false }
 {
-    Arg::new(alloc, "secret").long("secret")
+    Arg::new(alloc, "secret")
+        .long("secret")
+        .help("The file whose first line each connection sends first")
+}
+
+fn named<'a>(alloc: Global, name: &'a str, about: &'a str) -> Command<'a>
+    ensures app { app_of result ≡ new_app name.now }
+    ensures local { (fields_of result).has_globals ≡ false }
+{
+    Command::new(alloc, name).about(about)
 }
 
 fn command<'a>(alloc: Global) -> Result<Command<'a>, AllocError>
     ensures { IfOk result (λ c. app_of c ≡ bench_app) }
 {
-    let script = Command::new(alloc, "script")
+    let script = named(alloc, "script", SCRIPT)
         .arg(units_option(alloc))?
-        .arg(history_option(alloc))?;
-    let serve = Command::new(alloc, "serve")
+        .arg(history_option(alloc, LAST_CALL))?;
+    let serve = named(alloc, "serve", SERVE)
         .arg(port_option(alloc))?
-        .arg(number_option(alloc, "workers", MOST_WORKERS, "2"))?
-        .arg(number_option(alloc, "sessions", MOST_SESSIONS, "1"))?
+        .arg(workers_option(alloc))?
+        .arg(number_option(alloc, "sessions", MOST_SESSIONS, "1", CONNECTIONS))?
         .arg(units_option(alloc))?
-        .arg(history_option(alloc))?;
-    let host = Command::new(alloc, "host")
+        .arg(history_option(alloc, LAST_CALL))?;
+    let host = named(alloc, "host", HOST)
         .arg(port_option(alloc))?
-        .arg(number_option(alloc, "workers", MOST_WORKERS, "2"))?
-        .arg(number_option(alloc, "sessions", MOST_SESSIONS, "16"))?
+        .arg(workers_option(alloc))?
+        .arg(number_option(alloc, "sessions", MOST_SESSIONS, "16", SEATS))?
         .arg(units_option(alloc))?
-        .arg(history_option(alloc))?
+        .arg(history_option(alloc, NEW_START))?
         .arg(secret_option(alloc))?
         .arg(idle_option(alloc))?
-        .arg(number_option(alloc, "connections", MOST_CONNECTIONS, "1000000000"))?;
-    let command = Command::new(alloc, "bench61499")
+        .arg(number_option(
+            alloc,
+            "connections",
+            MOST_CONNECTIONS,
+            "1000000000",
+            LAST_CONNECTION,
+        ))?;
+    let command = named(alloc, "bench61499", ABOUT)
+        .version(VERSION)
         .subcommand_required(true)
         .subcommand(script)?
         .subcommand(serve)?
