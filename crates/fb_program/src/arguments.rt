@@ -1,6 +1,6 @@
 //! The program's words.
 ghost use Rattle.std.specs.Prelude.{◌≡◌, ◌≤◌, List, map, IfOk, IfSome, false, true, codes};
-ghost use Rattle.clap.specs.Words.{app_of, fields_of, found_of, new_app, rows_of, rule_of, subcommand_rows_of};
+ghost use Rattle.clap.specs.Words.{app_of, found_of, rows_of, rule_of, subcommand_rows_of};
 ghost use Rattle.fb_program.specs.Words.{IsNumberIn, IsAsked, Asks, IsHost, IsScript, IsServe, bench_app, number_option, units_option, history_option, port_option, workers_option, idle_option, secret_option};
 
 use crate::asked;
@@ -26,17 +26,6 @@ const MOST_CONNECTIONS: u64 = 1_000_000_000;
 
 /// The version of the program, and the kit by which it is proved and built.
 const VERSION: &str = "1.0.0 (rattle-kit-13f)";
-
-const ABOUT: &str =
-    "A workbench for IEC 61499 units, which answers requests, one JSON text on each line";
-
-const SCRIPT: &str = "Answers the requests of standard input on standard output";
-
-const SERVE: &str =
-    "Answers the requests of so many connections, and ends when all of them have ended";
-
-const HOST: &str =
-    "Answers the requests of connections that come and go; its history begins anew where it is full";
 
 const LAST_CALL: &str =
     "How many calls are recorded before all further ones are refused, 1 to 10000000";
@@ -121,26 +110,19 @@ fn secret_option<'a>(alloc: Global) -> Arg<'a>
         .help("The file whose first line each connection sends first")
 }
 
-fn named<'a>(alloc: Global, name: &'a str, about: &'a str) -> Command<'a>
-    ensures app { app_of result ≡ new_app name.now }
-    ensures local { (fields_of result).has_globals ≡ false }
-{
-    Command::new(alloc, name).about(about)
-}
-
 fn command<'a>(alloc: Global) -> Result<Command<'a>, AllocError>
     ensures { IfOk result (λ c. app_of c ≡ bench_app) }
 {
-    let script = named(alloc, "script", SCRIPT)
+    let script = Command::new(alloc, "script")
         .arg(units_option(alloc))?
         .arg(history_option(alloc, LAST_CALL))?;
-    let serve = named(alloc, "serve", SERVE)
+    let serve = Command::new(alloc, "serve")
         .arg(port_option(alloc))?
         .arg(workers_option(alloc))?
         .arg(number_option(alloc, "sessions", MOST_SESSIONS, "1", CONNECTIONS))?
         .arg(units_option(alloc))?
         .arg(history_option(alloc, LAST_CALL))?;
-    let host = named(alloc, "host", HOST)
+    let host = Command::new(alloc, "host")
         .arg(port_option(alloc))?
         .arg(workers_option(alloc))?
         .arg(number_option(alloc, "sessions", MOST_SESSIONS, "16", SEATS))?
@@ -155,7 +137,7 @@ fn command<'a>(alloc: Global) -> Result<Command<'a>, AllocError>
             "1000000000",
             LAST_CONNECTION,
         ))?;
-    let command = named(alloc, "bench61499", ABOUT)
+    let command = Command::new(alloc, "bench61499")
         .version(VERSION)
         .subcommand_required(true)
         .subcommand(script)?
