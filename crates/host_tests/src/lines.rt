@@ -24,6 +24,9 @@ pub(crate) const SECOND: &str = "{\"commit\":2}\n";
 
 pub(crate) const ASK_FAULTS: &str = "{\"op\":\"ask\",\"kind\":\"faults\",\"unit\":\"A\"}\n";
 
+// The last of the units U0, U1 and so on, if there are 10 to 99: names stand in order.
+pub(crate) const ASK_LAST: &str = "{\"op\":\"ask\",\"kind\":\"faults\",\"unit\":\"U9\"}\n";
+
 pub(crate) const PENDING: &str = "{\"answer\":\"pending\"}\n";
 
 pub(crate) const KNOWN: &str = "{\"faults\":[]}\n";

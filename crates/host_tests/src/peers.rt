@@ -1,12 +1,12 @@
 //! What a peer does, and what it is told then.
-use crate::lines::{ASK_FAULTS, KNOWN, PENDING};
+use crate::lines::{ASK_LAST, PENDING};
 use std::alloc::Global;
 use std::io;
 use std::io::{ErrorKind, Read, Write};
 use std::net::{Net, OpenStream, Shutdown, TcpListener, TcpStream};
-use std::time::Duration;
+use std::time::{Clock, Duration, Instant};
 
-/// How many milliseconds a peer waits for what it is to be told.
+/// How many milliseconds a peer waits for what it is to be told, and for a worker.
 const BOUND: u64 = 20_000;
 
 /// How many milliseconds pass from one byte to the next where a peer sends one now and then, and how many bytes it sends.
@@ -14,7 +14,7 @@ const NOW_AND_THEN: u64 = 20;
 
 const BYTES: u32 = 500;
 
-/// How often a peer asks until a worker has judged the unit.
+/// How often a peer asks at most until a worker has judged a unit.
 const LOOKS: u32 = 200_000;
 
 /// A peer that has connected.
@@ -71,34 +71,36 @@ pub(crate) fn repeat(
     Ok(told)
 }
 
-// What is said of the unit once a worker has judged it, or after so many looks.
-fn until_known(alloc: Global, stream: &TcpStream) -> io::Result<String> {
-    let mut known = ask(alloc, stream, ASK_FAULTS)?;
-    for _ in 0..LOOKS {
-        if known.as_str() != PENDING {
-            break;
-        }
-        known = ask(alloc, stream, ASK_FAULTS)?;
+// Commits so many units, U0, U1 and so on.
+fn commit_units(alloc: Global, count: u32) -> io::Result<String> {
+    let mut line = String::from_str(alloc, "{\"op\":\"commit\",\"changes\":[")?;
+    for number in 0..count {
+        let comma = if number == 0 { "" } else { "," };
+        write!(
+            line,
+            "{comma}{{\"put\":\"U{number}\",\"base\":0,\"text\":\"FUNCTION_BLOCK U{number} END_FUNCTION_BLOCK\"}}"
+        )?;
     }
-    Ok(known)
-}
-
-fn commit_after(alloc: Global, base: u64) -> io::Result<String> {
-    let line = format!(in alloc;
-        "{{\"op\":\"commit\",\"changes\":[{{\"put\":\"A\",\"base\":{base},\"text\":\"FUNCTION_BLOCK A END_FUNCTION_BLOCK\"}}]}}\n"
-    )?;
+    line.push_str("]}\n")?;
     Ok(line)
 }
 
-/// Commits the unit so often, each time once a worker has judged it. It gives what is said of it last.
-pub(crate) fn rounds(alloc: Global, stream: &TcpStream, times: u64) -> io::Result<String> {
-    let mut known = String::new(alloc);
-    for base in 0..times {
-        ask(alloc, stream, commit_after(alloc, base)?.as_str())?;
-        known = until_known(alloc, stream)?;
-        if known.as_str() != KNOWN {
+/// Commits so many units, from 10 to 99, and asks for the last of them, U9, until a worker has judged it. It gives what is said of it then.
+pub(crate) fn commit_all<R: Clock>(
+    rt: &R,
+    alloc: Global,
+    stream: &TcpStream,
+    count: u32,
+) -> io::Result<String> {
+    let begun = Instant::now(rt)?;
+    ask(alloc, stream, commit_units(alloc, count)?.as_str())?;
+    let mut known = ask(alloc, stream, ASK_LAST)?;
+    for _ in 0..LOOKS {
+        let is_late = Duration::from_millis(BOUND) < begun.elapsed(rt)?;
+        if is_late || known.as_str() != PENDING {
             break;
         }
+        known = ask(alloc, stream, ASK_LAST)?;
     }
     Ok(known)
 }

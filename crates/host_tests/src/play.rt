@@ -48,7 +48,7 @@ struct Hosted {
 }
 
 fn terms_of(play: &Play<'_>) -> Option<Terms> {
-    let limits = Limits::new(16, play.history)?;
+    let limits = Limits::new(100, play.history)?;
     Some(Terms {
         workers: play.workers,
         sessions: play.sessions,

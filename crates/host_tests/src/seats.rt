@@ -1,7 +1,7 @@
 //! Sessions that follow one another at a seat, over a history that begins anew.
 use crate::lines::{
-    ASK, ASK_FAULTS, COMMIT, COMMIT_AGAIN, FIRST, JOB_A, KNOWN, NO_JOB, NO_KEY, NO_SEAT, SECOND,
-    TAKE,
+    ASK, ASK_FAULTS, ASK_LAST, COMMIT, COMMIT_AGAIN, FIRST, JOB_A, KNOWN, NO_JOB, NO_KEY, NO_SEAT,
+    SECOND, TAKE,
 };
 use crate::play::{LONG, Play, compare};
 use crate::steps::Step;
@@ -107,18 +107,14 @@ fn rolls_are_not_seen(rt: HostRuntime) -> Result<(), Fail> {
     compare(&rt, rt.alloc(), &play)
 }
 
-// Workers make more looks than they make before their receipts go to the drawer. What they have done is there for the next connection.
+// A worker makes more looks than it makes before its receipts go to the drawer. What it has done is there for the next connection.
 const WORKERS_GO_ON: &[Step<'static>] = &[
     Step::Connect(1),
-    Step::Rounds(0, 80),
+    Step::CommitAll(0, 80),
     Step::Leave(0, ""),
     Step::Connect(1),
-    Step::Ask(1, ASK_FAULTS, KNOWN),
-    Step::Ask(
-        1,
-        "{\"op\":\"commit\",\"changes\":[{\"remove\":\"A\",\"base\":80}]}\n",
-        "{\"commit\":81}\n",
-    ),
+    Step::Ask(1, ASK_LAST, KNOWN),
+    Step::Ask(1, COMMIT, SECOND),
     Step::Leave(1, ""),
 ];
 

@@ -62,7 +62,7 @@ fn a_first_line_is_not_waited_for_long(rt: HostRuntime) -> Result<(), Fail> {
 }
 
 // There are 32 doors. While all of them wait the next connection is closed at once, and one of those that wait can talk. When the others have
-// gone there is entrance.
+// gone there is entrance. A seat is always free: one talks, and one leaves.
 const CROWD: &[Step<'static>] = &[
     Step::Connect(33),
     Step::Rest(32, ""),
@@ -79,7 +79,7 @@ const CROWD: &[Step<'static>] = &[
 #[test]
 fn doors_are_few(rt: HostRuntime) -> Result<(), Fail> {
     let play = Play {
-        sessions: 2,
+        sessions: 3,
         workers: 0,
         history: 20,
         patience: LONG,

@@ -1,6 +1,6 @@
 //! Steps of peers.
 use crate::lines::KNOWN;
-use crate::peers::{connect, drip, leave, repeat, rest, rounds, say};
+use crate::peers::{commit_all, connect, drip, leave, repeat, rest, say};
 use std::alloc::Global;
 use std::io;
 use std::io::ErrorKind;
@@ -18,8 +18,8 @@ pub(crate) enum Step<'a> {
     Ask(usize, &'a str, &'a str),
     /// The same, so many times.
     Repeat(usize, u32, &'a str, &'a str),
-    /// It commits the unit A so often, each time once a worker has judged it. There was none before.
-    Rounds(usize, u64),
+    /// It commits so many units, from 10 to 99, and waits until workers have judged all of them.
+    CommitAll(usize, u32),
     /// It sends a byte now and then, until it is closed.
     Drip(usize),
     /// It says that it has no more to say, and is told this to the end.
@@ -43,7 +43,7 @@ impl<'a> Step<'a> {
             | Step::Leave(_, told)
             | Step::Rest(_, told)
             | Step::Errors(told) => *told,
-            Step::Rounds(_, _) => KNOWN,
+            Step::CommitAll(_, _) => KNOWN,
             Step::Connect(_)
             | Step::Say(_, _)
             | Step::Drip(_)
@@ -133,7 +133,7 @@ fn told<R: Net<Listener = TcpListener, Stream = TcpStream> + Wait + Clock>(
         Step::Repeat(number, times, line, reply) => {
             repeat(alloc, peer(streams, *number)?, *times, line, reply)
         }
-        Step::Rounds(number, times) => rounds(alloc, peer(streams, *number)?, *times),
+        Step::CommitAll(number, count) => commit_all(rt, alloc, peer(streams, *number)?, *count),
         Step::Drip(number) => drip(alloc, peer(streams, *number)?),
         Step::Leave(number, _) => leave(alloc, peer(streams, *number)?),
         Step::LeaveAll(first, behind) => leave_all(alloc, streams, *first, *behind),
