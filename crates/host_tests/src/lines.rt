@@ -22,6 +22,8 @@ pub(crate) const FIRST: &str = "{\"commit\":1}\n";
 
 pub(crate) const SECOND: &str = "{\"commit\":2}\n";
 
+pub(crate) const EIGHTY_FIRST: &str = "{\"commit\":81}\n";
+
 pub(crate) const ASK_FAULTS: &str = "{\"op\":\"ask\",\"kind\":\"faults\",\"unit\":\"A\"}\n";
 
 // The last of the units U0, U1 and so on, if there are 10 to 99: names stand in order.

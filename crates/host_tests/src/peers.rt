@@ -71,18 +71,20 @@ pub(crate) fn repeat(
     Ok(told)
 }
 
-// Commits so many units, U0, U1 and so on.
-fn commit_units(alloc: Global, count: u32) -> io::Result<String> {
-    let mut line = String::from_str(alloc, "{\"op\":\"commit\",\"changes\":[")?;
-    for number in 0..count {
-        let comma = if number == 0 { "" } else { "," };
-        write!(
-            line,
-            "{comma}{{\"put\":\"U{number}\",\"base\":0,\"text\":\"FUNCTION_BLOCK U{number} END_FUNCTION_BLOCK\"}}"
-        )?;
-    }
-    line.push_str("]}\n")?;
+// A commit of the unit U with this number.
+fn commit_unit(alloc: Global, number: u32) -> io::Result<String> {
+    let line = format!(in alloc;
+        "{{\"op\":\"commit\",\"changes\":[{{\"put\":\"U{number}\",\"base\":0,\"text\":\"FUNCTION_BLOCK U{number} END_FUNCTION_BLOCK\"}}]}}\n"
+    )?;
     Ok(line)
+}
+
+// Commits so many units, U0, U1 and so on, one after another.
+fn commit_units(alloc: Global, stream: &TcpStream, count: u32) -> io::Result<()> {
+    for number in 0..count {
+        ask(alloc, stream, commit_unit(alloc, number)?.as_str())?;
+    }
+    Ok(())
 }
 
 /// Commits so many units, from 10 to 99, and asks for the last of them, U9, until a worker has judged it. It gives what is said of it then.
@@ -93,7 +95,7 @@ pub(crate) fn commit_all<R: Clock>(
     count: u32,
 ) -> io::Result<String> {
     let begun = Instant::now(rt)?;
-    ask(alloc, stream, commit_units(alloc, count)?.as_str())?;
+    commit_units(alloc, stream, count)?;
     let mut known = ask(alloc, stream, ASK_LAST)?;
     for _ in 0..LOOKS {
         let is_late = Duration::from_millis(BOUND) < begun.elapsed(rt)?;

@@ -1,7 +1,7 @@
 //! Sessions that follow one another at a seat, over a history that begins anew.
 use crate::lines::{
-    ASK, ASK_FAULTS, ASK_LAST, COMMIT, COMMIT_AGAIN, FIRST, JOB_A, KNOWN, NO_JOB, NO_KEY, NO_SEAT,
-    SECOND, TAKE,
+    ASK, ASK_FAULTS, ASK_LAST, COMMIT, COMMIT_AGAIN, EIGHTY_FIRST, FIRST, JOB_A, KNOWN, NO_JOB,
+    NO_KEY, NO_SEAT, SECOND, TAKE,
 };
 use crate::play::{LONG, Play, compare};
 use crate::steps::Step;
@@ -114,7 +114,7 @@ const WORKERS_GO_ON: &[Step<'static>] = &[
     Step::Leave(0, ""),
     Step::Connect(1),
     Step::Ask(1, ASK_LAST, KNOWN),
-    Step::Ask(1, COMMIT, SECOND),
+    Step::Ask(1, COMMIT, EIGHTY_FIRST),
     Step::Leave(1, ""),
 ];
 
