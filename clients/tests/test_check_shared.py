@@ -4,10 +4,12 @@ from __future__ import annotations
 import argparse
 import contextlib
 import io
+import json
 import subprocess
 import unittest
 from subprocess import CompletedProcess
 from unittest.mock import patch
+from xml.etree import ElementTree
 
 from support import CLIENTS, HISTORY, InFolder, hosting, run, serving, used
 
@@ -29,11 +31,11 @@ class SharedTest(InFolder):
         self.write("a.fb", GOOD)
         with hosting() as port, Session.connect("127.0.0.1", port) as other:
             ran = self.check(port)
-            self.assertEqual((ran.returncode, ran.stdout), (2, f"1 unit, no faults\n{ASKED}"))
+            self.assertEqual((ran.returncode, ran.stdout), (2, f"0 units, no faults\n1 unit not checked\n{ASKED}"))
             self.assertEqual(ran.stderr, "check: not checked, as the workbench has no such unit: A; --replace puts them\n")
             other.commit([Put("A", 0, BAD)])
             ran = self.check(port)
-            self.assertEqual((ran.returncode, ran.stdout), (2, f"1 unit, no faults\n{ASKED}"))
+            self.assertEqual((ran.returncode, ran.stdout), (2, f"0 units, no faults\n1 unit not checked\n{ASKED}"))
             self.assertEqual(ran.stderr, "check: not checked, as the workbench has another text: A; --replace puts those of the files over it\n")
             self.write("a.fb", BAD)
             ran = self.check(port, "--quiet")
@@ -43,6 +45,18 @@ class SharedTest(InFolder):
             self.write("a.fb", GOOD)
             ran = self.check(port)
             self.assertEqual((ran.returncode, ran.stdout, ran.stderr), (0, f"1 unit, no faults\n{ASKED}", ""))
+
+    def test_no_form_calls_a_unit_fine_that_is_not_checked(self):
+        self.write("a.fb", GOOD)
+        self.write("b.fb", BAD.replace("A", "B", 1))
+        with hosting() as port, Session.connect("127.0.0.1", port) as other:
+            other.commit([Put("B", 0, BAD.replace("A", "B", 1))])
+            self.assertIn("1 fault in 1 of 1 unit\n1 unit not checked\n", self.check(port).stdout)
+            self.assertEqual(json.loads(self.check(port, "--json").stdout)["unchecked"], ["A"])
+            ran = self.check(port, "--format", "junit")
+            suites = ElementTree.fromstring(ran.stdout)
+            self.assertEqual((ran.returncode, suites.attrib["tests"], suites.attrib["failures"], suites.attrib["skipped"]), (2, "2", "1", "1"))
+            self.assertEqual([(it.attrib["name"], it[0].tag) for it in suites[0]], [("A", "skipped"), ("B", "failure")])
 
     def test_it_is_asked_for_pending_units_again(self):
         units = [f"U{at}" for at in range(40)]

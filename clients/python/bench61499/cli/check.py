@@ -25,11 +25,12 @@ def main() -> int:
     except (Misuse, WorkbenchError) as error:
         return fail("check", error)
     found = find(units, looked.faults, answers)
+    found.unchecked = looked.unchecked
     for line in output(found, options, replaced):
         print(line)
     for remark in looked.remarks():
         print(f"check: {remark}", file=sys.stderr)
-    return 2 if looked.missing or looked.others else int(found.is_faulty)
+    return 2 if looked.unchecked else int(found.is_faulty)
 
 
 def read_options() -> argparse.Namespace:

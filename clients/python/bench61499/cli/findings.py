@@ -61,6 +61,8 @@ class Found:
     notes: list[Finding] = field(default_factory=list)
     reasons: list[Finding] = field(default_factory=list)
     answers: Answers | None = None
+    unchecked: Sequence[str] = ()
+    """The units of which the workbench has no text, or another one."""
 
     @property
     def is_faulty(self) -> bool:

@@ -53,9 +53,11 @@ def lines(found: Found, quiet: bool) -> Iterator[str]:
 
 
 def summary(found: Found) -> Iterator[str]:
-    units = counted(len(found.units), "unit")
+    units = counted(len(found.units) - len(found.unchecked), "unit")
     faulty = len({it.unit.name for it in found.faults})
     yield f"{counted(len(found.faults), 'fault')} in {faulty:,} of {units}" if found.faults else f"{units}, no faults"
+    if found.unchecked:
+        yield f"{counted(len(found.unchecked), 'unit')} not checked"
     if found.notes:
         yield f"{counted(len(found.notes), 'note')} on texts with a SYNTAX fault, not checked by the workbench"
     if found.answers:
@@ -81,6 +83,7 @@ def _counts(answers: Answers) -> dict[str, dict[str, int]]:
 def as_json(found: Found) -> str:
     """In ASCII: a name of a file that is no UTF-8 can be told in no other way."""
     value: Json = {"units": len(found.units), "faults": [_entry(it) for it in found.faults], "notes": [_entry(it) for it in found.notes]}
+    value["unchecked"] = list(found.unchecked)
     if found.answers:
         value["reasons"] = [_entry(it) for it in found.reasons]
         value.update(_counts(found.answers))
@@ -164,16 +167,20 @@ def as_junit(found: Found) -> str:
     findings: dict[str, list[Finding]] = {unit.name: [] for unit in found.units}
     for it in found.all():
         findings[it.unit.name].append(it)
-    counts = {"tests": str(len(findings)), "failures": str(sum(map(bool, findings.values()))), "errors": "0", "skipped": "0"}
-    top = ElementTree.Element("testsuites", {"name": "bench61499", **counts})
-    suite = ElementTree.SubElement(top, "testsuite", {"name": "units", **counts})
+    skipped = [name for name in found.unchecked if not findings[name]]
+    counts = {"tests": len(findings), "failures": sum(map(bool, findings.values())), "errors": 0, "skipped": len(skipped)}
+    attributes = {name: str(count) for name, count in counts.items()}
+    top = ElementTree.Element("testsuites", {"name": "bench61499", **attributes})
+    suite = ElementTree.SubElement(top, "testsuite", {"name": "units", **attributes})
     for unit in found.units:
-        _test_case(suite, unit, findings[unit.name])
+        case = _test_case(suite, unit, findings[unit.name])
+        if unit.name in skipped:
+            ElementTree.SubElement(case, "skipped", message="not checked")
     ElementTree.indent(top)
     return f'<?xml version="1.0" encoding="UTF-8"?>\n{ElementTree.tostring(top, encoding="unicode")}'
 
 
-def _test_case(suite: ElementTree.Element, unit: Unit, findings: list[Finding]) -> None:
+def _test_case(suite: ElementTree.Element, unit: Unit, findings: list[Finding]) -> ElementTree.Element:
     file = _in_xml(str(unit.file))
     case = ElementTree.SubElement(suite, "testcase", classname=file, name=unit.name, file=file)
     if findings:
@@ -181,6 +188,7 @@ def _test_case(suite: ElementTree.Element, unit: Unit, findings: list[Finding]) 
         message = _in_xml(f"{errors[0].code}: {errors[0].explanation}" if len(errors) == 1 else f"{len(errors):,} faults")
         failure = ElementTree.SubElement(case, "failure", message=message, type=errors[0].code)
         failure.text = _in_xml("\n".join(f"{unit.file}:{it.begin[0]}:{it.begin[1]}: {it.code}: {told(it)}" for it in findings))
+    return case
 
 
 def _in_xml(words: str) -> str:

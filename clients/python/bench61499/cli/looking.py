@@ -23,6 +23,10 @@ class Looked:
     missing: list[str] = field(default_factory=list)
     others: list[str] = field(default_factory=list)
 
+    @property
+    def unchecked(self) -> list[str]:
+        return sorted([*self.missing, *self.others])
+
     def remarks(self) -> Iterator[str]:
         """What was not checked, a sentence each."""
         if self.missing:

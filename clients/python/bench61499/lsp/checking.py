@@ -11,7 +11,7 @@ from bench61499 import TEXT_LIMIT, Fault, Places, Session
 from bench61499.language.explain import Names
 from bench61499.language.plant import Plant
 from bench61499.language.tokens import declaration
-from bench61499.lsp.diagnoses import diagnostic, explained, marked, of_others, remark, whose
+from bench61499.lsp.diagnoses import diagnostic, explained, marked, of_others, remark, taken, whose
 from bench61499.lsp.documents import Diagnostic, Document, Source
 from bench61499.lsp.related import related
 from bench61499.lsp.rpc import INFO, WARNING, Message, tell
@@ -180,16 +180,19 @@ class Checking:
         self._insisted -= {self._sources.owners.get(unit) for unit in lost}
         done = lost if self._talk.trouble else lost | self._passed
         self._wanted = replace(self._wanted, insisted=self._wanted.insisted - done)
-        for unit in sorted(lost):
-            self._tell_taken(unit)
+        self._tell_taken(sorted(lost))
         self._show(path for unit in news.units | news.faults if (path := self._sources.owners.get(unit)))
 
-    def _tell_taken(self, unit: str) -> None:
-        """Tells the user of an open text that somebody else has put another one, or has removed it."""
-        it, path = self._units[unit], self._sources.owners.get(unit)
-        document = self._sources.documents.get(path) if path else None
-        if document and it.text is None:
-            self._tell(WARNING, f"{unit} is {whose(unit, it, document.text, self._faults.get(unit, ()))}.")
+    def _tell_taken(self, units: list[str]) -> None:
+        """Tells the user, by one message, of the open texts over which somebody else has put another one, or which somebody else has removed."""
+        reasons: dict[str, str] = {}
+        for unit in units:
+            it, path = self._units[unit], self._sources.owners.get(unit)
+            document = self._sources.documents.get(path) if path else None
+            if document and it.text is None:
+                reasons[unit] = whose(unit, it, document.text, self._faults.get(unit, ()))
+        if reasons:
+            self._tell(WARNING, taken(reasons))
 
     # What is shown
 

@@ -6,9 +6,13 @@ from bench61499.language.explain import Explainer, Names
 from bench61499.language.fitting import fits
 from bench61499.language.positions import range_of
 from bench61499.language.texts import Texts
+from bench61499.language.wording import listed
 from bench61499.lsp.documents import Diagnostic
 from bench61499.lsp.rpc import ERROR, INFO, WARNING
 from bench61499.lsp.shared import Unit
+
+MOST_NAMED = 3
+"""Units that one message names."""
 
 
 def diagnostic(places: Places, start: int, end: int, message: str, code: str | None = None, severity: int = ERROR) -> Diagnostic:
@@ -53,3 +57,13 @@ def whose(unit: str, it: Unit, text: str, faults: tuple[Fault, ...]) -> str:
     if it.is_changed:
         return f"not checked: another session has removed {unit} from the workbench; edit or save to put it back"
     return f"not checked: {unit} is not in the workbench"
+
+
+def taken(reasons: dict[str, str]) -> str:
+    """The message that others have put or removed these units; `reasons` are the words of `whose`."""
+    if len(reasons) == 1:
+        return "".join(f"{unit} is {why}." for unit, why in reasons.items())
+    more = len(reasons) - MOST_NAMED
+    named = listed([*list(reasons)[:MOST_NAMED], *([f"{more:,} more"] if more > 0 else [])], "and")
+    why = "not checked, or perhaps not, as another session has put or removed them"
+    return f"{len(reasons):,} open units are {why}: {named}; edit or save one to put its text."
