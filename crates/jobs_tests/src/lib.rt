@@ -1,11 +1,8 @@
-//! Tests of jobs that are made of a library: what they take along, what is kept of their reads, calls of which each allocation is refused in turn, and a plant
-//! through the calls of all crates below.
+//! Tests of jobs that are made of a library: what they take along, what is kept of their reads, and calls of which each allocation is refused in turn.
 #![tactic(auto)]
 
 #[cfg(test)]
 mod hints;
-#[cfg(test)]
-mod plant;
 #[cfg(test)]
 mod refused;
 #[cfg(test)]
