@@ -106,18 +106,19 @@ class OthersTest(TeamTest):
         """One message tells of all that one look has found."""
         units = [f"U{at}" for at in range(5)]
         files = [self.write(f"{unit}.fb", f"FUNCTION_BLOCK {unit} END_FUNCTION_BLOCK") for unit in units]
+        none: dict[str, list[str]] = {unit: [] for unit in units}
         with hosting() as port:
             editor, other = self.connected(port), self.session(port)
             for file in files:
                 editor.open(file)
-            editor.await_codes(**{unit: [] for unit in units})
+            editor.await_codes(**none)
             other.commit([Put(unit, other.revision(unit), f"FUNCTION_BLOCK {unit} END_FUNCTION_BLOCK ") for unit in units])
             why = "not checked, or perhaps not, as another session has put or removed them"
             said = f"5 open units are {why}: U0, U1, U2 and 2 more; edit or save one to put its text."
             self.assertEqual(editor.await_message(), f"bench61499: {said}")
             for file in files:
                 editor.save(file)
-            editor.await_codes(**{unit: [] for unit in units})
+            editor.await_codes(**none)
             self.assertEqual(editor.messages, [])
 
     def test_a_unit_is_removed_by_somebody_else(self) -> None:
