@@ -1,6 +1,7 @@
 //! What the program's words ask for, and how its runs end.
 use fb_program::wire::{MemoryFeed, MemorySink};
 use fb_program::{Outcome, Settings, refuse_words, run, settings};
+use fb_wire::bench::Limits;
 use std::alloc::{AllocError, Global};
 use std::io::ErrorKind;
 use std::process::Abort;
@@ -41,30 +42,31 @@ fn is_ended(ended: &Ended, status: u8, output: &str, said: &str) -> bool {
         && ended.errors.as_slice() == said.as_bytes()
 }
 
-fn status_of(outcome: Outcome) -> Option<u8> {
-    match outcome {
-        Outcome::Ended(status) => Some(status),
-        Outcome::Serves { .. } | Outcome::Hosts { .. } => None,
-    }
+/// No status: the words ask for a server with these limits.
+fn none_of(_limits: Limits) -> Option<u8> {
+    None
 }
 
 fn run_over(alloc: Global, words: &[&str], input: &[u8], room: Room) -> Result<Ended, AllocError> {
     let mut reader = MemoryFeed::new(input, 8192, room.reads);
     let mut writer = MemorySink::new(alloc, 8192, room.writes);
     let mut errors = Vec::new(alloc);
-    let outcome = run(
+    let status = match run(
         alloc,
         words,
         &mut reader,
         &mut writer,
         &mut errors,
         room.turns,
-    );
+    ) {
+        Outcome::Ended(status) => Some(status),
+        Outcome::Serves { limits, .. } | Outcome::Hosts { limits, .. } => none_of(limits),
+    };
     let output = writer.as_slice().to_vec(alloc)?;
     Ok(Ended {
         output,
         errors,
-        status: status_of(outcome),
+        status,
     })
 }
 
