@@ -152,6 +152,11 @@ class InFolder(TestCase):
         file.write_bytes(content if isinstance(content, bytes) else content.encode())
         return file
 
+    def edit(self, file: str, old: str, new: str) -> None:
+        text = (self.folder / file).read_text()
+        self.assertIn(old, text)
+        self.write(file, text.replace(old, new))
+
     def program(self, body: str) -> Path:
         """A program that stands in for the workbench."""
         file = self.write("workbench", f"#!{sys.executable}\nimport sys\n{body}\n")

@@ -35,11 +35,6 @@ class BoardTest(InFolder):
         self.addCleanup(running.__exit__, None, None, None)
         return running.__enter__()
 
-    def edit(self, file: str, old: str, new: str) -> None:
-        text = (self.folder / file).read_text()
-        self.assertIn(old, text)
-        self.write(file, text.replace(old, new))
-
     def conveyor(self) -> Address:
         self.copy_conveyor()
         return self.start(".")

@@ -21,11 +21,6 @@ class PlanTest(InFolder):
         super().setUp()
         self.copy_conveyor()
 
-    def edit(self, file: str, old: str, new: str) -> None:
-        text = (self.folder / file).read_text()
-        self.assertIn(old, text)
-        self.write(file, text.replace(old, new))
-
     def told(self, status: int, *words: object) -> str:
         """What is printed, or on standard error where the status is not 0."""
         ran = run("plan", *words, "--files", ".", "--program", workbench(), folder=self.folder)

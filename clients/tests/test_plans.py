@@ -14,11 +14,6 @@ class PlansTest(InFolder):
         super().setUp()
         self.copy_conveyor()
 
-    def edit(self, file: str, old: str, new: str) -> None:
-        text = (self.folder / file).read_text()
-        self.assertIn(old, text)
-        self.write(file, text.replace(old, new))
-
     def check(self, *words: str) -> list[str]:
         """The lines that are told, and the counts."""
         ran = run("check", ".", *words, "--program", workbench(), folder=self.folder)
