@@ -1,9 +1,9 @@
 //! The ports that `interface` gives, told as six lists: event inputs, event outputs, data inputs, data outputs, plugs and sockets. Behind each
 //! name stands its type, where it has one.
-use fb_iface::{Ports, interface};
+use fb_iface::{Ports, interface, is_beside, is_same_role, is_same_side};
 use fb_library::parse::Source;
-use fb_tree::WideTypeUse;
 use fb_tree::text::{Name, WideUse};
+use fb_tree::{Role, Side};
 use std::alloc::{AllocError, Global};
 use std::process::Abort;
 use std::test::Fail;
@@ -39,33 +39,6 @@ fn tell_blank(told: &mut String, is_first: bool) -> Result<(), AllocError> {
     if is_first { Ok(()) } else { told.push_str(" ") }
 }
 
-/// What stands behind a name in a list of ports.
-trait Typed {
-    /// The name of the type, where there is one.
-    fn type_name(&self) -> Option<&Name>;
-}
-
-impl Typed for Option<WideUse> {
-    fn type_name(&self) -> Option<&Name> {
-        match self {
-            Some(used) => Some(used.name()),
-            None => None,
-        }
-    }
-}
-
-impl Typed for WideTypeUse {
-    fn type_name(&self) -> Option<&Name> {
-        Some(self.name())
-    }
-}
-
-impl Typed for WideUse {
-    fn type_name(&self) -> Option<&Name> {
-        Some(self.name())
-    }
-}
-
 fn tell_port(told: &mut String, name: &Name, type_name: Option<&Name>) -> Result<(), AllocError> {
     match type_name {
         Some(type_name) => write!(told, "{name}:{type_name}"),
@@ -73,31 +46,58 @@ fn tell_port(told: &mut String, name: &Name, type_name: Option<&Name>) -> Result
     }
 }
 
-fn list_told<T: Typed>(alloc: Global, ports: &[(Name, T)]) -> Result<String, AllocError> {
+/// Tells one port more of a list.
+fn list_port(told: &mut String, name: &Name, type_name: Option<&Name>) -> Result<(), AllocError> {
+    let is_first = told.is_empty();
+    tell_blank(told, is_first)?;
+    tell_port(told, name, type_name)
+}
+
+fn events_told(alloc: Global, ports: &Ports, side: Side) -> Result<String, AllocError> {
     let mut told = String::new(alloc);
-    for (name, typed) in ports {
-        let is_first = told.is_empty();
-        tell_blank(&mut told, is_first)?;
-        tell_port(&mut told, name, typed.type_name())?;
+    for (name, event) in ports.events().iter() {
+        if is_same_side(event.side, side) {
+            list_port(&mut told, name, event.type_name.as_ref().map(WideUse::name))?;
+        }
+    }
+    Ok(told)
+}
+
+fn data_told(alloc: Global, ports: &Ports, side: Side) -> Result<String, AllocError> {
+    let mut told = String::new(alloc);
+    for (name, variable) in ports.variables().iter() {
+        if is_beside(side, variable.section) {
+            list_port(&mut told, name, Some(variable.type_use.name()))?;
+        }
+    }
+    Ok(told)
+}
+
+fn adapters_told(alloc: Global, ports: &Ports, role: Role) -> Result<String, AllocError> {
+    let mut told = String::new(alloc);
+    for (name, instance) in ports.instances().iter() {
+        if is_same_role(instance.role, role) {
+            list_port(&mut told, name, Some(instance.type_name.name()))?;
+        }
     }
     Ok(told)
 }
 
 fn all_events_told(alloc: Global, ports: &Ports) -> Result<String, AllocError> {
-    let inputs = list_told(alloc, &ports.event_inputs(alloc)?)?;
-    let outputs = list_told(alloc, &ports.event_outputs(alloc)?)?;
+    let inputs = events_told(alloc, ports, Side::Input)?;
+    let outputs = events_told(alloc, ports, Side::Output)?;
     format!(in alloc; "{inputs} | {outputs}")
 }
 
 fn all_data_told(alloc: Global, ports: &Ports) -> Result<String, AllocError> {
-    let inputs = list_told(alloc, &ports.data_inputs(alloc)?)?;
-    let outputs = list_told(alloc, &ports.data_outputs(alloc)?)?;
+    let inputs = data_told(alloc, ports, Side::Input)?;
+    let outputs = data_told(alloc, ports, Side::Output)?;
     format!(in alloc; "{inputs} | {outputs}")
 }
 
 fn all_adapters_told(alloc: Global, ports: &Ports) -> Result<String, AllocError> {
-    let plugs = list_told(alloc, &ports.plugs(alloc)?)?;
-    let sockets = list_told(alloc, &ports.sockets(alloc)?)?;
+    let plugs = adapters_told(alloc, ports, Role::Plug)?;
+    let sockets = adapters_told(alloc, ports, Role::Socket)?;
     format!(in alloc; "{plugs} | {sockets}")
 }
 

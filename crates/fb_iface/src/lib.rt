@@ -30,7 +30,7 @@ pub use interfaces::{interface, ports_of};
 pub use literals::report_constant;
 pub use names::first_declared;
 pub use ports::{
-    DeclaredEvent, DeclaredInstance, DeclaredVariable, Ports, is_beside, is_same_side,
+    DeclaredEvent, DeclaredInstance, DeclaredVariable, Ports, is_beside, is_same_role, is_same_side,
 };
 pub use scope::Scope;
 pub use structures::{Behind, FieldTable, Structures};

@@ -66,10 +66,8 @@ impl Ports {
     ghost use Rattle.std.specs.Prelude.{[]};
     ghost use Rattle.std.specs.Option.{option_copied};
     ghost use Rattle.fb_tree.specs.Tree.{type_tree};
-    ghost use Rattle.fb_tree.specs.declared.interface.Side.TheVariants as sides;
-    ghost use Rattle.fb_tree.specs.declared.network.Role.TheVariants as roles;
     ghost use Rattle.fb_iface.specs.Names.{stands_for};
-    ghost use Rattle.fb_iface.specs.Ports.{data_on, events_on, instances_as, meanings_in_network, meanings_in_type};
+    ghost use Rattle.fb_iface.specs.Ports.{meanings_in_network, meanings_in_type};
 
     /// No ports.
     pub fn new(alloc: Global) -> Ports
@@ -132,86 +130,25 @@ impl Ports {
         self.instances.get(name)
     }
 
-    /// The event inputs, each with its type where one is written.
-    pub fn event_inputs(&self, alloc: Global) -> Result<Vec<(Name, Option<WideUse>)>, AllocError>
-        ensures { IfOk result (λ ports. ports.items ≡ events_on sides.Input self.now) }
+    /// The events by their names: the event inputs are those of the side `Input`.
+    pub fn events(&self) -> &IndexMap<Name, DeclaredEvent>
+        ensures { result.now.entries ≡ self.now.events }
     {
-        self.events_on(alloc, Side::Input)
+        &self.events
     }
 
-    /// The event outputs, each with its type where one is written.
-    pub fn event_outputs(&self, alloc: Global) -> Result<Vec<(Name, Option<WideUse>)>, AllocError>
-        ensures { IfOk result (λ ports. ports.items ≡ events_on sides.Output self.now) }
+    /// The variables by their names, internal ones too: the data inputs are those in a section beside `Input` ([`is_beside`]).
+    pub fn variables(&self) -> &IndexMap<Name, DeclaredVariable>
+        ensures { result.now.entries ≡ self.now.variables }
     {
-        self.events_on(alloc, Side::Output)
+        &self.variables
     }
 
-    /// The data inputs with their types.
-    pub fn data_inputs(&self, alloc: Global) -> Result<Vec<(Name, WideTypeUse)>, AllocError>
-        ensures { IfOk result (λ ports. ports.items ≡ data_on sides.Input self.now) }
+    /// The instances by their names, plugs and sockets too.
+    pub fn instances(&self) -> &IndexMap<Name, DeclaredInstance>
+        ensures { result.now.entries ≡ self.now.instances }
     {
-        self.data_on(alloc, Side::Input)
-    }
-
-    /// The data outputs with their types.
-    pub fn data_outputs(&self, alloc: Global) -> Result<Vec<(Name, WideTypeUse)>, AllocError>
-        ensures { IfOk result (λ ports. ports.items ≡ data_on sides.Output self.now) }
-    {
-        self.data_on(alloc, Side::Output)
-    }
-
-    /// The plugs with their types.
-    pub fn plugs(&self, alloc: Global) -> Result<Vec<(Name, WideUse)>, AllocError>
-        ensures { IfOk result (λ ports. ports.items ≡ instances_as roles.Plug self.now) }
-    {
-        self.instances_as(alloc, Role::Plug)
-    }
-
-    /// The sockets with their types.
-    pub fn sockets(&self, alloc: Global) -> Result<Vec<(Name, WideUse)>, AllocError>
-        ensures { IfOk result (λ ports. ports.items ≡ instances_as roles.Socket self.now) }
-    {
-        self.instances_as(alloc, Role::Socket)
-    }
-
-    fn events_on(
-        &self,
-        alloc: Global,
-        side: Side,
-    ) -> Result<Vec<(Name, Option<WideUse>)>, AllocError>
-        ensures { IfOk result (λ ports. ports.items ≡ events_on side self.now) }
-    {
-        let mut ports = Vec::new(alloc);
-        for (name, event) in self.events.iter() {
-            if is_same_side(event.side, side) {
-                ports.push((*name, event.type_name))?;
-            }
-        }
-        Ok(ports)
-    }
-
-    fn data_on(&self, alloc: Global, side: Side) -> Result<Vec<(Name, WideTypeUse)>, AllocError>
-        ensures { IfOk result (λ ports. ports.items ≡ data_on side self.now) }
-    {
-        let mut ports = Vec::new(alloc);
-        for (name, variable) in self.variables.iter() {
-            if is_beside(side, variable.section) {
-                ports.push((*name, variable.type_use))?;
-            }
-        }
-        Ok(ports)
-    }
-
-    fn instances_as(&self, alloc: Global, role: Role) -> Result<Vec<(Name, WideUse)>, AllocError>
-        ensures { IfOk result (λ ports. ports.items ≡ instances_as role self.now) }
-    {
-        let mut ports = Vec::new(alloc);
-        for (name, instance) in self.instances.iter() {
-            if is_same_role(instance.role, role) {
-                ports.push((*name, instance.type_name))?;
-            }
-        }
-        Ok(ports)
+        &self.instances
     }
 }
 
@@ -225,7 +162,8 @@ pub fn is_same_side(a: Side, b: Side) -> bool
     }
 }
 
-fn is_same_role(a: Role, b: Role) -> bool
+/// Whether two roles are the same.
+pub fn is_same_role(a: Role, b: Role) -> bool
     ensures { result ≡ same_role a b }
 {
     match (a, b) {

@@ -1,15 +1,13 @@
 //! The ports of a type in plain (IEC 61499-1, 5.2: interfaces of function block types; 5.5: adapters).
 ghost use Rattle.std.specs.Prelude.{◌≡◌, ◌++◌, IfOk, OnOk, map};
 ghost use Rattle.fb_tree.specs.Tree.{type_tree};
-ghost use Rattle.fb_tree.specs.declared.interface.Side.TheVariants as sides;
-ghost use Rattle.fb_tree.specs.declared.network.Role.TheVariants as roles;
 ghost use Rattle.fb_iface.specs.Ports.{data_on, events_on, instances_as, meanings_in_type};
 ghost use Rattle.fb_wiring.specs.Ports.{plain_adapter, plain_data, plain_event, plain_ports};
 
-use fb_iface::Ports;
+use fb_iface::{Ports, is_beside, is_same_role, is_same_side};
 use fb_network::Port;
-use fb_tree::text::{Name, WideUse};
-use fb_tree::{Side, Sort, TypeDeclaration, WideTypeUse};
+use fb_tree::text::Name;
+use fb_tree::{Role, Side, Sort, TypeDeclaration};
 use std::alloc::{AllocError, Global};
 
 /// The ports of a type: events and data, inputs before outputs, then plugs and sockets.
@@ -19,98 +17,65 @@ pub fn ports_of_type(alloc: Global, declared: &TypeDeclaration) -> Result<Vec<Po
 {
     let names = Ports::of_type(alloc, declared)?;
     let mut ports = Vec::new(alloc);
-    push_event_ports(alloc, &names, &mut ports)?;
-    push_data_ports(alloc, &names, &mut ports)?;
-    push_adapter_ports(alloc, &names, &mut ports)?;
+    push_events(Side::Input, &names, &mut ports)?;
+    push_events(Side::Output, &names, &mut ports)?;
+    push_data(Side::Input, &names, &mut ports)?;
+    push_data(Side::Output, &names, &mut ports)?;
+    push_adapters(Side::Output, Role::Plug, &names, &mut ports)?;
+    push_adapters(Side::Input, Role::Socket, &names, &mut ports)?;
     Ok(ports)
 }
 
-fn push_event_ports(alloc: Global, names: &Ports, ports: &mut Vec<Port>) -> Result<(), AllocError>
-    ensures { OnOk result (ports.new.items ≡ ports.old.items
-        ++ map (plain_event sides.Input) (events_on sides.Input names.now)
-        ++ map (plain_event sides.Output) (events_on sides.Output names.now)) }
-{
-    let inputs = names.event_inputs(alloc)?;
-    push_events(Side::Input, inputs.as_slice(), ports)?;
-    let outputs = names.event_outputs(alloc)?;
-    push_events(Side::Output, outputs.as_slice(), ports)
-}
-
-fn push_data_ports(alloc: Global, names: &Ports, ports: &mut Vec<Port>) -> Result<(), AllocError>
-    ensures { OnOk result (ports.new.items ≡ ports.old.items
-        ++ map (plain_data sides.Input) (data_on sides.Input names.now)
-        ++ map (plain_data sides.Output) (data_on sides.Output names.now)) }
-{
-    let inputs = names.data_inputs(alloc)?;
-    push_data(Side::Input, inputs.as_slice(), ports)?;
-    let outputs = names.data_outputs(alloc)?;
-    push_data(Side::Output, outputs.as_slice(), ports)
-}
-
-/// A plug is an output, and a socket an input.
-fn push_adapter_ports(alloc: Global, names: &Ports, ports: &mut Vec<Port>) -> Result<(), AllocError>
-    ensures { OnOk result (ports.new.items ≡ ports.old.items
-        ++ map (plain_adapter sides.Output) (instances_as roles.Plug names.now)
-        ++ map (plain_adapter sides.Input) (instances_as roles.Socket names.now)) }
-{
-    let plugs = names.plugs(alloc)?;
-    push_adapters(Side::Output, plugs.as_slice(), ports)?;
-    let sockets = names.sockets(alloc)?;
-    push_adapters(Side::Input, sockets.as_slice(), ports)
-}
-
-fn push_events(
-    side: Side,
-    events: &[(Name, Option<WideUse>)],
-    ports: &mut Vec<Port>,
-) -> Result<(), AllocError>
-    ensures { OnOk result (ports.new.items ≡ ports.old.items ++ map (plain_event side) events.now) }
-{
-    for event in events {
-        ports.push(Port {
-            sort: Sort::Event,
-            side,
-            name: event.0,
-            adapter: None,
-        })?;
-    }
-    Ok(())
-}
-
-fn push_data(
-    side: Side,
-    variables: &[(Name, WideTypeUse)],
-    ports: &mut Vec<Port>,
-) -> Result<(), AllocError>
+fn push_events(side: Side, names: &Ports, ports: &mut Vec<Port>) -> Result<(), AllocError>
     ensures { OnOk result
-        (ports.new.items ≡ ports.old.items ++ map (plain_data side) variables.now) }
+        (ports.new.items ≡ ports.old.items ++ map (plain_event side) (events_on side names.now)) }
 {
-    for variable in variables {
-        ports.push(Port {
-            sort: Sort::Data,
-            side,
-            name: variable.0,
-            adapter: None,
-        })?;
+    for (name, event) in names.events().iter() {
+        if is_same_side(event.side, side) {
+            ports.push(port(Sort::Event, side, *name, None))?;
+        }
     }
     Ok(())
 }
 
+fn push_data(side: Side, names: &Ports, ports: &mut Vec<Port>) -> Result<(), AllocError>
+    ensures { OnOk result
+        (ports.new.items ≡ ports.old.items ++ map (plain_data side) (data_on side names.now)) }
+{
+    for (name, variable) in names.variables().iter() {
+        if is_beside(side, variable.section) {
+            ports.push(port(Sort::Data, side, *name, None))?;
+        }
+    }
+    Ok(())
+}
+
+/// The plugs as outputs, or the sockets as inputs.
 fn push_adapters(
     side: Side,
-    adapters: &[(Name, WideUse)],
+    role: Role,
+    names: &Ports,
     ports: &mut Vec<Port>,
 ) -> Result<(), AllocError>
     ensures { OnOk result
-        (ports.new.items ≡ ports.old.items ++ map (plain_adapter side) adapters.now) }
+        (ports.new.items ≡ ports.old.items ++ map (plain_adapter side) (instances_as role names.now)) }
 {
-    for adapter in adapters {
-        ports.push(Port {
-            sort: Sort::Adapter,
-            side,
-            name: adapter.0,
-            adapter: Some(*adapter.1.name()),
-        })?;
+    for (name, instance) in names.instances().iter() {
+        if is_same_role(instance.role, role) {
+            let adapter = Some(*instance.type_name.name());
+            ports.push(port(Sort::Adapter, side, *name, adapter))?;
+        }
     }
     Ok(())
+}
+
+fn port(sort: Sort, side: Side, name: Name, adapter: Option<Name>) -> Port
+    ensures { result ≡ record { sort = sort; side = side; name = name; adapter = adapter } }
+{
+    Port {
+        sort,
+        side,
+        name,
+        adapter,
+    }
 }

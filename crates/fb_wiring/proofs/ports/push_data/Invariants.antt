@@ -1,6 +1,10 @@
-use Rattle.std.proofs.Common.{◌≡◌, ◌++◌, map, take}
+use Rattle.std.proofs.Common.{◌≡◌, ◌++◌, map}
+use Rattle.std.specs.List.{filter}
+use Rattle.fb_iface.specs.Sides.{is_data_on}
 use Rattle.fb_wiring.specs.Ports.{plain_data}
 use Rattle.fb_wiring.proofs.ports.push_data.Given as goal
 
-abbrev pub invariant-loop-variable : goal.invariant-loop-variable
-invariant-loop-variable l = l.ports.items ≡ l.initial.ports.items ++ map (plain_data l.side) (take l.variable-index l.variables)
+abbrev pub invariant-loop-name : goal.invariant-loop-name
+invariant-loop-name l =
+    l.ports.items ++ map (plain_data l.side) (map (λ e. (e.0, e.1.type_use)) (filter (λ e. is_data_on l.side e.1.section) l.name-iterator))
+    ≡ l.initial.ports.items ++ map (plain_data l.side) (map (λ e. (e.0, e.1.type_use)) (filter (λ e. is_data_on l.side e.1.section) l.names.variables))

@@ -1,9 +1,0 @@
-use Rattle.std.proofs.Common.{◌≡◌, ◌++◌, map}
-use Rattle.std.specs.List.{filter}
-use Rattle.fb_iface.specs.Sides.{is_data_on}
-use Rattle.fb_iface.proofs.ports.Ports.data_on.Given as goal
-
-abbrev pub invariant-loop-name : goal.invariant-loop-name
-invariant-loop-name l =
-    l.ports.items ++ map (λ e. (e.0, e.1.type_use)) (filter (λ e. is_data_on l.side e.1.section) l.name-iterator)
-    ≡ map (λ e. (e.0, e.1.type_use)) (filter (λ e. is_data_on l.side e.1.section) l.self.variables)

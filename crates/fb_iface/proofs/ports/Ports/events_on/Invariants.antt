@@ -1,9 +1,0 @@
-use Rattle.std.proofs.Common.{◌≡◌, ◌++◌, map}
-use Rattle.std.specs.List.{filter}
-use Rattle.fb_iface.specs.Ports.{same_side}
-use Rattle.fb_iface.proofs.ports.Ports.events_on.Given as goal
-
-abbrev pub invariant-loop-name : goal.invariant-loop-name
-invariant-loop-name l =
-    l.ports.items ++ map (λ e. (e.0, e.1.type_name)) (filter (λ e. same_side e.1.side l.side) l.name-iterator)
-    ≡ map (λ e. (e.0, e.1.type_name)) (filter (λ e. same_side e.1.side l.side) l.self.events)
