@@ -3,28 +3,26 @@ ghost use Rattle.std.specs.Prelude.{◌≤◌};
 
 use fb_shared::Receipt;
 use std::alloc::Global;
-use std::mem;
 use std::sync::{Mutex, Wait};
 
 /// The receipts of all calls of one epoch. A history begins anew where it is full and only there, so an epoch has `span` calls, and which one a receipt is
-/// of follows from its number. Those of the epoch before stay in `past` until they are dropped, some with each that is added.
+/// of follows from its number. Behind the first `fresh` receipts are those of the epoch before: each new one takes the place of one of them, so a list that
+/// is full once grows no more.
 pub struct Epoch {
-    alloc: Global,
     span: u64,
     start: u64,
+    fresh: usize,
     receipts: Vec<Receipt>,
-    past: Vec<Receipt>,
     ghost some: { 1 ≤ span },
 }
 
 impl Drop for Epoch {
     fn drop(self) {
         let Self {
-            alloc: _,
             span: _,
             start: _,
+            fresh: _,
             receipts: _,
-            past: _,
         } = self;
     }
 }
@@ -35,55 +33,49 @@ impl Epoch {
         requires { 1 ≤ span }
     {
         Epoch {
-            alloc,
             span,
             start: 0,
+            fresh: 0,
             receipts: Vec::new(alloc),
-            past: Vec::new(alloc),
         }
     }
 
-    /// Takes the receipts in. Those that it has from an earlier epoch go, two for each that comes. What comes too late goes too, and where there is no room
-    /// nothing is taken.
+    /// Takes the receipts in. Those that come too late are dropped. Where there is no room, the others stay.
     pub(crate) fn add(&mut self, receipts: &mut Vec<Receipt>) {
         let Some(last) = receipts.last() else {
             return;
         };
         let start = last.number().saturating_sub(1) / self.span * self.span;
         if self.start < start {
-            self.begin(start);
+            self.start = start;
+            self.fresh = 0;
         }
         let start = self.start;
         receipts.retain(|receipt| start < receipt.number());
-        self.drop_past(receipts.len());
-        let _kept = self.receipts.append(receipts);
-    }
-
-    fn begin(&mut self, start: u64) {
-        let none = Vec::new(self.alloc);
-        self.past = mem::replace(&mut self.receipts, none);
-        self.start = start;
-    }
-
-    /// Drops twice so many receipts of the epoch before, if there are any.
-    fn drop_past(&mut self, count: usize) {
-        for _ in 0..count {
-            drop(self.past.pop());
-            drop(self.past.pop());
+        self.replace_past(receipts);
+        if !receipts.is_empty() && self.receipts.append(receipts).is_ok() {
+            self.fresh = self.receipts.len();
         }
-        if self.past.is_empty() {
-            self.past = Vec::new(self.alloc);
+    }
+
+    /// Puts receipts in the places of those of the epoch before, as long as there are both.
+    fn replace_past(&mut self, receipts: &mut Vec<Receipt>) {
+        while let Some(past) = self.receipts.get_mut(self.fresh) {
+            let Some(receipt) = receipts.pop() else {
+                return;
+            };
+            *past = receipt;
+            self.fresh += 1;
         }
     }
 
     /// Those with a number behind this one.
     pub(crate) fn into_receipts(self, before: u64) -> Vec<Receipt> {
         let Epoch {
-            alloc: _,
             span: _,
             start: _,
+            fresh: _,
             receipts,
-            past: _,
         } = self;
         let mut receipts = receipts;
         receipts.retain(|receipt| before < receipt.number());

@@ -58,46 +58,46 @@ impl Locked {
             (λ refused. (refused.owner ≡ self) × (refused.seats.items ≡ seats.items)) }
     {
         let callers = self.callers;
-        self.close_for(alloc, callers, seats, receipts)
+        close_for(self, alloc, callers, seats, receipts)
     }
+}
 
-    /// Ends the calls, where seats were made for so many callers.
-    pub fn close_for(
-        self,
-        alloc: Global,
-        callers: u32,
-        seats: Vec<Seat>,
-        receipts: &[Receipt],
-    ) -> Result<Closed, NotClosed<Locked>>
-        ensures agrees { IfOk result
-            (λ closed. AgreesWith callers self.bench seats.items receipts.now) }
-        ensures bench { IfOk result (λ closed. closed.bench ≡ self.bench) }
-        ensures counts { IfOk result
-            (λ closed. IsBookOf closed.counts callers self.bench) }
+/// Ends the calls, where seats were made for so many callers: for a holder that knows by itself how many there are.
+pub fn close_for(
+    locked: Locked,
+    alloc: Global,
+    callers: u32,
+    seats: Vec<Seat>,
+    receipts: &[Receipt],
+) -> Result<Closed, NotClosed<Locked>>
+    ensures agrees { IfOk result
+        (λ closed. AgreesWith callers locked.bench seats.items receipts.now) }
+    ensures bench { IfOk result (λ closed. closed.bench ≡ locked.bench) }
+    ensures counts { IfOk result
+        (λ closed. IsBookOf closed.counts callers locked.bench) }
 
-        ensures fault { IfErr result
-            (λ refused. IsFirstFault callers self.bench
-            seats.items receipts.now refused.fault) }
-        ensures back { IfErr result
-            (λ refused. (refused.owner ≡ self) × (refused.seats.items ≡ seats.items)) }
-    {
-        match check(alloc, &self.bench, callers, &seats, receipts) {
-            Ok(counts) => {
-                let Locked {
-                    alloc: _,
-                    bench,
-                    callers: _,
-                    stopped: _,
-                    past: _,
-                } = self;
-                Ok(Closed { bench, counts })
-            }
-            Err(fault) => Err(NotClosed {
-                fault,
-                owner: self,
-                seats,
-            }),
+    ensures fault { IfErr result
+        (λ refused. IsFirstFault callers locked.bench
+        seats.items receipts.now refused.fault) }
+    ensures back { IfErr result
+        (λ refused. (refused.owner ≡ locked) × (refused.seats.items ≡ seats.items)) }
+{
+    match check(alloc, &locked.bench, callers, &seats, receipts) {
+        Ok(counts) => {
+            let Locked {
+                alloc: _,
+                bench,
+                callers: _,
+                stopped: _,
+                past: _,
+            } = locked;
+            Ok(Closed { bench, counts })
         }
+        Err(fault) => Err(NotClosed {
+            fault,
+            owner: locked,
+            seats,
+        }),
     }
 }
 

@@ -10,7 +10,7 @@ mod resume;
 mod roll;
 mod seat;
 
-pub use close::{CloseFault, Closed, NotClosed};
+pub use close::{CloseFault, Closed, NotClosed, close_for};
 pub use locked::{Locked, SharedRefused};
 pub use look::{Look, WorkEnd};
 pub use resume::{NotResumed, ResumeFault};

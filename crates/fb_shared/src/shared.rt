@@ -12,7 +12,7 @@ ghost use Rattle.fb_locked.specs.Seats.{AreFirstSeats, AreSeatsAt};
 use fb_locked::bench::{Answered, Bench, Limits, Request};
 use fb_locked::jobs::{Finished, Job, Key};
 use fb_locked::library::Change;
-use fb_locked::{Closed, Locked, NotClosed, NotResumed, Receipt, Seat, SharedRefused};
+use fb_locked::{Closed, Locked, NotClosed, NotResumed, Receipt, Seat, SharedRefused, close_for};
 use std::alloc::{AllocError, Global};
 use std::marker::Model;
 use std::sync::{Condvar, Mutex, Wait};
@@ -265,10 +265,7 @@ impl Shared {
             changed,
             rolls,
         } = self;
-        match state
-            .into_inner()
-            .close_for(alloc, callers, seats, receipts)
-        {
+        match close_for(state.into_inner(), alloc, callers, seats, receipts) {
             Ok(closed) => Ok(closed),
             Err(
                 NotClosed {

@@ -1,8 +1,11 @@
-//! Tests of jobs that are made of a library: what they take along, what is kept of their reads, and calls of which each allocation is refused in turn.
+//! Tests of jobs that are made of a library: what they take along, what is kept of their reads, calls of which each allocation is refused in turn, and a plant
+//! through the calls of all crates below.
 #![tactic(auto)]
 
 #[cfg(test)]
 mod hints;
+#[cfg(test)]
+mod plant;
 #[cfg(test)]
 mod refused;
 #[cfg(test)]

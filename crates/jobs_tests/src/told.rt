@@ -19,7 +19,7 @@ fn say_blocks(told: &mut String, blocks: &[FlatBlock]) -> Result<(), AllocError>
     Ok(())
 }
 
-fn say_links(told: &mut String, links: &[Link]) -> Result<(), AllocError> {
+pub(crate) fn say_links(told: &mut String, links: &[Link]) -> Result<(), AllocError> {
     for link in links {
         write!(told, "; {} TO {}", link.from.as_str(), link.to.as_str())?;
     }
@@ -39,6 +39,13 @@ fn say_net(told: &mut String, alloc: Global, net: &Net) -> Result<(), AllocError
         Net::Recursive(names) => write!(told, " recursive by {}", names.len()),
         Net::TooLarge => told.push_str(" too large"),
     }
+}
+
+/// A net.
+pub(crate) fn net_told(alloc: Global, net: &Net) -> Result<String, AllocError> {
+    let mut told = String::new(alloc);
+    say_net(&mut told, alloc, net)?;
+    Ok(told)
 }
 
 fn say_value(told: &mut String, alloc: Global, value: &Value) -> Result<(), AllocError> {
