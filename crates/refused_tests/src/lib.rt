@@ -17,6 +17,8 @@ mod owners;
 #[cfg(test)]
 mod refused;
 #[cfg(test)]
+mod roll;
+#[cfg(test)]
 mod seated;
 #[cfg(test)]
 mod told;

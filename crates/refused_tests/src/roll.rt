@@ -1,0 +1,84 @@
+//! A history that begins anew, and a key that is given back for a session that ended, of which each allocation is refused in turn.
+use crate::nest::{BEFORE, Given, Which, begun, bench_for, given_for};
+use crate::owners::taken_over;
+use crate::told::bench_told;
+use fb_bench::{CheckpointRefused, Limits};
+use fb_shared::{Locked, Receipt, Seat, SharedRefused};
+use refusing::{Trial, try_call};
+use std::alloc::Global;
+use std::test::Fail;
+
+/// A workbench whose history is full, and the limits with which it begins anew.
+#[derive(Drop)]
+struct Rolled {
+    locked: Locked,
+    limits: Limits,
+}
+
+impl Trial for Rolled {
+    type Setting = Limits;
+
+    fn new(alloc: Global, limits: Limits) -> Result<Rolled, Fail> {
+        let (locked, _seats) = taken_over::<Locked>(alloc, begun(alloc, BEFORE)?)?;
+        Ok(Rolled { locked, limits })
+    }
+
+    fn call(&mut self, _alloc: Global) -> bool {
+        self.locked.make_room(self.limits) != Err(CheckpointRefused::Memory)
+    }
+
+    fn told(&self, alloc: Global) -> Result<String, Fail> {
+        Ok(bench_told(alloc, self.locked.bench())?)
+    }
+}
+
+#[test]
+fn a_history_begins_anew(rt: HostRuntime) -> Result<(), Fail> {
+    let limits = Limits::new(5, BEFORE).ok_or("limits")?;
+    try_call::<Rolled>(&rt, rt.alloc(), "Locked::make_room", "", limits)
+}
+
+/// A workbench of which a key is out, and the seat of a session that ended.
+#[derive(Drop)]
+struct Returned<'a> {
+    given: &'a Given,
+    locked: Locked,
+    seat: Seat,
+    receipts: Vec<Receipt>,
+}
+
+impl<'a> Trial for Returned<'a> {
+    type Setting = &'a Given;
+
+    fn new(alloc: Global, given: &'a Given) -> Result<Returned<'a>, Fail> {
+        let bench = bench_for(alloc, Which::GiveBack)?;
+        let (locked, mut seats) = taken_over::<Locked>(alloc, bench)?;
+        Ok(Returned {
+            given,
+            locked,
+            seat: seats.pop().ok_or("no seat")?,
+            receipts: Vec::new(alloc),
+        })
+    }
+
+    fn call(&mut self, _alloc: Global) -> bool {
+        let key = self.given.key;
+        let answer = self
+            .locked
+            .return_held(&mut self.seat, &mut self.receipts, key, BEFORE + 1);
+        answer != Err(SharedRefused::Memory)
+    }
+
+    fn told(&self, alloc: Global) -> Result<String, Fail> {
+        let mut told = bench_told(alloc, self.locked.bench())?;
+        let (turns, seen, kept) = (self.seat.turns(), self.seat.seen(), self.receipts.len());
+        write!(told, "\n{turns} {seen} {kept}")?;
+        Ok(told)
+    }
+}
+
+#[test]
+fn a_held_key_is_given_back(rt: HostRuntime) -> Result<(), Fail> {
+    let given = given_for(rt.alloc())?;
+    try_call::<Returned<'_>>(&rt, rt.alloc(), "Locked::return_held", "", &given)
+}
