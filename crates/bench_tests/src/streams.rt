@@ -90,10 +90,11 @@ const RUNS: &[Row] = &[
     (b" \t\r\n", WIDE, WIDE, 1000, RunEnd::End, b""),
 ];
 
-// Compares how a run ended, what it wrote, and whether a read or a write has failed.
+// Compares how a run ended, what it wrote, whether a read came to the end, and whether a read or a write has failed.
 fn compare_run(rt: &impl Abort, run: &Run, end: RunEnd, output: &[u8]) {
     assert_eq!(rt; run.end, end);
     assert!(rt; run.output.as_slice() == output);
+    assert_eq!(rt; run.read_ended, end == RunEnd::End);
     let failed = [run.read_failed, run.write_failed];
     assert!(rt; failed == [end == RunEnd::ReadFailed, end == RunEnd::WriteFailed]);
 }

@@ -36,11 +36,12 @@ pub(crate) const GOOD: Streams = Streams {
     turns: 1_000_000,
 };
 
-/// How a run ended, what it wrote, and whether a read or a write has failed.
+/// How a run ended, what it wrote, whether a read came to the end, and whether a read or a write has failed.
 #[derive(Drop)]
 pub(crate) struct Run {
     pub(crate) end: RunEnd,
     pub(crate) output: Vec<u8>,
+    pub(crate) read_ended: bool,
     pub(crate) read_failed: bool,
     pub(crate) write_failed: bool,
 }
@@ -66,6 +67,7 @@ pub(crate) fn run_over(
     Ok(Run {
         end,
         output: sink.as_slice().to_vec(alloc)?,
+        read_ended: feed.ended(),
         read_failed: feed.failed(),
         write_failed: sink.failed(),
     })

@@ -64,4 +64,8 @@ impl<R: Read> Feed for FromRead<R> {
     fn failed(&self) -> bool {
         self.has_failed
     }
+
+    fn ended(&self) -> bool {
+        self.has_ended
+    }
 }

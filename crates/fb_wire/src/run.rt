@@ -80,7 +80,7 @@ fn take_turn<F: Feed, S: Sink, D: Desk>(
 }
 
 /// Answers the lines of the reader, in order, by the calls of the desk, and writes the replies. A turn is one
-/// read.
+/// read. If the turns are over before the end of the input, the reader can go on.
 pub fn run_lines<F: Feed, S: Sink, D: Desk>(
     alloc: Global,
     reader: &mut F,
@@ -91,12 +91,13 @@ pub fn run_lines<F: Feed, S: Sink, D: Desk>(
     requires reader { F.has_failed reader.old ≡ false }
     requires open { F.has_ended reader.old ≡ false }
     requires writer { S.has_failed writer.old ≡ false }
-    ensures { (talk : IsTalk result turns
+    ensures talk { (talk : IsTalk result turns
         (streams F.given F.left F.reads F.has_failed S.held S.is_flushed S.has_failed reader.old
         writer.old)
         (streams F.given F.left F.reads F.has_failed S.held S.is_flushed S.has_failed reader.new
         writer.new))
         × Runs D.step desk.old talk.pairs desk.new }
+    ensures open { result ≡ RunEnd.TurnsOver → F.has_ended reader.new ≡ false }
 {
     let mut talk = Conversation::new(alloc);
     let mut buffer = [0; READ_SIZE];

@@ -16,8 +16,8 @@ length_given before more now e =
 not_over : (it : RunEnd) → it ≡ end.TurnsOver → StopsRead it → ⊥
 not_over it is stops = subst StopsRead is stops
 
-pub returns-in-Err : goal.returns-in-Err
-returns-in-Err g c =
+pub returns-in-Err-clause-talk : goal.returns-in-Err-clause-talk
+returns-in-Err-clause-talk g c =
     let inv = c.loop-turn.invariant in
     let turn = rw c.in-Err.is at c.take_turn.ensures.taken in
     let both = pieces_come g.D.Desk.step c.args.desk.now c.loop-turn.desk c.take_turn.new.desk [] c.loop-turn.talk.line.items c.take_turn.new.talk.line.items [] c.loop-turn.talk.held.items c.take_turn.new.talk.held.items
@@ -48,8 +48,8 @@ returns-in-Err g c =
       ran.2,
     )
 
-pub returns : goal.returns
-returns g c =
+pub returns-clause-talk : goal.returns-clause-talk
+returns-clause-talk g c =
     let inv = c.loop-turn.invariant in
     let ran = run_breaks g.D.Desk.step c.args.desk.now c.loop-turn.desk c.loop-turn.talk.line.items c.loop-turn.talk.held.items (g.S.Sink.held c.args.writer.now) (g.S.Sink.held c.loop-turn.writer) inv.3 inv.6 in (
       record {
@@ -73,6 +73,12 @@ returns g c =
       },
       ran.2,
     )
+
+pub returns-in-Err-clause-open : goal.returns-in-Err-clause-open
+returns-in-Err-clause-open g c = λ is. absurd (not_over c.in-Err.end is (rw c.in-Err.is at c.take_turn.ensures.end))
+
+pub returns-clause-open : goal.returns-clause-open
+returns-clause-open g c = λ _. c.loop-turn.invariant.9
 
 pub loop-turn-init : goal.loop-turn-init
 loop-turn-init g c = (
