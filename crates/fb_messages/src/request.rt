@@ -154,12 +154,15 @@ fn give_back_in(value: &Value) -> Option<Request<'_>>
     Some(Request::GiveBack { kind, unit })
 }
 
+/// How many turns one request for work has at most.
+const MOST_TURNS: u64 = 1_000;
+
 fn work_in(value: &Value) -> Option<Request<'_>>
     ensures { option_map request_view result
         ≡ option_and_then work_of (number_at (codes "turns") (view value.now)) }
 {
     let turns = number_at(value, "turns")?;
-    if 1 <= turns && turns <= 1000 {
+    if 1 <= turns && turns <= MOST_TURNS {
         Some(Request::Work(turns))
     } else {
         None
