@@ -1,12 +1,39 @@
-"""The parts of pages that tools make: what stands between `<!-- made: NAME -->` and `<!-- end -->`. Between `<!-- measured: NAME -->` and `<!-- end -->`
-stand figures that a program measured (benchmarks/tables --into PAGE): these are not made again here. All else in a page is written by hand."""
+"""The parts of pages that tools make, between `<!-- made: NAME -->` and `<!-- end -->`. Between `<!-- measured: NAME -->` and `<!-- end -->` are figures
+that a program measured (benchmarks/tables --into PAGE): these are not made again here. All else in a page is written by hand."""
+import glob
+import os
 import re
+import runpy
+import textwrap
 
+import code_parts
 import gate_seconds
+import headline
 import promises
 
 BLOCK = re.compile(r"^(<!-- (made|measured): (.+?) -->\n)(.*?)^(<!-- end -->)$", re.M | re.S)
+
+
+def tools():
+    """Of each command of tools/ the sentence at its head."""
+    rows = []
+    for path in sorted(it for it in glob.glob(f"{code_parts.TOP}/tools/*") if os.access(it, os.X_OK) and os.path.isfile(it)):
+        with open(path, encoding="utf-8") as file:
+            head = re.match(r'#!.*\n(?:"""|# )(.*?)(?:\n\n|\n(?=set -)|""")', file.read(), re.S)
+        rows.append(f"| `{os.path.basename(path)}` | {' '.join(head[1].split())} |")
+    return "\n".join(["| Tool | What it does |", "|---|---|", *rows, ""])
+
+
+def neovim():
+    """What the test of Neovim prints, which it compares with the same words."""
+    printed = runpy.run_path(f"{code_parts.TOP}/clients/tests/editor")["EXPECTED"]
+    return f"\n    $ clients/tests/editor\n{textwrap.indent(printed, '    ')}\n"
+
+
 TABLES = {
+    "tools": tools,
+    "what Neovim shows": neovim,
+    "how much to read": headline.how_much,
     "promises": promises.all_promises,
     "crates": promises.all_crates,
     "runs of the gate": gate_seconds.runs,
