@@ -19,7 +19,7 @@ def tools():
     rows = []
     for path in sorted(it for it in glob.glob(f"{code_parts.TOP}/tools/*") if os.access(it, os.X_OK) and os.path.isfile(it)):
         with open(path, encoding="utf-8") as file:
-            head = re.match(r'#!.*\n(?:"""|# )(.*?)(?:\n\n|\n(?=set -)|""")', file.read(), re.S)
+            head = re.match(r'#![^\n]*\n(?:"""|# )(.*?)(?:\n\n|\n(?=set -)|""")', file.read(), re.S)
         rows.append(f"| `{os.path.basename(path)}` | {' '.join(head[1].split())} |")
     return "\n".join(["| Tool | What it does |", "|---|---|", *rows, ""])
 
