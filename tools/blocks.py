@@ -1,9 +1,12 @@
 """The parts of pages that tools make, between `<!-- made: NAME -->` and `<!-- end -->`. Between `<!-- measured: NAME -->` and `<!-- end -->` are figures
 that a program measured (benchmarks/tables --into PAGE): these are not made again here. All else in a page is written by hand."""
+import functools
 import glob
 import os
 import re
 import runpy
+import subprocess
+import sys
 import textwrap
 
 import code_parts
@@ -30,7 +33,20 @@ def neovim():
     return f"\n    $ clients/tests/editor\n{textwrap.indent(printed, '    ')}\n"
 
 
+def options(command, common=False):
+    """The options of a client, by its own help, and what its status means. Those that all clients share are left out, or are given alone."""
+    words = [sys.executable, f"{code_parts.TOP}/clients/{command[0]}", *command[1:], "--help"]
+    printed = subprocess.run(words, capture_output=True, text=True, check=True, env={**os.environ, "COLUMNS": "10000"}).stdout
+    listed, status = re.search(r"\noptions:\n(.*?)(?:\n\n(.*))?\Z", printed, re.S).groups()
+    rows = [(name, help) for name, help in re.findall(r"^  (-\S.*?)(?:  +|\n +)(\S.*)$", listed, re.M) if not re.match(r"-h,|--version", name)]
+    rows = [(name, help) for name, help in rows if bool(re.match(r"--(?:program|connect|secret) ", name)) is common]
+    cells = [f"| `{name}` | {help} |".replace("FOLDER|FILE", "FOLDER\\|FILE") for name, help in rows]
+    return "\n".join(["| Option | Effect |", "|---|---|", *cells, *(["", status.strip()] if status and status.startswith("The status") and not common else []), ""])
+
+
 TABLES = {
+    "options of all clients": lambda: options(["lsp"], common=True),
+    **{f"options of {it}": functools.partial(options, it.split()) for it in ("check", "plan", "draw", "board", "exchange import", "exchange export", "exchange boot")},
     "tools": tools,
     "what Neovim shows": neovim,
     "how much to read": headline.how_much,
