@@ -58,7 +58,7 @@ def heads():
 
 
 def last_whole():
-    """The newest run that was not broken off."""
+    """The newest run that was not interrupted."""
     return next(f"{TOP}/docs/gate/{file}" for file, head in heads() if head[6])
 
 

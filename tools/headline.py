@@ -12,9 +12,9 @@ import code_parts as parts
 PAGE = "docs/HEADLINE.md"
 TITLE = """# What the promises rest on
 
-This page is made by `tools/headline.py` and not written: `tools/check-docs --mend` makes it anew. A contract says no more than the definitions that it cites. Here is
-each of them, after those that it uses, with the comment above it; a type of the program that definitions name stands with its Rust text. What the kit
-defines (numbers, lists, options, maps) is not listed. To believe a promise, read these, and trust what [TRUST.md](TRUST.md) says is trusted. [PROVED.md](PROVED.md) walks through one of them.
+A contract says no more than the definitions that it cites. This page has all of them, each after those that it uses, with the comment above it, and the types of the program that they name. What the
+kit defines (numbers, lists, options, maps) is left out. To believe a promise, read its definitions, and trust what [TRUST.md](TRUST.md) lists. [PROVED.md](PROVED.md) follows one promise through them.
+`tools/check-docs --mend` makes this page from the crates (`tools/headline.py`).
 """
 SECTIONS = (
     ("The headline", "After any list of calls every entry that is shown is the one from scratch.", (
@@ -206,16 +206,31 @@ def shown(it):
     return f"[`{it.title}`](../{it.path}#L{it.line})\n\n```{kind}\n{it.text}\n```\n"
 
 
-def made():
-    """The text of the page."""
-    above, rows, texts = set(), [], []
+def sections():
+    """Of each section its title, its sentence, its calls, all definitions that they rest on, and those of these that no section above has."""
+    above = set()
     for title, sentence, calls in SECTIONS:
         whole = ordered([it for call in calls for it in cited(*call)])
         new = [it for it in whole if (it.path, it.name) not in above]
         above |= {(it.path, it.name) for it in new}
-        named = ", ".join(f"`{crate}`: `{name}`" for crate, name in calls)
-        anchor = title.lower().replace(" ", "-")
-        rows.append(f"| [{title}](#{anchor}) | {named} | {len(whole):,} | {lines_of(whole):,} | {len(new):,} | {lines_of(new):,} |")
+        yield title, sentence, ", ".join(f"`{crate}`: `{name}`" for crate, name in calls), whole, new
+
+
+def counts(whole, new):
+    return " | ".join(f"{it:,}" for it in (len(whole), lines_of(whole), len(new), lines_of(new)))
+
+
+def how_much():
+    """How much each section of the page has, as a table for other pages."""
+    rows = (f"| [{title}](HEADLINE.md#{title.lower().replace(' ', '-')}) | {counts(whole, new)} |" for title, _, _, whole, new in sections())
+    return "\n".join(["| To believe | Definitions | Lines | Of these not above | Lines |", "|---|---|---|---|---|", *rows, ""])
+
+
+def made():
+    """The text of the page."""
+    rows, texts = [], []
+    for title, sentence, named, whole, new in sections():
+        rows.append(f"| [{title}](#{title.lower().replace(' ', '-')}) | {named} | {counts(whole, new)} |")
         texts.append("\n".join([f"## {title}\n", f"{sentence} Cited by the contracts of {named}.\n", *map(shown, new)]))
     head = "| Promise | Calls | Definitions | Lines | Not above | Lines |\n|---|---|---|---|---|---|"
     return "\n".join([TITLE, head, *rows, "", *texts]).rstrip("\n") + "\n"

@@ -1,4 +1,4 @@
-"""Makes the blocks of docs/PROMISES.md: of each promise its contracts, definitions, laws, wrong bodies and tests; a table of all promises; and a table of the crates.
+"""Makes the blocks of docs/PROMISES.md: of each promise its contracts, definitions, laws, wrong bodies and tests; a table of all promises; and the table of the crates of docs/ARCHITECTURE.md.
 
 Which calls carry a promise, and which laws say it again, is said in tools/shown.rows; the wrong bodies are those whose line in a must-fail/README.md names it."""
 import functools
@@ -158,7 +158,7 @@ def all_crates():
     for crate in graph:
         numbers = [it for it in titles() if any(crate == call[0] for call in calls_of(it)) or any(law(name).crate == crate for name in laws_of(it))]
         rows.append([f"[`{crate}`](../crates/{crate})", sentence(crate), ", ".join(numbers)])
-    return table(["Crate", "What it is for", "Promises"], rows)
+    return table(["Crate", "What it is for", "[Promises](PROMISES.md)"], rows)
 
 
 def faults():

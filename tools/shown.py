@@ -15,21 +15,20 @@ KEYS = {"by", "without", "why", "laws", "oracle", "plain", "lines", "of", "throu
 NONE = "**none**"
 HEAD = """# What is shown, and how
 
-For each public call, each refusal and each limit: what is stated of it, what states it again, and what was tried against it.
-`tools/check-docs --mend` makes this page from the crates, their edits and tests and the rows of `tools/shown.rows`, and `tools/check-docs` fails
-where the page is not what it would make now.
+For each public call, each refusal and each limit: its contract and definitions, a second form of these, the wrong bodies that the prover refused, and the tests.
+`tools/check-docs --mend` makes this page from the crates and `tools/shown.rows`.
 
 | Column | What it has |
 |---|---|
-| Contract | the functions whose contracts carry it, and the promises that name them ([PROMISES.md](PROMISES.md)) |
-| Defined by | the definitions that these contracts cite, or what their types are seen as: `crate: File.name` is `crates/crate/specs/File.antt` |
-| In other words | laws that state it a second time, those that [PROMISES.md](PROMISES.md) has for the call; those of `fb_laws` speak of texts and trees alone |
-| Written again | parts of the second implementation ([`oracle`](../oracle/README.md)), and of the ordinary program with the same replies ([`plain`](../benchmarks/plain/README.md)) |
-| Wrong bodies | how many edits of this call the gate tries and how many are beside it. `must-fail/README.md` of each crate names them |
-| Tests | how many tests make the call, by itself or through the calls above it, or send its request |
-| No memory | the test that refuses each allocation of the call in turn, or the call above through which one does; "conversations" if only `tools/refuse --program` does; – if it needs none ([TRUST.md](TRUST.md)) |
+| Contract | the functions whose contracts state it, and their promises ([PROMISES.md](PROMISES.md)) |
+| Defined by | the definitions that these contracts cite, or what contracts see of their types: `crate: File.name` is `crates/crate/specs/File.antt` |
+| In other words | laws that state it a second time; those of `fb_laws` are about texts and trees alone |
+| Written again | the same in the second implementation ([`oracle`](../oracle/README.md)), and in the ordinary program ([`plain`](../benchmarks/plain/README.md)) |
+| Wrong bodies | the number of edits of this call that the gate tries, and of others (`tools/more-edits`). `must-fail/README.md` of each crate names them |
+| Tests | the number of tests that make the call, directly or through calls above it, or send its request |
+| No memory | the test that refuses each allocation of the call in turn, or the call above through which a test does; "conversations" if only `tools/refuse --program` does; – if the call needs no memory ([TRUST.md](TRUST.md#each-allocation-refused-in-turn)) |
 
-Why a cell says **none** is stated [at the end](#why-a-cell-says-none). The tests of what no contract sees are named in [TRUST.md](TRUST.md#tested-only).
+[Why a cell says **none**](#why-a-cell-says-none) is at the end. [TRUST.md](TRUST.md#tested-only) names the tests of what no contract states.
 """
 GAPS = ("No second form", "No wrong body", "No test", "No refused allocation", "No definition")
 

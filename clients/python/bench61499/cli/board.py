@@ -15,6 +15,9 @@ from bench61499.cli.version import add_version
 from bench61499.language.folder import Folder
 from bench61499.language.units import Misuse
 
+UNITS = "with --connect: show these units too; the page can name more, and adds the block types of a network that it shows"
+PORT = "the port of the page (default: any free one). A browser remembers the plans that you saw by this address, and a tunnel needs the same port at both ends"
+
 
 @program
 def main() -> int:
@@ -44,15 +47,15 @@ def read_options() -> argparse.Namespace:
     reader = argparse.ArgumentParser(
         prog="board",
         description="Shows a plant live, as a page in a browser on this machine.",
-        epilog="Give a folder, whose files are watched, or --connect for a workbench that many use, which the board only asks.",
+        epilog="Give a folder, whose files are watched, or --connect for a server, which the board only asks.",
     )
     add_version(reader)
     reader.add_argument("path", nargs="*", type=read_path, metavar="FOLDER|FILE", help="*.fb files, or folders of them")
-    reader.add_argument("--files", nargs="+", type=read_path, metavar="FOLDER|FILE", help="with --connect: where the texts of its units are")
-    reader.add_argument("--unit", nargs="+", type=read_name, default=[], metavar="NAME", help="with --connect: units to look at, beside those of the files")
+    reader.add_argument("--files", nargs="+", type=read_path, metavar="FOLDER|FILE", help="with --connect: show the units of these files, with their texts")
+    reader.add_argument("--unit", nargs="+", type=read_name, default=[], metavar="NAME", help=UNITS)
     reader.add_argument("--calls", type=read_rate, default=CALLS_A_SECOND, metavar="N",
-                        help=f"with --connect: recorded calls of the workbench in a second, at most, in the mean (default {CALLS_A_SECOND:g}); more show changes sooner")
-    reader.add_argument("--port", type=int, default=0, help="where the page is served (default: any free port)")
+                        help=f"with --connect: recorded calls in a second, at most, on average (default {CALLS_A_SECOND:g}); more show changes in large plants sooner")
+    reader.add_argument("--port", type=int, default=0, help=PORT)
     add_workbench(reader)
     options = reader.parse_args()
     if bool(options.path) == bool(options.connect):

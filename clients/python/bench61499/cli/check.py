@@ -13,6 +13,10 @@ from bench61499.cli.looking import ONLY_ASKED, Looked, look
 from bench61499.cli.version import add_version
 from bench61499.language.units import Misuse, Unit, commit_units, read_units
 
+PLANS = """also compute all networks and plans. Each reason why one is missing counts as a fault: UNMAPPED at the instance, NO_SUCH_BLOCK at the mapping, RECURSIVE at the
+instance by which a type contains itself or leads to such a type, BLOCKED at the instance that leads to units that are absent or have faults, TOO_LARGE at the declared name.
+A unit that only its own faults block gets no further line"""
+
 
 @program
 def main() -> int:
@@ -37,18 +41,19 @@ def read_options() -> argparse.Namespace:
     reader = argparse.ArgumentParser(
         prog="check",
         description="Checks texts of IEC 61499 units. Each *.fb file is one unit, named by its declaration.",
-        epilog="Ends with status 0 where there are no faults, 1 where there are, 2 where it could not check. With --plans, a network or a plan "
-        "that is missing counts as a fault.",
+        epilog="The status is 0 if there are no faults; 1 if there are; 2 if a path is absent or unreadable, there is no *.fb file or more than 16,384, two files "
+        "declare one unit, a file has more than 65,536 bytes or is not UTF-8, the server lacks a unit or has another text of it, somebody changed one meanwhile, "
+        "no workbench answers, or the output can't be written.",
     )
     add_version(reader)
     reader.add_argument("path", nargs="+", type=read_path, metavar="FOLDER|FILE", help="*.fb files, or folders of them")
-    reader.add_argument("--plans", action="store_true", help="ask for the networks of all subapplications and the plans of all systems too")
+    reader.add_argument("--plans", action="store_true", help=PLANS)
     add_workbench(reader)
-    reader.add_argument("--replace", action="store_true", help="with --connect: put these files into the workbench first, over what it has of these units")
+    reader.add_argument("--replace", action="store_true", help="with --connect: put the files first; they replace the server's texts, even what a colleague has not saved yet")
     form = reader.add_mutually_exclusive_group()
-    form.add_argument("--format", choices=["human", *MACHINE_FORMATS], default="human", help="the form of the output (default: human)")
+    form.add_argument("--format", choices=["human", *MACHINE_FORMATS], default="human", help="human (the default), or a form for programs")
     form.add_argument("--json", dest="format", action="store_const", const="json", help="the same as --format json")
-    form.add_argument("--quiet", action="store_true", help="print one line for each fault and nothing else")
+    form.add_argument("--quiet", action="store_true", help="print one line for each fault, no source lines and no summary")
     options = reader.parse_args()
     if options.replace and not options.connect:
         reader.error("--replace goes with --connect")

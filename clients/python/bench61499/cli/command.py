@@ -27,17 +27,18 @@ Result = TypeVar("Result")
 def add_workbench(reader: argparse.ArgumentParser) -> None:
     """Adds the words that say which workbench is meant."""
     which = reader.add_mutually_exclusive_group()
-    which.add_argument("--program", help="the workbench to start (default: BENCH61499_PROGRAM, else the built one, else bench61499 on the path)")
-    which.add_argument("--connect", type=read_address, metavar="HOST:PORT", help="a workbench that serves")
+    program = "start this workbench (default: BENCH61499_PROGRAM, else the one built here or part of this release, else bench61499 on the path)"
+    which.add_argument("--program", help=program)
+    which.add_argument("--connect", type=read_address, metavar="HOST:PORT", help="use this server; :PORT is one on this machine")
     secret = os.environ.get("BENCH61499_SECRET_FILE")
-    reader.add_argument("--secret", default=secret, metavar="FILE", help="with --connect: a file whose first line a host asks for (default: BENCH61499_SECRET_FILE)")
+    reader.add_argument("--secret", default=secret, metavar="FILE", help="with --connect: the file whose first line a host requires (default: BENCH61499_SECRET_FILE)")
 
 
 def read_with_units(reader: argparse.ArgumentParser) -> argparse.Namespace:
     """Adds the words that say which units there are, and reads all words."""
-    reader.add_argument("--files", nargs="+", type=read_path, metavar="FOLDER|FILE", help="the units; a workbench of its own is given them")
+    reader.add_argument("--files", nargs="+", type=read_path, metavar="FOLDER|FILE", help="the units; without --connect a workbench of its own gets them")
     add_workbench(reader)
-    reader.add_argument("--replace", action="store_true", help="with --connect and --files: put these files into the workbench first, over what it has of these units")
+    reader.add_argument("--replace", action="store_true", help="with --connect and --files: put the files first; they replace the server's texts")
     options = reader.parse_args()
     if not options.files and not options.connect:
         reader.error("say which units there are: --files FOLDER, or --connect to a workbench that has them")

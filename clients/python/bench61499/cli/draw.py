@@ -52,11 +52,11 @@ def read_options() -> argparse.Namespace:
         prog="draw",
         description="Draws the flat network of a subapplication or a system: event links red, data links blue; the blocks of a system "
         "by their resources, and links from one resource to another dashed.",
-        epilog="Ends with status 0 where it has drawn, 1 where the unit has no network, 2 where it could not ask for it.",
+        epilog="The status is 0 if it has drawn, 1 if the unit has no network, 2 if it could not ask or draw.",
     )
     add_version(reader)
     reader.add_argument("unit", type=str.upper, metavar="UNIT", help="a subapplication or a system")
-    reader.add_argument("--svg", type=Path, metavar="FILE", help="write an SVG picture, with Graphviz, and print nothing")
+    reader.add_argument("--svg", type=Path, metavar="FILE", help="write an SVG picture, with Graphviz, instead of printing the text for Graphviz")
     return read_with_units(reader)
 
 

@@ -20,6 +20,8 @@ from bench61499.exchange.report import Run, counted
 from bench61499.exchange.spellings import Spellings
 from bench61499.language.units import Misuse, read_units
 
+NOT_WRITTEN = "2 if a file could not be read or a unit not be written: standard error names it, and all others are written."
+
 
 @program
 def main() -> int:
@@ -43,10 +45,9 @@ def _add_import(works: argparse._SubParsersAction[argparse.ArgumentParser]) -> N
         "import",
         help="make texts of units of XML files",
         description="Makes texts of units of XML files of IEC 61499-2, one for each type and system.",
-        epilog="Ends with status 0 if all is whole, 1 if something is left out, replaced, not checked or has one name with another thing, "
-        "2 if a file could not be read or a unit not be written.",
+        epilog=f"The status is 0 if nothing is lost, 1 if something is left out, replaced, not checked or has one name with another thing, {NOT_WRITTEN}",
     )
-    _add_paths(reader, "XML files, or folders with such files")
+    _add_paths(reader, "XML files, or folders, which are searched with their inner ones for .fbt .adp .sub .sys .dtp and the other endings of IEC 61499-2")
     reader.set_defaults(work=import_)
 
 
@@ -55,10 +56,10 @@ def _add_export(works: argparse._SubParsersAction[argparse.ArgumentParser]) -> N
         "export",
         help="make XML files of texts",
         description="Makes an XML file of IEC 61499-2 of each unit.",
-        epilog="Ends with status 0 if all is whole, 1 if something is left out or replaced, 2 if a file could not be read or a unit not be written.",
+        epilog=f"The status is 0 if nothing is lost, 1 if something is left out or replaced, {NOT_WRITTEN}",
     )
-    _add_paths(reader, "texts of units, or folders with *.fb files")
-    tool = "the tool that is to read it: 4diac 2 or 3, 4diac 1, or FBDK (default: %(default)s)"
+    _add_paths(reader, "texts of units, or folders, which are searched with their inner ones for *.fb")
+    tool = "for 4diac 2 and 3 (the default), for 4diac 1, or for FBDK, with its DOCTYPE, and subapplications before blocks"
     reader.add_argument("--for", dest="tool", choices=TOOLS, default=TOOLS[0], help=tool)
     reader.set_defaults(work=export)
 
@@ -68,16 +69,16 @@ def _add_boot(works: argparse._SubParsersAction[argparse.ArgumentParser]) -> Non
         "boot",
         help="make boot files of FORTE of a system",
         description="Makes a boot file of FORTE for each device of a system, from its plan.",
-        epilog="Ends with status 0 if all is written and no link is cut, 1 if the system has no plan or cut links are left to be joined, 2 if it could not ask "
-        "or write, or two blocks would have one name.",
+        epilog="The status is 0 if no link is cut, 1 if links are left to be joined or the system has no plan, 2 if it could not ask or write, or two blocks would "
+        "have one name.",
     )
     reader.add_argument("unit", type=str.upper, metavar="SYSTEM", help="a system")
-    reader.add_argument("--files", required=True, nargs="+", type=read_path, metavar="FOLDER|FILE", help="the units; a workbench of its own is given them, and one that others use is only asked")
+    reader.add_argument("--files", required=True, nargs="+", type=read_path, metavar="FOLDER|FILE", help="the units; without --connect a workbench of its own gets them, a server is only asked")
     _add_target(reader)
     for kind in KINDS_OF_START:
-        words = f"an event input that START.{kind} leads to, such as LINE.FIRST.START; may be given more than once"
+        words = f"connect START.{kind} of the resource with this event input, such as LINE.FIRST.START; may be repeated"
         reader.add_argument(f"--{kind.lower()}", dest="starts", action="append", default=[], type=partial(_start, kind), metavar="END", help=words)
-    reader.add_argument("--applications", action="store_true", help="keep the name of the application before that of a block")
+    reader.add_argument("--applications", action="store_true", help="keep the application's name before that of a block; without it, as in 4diac, two blocks of a resource with one name are refused")
     reader.add_argument("--plain-types", action="store_true", help="write types without packages, for a FORTE before 3.0")
     add_workbench(reader)
     reader.set_defaults(work=boot)
@@ -93,8 +94,8 @@ def _add_paths(reader: argparse.ArgumentParser, what: str) -> None:
 
 
 def _add_target(reader: argparse.ArgumentParser) -> None:
-    reader.add_argument("--to", required=True, type=read_path, metavar="FOLDER", help="the folder that is written to")
-    reader.add_argument("--replace", action="store_true", help="write over files of the folder that have another content")
+    reader.add_argument("--to", required=True, type=read_path, metavar="FOLDER", help="the folder for all files that are made")
+    reader.add_argument("--replace", action="store_true", help="write over files with another content, which are otherwise named and kept; a text with the same tokens stays as it is")
     reader.add_argument("--quiet", action="store_true", help="print neither notes nor the last line")
 
 

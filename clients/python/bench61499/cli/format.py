@@ -42,8 +42,8 @@ def read_options() -> argparse.Namespace:
         prog="format",
         description="Lays out units: lines indented by nesting, one blank or none between tokens, at most one empty line. Tokens, comments and line breaks "
         "stay. Prints the names of the files that it changes.",
-        epilog="Ends with status 0 where all is laid out, 1 with --check where something is not, 2 where a text is broken or a file can't be read or written: "
-        "these are left as they are.",
+        epilog="The status is 0 if all is laid out; 1 with --check if something is not; 2 if a text is broken, would be longer than 65,536 bytes, or can't be read "
+        "or written: it stays unchanged, with a line on standard error.",
     )
     add_version(reader)
     reader.add_argument("path", nargs="+", type=read_path, metavar="FOLDER|FILE|-", help="*.fb files, or folders of them; - is standard input, laid out to standard output")

@@ -48,13 +48,14 @@ def main() -> int:
 def read_options() -> argparse.Namespace:
     reader = argparse.ArgumentParser(
         prog="plan",
-        description="Prints what each resource of a system is told to run it there (CREATE, WRITE and START), and the links that lead from one resource to another.",
-        epilog="Ends with status 0 where it has printed the plan, 1 where the system has none, 2 where it could not ask for it.",
+        description="Prints the commands of each resource of a system (CREATE, WRITE and START), and the links that lead from one resource to another.",
+        epilog="The status is 0 if it has printed the plan, even an empty one; 1 if there is no plan, with the reason on standard error: the unit is no system, units are "
+        "absent or have faults, types contain themselves, there are more than 4,096 instances, blocks have no resource, mappings map nothing; 2 if it could not ask.",
     )
     add_version(reader)
     reader.add_argument("unit", type=str.upper, metavar="SYSTEM", help="a system")
     reader.add_argument("--resource", type=str.upper, metavar="DEVICE.RESOURCE", help="print the commands of this resource alone")
-    reader.add_argument("--json", action="store_true", help="print one JSON object: the cuts and the commands, or the reasons why there are none")
+    reader.add_argument("--json", action="store_true", help="print one JSON object: unit, cuts (sort, source, destination) and resources (resource, commands), or unit and reasons")
     return read_with_units(reader)
 
 
